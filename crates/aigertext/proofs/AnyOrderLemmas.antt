@@ -12,7 +12,8 @@ use Rattle.aiger.specs.Loose.{Loose, IsLoose, with_gate_line}
 use Rattle.aigertext.specs.declared.reading.counts.Counts.{Counts}
 use Rattle.aigertext.specs.declared.fault.Stop.{Stop}
 use Rattle.aigertext.specs.declared.forms.Form.TheVariants.{Ascii}
-use Rattle.aigertext.specs.Ascii.{numbers_line, gate_lines}
+use Rattle.aigertext.specs.Ascii.{numbers_line}
+use Rattle.aigertext.specs.Binary.{gates_text}
 use Rattle.aigertext.specs.Counts.{AreSmall, Fits, counts_of_file}
 use Rattle.aigertext.specs.Spelling.{AreLines, IsGateLine, AreUpTo, IsAsciiText, use_lines}
 use Rattle.aigertext.specs.Reading.{line_at, header_of}
@@ -86,7 +87,7 @@ all_lists_kept h before l m n held rest all a b c s p kept end =
 
 -- gates of the first so many of which the lines were put onto lists
 abbrev pub PutsOwn : ℕ → ℕ → List Gate → Loose → Loose → ℕ → ℕ → Type 0
-PutsOwn greatest first gs l m variable index = (bytes : List ℕ) × (IsPutOnLists greatest l m bytes × (bytes ++ gate_lines variable (drop index gs) ≡ gate_lines first gs))
+PutsOwn greatest first gs l m variable index = (bytes : List ℕ) × (IsPutOnLists greatest l m bytes × (bytes ++ gates_text Ascii variable (drop index gs) ≡ gates_text Ascii first gs))
 
 pub own_none : (greatest first : ℕ) (gs : List Gate) (l : Loose) → PutsOwn greatest first gs l l first 0
 own_none greatest first gs l = ([], ((lists_pieces greatest).none l, refl))
@@ -95,18 +96,18 @@ pub own_more : (greatest first : ℕ) (gs : List Gate) (l m n : Loose) (variable
     → (n ≡ with_gate_line m (record { lhs = 2 * variable; rhs0 = a; rhs1 = b })) × IsLineUpTo greatest (record { lhs = 2 * variable; rhs0 = a; rhs1 = b }) → PutsOwn greatest first gs l n next (index + 1)
 own_more greatest first gs l m n variable next index a b g p inside is first_is second_is next_is added =
     let line = numbers_line (2 * variable ∷ a ∷ b ∷ []) in
-    let rest : gate_lines variable (drop index gs) ≡ line ++ gate_lines next (drop (index + 1) gs) =
-    ap (gate_lines variable) (drop_more gs index g inside ∙ ap (λ (x : Gate). x ∷ drop (index + 1) gs) (sym is))
-    ∙ ap (λ (k : ℕ). numbers_line (2 * variable ∷ k ∷ g.rhs1 ∷ []) ++ gate_lines (suc variable) (drop (index + 1) gs)) (sym first_is)
-    ∙ ap (λ (k : ℕ). numbers_line (2 * variable ∷ a ∷ k ∷ []) ++ gate_lines (suc variable) (drop (index + 1) gs)) (sym second_is)
-    ∙ ap (λ (k : ℕ). line ++ gate_lines k (drop (index + 1) gs)) (sym next_is) in (
+    let rest : gates_text Ascii variable (drop index gs) ≡ line ++ gates_text Ascii next (drop (index + 1) gs) =
+    ap (gates_text Ascii variable) (drop_more gs index g inside ∙ ap (λ (x : Gate). x ∷ drop (index + 1) gs) (sym is))
+    ∙ ap (λ (k : ℕ). numbers_line (2 * variable ∷ k ∷ g.rhs1 ∷ []) ++ gates_text Ascii (suc variable) (drop (index + 1) gs)) (sym first_is)
+    ∙ ap (λ (k : ℕ). numbers_line (2 * variable ∷ a ∷ k ∷ []) ++ gates_text Ascii (suc variable) (drop (index + 1) gs)) (sym second_is)
+    ∙ ap (λ (k : ℕ). line ++ gates_text Ascii k (drop (index + 1) gs)) (sym next_is) in (
       p.0 ++ line,
-      ((lists_pieces greatest).both l m n p.0 line p.1.0 (one_line greatest m n _ added), append_assoc p.0 line (gate_lines next (drop (index + 1) gs)) ∙ ap (λ (t : List ℕ). p.0 ++ t) (sym rest) ∙ p.1.1),
+      ((lists_pieces greatest).both l m n p.0 line p.1.0 (one_line greatest m n _ added), append_assoc p.0 line (gates_text Ascii next (drop (index + 1) gs)) ∙ ap (λ (t : List ℕ). p.0 ++ t) (sym rest) ∙ p.1.1),
     )
 
-pub own_all : (greatest first : ℕ) (gs : List Gate) (l m : Loose) (variable index : ℕ) → PutsOwn greatest first gs l m variable index → length gs ≤ index → IsPutOnLists greatest l m (gate_lines first gs)
+pub own_all : (greatest first : ℕ) (gs : List Gate) (l m : Loose) (variable index : ℕ) → PutsOwn greatest first gs l m variable index → length gs ≤ index → IsPutOnLists greatest l m (gates_text Ascii first gs)
 own_all greatest first gs l m variable index p all =
-    subst (IsPutOnLists greatest l m) (sym (append-nil p.0) ∙ ap (λ (hs : List Gate). p.0 ++ gate_lines variable hs) (sym (drop_all index gs all)) ∙ p.1.1) p.1.0
+    subst (IsPutOnLists greatest l m) (sym (append-nil p.0) ∙ ap (λ (hs : List Gate). p.0 ++ gates_text Ascii variable hs) (sym (drop_all index gs all)) ∙ p.1.1) p.1.0
 
 -- ---- the text
 

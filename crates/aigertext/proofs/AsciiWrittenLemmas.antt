@@ -1,5 +1,5 @@
 -- What is written in the ascii form stands for the circuit that was written.
-use Rattle.std.proofs.Common.{◌≡◌, ℕ, zero, suc, ◌+◌, ◌*◌, ◌≤◌, List, [], ◌∷◌, ◌++◌, length, All, refl, sym, ap, subst, append_assoc, arith}
+use Rattle.std.proofs.Common.{◌≡◌, ℕ, zero, suc, ◌+◌, ◌*◌, ◌≤◌, List, [], ◌∷◌, length, All, refl, sym, subst, arith}
 use Rattle.std.specs.List.Sorted.{IsStrictlySortedBy}
 use Rattle.std.proofs.lemmas.List.Elements.{All-nil, All-cons, All-head, All-tail}
 use Rattle.aiger.specs.declared.circuit.Gate.{Gate}
@@ -11,7 +11,8 @@ use Rattle.aiger.specs.OwnLists.{own_inputs, own_latches, own_gates, own_lists}
 use Rattle.aiger.specs.Renumbering.{IsRenumbered}
 use Rattle.aigertext.specs.declared.reading.counts.Counts.{Counts}
 use Rattle.aigertext.specs.declared.forms.Form.TheVariants.{Ascii}
-use Rattle.aigertext.specs.Ascii.{numbers_line, header, reset_numbers, input_lines, latch_lines, gate_lines, property_lines, all_names, ascii_text}
+use Rattle.aigertext.specs.Ascii.{numbers_line, header, reset_numbers, input_lines, all_names}
+use Rattle.aigertext.specs.Binary.{latches_text, gates_text, ascii_text}
 use Rattle.aigertext.specs.Counts.{counts_in, counts_of_file}
 use Rattle.aigertext.specs.Spelling.{AreLines, IsHeader, IsInputLine, IsLatchLine, IsGateLine, AreUpTo, IsAsciiText}
 use Rattle.aigertext.proofs.StandsLemmas.{circuit_up_to, nexts_below}
@@ -23,12 +24,12 @@ pub written_inputs : (first n : ℕ) → AreLines IsInputLine (own_inputs first 
 written_inputs first zero = refl
 written_inputs first (suc n) = (numbers_line (2 * first ∷ []), (input_lines (suc first) n, (refl, refl, written_inputs (suc first) n)))
 
-written_latches : (first : ℕ) (ls : List Latch) → AreLines IsLatchLine (own_latches first ls) (latch_lines first ls)
+written_latches : (first : ℕ) (ls : List Latch) → AreLines IsLatchLine (own_latches first ls) (latches_text Ascii first ls)
 written_latches first [] = refl
 written_latches first (l ∷ ls) = (
   numbers_line (2 * first ∷ l.next ∷ reset_numbers (2 * first) l.reset),
   (
-    latch_lines (suc first) ls,
+    latches_text Ascii (suc first) ls,
     (
       refl,
       record { reset = reset_numbers (2 * first) l.reset; is_reset = written_reset (2 * first) l.reset; spelled = refl },
@@ -37,9 +38,9 @@ written_latches first (l ∷ ls) = (
   ),
 )
 
-pub written_gates : (first : ℕ) (gs : List Gate) → AreLines IsGateLine (own_gates first gs) (gate_lines first gs)
+pub written_gates : (first : ℕ) (gs : List Gate) → AreLines IsGateLine (own_gates first gs) (gates_text Ascii first gs)
 written_gates first [] = refl
-written_gates first (g ∷ gs) = (numbers_line (2 * first ∷ g.rhs0 ∷ g.rhs1 ∷ []), (gate_lines (suc first) gs, (refl, refl, written_gates (suc first) gs)))
+written_gates first (g ∷ gs) = (numbers_line (2 * first ∷ g.rhs0 ∷ g.rhs1 ∷ []), (gates_text Ascii (suc first) gs, (refl, refl, written_gates (suc first) gs)))
 
 -- ---- literals
 
@@ -104,7 +105,6 @@ module _ (own_valid : OwnValid) (own_numbered : OwnNumbered) (own_many : OwnMany
   written_ascii =
       let bare = bare_valid c valid in
       let many = own_many c in
-      let rest = property_lines c ++ (gate_lines (suc (c.inputs + length c.latches)) c.gates ++ all_names c) in
       record {
         lists = own_lists (record c { names = [] });
         valid = own_valid (record c { names = [] }) bare;
@@ -117,12 +117,12 @@ module _ (own_valid : OwnValid) (own_numbered : OwnNumbered) (own_many : OwnMany
         is_header = subst (λ (h : Counts). IsHeader Ascii h (header Ascii c)) (sym same_counts) (written_header Ascii c);
         inputs = input_lines 1 c.inputs;
         are_inputs = written_inputs 1 c.inputs;
-        latches = latch_lines (suc c.inputs) c.latches;
+        latches = latches_text Ascii (suc c.inputs) c.latches;
         are_latches = written_latches (suc c.inputs) c.latches;
-        gates = gate_lines (suc (c.inputs + length c.latches)) c.gates;
+        gates = gates_text Ascii (suc (c.inputs + length c.latches)) c.gates;
         are_gates = written_gates (suc (c.inputs + length c.latches)) c.gates;
         end = all_names c;
         is_end = written_end c valid;
         is_renumbered = own_numbered (record c { names = [] }) bare;
-        whole = ap (λ (t : List ℕ). header Ascii c ++ t) (append_assoc (input_lines 1 c.inputs) (latch_lines (suc c.inputs) c.latches) rest);
+        whole = refl;
       }

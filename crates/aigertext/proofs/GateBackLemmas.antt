@@ -8,7 +8,8 @@ use Rattle.aiger.specs.Net.{AreOrderedFrom}
 use Rattle.aigertext.specs.declared.fault.Stop.{Stop}
 use Rattle.aigertext.specs.declared.fault.Why.{Why}
 use Rattle.aigertext.specs.declared.fault.Why.TheVariants as why
-use Rattle.aigertext.specs.Binary.{digits_128, delta, gate_deltas}
+use Rattle.aigertext.specs.declared.forms.Form.TheVariants.{Binary}
+use Rattle.aigertext.specs.Binary.{digits_128, delta, gates_text}
 use Rattle.aigertext.specs.Reading.{◌>>=◌, at, more_digits, delta_at, below, at_or_below, gate_at, gates_at}
 use Rattle.aigertext.proofs.BackLemmas.{ok_same, not_err}
 use Rattle.aigertext.proofs.DeltaLemmas.{digits-more, digits-one}
@@ -140,7 +141,7 @@ module _ (own : ℕ) (text : List ℕ) (g : Gate) (rest : List ℕ) (bytes : Are
 
 -- so many gates
 pub record AreGatesAt (first n : ℕ) (text : List ℕ) (gs : List Gate) (rest : List ℕ) : Type 0 where
-  pub parts : text ≡ gate_deltas first gs ++ rest
+  pub parts : text ≡ gates_text Binary first gs ++ rest
   pub count : length gs ≡ n
   pub ordered : AreOrderedFrom first gs
 
@@ -154,7 +155,7 @@ gates_by first n text gs rest x (Ok ys) one others e =
     subst (λ (p : List Gate × List ℕ). AreGatesAt first (suc n) text p.0 p.1) is
     (record {
       parts = one.0 ∙ ap (λ (l : List ℕ). (delta (2 * first - x.0.rhs0) ++ delta (x.0.rhs0 - x.0.rhs1)) ++ l) o.parts
-          ∙ sym (append_assoc (delta (2 * first - x.0.rhs0) ++ delta (x.0.rhs0 - x.0.rhs1)) (gate_deltas (suc first) ys.0) ys.1);
+          ∙ sym (append_assoc (delta (2 * first - x.0.rhs0) ++ delta (x.0.rhs0 - x.0.rhs1)) (gates_text Binary (suc first) ys.0) ys.1);
       count = ap suc o.count;
       ordered = (one.1, one.2, o.ordered);
     })

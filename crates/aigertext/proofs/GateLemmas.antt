@@ -4,7 +4,8 @@ use Rattle.std.proofs.lemmas.Bool.{cases_lt, ne_eqb}
 use Rattle.std.proofs.lemmas.Bool.Decides.{nat_tests}
 use Rattle.aiger.specs.declared.circuit.Gate.{Gate}
 use Rattle.aiger.specs.Net.{AreOrderedFrom}
-use Rattle.aigertext.specs.Binary.{digits_128, delta, gate_deltas}
+use Rattle.aigertext.specs.declared.forms.Form.TheVariants.{Binary}
+use Rattle.aigertext.specs.Binary.{digits_128, delta, gates_text}
 use Rattle.aigertext.specs.declared.fault.Stop.{Stop}
 use Rattle.aigertext.specs.Passes.{onto}
 use Rattle.aigertext.specs.Reading.{◌>>=◌, more_digits, delta_at, below, at_or_below, gate_at, gates_at}
@@ -87,20 +88,20 @@ next_literal first = omega arith
 
 -- the gates, and so many behind them
 pub gates-read-on : (first more : ℕ) (gates : List Gate) (rest : List ℕ) → AreOrderedFrom first gates → first + length gates ≤ 2 ^ 32
-    → gates_at (2 * first) (length gates + more) (gate_deltas first gates ++ rest) ≡ onto gates (gates_at (2 * (first + length gates)) more rest)
+    → gates_at (2 * first) (length gates + more) (gates_text Binary first gates ++ rest) ≡ onto gates (gates_at (2 * (first + length gates)) more rest)
 gates-read-on first more [] rest ordered few =
     let none : 0 + more ≡ more = omega arith in
     let here : first ≡ first + 0 = omega arith in
     ap (λ (n : ℕ). gates_at (2 * first) n rest) none ∙ sym (onto_nothing (gates_at (2 * first) more rest)) ∙ ap (λ (k : ℕ). onto [] (gates_at (2 * k) more rest)) here
 gates-read-on first more (g ∷ gs) rest ordered few =
-    let text = append_assoc (delta (2 * first - g.rhs0) ++ delta (g.rhs0 - g.rhs1)) (gate_deltas (suc first) gs) rest in
+    let text = append_assoc (delta (2 * first - g.rhs0) ++ delta (g.rhs0 - g.rhs1)) (gates_text Binary (suc first) gs) rest in
     let many : suc (length gs) + more ≡ suc (length gs + more) = omega arith in
-    let one : gate_at (2 * first) ((delta (2 * first - g.rhs0) ++ delta (g.rhs0 - g.rhs1)) ++ (gate_deltas (suc first) gs ++ rest)) ≡ Ok (g, gate_deltas (suc first) gs ++ rest) = gate-read (2 * first) g (gate_deltas (suc first) gs ++ rest) ordered.0 ordered.1 (omega arith) in
+    let one : gate_at (2 * first) ((delta (2 * first - g.rhs0) ++ delta (g.rhs0 - g.rhs1)) ++ (gates_text Binary (suc first) gs ++ rest)) ≡ Ok (g, gates_text Binary (suc first) gs ++ rest) = gate-read (2 * first) g (gates_text Binary (suc first) gs ++ rest) ordered.0 ordered.1 (omega arith) in
     let next : suc first + length gs ≡ first + suc (length gs) = omega arith in
-    let others : gates_at (2 * first + 2) (length gs + more) (gate_deltas (suc first) gs ++ rest) ≡ onto gs (gates_at (2 * (first + suc (length gs))) more rest) =
-    ap (λ (own : ℕ). gates_at own (length gs + more) (gate_deltas (suc first) gs ++ rest)) (next_literal first) ∙ gates-read-on (suc first) more gs rest ordered.2 (omega arith)
+    let others : gates_at (2 * first + 2) (length gs + more) (gates_text Binary (suc first) gs ++ rest) ≡ onto gs (gates_at (2 * (first + suc (length gs))) more rest) =
+    ap (λ (own : ℕ). gates_at own (length gs + more) (gates_text Binary (suc first) gs ++ rest)) (next_literal first) ∙ gates-read-on (suc first) more gs rest ordered.2 (omega arith)
     ∙ ap (λ (k : ℕ). onto gs (gates_at (2 * k) more rest)) next in
-    ap (λ (n : ℕ). gates_at (2 * first) n (gate_deltas first (g ∷ gs) ++ rest)) many ∙ ap (gates_at (2 * first) (suc (length gs + more))) text ∙ (rw (one, others) (onto_one_more g gs (gates_at (2 * (first + suc (length gs))) more rest)))
+    ap (λ (n : ℕ). gates_at (2 * first) n (gates_text Binary first (g ∷ gs) ++ rest)) many ∙ ap (gates_at (2 * first) (suc (length gs + more))) text ∙ (rw (one, others) (onto_one_more g gs (gates_at (2 * (first + suc (length gs))) more rest)))
   where
     onto_one_more : (g : Gate) (gs : List Gate) (r : Result (List Gate × List ℕ) Stop)
         → ◌>>=◌ {A = List Gate × List ℕ} {B = List Gate × List ℕ} {E = Stop} (onto gs r) (λ ys. Ok (g ∷ ys.0, ys.1)) ≡ onto (g ∷ gs) r
@@ -108,7 +109,7 @@ gates-read-on first more (g ∷ gs) rest ordered few =
     onto_one_more g gs (Err e) = refl
 
 -- the gates
-pub gates-read : (first : ℕ) (gates : List Gate) (rest : List ℕ) → AreOrderedFrom first gates → first + length gates ≤ 2 ^ 32 → gates_at (2 * first) (length gates) (gate_deltas first gates ++ rest) ≡ Ok (gates, rest)
+pub gates-read : (first : ℕ) (gates : List Gate) (rest : List ℕ) → AreOrderedFrom first gates → first + length gates ≤ 2 ^ 32 → gates_at (2 * first) (length gates) (gates_text Binary first gates ++ rest) ≡ Ok (gates, rest)
 gates-read first gates rest ordered few =
     let none : length gates ≡ length gates + 0 = omega arith in
-    ap (λ (n : ℕ). gates_at (2 * first) n (gate_deltas first gates ++ rest)) none ∙ gates-read-on first 0 gates rest ordered few ∙ ap (λ (gs : List Gate). Ok (gs, rest)) (append-nil gates)
+    ap (λ (n : ℕ). gates_at (2 * first) n (gates_text Binary first gates ++ rest)) none ∙ gates-read-on first 0 gates rest ordered few ∙ ap (λ (gs : List Gate). Ok (gs, rest)) (append-nil gates)

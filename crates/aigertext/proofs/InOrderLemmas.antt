@@ -18,8 +18,8 @@ use Rattle.aigertext.specs.declared.reading.front.Front.{Front}
 use Rattle.aigertext.specs.declared.fault.Stop.{Stop}
 use Rattle.aigertext.specs.declared.forms.Form.{Form}
 use Rattle.aigertext.specs.declared.forms.Form.TheVariants.{Ascii, Binary}
-use Rattle.aigertext.specs.Ascii.{input_lines, gate_lines, property_lines}
-use Rattle.aigertext.specs.Binary.{inputs_text, gate_deltas, gates_text}
+use Rattle.aigertext.specs.Ascii.{input_lines, property_lines}
+use Rattle.aigertext.specs.Binary.{inputs_text, gates_text}
 use Rattle.aigertext.specs.Counts.{counts_in, counts_of_file, AreSmall, Fits}
 use Rattle.aigertext.specs.Spelling.{IsHeader, AreUpTo, AreNextLines, IsAsciiText, IsBinaryText}
 use Rattle.aigertext.specs.Reading.{◌>>=◌, line_at, header_of, gate_at, gates_at, names_at, binary_at, Properties, properties_at, nameless}
@@ -34,7 +34,7 @@ use Rattle.aigertext.proofs.FieldLemmas.{line_read}
 use Rattle.aigertext.proofs.GateLemmas.{gates-read, gates-read-on}
 use Rattle.aigertext.proofs.HeaderBackLemmas.{HeaderBack, header-back}
 use Rattle.aigertext.proofs.LatchBackLemmas.{AreLatchesAt, latches-back}
-use Rattle.aigertext.proofs.PutsLemmas.{gates_text-none, gates_text-append, front_kept, more_kept, at_end, front_taken, rest_within}
+use Rattle.aigertext.proofs.PutsLemmas.{gates_text-append, front_kept, more_kept, at_end, front_taken, rest_within}
 use Rattle.aigertext.proofs.ReadStandsLemmas.{PropertiesBack, properties-back, property_is, length_lists, end-back, header_spelled}
 use Rattle.aigertext.proofs.FileReadLemmas.{lists-read}
 use Rattle.aigertext.proofs.ReadFrontLemmas.{IsAtFront, line-front, lines-front, properties-front}
@@ -166,9 +166,9 @@ module _ (h : Counts) (uses : List Latch × Properties) (before : List ℕ) (gs 
         is_end = e.is_end;
         valid = valid;
         whole =
-            whole_text _ (s.line ++ 10 ∷ []) [] s.l.bytes (property_lines bare) (gate_deltas (suc (h.inputs + h.latches)) gs) names s.before_is
-            ∙ ap (λ (n : ℕ). (s.line ++ 10 ∷ []) ++ (s.l.bytes ++ (property_lines bare ++ (gate_deltas (suc (h.inputs + n)) gs ++ names)))) (sym s.l.count)
-            ∙ ap (λ (d : Circuit). (s.line ++ 10 ∷ []) ++ (s.l.bytes ++ (property_lines d ++ (gate_deltas (suc (d.inputs + length d.latches)) d.gates ++ names)))) e.same;
+            whole_text _ (s.line ++ 10 ∷ []) [] s.l.bytes (property_lines bare) (gates_text Binary (suc (h.inputs + h.latches)) gs) names s.before_is
+            ∙ ap (λ (n : ℕ). (s.line ++ 10 ∷ []) ++ (s.l.bytes ++ (property_lines bare ++ (gates_text Binary (suc (h.inputs + n)) gs ++ names)))) (sym s.l.count)
+            ∙ ap (λ (d : Circuit). (s.line ++ 10 ∷ []) ++ (s.l.bytes ++ (property_lines d ++ (gates_text Binary (suc (d.inputs + length d.latches)) d.gates ++ names)))) e.same;
       }
 
   module _ (own_valid : OwnValid) (own_numbered : OwnNumbered) (own_many : OwnMany) (r : Result Circuit Stop) (f : Finishes h uses gs r names) (s : Spelled Ascii h uses before gs) where
@@ -184,12 +184,12 @@ module _ (h : Counts) (uses : List Latch × Properties) (before : List ℕ) (gs 
     own_up_to = subst (λ (m : ℕ). AreUpTo (2 * m + 1) (own_lists (nameless h.inputs uses.0 uses.1 gs))) all_variables (up_to own_valid own_numbered own_many (nameless h.inputs uses.0 uses.1 gs) f.valid)
 
     abbrev lists_text : List ℕ
-    lists_text = input_lines 1 h.inputs ++ (s.l.bytes ++ (property_lines (nameless h.inputs uses.0 uses.1 gs) ++ (gate_lines (suc (h.inputs + length uses.0)) gs ++ names)))
+    lists_text = input_lines 1 h.inputs ++ (s.l.bytes ++ (property_lines (nameless h.inputs uses.0 uses.1 gs) ++ (gates_text Ascii (suc (h.inputs + length uses.0)) gs ++ names)))
 
     own_whole : text_with Ascii h before gs names ≡ (s.line ++ 10 ∷ []) ++ lists_text
     own_whole =
-        whole_text _ (s.line ++ 10 ∷ []) (input_lines 1 h.inputs) s.l.bytes (property_lines (nameless h.inputs uses.0 uses.1 gs)) (gate_lines (suc (h.inputs + h.latches)) gs) names s.before_is
-        ∙ ap (λ (n : ℕ). (s.line ++ 10 ∷ []) ++ (input_lines 1 h.inputs ++ (s.l.bytes ++ (property_lines (nameless h.inputs uses.0 uses.1 gs) ++ (gate_lines (suc (h.inputs + n)) gs ++ names))))) (sym s.l.count)
+        whole_text _ (s.line ++ 10 ∷ []) (input_lines 1 h.inputs) s.l.bytes (property_lines (nameless h.inputs uses.0 uses.1 gs)) (gates_text Ascii (suc (h.inputs + h.latches)) gs) names s.before_is
+        ∙ ap (λ (n : ℕ). (s.line ++ 10 ∷ []) ++ (input_lines 1 h.inputs ++ (s.l.bytes ++ (property_lines (nameless h.inputs uses.0 uses.1 gs) ++ (gates_text Ascii (suc (h.inputs + n)) gs ++ names))))) (sym s.l.count)
 
     -- such lists are read, and the answer is that of the names
     ascii-answer : AnswersText (text_with Ascii h before gs names) r
@@ -199,7 +199,7 @@ module _ (h : Counts) (uses : List Latch × Properties) (before : List ℕ) (gs 
         let read : lists_of_file h lists_text ≡ Ok (lists, names) =
         subst (λ (g : Counts). lists_of_file g lists_text ≡ Ok (lists, names)) own_counts
         (lists-read h.variables (own_lists (nameless h.inputs uses.0 uses.1 gs)) (own_valid (nameless h.inputs uses.0 uses.1 gs) f.valid) refl s.k.few_first.0 own_up_to
-        (input_lines 1 h.inputs) s.l.bytes (gate_lines (suc (h.inputs + length uses.0)) gs) names (written_inputs 1 h.inputs) s.l.lines (written_gates (suc (h.inputs + length uses.0)) gs)) in
+        (input_lines 1 h.inputs) s.l.bytes (gates_text Ascii (suc (h.inputs + length uses.0)) gs) names (written_inputs 1 h.inputs) s.l.lines (written_gates (suc (h.inputs + length uses.0)) gs)) in
         let named : AnswersNamed lists names r = record { circuit = nameless h.inputs uses.0 uses.1 gs; is_renumbered = own_numbered (nameless h.inputs uses.0 uses.1 gs) f.valid; is = sym f.are_names } in
         let file : AnswersAscii h lists_text r =
         subst (λ (x : Result (Loose × List ℕ) Stop). AnswersLists h lists_text x r) (sym read) (inl named) in
@@ -225,7 +225,7 @@ module _ (h : Counts) (uses : List Latch × Properties) (before : List ℕ) (gs 
           are_inputs = written_inputs 1 h.inputs;
           latches = s.l.bytes;
           are_latches = s.l.lines;
-          gates = gate_lines (suc (h.inputs + length uses.0)) gs;
+          gates = gates_text Ascii (suc (h.inputs + length uses.0)) gs;
           are_gates = written_gates (suc (h.inputs + length uses.0)) gs;
           end = names;
           is_end = e.is_end;
@@ -237,11 +237,11 @@ module _ (h : Counts) (uses : List Latch × Properties) (before : List ℕ) (gs 
 
 module _ (h : Counts) (uses : List Latch × Properties) (before : List ℕ) (front : IsFront Binary h uses before) (gs : List Gate) (window : List ℕ) (ordered : AreOrderedFrom (suc (h.inputs + h.latches)) gs) (few : suc (h.inputs + h.latches) + length gs ≤ 2 ^ 32) where
   -- the text has the answer of its gates and names
-  answer_of : (r : Result Circuit Stop) → (gates_at (2 * suc (h.inputs + h.latches)) h.gates (gate_deltas (suc (h.inputs + h.latches)) gs ++ window) >>= (λ g. names_at (nameless h.inputs uses.0 uses.1 g.0) g.1)) ≡ r
+  answer_of : (r : Result Circuit Stop) → (gates_at (2 * suc (h.inputs + h.latches)) h.gates (gates_text Binary (suc (h.inputs + h.latches)) gs ++ window) >>= (λ g. names_at (nameless h.inputs uses.0 uses.1 g.0) g.1)) ≡ r
       → AnswersText (text_with Binary h before gs window) r
   unfolding AnswersText binary_at
   answer_of r is =
-      let rest : List ℕ = gate_deltas (suc (h.inputs + h.latches)) gs ++ window in
+      let rest : List ℕ = gates_text Binary (suc (h.inputs + h.latches)) gs ++ window in
       let u = uses-back Binary h (front.lines ++ rest) uses rest (front.read rest) in
       let one = u.latches in
       let two = u.properties in
@@ -256,16 +256,16 @@ module _ (h : Counts) (uses : List Latch × Properties) (before : List ℕ) (fro
       by n same less =
           let left : n ≡ length gs + suc (n - suc (length gs)) = omega arith in
           let one : gates_at (2 * (suc (h.inputs + h.latches) + length gs)) (suc (n - suc (length gs))) window ≡ Err e = let there = ap (λ (k : ℕ). gate_at k window) (sym is) ∙ stops in rw there refl in
-          let all : gates_at (2 * suc (h.inputs + h.latches)) h.gates (gate_deltas (suc (h.inputs + h.latches)) gs ++ window) ≡ Err e =
-          ap (λ (k : ℕ). gates_at (2 * suc (h.inputs + h.latches)) k (gate_deltas (suc (h.inputs + h.latches)) gs ++ window)) (sym same ∙ left)
+          let all : gates_at (2 * suc (h.inputs + h.latches)) h.gates (gates_text Binary (suc (h.inputs + h.latches)) gs ++ window) ≡ Err e =
+          ap (λ (k : ℕ). gates_at (2 * suc (h.inputs + h.latches)) k (gates_text Binary (suc (h.inputs + h.latches)) gs ++ window)) (sym same ∙ left)
           ∙ gates-read-on (suc (h.inputs + h.latches)) (suc (n - suc (length gs))) gs window ordered few ∙ ap (onto gs) one in
           answer_of (Err e) (rw all refl)
 
   -- behind all gates
   stops_at_name : (e : Stop) → length gs ≡ h.gates → Finishes h uses gs (Err e) window → AnswersText (text_with Binary h before gs window) (Err e)
   stops_at_name e many f =
-      let all : gates_at (2 * suc (h.inputs + h.latches)) h.gates (gate_deltas (suc (h.inputs + h.latches)) gs ++ window) ≡ Ok (gs, window) =
-      ap (λ (k : ℕ). gates_at (2 * suc (h.inputs + h.latches)) k (gate_deltas (suc (h.inputs + h.latches)) gs ++ window)) (sym many) ∙ gates-read (suc (h.inputs + h.latches)) gs window ordered few in
+      let all : gates_at (2 * suc (h.inputs + h.latches)) h.gates (gates_text Binary (suc (h.inputs + h.latches)) gs ++ window) ≡ Ok (gs, window) =
+      ap (λ (k : ℕ). gates_at (2 * suc (h.inputs + h.latches)) k (gates_text Binary (suc (h.inputs + h.latches)) gs ++ window)) (sym many) ∙ gates-read (suc (h.inputs + h.latches)) gs window ordered few in
       answer_of (Err e) (rw all f.are_names)
 
 -- before its gates, where a property or a latch is wrong
@@ -304,10 +304,10 @@ gates_put inputs latches c0 c gs fresh is =
     (own, all ∙ ap (λ (g : List Gate). with_gates (fresh_circuit inputs latches) g) (sym own))
 
 -- the lines of gates that are put together again
-pub put_together : (form : Form) (h : Counts) (before : List ℕ) (first : ℕ) (gs hs : List Gate) (window : List ℕ) → form ≡ Ascii → first ≡ h.inputs + h.latches + 1 → hs ≡ gs → text_with form h before gs window ≡ before ++ (gate_lines first hs ++ window)
+pub put_together : (form : Form) (h : Counts) (before : List ℕ) (first : ℕ) (gs hs : List Gate) (window : List ℕ) → form ≡ Ascii → first ≡ h.inputs + h.latches + 1 → hs ≡ gs → text_with form h before gs window ≡ before ++ (gates_text Ascii first hs ++ window)
 put_together form h before first gs hs window form_is first_is gs_is =
     let own : suc (h.inputs + h.latches) ≡ first = omega (arith, first_is) in
-    ap (λ (f : Form). text_with f h before gs window) form_is ∙ ap (λ (v : ℕ). before ++ (gate_lines v gs ++ window)) own ∙ ap (λ (g : List Gate). before ++ (gate_lines first g ++ window)) (sym gs_is)
+    ap (λ (f : Form). text_with f h before gs window) form_is ∙ ap (λ (v : ℕ). before ++ (gates_text Ascii v gs ++ window)) own ∙ ap (λ (g : List Gate). before ++ (gates_text Ascii first g ++ window)) (sym gs_is)
 
 -- a whole text whose lines before the gates were read
 pub whole_parts : (f : Front) (h : Counts) (text lines gates : List ℕ) → f.form ≡ Binary → f.counts ≡ h → line_at header_of text ≡ Ok ((Binary, h), lines) → Fits Binary h → uses_at Binary h lines ≡ Ok (uses_of f, gates) → FrontParts f.form f.counts (uses_of f) text gates
@@ -317,7 +317,7 @@ whole_parts f h text lines gates form_is counts_are header fits read =
 
 pub whole_text_is : (form : Form) (h : Counts) (uses : List Latch × Properties) (text gates : List ℕ) (p : FrontParts form h uses text gates) (c : Circuit) → c ≡ fresh_circuit h.inputs h.latches → text_with form h p.before c.gates gates ≡ text
 whole_text_is form h uses text gates p c fresh =
-    ap (λ (d : Circuit). text_with form h p.before d.gates gates) fresh ∙ ap (λ (l : List ℕ). p.before ++ (l ++ gates)) (sym (gates_text-none form (suc (h.inputs + h.latches)))) ∙ sym p.parts
+    ap (λ (d : Circuit). text_with form h p.before d.gates gates) fresh ∙ sym p.parts
 
 module _ (form : Form) (h : Counts) (before : List ℕ) (c0 c1 : Circuit) (passed : ℕ) (window0 window1 : List ℕ) (k0 k1 : Option (List ℕ))
     (fresh : c0 ≡ fresh_circuit h.inputs h.latches) (puts : PutsText (IsPut form) c0 c1 passed (prepend_known window0 k0) (prepend_known window1 k1)) where

@@ -11,7 +11,6 @@ use Rattle.aiger.specs.Loose.{Loose, with_gate_line}
 use Rattle.aiger.specs.Net.{variables}
 use Rattle.aiger.specs.Circuit.{Circuit, net, with_gate}
 use Rattle.aigertext.specs.declared.forms.Form.{Form}
-use Rattle.aigertext.specs.declared.forms.Form.TheVariants.{Ascii, Binary}
 use Rattle.aigertext.specs.Ascii.{numbers_line, input_lines}
 use Rattle.aigertext.specs.Binary.{gate_text, gates_text}
 use Rattle.aigertext.specs.Passes.{with_gates}
@@ -42,22 +41,11 @@ inputs_step index number text rest behind so_far line is =
 
 -- ---- gates of a circuit
 
-pub gates_text-none : (form : Form) (first : ℕ) → [] ≡ gates_text form first []
-gates_text-none Ascii first = refl
-gates_text-none Binary first = refl
-
-gates_text-cons : (form : Form) (first : ℕ) (g : Gate) (gs : List Gate) → gates_text form first (g ∷ gs) ≡ gate_text form (2 * first) g ++ gates_text form (suc first) gs
-gates_text-cons Ascii first g gs = refl
-gates_text-cons Binary first g gs = refl
-
 pub gates_text-append : (form : Form) (first : ℕ) (gs hs : List Gate) → gates_text form first (gs ++ hs) ≡ gates_text form first gs ++ gates_text form (first + length gs) hs
-gates_text-append form first [] hs =
-    ap (λ (k : ℕ). gates_text form k hs) (plus_none first) ∙ ap (λ (t : List ℕ). t ++ gates_text form (first + 0) hs) (gates_text-none form first)
+gates_text-append form first [] hs = ap (λ (k : ℕ). gates_text form k hs) (plus_none first)
 gates_text-append form first (g ∷ gs) hs =
-    gates_text-cons form first g (gs ++ hs)
-    ∙ ap (λ (t : List ℕ). gate_text form (2 * first) g ++ t) (gates_text-append form (suc first) gs hs ∙ ap (λ (k : ℕ). gates_text form (suc first) gs ++ gates_text form k hs) (plus_suc first (length gs)))
+    ap (λ (t : List ℕ). gate_text form (2 * first) g ++ t) (gates_text-append form (suc first) gs hs ∙ ap (λ (k : ℕ). gates_text form (suc first) gs ++ gates_text form k hs) (plus_suc first (length gs)))
     ∙ sym (append_assoc (gate_text form (2 * first) g) (gates_text form (suc first) gs) (gates_text form (first + suc (length gs)) hs))
-    ∙ ap (λ (t : List ℕ). t ++ gates_text form (first + suc (length gs)) hs) (sym (gates_text-cons form first g gs))
 
 -- how many variables and gates there are then
 pub variables_then : (old new : Circuit) (gs : List Gate) → new ≡ with_gates old gs → variables (net new) ≡ variables (net old) + length gs
@@ -66,7 +54,7 @@ variables_then old new gs is = ap (λ (c : Circuit). variables (net c)) is ∙ o
 -- gates are put onto a circuit in pieces
 pub circuit_pieces : (form : Form) → FollowEachOther (IsPut form)
 circuit_pieces form = record {
-  none = λ c. record { gates = []; is = ap (λ (gs : List Gate). record c { gates = gs }) (sym (append-nil c.gates)); own = gates_text-none form (suc (variables (net c))) };
+  none = λ c. record { gates = []; is = ap (λ (gs : List Gate). record c { gates = gs }) (sym (append-nil c.gates)); own = refl };
   both = λ a b c x y p q.
       let first : suc (variables (net b)) ≡ suc (variables (net a)) + length p.gates = omega (arith, variables_then a b p.gates p.is) in
       record {
@@ -86,8 +74,7 @@ one_put form c d own g is next =
       gates = g ∷ [];
       is = next;
       own =
-          ap (λ (n : ℕ). gate_text form n g) same ∙ sym (append-nil (gate_text form (2 * suc (variables (net c))) g))
-          ∙ ap (λ (t : List ℕ). gate_text form (2 * suc (variables (net c))) g ++ t) (gates_text-none form (suc (suc (variables (net c))))) ∙ sym (gates_text-cons form (suc (variables (net c))) g []);
+          ap (λ (n : ℕ). gate_text form n g) same ∙ sym (append-nil (gate_text form (2 * suc (variables (net c))) g));
     }
 
 -- there is a variable more

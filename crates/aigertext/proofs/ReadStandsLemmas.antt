@@ -22,7 +22,7 @@ use Rattle.aigertext.specs.declared.forms.Form.{Form}
 use Rattle.aigertext.specs.declared.forms.Form.TheVariants.{Binary}
 use Rattle.aigertext.specs.Ascii.{form_word, numbers_line, literal_lines, size_lines, property_lines}
 use Rattle.aigertext.specs.Counts.{first_of_counts, last_of_counts, counts_in}
-use Rattle.aigertext.specs.Binary.{gate_deltas}
+use Rattle.aigertext.specs.Binary.{gates_text}
 use Rattle.aigertext.specs.Spelling.{IsHeader, AreNextLines, GiveNames, Given, IsEnd, IsBinaryText}
 use Rattle.aigertext.specs.Reading.{Properties, lists_of, line_at, literal_of, size_within, size_of, literals_at, sizes_at, nexts_at, gates_at, properties_at, nameless, binary_at, names_at, header_of}
 use Rattle.aigertext.proofs.BackLemmas.{ok_same, not_err, bind-back, bind-then, lines-back, within-back, literals-back, sizes-back, SaysAt, line-back}
@@ -188,7 +188,7 @@ names_alone c (g ∷ gs) d e = names_alone (with_name c g.section g.position g.n
 pub record IsBody (h : Counts) (text : List ℕ) (end : List ℕ) (c : Circuit) : Type 0 where
   pub latches : List ℕ
   pub are_latches : AreNextLines (2 * suc c.inputs) c.latches latches
-  pub whole : text ≡ latches ++ (property_lines c ++ (gate_deltas (suc (c.inputs + length c.latches)) c.gates ++ end))
+  pub whole : text ≡ latches ++ (property_lines c ++ (gates_text Binary (suc (c.inputs + length c.latches)) c.gates ++ end))
   pub counts : h ≡ counts_in c
 
 pub length_lists : (ns literals : List ℕ) → length (lists_of ns literals) ≡ length ns
@@ -229,7 +229,7 @@ module _ (h : Counts) (text : List ℕ) (c : Circuit) (ls : List Latch) (after :
         l.parts
         ∙ ap (λ (t : List ℕ). l.bytes ++ t) (q.parts ∙ sym (property_is h.inputs ls p gs behind q.listed))
         ∙ ap (λ (t : List ℕ). l.bytes ++ (property_lines (nameless h.inputs ls p gs) ++ t))
-        (g.parts ∙ ap (λ (n : ℕ). gate_deltas (suc (h.inputs + n)) gs ++ end) (sym l.count));
+        (g.parts ∙ ap (λ (n : ℕ). gates_text Binary (suc (h.inputs + n)) gs ++ end) (sym l.count));
     counts = rw (fits, l.count, q.outputs, g.count, q.bads, q.constraints, length_lists p.sizes p.listed ∙ q.sizes, q.fair) refl;
   }
 

@@ -12,7 +12,7 @@ use Rattle.aigertext.specs.declared.reading.counts.Counts.{Counts}
 use Rattle.aigertext.specs.declared.fault.Stop.{Stop}
 use Rattle.aigertext.specs.Counts.{counts_in}
 use Rattle.aigertext.specs.Ascii.{property_lines, literal_lines, size_lines}
-use Rattle.aigertext.specs.Binary.{gate_deltas}
+use Rattle.aigertext.specs.Binary.{gates_text}
 use Rattle.aigertext.specs.Spelling.{IsBinaryText}
 use Rattle.aigertext.specs.Reading.{Properties, properties_at, nameless, binary_at, names_at, line_at, header_of}
 use Rattle.aigertext.specs.AsciiReading.{AnswersHeader, AnswersText}
@@ -104,12 +104,12 @@ few_in c valid s = omega (arith, counts_kept s c [], few_positions s c valid)
 
 -- what stands behind the header
 body-read : (c : Circuit) (text : List ℕ) (t : IsBinaryText text c)
-    → binary_at (counts_in c) (t.latches ++ (property_lines c ++ (gate_deltas (suc (c.inputs + length c.latches)) c.gates ++ t.end))) ≡ Ok c
+    → binary_at (counts_in c) (t.latches ++ (property_lines c ++ (gates_text Binary (suc (c.inputs + length c.latches)) c.gates ++ t.end))) ≡ Ok c
 unfolding binary_at
 body-read c text t =
     let valid = t.valid in
     let few : c.inputs + length c.latches + length c.gates ≤ greatest_count = valid.small in
-    let third = gate_deltas (suc (c.inputs + length c.latches)) c.gates ++ t.end in
+    let third = gates_text Binary (suc (c.inputs + length c.latches)) c.gates ++ t.end in
     let second = property_lines c ++ third in
     let nexts = nexts-read (2 * variables (net c) + 1) (2 * suc c.inputs) c.latches t.latches second t.are_latches (nexts_below (net c) c.latches valid.defined.nexts) (omega (arith, few)) (omega arith) (omega (arith, few)) in
     let properties = properties-read (variables (net c)) c.inputs (length c.latches) (length c.gates) c third valid.small (circuit_up_to c valid) valid.few.justice_literals in
@@ -123,7 +123,7 @@ body-read c text t =
 pub stands-read : (text : List ℕ) (c : Circuit) → IsBinaryText text c → AnswersText text (Ok c)
 unfolding AnswersText
 stands-read text c t =
-    let behind = t.latches ++ (property_lines c ++ (gate_deltas (suc (c.inputs + length c.latches)) c.gates ++ t.end)) in
+    let behind = t.latches ++ (property_lines c ++ (gates_text Binary (suc (c.inputs + length c.latches)) c.gates ++ t.end)) in
     let header = ap (line_at header_of) t.whole ∙ header-read Binary (counts_in c) t.header behind t.is_header (circuit_counts c t.valid) refl in
     subst (λ (r : Result ((Form × Counts) × List ℕ) Stop). AnswersHeader r (Ok c)) (sym header) (sym (body-read c text t))
 

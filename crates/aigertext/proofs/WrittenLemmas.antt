@@ -8,7 +8,7 @@ use Rattle.aiger.specs.Circuit.{Circuit, IsCircuit, IsNamed}
 use Rattle.aigertext.specs.declared.forms.Form.{Form}
 use Rattle.aigertext.specs.declared.forms.Form.TheVariants.{Binary}
 use Rattle.aigertext.specs.Ascii.{header, without_zero_tail, before_kept, last_counts, reset_numbers, all_names}
-use Rattle.aigertext.specs.Binary.{next_lines, binary_text}
+use Rattle.aigertext.specs.Binary.{latches_text, binary_text}
 use Rattle.aigertext.specs.Counts.{counts_in}
 use Rattle.aigertext.specs.Spelling.{IsHeader, IsReset, AreNextLines, IsEnd, IsBinaryText}
 use Rattle.aigertext.proofs.NameTextLemmas.{given_of, give_names, all_names-given}
@@ -41,7 +41,7 @@ written_reset own Free = refl
 next_own : (first : ℕ) → 2 * suc first ≡ 2 * first + 2
 next_own first = omega arith
 
-written_nexts : (first : ℕ) (ls : List Latch) → AreNextLines (2 * first) ls (next_lines first ls)
+written_nexts : (first : ℕ) (ls : List Latch) → AreNextLines (2 * first) ls (latches_text Binary first ls)
 written_nexts first [] = refl
 written_nexts first (l ∷ ls) = (
   _,
@@ -50,7 +50,7 @@ written_nexts first (l ∷ ls) = (
     (
       refl,
       record { reset = reset_numbers (2 * first) l.reset; is_reset = written_reset (2 * first) l.reset; spelled = refl },
-      subst (λ (own : ℕ). AreNextLines own ls (next_lines (suc first) ls)) (next_own first) (written_nexts (suc first) ls),
+      subst (λ (own : ℕ). AreNextLines own ls (latches_text Binary (suc first) ls)) (next_own first) (written_nexts (suc first) ls),
     ),
   ),
 )
@@ -71,7 +71,7 @@ written_stands c valid =
     record {
       header = header Binary c;
       is_header = written_header Binary c;
-      latches = next_lines (suc c.inputs) c.latches;
+      latches = latches_text Binary (suc c.inputs) c.latches;
       are_latches = written_nexts (suc c.inputs) c.latches;
       end = all_names c;
       is_end = written_end c valid;

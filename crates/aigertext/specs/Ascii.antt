@@ -1,7 +1,5 @@
--- The ascii text of a circuit ("AIGER 1.9 and Beyond", the ascii format): the one spelling that the writer gives.
-use Rattle.std.specs.Prelude.{ℕ, suc, zero, ◌+◌, ◌*◌, List, [], ◌∷◌, ◌++◌, length, Option, Some, None, codes, flat_map, decimal}
-use Rattle.aiger.specs.declared.circuit.Gate.{Gate}
-use Rattle.aiger.specs.declared.circuit.Latch.{Latch}
+-- The lines of a circuit's text ("AIGER 1.9 and Beyond", ascii format): the one spelling that the writer gives.
+use Rattle.std.specs.Prelude.{ℕ, suc, zero, ◌*◌, List, [], ◌∷◌, ◌++◌, length, Option, Some, None, codes, flat_map, decimal}
 use Rattle.aiger.specs.declared.circuit.Reset.{Reset}
 use Rattle.aiger.specs.declared.circuit.Reset.TheVariants.{Zero, One, Free}
 use Rattle.aiger.specs.Net.{variables}
@@ -60,11 +58,6 @@ reset_numbers own Zero = []
 reset_numbers own One = 1 ∷ []
 reset_numbers own Free = own ∷ []
 
--- a line for each latch: its literal, its next literal and its reset
-abbrev pub latch_lines : ℕ → List Latch → List ℕ
-latch_lines first [] = []
-latch_lines first (l ∷ ls) = numbers_line (2 * first ∷ l.next ∷ reset_numbers (2 * first) l.reset) ++ latch_lines (suc first) ls
-
 -- a line for each literal
 abbrev pub literal_lines : List ℕ → List ℕ
 literal_lines [] = []
@@ -84,11 +77,6 @@ list_lines (ls ∷ lists) = literal_lines ls ++ list_lines lists
 abbrev pub justice_lines : List (List ℕ) → List ℕ
 justice_lines lists = size_lines lists ++ list_lines lists
 
--- a line for each gate: its literal and its operands, the greater one first
-abbrev pub gate_lines : ℕ → List Gate → List ℕ
-gate_lines first [] = []
-gate_lines first (g ∷ gs) = numbers_line (2 * first ∷ g.rhs0 ∷ g.rhs1 ∷ []) ++ gate_lines (suc first) gs
-
 -- the line of a name: the section's letter with the position, a space and the name; nothing where there is no name
 abbrev pub name_line : ℕ → ℕ → Option (List ℕ) → List ℕ
 name_line letter position None = []
@@ -107,18 +95,8 @@ names_of c s = name_lines (letter s) 0 (section_names s c)
 abbrev pub all_names : Circuit → List ℕ
 all_names c = flat_map (names_of c) all_sections
 
--- the lines of inputs and latches
-abbrev pub leaf_lines : Circuit → List ℕ
-leaf_lines c = input_lines 1 c.inputs ++ latch_lines (suc c.inputs) c.latches
-
 -- the lines of outputs, bad properties, constraints, justice properties and fairness constraints
 abbrev pub property_lines : Circuit → List ℕ
 property_lines c =
     literal_lines c.outputs ++ (literal_lines c.bads ++ (literal_lines c.constraints
     ++ (justice_lines c.justice ++ literal_lines c.fair)))
-
--- the text: header, inputs, latches, properties, gates and names
-abbrev pub ascii_text : Circuit → List ℕ
-ascii_text c =
-    header Ascii c ++ (leaf_lines c ++ (property_lines c
-    ++ (gate_lines (suc (c.inputs + length c.latches)) c.gates ++ all_names c)))

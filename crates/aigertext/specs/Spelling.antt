@@ -15,7 +15,7 @@ use Rattle.aigertext.specs.declared.reading.counts.Counts.{Counts}
 use Rattle.aigertext.specs.declared.forms.Form.{Form}
 use Rattle.aigertext.specs.declared.forms.Form.TheVariants.{Ascii, Binary}
 use Rattle.aigertext.specs.Ascii.{numbers_line, form_word, literal_lines, justice_lines, property_lines}
-use Rattle.aigertext.specs.Binary.{gate_deltas}
+use Rattle.aigertext.specs.Binary.{gates_text}
 use Rattle.aigertext.specs.Counts.{first_of_counts, last_of_counts, counts_in, counts_of_file}
 
 -- a header: the form's word, the first five numbers and a front of the last four, behind which all are 0
@@ -81,7 +81,7 @@ pub record IsBinaryText (text : List ℕ) (c : Circuit) : Type 0 where
   pub is_end : IsEnd c end
   pub valid : IsCircuit c
   pub whole :
-      text ≡ header ++ (latches ++ (property_lines c ++ (gate_deltas (suc (c.inputs + length c.latches)) c.gates ++ end)))
+      text ≡ header ++ (latches ++ (property_lines c ++ (gates_text Binary (suc (c.inputs + length c.latches)) c.gates ++ end)))
 
 -- ---- the ascii form
 

@@ -1,8 +1,8 @@
 //! Worked rows of the texts: functions that do nothing, whose contracts are the rows.
 ghost use Rattle.std.specs.Prelude.{◌≡◌, ℕ, ◌<◌, All, List, [], ◌∷◌, ◌++◌, Result, Ok, Err, codes};
 ghost use Rattle.aiger.specs.Circuit.{Circuit, IsCircuit};
-ghost use Rattle.aigertext.specs.Ascii.{numbers_line, without_zero_tail, name_line, ascii_text};
-ghost use Rattle.aigertext.specs.Binary.{delta, binary_text, circuit_text};
+ghost use Rattle.aigertext.specs.Ascii.{numbers_line, without_zero_tail, name_line};
+ghost use Rattle.aigertext.specs.Binary.{delta, ascii_text, binary_text, circuit_text};
 ghost use Rattle.aigertext.specs.Reading.{line_at, header_of};
 ghost use Rattle.aigertext.specs.declared.forms.Form.{Form};
 ghost use Rattle.aigertext.specs.declared.forms.Form.TheVariants as form;

@@ -2,8 +2,7 @@
 ghost use Rattle.std.specs.Prelude.{OnOk, OnErr};
 ghost use Rattle.std.specs.Io.KnownBytes.{Appends};
 ghost use Rattle.base.specs.Device.{CountsFaults, AppendsBeginning};
-ghost use Rattle.aigertext.specs.Ascii.{ascii_text};
-ghost use Rattle.aigertext.specs.Binary.{binary_text, circuit_text};
+ghost use Rattle.aigertext.specs.Binary.{ascii_text, binary_text, circuit_text};
 ghost use Rattle.aigertext.specs.Writing.{Writes};
 
 mod gates;

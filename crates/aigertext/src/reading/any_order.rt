@@ -3,7 +3,8 @@
 ghost use Rattle.std.specs.Prelude.{◌≡◌, ◌+◌, ◌≤◌, ◌++◌, [], true, length, Ok, IfOk, IfErr, IfSome, OnOk, IsErrOf};
 ghost use Rattle.std.specs.Io.KnownBytes.{prepend_known, IsAtEnd};
 ghost use Rattle.base.specs.Device.{HasRisen};
-ghost use Rattle.aigertext.specs.Ascii.{gate_lines};
+ghost use Rattle.aigertext.specs.Binary.{gates_text};
+ghost use Rattle.aigertext.specs.declared.forms.Form.TheVariants as variant;
 ghost use Rattle.aigertext.specs.AsciiReading.{AnswersNamed};
 ghost use Rattle.aigertext.specs.InOrder.{line_texts, IsPutOnLists, StandBefore, IsTaken};
 
@@ -24,7 +25,7 @@ use std::alloc::{AllocError, Global};
 /// Adds gates to the lists of a file, the first of which has the given variable; answers whether there was memory for it.
 fn push_own(lists: &mut Loose, greatest: u32, first: u32, gates: &[Gate]) -> bool
     requires { first + length gates.now ≤ 1073741825 }
-    ensures { result ≡ true → IsPutOnLists greatest lists.old lists.new (gate_lines first gates.now) }
+    ensures { result ≡ true → IsPutOnLists greatest lists.old lists.new (gates_text variant.Ascii first gates.now) }
 {
     let mut variable = first;
     for gate in gates {
@@ -47,7 +48,7 @@ pub fn lists_so_far(
 ) -> Option<(Counts, Loose)>
     requires { first + length gates.now ≤ 1073741825 }
     ensures stand { IfSome result (λ x. StandBefore x.0 before.now x.1) }
-    ensures own { IfSome result (λ x. line_texts x.1.gates ≡ gate_lines first gates.now) }
+    ensures own { IfSome result (λ x. line_texts x.1.gates ≡ gates_text variant.Ascii first gates.now) }
 {
     let (counts, lines) = match header_line(before) {
         Ok(((Form::Ascii, counts), lines)) => (counts, lines),

@@ -33,18 +33,23 @@ fn more_digits(more: u32, text: &[u8]) -> Result<(u64, &[u8]), Why>
     }
 }
 
-/// A delta, and the text behind it.
+/// A delta, and the text behind it. Whether it has one byte or two is no branch, since no guess of it would be right.
 #[inline(always)]
 #[tactic(auto, unfolding(crate::specs::Reading::delta_at))]
 fn delta(text: &[u8]) -> Result<(u64, &[u8]), Why>
     ensures { Gives (λ x. (x.0, x.1.now)) result (delta_at text.now) }
 {
+    if let [low, high, ..] = text {
+        let more = *low / 128;
+        let second = more * *high;
+        if more <= second && second < 128 {
+            let (_, rest) = text.split_at(usize::from(more + 1));
+            return Ok((u64::from(*low % 128) + 128 * u64::from(second), rest));
+        }
+    }
     match text {
         [] => Err(Why::Truncated),
         [byte, rest @ ..] if *byte < 128 => Ok((u64::from(*byte), rest)),
-        [low, high, rest @ ..] if *high >= 1 && *high < 128 => {
-            Ok((u64::from(*low - 128) + 128 * u64::from(*high), rest))
-        }
         [low, middle, high, rest @ ..] if *middle >= 128 && *high >= 1 && *high < 128 => {
             let higher = u64::from(*middle - 128) + 128 * u64::from(*high);
             Ok((u64::from(*low - 128) + 128 * higher, rest))

@@ -1,6 +1,5 @@
 use Rattle.aigertext.specs.declared.forms.Form.TheVariants.{Ascii, Binary}
-use Rattle.aigertext.specs.Ascii.{ascii_text}
-use Rattle.aigertext.specs.Binary.{binary_text}
+use Rattle.aigertext.specs.Binary.{ascii_text, binary_text}
 use Rattle.aigertext.proofs.AsciiStandsLemmas.{ascii-read}
 use Rattle.aigertext.proofs.AsciiWrittenLemmas.{written_ascii}
 use Rattle.aigertext.proofs.StandsLemmas.{stands-read}

@@ -1,13 +1,11 @@
 use Rattle.std.proofs.Common.{add-one}
-use Rattle.aigertext.proofs.FormLemmas.{text_parts}
 use Rattle.aigertext.proofs.PenLemmas.{writes_then}
 use Rattle.aigertext.proofs.writing.put_text.Goals as goal
 
 pub returns : goal.returns
 returns g c =
-    rw (text_parts c.args.form c.args.circuit.now)
-    (writes_then c.put_header.ensures
+    writes_then c.put_header.ensures
     (writes_then (rw c.inputs-inputs.ensures.count at c.put_inputs.ensures)
     (writes_then (rw (add-one c.inputs-inputs.result, c.inputs-inputs.ensures.count, c.latches.ensures.items) at c.put_latches.ensures)
     (writes_then c.put_properties.ensures
-    (writes_then (rw (c.first_gate.ensures.variable, c.gates.ensures.items) at c.put_gates.ensures) c.put_all_names.ensures)))))
+    (writes_then (rw (c.first_gate.ensures.variable, c.gates.ensures.items) at c.put_gates.ensures) c.put_all_names.ensures))))
