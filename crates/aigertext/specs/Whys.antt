@@ -3,36 +3,25 @@ use Rattle.std.specs.Prelude.{ℕ, List, codes}
 use Rattle.aigertext.specs.declared.fault.Why.{Why}
 use Rattle.aigertext.specs.declared.fault.Why.TheVariants.{BadHeader, CountsDisagree, BadNumber, BadLatch, GateOrder, DeltaNotShortest, DeltaTooLong, BadSymbol, Truncated, TooBig, Cycle, Undefined, Device, NoMemory}
 
--- the number that is printed for a why
-abbrev pub why_number : Why → ℕ
-why_number BadHeader = 50
-why_number CountsDisagree = 51
-why_number BadNumber = 52
-why_number BadLatch = 53
-why_number GateOrder = 54
-why_number DeltaNotShortest = 55
-why_number DeltaTooLong = 56
-why_number BadSymbol = 57
-why_number Truncated = 58
-why_number TooBig = 59
-why_number Cycle = 62
-why_number Undefined = 63
-why_number Device = 60
-why_number NoMemory = 61
+-- the number and the name that are printed for a why
+abbrev pub why_row : Why → ℕ × List ℕ
+why_row BadHeader = (50, codes "BadHeader")
+why_row CountsDisagree = (51, codes "CountsDisagree")
+why_row BadNumber = (52, codes "BadNumber")
+why_row BadLatch = (53, codes "BadLatch")
+why_row GateOrder = (54, codes "GateOrder")
+why_row DeltaNotShortest = (55, codes "DeltaNotShortest")
+why_row DeltaTooLong = (56, codes "DeltaTooLong")
+why_row BadSymbol = (57, codes "BadSymbol")
+why_row Truncated = (58, codes "Truncated")
+why_row TooBig = (59, codes "TooBig")
+why_row Device = (60, codes "Device")
+why_row NoMemory = (61, codes "NoMemory")
+why_row Cycle = (62, codes "Cycle")
+why_row Undefined = (63, codes "Undefined")
 
--- the name that is printed for a why
+abbrev pub why_number : Why → ℕ
+why_number w = (why_row w).0
+
 abbrev pub why_name : Why → List ℕ
-why_name BadHeader = codes "BadHeader"
-why_name CountsDisagree = codes "CountsDisagree"
-why_name BadNumber = codes "BadNumber"
-why_name BadLatch = codes "BadLatch"
-why_name GateOrder = codes "GateOrder"
-why_name DeltaNotShortest = codes "DeltaNotShortest"
-why_name DeltaTooLong = codes "DeltaTooLong"
-why_name BadSymbol = codes "BadSymbol"
-why_name Truncated = codes "Truncated"
-why_name TooBig = codes "TooBig"
-why_name Cycle = codes "Cycle"
-why_name Undefined = codes "Undefined"
-why_name Device = codes "Device"
-why_name NoMemory = codes "NoMemory"
+why_name w = (why_row w).1

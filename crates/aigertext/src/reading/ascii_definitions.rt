@@ -11,7 +11,7 @@ use crate::fault::{Stop, Why};
 use crate::reading::fields::{first_field, next_field};
 use crate::reading::latches::latch_behind;
 use crate::reading::lines::{line, stop};
-use crate::reading::numbers::literal;
+use crate::reading::numbers::literal_within;
 use crate::reading::plain_numbers::three_numbers;
 use aiger::{CircuitFault, GateLine, LatchLine, Lit, Loose};
 use base::decimal;
@@ -164,7 +164,7 @@ fn defined_by(bytes: &[u8], why: Why, greatest: u32, lists: &Loose) -> Result<Li
 }
 
 /// A gate of three numbers.
-#[tactic(auto, unfolding(crate::specs::AsciiReading::gate_fields, crate::specs::Reading::literal_of))]
+#[tactic(auto, unfolding(crate::specs::AsciiReading::gate_fields))]
 fn gate_with(
     lhs: &[u8],
     rhs0: &[u8],
@@ -177,8 +177,8 @@ fn gate_with(
     match decimal(lhs) {
         None => Err(Why::BadNumber),
         Some(number) => {
-            let rhs0 = literal(rhs0, greatest)?;
-            let rhs1 = literal(rhs1, greatest)?;
+            let rhs0 = literal_within(rhs0, greatest, Why::BadNumber)?;
+            let rhs1 = literal_within(rhs1, greatest, Why::BadNumber)?;
             let lhs = defining(number, Why::GateOrder, greatest, lists)?;
             Ok(GateLine { lhs, rhs0, rhs1 })
         }

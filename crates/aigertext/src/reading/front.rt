@@ -7,7 +7,7 @@ ghost use Rattle.aigertext.specs.Ascii.{input_lines};
 ghost use Rattle.aigertext.specs.Binary.{inputs_text};
 ghost use Rattle.aigertext.specs.Counts.{AreSmall, Fits};
 ghost use Rattle.aigertext.specs.Passes.{latches_in, Reads};
-ghost use Rattle.aigertext.specs.PropertyLists.{numbers_of, no_numbers};
+ghost use Rattle.aigertext.specs.PropertyLists.{no_numbers};
 ghost use Rattle.aigertext.specs.InOrder.{uses_at, uses_of, HasFront};
 
 use crate::fault::{Stop, Why};
@@ -62,27 +62,24 @@ fn read_latches<'a>(
     Ok(rest)
 }
 
-/// Reads the lines of the latches and of all properties in a form, and answers the text behind them.
-fn read_uses<'a>(
-    latches: &mut Vec<Latch>,
-    properties: &mut PropertyLines,
-    form: Form,
-    counts: &Counts,
-    text: &'a [u8],
-) -> Result<&'a [u8], Stop>
-    requires no_latches { latches.old.items ≡ [] }
-    requires no_properties { numbers_of properties.old ≡ no_numbers }
-    requires small { AreSmall counts.now }
-    requires fits { counts.now.inputs + counts.now.latches ≤ counts.now.variables }
-    ensures { Reads (λ x. ((latches.new.items, numbers_of properties.new), x.now)) result (uses_at form counts.now text.now) }
+/// Reads the lines of the latches and of all properties, and answers the text behind them.
+fn read_uses<'a>(front: &mut Front, text: &'a [u8]) -> Result<&'a [u8], Stop>
+    requires none { uses_of front.old ≡ ([], no_numbers) }
+    requires small { AreSmall front.old.counts }
+    requires fits { front.old.counts.inputs + front.old.counts.latches ≤ front.old.counts.variables }
+    ensures reads { Reads (λ x. (uses_of front.new, x.now)) result (uses_at front.old.form front.old.counts text.now) }
+    ensures form { front.new.form ≡ front.old.form }
+    ensures counts { front.new.counts ≡ front.old.counts }
 {
+    let counts = front.counts;
     let greatest = 2 * counts.variables + 1;
     let first = 2 * (counts.inputs + 1);
-    let rest = read_latches(latches, form, text, greatest, first, counts.latches)?;
-    read_properties(properties, rest, counts)
+    let latches = &mut front.latches;
+    let rest = read_latches(latches, front.form, text, greatest, first, counts.latches)?;
+    read_properties(&mut front.properties, rest, &counts)
 }
 
-/// The numbers of the lines of latches and properties in a form, and the text behind them.
+/// What the lines of latches and properties say in a form, and the text behind them.
 pub fn uses<'a>(
     alloc: Global,
     form: Form,
@@ -95,18 +92,14 @@ pub fn uses<'a>(
     ensures form { IfOk result (λ x. x.0.form ≡ form) }
     ensures counts { IfOk result (λ x. x.0.counts ≡ counts.now) }
 {
-    let mut latches = Vec::new(alloc);
-    let mut properties = PropertyLines::new(alloc);
-    match read_uses(&mut latches, &mut properties, form, counts, text) {
-        Ok(gates) => Ok((
-            Front {
-                form,
-                counts: *counts,
-                latches,
-                properties,
-            },
-            gates,
-        )),
+    let mut front = Front {
+        form,
+        counts: *counts,
+        latches: Vec::new(alloc),
+        properties: PropertyLines::new(alloc),
+    };
+    match read_uses(&mut front, text) {
+        Ok(gates) => Ok((front, gates)),
         Err(stop) => Err(stop),
     }
 }

@@ -9,7 +9,7 @@ use crate::forms::Form;
 use crate::reading::counts::Counts;
 use crate::reading::header::header;
 use crate::reading::latches::latch_in;
-use crate::reading::numbers::{literal, size};
+use crate::reading::numbers::{literal_within, size};
 use aiger::{Latch, Lit};
 use base::next_line;
 
@@ -75,11 +75,12 @@ pub fn latch_line(form: Form, text: &[u8], greatest: u32, own: u32) -> Result<(L
 }
 
 /// The literal of the first line, and the text behind it.
+#[tactic(auto, unfolding(crate::specs::Reading::literal_of))]
 pub fn literal_line(text: &[u8], greatest: u32) -> Result<(Lit, &[u8]), Stop>
     ensures { Gives (λ x. (x.0, x.1.now)) result (line_at (literal_of greatest) text.now) }
 {
     let (bytes, behind) = line(text)?;
-    match literal(bytes, greatest) {
+    match literal_within(bytes, greatest, Why::BadNumber) {
         Ok(literal) => Ok((literal, behind)),
         Err(why) => Err(stop(text, why)),
     }

@@ -1,7 +1,7 @@
 //! Reading one number: a literal, or the size of a justice property.
 ghost use Rattle.std.specs.Prelude.{◌≡◌, ◌≤◌, ◌+◌, IfOk};
 ghost use Rattle.base.specs.Decimals.{number_of};
-ghost use Rattle.aigertext.specs.Reading.{Gives, within, literal_of, size_of};
+ghost use Rattle.aigertext.specs.Reading.{Gives, within, size_of};
 
 use crate::fault::Why;
 use aiger::{GREATEST_COUNT, Lit};
@@ -21,14 +21,6 @@ pub fn literal_within(bytes: &[u8], greatest: u32, why: Why) -> Result<Lit, Why>
             }
         }
     }
-}
-
-/// The literal of a line, which is at most the greatest one.
-#[tactic(auto, unfolding(crate::specs::Reading::literal_of))]
-pub fn literal(line: &[u8], greatest: u32) -> Result<Lit, Why>
-    ensures { Gives (λ x. x) result (literal_of greatest line.now) }
-{
-    literal_within(line, greatest, Why::BadNumber)
 }
 
 /// The size of a justice property, where those before it have so many literals together.
