@@ -13,7 +13,7 @@ use Rattle.aigertext.specs.declared.forms.Form.TheVariants.{Ascii, Binary}
 use Rattle.aigertext.specs.Counts.{AreSmall, Fits, counts_of_file}
 use Rattle.aigertext.specs.Spelling.{IsHeader, IsAsciiText, Spells, use_lines}
 use Rattle.aigertext.specs.Reading.{line_at, header_of, names_at}
-use Rattle.aigertext.specs.AsciiReading.{lists_of_file, AnswersNamed, AnswersUndefined, AnswersCycle, AnswersLists, AnswersAscii, AnswersBody, AnswersHeader, AnswersText}
+use Rattle.aigertext.specs.AsciiReading.{lists_of_file, AnswersNamed, AnswersUndefined, AnswersCycle, AnswersLists, AnswersBody, AnswersHeader, AnswersText}
 use Rattle.aigertext.proofs.BackLemmas.{SaysAt, line-back}
 use Rattle.aigertext.proofs.FileBackLemmas.{ListsBack, lists-back}
 use Rattle.aigertext.proofs.FileReadLemmas.{lists-read}
@@ -43,7 +43,7 @@ ascii-read circuit text c t =
     let names : names_at (record c { names = [] }) t.end ≡ Ok c =
     ap (names_at (record c { names = [] })) t.is_end.spelled ∙ names-read (record c { names = [] }) t.is_end.given c t.is_end.comment few t.is_end.names t.is_end.is_comment in
     let answers : AnswersNamed t.lists t.end (Ok c) = record { circuit = record c { names = [] }; is_renumbered = t.is_renumbered; is = sym names } in
-    let file : AnswersAscii (counts_of_file t.greatest t.lists) behind (Ok c) =
+    let file : AnswersLists (counts_of_file t.greatest t.lists) behind (lists_of_file (counts_of_file t.greatest t.lists) behind) (Ok c) =
     subst (λ (r : Result (Loose × List ℕ) Stop). AnswersLists (counts_of_file t.greatest t.lists) behind r (Ok c)) (sym lists) (inl answers) in
     subst (λ (r : Result ((Form × Counts) × List ℕ) Stop). AnswersHeader r (Ok c)) (sym header) file
 
@@ -83,7 +83,7 @@ module _ (circuit : IsCircuitLaw) (text : List ℕ) (c : Circuit) (h : Counts) (
         whole = s.parts ∙ sym (append_assoc s.line (10 ∷ []) rest) ∙ ap (λ (t : List ℕ). (s.line ++ 10 ∷ []) ++ t) b.whole;
       }
 
-pub ascii-stands : IsCircuitLaw → (text : List ℕ) (c : Circuit) (h : Counts) (rest : List ℕ) → line_at header_of text ≡ Ok ((Ascii, h), rest) → AnswersAscii h rest (Ok c) → IsAsciiText text c
+pub ascii-stands : IsCircuitLaw → (text : List ℕ) (c : Circuit) (h : Counts) (rest : List ℕ) → line_at header_of text ≡ Ok ((Ascii, h), rest) → AnswersLists h rest (lists_of_file h rest) (Ok c) → IsAsciiText text c
 ascii-stands circuit text c h rest header answers = by (lists_of_file h rest) refl answers
   where
     s : SaysAt header_of text (Ascii, h) rest

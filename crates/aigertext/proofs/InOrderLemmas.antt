@@ -23,7 +23,7 @@ use Rattle.aigertext.specs.Binary.{inputs_text, gates_text}
 use Rattle.aigertext.specs.Counts.{counts_in, counts_of_file, AreSmall, Fits}
 use Rattle.aigertext.specs.Spelling.{IsHeader, AreUpTo, AreNextLines, IsAsciiText, IsBinaryText}
 use Rattle.aigertext.specs.Reading.{◌>>=◌, line_at, header_of, gate_at, gates_at, names_at, binary_at, Properties, properties_at, nameless}
-use Rattle.aigertext.specs.AsciiReading.{lists_of_file, AnswersNamed, AnswersLists, AnswersAscii, AnswersHeader, AnswersText}
+use Rattle.aigertext.specs.AsciiReading.{lists_of_file, AnswersNamed, AnswersLists, AnswersHeader, AnswersText}
 use Rattle.aiger.specs.Loose.{Loose}
 use Rattle.base.specs.Lines.{IsLine}
 use Rattle.aigertext.specs.Passes.{onto, with_gates, latch_in, latches_in}
@@ -201,7 +201,7 @@ module _ (h : Counts) (uses : List Latch × Properties) (before : List ℕ) (gs 
         (lists-read h.variables (own_lists (nameless h.inputs uses.0 uses.1 gs)) (own_valid (nameless h.inputs uses.0 uses.1 gs) f.valid) refl s.k.few_first.0 own_up_to
         (input_lines 1 h.inputs) s.l.bytes (gates_text Ascii (suc (h.inputs + length uses.0)) gs) names (written_inputs 1 h.inputs) s.l.lines (written_gates (suc (h.inputs + length uses.0)) gs)) in
         let named : AnswersNamed lists names r = record { circuit = nameless h.inputs uses.0 uses.1 gs; is_renumbered = own_numbered (nameless h.inputs uses.0 uses.1 gs) f.valid; is = sym f.are_names } in
-        let file : AnswersAscii h lists_text r =
+        let file : AnswersLists h lists_text (lists_of_file h lists_text) r =
         subst (λ (x : Result (Loose × List ℕ) Stop). AnswersLists h lists_text x r) (sym read) (inl named) in
         let header : line_at header_of (text_with Ascii h before gs names) ≡ Ok ((Ascii, h), lists_text) =
         ap (line_at header_of) (own_whole ∙ append_assoc s.line (10 ∷ []) lists_text) ∙ line_read header_of s.line lists_text (Ascii, h) s.said.0 s.said.1 in

@@ -9,8 +9,8 @@ use Rattle.aigertext.specs.declared.fault.Why.TheVariants as why
 use Rattle.aigertext.specs.declared.forms.Form.{Form}
 use Rattle.aigertext.specs.declared.forms.Form.TheVariants.{Ascii, Binary}
 use Rattle.aigertext.specs.Counts.{AreSmall, Fits}
-use Rattle.aigertext.specs.Reading.{line_at, header_of, names_at, binary_at}
-use Rattle.aigertext.specs.AsciiReading.{lists_of_file, lines_before, use_of_gate, stop_behind, AnswersNamed, AnswersUndefined, AnswersCycle, AnswersLists, AnswersBody, AnswersHeader, AnswersText}
+use Rattle.aigertext.specs.Reading.{stop, line_at, header_of, names_at, binary_at}
+use Rattle.aigertext.specs.AsciiReading.{lists_of_file, lines_before, use_of_gate, behind_lines, AnswersNamed, AnswersUndefined, AnswersCycle, AnswersLists, AnswersBody, AnswersHeader, AnswersText}
 use Rattle.aigertext.proofs.FileBackLemmas.{lists-back}
 use Rattle.aigertext.proofs.HeaderSmallLemmas.{IsHeaderOf, header_small}
 use Rattle.aigertext.proofs.PassOverLemmas.{cyclic_within}
@@ -40,11 +40,11 @@ module _ (same_circuit : OneCircuit) (no_cycle : NoCycle) (h : Counts) (text : L
   one_of_lists (inl x) (inr (inl y)) = absurd (undefined_not l y.line y.undefined x.is_renumbered.known)
   one_of_lists (inl x) (inr (inr y)) = absurd (no_cycle l x.circuit y.gate valid x.is_renumbered (cyclic_within l y.gate y.cyclic.leads) y.cyclic.leads)
   one_of_lists (inr (inl x)) (inl y) = absurd (undefined_not l x.line x.undefined y.is_renumbered.known)
-  one_of_lists (inr (inl x)) (inr (inl y)) = x.is ∙ ap (λ (k : ℕ). Err (stop_behind text (lines_before h k) why.Undefined)) (same_line l x.line y.line x.undefined y.undefined) ∙ sym y.is
+  one_of_lists (inr (inl x)) (inr (inl y)) = x.is ∙ ap (λ (k : ℕ). Err (stop (behind_lines (lines_before h k) text) why.Undefined)) (same_line l x.line y.line x.undefined y.undefined) ∙ sym y.is
   one_of_lists (inr (inl x)) (inr (inr y)) = absurd (undefined_not l x.line x.undefined y.known)
   one_of_lists (inr (inr x)) (inl y) = absurd (no_cycle l y.circuit x.gate valid y.is_renumbered (cyclic_within l x.gate x.cyclic.leads) x.cyclic.leads)
   one_of_lists (inr (inr x)) (inr (inl y)) = absurd (undefined_not l y.line y.undefined x.known)
-  one_of_lists (inr (inr x)) (inr (inr y)) = x.is ∙ ap (λ (k : ℕ). Err (stop_behind text (lines_before h (use_of_gate l k)) why.Cycle)) (same_first l x.gate y.gate x.cyclic y.cyclic) ∙ sym y.is
+  one_of_lists (inr (inr x)) (inr (inr y)) = x.is ∙ ap (λ (k : ℕ). Err (stop (behind_lines (lines_before h (use_of_gate l k)) text) why.Cycle)) (same_first l x.gate y.gate x.cyclic y.cyclic) ∙ sym y.is
 
 pub one_answer : OneCircuit → NoCycle → (text : List ℕ) (a b : Result Circuit Stop) → AnswersText text a → AnswersText text b → a ≡ b
 unfolding AnswersText
@@ -73,10 +73,10 @@ some_answer either text = by (line_at header_of text) refl
   where
     defined : (h : Counts) (rest : List ℕ) (l : Loose) (end : List ℕ) → first_undefined l ≡ None → ((c : Circuit) × IsRenumbered l c) ⊎ ((j : ℕ) × IsFirstCyclic l j) → (a : Result Circuit Stop) × AnswersLists h rest (Ok (l, end)) a
     defined h rest l end known (inl c) = (names_at c.0 end, inl (record { circuit = c.0; is_renumbered = c.1; is = refl }))
-    defined h rest l end known (inr j) = (Err (stop_behind rest (lines_before h (use_of_gate l j.0)) why.Cycle), inr (inr (record { gate = j.0; known = known; cyclic = j.1; is = refl })))
+    defined h rest l end known (inr j) = (Err (stop (behind_lines (lines_before h (use_of_gate l j.0)) rest) why.Cycle), inr (inr (record { gate = j.0; known = known; cyclic = j.1; is = refl })))
 
     lists_by : (h : Counts) (rest : List ℕ) (l : Loose) (end : List ℕ) → IsLoose l → (r : Option ℕ) → first_undefined l ≡ r → (a : Result Circuit Stop) × AnswersLists h rest (Ok (l, end)) a
-    lists_by h rest l end valid (Some k) e = (Err (stop_behind rest (lines_before h k) why.Undefined), inr (inl (record { line = k; undefined = e; is = refl })))
+    lists_by h rest l end valid (Some k) e = (Err (stop (behind_lines (lines_before h k) rest) why.Undefined), inr (inl (record { line = k; undefined = e; is = refl })))
     lists_by h rest l end valid None e = defined h rest l end e (either l valid e)
 
     lists : (h : Counts) (rest : List ℕ) → AreSmall h → Fits Ascii h → (r : Result (Loose × List ℕ) Stop) → lists_of_file h rest ≡ r → (a : Result Circuit Stop) × AnswersLists h rest r a

@@ -7,9 +7,9 @@ use Rattle.aiger.specs.declared.circuit.Reset.TheVariants.{Zero, One, Free}
 use Rattle.aiger.specs.Circuit.{Circuit, IsCircuit, IsNamed}
 use Rattle.aigertext.specs.declared.forms.Form.{Form}
 use Rattle.aigertext.specs.declared.forms.Form.TheVariants.{Binary}
-use Rattle.aigertext.specs.Ascii.{header, without_zero_tail, before_kept, last_counts, reset_numbers, all_names}
+use Rattle.aigertext.specs.Ascii.{header, without_zero_tail, before_kept, reset_numbers, all_names}
 use Rattle.aigertext.specs.Binary.{latches_text, binary_text}
-use Rattle.aigertext.specs.Counts.{counts_in}
+use Rattle.aigertext.specs.Counts.{counts_in, last_of_counts}
 use Rattle.aigertext.specs.Spelling.{IsHeader, IsReset, AreNextLines, IsEnd, IsBinaryText}
 use Rattle.aigertext.proofs.NameTextLemmas.{given_of, give_names, all_names-given}
 use Rattle.aigertext.proofs.PlaceLemmas.{all_behind_none}
@@ -30,8 +30,8 @@ zero_tail (n ∷ ns) = let rest = zero_tail ns in tail_by n (without_zero_tail n
 
 pub written_header : (form : Form) (c : Circuit) → IsHeader form (counts_in c) (header form c)
 written_header form c =
-    let tail = zero_tail (last_counts c) in
-    record { kept = without_zero_tail (last_counts c); dropped = tail.0; counts = tail.1; spelled = refl }
+    let tail = zero_tail (last_of_counts (counts_in c)) in
+    record { kept = without_zero_tail (last_of_counts (counts_in c)); dropped = tail.0; counts = tail.1; spelled = refl }
 
 pub written_reset : (own : ℕ) (r : Reset) → IsReset own r (reset_numbers own r)
 written_reset own Zero = inl refl

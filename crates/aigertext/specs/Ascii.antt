@@ -2,11 +2,11 @@
 use Rattle.std.specs.Prelude.{ℕ, suc, zero, ◌*◌, List, [], ◌∷◌, ◌++◌, length, Option, Some, None, codes, flat_map, decimal}
 use Rattle.aiger.specs.declared.circuit.Reset.{Reset}
 use Rattle.aiger.specs.declared.circuit.Reset.TheVariants.{Zero, One, Free}
-use Rattle.aiger.specs.Net.{variables}
 use Rattle.aigertext.specs.declared.forms.Form.{Form}
 use Rattle.aigertext.specs.declared.forms.Form.TheVariants.{Ascii, Binary}
 use Rattle.aiger.specs.declared.circuit.Section.{Section}
-use Rattle.aiger.specs.Circuit.{Circuit, Names, letter, all_sections, net, section_names}
+use Rattle.aiger.specs.Circuit.{Circuit, Names, letter, all_sections, section_names}
+use Rattle.aigertext.specs.Counts.{first_of_counts, last_of_counts, counts_in}
 
 -- a line of numbers: decimals with one space between, and byte 10
 abbrev pub numbers_line : List ℕ → List ℕ
@@ -25,22 +25,14 @@ abbrev pub without_zero_tail : List ℕ → List ℕ
 without_zero_tail [] = []
 without_zero_tail (n ∷ ns) = before_kept n (without_zero_tail ns)
 
--- how many bad properties, constraints, justice properties and fairness constraints there are
-abbrev pub last_counts : Circuit → List ℕ
-last_counts c = length c.bads ∷ length c.constraints ∷ length c.justice ∷ length c.fair ∷ []
-
 -- the first word of a text
 abbrev pub form_word : Form → List ℕ
 form_word Ascii = codes "aag"
 form_word Binary = codes "aig"
 
--- the greatest variable, and how many inputs, latches, outputs and gates there are
-abbrev pub first_counts : Circuit → List ℕ
-first_counts c = variables (net c) ∷ c.inputs ∷ length c.latches ∷ length c.outputs ∷ length c.gates ∷ []
-
 -- the header: the form's word, the first counts, and then the last counts as far as they are not 0
 abbrev pub header : Form → Circuit → List ℕ
-header form c = form_word form ++ 32 ∷ numbers_line (first_counts c ++ without_zero_tail (last_counts c))
+header form c = form_word form ++ 32 ∷ numbers_line (first_of_counts (counts_in c) ++ without_zero_tail (last_of_counts (counts_in c)))
 
 -- a line of numbers, where there are any
 abbrev pub kept_line : List ℕ → List ℕ

@@ -98,10 +98,6 @@ use_of_gate l g = length (used_lines l) - length l.gates + g
 
 -- ---- texts
 
--- reading stops at the front of what stands behind so many lines
-abbrev pub stop_behind : List ℕ → ℕ → Why → Stop
-stop_behind text lines w = stop (behind_lines lines text) w
-
 -- the lists are a circuit, and the answer is that circuit with the names behind them
 pub record AnswersNamed (l : Loose) (names : List ℕ) (answer : Result Circuit Stop) : Type 0 where
   pub circuit : Circuit
@@ -112,29 +108,25 @@ pub record AnswersNamed (l : Loose) (names : List ℕ) (answer : Result Circuit 
 pub record AnswersUndefined (h : Counts) (text : List ℕ) (l : Loose) (answer : Result Circuit Stop) : Type 0 where
   pub line : ℕ
   pub undefined : first_undefined l ≡ Some line
-  pub is : answer ≡ Err (stop_behind text (lines_before h line) why.Undefined)
+  pub is : answer ≡ Err (stop (behind_lines (lines_before h line) text) why.Undefined)
 
 -- all variables are defined, and gates depend on themselves: the answer is a stop at the first gate that leads to a cycle
 pub record AnswersCycle (h : Counts) (text : List ℕ) (l : Loose) (answer : Result Circuit Stop) : Type 0 where
   pub gate : ℕ
   pub known : first_undefined l ≡ None
   pub cyclic : IsFirstCyclic l gate
-  pub is : answer ≡ Err (stop_behind text (lines_before h (use_of_gate l gate)) why.Cycle)
+  pub is : answer ≡ Err (stop (behind_lines (lines_before h (use_of_gate l gate)) text) why.Cycle)
 
 -- what the lists of a file, or where reading them stops, have for an answer
 abbrev pub AnswersLists : Counts → List ℕ → Result (Loose × List ℕ) Stop → Result Circuit Stop → Type 0
 AnswersLists h text (Ok x) answer = AnswersNamed x.0 x.1 answer ⊎ (AnswersUndefined h text x.0 answer ⊎ AnswersCycle h text x.0 answer)
 AnswersLists h text (Err e) answer = answer ≡ Err e
 
--- reading what stands behind a header of the ascii form: the circuit that it spells, or where reading stops
-abbrev pub AnswersAscii : Counts → List ℕ → Result Circuit Stop → Type 0
-AnswersAscii h text answer = AnswersLists h text (lists_of_file h text) answer
-
 -- ---- both forms
 
 -- what stands behind a header of a form has for an answer
 abbrev pub AnswersBody : Form → Counts → List ℕ → Result Circuit Stop → Type 0
-AnswersBody Ascii h text answer = AnswersAscii h text answer
+AnswersBody Ascii h text answer = AnswersLists h text (lists_of_file h text) answer
 AnswersBody Binary h text answer = answer ≡ binary_at h text
 
 -- what a header and the text behind it, or where reading a header stops, have for an answer

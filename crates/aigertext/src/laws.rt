@@ -3,13 +3,13 @@ ghost use Rattle.std.specs.Prelude.{◌≡◌, ℕ, ◌<◌, All, List, [], ◌�
 ghost use Rattle.aiger.specs.Circuit.{Circuit, IsCircuit};
 ghost use Rattle.aigertext.specs.Ascii.{numbers_line, without_zero_tail, name_line};
 ghost use Rattle.aigertext.specs.Binary.{delta, ascii_text, binary_text, circuit_text};
-ghost use Rattle.aigertext.specs.Reading.{line_at, header_of};
+ghost use Rattle.aigertext.specs.Reading.{stop, line_at, header_of};
 ghost use Rattle.aigertext.specs.declared.forms.Form.{Form};
 ghost use Rattle.aigertext.specs.declared.forms.Form.TheVariants as form;
 ghost use Rattle.aigertext.specs.Spelling.{IsAsciiText, IsBinaryText};
 ghost use Rattle.aiger.specs.Loose.{empty_loose};
 ghost use Rattle.aiger.specs.declared.circuit.Reset.TheVariants as reset;
-ghost use Rattle.aigertext.specs.AsciiReading.{lists_of_file, lines_before, stop_behind, AnswersText};
+ghost use Rattle.aigertext.specs.AsciiReading.{lists_of_file, behind_lines, lines_before, AnswersText};
 ghost use Rattle.aigertext.specs.declared.reading.counts.Counts.{Counts};
 ghost use Rattle.aigertext.specs.declared.fault.Stop.{Stop};
 ghost use Rattle.aigertext.specs.declared.fault.Why.TheVariants as why;
@@ -172,7 +172,7 @@ pub fn worked_ascii_lists()
         ≡ Err (record { left = 6; why = why.BadNumber }) }
     ensures defined_twice { lists_of_file (record { variables = 2; inputs = 1; latches = 0; outputs = 0; gates = 1; bads = 0; constraints = 0; justice = 0; fair = 0 }) (codes "2\n2 1 1\n")
         ≡ Err (record { left = 6; why = why.GateOrder }) }
-    ensures undefined { stop_behind (codes "2\n4 4 2\n6 8 2\n") (lines_before (record { variables = 4; inputs = 1; latches = 0; outputs = 0; gates = 2; bads = 0; constraints = 0; justice = 0; fair = 0 }) 1) why.Undefined
+    ensures undefined { stop (behind_lines (lines_before (record { variables = 4; inputs = 1; latches = 0; outputs = 0; gates = 2; bads = 0; constraints = 0; justice = 0; fair = 0 }) 1) (codes "2\n4 4 2\n6 8 2\n")) why.Undefined
         ≡ record { left = 6; why = why.Undefined } }
 {}
 

@@ -83,22 +83,13 @@ fn append_lines(text: &mut Vec<u8>, gates: &[GateLine]) -> Result<(), AllocError
 }
 
 /// The text that was read: what stands before the gates, the lines of those that were read, and what is held behind them.
-fn restored(
-    alloc: Global,
-    before: &[u8],
-    gates: &[GateLine],
-    window: &[u8],
-) -> Result<Vec<u8>, ReadAllFault>
-    ensures text { IfOk result (λ text. text.items ≡ before.now ++ (line_texts gates.now ++ window.now)) }
-    ensures memory { IfErr result (λ e. e ≡ ReadAllFault.NoMemory) }
+fn restored(alloc: Global, before: &[u8], gates: &[GateLine], window: &[u8]) -> Option<Vec<u8>>
+    ensures { IfSome result (λ text. text.items ≡ before.now ++ (line_texts gates.now ++ window.now)) }
 {
-    let Ok(mut text) = before.to_vec(alloc) else {
-        return Err(ReadAllFault::NoMemory);
-    };
-    if append_lines(&mut text, gates).is_err() || text.extend_from_slice(window).is_err() {
-        return Err(ReadAllFault::NoMemory);
-    }
-    Ok(text)
+    let mut text = before.to_vec(alloc).ok()?;
+    append_lines(&mut text, gates).ok()?;
+    text.extend_from_slice(window).ok()?;
+    Some(text)
 }
 
 /// The circuit that the lists of a file are, with the names of a text; nothing where there is none, or memory is wanting.
@@ -134,7 +125,9 @@ pub fn take_onto<S: Source>(
     let count = counts.gates as usize;
     read_gates(Form::Ascii, greatest, lists, window, count, source)?;
     if lists.gates().len() != count {
-        let mut text = restored(alloc, before, lists.gates(), window.as_slice())?;
+        let Some(mut text) = restored(alloc, before, lists.gates(), window.as_slice()) else {
+            return Err(ReadAllFault::NoMemory);
+        };
         read_rest(&mut text, source)?;
         return Ok(Taken::Text(text));
     }
@@ -142,8 +135,8 @@ pub fn take_onto<S: Source>(
     match circuit_of(alloc, lists, window.as_slice()) {
         Some(circuit) => Ok(Taken::Circuit(circuit)),
         None => match restored(alloc, before, lists.gates(), window.as_slice()) {
-            Ok(text) => Ok(Taken::Text(text)),
-            Err(fault) => Err(fault),
+            Some(text) => Ok(Taken::Text(text)),
+            None => Err(ReadAllFault::NoMemory),
         },
     }
 }

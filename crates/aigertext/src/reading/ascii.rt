@@ -4,7 +4,7 @@ ghost use Rattle.std.specs.List.{sum_by};
 ghost use Rattle.aiger.specs.Loose.{empty_loose};
 ghost use Rattle.aiger.specs.Renumbering.{used_lines};
 ghost use Rattle.aigertext.specs.declared.forms.Form.TheVariants as form;
-ghost use Rattle.aigertext.specs.AsciiReading.{lists_of_file, behind_line, behind_lines, lines_before, AnswersLists, AnswersAscii};
+ghost use Rattle.aigertext.specs.AsciiReading.{lists_of_file, behind_line, behind_lines, lines_before, AnswersLists};
 ghost use Rattle.aigertext.specs.Passes.{Numbers, Reads, ReadsBy};
 ghost use Rattle.aigertext.specs.Reading.{cut};
 ghost use Rattle.aigertext.specs.PropertyLists.{no_lists, file_lists, properties_onto};
@@ -166,7 +166,7 @@ fn named(
 pub fn read_file(alloc: Global, counts: &Counts, text: &[u8]) -> Result<Circuit, Stop>
     requires small { AreSmall counts.now }
     requires fits { Fits form.Ascii counts.now }
-    ensures { ReadsBy (λ e. e.why) (λ c. c) result (AnswersAscii counts.now text.now) }
+    ensures { ReadsBy (λ e. e.why) (λ c. c) result (AnswersLists counts.now text.now (lists_of_file counts.now text.now)) }
 {
     let mut lists = Loose::new(alloc);
     match read_lists(alloc, &mut lists, counts, text) {

@@ -63,10 +63,10 @@ pub(crate) trait TakesGates {
     fn gate_count(&self) -> usize
         ensures { result ≡ count self.now };
 
-    /// Adds the gates at the front of a text, at most so many and as long as it takes them, and answers the text behind
-    /// them. It ends where memory is wanting, too.
-    fn push_gates<'a>(&mut self, form: Form, greatest: u32, text: &'a [u8], most: usize) -> &'a [u8]
-        ensures puts { PutsText (puts form greatest) self.old self.new (length text.now - length result.now) (Some text.now) (Some result.now) }
+    /// Adds the gates at the front of a text, at most so many and as long as it takes them, with literals up to the top one,
+    /// and answers the text behind them. It ends where memory is wanting, too.
+    fn push_gates<'a>(&mut self, form: Form, top: u32, text: &'a [u8], most: usize) -> &'a [u8]
+        ensures puts { PutsText (puts form top) self.old self.new (length text.now - length result.now) (Some text.now) (Some result.now) }
         ensures few { count self.new ≤ count self.old + most };
 }
 
@@ -81,13 +81,7 @@ impl TakesGates for Circuit {
         self.gates().len()
     }
 
-    fn push_gates<'a>(
-        &mut self,
-        form: Form,
-        _greatest: u32,
-        text: &'a [u8],
-        most: usize,
-    ) -> &'a [u8] {
+    fn push_gates<'a>(&mut self, form: Form, _top: u32, text: &'a [u8], most: usize) -> &'a [u8] {
         let mut rest = text;
         let mut own = 2 * (self.variables() + 1);
         for _index in 0..most {
@@ -117,20 +111,14 @@ impl TakesGates for Loose {
         self.gates().len()
     }
 
-    fn push_gates<'a>(
-        &mut self,
-        _form: Form,
-        greatest: u32,
-        text: &'a [u8],
-        most: usize,
-    ) -> &'a [u8] {
+    fn push_gates<'a>(&mut self, _form: Form, top: u32, text: &'a [u8], most: usize) -> &'a [u8] {
         let mut rest = text;
         for _index in 0..most {
             let (own, first, second, behind) = match three_numbers(rest) {
                 Some(found) => found,
                 None => return rest,
             };
-            if !push_line(self, greatest, own, first, second) {
+            if !push_line(self, top, own, first, second) {
                 return rest;
             }
             rest = behind;

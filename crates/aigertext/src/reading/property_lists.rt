@@ -45,7 +45,6 @@ impl PropertyLists for Circuit {
 
     ghost with_lists = { circuit_with };
 
-    /// Adds a literal to a section.
     fn add_literal(&mut self, section: LiteralSection, literal: Lit) -> Result<(), CircuitFault> {
         match section {
             LiteralSection::Output => self.push_output(literal),
@@ -55,7 +54,6 @@ impl PropertyLists for Circuit {
         }
     }
 
-    /// Adds a justice property.
     fn add_justice(&mut self, literals: &[Lit]) -> Result<(), CircuitFault> {
         self.push_justice(literals)
     }
@@ -68,7 +66,6 @@ impl PropertyLists for Loose {
 
     ghost with_lists = { file_with };
 
-    /// Adds a literal to a section.
     fn add_literal(&mut self, section: LiteralSection, literal: Lit) -> Result<(), CircuitFault> {
         match section {
             LiteralSection::Output => self.push_output(literal),
@@ -78,7 +75,6 @@ impl PropertyLists for Loose {
         }
     }
 
-    /// Adds a justice property.
     fn add_justice(&mut self, literals: &[Lit]) -> Result<(), CircuitFault> {
         self.push_justice(literals)
     }

@@ -1,8 +1,7 @@
 //! The gates: a line for each in the ascii form, and two deltas for each in the binary one.
-ghost use Rattle.std.specs.Prelude.{◌≡◌, ◌+◌, ◌-◌, ◌≤◌, ◌∷◌, ◌++◌, [], suc, length};
+ghost use Rattle.std.specs.Prelude.{◌≡◌, ◌+◌, ◌≤◌, ◌++◌, suc, length};
 ghost use Rattle.aiger.specs.Circuit.{IsCircuit};
 ghost use Rattle.aiger.specs.Net.{AreOrderedFrom};
-ghost use Rattle.aigertext.specs.Ascii.{numbers_line};
 ghost use Rattle.aigertext.specs.Binary.{delta, gate_text, gates_text};
 ghost use Rattle.aigertext.specs.Writing.{Writes};
 
@@ -32,36 +31,24 @@ pub fn put_gates<K: Sink>(pen: &mut Pen, sink: &mut K, form: Form, first: u32, g
     }
 }
 
-/// Puts a gate: a line, or two deltas.
+/// Puts a gate: a line of its literal and its operands, or two deltas.
 fn put_gate<K: Sink>(pen: &mut Pen, sink: &mut K, form: Form, own: u32, gate: &Gate)
     requires below { gate.now.rhs0 ≤ own }
     requires ordered { gate.now.rhs1 ≤ gate.now.rhs0 }
     ensures { Writes K.written K.failures sink.old sink.new pen.old pen.new (gate_text form own gate.now) }
 {
     match form {
-        Form::Ascii => put_gate_line(pen, sink, own, gate),
-        Form::Binary => put_gate_deltas(pen, sink, own, gate),
+        Form::Ascii => {
+            pen.line.last(gate.rhs1.number());
+            pen.line.before(gate.rhs0.number());
+            pen.line.before(own);
+            pen.put_line(sink);
+        }
+        Form::Binary => {
+            let greater = gate.rhs0.number();
+            put_two_deltas(pen, sink, own - greater, greater - gate.rhs1.number());
+        }
     }
-}
-
-/// Puts the line of a gate: its literal and its operands.
-fn put_gate_line<K: Sink>(pen: &mut Pen, sink: &mut K, own: u32, gate: &Gate)
-    ensures { Writes K.written K.failures sink.old sink.new pen.old pen.new (numbers_line (own ∷ gate.now.rhs0 ∷ gate.now.rhs1 ∷ [])) }
-{
-    pen.line.last(gate.rhs1.number());
-    pen.line.before(gate.rhs0.number());
-    pen.line.before(own);
-    pen.put_line(sink);
-}
-
-/// Puts the two deltas of a gate.
-fn put_gate_deltas<K: Sink>(pen: &mut Pen, sink: &mut K, own: u32, gate: &Gate)
-    requires below { gate.now.rhs0 ≤ own }
-    requires ordered { gate.now.rhs1 ≤ gate.now.rhs0 }
-    ensures { Writes K.written K.failures sink.old sink.new pen.old pen.new (delta (own - gate.now.rhs0) ++ delta (gate.now.rhs0 - gate.now.rhs1)) }
-{
-    let greater = gate.rhs0.number();
-    put_two_deltas(pen, sink, own - greater, greater - gate.rhs1.number());
 }
 
 /// Puts two deltas; where both have two bytes, as most have, in one piece.

@@ -1,6 +1,7 @@
 //! The header of a text.
 ghost use Rattle.std.specs.Prelude.{◌≡◌, ◌≤◌, ◌∷◌, length};
-ghost use Rattle.aigertext.specs.Ascii.{numbers_line, without_zero_tail, last_counts, header};
+ghost use Rattle.aigertext.specs.Ascii.{numbers_line, without_zero_tail, header};
+ghost use Rattle.aigertext.specs.Counts.{counts_in, last_of_counts};
 ghost use Rattle.aigertext.specs.Writing.{Writes};
 
 use crate::forms::Form;
@@ -27,7 +28,7 @@ pub fn put_header<K: Sink>(pen: &mut Pen, sink: &mut K, form: Form, circuit: &Ci
 
 /// Writes the end of a header: the gates, and the counts behind them as far as they are not 0.
 fn write_last_counts(line: &mut Line, circuit: &Circuit)
-    ensures counts { line.new ≡ numbers_line (length circuit.now.gates ∷ without_zero_tail (last_counts circuit.now)) }
+    ensures counts { line.new ≡ numbers_line (length circuit.now.gates ∷ without_zero_tail (last_of_counts (counts_in circuit.now))) }
     ensures short { length line.new ≤ 55 }
 {
     line.clear();

@@ -1,6 +1,6 @@
 //! The lines of inputs and latches.
 ghost use Rattle.std.specs.Prelude.{◌+◌, ◌≤◌, ◌≡◌, ◌∷◌, length};
-ghost use Rattle.aigertext.specs.Ascii.{numbers_line, input_lines, reset_numbers};
+ghost use Rattle.aigertext.specs.Ascii.{numbers_line, reset_numbers};
 ghost use Rattle.aigertext.specs.Binary.{inputs_text, latch_text, latches_text};
 ghost use Rattle.aigertext.specs.Writing.{Writes};
 
@@ -15,17 +15,9 @@ pub fn put_inputs<K: Sink>(pen: &mut Pen, sink: &mut K, form: Form, count: u32)
     requires { count ≤ 1073741824 }
     ensures { Writes K.written K.failures sink.old sink.new pen.old pen.new (inputs_text form count) }
 {
-    match form {
-        Form::Ascii => put_input_lines(pen, sink, count),
-        Form::Binary => {}
+    if form == Form::Binary {
+        return;
     }
-}
-
-/// Puts the lines of so many inputs.
-fn put_input_lines<K: Sink>(pen: &mut Pen, sink: &mut K, count: u32)
-    requires { count ≤ 1073741824 }
-    ensures { Writes K.written K.failures sink.old sink.new pen.old pen.new (input_lines 1 count) }
-{
     for index in 0..count {
         pen.put_number(sink, 2 * (index + 1));
     }

@@ -1,5 +1,6 @@
 use Rattle.std.proofs.Common.{◌≡◌, ◌≤◌, ◌<◌, ◌∙◌, [], length, sym, ap, arith}
-use Rattle.aigertext.specs.Ascii.{kept_line, before_kept, without_zero_tail, last_counts}
+use Rattle.aigertext.specs.Ascii.{kept_line, before_kept, without_zero_tail}
+use Rattle.aigertext.specs.Counts.{counts_in, last_of_counts}
 use Rattle.aigertext.proofs.LineLemmas.{before_counts, without_counts, empty_from_test, some_from_test}
 use Rattle.aigertext.proofs.writing.header.write_last_counts.Goals as goal
 
@@ -9,9 +10,9 @@ returns-then-is_empty-clause-counts c =
     let fair : c.count.new.self ≡ kept_line (before_kept (length circuit.fair) []) = rw c.fair.ensures.items at (c.count.ensures.counts [] c.clear.ensures) in
     let justice : c.count-2.new.self ≡ kept_line (before_kept (length circuit.justice) (before_kept (length circuit.fair) [])) = rw c.justice_count.ensures.count at (c.count-2.ensures.counts (before_kept (length circuit.fair) []) fair) in
     let constraints : c.count-3.new.self ≡ kept_line (before_kept (length circuit.constraints) (before_kept (length circuit.justice) (before_kept (length circuit.fair) []))) = rw c.constraints.ensures.items at (c.count-3.ensures.counts (before_kept (length circuit.justice) (before_kept (length circuit.fair) [])) justice) in
-    let bads : c.count-4.new.self ≡ kept_line (without_zero_tail (last_counts circuit)) = rw c.bads.ensures.items at (c.count-4.ensures.counts (before_kept (length circuit.constraints) (before_kept (length circuit.justice) (before_kept (length circuit.fair) []))) constraints) in
+    let bads : c.count-4.new.self ≡ kept_line (without_zero_tail (last_of_counts (counts_in circuit))) = rw c.bads.ensures.items at (c.count-4.ensures.counts (before_kept (length circuit.constraints) (before_kept (length circuit.justice) (before_kept (length circuit.fair) []))) constraints) in
     let none : length c.count-4.new.self ≤ 0 = omega (arith, ap length c.bytes.ensures, empty_from_test (length c.bytes.result.now) (sym c.if-is_empty.ensures)) in
-    rw c.gates.ensures.items at (c.last.ensures.line ∙ without_counts (length c.gates.result.now) c.count-4.new.self (without_zero_tail (last_counts circuit)) bads none)
+    rw c.gates.ensures.items at (c.last.ensures.line ∙ without_counts (length c.gates.result.now) c.count-4.new.self (without_zero_tail (last_of_counts (counts_in circuit))) bads none)
 
 pub returns-else-is_empty-clause-counts : goal.returns-else-is_empty-clause-counts
 returns-else-is_empty-clause-counts c =
@@ -19,6 +20,6 @@ returns-else-is_empty-clause-counts c =
     let fair : c.count.new.self ≡ kept_line (before_kept (length circuit.fair) []) = rw c.fair.ensures.items at (c.count.ensures.counts [] c.clear.ensures) in
     let justice : c.count-2.new.self ≡ kept_line (before_kept (length circuit.justice) (before_kept (length circuit.fair) [])) = rw c.justice_count.ensures.count at (c.count-2.ensures.counts (before_kept (length circuit.fair) []) fair) in
     let constraints : c.count-3.new.self ≡ kept_line (before_kept (length circuit.constraints) (before_kept (length circuit.justice) (before_kept (length circuit.fair) []))) = rw c.constraints.ensures.items at (c.count-3.ensures.counts (before_kept (length circuit.justice) (before_kept (length circuit.fair) [])) justice) in
-    let bads : c.count-4.new.self ≡ kept_line (without_zero_tail (last_counts circuit)) = rw c.bads.ensures.items at (c.count-4.ensures.counts (before_kept (length circuit.constraints) (before_kept (length circuit.justice) (before_kept (length circuit.fair) []))) constraints) in
+    let bads : c.count-4.new.self ≡ kept_line (without_zero_tail (last_of_counts (counts_in circuit))) = rw c.bads.ensures.items at (c.count-4.ensures.counts (before_kept (length circuit.constraints) (before_kept (length circuit.justice) (before_kept (length circuit.fair) []))) constraints) in
     let some : 0 < length c.count-4.new.self = omega (arith, ap length c.bytes.ensures, some_from_test (length c.bytes.result.now) (sym c.if-is_empty.ensures)) in
-    rw c.gates.ensures.items at (c.before-else-is_empty.ensures.digits ∙ before_counts (length c.gates.result.now) c.count-4.new.self (without_zero_tail (last_counts circuit)) bads some)
+    rw c.gates.ensures.items at (c.before-else-is_empty.ensures.digits ∙ before_counts (length c.gates.result.now) c.count-4.new.self (without_zero_tail (last_of_counts (counts_in circuit))) bads some)

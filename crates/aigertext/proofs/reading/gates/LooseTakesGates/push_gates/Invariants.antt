@@ -4,6 +4,6 @@ use Rattle.aigertext.proofs.reading.gates.LooseTakesGates.push_gates.Given as go
 
 abbrev pub invariant-loop-index : goal.invariant-loop-index
 invariant-loop-index l = record {
-  puts : PutsText (IsPutOnLists l.greatest) l.initial.self l.self (length l.fn.text - length l.rest) (Some l.fn.text) (Some l.rest);
+  puts : PutsText (IsPutOnLists l.top) l.initial.self l.self (length l.fn.text - length l.rest) (Some l.fn.text) (Some l.rest);
   few : length l.self.gates ≤ length l.initial.self.gates + l._index;
 }

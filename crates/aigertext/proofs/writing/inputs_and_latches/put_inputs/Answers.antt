@@ -1,7 +1,7 @@
 use Rattle.std.proofs.Common.{◌≡◌, ◌+◌, ◌-◌, arith}
 use Rattle.aigertext.proofs.SectionLemmas.{input_lines_at}
 use Rattle.aigertext.proofs.PenLemmas.{write_none, write_more}
-use Rattle.aigertext.proofs.writing.inputs_and_latches.put_input_lines.Goals as goal
+use Rattle.aigertext.proofs.writing.inputs_and_latches.put_inputs.Goals as goal
 
 pub loop-index-init : goal.loop-index-init
 loop-index-init g c = let none : c.args.count - 0 ≡ c.args.count = omega arith in rw none write_none
