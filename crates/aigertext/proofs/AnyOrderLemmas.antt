@@ -1,5 +1,5 @@
 -- A text whose gates are read onto the lists of a file is read as these lists.
-use Rattle.std.proofs.Common.{◌≡◌, ℕ, suc, ◌+◌, ◌*◌, ◌<◌, ◌≤◌, List, [], ◌∷◌, ◌++◌, length, drop, get_or, All, Option, Result, Ok, refl, sym, ap, subst, ◌∙◌, append_assoc, append-nil, inl, arith}
+use Rattle.std.proofs.Common.{◌≡◌, ℕ, suc, ◌+◌, ◌*◌, ◌<◌, ◌≤◌, List, [], ◌∷◌, ◌++◌, length, drop, get_or, All, Option, Result, Ok, refl, sym, ap, subst, ◌∙◌, append_assoc, append-nil, inl, inr, arith}
 use Rattle.std.specs.Io.KnownBytes.{prepend_known, Keeps, IsAtEnd}
 use Rattle.std.specs.Prelude.{IfSome}
 use Rattle.std.proofs.KnownBytes.{Keeps-trans}
@@ -20,6 +20,7 @@ use Rattle.aigertext.specs.Reading.{line_at, header_of}
 use Rattle.aigertext.specs.AsciiReading.{lists_of_file, AnswersNamed, AnswersLists}
 use Rattle.aigertext.specs.InOrder.{line_texts, IsLineUpTo, IsPutOnLists, StandBefore, PutsText}
 use Rattle.aigertext.proofs.AsciiStandsLemmas.{IsCircuitLaw, ascii-stands}
+use Rattle.aigertext.proofs.BackLemmas.{not_err}
 use Rattle.aigertext.proofs.FileBackLemmas.{lists-back}
 use Rattle.aigertext.proofs.FileReadLemmas.{lists-read}
 use Rattle.aigertext.proofs.PutsLemmas.{front_kept, more_kept, at_end, line_texts-append, lists_pieces, one_line}
@@ -108,6 +109,12 @@ own_more greatest first gs l m n variable next index a b g p inside is first_is 
 pub own_all : (greatest first : ℕ) (gs : List Gate) (l m : Loose) (variable index : ℕ) → PutsOwn greatest first gs l m variable index → length gs ≤ index → IsPutOnLists greatest l m (gates_text Ascii first gs)
 own_all greatest first gs l m variable index p all =
     subst (IsPutOnLists greatest l m) (sym (append-nil p.0) ∙ ap (λ (hs : List Gate). p.0 ++ gates_text Ascii variable hs) (sym (drop_all index gs all)) ∙ p.1.1) p.1.0
+
+-- lists that are answered by a circuit are that, with the names
+pub only_named : (h : Counts) (text : List ℕ) (l : Loose) (names : List ℕ) (c : Circuit) → AnswersLists h text (Ok (l, names)) (Ok c) → AnswersNamed l names (Ok c)
+only_named h text l names c (inl named) = named
+only_named h text l names c (inr (inl undefined)) = absurd (not_err _ c (sym undefined.is))
+only_named h text l names c (inr (inr cyclic)) = absurd (not_err _ c (sym cyclic.is))
 
 -- ---- the text
 

@@ -3,11 +3,8 @@ use Rattle.std.specs.Prelude.{◌≡◌, ℕ, ◌+◌, ◌-◌, Bool, false, ◌
 use Rattle.aiger.specs.declared.circuit.Gate.{Gate}
 use Rattle.aiger.specs.declared.circuit.Latch.{Latch}
 use Rattle.aiger.specs.Circuit.{Circuit}
-use Rattle.aiger.specs.Loose.{Loose}
-use Rattle.aiger.specs.Renumbering.{IsRenumbered}
-use Rattle.aigertext.specs.AsciiReading.{AnswersUndefined, AnswersCycle, IsFaultOf}
+use Rattle.aigertext.specs.AsciiReading.{IsFaultOf}
 use Rattle.aigertext.specs.Spelling.{Spells}
-use Rattle.aigertext.specs.declared.reading.counts.Counts.{Counts}
 use Rattle.aigertext.specs.declared.fault.ReadFault.{ReadFault}
 use Rattle.aigertext.specs.declared.fault.Stop.{Stop}
 use Rattle.aigertext.specs.declared.fault.Why.{Why}
@@ -73,11 +70,6 @@ Reads view r read = ReadsBy (λ e. e.why) view r (λ answer. read ≡ answer)
 -- it is what was to be read of a line
 abbrev pub ReadsLine : {X A : Type 0} → (X → A) → Result X Why → Result A Why → Type 0
 ReadsLine view r read = ReadsBy (λ w. w) view r (λ answer. read ≡ answer)
-
--- lists were numbered, or reading stops at one of their lines, or memory ran out
-abbrev pub Numbers : Counts → List ℕ → Loose → Result Circuit Stop → Type 0
-Numbers h text l (Ok c) = IsRenumbered l c
-Numbers h text l (Err e) = (e.why ≡ why.NoMemory) ⊎ (AnswersUndefined h text l (Err e) ⊎ AnswersCycle h text l (Err e))
 
 -- ---- whole texts
 

@@ -5,20 +5,18 @@ ghost use Rattle.std.specs.Io.KnownBytes.{prepend_known, IsAtEnd};
 ghost use Rattle.base.specs.Device.{HasRisen};
 ghost use Rattle.aigertext.specs.Binary.{gates_text};
 ghost use Rattle.aigertext.specs.declared.forms.Form.TheVariants as variant;
-ghost use Rattle.aigertext.specs.AsciiReading.{AnswersNamed};
 ghost use Rattle.aigertext.specs.InOrder.{line_texts, IsPutOnLists, StandBefore, IsTaken};
 
 use crate::forms::Form;
-use crate::reading::ascii::read_lists;
+use crate::reading::ascii::{named, read_lists};
 use crate::reading::counts::Counts;
 use crate::reading::gates::{push_line, read_gates};
 use crate::reading::lines::header_line;
-use crate::reading::names::give_names;
 use crate::reading::pieces::read_rest;
 use crate::reading::taking::Taken;
 use crate::writing::line::Line;
 use aiger::laws::one_renumbering;
-use aiger::{Circuit, Gate, GateLine, Loose};
+use aiger::{Gate, GateLine, Loose};
 use base::{ReadAllFault, Source};
 use std::alloc::{AllocError, Global};
 
@@ -92,17 +90,6 @@ fn restored(alloc: Global, before: &[u8], gates: &[GateLine], window: &[u8]) -> 
     Some(text)
 }
 
-/// The circuit that the lists of a file are, with the names of a text; nothing where there is none, or memory is wanting.
-fn circuit_of(alloc: Global, lists: &Loose, names: &[u8]) -> Option<Circuit>
-    ensures { IfSome result (λ c. AnswersNamed lists.now names.now (Ok c)) }
-{
-    let mut circuit = lists.number(alloc).ok()?;
-    match give_names(&mut circuit, names) {
-        Ok(()) => Some(circuit),
-        Err(_) => None,
-    }
-}
-
 /// Takes all of a source behind a text: what stands before its gates, which the lists of a file have with some gates, the
 /// lines of these, and what is held. Where the other gates' lines are in their one spelling, a piece of them is held.
 pub fn take_onto<S: Source>(
@@ -132,9 +119,9 @@ pub fn take_onto<S: Source>(
         return Ok(Taken::Text(text));
     }
     read_rest(window, source)?;
-    match circuit_of(alloc, lists, window.as_slice()) {
-        Some(circuit) => Ok(Taken::Circuit(circuit)),
-        None => match restored(alloc, before, lists.gates(), window.as_slice()) {
+    match named(alloc, lists, counts, before, window.as_slice()) {
+        Ok(circuit) => Ok(Taken::Circuit(circuit)),
+        Err(_) => match restored(alloc, before, lists.gates(), window.as_slice()) {
             Some(text) => Ok(Taken::Text(text)),
             None => Err(ReadAllFault::NoMemory),
         },

@@ -5,7 +5,7 @@ ghost use Rattle.aiger.specs.Loose.{empty_loose};
 ghost use Rattle.aiger.specs.Renumbering.{used_lines};
 ghost use Rattle.aigertext.specs.declared.forms.Form.TheVariants as form;
 ghost use Rattle.aigertext.specs.AsciiReading.{lists_of_file, behind_line, behind_lines, lines_before, AnswersLists};
-ghost use Rattle.aigertext.specs.Passes.{Numbers, Reads, ReadsBy};
+ghost use Rattle.aigertext.specs.Passes.{Reads, ReadsBy};
 ghost use Rattle.aigertext.specs.Reading.{cut};
 ghost use Rattle.aigertext.specs.PropertyLists.{no_lists, file_lists, properties_onto};
 ghost use Rattle.aigertext.specs.Counts.{AreSmall, Fits};
@@ -124,25 +124,9 @@ fn uses_before_gates(lists: &Loose) -> usize
         + lists.fair().len()
 }
 
-/// The circuit that the lists of a file are; else reading stops at the first line that uses a variable that none
-/// defines, or at the first gate that leads to a cycle.
-fn numbered(alloc: Global, lists: &Loose, counts: &Counts, text: &[u8]) -> Result<Circuit, Stop>
-    requires { AreSmall counts.now }
-    ensures { Numbers counts.now text.now lists.now result }
-{
-    match lists.number(alloc) {
-        Ok(circuit) => Ok(circuit),
-        Err(LooseFault::Undefined(k)) => Err(stop(from_use(text, counts, k), Why::Undefined)),
-        Err(LooseFault::Cycle(gate)) => {
-            let k = uses_before_gates(lists) + gate;
-            Err(stop(from_use(text, counts, k), Why::Cycle))
-        }
-        Err(LooseFault::NoMemory) => Err(stop(text, Why::NoMemory)),
-    }
-}
-
-/// The circuit that the lists of a file are, with the names behind them.
-fn named(
+/// The circuit that the lists of a file are, with the names behind them; else reading stops at the first line that uses a
+/// variable that none defines, or at the first gate that leads to a cycle, or at a name.
+pub fn named(
     alloc: Global,
     lists: &Loose,
     counts: &Counts,
@@ -152,13 +136,20 @@ fn named(
     requires { AreSmall counts.now }
     ensures { ReadsBy (λ e. e.why) (λ c. c) result (AnswersLists counts.now text.now (Ok (lists.now, names.now))) }
 {
-    let mut circuit = match numbered(alloc, lists, counts, text) {
-        Ok(circuit) => circuit,
-        Err(stop) => return Err(stop),
-    };
-    match give_names(&mut circuit, names) {
-        Ok(()) => Ok(circuit),
-        Err(stop) => Err(stop),
+    match lists.number(alloc) {
+        Ok(found) => {
+            let mut circuit = found;
+            match give_names(&mut circuit, names) {
+                Ok(()) => Ok(circuit),
+                Err(stop) => Err(stop),
+            }
+        }
+        Err(LooseFault::Undefined(k)) => Err(stop(from_use(text, counts, k), Why::Undefined)),
+        Err(LooseFault::Cycle(gate)) => {
+            let k = uses_before_gates(lists) + gate;
+            Err(stop(from_use(text, counts, k), Why::Cycle))
+        }
+        Err(LooseFault::NoMemory) => Err(stop(text, Why::NoMemory)),
     }
 }
 

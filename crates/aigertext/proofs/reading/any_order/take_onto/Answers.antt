@@ -3,7 +3,7 @@ use Rattle.std.specs.Prelude.{IfSome}
 use Rattle.std.specs.Io.KnownBytes.{Keeps, prepend_known}
 use Rattle.std.proofs.KnownBytes.{Keeps-trans}
 use Rattle.aigertext.specs.InOrder.{line_texts}
-use Rattle.aigertext.proofs.AnyOrderLemmas.{stand_more, lists_kept, all_lists_kept, spelled_by_lists}
+use Rattle.aigertext.proofs.AnyOrderLemmas.{only_named, stand_more, lists_kept, all_lists_kept, spelled_by_lists}
 use Rattle.aigertext.proofs.PutsLemmas.{at_end}
 use Rattle.aigertext.proofs.reading.any_order.take_onto.Goals as goal
 
@@ -16,8 +16,8 @@ returns-then-gates-count-clause-taken g c =
     (Keeps-trans _ _ _ (lists_kept c.args.counts.now c.args.before.now c.args.lists.now c.read_gates.new.target _ c.args.window.now.items c.read_gates.new.window.items _ k1 c.requires c.in_ok-read_gates.ensures.puts)
     (subst (λ t. Keeps (prepend_known t k1) (prepend_known c.read_rest.new.bytes.items k2)) whole c.in_ok-read_rest.ensures.bytes)) c.in_ok-read_rest.ensures.end
 
-pub returns-in-Some-circuit_of-clause-taken : goal.returns-in-Some-circuit_of-clause-taken
-returns-in-Some-circuit_of-clause-taken g c =
+pub returns-in-Ok-clause-taken : goal.returns-in-Ok-clause-taken
+returns-in-Ok-clause-taken g c =
     let lists = c.read_gates.new.target in
     let rest = c.read_rest-2.new.bytes.items in
     record {
@@ -26,12 +26,12 @@ returns-in-Some-circuit_of-clause-taken g c =
           all_lists_kept c.args.counts.now c.args.before.now c.args.lists.now lists _ c.args.window.now.items c.read_gates.new.window.items rest _ _ _ c.requires c.in_ok-read_gates.ensures.puts c.in_ok-read_rest-2.ensures.bytes c.in_ok-read_rest-2.ensures.end;
       reads =
           inl (spelled_by_lists c.args.counts.now c.args.before.now lists (stand_more c.args.counts.now c.args.before.now _ c.args.lists.now lists c.requires c.in_ok-read_gates.ensures.puts.puts).0 c.gates.ensures.valid
-          (ap length (sym c.gates.ensures.items) ∙ omega (arith, c.if-gates-count.false)) rest c.one_renumbering.ensures.circuit c.in-Some-circuit_of.circuit (rw c.as_slice-2.ensures.value at c.in-Some-circuit_of.ensures));
+          (ap length (sym c.gates.ensures.items) ∙ omega (arith, c.if-gates-count.false)) rest c.one_renumbering.ensures.circuit c.in-Ok.circuit (only_named _ _ _ _ c.in-Ok.circuit (rw c.as_slice-2.ensures.value at c.in-Ok.ensures)));
     }
 
 pub returns-in-Some-restored-clause-taken : goal.returns-in-Some-restored-clause-taken
 returns-in-Some-restored-clause-taken g c =
     let rest = c.read_rest-2.new.bytes.items in
-    let whole = c.in-Some-restored.ensures ∙ ap (λ gs. c.args.before.now ++ (line_texts gs ++ c.as_slice-in-None.result.now)) c.gates-in-None.ensures.items ∙ ap (λ t. c.args.before.now ++ (line_texts c.read_gates.new.target.gates ++ t)) c.as_slice-in-None.ensures.value in
+    let whole = c.in-Some-restored.ensures ∙ ap (λ gs. c.args.before.now ++ (line_texts gs ++ c.as_slice-in-Err.result.now)) c.gates-in-Err.ensures.items ∙ ap (λ t. c.args.before.now ++ (line_texts c.read_gates.new.target.gates ++ t)) c.as_slice-in-Err.ensures.value in
     subst (λ t. IfSome (prepend_known (c.args.before.now ++ (line_texts c.args.lists.now.gates ++ c.args.window.now.items)) (g.S.Source.to_come c.args.source.now)) (λ all. t ≡ all)) (sym whole)
     (all_lists_kept c.args.counts.now c.args.before.now c.args.lists.now c.read_gates.new.target _ c.args.window.now.items c.read_gates.new.window.items rest _ _ _ c.requires c.in_ok-read_gates.ensures.puts c.in_ok-read_rest-2.ensures.bytes c.in_ok-read_rest-2.ensures.end)

@@ -1,6 +1,6 @@
 use Rattle.std.proofs.Common.{arith}
 use Rattle.aigertext.proofs.PassOverLemmas.{cycle_within}
-use Rattle.aigertext.proofs.reading.ascii.numbered.Goals as goal
+use Rattle.aigertext.proofs.reading.ascii.named.Goals as goal
 
 pub overflow_add-k : goal.overflow_add-k
 overflow_add-k c =
