@@ -9,7 +9,7 @@ use Rattle.aigertext.specs.declared.fault.Stop.{Stop}
 use Rattle.aigertext.specs.declared.fault.Why.{Why}
 use Rattle.aigertext.specs.declared.fault.Why.TheVariants as why
 use Rattle.aigertext.specs.Ascii.{literal_lines}
-use Rattle.aigertext.specs.Reading.{◌>>=◌, at, cut, onto_front, cut_line, line_at, lines_at, within, literal_of, literals_at, size_within, size_of, sizes_at}
+use Rattle.aigertext.specs.Reading.{◌>>=◌, at, some_or, cut, onto_front, cut_line, line_at, lines_at, within, literal_of, literals_at, size_within, size_of, sizes_at}
 
 -- what an answer has
 abbrev pub ok_or : {A E : Type 0} → A → Result A E → A
@@ -43,6 +43,11 @@ bind-back (Err w) k y e = absurd (not_err _ _ e)
 pub bind-then : {A B E : Type 0} {P : Type 0} (r : Result A E) (k : A → Result B E) (y : B) → (r >>= k) ≡ Ok y → ((x : A) → r ≡ Ok x → k x ≡ Ok y → P) → P
 bind-then (Ok x) k y e next = next x refl e
 bind-then (Err w) k y e next = absurd (not_err _ _ e)
+
+-- an option that has something
+pub some-back : (w : Why) (n : ℕ) (r : Option ℕ) → some_or w r ≡ Ok n → r ≡ Some n
+some-back w n None e = absurd (not_err _ _ e)
+some-back w n (Some m) e = ap (λ (k : ℕ). Some k) (ok_same m n e)
 
 -- ---- a text that is cut
 

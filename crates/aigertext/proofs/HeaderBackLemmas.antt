@@ -1,10 +1,10 @@
 -- From what reading gives back to the text: the header.
-use Rattle.std.proofs.Common.{◌≡◌, ℕ, ◌+◌, ◌≤◌, true, ◌==◌, ◌||◌, nat_le, nat_lt, List, [], ◌∷◌, ◌++◌, length, map, replicate, decimal, codes, Option, Some, None, Result, Ok, Err, refl, sym, ap, subst, ◌∙◌, inl, inr, if◌then◌else◌, arith}
+use Rattle.std.proofs.Common.{◌≡◌, ℕ, ◌+◌, ◌≤◌, true, ◌==◌, ◌||◌, nat_le, nat_lt, List, [], ◌∷◌, ◌++◌, length, map, replicate, decimal, codes, Result, Ok, Err, refl, sym, ap, subst, ◌∙◌, inl, inr, if◌then◌else◌, arith}
 use Rattle.std.specs.Str.{bytes_eq}
 use Rattle.base.specs.Decimals.{number_of}
 use Rattle.aigertext.specs.declared.fault.Why.TheVariants as why
 use Rattle.aigertext.specs.Reading.{some_or, numbers_in, counts_at, counts_of, counts_told, fitting, form_of, header_fields, header_of, fields}
-use Rattle.aigertext.proofs.BackLemmas.{ok_same, not_err, bind-back, bind-then}
+use Rattle.aigertext.proofs.BackLemmas.{ok_same, not_err, bind-back, bind-then, some-back}
 use Rattle.std.specs.List.{list_all, AllByRecursion}
 use Rattle.std.proofs.lemmas.Bool.{and_parts, or_parts, eqb-true, leb-true, ltb-false}
 use Rattle.base.proofs.DecimalLemmas.{chosen, number_is_decimal}
@@ -72,10 +72,6 @@ counts-back ns h e =
     ]
 
 -- fields that are counts are their decimals
-some-back : (n : ℕ) (r : Option ℕ) → some_or why.BadHeader r ≡ Ok n → r ≡ Some n
-some-back n None e = absurd (not_err _ _ e)
-some-back n (Some m) e = ap (λ (k : ℕ). Some k) (ok_same m n e)
-
 numbers-back : (fs : List (List ℕ)) (ns : List ℕ) → numbers_in fs ≡ Ok ns → AreCounts ns → fs ≡ map decimal ns
 numbers-back [] ns e few = ap (map decimal) (ok_same [] ns e)
 numbers-back (f ∷ fs) ns e few =
@@ -84,7 +80,7 @@ numbers-back (f ∷ fs) ns e few =
     (λ ms ms' e2.
     let is : n ∷ ms ≡ ns = ok_same (n ∷ ms) ns e2 in
     let few' : AreCounts (n ∷ ms) = subst AreCounts (sym is) few in
-    ap (λ (g : List ℕ). g ∷ fs) (number_is_decimal f n (some-back n (number_of f) n') (omega (arith, few'.0)))
+    ap (λ (g : List ℕ). g ∷ fs) (number_is_decimal f n (some-back why.BadHeader n (number_of f) n') (omega (arith, few'.0)))
     ∙ ap (λ (gs : List (List ℕ)). decimal n ∷ gs) (numbers-back fs ms ms' few'.1) ∙ ap (map decimal) is))
 
 -- what a header line of a form is

@@ -14,9 +14,9 @@ use Rattle.aigertext.specs.declared.fault.Why.TheVariants as why
 use Rattle.aigertext.specs.declared.forms.Form.{Form}
 use Rattle.aigertext.specs.declared.forms.Form.TheVariants.{Ascii, Binary}
 use Rattle.aigertext.specs.Spelling.{IsReset, IsNextLine, AreNextLines, AreLines, IsLatchLine}
-use Rattle.aigertext.specs.Reading.{fields, within, reset_of, reset_at, next_fields}
-use Rattle.aigertext.specs.Passes.{is_number, own_fields, latch_in, latches_in}
-use Rattle.aigertext.proofs.BackLemmas.{ok_same, not_err, bind-then, within-back, lines-back}
+use Rattle.aigertext.specs.Reading.{fields, some_or, within, reset_of, reset_at, next_fields}
+use Rattle.aigertext.specs.Passes.{own_fields, latch_in, latches_in}
+use Rattle.aigertext.proofs.BackLemmas.{ok_same, not_err, bind-then, some-back, within-back, lines-back}
 use Rattle.aigertext.proofs.FieldLemmas.{joined, numbers_line-joined}
 use Rattle.aigertext.proofs.GateLemmas.{next_literal}
 
@@ -134,31 +134,27 @@ with_own own l = record { current = own; next = l.next; reset = l.reset }
 abbrev IsOwnAt : ℕ → ℕ → Latch → List ℕ → Type 0
 IsOwnAt greatest own l bytes = IsLatchLine (with_own own l) bytes × (l.next ≤ greatest)
 
--- a field that is a number
-is_number-back : (own : ℕ) (field : List ℕ) (r : Option ℕ) → own < 2 ^ 64 - 1 → number_of field ≡ r → is_number own r ≡ true → field ≡ decimal own
-is_number-back own field None small was is = absurd cc
-is_number-back own field (Some n) small was is =
-    let same : n ≡ own = eqb-true n own is in
-    number_is_decimal field n was (omega (arith, same, small)) ∙ ap decimal same
-
 own_by : (greatest own : ℕ) (l : Latch) (fs : List (List ℕ)) → greatest < 2 ^ 64 - 1 → own < 2 ^ 64 - 1 → own_fields greatest own fs ≡ Ok l → IsOwnAt greatest own l (spaced fs ++ 10 ∷ [])
 unfolding own_fields next_fields
 own_by greatest own l [] g_small o_small e = absurd (not_err _ _ e)
 own_by greatest own l (current ∷ []) g_small o_small e =
-    elim (chosen (is_number own (number_of current)) (Err why.BadLatch) (Err why.BadLatch) (Ok l) e) [
+    bind-then (some_or why.BadLatch (number_of current)) _ l e
+    (λ n n' e1. elim (chosen (n == own) (Err why.BadLatch) (Err why.BadLatch) (Ok l) e1) [
       | inl wrong ↦ absurd (not_err _ _ wrong.1)
       | inr wrong ↦ absurd (not_err _ _ wrong.1)
-    ]
+    ])
 own_by greatest own l (current ∷ next ∷ others) g_small o_small e =
-    elim (chosen (is_number own (number_of current)) (next_fields greatest own (next ∷ others)) (Err why.BadLatch) (Ok l) e) [
+    bind-then (some_or why.BadLatch (number_of current)) _ l e
+    (λ n n' e1. elim (chosen (n == own) (next_fields greatest own (next ∷ others)) (Err why.BadLatch) (Ok l) e1) [
       | inl said ↦
           let line = latch_by greatest own l (next ∷ others) g_small o_small said.1 in
-          let first : current ≡ decimal own = is_number-back own current (number_of current) o_small refl said.0 in
+          let same : n ≡ own = eqb-true n own said.0 in
+          let first : current ≡ decimal own = number_is_decimal current n (some-back why.BadLatch n (number_of current) n') (omega (arith, same, o_small)) ∙ ap decimal same in
           let text : (current ++ 32 ∷ spaced (next ∷ others)) ++ 10 ∷ [] ≡ decimal own ++ 32 ∷ (spaced (next ∷ others) ++ 10 ∷ []) =
           append_assoc current (32 ∷ spaced (next ∷ others)) (10 ∷ []) ∙ ap (λ (t : List ℕ). t ++ 32 ∷ (spaced (next ∷ others) ++ 10 ∷ [])) first in
           (record { reset = line.0.reset; is_reset = line.0.is_reset; spelled = text ∙ ap (λ (t : List ℕ). decimal own ++ 32 ∷ t) line.0.spelled }, line.1)
       | inr wrong ↦ absurd (not_err _ _ wrong.1)
-    ]
+    ])
 
 -- the line of a latch in a form
 abbrev IsLineIn : Form → ℕ → ℕ → Latch → List ℕ → Type 0

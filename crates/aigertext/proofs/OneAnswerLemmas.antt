@@ -1,8 +1,8 @@
 -- A text has exactly one answer.
-use Rattle.std.proofs.Common.{◌≡◌, ℕ, ◌<◌, List, length, Option, Some, None, Result, Ok, Err, refl, sym, ap, ◌∙◌, inl, inr, ◌⊎◌, arith}
+use Rattle.std.proofs.Common.{◌≡◌, ℕ, ◌+◌, ◌-◌, ◌<◌, List, length, Option, Some, None, Result, Ok, Err, refl, sym, ap, ◌∙◌, inl, inr, ◌⊎◌, arith}
 use Rattle.aiger.specs.Circuit.{Circuit}
 use Rattle.aiger.specs.Loose.{Loose, IsLoose}
-use Rattle.aiger.specs.Renumbering.{IsRenumbered, IsFirstCyclic, LeadsToCycle, first_undefined}
+use Rattle.aiger.specs.Renumbering.{IsRenumbered, IsFirstCyclic, LeadsToCycle, first_undefined, used_lines}
 use Rattle.aigertext.specs.declared.reading.counts.Counts.{Counts}
 use Rattle.aigertext.specs.declared.fault.Stop.{Stop}
 use Rattle.aigertext.specs.declared.fault.Why.TheVariants as why
@@ -10,7 +10,7 @@ use Rattle.aigertext.specs.declared.forms.Form.{Form}
 use Rattle.aigertext.specs.declared.forms.Form.TheVariants.{Ascii, Binary}
 use Rattle.aigertext.specs.Counts.{AreSmall, Fits}
 use Rattle.aigertext.specs.Reading.{stop, line_at, header_of, names_at, binary_at}
-use Rattle.aigertext.specs.AsciiReading.{lists_of_file, lines_before, use_of_gate, behind_lines, AnswersNamed, AnswersUndefined, AnswersCycle, AnswersLists, AnswersBody, AnswersHeader, AnswersText}
+use Rattle.aigertext.specs.AsciiReading.{lists_of_file, lines_before, behind_lines, AnswersNamed, AnswersUndefined, AnswersCycle, AnswersLists, AnswersBody, AnswersHeader, AnswersText}
 use Rattle.aigertext.proofs.FileBackLemmas.{lists-back}
 use Rattle.aigertext.proofs.HeaderSmallLemmas.{IsHeaderOf, header_small}
 use Rattle.aigertext.proofs.PassOverLemmas.{cyclic_within}
@@ -44,7 +44,7 @@ module _ (same_circuit : OneCircuit) (no_cycle : NoCycle) (h : Counts) (text : L
   one_of_lists (inr (inl x)) (inr (inr y)) = absurd (undefined_not l x.line x.undefined y.known)
   one_of_lists (inr (inr x)) (inl y) = absurd (no_cycle l y.circuit x.gate valid y.is_renumbered (cyclic_within l x.gate x.cyclic.leads) x.cyclic.leads)
   one_of_lists (inr (inr x)) (inr (inl y)) = absurd (undefined_not l y.line y.undefined x.known)
-  one_of_lists (inr (inr x)) (inr (inr y)) = x.is ∙ ap (λ (k : ℕ). Err (stop (behind_lines (lines_before h (use_of_gate l k)) text) why.Cycle)) (same_first l x.gate y.gate x.cyclic y.cyclic) ∙ sym y.is
+  one_of_lists (inr (inr x)) (inr (inr y)) = x.is ∙ ap (λ (k : ℕ). Err (stop (behind_lines (lines_before h (length (used_lines l) - length l.gates + k)) text) why.Cycle)) (same_first l x.gate y.gate x.cyclic y.cyclic) ∙ sym y.is
 
 pub one_answer : OneCircuit → NoCycle → (text : List ℕ) (a b : Result Circuit Stop) → AnswersText text a → AnswersText text b → a ≡ b
 unfolding AnswersText
@@ -73,7 +73,7 @@ some_answer either text = by (line_at header_of text) refl
   where
     defined : (h : Counts) (rest : List ℕ) (l : Loose) (end : List ℕ) → first_undefined l ≡ None → ((c : Circuit) × IsRenumbered l c) ⊎ ((j : ℕ) × IsFirstCyclic l j) → (a : Result Circuit Stop) × AnswersLists h rest (Ok (l, end)) a
     defined h rest l end known (inl c) = (names_at c.0 end, inl (record { circuit = c.0; is_renumbered = c.1; is = refl }))
-    defined h rest l end known (inr j) = (Err (stop (behind_lines (lines_before h (use_of_gate l j.0)) rest) why.Cycle), inr (inr (record { gate = j.0; known = known; cyclic = j.1; is = refl })))
+    defined h rest l end known (inr j) = (Err (stop (behind_lines (lines_before h (length (used_lines l) - length l.gates + j.0)) rest) why.Cycle), inr (inr (record { gate = j.0; known = known; cyclic = j.1; is = refl })))
 
     lists_by : (h : Counts) (rest : List ℕ) (l : Loose) (end : List ℕ) → IsLoose l → (r : Option ℕ) → first_undefined l ≡ r → (a : Result Circuit Stop) × AnswersLists h rest (Ok (l, end)) a
     lists_by h rest l end valid (Some k) e = (Err (stop (behind_lines (lines_before h k) rest) why.Undefined), inr (inl (record { line = k; undefined = e; is = refl })))

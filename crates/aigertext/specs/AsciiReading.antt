@@ -23,8 +23,7 @@ abbrev pub defining : Why → ℕ → Loose → ℕ → Result ℕ Why
 defining w greatest l n = if nat_le n greatest && (is_defining n && not (is_defined l (variable n))) then Ok n else Err w
 
 abbrev pub defining_by : Why → ℕ → Loose → Option ℕ → Result ℕ Why
-defining_by w greatest l None = Err w
-defining_by w greatest l (Some n) = defining w greatest l n
+defining_by w greatest l r = some_or w r >>= defining w greatest l
 
 -- the literal of an input's line
 unfoldable pub input_of : ℕ → Loose → List ℕ → Result ℕ Why
@@ -92,10 +91,6 @@ abbrev pub lines_before : Counts → ℕ → ℕ
 lines_before h k =
     if nat_lt k (h.latches + h.outputs + h.bads + h.constraints) then h.inputs + k else h.inputs + h.justice + k
 
--- which of the lines that use literals is that of a gate: they are the last ones
-abbrev pub use_of_gate : Loose → ℕ → ℕ
-use_of_gate l g = length (used_lines l) - length l.gates + g
-
 -- ---- texts
 
 -- the lists are a circuit, and the answer is that circuit with the names behind them
@@ -110,12 +105,12 @@ pub record AnswersUndefined (h : Counts) (text : List ℕ) (l : Loose) (answer :
   pub undefined : first_undefined l ≡ Some line
   pub is : answer ≡ Err (stop (behind_lines (lines_before h line) text) why.Undefined)
 
--- all variables are defined, and gates depend on themselves: the answer is a stop at the first gate that leads to a cycle
+-- all variables are defined, and gates depend on themselves: the answer is a stop at the first gate that leads to a cycle; the lines of gates are the last of those that use literals
 pub record AnswersCycle (h : Counts) (text : List ℕ) (l : Loose) (answer : Result Circuit Stop) : Type 0 where
   pub gate : ℕ
   pub known : first_undefined l ≡ None
   pub cyclic : IsFirstCyclic l gate
-  pub is : answer ≡ Err (stop (behind_lines (lines_before h (use_of_gate l gate)) text) why.Cycle)
+  pub is : answer ≡ Err (stop (behind_lines (lines_before h (length (used_lines l) - length l.gates + gate)) text) why.Cycle)
 
 -- what the lists of a file, or where reading them stops, have for an answer
 abbrev pub AnswersLists : Counts → List ℕ → Result (Loose × List ℕ) Stop → Result Circuit Stop → Type 0

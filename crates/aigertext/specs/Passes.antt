@@ -1,5 +1,5 @@
 -- Words between the parts of the reader: lines of latches in both forms, what was read of a text, and what a circuit has of it.
-use Rattle.std.specs.Prelude.{◌≡◌, ℕ, ◌+◌, ◌-◌, Bool, false, ◌==◌, List, [], ◌∷◌, ◌++◌, Option, Some, None, Result, Ok, Err, ◌⊎◌, if◌then◌else◌}
+use Rattle.std.specs.Prelude.{◌≡◌, ℕ, ◌+◌, ◌-◌, ◌==◌, List, [], ◌∷◌, ◌++◌, Result, Ok, Err, ◌⊎◌, if◌then◌else◌}
 use Rattle.aiger.specs.declared.circuit.Gate.{Gate}
 use Rattle.aiger.specs.declared.circuit.Latch.{Latch}
 use Rattle.aiger.specs.Circuit.{Circuit}
@@ -12,19 +12,16 @@ use Rattle.aigertext.specs.declared.fault.Why.TheVariants as why
 use Rattle.base.specs.Decimals.{number_of}
 use Rattle.aigertext.specs.declared.forms.Form.{Form}
 use Rattle.aigertext.specs.declared.forms.Form.TheVariants.{Ascii, Binary}
-use Rattle.aigertext.specs.Reading.{◌>>=◌, fields, lines_at, next_fields, next_of, delta_at, below, at_or_below}
+use Rattle.aigertext.specs.Reading.{◌>>=◌, some_or, fields, lines_at, next_fields, next_of, delta_at, below, at_or_below}
 
 -- ---- latches in both forms
-
--- whether a field is a number
-abbrev pub is_number : ℕ → Option ℕ → Bool
-is_number own None = false
-is_number own (Some n) = n == own
 
 -- a latch of the ascii form whose own literal is given: it is the first field
 unfoldable pub own_fields : ℕ → ℕ → List (List ℕ) → Result Latch Why
 own_fields greatest own [] = Err why.BadLatch
-own_fields greatest own (current ∷ others) = if is_number own (number_of current) then next_fields greatest own others else Err why.BadLatch
+own_fields greatest own (current ∷ others) = do
+  n ← some_or why.BadLatch (number_of current)
+  if n == own then next_fields greatest own others else Err why.BadLatch
 
 -- the latch of a line of a form, whose own literal is given
 abbrev pub latch_in : Form → ℕ → ℕ → List ℕ → Result Latch Why
