@@ -1,8 +1,9 @@
 -- Gates that are put onto a circuit by their text, and lines of inputs in turn.
-use Rattle.std.proofs.Common.{◌≡◌, ℕ, zero, suc, ◌+◌, ◌-◌, ◌*◌, ◌≤◌, List, [], ◌∷◌, ◌++◌, length, take, decimal, Option, Some, None, refl, sym, ap, ◌∙◌, append_assoc, append-nil, length-append, arith}
+use Rattle.std.proofs.Common.{◌≡◌, ℕ, zero, suc, ◌+◌, ◌-◌, ◌*◌, ◌≤◌, List, [], ◌∷◌, ◌++◌, length, take, drop, decimal, Option, Some, None, refl, sym, ap, ◌∙◌, append_assoc, append-nil, length-append, arith}
 use Rattle.std.specs.Prelude.{IfSome}
 use Rattle.std.specs.Io.KnownBytes.{prepend_known, Keeps, Consumes, IsAtEnd}
 use Rattle.std.proofs.KnownBytes.{Consumes-trans, Consumes-kept}
+use Rattle.std.proofs.Math.Seq.{drop-append_seam}
 use Rattle.std.proofs.lemmas.List.{take_at}
 use Rattle.std.proofs.lemmas.List.Elements.{All-nil, All-cons, All-append}
 use Rattle.aiger.specs.declared.circuit.Gate.{Gate}
@@ -127,6 +128,15 @@ module _ {A : Type 0} (Puts : A → A → List ℕ → Type 0) (pieces : FollowE
       let all = puts_then a b c n (length one) (n + length one) (Some text) (Some rest) (Some behind) refl p (record { bytes = one; puts = put; long = refl; text = parts }) in
       let long : length text ≡ length all.bytes + length behind = ap (length {A = ℕ}) all.text ∙ length-append all.bytes behind in
       record { bytes = all.bytes; puts = all.puts; long = omega (arith, long); text = all.text }
+
+-- the text that was put is dropped from what is held
+pub puts_dropped : {A : Type 0} (Puts : A → A → List ℕ → Type 0) (a b : A) (n : ℕ) (text rest left : List ℕ) → PutsText Puts a b (length text - length rest) (Some text) (Some rest) → n ≡ length text - length rest → left ≡ drop n text → PutsText Puts a b n (Some text) (Some left)
+puts_dropped Puts a b n text rest left p is dropped = record {
+  bytes = p.bytes;
+  puts = p.puts;
+  long = is ∙ p.long;
+  text = p.text ∙ ap (λ (t : List ℕ). p.bytes ++ t) (sym (dropped ∙ ap (λ (k : ℕ). drop k text) (is ∙ p.long) ∙ ap (drop (length p.bytes)) p.text ∙ drop-append_seam p.bytes rest));
+}
 
 -- what is still to come behind what is held
 pub puts_held : {A : Type 0} (Puts : A → A → List ℕ → Type 0) (a b : A) (n : ℕ) (held rest : List ℕ) (known : Option (List ℕ)) → PutsText Puts a b n (Some held) (Some rest) → PutsText Puts a b n (prepend_known held known) (prepend_known rest known)

@@ -143,25 +143,6 @@ pub fn push_line(lists: &mut Loose, greatest: u32, own: u32, first: u32, second:
     }
 }
 
-/// Adds the gates at the front of what is held, of which their text is dropped; answers how many bytes that was.
-fn push_held_gates<T: TakesGates>(
-    form: Form,
-    greatest: u32,
-    target: &mut T,
-    window: &mut Vec<u8>,
-    most: usize,
-) -> usize
-    ensures puts { PutsText (T.puts form greatest) target.old target.new result (Some window.old.items) (Some window.new.items) }
-    ensures few { T.count target.new ≤ T.count target.old + most }
-{
-    let behind = target
-        .push_gates(form, greatest, window.as_slice(), most)
-        .len();
-    let passed = window.len() - behind;
-    remove_front(window, passed);
-    passed
-}
-
 /// Adds gates by what is held and what a source has to come, until there are so many or one is not taken, and holds what
 /// stands behind them; answers how many bytes they took.
 pub fn read_gates<T: TakesGates, S: Source>(
@@ -183,7 +164,9 @@ pub fn read_gates<T: TakesGates, S: Source>(
     let mut passed = 0u64;
     loop {
         let left = count.saturating_sub(target.gate_count());
-        let more = push_held_gates(form, greatest, target, window, left);
+        let behind = target.push_gates(form, greatest, window.as_slice(), left);
+        let more = window.len() - behind.len();
+        remove_front(window, more);
         match passed.checked_add(more as u64) {
             Some(sum) => passed = sum,
             None => return Err(ReadAllFault::NoMemory),

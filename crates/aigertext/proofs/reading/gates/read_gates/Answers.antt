@@ -1,19 +1,19 @@
-use Rattle.std.proofs.Common.{◌∙◌, arith}
-use Rattle.aigertext.proofs.PutsLemmas.{puts_then, puts_held, puts_kept}
+use Rattle.std.proofs.Common.{◌-◌, length, ◌∙◌, arith}
+use Rattle.aigertext.proofs.PutsLemmas.{puts_then, puts_held, puts_kept, puts_dropped}
 use Rattle.aigertext.proofs.reading.gates.read_gates.Goals as goal
 
 pub returns-then-gate_count-count-clause-puts : goal.returns-then-gate_count-count-clause-puts
 returns-then-gate_count-count-clause-puts g c =
     let puts = g.T.TakesGates.puts c.args.form c.args.greatest in
     puts_then puts (c.in_pieces.ensures c.args.form c.args.greatest) _ _ _ _ _ _ _ _ _ c.in-Some.ensures.1 c.loop-sum.invariant.puts
-    (puts_held puts c.loop-sum.target c.push_held_gates-more.new.target _ c.loop-sum.window.items c.push_held_gates-more.new.window.items (g.S.Source.to_come c.loop-sum.source) c.push_held_gates-more.ensures.puts)
+    (puts_held puts c.loop-sum.target c.push_gates-behind.new.self _ c.loop-sum.window.items c.remove_front.new.bytes.items (g.S.Source.to_come c.loop-sum.source) (puts_dropped puts c.loop-sum.target c.push_gates-behind.new.self (c.len.result - length c.push_gates-behind.result.now) c.loop-sum.window.items c.push_gates-behind.result.now c.remove_front.new.bytes.items (rw c.as_slice.ensures.value at c.push_gates-behind.ensures.puts) (omega (arith, c.len.ensures, c.loop-sum.window.ok.0)) c.remove_front.ensures))
 
 pub returns-then-not-branch-clause-puts : goal.returns-then-not-branch-clause-puts
 returns-then-not-branch-clause-puts g c =
     let puts = g.T.TakesGates.puts c.args.form c.args.greatest in
     puts_kept puts _ _ _ _ _ _
     (puts_then puts (c.in_pieces.ensures c.args.form c.args.greatest) _ _ _ _ _ _ _ _ _ c.in-Some.ensures.1 c.loop-sum.invariant.puts
-    (puts_held puts c.loop-sum.target c.push_held_gates-more.new.target _ c.loop-sum.window.items c.push_held_gates-more.new.window.items (g.S.Source.to_come c.loop-sum.source) c.push_held_gates-more.ensures.puts))
+    (puts_held puts c.loop-sum.target c.push_gates-behind.new.self _ c.loop-sum.window.items c.remove_front.new.bytes.items (g.S.Source.to_come c.loop-sum.source) (puts_dropped puts c.loop-sum.target c.push_gates-behind.new.self (c.len.result - length c.push_gates-behind.result.now) c.loop-sum.window.items c.push_gates-behind.result.now c.remove_front.new.bytes.items (rw c.as_slice.ensures.value at c.push_gates-behind.ensures.puts) (omega (arith, c.len.ensures, c.loop-sum.window.ok.0)) c.remove_front.ensures)))
     c.in_ok-read_piece.ensures.bytes
 
 pub loop-sum-preserved : goal.loop-sum-preserved
@@ -23,8 +23,8 @@ loop-sum-preserved g c =
       puts =
           puts_kept puts _ _ _ _ _ _
           (puts_then puts (c.in_pieces.ensures c.args.form c.args.greatest) _ _ _ _ _ _ _ _ _ c.in-Some.ensures.1 c.loop-sum.invariant.puts
-          (puts_held puts c.loop-sum.target c.push_held_gates-more.new.target _ c.loop-sum.window.items c.push_held_gates-more.new.window.items (g.S.Source.to_come c.loop-sum.source) c.push_held_gates-more.ensures.puts))
+          (puts_held puts c.loop-sum.target c.push_gates-behind.new.self _ c.loop-sum.window.items c.remove_front.new.bytes.items (g.S.Source.to_come c.loop-sum.source) (puts_dropped puts c.loop-sum.target c.push_gates-behind.new.self (c.len.result - length c.push_gates-behind.result.now) c.loop-sum.window.items c.push_gates-behind.result.now c.remove_front.new.bytes.items (rw c.as_slice.ensures.value at c.push_gates-behind.ensures.puts) (omega (arith, c.len.ensures, c.loop-sum.window.ok.0)) c.remove_front.ensures)))
           c.in_ok-read_piece.ensures.bytes;
-      few = λ small. omega (arith, c.loop-sum.invariant.few small, c.push_held_gates-more.ensures.few, c.saturating_sub-left.ensures, c.gate_count.ensures);
+      few = λ small. omega (arith, c.loop-sum.invariant.few small, c.push_gates-behind.ensures.few, c.saturating_sub-left.ensures, c.gate_count.ensures);
       counted = c.in_ok-read_piece.ensures.counted ∙ c.loop-sum.invariant.counted;
     }
