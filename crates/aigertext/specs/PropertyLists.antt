@@ -17,7 +17,6 @@ pub record Lists : Type 0 where
   pub justice : List (List ℕ)
   pub fair : List ℕ
 
--- none
 abbrev pub no_lists : Lists
 no_lists = record { outputs = []; bads = []; constraints = []; justice = []; fair = [] }
 
@@ -44,7 +43,6 @@ numbers_of p =
       fair = p.fair.items;
     }
 
--- none
 abbrev pub no_numbers : Properties
 no_numbers = record { outputs = []; bads = []; constraints = []; sizes = []; listed = []; fair = [] }
 

@@ -4,9 +4,8 @@ ghost use Rattle.std.specs.List.{sum_by};
 ghost use Rattle.aiger.specs.Loose.{empty_loose};
 ghost use Rattle.aiger.specs.Renumbering.{used_lines};
 ghost use Rattle.aigertext.specs.declared.forms.Form.TheVariants as form;
-ghost use Rattle.aigertext.specs.AsciiReading.{lists_of_file, behind_line, behind_lines, lines_before, AnswersLists};
+ghost use Rattle.aigertext.specs.AsciiReading.{lists_of_file, behind_lines, lines_before, AnswersLists};
 ghost use Rattle.aigertext.specs.Passes.{Reads, ReadsBy};
-ghost use Rattle.aigertext.specs.Reading.{cut};
 ghost use Rattle.aigertext.specs.PropertyLists.{no_lists, file_lists, properties_onto};
 ghost use Rattle.aigertext.specs.Counts.{AreSmall, Fits};
 
@@ -62,23 +61,16 @@ pub fn read_lists<'a>(
     push_definitions::<GateLine>(lists, rest, greatest, counts.gates)
 }
 
-/// The text behind its first line.
-fn skip_line(text: &[u8]) -> &[u8]
-    ensures { result.now ≡ behind_line text.now (cut 10 text.now) }
-{
-    match next_line(text) {
-        None => text,
-        Some((_, behind)) => behind,
-    }
-}
-
 /// The text behind so many lines.
 fn skip_lines(text: &[u8], count: usize) -> &[u8]
     ensures { result.now ≡ behind_lines count text.now }
 {
     let mut rest = text;
     for _index in 0..count {
-        rest = skip_line(rest);
+        rest = match next_line(rest) {
+            None => rest,
+            Some((_, behind)) => behind,
+        };
     }
     rest
 }
