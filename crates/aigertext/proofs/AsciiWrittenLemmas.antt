@@ -12,7 +12,7 @@ use Rattle.aiger.specs.Renumbering.{IsRenumbered}
 use Rattle.aigertext.specs.declared.reading.counts.Counts.{Counts}
 use Rattle.aigertext.specs.declared.forms.Form.TheVariants.{Ascii}
 use Rattle.aigertext.specs.Ascii.{numbers_line, header, reset_numbers, input_lines, all_names}
-use Rattle.aigertext.specs.Binary.{latches_text, gates_text, ascii_text}
+use Rattle.aigertext.specs.Binary.{latches_text, gates_text, ascii_text, circuit_text}
 use Rattle.aigertext.specs.Counts.{counts_in, counts_of_file}
 use Rattle.aigertext.specs.Spelling.{AreLines, IsHeader, IsInputLine, IsLatchLine, IsGateLine, AreUpTo, IsAsciiText}
 use Rattle.aigertext.proofs.StandsLemmas.{circuit_up_to, nexts_below}
@@ -102,6 +102,7 @@ module _ (own_valid : OwnValid) (own_numbered : OwnNumbered) (own_many : OwnMany
       }
 
   pub written_ascii : IsAsciiText (ascii_text c) c
+  unfolding circuit_text
   written_ascii =
       let bare = bare_valid c valid in
       let many = own_many c in

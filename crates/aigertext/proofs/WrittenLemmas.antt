@@ -8,7 +8,7 @@ use Rattle.aiger.specs.Circuit.{Circuit, IsCircuit, IsNamed}
 use Rattle.aigertext.specs.declared.forms.Form.{Form}
 use Rattle.aigertext.specs.declared.forms.Form.TheVariants.{Binary}
 use Rattle.aigertext.specs.Ascii.{header, without_zero_tail, before_kept, reset_numbers, all_names}
-use Rattle.aigertext.specs.Binary.{latches_text, binary_text}
+use Rattle.aigertext.specs.Binary.{latches_text, circuit_text, binary_text}
 use Rattle.aigertext.specs.Counts.{counts_in, last_of_counts}
 use Rattle.aigertext.specs.Spelling.{IsHeader, IsReset, AreNextLines, IsEnd, IsBinaryText}
 use Rattle.aigertext.proofs.NameTextLemmas.{given_of, give_names, all_names-given}
@@ -67,6 +67,7 @@ written_end c valid =
     }
 
 pub written_stands : (c : Circuit) → IsCircuit c → IsBinaryText (binary_text c) c
+unfolding circuit_text
 written_stands c valid =
     record {
       header = header Binary c;

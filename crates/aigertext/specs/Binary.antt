@@ -42,7 +42,7 @@ gates_text form first [] = []
 gates_text form first (g ∷ gs) = gate_text form (2 * first) g ++ gates_text form (suc first) gs
 
 -- the text of a circuit in a form: header, inputs, latches, properties, gates and names
-abbrev pub circuit_text : Form → Circuit → List ℕ
+unfoldable pub circuit_text : Form → Circuit → List ℕ
 circuit_text form c =
     header form c ++ (inputs_text form c.inputs ++ (latches_text form (suc c.inputs) c.latches
     ++ (property_lines c ++ (gates_text form (suc (c.inputs + length c.latches)) c.gates ++ all_names c))))

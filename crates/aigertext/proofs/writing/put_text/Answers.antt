@@ -1,8 +1,10 @@
 use Rattle.std.proofs.Common.{add-one}
+use Rattle.aigertext.specs.Binary.{circuit_text}
 use Rattle.aigertext.proofs.PenLemmas.{writes_then}
 use Rattle.aigertext.proofs.writing.put_text.Goals as goal
 
 pub returns : goal.returns
+unfolding circuit_text
 returns g c =
     writes_then c.put_header.ensures
     (writes_then (rw c.inputs-inputs.ensures.count at c.put_inputs.ensures)
