@@ -1,6 +1,6 @@
 -- A plain line at the front of a text, digit by digit and part by part.
-use Rattle.std.proofs.Common.{◌≡◌, ◌⊎◌, ℕ, zero, suc, ◌+◌, ◌-◌, ◌*◌, ◌/◌, ◌%◌, ◌<◌, ◌≤◌, ◌^◌, ◌==◌, Bool, true, false, List, [], ◌∷◌, ◌++◌, Option, Some, None, IfSome, length, map, reverse, get_or, slice_index, take, drop, decimal, append_assoc, length-append, inl, inr, refl, sym, ap, ap₂, subst, ◌∙◌, arith, not, ◌&&◌, nat_le, MatchOption, option_map, cond, slice_get, ◌≢◌}
-use Rattle.std.specs.List.{list_any, list_all, position, position_from}
+use Rattle.std.proofs.Common.{◌≡◌, ◌⊎◌, ℕ, zero, suc, ◌+◌, ◌-◌, ◌*◌, ◌/◌, ◌%◌, ◌<◌, ◌≤◌, ◌^◌, ◌==◌, Bool, true, false, List, [], ◌∷◌, ◌++◌, Option, Some, None, IfSome, length, map, reverse, get_or, slice_index, take, drop, decimal, append_assoc, length-append, inl, inr, refl, sym, ap, ap₂, subst, ◌∙◌, arith, not, ◌&&◌, nat_le, MatchOption, slice_get, ◌≢◌}
+use Rattle.std.specs.List.{list_any, list_all}
 use Rattle.std.proofs.Math.Nat.{pow-suc, pow-le-pow_right}
 use Rattle.std.proofs.lemmas.Bool.{cases_Bool, cases_lt, eqb-false, or_parts, and_parts, and_from}
 use Rattle.std.proofs.lemmas.Fmt.{decimal_digit, decimal_step, decimal_nonempty, first_decimal, length-decimal-le, decimal_injective}
@@ -16,12 +16,10 @@ use Rattle.witness.specs.Texts.{digit, binary, symbol_part}
 use Rattle.witness.specs.Fits.{is_set}
 use Rattle.witness.specs.BitScans.{is_bit}
 use Rattle.witness.specs.WordValues.{IsKnown}
-use Rattle.witness.specs.PlainLines.{NoNumber, BeginsName, NoName, BeginsWord, BeginsAssignment}
+use Rattle.witness.specs.PlainLines.{NoNumber, BeginsName, IsFirstOther, NoName, BeginsWord, BeginsAssignment}
 use Rattle.witness.proofs.PieceLemmas.{decimal_digits, decimal_without, IsBinary, value_is_binary}
 use Rattle.witness.proofs.WordValueLemmas.{value_known}
-use Rattle.std.proofs.Math.Seq.{drop-append_seam, take-append_seam}
-use Rattle.std.proofs.lemmas.List.Quantifiers.{position-Some}
-use Rattle.std.proofs.lemmas.Iterator.Adapters.{position_from-zero}
+use Rattle.std.proofs.Math.Seq.{take-append_seam}
 use Rattle.std.proofs.lemmas.Option.{slice_get-get_or}
 
 -- a digit's byte
@@ -180,88 +178,72 @@ module _ (text behind : List ℕ) (first : ℕ) (whole : text ≡ first ∷ behi
 
 -- ---- a name
 
-abbrev is_other : ℕ → Bool
-is_other b = not (is_printed b)
-
--- bytes of a name before one that is none
 name_bytes : (name : List ℕ) → is_symbol name ≡ true → list_all is_printed name ≡ true
 name_bytes [] h = absurd cc
 name_bytes (b ∷ name) h = (and_parts (nat_le (length (b ∷ name)) 255) (list_all is_printed (b ∷ name)) (and_parts (not (b == 59)) (nat_le (length (b ∷ name)) 255 && list_all is_printed (b ∷ name)) h).1).1
 
--- behind bytes of names the first that is none stands later by as many
-pub other_behind : (n : ℕ) (front rest : List ℕ) → list_all is_printed front ≡ true → position_from is_other n (front ++ rest) ≡ position_from is_other (n + length front) rest
-other_behind n [] rest all = ap (λ (m : ℕ). position_from is_other m rest) (omega arith)
-other_behind n (b ∷ front) rest all =
-    let parts = and_parts (is_printed b) (list_all is_printed front) all in
-    rw parts.0 (other_behind (n + 1) front rest parts.1 ∙ ap (λ (m : ℕ). position_from is_other m rest) (omega arith))
+-- eight bytes in front of others
+pub eight_front : (eight behind rest : List ℕ) → eight ≡ take 8 rest → behind ≡ drop 8 rest → rest ≡ eight ++ behind
+eight_front eight behind rest first others = sym (ap₂ (λ (l r : List ℕ). l ++ r) first others ∙ take-append-drop 8 rest)
 
-later_by : (n m : ℕ) (rest : List ℕ) → position_from is_other (m + n) rest ≡ option_map (λ k. n + k) (position_from is_other m rest)
-later_by n m [] = refl
-later_by n m (b ∷ rest) =
-    elim (is_other b) as (λ t. cond t (Some (m + n)) (position_from is_other (m + n + 1) rest) ≡ option_map (λ k. n + k) (cond t (Some m) (position_from is_other (m + 1) rest))) [
-      | true ↦ ap (λ (k : ℕ). Some k) (omega arith)
-      | false ↦ ap (λ (k : ℕ). position_from is_other k rest) (omega arith) ∙ later_by n (m + 1) rest
-    ]
+-- one byte alone
+pub one_printed : (b : ℕ) → is_printed b ≡ true → list_all is_printed (b ∷ []) ≡ true
+one_printed b is = and_from (is_printed b) true is refl
 
-pub position_behind : (text front rest : List ℕ) → text ≡ front ++ rest → list_all is_printed front ≡ true → option_map (λ k. length front + k) (position is_other rest) ≡ position is_other text
-position_behind text front rest is all =
-    sym
-    (ap (position is_other) is
-    ∙ (position_from-zero is_other (front ++ rest)
-    ∙ (other_behind 0 front rest all
-    ∙ (later_by (length front) 0 rest ∙ ap (option_map (λ k. length front + k)) (sym (position_from-zero is_other rest))))))
+-- more bytes of names in front of the rest
+pub printed_behind : (text front more behind rest : List ℕ) → text ≡ front ++ rest → list_all is_printed front ≡ true → rest ≡ more ++ behind → list_all is_printed more ≡ true
+    → (all : List ℕ) × ((text ≡ all ++ behind) × (list_all is_printed all ≡ true))
+printed_behind text front more behind rest is all split printed = (
+  front ++ more,
+  (
+    is ∙ (ap (λ (l : List ℕ). front ++ l) split ∙ sym (append_assoc front more behind)),
+    list_all-append is_printed front more ∙ and_from (list_all is_printed front) (list_all is_printed more) all printed,
+  ),
+)
 
--- eight bytes more
-pub eight_behind : (text front eight behind rest : List ℕ) (before : ℕ) → text ≡ front ++ rest → length front ≡ before → list_all is_printed front ≡ true → eight ≡ take 8 rest → behind ≡ drop 8 rest → length behind + 8 ≡ length rest → list_all is_printed eight ≡ true
-    → (more : List ℕ) × ((text ≡ more ++ behind) × (length more ≡ before + 8) × (list_all is_printed more ≡ true))
-eight_behind text front eight behind rest before is long all first others many printed =
-    let split : rest ≡ eight ++ behind = sym (ap₂ (λ (l r : List ℕ). l ++ r) first others ∙ take-append-drop 8 rest) in (
-      front ++ eight,
-      (
-        is ∙ (ap (λ (l : List ℕ). front ++ l) split ∙ sym (append_assoc front eight behind)),
-        length-append front eight ∙ omega (arith, long, ap length first, length-take 8 rest, many),
-        list_all-append is_printed front eight ∙ and_from (list_all is_printed front) (list_all is_printed eight) all printed,
-      ),
-    )
-
-front_printed : (text : List ℕ) (n : ℕ) → ((k : ℕ) → k < n → is_other (get_or text k 0) ≡ false) → list_all is_printed (take n text) ≡ true
-front_printed text zero before = refl
-front_printed [] (suc n) before = refl
-front_printed (b ∷ text) (suc n) before = and_from (is_printed b) (list_all is_printed (take n text)) (shown (is_printed b) (before 0 (omega arith))) (front_printed text n (λ k lt. before (suc k) (omega arith)))
-  where
-    shown : (t : Bool) → not t ≡ false → t ≡ true
-    shown true h = refl
-    shown false h = absurd cc
+-- the first byte that is none of a name is at one place
+one_other : (front name r s : List ℕ) (b : ℕ) → list_all is_printed front ≡ true → list_all is_printed name ≡ true → is_printed b ≡ false → front ++ b ∷ r ≡ name ++ 10 ∷ s → (front ≡ name) × (b ≡ 10) × (r ≡ s)
+one_other [] [] r s b all printed other is = (refl, ap (λ (l : List ℕ). get_or l 0 0) is, tail_same b 10 r s is)
+one_other [] (n ∷ ns) r s b all printed other is =
+    let same : b ≡ n = ap (λ (l : List ℕ). get_or l 0 0) is in
+    absurd (cc (ap is_printed same, other, (and_parts (is_printed n) (list_all is_printed ns) printed).0))
+one_other (f ∷ fs) [] r s b all printed other is =
+    let same : f ≡ 10 = ap (λ (l : List ℕ). get_or l 0 0) is in
+    absurd (cc (ap is_printed same, (and_parts (is_printed f) (list_all is_printed fs) all).0))
+one_other (f ∷ fs) (n ∷ ns) r s b all printed other is =
+    let same : f ≡ n = ap (λ (l : List ℕ). get_or l 0 0) is in
+    let more = one_other fs ns r s b (and_parts (is_printed f) (list_all is_printed fs) all).1 (and_parts (is_printed n) (list_all is_printed ns) printed).1 other (tail_same f n (fs ++ b ∷ r) (ns ++ 10 ∷ s) is) in
+    (ap₂ (λ (x : ℕ) (xs : List ℕ). x ∷ xs) same more.0, more.1, more.2)
 
 -- where a name and the end of its line stand behind a space
-pub name_there : (text rest : List ℕ) → BeginsName (32 ∷ text) rest → (name : List ℕ) × ((text ≡ name ++ 10 ∷ rest) × (is_symbol name ≡ true) × (position is_other text ≡ Some (length name)))
+pub name_there : (text rest : List ℕ) → BeginsName (32 ∷ text) rest → (name : List ℕ) × ((text ≡ name ++ 10 ∷ rest) × (is_symbol name ≡ true))
 name_there text rest begins =
     elim (name_parts (32 ∷ text) rest begins.symbol begins.is begins.valid) [
       | inl is ↦ absurd (omega (arith, ap (λ (l : List ℕ). get_or l 0 0) is))
-      | inr parts ↦
-          let is : text ≡ parts.0 ++ 10 ∷ rest = tail_same 32 32 text (parts.0 ++ 10 ∷ rest) parts.1.0 in
-          let ends = position_from-zero is_other (parts.0 ++ 10 ∷ rest) ∙ (other_behind 0 parts.0 (10 ∷ rest) (name_bytes parts.0 parts.1.1) ∙ ap (λ (m : ℕ). Some m) (omega arith)) in
-          (parts.0, (is, parts.1.1, ap (position is_other) is ∙ ends))
+      | inr parts ↦ (parts.0, (tail_same 32 32 text (parts.0 ++ 10 ∷ rest) parts.1.0, parts.1.1))
     ]
 
+-- no name ends where all bytes are those of names
+pub no_name : (text : List ℕ) → list_all is_printed text ≡ true → NoName (32 ∷ text)
+no_name text all rest begins =
+    let there = name_there text rest begins in
+    let front : List ℕ = there.0 in
+    let both = and_parts (list_all is_printed front) (list_all is_printed (10 ∷ rest)) (sym (list_all-append is_printed front (10 ∷ rest)) ∙ (ap (list_all is_printed) (sym there.1.0) ∙ all)) in
+    absurd (cc both.1)
+
 -- what stands in front of the first byte that is none of a name, and behind
-module _ (text front behind : List ℕ) (at : ℕ) (is : Some at ≡ position is_other text) (is_front : front ≡ take at text) (is_behind : behind ≡ drop at text) where
-  pub front_is_printed : list_all is_printed front ≡ true
-  front_is_printed = ap (list_all is_printed) is_front ∙ front_printed text at (position-Some is_other text at 0 (sym is)).2
+module _ (text rest : List ℕ) (count byte : ℕ) (first : IsFirstOther text count byte rest) where
+  pub ends_line : (others : List ℕ) → BeginsName (32 ∷ text) others → (byte ≡ 10) × (is_symbol first.front ≡ true)
+  ends_line others begins =
+      let there = name_there text others begins in
+      let one = one_other first.front there.0 rest others byte first.printed (name_bytes there.0 there.1.1) first.other (sym first.is ∙ there.1.0) in
+      (one.1, ap is_symbol one.0 ∙ there.1.1)
 
-  pub name_is : (rest : List ℕ) → BeginsName (32 ∷ text) rest → (behind ≡ 10 ∷ rest) × (is_symbol front ≡ true)
-  name_is rest begins =
-      let there = name_there text rest begins in
-      let name : List ℕ = there.0 in
-      let same : at ≡ length name = cc (is, there.1.2) in (
-        is_behind ∙ (ap₂ (λ (n : ℕ) (t : List ℕ). drop n t) same there.1.0 ∙ drop-append_seam name (10 ∷ rest)),
-        ap is_symbol (is_front ∙ (ap₂ (λ (n : ℕ) (t : List ℕ). take n t) same there.1.0 ∙ take-append_seam name (10 ∷ rest))) ∙ there.1.1,
-      )
+  pub front_is : (front : List ℕ) → front ≡ take count text → front ≡ first.front
+  front_is front is = is ∙ (ap₂ (λ (n : ℕ) (t : List ℕ). take n t) (sym first.many) first.is ∙ take-append_seam first.front (byte ∷ rest))
 
-  pub begins_name : (end : ℕ) (rest : List ℕ) → behind ≡ end ∷ rest → end ≡ 10 → is_symbol front ≡ true → BeginsName (32 ∷ text) rest
-  begins_name end rest split last symbol =
-      let whole : text ≡ front ++ behind = sym (ap₂ (λ (l r : List ℕ). l ++ r) is_front is_behind ∙ take-append-drop at text) in
-      record { symbol = Some front; is = ap (λ (t : List ℕ). 32 ∷ t) (whole ∙ (ap (λ (t : List ℕ). front ++ t) split ∙ ap (λ (b : ℕ). front ++ b ∷ rest) last)); valid = symbol }
+  pub begins_name : byte ≡ 10 → is_symbol first.front ≡ true → BeginsName (32 ∷ text) rest
+  begins_name last symbol = record { symbol = Some first.front; is = ap (λ (t : List ℕ). 32 ∷ t) (first.is ∙ ap (λ (b : ℕ). first.front ++ b ∷ rest) last); valid = symbol }
 
 -- another frame's line
 pub other_frame : (text behind rest others : List ℕ) (first n frame : ℕ) → n < 2 ^ 64 → frame < 10 ^ 19 → (n ≡ frame → ⊥) → text ≡ first ∷ behind → behind ≡ decimal n ++ 10 ∷ rest → text ≡ (64 ∷ decimal frame) ++ 10 ∷ others → ⊥

@@ -1,5 +1,5 @@
 -- What a judge of witnesses over a model holds: what an admitted line changes, whether there is a claim, and what it judges of a text.
-use Rattle.std.proofs.Common.{◌≡◌, ℕ, suc, ◌+◌, ◌<◌, ◌≤◌, nat_le, ◌^◌, Bool, true, false, not, cond, ◌&&◌, ◌||◌, List, [], ◌∷◌, ◌++◌, None, Result, Ok, Err, IfOk, codes, length, map, length-append, refl, sym, ap, ap₂, subst, ◌∙◌, arith, inl, inr, Option}
+use Rattle.std.proofs.Common.{◌≡◌, ℕ, suc, ◌+◌, ◌<◌, ◌≤◌, nat_le, ◌^◌, Bool, true, false, not, cond, ◌&&◌, ◌||◌, List, [], ◌∷◌, ◌++◌, None, Result, Ok, Err, IfOk, codes, length, map, append_assoc, append-nil, length-append, refl, sym, ap, ap₂, subst, ◌∙◌, arith, inl, inr, Option}
 use Rattle.std.specs.Str.{bytes_eq}
 use Rattle.std.proofs.lemmas.Bool.{cases_Bool, eqb-true, false_from_ne_true}
 use Rattle.std.proofs.lemmas.List.{length-map, map-append}
@@ -17,7 +17,7 @@ use Rattle.witness.specs.Judgements.{frame_words, makes_no_claim, FrameWords, wo
 use Rattle.witness.specs.WordPlays.{nothing_given, is_between, steps_of, steps_taken, WordPlay, Plays, Traced, TracedBy, frames_alone, word_at}
 use Rattle.witness.specs.ClosedWords.{closed_word_frames, ClosesFrame, ClosesAtMostOne, IsClosedTrace, last_word}
 use Rattle.witness.specs.Stands.{IsOfLines}
-use Rattle.witness.specs.WordStands.{place_of, WordReader, Reads, GivesLine, TakesLine, is_status, Counts, here_of, WordJudge, word_judging, StandsFor, ClaimsAt}
+use Rattle.witness.specs.WordStands.{place_of, WordReader, Reads, GivesLine, TakesLine, is_status, Counts, here_of, WordJudge, word_judging, StandsFor, JudgesLine, JudgesLines, ClaimsAt}
 use Rattle.witness.proofs.TextEndLemmas.{whole_lines-line_end, unfinished-line_end}
 use Rattle.witness.proofs.ReadingLemmas.{by_test, stopped, stays, holds_behind}
 use Rattle.witness.proofs.StandsLemmas.{awaits, none_awaited, ClaimsMore, line_admitted, with_bytes, line_ended}
@@ -334,3 +334,19 @@ unfolding reading
 closed_word_is items text j fs node o stands trace says =
     let r : Read = (lines_read (word_reader (shape_of items)) (whole_lines text)).read in
     word_is items (map frame_words r.closed) (here_of r r.place) j.reader.play fs node o stands.lines.counts.plays trace says
+
+-- ---- lines in front of a text
+
+pub no_lines : (j : WordJudge) (text : List ℕ) → JudgesLines j j text text
+no_lines j text = record { front = []; is = refl; stands = λ items before stands. subst (StandsFor items j) (sym (append-nil before)) stands }
+
+pub one_line : (old new : WordJudge) (text rest : List ℕ) → JudgesLine old new text rest → JudgesLines old new text rest
+one_line old new text rest line = record { front = line.line ++ 10 ∷ []; is = line.is; stands = line.stands }
+
+pub lines_after : (old mid new : WordJudge) (text behind rest : List ℕ) → JudgesLines old mid text behind → JudgesLines mid new behind rest → JudgesLines old new text rest
+lines_after old mid new text behind rest front more =
+    record {
+      front = front.front ++ more.front;
+      is = front.is ∙ (ap (λ (l : List ℕ). front.front ++ l) more.is ∙ sym (append_assoc front.front more.front rest));
+      stands = λ items before stands. subst (StandsFor items new) (append_assoc before front.front more.front) (more.stands items (before ++ front.front) (front.stands items before stands));
+    }

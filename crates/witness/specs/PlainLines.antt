@@ -1,6 +1,7 @@
 -- A plain line of a witness over a model at the front of a text.
 use Rattle.std.specs.Prelude.{◌≡◌, ℕ, ◌<◌, ◌^◌, Bool, true, false, List, ◌∷◌, ◌++◌, Option, IfSome, decimal, length}
-use Rattle.btor2.specs.Symbols.{is_symbol}
+use Rattle.std.specs.List.{list_all}
+use Rattle.btor2.specs.Symbols.{is_printed, is_symbol}
 use Rattle.witness.specs.Texts.{binary, symbol_part, assignment_line, IsAssignment}
 use Rattle.witness.specs.Fits.{is_set}
 
@@ -20,6 +21,14 @@ pub record BeginsName (text rest : List ℕ) : Type 0 where
 
 abbrev pub NoName : List ℕ → Type 0
 NoName text = (rest : List ℕ) → BeginsName text rest → ⊥
+
+-- the first byte of a text that is none of a name, how many bytes stand before it, and the text behind it
+pub record IsFirstOther (text : List ℕ) (count byte : ℕ) (rest : List ℕ) : Type 0 where
+  pub front : List ℕ
+  pub is : text ≡ front ++ byte ∷ rest
+  pub printed : list_all is_printed front ≡ true
+  pub other : is_printed byte ≡ false
+  pub many : length front ≡ count
 
 -- with the digits of a word of a width, and such an end
 pub record BeginsWord (width : ℕ) (text : List ℕ) (word : ℕ) (rest : List ℕ) : Type 0 where

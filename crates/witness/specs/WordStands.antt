@@ -126,3 +126,9 @@ pub record JudgesLine (old new : WordJudge) (text rest : List ℕ) : Type 0 wher
   pub line : List ℕ
   pub is : text ≡ (line ++ 10 ∷ []) ++ rest
   pub stands : (items : List Item) (before : List ℕ) → StandsFor items old before → StandsFor items new (before ++ (line ++ 10 ∷ []))
+
+-- the same of lines
+pub record JudgesLines (old new : WordJudge) (text rest : List ℕ) : Type 0 where
+  pub front : List ℕ
+  pub is : text ≡ front ++ rest
+  pub stands : (items : List Item) (before : List ℕ) → StandsFor items old before → StandsFor items new (before ++ front)

@@ -1,8 +1,8 @@
 //! A plain line of a witness over a model at the front of a text, read in one pass up to its end.
-ghost use Rattle.std.specs.Prelude.{◌≡◌, ◌≢◌, ◌<◌, ◌^◌, ◌∷◌, ◌++◌, MatchOption, Some, decimal, length, not, slice_get, take, true};
-ghost use Rattle.std.specs.List.{list_all, position};
+ghost use Rattle.std.specs.Prelude.{◌≡◌, ◌≢◌, ◌<◌, ◌^◌, ◌∷◌, ◌++◌, MatchOption, Some, decimal, length, slice_get, take, true};
+ghost use Rattle.std.specs.List.{list_all};
 ghost use Rattle.btor2.specs.Symbols.{is_printed, is_symbol};
-ghost use Rattle.witness.specs.PlainLines.{NoNumber, NoFrameLine, BeginsName, NoName, BeginsWord, NoWord, BeginsAssignment, NoAssignment};
+ghost use Rattle.witness.specs.PlainLines.{NoNumber, NoFrameLine, BeginsName, IsFirstOther, NoName, BeginsWord, NoWord, BeginsAssignment, NoAssignment};
 
 use crate::bit_scan::is_digit;
 use crate::given::Given;
@@ -36,8 +36,11 @@ fn number_before(text: &[u8], end: u8) -> Option<(u64, &[u8])>
         return None;
     }
     let mut value = u64::from(*first - b'0');
+    if let Some(alone) = ended(text, 1, value, end) {
+        return Some(alone);
+    }
     if value == 0 {
-        return ended(text, 1, 0, end);
+        return None;
     }
     let most = text.len().min(MOST_DIGITS);
     for at in 1..most {
@@ -82,30 +85,26 @@ fn are_printed(bytes: &[u8; 8]) -> bool
     all
 }
 
-/// Where the first byte stands that is none of a name, by a plain loop.
+/// How many bytes of names stand at the front of a text, the byte behind them, and the text behind it; nothing where all
+/// bytes are those of names. Eight are tested at a time as long as they all are.
 #[inline(always)]
-fn first_other(text: &[u8]) -> Option<usize>
-    ensures { result ≡ position (λ b. not (is_printed b)) text.now }
+fn first_other(text: &[u8]) -> Option<(usize, u8, &[u8])>
+    ensures { MatchOption result (list_all is_printed text.now ≡ true) (λ x. IsFirstOther text.now x.0 x.1 x.2.now) }
 {
-    text.iter().position(|byte| !is_printed(*byte))
-}
-
-/// The same, with eight bytes tested at a time as long as they are all those of names.
-#[inline(always)]
-fn name_end(text: &[u8]) -> Option<usize>
-    ensures { result ≡ position (λ b. not (is_printed b)) text.now }
-{
-    let mut before = 0;
     let mut rest = text;
     while let Some((eight, behind)) = rest.split_first_chunk::<8>() {
         if !are_printed(eight) {
             break;
         }
-        before += 8;
         rest = behind;
     }
-    let at = first_other(rest)?;
-    Some(before + at)
+    while let Some((first, behind)) = rest.split_first() {
+        if !is_printed(*first) {
+            return Some((text.len() - rest.len(), *first, behind));
+        }
+        rest = behind;
+    }
+    None
 }
 
 /// Whether bytes of names are one: 1 to 255, of which the first is not `;`.
@@ -125,12 +124,11 @@ fn is_name(bytes: &[u8]) -> bool
 fn behind_symbol(text: &[u8]) -> Option<&[u8]>
     ensures { MatchOption result (NoName (32 ∷ text.now)) (λ rest. BeginsName (32 ∷ text.now) rest.now) }
 {
-    let at = name_end(text)?;
-    let (name, behind) = text.split_at(at);
-    let (end, rest) = behind.split_first()?;
-    if *end != b'\n' {
+    let (count, end, rest) = first_other(text)?;
+    if end != b'\n' {
         return None;
     }
+    let (name, _) = text.split_at(count);
     if is_name(name) { Some(rest) } else { None }
 }
 

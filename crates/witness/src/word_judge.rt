@@ -15,7 +15,7 @@ ghost use Rattle.base.specs.Lines.{IsLine, unfinished};
 ghost use Rattle.witness.specs.KeptLines.{AreAlike};
 ghost use Rattle.witness.specs.declared.word_reader.Place.TheVariants as place;
 ghost use Rattle.witness.specs.Stands.{IsOfLines};
-ghost use Rattle.witness.specs.WordStands.{StandsFor, JudgesLine, NoPlainLine, is_alone, is_status, place_of, word_judging};
+ghost use Rattle.witness.specs.WordStands.{StandsFor, JudgesLine, JudgesLines, NoPlainLine, is_alone, is_status, place_of, word_judging};
 
 use crate::judgement::Judgement;
 use crate::kept_line::KeptLine;
@@ -149,17 +149,37 @@ impl<'a> WordJudge<'a> {
     /// Takes the plain line with which a text begins, and answers the text behind it; nothing is taken of another text.
     #[inline(always)]
     fn take_plain<'t>(&mut self, text: &'t [u8]) -> Option<&'t [u8]>
+        requires unrefused { self.old.refused ≡ None }
+        requires begins { self.old.line ≡ [] }
         ensures line { IfSome result (λ rest. JudgesLine self.old self.new text.now rest.now) }
-        ensures none { IfNone result (self.old.refused ≡ None → self.old.admitted < 2 ^ 62 → self.old.line ≡ [] → self.old.reader.place ≡ place.Frame
-            → NoPlainLine self.old.reader text.now) }
+        ensures none { IfNone result (self.old.admitted < 2 ^ 62 → self.old.reader.place ≡ place.Frame → NoPlainLine self.old.reader text.now) }
         ensures kept { IfNone result (self.new ≡ self.old) }
+        ensures unrefused { self.new.refused ≡ None }
+        ensures begins { self.new.line ≡ [] }
     {
-        if self.refused.is_some() || are_most(self.admitted) || !self.line.is_empty() {
+        if are_most(self.admitted) {
             return None;
         }
         let rest = self.reader.take_line(text)?;
         self.admitted += 1;
         Some(rest)
+    }
+
+    /// Takes the plain lines with which a text begins, each in one pass, and answers the text behind them.
+    #[inline(always)]
+    fn take_plain_lines<'t>(&mut self, text: &'t [u8]) -> &'t [u8]
+        ensures lines { JudgesLines self.old self.new text.now result.now }
+        ensures none { self.new.refused ≡ None → self.new.admitted < 2 ^ 62 → self.new.line ≡ [] → self.new.reader.place ≡ place.Frame
+            → NoPlainLine self.new.reader result.now }
+    {
+        if self.refused.is_some() || !self.line.is_empty() {
+            return text;
+        }
+        let mut rest = text;
+        while let Some(behind) = self.take_plain(rest) {
+            rest = behind;
+        }
+        rest
     }
 
     /// Takes the line with which a text begins, whatever it is, and answers the text behind it; nothing where no byte 10
@@ -174,28 +194,14 @@ impl<'a> WordJudge<'a> {
         Some(rest)
     }
 
-    /// Takes the line with which a text begins, in one pass where it is a plain one, and answers the text behind it;
-    /// nothing where no byte 10 ends it.
-    #[inline(always)]
-    fn take_next<'t>(&mut self, text: &'t [u8]) -> Option<&'t [u8]>
-        ensures line { IfSome result (λ rest. JudgesLine self.old self.new text.now rest.now) }
-        ensures none { IfNone result (IsLine text.now) }
-        ensures kept { IfNone result (self.new ≡ self.old) }
-    {
-        match self.take_plain(text) {
-            Some(rest) => Some(rest),
-            None => self.take_any(text),
-        }
-    }
-
     /// Takes a piece of the text behind those before: a judge that stood for a text stands for that text with the piece
     /// behind it.
     pub fn feed(&mut self, bytes: &[u8])
         ensures { (items : List Item) (text : List ℕ) → StandsFor items self.old text → StandsFor items self.new (text ++ bytes.now) }
     {
-        let mut rest = bytes;
-        while let Some(behind) = self.take_next(rest) {
-            rest = behind;
+        let mut rest = self.take_plain_lines(bytes);
+        while let Some(behind) = self.take_any(rest) {
+            rest = self.take_plain_lines(behind);
         }
         self.take_part(rest);
     }

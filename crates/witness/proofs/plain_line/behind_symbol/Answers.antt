@@ -1,24 +1,24 @@
-use Rattle.std.proofs.Common.{sym, ◌∙◌}
-use Rattle.witness.proofs.PlainLineLemmas.{name_there, front_is_printed, name_is, begins_name}
+use Rattle.std.proofs.Common.{sym, ◌∙◌, ap}
+use Rattle.std.specs.List.{list_all}
+use Rattle.btor2.specs.Symbols.{is_printed, is_symbol}
+use Rattle.witness.proofs.PlainLineLemmas.{begins_name, ends_line, front_is}
 use Rattle.witness.proofs.plain_line.behind_symbol.Goals as goal
 
-pub returns-in_err-at : goal.returns-in_err-at
-returns-in_err-at c = rw c.from_residual.ensures (λ rest begins. cc ((name_there c.args.text.now rest begins).1.2, c.in_err-at.ensures))
-
 pub is_name-requires : goal.is_name-requires
-is_name-requires c = front_is_printed c.args.text.now c.split_at.result.0.now c.split_at.result.1.now c.in_ok-at.at c.in_ok-at.ensures c.split_at.ensures.front c.split_at.ensures.back
+is_name-requires c =
+    let first = c.in_ok-count.ensures in
+    ap (list_all is_printed) (front_is c.args.text.now c.in_ok-count.rest.now c.in_ok-count.count c.in_ok-count.end first c.split_at.result.0.now c.split_at.ensures.front) ∙ first.printed
 
 pub returns-then-end-ne10 : goal.returns-then-end-ne10
-returns-then-end-ne10 c rest begins =
-    let there = name_is c.args.text.now c.split_at.result.0.now c.split_at.result.1.now c.in_ok-at.at c.in_ok-at.ensures c.split_at.ensures.front c.split_at.ensures.back rest begins in
-    c.if-end-ne10.true (cc (there.0, c.in_ok-end.ensures.cases.0))
+returns-then-end-ne10 c rest begins = c.if-end-ne10.true (ends_line c.args.text.now c.in_ok-count.rest.now c.in_ok-count.count c.in_ok-count.end c.in_ok-count.ensures rest begins).0
 
 pub returns-then-is_name : goal.returns-then-is_name
 returns-then-is_name c =
-    begins_name c.args.text.now c.split_at.result.0.now c.split_at.result.1.now c.in_ok-at.at c.in_ok-at.ensures c.split_at.ensures.front c.split_at.ensures.back c.in_ok-end.end.now c.in_ok-end.rest.now c.in_ok-end.ensures.cases.0
-    c.if-end-ne10.false (sym c.is_name.ensures ∙ c.if-is_name.true)
+    let front = front_is c.args.text.now c.in_ok-count.rest.now c.in_ok-count.count c.in_ok-count.end c.in_ok-count.ensures c.split_at.result.0.now c.split_at.ensures.front in
+    begins_name c.args.text.now c.in_ok-count.rest.now c.in_ok-count.count c.in_ok-count.end c.in_ok-count.ensures c.if-end-ne10.false (ap is_symbol (sym front) ∙ (sym c.is_name.ensures ∙ c.if-is_name.true))
 
 pub returns-else-is_name : goal.returns-else-is_name
 returns-else-is_name c rest begins =
-    let there = name_is c.args.text.now c.split_at.result.0.now c.split_at.result.1.now c.in_ok-at.at c.in_ok-at.ensures c.split_at.ensures.front c.split_at.ensures.back rest begins in
-    cc (there.1, c.is_name.ensures, c.if-is_name.false)
+    let front = front_is c.args.text.now c.in_ok-count.rest.now c.in_ok-count.count c.in_ok-count.end c.in_ok-count.ensures c.split_at.result.0.now c.split_at.ensures.front in
+    let there = ends_line c.args.text.now c.in_ok-count.rest.now c.in_ok-count.count c.in_ok-count.end c.in_ok-count.ensures rest begins in
+    cc (front, there.1, c.is_name.ensures, c.if-is_name.false)

@@ -1,4 +1,4 @@
-use Rattle.std.proofs.Common.{◌≡◌, ◌-◌, List, ℕ, length, get_or, sym, ap, subst, ◌∙◌, arith}
+use Rattle.std.proofs.Common.{◌≡◌, ◌-◌, List, ℕ, ◌∷◌, ◌++◌, None, decimal, length, get_or, sym, ap, subst, ◌∙◌, arith}
 use Rattle.base.proofs.DecimalLemmas.{digit_range}
 use Rattle.witness.proofs.PlainLineLemmas.{IsRead, read_first, read_more, room, first_there, number_ends}
 use Rattle.witness.proofs.plain_line.number_before.Goals as goal
@@ -22,11 +22,17 @@ returns-then-not-is_digit c n rest few is =
     let there = first_there c.args.text.now rest c.args.end n few is in
     absurd (cc (there.1, ap (λ (l : List ℕ). get_or l 0 0) c.in_ok-first.ensures.cases.0, c.is_digit.ensures, c.if-not-is_digit.true))
 
+pub returns-in-Some : goal.returns-in-Some
+returns-in-Some c =
+    let told = c.in-Some.ensures in
+    let read = read_first c.args.text.now c.in_ok-first.field-0-1.now c.in_ok-first.first.now c.in_ok-first.ensures.cases.0 (sym c.is_digit.ensures ∙ c.if-not-is_digit.false) in
+    (omega (arith, told.0, c.from-value.type_inv), told.1 ∙ ap (λ (l : List ℕ). l ++ c.args.end ∷ c.in-Some.alone.1.now) (read.digits ∙ ap decimal (sym (told.0 ∙ c.from-value.ensures))))
+
 pub returns-then-value-eq0 : goal.returns-then-value-eq0
 returns-then-value-eq0 c =
     let zero : c.in_ok-first.first.now - 48 ≡ 0 = sym c.from-value.ensures ∙ c.if-value-eq0.true in
     let read = subst (IsRead c.args.text.now 1) zero (read_first c.args.text.now c.in_ok-first.field-0-1.now c.in_ok-first.first.now c.in_ok-first.ensures.cases.0 (sym c.is_digit.ensures ∙ c.if-not-is_digit.false)) in
-    number_ends c.ended.result (λ x. x.now) c.args.text.now c.args.end 1 0 c.requires (omega arith) (omega arith) read (λ inside digit more few. omega (arith, more)) c.ended.ensures
+    number_ends None (λ (x : List ℕ). x) c.args.text.now c.args.end 1 0 c.requires (omega arith) (omega arith) read (λ inside digit more few. omega (arith, more)) c.in_default.ensures
 
 pub returns-then-not-is_digit-2 : goal.returns-then-not-is_digit-2
 returns-then-not-is_digit-2 c =
