@@ -7,6 +7,17 @@ use Rattle.tasks.specs.declared.refusals.Refusal.{Refusal}
 use Rattle.tasks.specs.declared.refusals.Refusal.TheVariants as refusal
 use Rattle.tasks.specs.Statuses.{Counts, CountsAll, IfSecond}
 
+-- a refusal is counted as one in place of another result
+pub counted_err : (T U : Type 0) (x : Refusal) (f f' s s' o o' e e' : ℕ) → Counts {T = T} (Err x) f f' s s' o o' e e' → Counts {T = U} (Err x) f f' s s' o o' e e'
+counted_err T U (refusal.Input x) f f' s s' o o' e e' c = c
+counted_err T U (refusal.Second x) f f' s s' o o' e e' c = c
+counted_err T U (refusal.Failed device.First) f f' s s' o o' e e' c = c
+counted_err T U (refusal.Failed device.Second) f f' s s' o o' e e' c = c
+counted_err T U (refusal.Failed device.Third) f f' s s' o o' e e' c = c
+counted_err T U (refusal.Failed device.Output) f f' s s' o o' e e' c = c
+counted_err T U (refusal.Failed device.Error) f f' s s' o o' e e' c = c
+counted_err T U refusal.NoMemory f f' s s' o o' e e' c = c
+
 -- the first file did not fail before what was counted
 pub counted_behind : {T : Type 0} (r : Result T Refusal) (f f' s s' o o' e e' : ℕ) → f' ≡ f → Counts r f' f' s s' o o' e e' → Counts r f f' s s' o o' e e'
 counted_behind {T} r f f' s s' o o' e e' same c = let P : ℕ → Type 0 = λ n. Counts r n f' s s' o o' e e' in subst P same c
@@ -26,19 +37,9 @@ counted_all (Err (refusal.Failed device.Output)) f f' s s' t t' o o' e e' same c
 counted_all (Err (refusal.Failed device.Error)) f f' s s' t t' o o' e e' same c = (c, same)
 counted_all (Err refusal.NoMemory) f f' s s' t t' o o' e e' same c = (c, same)
 
-counted_all_err : (T U : Type 0) (r : Refusal) (f f' s s' t t' o o' e e' : ℕ) → t' ≡ t → Counts {T = T} (Err r) f f' s s' o o' e e' → CountsAll {T = U} (Err r) f f' s s' t t' o o' e e'
-counted_all_err T U (refusal.Input x) f f' s s' t t' o o' e e' same c = (c, same)
-counted_all_err T U (refusal.Second x) f f' s s' t t' o o' e e' same c = absurd c
-counted_all_err T U (refusal.Failed device.First) f f' s s' t t' o o' e e' same c = (c, same)
-counted_all_err T U (refusal.Failed device.Second) f f' s s' t t' o o' e e' same c = (c, same)
-counted_all_err T U (refusal.Failed device.Third) f f' s s' t t' o o' e e' same c = absurd c
-counted_all_err T U (refusal.Failed device.Output) f f' s s' t t' o o' e e' same c = (c, same)
-counted_all_err T U (refusal.Failed device.Error) f f' s s' t t' o o' e e' same c = (c, same)
-counted_all_err T U refusal.NoMemory f f' s s' t t' o o' e e' same c = (c, same)
-
 -- a first file that is refused, where the third is not read
 pub refused_first : (T : Type 0) {U : Type 0} (r : Result U Refusal) (x : Refusal) (f f' s s' t o o' e e' : ℕ) → r ≡ Err x → Counts {T = T} (Err x) f f' s s' o o' e e' → CountsAll r f f' s s' t t o o' e e'
-refused_first T {U} r x f f' s s' t o o' e e' is c = rw is (counted_all_err T U x f f' s s' t t o o' e e' refl c)
+refused_first T {U} r x f f' s s' t o o' e e' is c = rw is (counted_all {T = U} (Err x) f f' s s' t t o o' e e' refl (counted_err T U x f f' s s' o o' e e' c))
 
 counts_all_err : (T U : Type 0) (r : Refusal) (f f' s s' t t' o o' e e' : ℕ) → CountsAll {T = T} (Err r) f f' s s' t t' o o' e e' → CountsAll {T = U} (Err r) f f' s s' t t' o o' e e'
 counts_all_err T U (refusal.Input x) f f' s s' t t' o o' e e' c = c

@@ -1,5 +1,5 @@
 -- What the commands on certificates have done: of the text of an invariant, and that of a proof, for a bad property of a model or of a circuit.
-use Rattle.std.specs.Prelude.{◌≡◌, ℕ, Bool, true, false, List, ◌++◌, Option, None, codes, decimal}
+use Rattle.std.specs.Prelude.{◌≡◌, ℕ, Bool, true, false, List, ◌++◌, Option, Some, None, codes, decimal}
 use Rattle.std.specs.Io.KnownBytes.{Appends}
 use Rattle.btor2.specs.declared.item.Item.{Item}
 use Rattle.aiger.specs.Circuit.{Circuit, IsCircuit}
@@ -15,6 +15,7 @@ use Rattle.clauses.specs.Printed.{why_number, why_name}
 use Rattle.invariants.specs.Certificates.{IsCertified, IsOwed}
 use Rattle.tasks.specs.declared.answers.Answer.{Answer}
 use Rattle.tasks.specs.declared.answers.Answer.TheVariants as answer
+use Rattle.tasks.specs.declared.certificates.Read.{Read}
 use Rattle.orders.specs.declared.tasks.Given.{Given}
 use Rattle.orders.specs.declared.tasks.Given.TheVariants as given
 use Rattle.tasks.specs.Subjects.{bad_item_said, bad_name_said, holds_said}
@@ -90,6 +91,20 @@ pub record Certifies (g : Given) (choice : Option ℕ) (first second third befor
 abbrev pub given_said : (g : Given) → (first : Option (List ℕ)) → (c : Circuit) → Gives g first c → ℕ → List ℕ
 given_said given.Model first c gives k = bad_item_said gives.items k
 given_said given.Circuit first c gives k = bad_name_said c k
+
+-- the line of a model that was read, or else the name in the circuit
+abbrev pub said_of : Option (List Item) → Circuit → ℕ → List ℕ
+said_of (Some items) c k = bad_item_said items k
+said_of None c k = bad_name_said c k
+
+-- the line that says which bad property of what was read has a number
+abbrev pub read_said : Read → ℕ → List ℕ
+read_said r k = said_of r.model r.circuit k
+
+-- what was read is what the first text gives, and says of its bad properties what that says
+pub record IsRead (g : Given) (first : Option (List ℕ)) (r : Read) : Type 0 where
+  pub gives : Gives g first r.circuit
+  pub says : (k : ℕ) → read_said r k ≡ given_said g first r.circuit gives k
 
 -- a certificate is judged so, and what was told is the line that says which bad property holds; none where that is not judged
 pub record CertifiesByName (g : Given) (choice : Option ℕ) (first second third before now told told' : Option (List ℕ)) (a : Answer) : Type 0 where

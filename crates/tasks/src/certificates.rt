@@ -9,7 +9,7 @@ ghost use Rattle.blast.specs.Refusal.{lowering_refusal};
 ghost use Rattle.clauses.specs.FormulaTexts.{formula_text};
 ghost use Rattle.invariants.specs.Certificates.{IsCertified, IsOwed};
 ghost use Rattle.orders.specs.declared.tasks.Given.TheVariants as given_is;
-ghost use Rattle.tasks.specs.Certificates.{CertifiesWith, Gives, IsFirst, IsSoDerived, LowersFirst, WritesOwed, given_said, verdict_line};
+ghost use Rattle.tasks.specs.Certificates.{CertifiesWith, Gives, IsRead, IsSoDerived, WritesOwed, given_said, read_said, verdict_line};
 ghost use Rattle.tasks.specs.Done.{IsModelOf};
 ghost use Rattle.tasks.specs.Refusals.{IsFaultyFor, IsFaultyInvariant, IsNoCircuit, IsNotClaimed, IsNotGiven, IsNotLowered, IsWithoutForm};
 ghost use Rattle.tasks.specs.Statuses.{Counts, CountsAll, ErrUntold, IfInput, IfSecond, IsOfNoInput};
@@ -43,40 +43,66 @@ fn lower_read<W: Watch>(alloc: Global, model: &Model, watch: &mut W) -> Result<C
     Ok(lower_watched(alloc, model, watch)?)
 }
 
+/// What the first file gives: a circuit, and the model that it lowers, where that is what is given.
+#[derive(Drop)]
+struct Read {
+    model: Option<Model>,
+    circuit: Circuit,
+}
+
+impl Read {
+    /// What a judgement of it is about.
+    fn subject(&self) -> Subject<'_>
+        ensures { (k : ℕ) → bad_said result k ≡ read_said self.now k }
+    {
+        match &self.model {
+            Some(model) => Subject::Model(model),
+            None => Subject::Circuit(&self.circuit),
+        }
+    }
+}
+
 /// Reads the first file as a model, and lowers it.
 fn lower_first<A: Source, W: Watch>(
     alloc: Global,
     first: &mut A,
     watch: &mut W,
-) -> Result<Circuit, Refusal>
-    ensures lowers { IfOk result (LowersFirst (A.to_come first.old)) }
+) -> Result<Read, Refusal>
+    ensures read { IfOk result (IsRead given_is.Model (A.to_come first.old)) }
     ensures refused { IfErr result (IfInput (IsNotLowered (A.to_come first.old))) }
     ensures counted { (s o e : ℕ) → Counts result (A.failures first.old) (A.failures first.new) s s o o e e }
 {
     let model = read_model(alloc, first)?;
-    lower_read(alloc, &model, watch)
+    let circuit = lower_read(alloc, &model, watch)?;
+    Ok(Read {
+        model: Some(model),
+        circuit,
+    })
 }
 
 /// Reads the first file as a circuit.
-fn read_first<A: Source>(alloc: Global, first: &mut A) -> Result<Circuit, Refusal>
-    ensures read { IfOk result (IsFirst (A.to_come first.old)) }
+fn read_first<A: Source>(alloc: Global, first: &mut A) -> Result<Read, Refusal>
+    ensures read { IfOk result (IsRead given_is.Circuit (A.to_come first.old)) }
     ensures refused { IfErr result (IfInput (IsNoCircuit (A.to_come first.old))) }
     ensures counted { (s o e : ℕ) → Counts result (A.failures first.old) (A.failures first.new) s s o o e e }
 {
     let circuit = read_circuit(alloc, first)?;
     // the lists of a circuit are one
     let _ = circuit.inputs();
-    Ok(circuit)
+    Ok(Read {
+        model: None,
+        circuit,
+    })
 }
 
-/// The circuit that the first file gives: one that lowers its model, or its own.
+/// What the first file gives: a circuit that lowers its model, or its own.
 fn read_given<A: Source, W: Watch>(
     alloc: Global,
     given: Given,
     first: &mut A,
     watch: &mut W,
-) -> Result<Circuit, Refusal>
-    ensures gives { IfOk result (Gives given (A.to_come first.old)) }
+) -> Result<Read, Refusal>
+    ensures read { IfOk result (IsRead given (A.to_come first.old)) }
     ensures refused { IfErr result (IfInput (IsNotGiven given (A.to_come first.old))) }
     ensures counted { (s o e : ℕ) → Counts result (A.failures first.old) (A.failures first.new) s s o o e e }
 {
@@ -159,8 +185,8 @@ pub fn write_obligation<A: Source, B: Source, O: Sink, W: Watch>(
     ensures unwritten_second { IfErr result (IfSecond (λ _. out.new ≡ out.old)) }
     ensures counted { (t e : ℕ) → CountsAll result (A.failures first.old) (A.failures first.new) (B.failures second.old) (B.failures second.new) t t (O.failures out.old) (O.failures out.new) e e }
 {
-    let circuit = read_given(alloc, given, first, watch)?;
-    write_owed_over(alloc, &circuit, choice, second, out)
+    let read = read_given(alloc, given, first, watch)?;
+    write_owed_over(alloc, &read.circuit, choice, second, out)
 }
 
 /// The judgement of the second and the third file, a certificate of a bad property of a circuit.
@@ -298,86 +324,6 @@ fn check_over<B: Source, T: Source, O: Sink, E: Sink>(
     tell_verdict(alloc, named, subject, claim, &judgement, out, err)
 }
 
-/// Lowers a model that was read, and judges a certificate of the bad property that is claimed of it.
-fn check_over_model<B: Source, T: Source, O: Sink, E: Sink, W: Watch>(
-    alloc: Global,
-    named: bool,
-    model: &Model,
-    choice: Option<usize>,
-    second: &mut B,
-    third: &mut T,
-    out: &mut O,
-    err: &mut E,
-    watch: &mut W,
-) -> Result<Answer, Refusal>
-    ensures done { (known : Option (List ℕ)) → IsModelOf known model.now → IfOk result (CertifiesWith named given_is.Model choice known (B.to_come second.old) (T.to_come third.old) (O.written out.old) (O.written out.new) (E.written err.old) (E.written err.new)) }
-    ensures refused { (known : Option (List ℕ)) → IsModelOf known model.now → IfErr result (IfInput (IsNotClaimed given_is.Model choice known)) }
-    ensures second { (known : Option (List ℕ)) → IsModelOf known model.now → IfErr result (IfSecond (IsFaultyInvariant given_is.Model choice known (B.to_come second.old))) }
-    ensures unwritten { IfErr result (IfInput (λ _. out.new ≡ out.old)) }
-    ensures unwritten_second { IfErr result (IfSecond (λ _. out.new ≡ out.old)) }
-    ensures untold { ErrUntold result (err.new ≡ err.old) }
-    ensures quiet { named ≡ false → err.new ≡ err.old }
-    ensures counted { (f : ℕ) → CountsAll result f f (B.failures second.old) (B.failures second.new) (T.failures third.old) (T.failures third.new) (O.failures out.old) (O.failures out.new) (E.failures err.old) (E.failures err.new) }
-{
-    let circuit = lower_read(alloc, model, watch)?;
-    let subject = Subject::Model(model);
-    check_over(
-        alloc, named, subject, &circuit, choice, second, third, out, err,
-    )
-}
-
-/// Reads a model, and judges a certificate of the bad property that is claimed of it.
-fn check_model<A: Source, B: Source, T: Source, O: Sink, E: Sink, W: Watch>(
-    alloc: Global,
-    named: bool,
-    choice: Option<usize>,
-    first: &mut A,
-    second: &mut B,
-    third: &mut T,
-    out: &mut O,
-    err: &mut E,
-    watch: &mut W,
-) -> Result<Answer, Refusal>
-    ensures done { IfOk result (CertifiesWith named given_is.Model choice (A.to_come first.old) (B.to_come second.old) (T.to_come third.old) (O.written out.old) (O.written out.new) (E.written err.old) (E.written err.new)) }
-    ensures refused { IfErr result (IfInput (IsNotClaimed given_is.Model choice (A.to_come first.old))) }
-    ensures second { IfErr result (IfSecond (IsFaultyInvariant given_is.Model choice (A.to_come first.old) (B.to_come second.old))) }
-    ensures unwritten { IfErr result (IfInput (λ _. out.new ≡ out.old)) }
-    ensures unwritten_second { IfErr result (IfSecond (λ _. out.new ≡ out.old)) }
-    ensures untold { ErrUntold result (err.new ≡ err.old) }
-    ensures quiet { named ≡ false → err.new ≡ err.old }
-    ensures counted { CountsAll result (A.failures first.old) (A.failures first.new) (B.failures second.old) (B.failures second.new) (T.failures third.old) (T.failures third.new) (O.failures out.old) (O.failures out.new) (E.failures err.old) (E.failures err.new) }
-{
-    let model = read_model(alloc, first)?;
-    check_over_model(alloc, named, &model, choice, second, third, out, err, watch)
-}
-
-/// Reads a circuit, and judges a certificate of the bad property that is claimed of it.
-fn check_circuit<A: Source, B: Source, T: Source, O: Sink, E: Sink>(
-    alloc: Global,
-    named: bool,
-    choice: Option<usize>,
-    first: &mut A,
-    second: &mut B,
-    third: &mut T,
-    out: &mut O,
-    err: &mut E,
-) -> Result<Answer, Refusal>
-    ensures done { IfOk result (CertifiesWith named given_is.Circuit choice (A.to_come first.old) (B.to_come second.old) (T.to_come third.old) (O.written out.old) (O.written out.new) (E.written err.old) (E.written err.new)) }
-    ensures refused { IfErr result (IfInput (IsNotClaimed given_is.Circuit choice (A.to_come first.old))) }
-    ensures second { IfErr result (IfSecond (IsFaultyInvariant given_is.Circuit choice (A.to_come first.old) (B.to_come second.old))) }
-    ensures unwritten { IfErr result (IfInput (λ _. out.new ≡ out.old)) }
-    ensures unwritten_second { IfErr result (IfSecond (λ _. out.new ≡ out.old)) }
-    ensures untold { ErrUntold result (err.new ≡ err.old) }
-    ensures quiet { named ≡ false → err.new ≡ err.old }
-    ensures counted { CountsAll result (A.failures first.old) (A.failures first.new) (B.failures second.old) (B.failures second.new) (T.failures third.old) (T.failures third.new) (O.failures out.old) (O.failures out.new) (E.failures err.old) (E.failures err.new) }
-{
-    let circuit = read_first(alloc, first)?;
-    let subject = Subject::Circuit(&circuit);
-    check_over(
-        alloc, named, subject, &circuit, choice, second, third, out, err,
-    )
-}
-
 /// Reads what is given, judges a certificate of the bad property that is claimed of it, and with names says which one holds.
 pub fn check_proof<A: Source, B: Source, T: Source, O: Sink, E: Sink, W: Watch>(
     alloc: Global,
@@ -400,8 +346,17 @@ pub fn check_proof<A: Source, B: Source, T: Source, O: Sink, E: Sink, W: Watch>(
     ensures quiet { named ≡ false → err.new ≡ err.old }
     ensures counted { CountsAll result (A.failures first.old) (A.failures first.new) (B.failures second.old) (B.failures second.new) (T.failures third.old) (T.failures third.new) (O.failures out.old) (O.failures out.new) (E.failures err.old) (E.failures err.new) }
 {
-    match given {
-        Given::Model => check_model(alloc, named, choice, first, second, third, out, err, watch),
-        Given::Circuit => check_circuit(alloc, named, choice, first, second, third, out, err),
-    }
+    let read = read_given(alloc, given, first, watch)?;
+    let subject = read.subject();
+    check_over(
+        alloc,
+        named,
+        subject,
+        &read.circuit,
+        choice,
+        second,
+        third,
+        out,
+        err,
+    )
 }

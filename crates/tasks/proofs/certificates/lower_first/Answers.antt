@@ -1,7 +1,18 @@
-use Rattle.tasks.proofs.CountLemmas.{counted_behind}
+use Rattle.std.proofs.Common.{rules, ◌≡◌, Err, refl}
+use Rattle.aiger.specs.Circuit.{Circuit}
+use Rattle.tasks.specs.declared.certificates.Read.{Read}
+use Rattle.tasks.proofs.CountLemmas.{counted_behind, counted_err}
 use Rattle.tasks.proofs.certificates.lower_first.Goals as goal
 
-pub returns-clause-counted : goal.returns-clause-counted
-returns-clause-counted g c = λ s o e.
-    counted_behind c.lower_read.result (g.A.Source.failures c.args.first.now) (g.A.Source.failures c.read_model.new.first) s s o o e e
-    (c.in_ok-model.ensures.counted 0 0 0).0 (c.lower_read.ensures.counted (g.A.Source.failures c.read_model.new.first) s o e)
+pub returns-clause-read : goal.returns-clause-read
+returns-clause-read g c = record {
+  gives = record { items = c.in_ok-model.model; text = c.in_ok-model.ensures.read; accepted = c.in_ok-circuit.ensures.accepted; lowers = c.in_ok-circuit.ensures.lowers };
+  says = λ k. refl;
+}
+
+pub returns-in_err-circuit-clause-counted : goal.returns-in_err-circuit-clause-counted
+returns-in_err-circuit-clause-counted g c = λ s o e.
+    let first = g.A.Source.failures c.read_model.new.first in
+    let same : c.from_residual-in_err-circuit.result ≡ Err c.in_err-circuit.field-0.0 = search rules in
+    counted_behind c.from_residual-in_err-circuit.result (g.A.Source.failures c.args.first.now) first s s o o e e (c.in_ok-model.ensures.counted 0 0 0).0
+    (rw same (counted_err Circuit Read c.in_err-circuit.field-0.0 first first s s o o e e (c.in_err-circuit.ensures.counted first s o e)))
