@@ -1,7 +1,8 @@
 -- Decimals: what a token that is read as a number is, and that the decimal of a number is read as it.
 use Rattle.std.proofs.Common.{nat_le, ◌==◌, ◌⊎◌, ◌≡◌, ℕ, ◌+◌, ◌-◌, ◌*◌, ◌^◌, ◌<◌, ◌≤◌, min, Bool, true, false, cond, ◌&&◌, ◌||◌, not, List, [], ◌∷◌, Some, None, length, get_or, take, inl, inr, refl, sym, subst, ◌∙◌, arith, decimal}
+use Rattle.std.specs.List.{list_any, list_all}
 use Rattle.std.specs.Str.Parse.{digits_value}
-use Rattle.std.proofs.lemmas.Bool.{cases_Bool, both_ways, leb-true, and_parts, eqb-true, eqb-false, ne_eqb, cases_lt, cases_eq, eq-eqb, le-leb, and_from}
+use Rattle.std.proofs.lemmas.Bool.{cases_Bool, both_ways, leb-true, and_parts, eqb-true, eqb-false, ne_eqb, cases_lt, cases_eq, eq-eqb, le-leb, and_from, or_from}
 use Rattle.std.proofs.Math.Bool.{and-false}
 use Rattle.std.proofs.lemmas.Str.{digit_value_digit}
 use Rattle.std.proofs.lemmas.Int.Digits.{digits_value_more}
@@ -172,3 +173,27 @@ number_of-decimal n lt =
     let value = digits_value-decimal own n lt in
     let small : min (digits_value 10 (decimal n)) (2 ^ 64 - 1) ≡ n = omega arith in
     rw (yes, small) refl
+
+-- bytes of a kind that x is not of
+pub none_of : (p : ℕ → Bool) (x : ℕ) (bytes : List ℕ) → ((b : ℕ) → p b ≡ true → (b == x) ≡ false) → list_all p bytes ≡ true → list_any (λ b. b == x) bytes ≡ false
+none_of p x [] apart all = refl
+none_of p x (b ∷ bs) apart all =
+    let parts = and_parts (p b) (list_all p bs) all in
+    or_from (b == x) (list_any (λ c. c == x) bs) (apart b parts.0) (none_of p x bs apart parts.1)
+
+-- a byte below the digits is none of some digits
+pub digits_without : (x : ℕ) (bytes : List ℕ) → x < 48 → are_digits bytes ≡ true → list_any (λ b. b == x) bytes ≡ false
+digits_without x bytes small all =
+    none_of is_digit x bytes (λ b is. ne_eqb b x (λ e. let range = digit_range b is in omega arith)) all
+
+-- a decimal's bytes are digits
+pub decimal_digits : (n : ℕ) → n < 2 ^ 64 → are_digits (decimal n) ≡ true
+unfolding number_of
+decimal_digits n lt =
+    elim (chosen (is_decimal (decimal n)) (Some (capped_value (decimal n))) None (Some n) (number_of-decimal n lt)) [
+      | inl e ↦ decimal_are_digits (decimal n) e.0
+      | inr e ↦ absurd (cc (e.1))
+    ]
+
+pub decimal_without : (x n : ℕ) → x < 48 → n < 2 ^ 64 → list_any (λ b. b == x) (decimal n) ≡ false
+decimal_without x n small lt = digits_without x (decimal n) small (decimal_digits n lt)

@@ -12,3 +12,4 @@ pub mod ConstantLemmas
 pub mod IdLemmas
 pub mod InitLemmas
 pub mod LeafLemmas
+pub mod SymbolLemmas

@@ -5,7 +5,7 @@ use Rattle.std.proofs.lemmas.Bool.{cases_Bool}
 use Rattle.std.proofs.lemmas.List.{length-map}
 use Rattle.std.proofs.lemmas.Slice.Eq.{bytes_eq-Decides}
 use Rattle.base.specs.Decimals.{capped_value, is_decimal, number_of}
-use Rattle.base.proofs.DecimalLemmas.{chosen, number_of-decimal}
+use Rattle.base.proofs.DecimalLemmas.{chosen, number_of-decimal, decimal_digits}
 use Rattle.btor2.specs.declared.item.Item.{Item}
 use Rattle.aiger.specs.Circuit.{Circuit}
 use Rattle.witness.specs.declared.why.Why.{Why}
@@ -15,7 +15,6 @@ use Rattle.witness.specs.BitTexts.{bit_line}
 use Rattle.witness.specs.Readings.{Reading, nothing_admitted, one_more_line, next_line, lines_behind, lines_read}
 use Rattle.witness.specs.BitAdmits.{claim_at, bits_at, BitPlace, AtHeader, AtClaim, AtInitial, AtFirst, AtLater, AtDone, BitRead, after_claim, after_initial, after_frame, bit_admit_at, bit_admit, bit_reader}
 use Rattle.witness.proofs.BitReadLemmas.{bits_are_line, claim_is_line}
-use Rattle.witness.proofs.PieceLemmas.{decimal_digits}
 use Rattle.restore.proofs.BitPlaceLemmas.{PlaceAt, place_of_lines}
 use Rattle.lift.specs.Lifted.{piece, line_bits, initial_piece, frame_piece}
 use Rattle.lift.specs.Kept.{KeptLine, Keeps, kept_frame, kept_piece, IsFrameOrEnd, IsAdmitted}

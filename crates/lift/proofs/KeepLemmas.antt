@@ -20,6 +20,7 @@ use Rattle.blast.specs.Cost.{carried_width}
 use Rattle.blast.specs.Leaves.{by_body, of_kind, own_name, input_bits, state_bits}
 use Rattle.blast.specs.Lowering.{Lowers, ShowSame}
 use Rattle.blast.proofs.LowerAssembly.{length-state_resets}
+use Rattle.base.proofs.DecimalLemmas.{decimal_without}
 use Rattle.witness.specs.declared.why.Why.{Why}
 use Rattle.witness.specs.declared.judgement.Judgement.{Judgement}
 use Rattle.witness.specs.Texts.{Witness, shape_of, is_comment, most_lines, witness_lines, Says}
@@ -30,7 +31,6 @@ use Rattle.witness.specs.Readings.{Reading, lines_read, reading, read_or_fault}
 use Rattle.witness.specs.BitAdmits.{BitRead, is_done, bit_reader, read_bit_text, bit_witness_of, admitted_lines}
 use Rattle.witness.specs.BitJudgements.{makes_no_bit_claim, bit_verdict, JudgesBits, BitJudges}
 use Rattle.witness.proofs.JudgedLemmas.{judged_says, read_judged}
-use Rattle.witness.proofs.PieceLemmas.{decimal_without}
 use Rattle.witness.proofs.BitReadLemmas.{bits_are_a_line}
 use Rattle.witness.proofs.FrameLemmas.{bad_names, length-nodes}
 use Rattle.witness.proofs.ShapeLemmas.{length-places}

@@ -2,12 +2,13 @@
 use Rattle.std.proofs.Common.{◌≡◌, ℕ, ◌+◌, ◌<◌, ◌≤◌, ◌^◌, ◌==◌, nat_le, Bool, true, false, not, ◌&&◌, Some, None, List, [], ◌∷◌, ◌++◌, length, length-append, decimal, refl, sym, ap, ◌∙◌, arith}
 use Rattle.std.specs.Prelude.{if◌then◌else◌}
 use Rattle.std.specs.List.{list_all}
-use Rattle.std.proofs.lemmas.Bool.{and_from, and_parts, leb-true, le-leb, lt-leb}
+use Rattle.std.proofs.lemmas.Bool.{and_from, and_parts, leb-true, le-leb}
 use Rattle.std.proofs.lemmas.List.Folds.{list_all-append}
 use Rattle.base.specs.Decimals.{is_digit, are_digits}
 use Rattle.btor2.specs.Symbols.{is_printed, is_symbol}
+use Rattle.btor2.proofs.SymbolLemmas.{long_is_no_symbol}
+use Rattle.base.proofs.DecimalLemmas.{decimal_digits}
 use Rattle.witness.specs.Texts.{symbol_part}
-use Rattle.witness.proofs.PieceLemmas.{decimal_digits}
 use Rattle.lift.specs.Lifted.{at_frame, name_in_frame}
 
 -- ---- digits are printed
@@ -35,14 +36,6 @@ longer_symbol (b ∷ bs) more is printed fits =
     let all : list_all is_printed ((b ∷ bs) ++ more) ≡ true = list_all-append is_printed (b ∷ bs) more ∙ and_from (list_all is_printed (b ∷ bs)) (list_all is_printed more) rest.1 printed in
     let few : nat_le (length ((b ∷ bs) ++ more)) 255 ≡ true = le-leb (length ((b ∷ bs) ++ more)) 255 (omega (arith, fits, length-append (b ∷ bs) more)) in
     and_from (not (b == 59)) (nat_le (length ((b ∷ bs) ++ more)) 255 && list_all is_printed ((b ∷ bs) ++ more)) first.0 (and_from (nat_le (length ((b ∷ bs) ++ more)) 255) (list_all is_printed ((b ∷ bs) ++ more)) few all)
-
-long_is_no_symbol : (name : List ℕ) → 255 < length name → is_symbol name ≡ false
-long_is_no_symbol [] long = refl
-long_is_no_symbol (b ∷ bs) long = rw (lt-leb (length (b ∷ bs)) 255 long) (by (not (b == 59)))
-  where
-    by : (t : Bool) → (t && false) ≡ false
-    by true = refl
-    by false = refl
 
 -- ---- names in a frame
 

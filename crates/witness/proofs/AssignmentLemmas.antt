@@ -1,19 +1,20 @@
 -- Assignments: each has one line, and the line is read as the assignment.
-use Rattle.std.proofs.Common.{◌≡◌, ℕ, ◌<◌, ◌^◌, ◌==◌, nat_lt, nat_le, Bool, true, false, not, ◌&&◌, List, [], ◌∷◌, ◌++◌, Option, Some, None, Result, Ok, Err, IfSome, length, slice_index, decimal, codes, if◌then◌else◌, inl, inr, append_assoc, refl, sym, ap, ap₂, subst, ◌∙◌, arith}
-use Rattle.std.specs.List.{list_any, list_all}
+use Rattle.std.proofs.Common.{◌≡◌, ℕ, ◌<◌, ◌^◌, ◌==◌, nat_lt, nat_le, Bool, true, false, List, [], ◌∷◌, ◌++◌, Option, Some, None, Result, Ok, Err, IfSome, length, slice_index, decimal, codes, if◌then◌else◌, inl, inr, append_assoc, refl, sym, ap, ap₂, subst, ◌∙◌, arith}
+use Rattle.std.specs.List.{list_any}
 use Rattle.std.specs.Str.{bytes_eq}
 use Rattle.std.proofs.lemmas.Bool.{or_from, and_parts, ltb-true, lt-ltb, ne_eqb, leb-true}
 use Rattle.std.proofs.lemmas.List.Folds.{list_any-append}
 use Rattle.std.proofs.lemmas.Fmt.{decimal_nonempty}
 use Rattle.base.specs.Decimals.{is_digit, are_digits, number_of}
 use Rattle.base.specs.Lines.{IsLine}
-use Rattle.base.proofs.DecimalLemmas.{digit_range, chosen, number_is_decimal, number_of-decimal}
+use Rattle.base.proofs.DecimalLemmas.{digit_range, chosen, number_is_decimal, number_of-decimal, decimal_digits, decimal_without, digits_without, none_of}
 use Rattle.btor2.specs.Symbols.{is_printed, is_symbol}
+use Rattle.btor2.proofs.SymbolLemmas.{symbol_printed}
 use Rattle.witness.specs.declared.why.Why.{Why}
 use Rattle.witness.specs.declared.why.Why.TheVariants as why
 use Rattle.witness.specs.Texts.{Shape, Assignment, binary, symbol_part, assignment_line, claim, claims_line, IsAssignment}
 use Rattle.witness.specs.Admits.{cut_at_space, value_of, with_symbol, with_value, with_index, assignment_at, may_name, state_assignment_at, begins_part}
-use Rattle.witness.proofs.PieceLemmas.{none_of, digits_without, decimal_digits, decimal_without, binary_digits, cut_at_space-parts, parts_of_cut, value_of-binary, IsBinary, value_is_binary}
+use Rattle.witness.proofs.PieceLemmas.{binary_digits, cut_at_space-parts, parts_of_cut, value_of-binary, IsBinary, value_is_binary}
 use Rattle.witness.proofs.ClaimLemmas.{AreBelow}
 
 -- the test that an index stands among some assignments
@@ -161,10 +162,7 @@ without x front back f b = list_any-append (λ c. c == x) front back ∙ or_from
 
 pub name_is_line : (name : Option (List ℕ)) → IsName name → IsLine (symbol_part name)
 name_is_line None is = refl
-name_is_line (Some []) is = absurd (cc)
-name_is_line (Some (b ∷ bs)) is =
-    let parts = and_parts (nat_le (length (b ∷ bs)) 255) (list_all is_printed (b ∷ bs)) (and_parts (not (b == 59)) (nat_le (length (b ∷ bs)) 255 && list_all is_printed (b ∷ bs)) is).1 in
-    none_of is_printed 10 (b ∷ bs) (λ c printed. ne_eqb c 10 (λ e. let least = leb-true 33 c (and_parts (nat_le 33 c) (nat_le c 126) printed).0 in omega arith)) parts.1
+name_is_line (Some name) is = none_of is_printed 10 name (λ c printed. ne_eqb c 10 (λ e. let least = leb-true 33 c (and_parts (nat_le 33 c) (nat_le c 126) printed).0 in omega arith)) (symbol_printed name is)
 
 -- the line of an assignment has no byte 10
 pub assignment_line_is_line : (widths : List ℕ) (a : Assignment) → length widths < 2 ^ 64 → IsAssignment widths a → IsLine (assignment_line widths a)

@@ -9,7 +9,7 @@ use Rattle.std.proofs.lemmas.Result.{IfOk-at_ok}
 use Rattle.std.proofs.lemmas.List.Elements.{recursion_from_All, All-push, All-nil, All-from_recursion}
 use Rattle.base.specs.Lines.{text_of_lines, IsLine, whole_lines, unfinished}
 use Rattle.base.proofs.LineLemmas.{EachLine, lines_of_text, unfinished_of_text, parts_of_text}
-use Rattle.base.proofs.DecimalLemmas.{chosen, number_of-decimal}
+use Rattle.base.proofs.DecimalLemmas.{chosen, number_of-decimal, decimal_without}
 use Rattle.aiger.specs.declared.circuit.Latch.{Latch}
 use Rattle.aiger.specs.declared.circuit.Reset.{Reset}
 use Rattle.aiger.specs.declared.circuit.Reset.TheVariants.{Zero, One, Free}
@@ -23,7 +23,7 @@ use Rattle.witness.specs.BitTexts.{BitWitness, bit_line, bit_witness_lines, IsBi
 use Rattle.witness.specs.BitAdmits.{judged_claim, claim_at, bits_at, BitPlace, AtClaim, AtInitial, AtFirst, AtLater, AtDone, BitRead, no_line_read, after_claim, after_initial, after_frame, bit_admit, is_done, bit_reader, read_bit_text, bit_witness_of, AtHeader, bit_admit_at, admitted_lines}
 use Rattle.witness.specs.BitJudgements.{differs_from_reset, first_reset_differing, makes_no_bit_claim}
 use Rattle.witness.proofs.ReadingLemmas.{by_test, admit_all, admit_parts, admitted, stopped, stays, text_is_read, text_was_read, Ends, no_more_lines, one_line, more_lines, Begins, admitted_begins, before_begins, none_begins, beginning_is_admitted as reading_is_admitted}
-use Rattle.witness.proofs.PieceLemmas.{decimal_without, digits_are_values, digits_determine, bits_of_digits, digits_of_bits}
+use Rattle.witness.proofs.PieceLemmas.{digits_are_values, digits_determine, bits_of_digits, digits_of_bits}
 use Rattle.witness.proofs.ClaimLemmas.{piece_is_claim}
 use Rattle.witness.specs.Beginnings.{IsBitBeginning}
 use Rattle.witness.specs.declared.why.Why.TheVariants as why

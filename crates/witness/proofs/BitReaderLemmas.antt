@@ -3,10 +3,11 @@ use Rattle.std.proofs.Common.{◌≡◌, ℕ, ◌==◌, true, false, ◌&&◌, L
 use Rattle.std.specs.List.{list_all}
 use Rattle.std.specs.Str.{bytes_eq}
 use Rattle.std.proofs.lemmas.Bool.{and_parts, eqb-true}
+use Rattle.base.proofs.DecimalLemmas.{none_of}
 use Rattle.witness.specs.BitAdmits.{bits_at, AtClaim, AtInitial, AtFirst, AtLater, AtDone, BitRead, claim_at, after_frame, bit_admit}
 use Rattle.witness.specs.BitScans.{is_bit, is_one_bit}
 use Rattle.witness.proofs.BitReadLemmas.{bits_are_no_end, claim_is_line, bits_are_line}
-use Rattle.witness.proofs.PieceLemmas.{none_of, digits_of_bits}
+use Rattle.witness.proofs.PieceLemmas.{digits_of_bits}
 use Rattle.witness.proofs.WordValueLemmas.{known_not_x, known_are_values}
 use Rattle.std.proofs.lemmas.List.{length-map, length-replicate}
 use Rattle.std.proofs.Math.Seq.{take-length}

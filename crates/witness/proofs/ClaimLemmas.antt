@@ -4,11 +4,11 @@ use Rattle.std.specs.List.{list_any, list_all, AllByRecursion}
 use Rattle.std.proofs.lemmas.Bool.{or_parts, and_parts, and_from, eqb-true, ltb-true, lt-ltb}
 use Rattle.std.proofs.lemmas.Result.{IfOk-at_ok}
 use Rattle.base.specs.Decimals.{number_of}
-use Rattle.base.proofs.DecimalLemmas.{chosen, number_is_decimal, number_of-decimal}
+use Rattle.base.proofs.DecimalLemmas.{chosen, number_is_decimal, number_of-decimal, decimal_without}
 use Rattle.witness.specs.Texts.{claim, claims_line, are_distinct}
 use Rattle.witness.specs.Admits.{between_spaces, Claim, claim_with, claim_of, with_claim, claims_of, judged_claims, claims_at}
 use Rattle.witness.proofs.ReadingLemmas.{by_test}
-use Rattle.witness.proofs.PieceLemmas.{decimal_without, between_spaces-last, between_spaces-more, with_spaces, some_piece, parts_of_line}
+use Rattle.witness.proofs.PieceLemmas.{between_spaces-last, between_spaces-more, with_spaces, some_piece, parts_of_line}
 
 -- each claim is below the number of bad properties
 abbrev pub AreBelow : ℕ → List ℕ → Type 0

@@ -1,13 +1,13 @@
 -- A whole line of a witness over a model that is none of the claims is admitted as its first 342 bytes are, or refused for the same why.
-use Rattle.std.proofs.Common.{◌≡◌, ℕ, zero, suc, ◌+◌, ◌-◌, ◌<◌, ◌≤◌, ◌^◌, ◌==◌, nat_lt, nat_le, Bool, true, false, not, ◌&&◌, ◌||◌, cond, List, [], ◌∷◌, ◌++◌, Option, Some, None, Result, Ok, Err, length, take, slice_index, codes, decimal, refl, sym, ap, ap₂, ◌∙◌, inl, inr, arith}
+use Rattle.std.proofs.Common.{◌≡◌, ℕ, zero, suc, ◌+◌, ◌-◌, ◌<◌, ◌≤◌, ◌^◌, ◌==◌, nat_lt, Bool, true, false, not, ◌&&◌, ◌||◌, cond, List, [], ◌∷◌, ◌++◌, Option, Some, None, Result, Ok, Err, length, take, slice_index, codes, decimal, refl, sym, ap, ap₂, ◌∙◌, inl, inr, arith}
 use Rattle.std.specs.List.{list_any}
 use Rattle.std.specs.Str.{bytes_eq}
-use Rattle.std.proofs.lemmas.Bool.{cases_Bool, cases_lt, false_from_ne_true, leb-true, ltb-true}
+use Rattle.std.proofs.lemmas.Bool.{cases_Bool, cases_lt, false_from_ne_true, ltb-true}
 use Rattle.std.proofs.lemmas.List.{take_all, take-take, length-take-le}
 use Rattle.std.proofs.lemmas.Fmt.{length-decimal-le}
 use Rattle.base.specs.Decimals.{number_of}
 use Rattle.base.proofs.DecimalLemmas.{number_is_decimal}
-use Rattle.btor2.specs.Symbols.{is_symbol}
+use Rattle.btor2.proofs.SymbolLemmas.{long_is_no_symbol}
 use Rattle.btor2.specs.declared.item.Item.{Item}
 use Rattle.witness.specs.declared.why.Why.{Why}
 use Rattle.witness.specs.declared.why.Why.TheVariants as why
@@ -17,7 +17,6 @@ use Rattle.witness.specs.Admits.{Cut, to_front, cut_at_space, value_of, with_sym
 use Rattle.witness.specs.KeptLines.{kept, AreAlike, IsSmall, AreSmall}
 use Rattle.witness.specs.WordStands.{WordReader, GivesLine, is_alone}
 use Rattle.witness.proofs.WordValueLemmas.{other_length}
-use Rattle.std.proofs.Math.Bool.{and-false}
 
 -- ---- more bytes
 
@@ -92,15 +91,9 @@ tokens (suc n) (b ∷ line) =
 
 -- ---- a name
 
-no_symbol : (name : List ℕ) → 255 < length name → is_symbol name ≡ false
-no_symbol [] long = absurd (omega (arith, long))
-no_symbol (b ∷ name) long =
-    let past : nat_le (length (b ∷ name)) 255 ≡ false = false_from_ne_true (nat_le (length (b ∷ name)) 255) (λ e. let below = leb-true (length (b ∷ name)) 255 e in omega (arith, below, long)) in
-    rw past (and-false (not (b == 59)))
-
 two_long_names : (before : List Assignment) (i : ℕ) (name other : List ℕ) (value : Result ℕ Why) → 255 < length name → 255 < length other → with_symbol before i (Some name) value ≡ with_symbol before i (Some other) value
 two_long_names before i name other (Err w) long as_long = refl
-two_long_names before i name other (Ok x) long as_long = rw (no_symbol name long, no_symbol other as_long) refl
+two_long_names before i name other (Ok x) long as_long = rw (long_is_no_symbol name long, long_is_no_symbol other as_long) refl
 
 name_kept : (before : List Assignment) (i n : ℕ) (name : List ℕ) (value : Result ℕ Why) → 255 < n → with_symbol before i (Some (take n name)) value ≡ with_symbol before i (Some name) value
 name_kept before i n name value room =

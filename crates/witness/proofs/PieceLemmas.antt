@@ -1,40 +1,15 @@
 -- Pieces of lines: what stands between spaces, and the digits of words.
-use Rattle.std.proofs.Common.{◌≡◌, ℕ, ◌<◌, ◌^◌, ◌==◌, Bool, true, false, ◌&&◌, List, [], ◌∷◌, ◌++◌, Option, Some, None, Ok, length, map, reverse, decimal, inl, inr, refl, sym, ap, subst, ◌∙◌, arith}
+use Rattle.std.proofs.Common.{◌≡◌, ℕ, ◌<◌, ◌^◌, ◌==◌, Bool, true, false, ◌&&◌, List, [], ◌∷◌, ◌++◌, Option, Some, None, Ok, length, map, reverse, inl, inr, refl, sym, ap, subst, ◌∙◌}
 use Rattle.std.specs.List.{list_any, list_all}
-use Rattle.std.proofs.lemmas.Bool.{cases_Bool, and_parts, and_from, or_from, or_parts, eqb-true, eq-eqb, ne_eqb, cases_eq}
+use Rattle.std.proofs.lemmas.Bool.{cases_Bool, and_parts, and_from, or_parts, eqb-true, eq-eqb, ne_eqb, cases_eq}
 use Rattle.std.proofs.lemmas.List.{length-map, length-reverse, reverse-reverse}
 use Rattle.base.specs.Word.{word, bits}
-use Rattle.base.specs.Decimals.{is_digit, are_digits, is_decimal, capped_value, number_of}
-use Rattle.base.proofs.DecimalLemmas.{digit_range, chosen, decimal_are_digits, number_of-decimal}
+use Rattle.base.specs.Decimals.{are_digits}
 use Rattle.base.proofs.BitLemmas.{length-bits, word_below, word-bits, bits-word_of_length}
 use Rattle.witness.specs.Texts.{digit, binary, symbol_part}
 use Rattle.std.proofs.lemmas.Result.{IfOk-at_ok}
 use Rattle.witness.proofs.ReadingLemmas.{by_test}
 use Rattle.witness.specs.Admits.{to_front, cut_at_space, to_first, between_spaces, is_value_byte, value_of}
-
--- bytes of a kind that x is not of
-pub none_of : (p : ℕ → Bool) (x : ℕ) (bytes : List ℕ) → ((b : ℕ) → p b ≡ true → (b == x) ≡ false) → list_all p bytes ≡ true → list_any (λ b. b == x) bytes ≡ false
-none_of p x [] apart all = refl
-none_of p x (b ∷ bs) apart all =
-    let parts = and_parts (p b) (list_all p bs) all in
-    or_from (b == x) (list_any (λ c. c == x) bs) (apart b parts.0) (none_of p x bs apart parts.1)
-
--- a byte below the digits is none of some digits
-pub digits_without : (x : ℕ) (bytes : List ℕ) → x < 48 → are_digits bytes ≡ true → list_any (λ b. b == x) bytes ≡ false
-digits_without x bytes small all =
-    none_of is_digit x bytes (λ b is. ne_eqb b x (λ e. let range = digit_range b is in omega arith)) all
-
--- a decimal's bytes are digits
-pub decimal_digits : (n : ℕ) → n < 2 ^ 64 → are_digits (decimal n) ≡ true
-unfolding number_of
-decimal_digits n lt =
-    elim (chosen (is_decimal (decimal n)) (Some (capped_value (decimal n))) None (Some n) (number_of-decimal n lt)) [
-      | inl e ↦ decimal_are_digits (decimal n) e.0
-      | inr e ↦ absurd (cc (e.1))
-    ]
-
-pub decimal_without : (x n : ℕ) → x < 48 → n < 2 ^ 64 → list_any (λ b. b == x) (decimal n) ≡ false
-decimal_without x n small lt = digits_without x (decimal n) small (decimal_digits n lt)
 
 -- ---- what stands before the first space
 

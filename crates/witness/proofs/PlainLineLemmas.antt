@@ -1,23 +1,24 @@
 -- A plain line at the front of a text, digit by digit and part by part.
-use Rattle.std.proofs.Common.{◌≡◌, ◌⊎◌, ℕ, zero, suc, ◌+◌, ◌-◌, ◌*◌, ◌/◌, ◌%◌, ◌<◌, ◌≤◌, ◌^◌, ◌==◌, Bool, true, false, List, [], ◌∷◌, ◌++◌, Option, Some, None, IfSome, length, map, reverse, get_or, slice_index, take, drop, decimal, append_assoc, length-append, inl, inr, refl, sym, ap, ap₂, subst, ◌∙◌, arith, not, ◌&&◌, nat_le, MatchOption, slice_get, ◌≢◌}
+use Rattle.std.proofs.Common.{◌≡◌, ◌⊎◌, ℕ, zero, suc, ◌+◌, ◌-◌, ◌*◌, ◌/◌, ◌%◌, ◌<◌, ◌≤◌, ◌^◌, ◌==◌, Bool, true, false, List, [], ◌∷◌, ◌++◌, Option, Some, None, IfSome, length, map, reverse, get_or, slice_index, take, drop, decimal, append_assoc, length-append, inl, inr, refl, sym, ap, ap₂, subst, ◌∙◌, arith, MatchOption, slice_get, ◌≢◌}
 use Rattle.std.specs.List.{list_any, list_all}
 use Rattle.std.proofs.Math.Nat.{pow-suc, pow-le-pow_right}
 use Rattle.std.proofs.lemmas.Bool.{cases_Bool, cases_lt, eqb-false, or_parts, and_parts, and_from}
 use Rattle.std.proofs.lemmas.Fmt.{decimal_digit, decimal_step, decimal_nonempty, first_decimal, length-decimal-le, decimal_injective}
-use Rattle.std.proofs.lemmas.List.{take_more, get_or-take, get_or_at, get_or_append_left, length-take, length-map, length-reverse, take-append-le, drop-append-le, take_all, drop_all, take-append-drop}
+use Rattle.std.proofs.lemmas.List.{take_more, get_or-take, get_or_at, get_or_append_left, length-take, length-map, length-reverse, take-append-le, drop-append-le, take_all, drop_all}
 use Rattle.std.proofs.lemmas.List.Folds.{list_all_at, list_all-append}
 use Rattle.base.specs.Decimals.{is_digit}
 use Rattle.base.specs.Lines.{HasNone}
 use Rattle.base.specs.Word.{bits}
 use Rattle.base.proofs.BitLemmas.{length-bits}
-use Rattle.base.proofs.DecimalLemmas.{digit_range}
+use Rattle.base.proofs.DecimalLemmas.{digit_range, decimal_digits, decimal_without}
 use Rattle.btor2.specs.Symbols.{is_symbol, is_printed}
+use Rattle.btor2.proofs.SymbolLemmas.{symbol_printed}
 use Rattle.witness.specs.Texts.{digit, binary, symbol_part}
 use Rattle.witness.specs.Fits.{is_set}
 use Rattle.witness.specs.BitScans.{is_bit}
 use Rattle.witness.specs.WordValues.{IsKnown}
 use Rattle.witness.specs.PlainLines.{NoNumber, BeginsName, IsFirstOther, NoName, BeginsWord, BeginsAssignment}
-use Rattle.witness.proofs.PieceLemmas.{decimal_digits, decimal_without, IsBinary, value_is_binary}
+use Rattle.witness.proofs.PieceLemmas.{IsBinary, value_is_binary}
 use Rattle.witness.proofs.WordValueLemmas.{value_known}
 use Rattle.std.proofs.Math.Seq.{take-append_seam}
 use Rattle.std.proofs.lemmas.Option.{slice_get-get_or}
@@ -178,18 +179,6 @@ module _ (text behind : List ℕ) (first : ℕ) (whole : text ≡ first ∷ behi
 
 -- ---- a name
 
-name_bytes : (name : List ℕ) → is_symbol name ≡ true → list_all is_printed name ≡ true
-name_bytes [] h = absurd cc
-name_bytes (b ∷ name) h = (and_parts (nat_le (length (b ∷ name)) 255) (list_all is_printed (b ∷ name)) (and_parts (not (b == 59)) (nat_le (length (b ∷ name)) 255 && list_all is_printed (b ∷ name)) h).1).1
-
--- eight bytes in front of others
-pub eight_front : (eight behind rest : List ℕ) → eight ≡ take 8 rest → behind ≡ drop 8 rest → rest ≡ eight ++ behind
-eight_front eight behind rest first others = sym (ap₂ (λ (l r : List ℕ). l ++ r) first others ∙ take-append-drop 8 rest)
-
--- one byte alone
-pub one_printed : (b : ℕ) → is_printed b ≡ true → list_all is_printed (b ∷ []) ≡ true
-one_printed b is = and_from (is_printed b) true is refl
-
 -- more bytes of names in front of the rest
 pub printed_behind : (text front more behind rest : List ℕ) → text ≡ front ++ rest → list_all is_printed front ≡ true → rest ≡ more ++ behind → list_all is_printed more ≡ true
     → (all : List ℕ) × ((text ≡ all ++ behind) × (list_all is_printed all ≡ true))
@@ -223,20 +212,12 @@ name_there text rest begins =
       | inr parts ↦ (parts.0, (tail_same 32 32 text (parts.0 ++ 10 ∷ rest) parts.1.0, parts.1.1))
     ]
 
--- no name ends where all bytes are those of names
-pub no_name : (text : List ℕ) → list_all is_printed text ≡ true → NoName (32 ∷ text)
-no_name text all rest begins =
-    let there = name_there text rest begins in
-    let front : List ℕ = there.0 in
-    let both = and_parts (list_all is_printed front) (list_all is_printed (10 ∷ rest)) (sym (list_all-append is_printed front (10 ∷ rest)) ∙ (ap (list_all is_printed) (sym there.1.0) ∙ all)) in
-    absurd (cc both.1)
-
 -- what stands in front of the first byte that is none of a name, and behind
 module _ (text rest : List ℕ) (count byte : ℕ) (first : IsFirstOther text count byte rest) where
   pub ends_line : (others : List ℕ) → BeginsName (32 ∷ text) others → (byte ≡ 10) × (is_symbol first.front ≡ true)
   ends_line others begins =
       let there = name_there text others begins in
-      let one = one_other first.front there.0 rest others byte first.printed (name_bytes there.0 there.1.1) first.other (sym first.is ∙ there.1.0) in
+      let one = one_other first.front there.0 rest others byte first.printed (symbol_printed there.0 there.1.1) first.other (sym first.is ∙ there.1.0) in
       (one.1, ap is_symbol one.0 ∙ there.1.1)
 
   pub front_is : (front : List ℕ) → front ≡ take count text → front ≡ first.front

@@ -9,13 +9,13 @@ use Rattle.std.proofs.lemmas.List.{append-nil, map-append}
 use Rattle.std.proofs.lemmas.List.Elements.{All-weaker, recursion_from_All}
 use Rattle.std.proofs.lemmas.List.Folds.{list_any-append}
 use Rattle.std.proofs.lemmas.Slice.Eq.{bytes_eq-Decides}
+use Rattle.base.proofs.DecimalLemmas.{decimal_without}
 use Rattle.witness.specs.Texts.{Shape, has_free, Assignment, Parts, assignment_line, assignment_lines, states_lines, frame_lines, is_comment, are_distinct, IsAssignment, IsPart, IsFreePart, IsLater, Witness, claims_line, witness_lines, IsFirst, AreFrames, IsWitness, most_lines, Says}
 use Rattle.witness.specs.Admits.{assignment_at, may_name, state_assignment_at, claims_at, AtStatus, AtClaims, AtParts, InStates, InFrame, AtEnd, Read, nothing_read, states_closed, frame_closed, admit, word_reader, read_text}
 use Rattle.witness.proofs.ReadingLemmas.{admit_all, admitted, text_is_read}
 use Rattle.witness.proofs.AssignmentLemmas.{stands_in, assignment_at-assignment_line, state_assignment_at-assignment_line, IsPlain, assignment_line_is_plain, assignment_line_is_line, claims_line_is_line}
 use Rattle.base.specs.Lines.{IsLine, whole_lines, unfinished}
 use Rattle.base.proofs.LineLemmas.{EachLine, lines_of_text, unfinished_of_text}
-use Rattle.witness.proofs.PieceLemmas.{decimal_without}
 use Rattle.witness.proofs.ClaimLemmas.{claims_at-claims_line}
 
 -- the decimals of a model's properties, states and inputs can be read

@@ -9,6 +9,7 @@ use Rattle.std.proofs.lemmas.Slice.Eq.{bytes_eq-Decides}
 use Rattle.std.proofs.lemmas.Result.{IfOk-at_ok}
 use Rattle.base.specs.Lines.{IsLine, text_of_lines, whole_lines, unfinished}
 use Rattle.base.proofs.LineLemmas.{EachLine, each_front, lines_are_lines, parts_of_text}
+use Rattle.base.proofs.DecimalLemmas.{decimal_without}
 use Rattle.witness.specs.declared.why.Why.{Why}
 use Rattle.witness.specs.Texts.{Shape, is_free_index, has_free, Assignment, Parts, Witness, assignment_line, assignment_lines, claims_line, states_lines, frame_lines, is_comment, are_distinct, IsAssignment, IsPart, IsFreePart, IsLater, AreFrames, most_lines, Says}
 use Rattle.witness.specs.Admits.{Place, AtStatus, AtClaims, AtParts, InStates, InFrame, AtEnd, begins_part, opens_frame, opens_states, assignment_at, may_name, state_assignment_at, after_assignment, claims_at, after_claims, states_closed, frame_closed, Read, nothing_read, admit_at, admit, is_at_end, word_reader, read_text, witness_of}
@@ -19,7 +20,6 @@ use Rattle.witness.proofs.ReadingLemmas.{by_test, admit_all, admit_parts, text_w
 use Rattle.witness.proofs.ReadLemmas.{IsSmall, indices, stands_in-indices, distinct_with, parts_of, in_states, in_frame, IsStates, later_states, frame_lines-behind, all_read, says_read, status_line, line_of_claims, frames_begin, states_end, last_line, frames_have_lines}
 use Rattle.witness.specs.Beginnings.{IsBeginning}
 use Rattle.witness.specs.ClosedWords.{admitted_word_lines}
-use Rattle.witness.proofs.PieceLemmas.{decimal_without}
 
 -- ---- parts and frames with one more
 

@@ -269,7 +269,6 @@ impl<'a> WordJudge<'a> {
     pub fn admitted_lines(&self) -> u64
         ensures { (items : List Item) (text : List ℕ) → StandsFor items self.now text → result ≡ admitted_word_lines (shape_of items) text }
     {
-        let lines = self.admitted;
-        lines
+        self.admitted
     }
 }

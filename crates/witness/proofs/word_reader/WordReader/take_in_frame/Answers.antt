@@ -1,13 +1,13 @@
 use Rattle.std.proofs.Common.{◌≡◌, ℕ, suc, ◌+◌, ◌<◌, ◌^◌, ◌&&◌, Bool, List, Ok, length, decimal, ap, subst, sym, ◌∙◌, arith, ◌∷◌, ◌++◌, refl}
 use Rattle.std.proofs.lemmas.Slice.Eq.{bytes_eq-Decides}
 use Rattle.btor2.specs.Items.{is_input}
+use Rattle.base.proofs.DecimalLemmas.{decimal_without}
 use Rattle.witness.specs.declared.word_reader.Place.{Place as CodePlace}
 use Rattle.witness.specs.Texts.{widths_of, assignment_line}
 use Rattle.witness.specs.Admits.{opens_frame}
 use Rattle.witness.specs.PlainLines.{NoAssignment}
 use Rattle.witness.specs.WordPlays.{WordPlay}
 use Rattle.witness.specs.WordStands.{WordReader, is_alone, is_status, place_of}
-use Rattle.witness.proofs.PieceLemmas.{decimal_without}
 use Rattle.witness.proofs.AssignmentLemmas.{IsPlain, assignment_line_is_line, assignment_line_is_plain}
 use Rattle.witness.proofs.WordReaderLemmas.{frames_are, next_frame, input_more}
 use Rattle.witness.proofs.word_reader.WordReader.take_in_frame.Goals as goal
