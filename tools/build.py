@@ -45,7 +45,8 @@ def below(crate, libraries):
 
 def size(crate):
     """How many bytes the sources, definitions and proofs of a crate have, which its time goes by."""
-    return sum(it.stat().st_size for it in (TOP / "crates" / crate).rglob("*") if it.suffix in (".rt", ".antt"))
+    parts = [TOP / "crates" / crate / it for it in ("src", "specs", "proofs")]
+    return sum(it.stat().st_size for part in parts for it in part.rglob("*") if it.is_file())
 
 
 def heights(wanted, libraries):
