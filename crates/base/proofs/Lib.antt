@@ -1,4 +1,5 @@
 pub mod BitLemmas
+mod CounterLemmas
 pub mod DeviceLemmas
 pub mod PieceLemmas
 pub mod DivisionLemmas

@@ -1,6 +1,7 @@
 //! Words and their operators, steps, the devices that bytes come from and go to, and lines and decimals of a text.
 #![tactic(auto)]
 
+mod counter;
 mod decimals;
 mod device;
 mod divisions;
@@ -20,6 +21,7 @@ mod trials;
 mod width;
 mod words;
 
+pub use counter::Counter;
 pub use decimals::decimal;
 pub use device::DeviceFault;
 pub use line_reader::LineReader;

@@ -35,6 +35,7 @@ pub fn unary(op: Unary, w: Width, a: u64, tally: &mut Tally) -> u64
 ///
 /// Conditions: `a` and `b` are below 2 to the `w`. (`Iff` and `Implies` are of single bits in a model; here they
 /// compare words of any width.)
+#[inline(always)]
 pub fn binary(op: Binary, w: Width, a: u64, b: u64, tally: &mut Tally) -> u64
     requires left { a < 2 ^ w }
     requires right { b < 2 ^ w }
