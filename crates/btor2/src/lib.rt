@@ -17,4 +17,4 @@ pub use item::{Body, Item};
 pub use leaves::Leaves;
 pub use model::Model;
 pub use operands::Operands;
-pub use symbol::{Symbol, SymbolFault};
+pub use symbol::{Symbol, SymbolFault, printed_front};

@@ -1,6 +1,6 @@
 //! Names of items, and why bytes are none.
-ghost use Rattle.std.specs.Prelude.{◌≡◌, List, ℕ, true, false, IfOk, IsErrOf, ◌↔◌};
-ghost use Rattle.std.specs.List.{list_all};
+ghost use Rattle.std.specs.Prelude.{◌≡◌, ◌+◌, ◌<◌, ◌≤◌, List, ℕ, true, false, length, slice_index, IfOk, IsErrOf, ◌↔◌};
+ghost use Rattle.std.specs.List.{list_all, prefix_len};
 ghost use Rattle.btor2.specs.Symbols.{is_symbol, is_printed};
 ghost use Rattle.btor2.specs.Faults.{symbol_fault_number, symbol_fault_name};
 
@@ -8,6 +8,7 @@ use crate::name_bytes::NameBytes;
 use std::alloc::{AllocError, Global};
 use std::fmt;
 use std::marker::Model;
+use std::simd::prelude::*;
 use thiserror::Error;
 
 /// The name of an item: 1 to 255 bytes from 33 to 126, of which the first is not `;`. It is held in one word, since most
@@ -34,11 +35,56 @@ pub enum SymbolFault {
     NoMemory,
 }
 
-/// Whether each byte is from 33 to 126.
+/// Whether a byte is one of a name.
+fn is_printed(byte: u8) -> bool
+    ensures { result ≡ is_printed byte }
+{
+    b'!' <= byte && byte <= b'~'
+}
+
+/// How many bytes are tested at once.
+const LANES: usize = 16;
+
+/// How many of sixteen bytes of a text, from a place on, stand in front of the first that is none of a name.
+#[inline(always)]
+fn printed_lanes(text: &[u8], at: usize) -> usize
+    requires { at + 16 ≤ length text.now }
+    ensures few { result ≤ 16 }
+    ensures printed { (k : ℕ) → at ≤ k → k < at + result → is_printed (slice_index text.now k) ≡ true }
+    ensures stops { result < 16 → is_printed (slice_index text.now (at + result)) ≡ false }
+{
+    let above = u8x16::from_slice(&text[at..]) - u8x16::splat(b'!');
+    let others = above.simd_ge(u8x16::splat(94)).to_bitmask();
+    if others == 0 {
+        return LANES;
+    }
+    others.trailing_zeros() as usize
+}
+
+/// How many bytes of names, which are from 33 to 126, stand at the front of a text. Sixteen are tested at a time.
+#[inline(always)]
+pub fn printed_front(text: &[u8]) -> usize
+    ensures { result ≡ prefix_len is_printed text.now }
+{
+    let mut at = 0;
+    while text.len() - at >= LANES {
+        let count = printed_lanes(text, at);
+        at += count;
+        if count < LANES {
+            return at;
+        }
+    }
+    while at < text.len() && is_printed(text[at]) {
+        at += 1;
+    }
+    at
+}
+
+/// Whether all bytes are those of names.
 fn all_printed(bytes: &[u8]) -> bool
     ensures { result ≡ list_all is_printed bytes.now }
 {
-    bytes.iter().all(|b| 33 <= *b && *b <= 126)
+    printed_front(bytes) == bytes.len()
 }
 
 /// These bytes, in memory of their own.
