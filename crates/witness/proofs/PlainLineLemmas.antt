@@ -1,11 +1,12 @@
 -- A plain line at the front of a text, digit by digit and part by part.
 use Rattle.std.proofs.Common.{◌≡◌, ◌⊎◌, ℕ, zero, suc, ◌+◌, ◌-◌, ◌*◌, ◌/◌, ◌%◌, ◌<◌, ◌≤◌, ◌^◌, ◌==◌, Bool, true, false, List, [], ◌∷◌, ◌++◌, Option, Some, None, IfSome, length, map, reverse, get_or, slice_index, take, drop, decimal, append_assoc, length-append, inl, inr, refl, sym, ap, ap₂, subst, ◌∙◌, arith, MatchOption, slice_get, ◌≢◌}
-use Rattle.std.specs.List.{list_any, list_all}
+use Rattle.std.specs.List.{list_any, list_all, prefix_len}
+use Rattle.std.proofs.lemmas.List.Sums.{prefix_len-le-length, prefix_len_passes, prefix_len_stops, list_all-from_AllPass}
 use Rattle.std.proofs.Math.Nat.{pow-suc, pow-le-pow_right}
-use Rattle.std.proofs.lemmas.Bool.{cases_Bool, cases_lt, eqb-false, or_parts, and_parts, and_from}
+use Rattle.std.proofs.lemmas.Bool.{cases_Bool, cases_lt, eqb-false, or_parts, and_parts}
 use Rattle.std.proofs.lemmas.Fmt.{decimal_digit, decimal_step, decimal_nonempty, first_decimal, length-decimal-le, decimal_injective}
-use Rattle.std.proofs.lemmas.List.{take_more, get_or-take, get_or_at, get_or_append_left, length-take, length-map, length-reverse, take-append-le, drop-append-le, take_all, drop_all}
-use Rattle.std.proofs.lemmas.List.Folds.{list_all_at, list_all-append}
+use Rattle.std.proofs.lemmas.List.{take_more, get_or-take, get_or_at, get_or_append_left, length-take, length-take-le, length-drop, length-map, length-reverse, take-append-le, take-append-drop, drop-append-le, take_all, drop_all}
+use Rattle.std.proofs.lemmas.List.Folds.{list_all_at}
 use Rattle.base.specs.Decimals.{is_digit}
 use Rattle.base.specs.Lines.{HasNone}
 use Rattle.base.specs.Word.{bits}
@@ -179,16 +180,36 @@ module _ (text behind : List ℕ) (first : ℕ) (whole : text ≡ first ∷ behi
 
 -- ---- a name
 
--- more bytes of names in front of the rest
-pub printed_behind : (text front more behind rest : List ℕ) → text ≡ front ++ rest → list_all is_printed front ≡ true → rest ≡ more ++ behind → list_all is_printed more ≡ true
-    → (all : List ℕ) × ((text ≡ all ++ behind) × (list_all is_printed all ≡ true))
-printed_behind text front more behind rest is all split printed = (
-  front ++ more,
-  (
-    is ∙ (ap (λ (l : List ℕ). front ++ l) split ∙ sym (append_assoc front more behind)),
-    list_all-append is_printed front more ∙ and_from (list_all is_printed front) (list_all is_printed more) all printed,
-  ),
-)
+-- the bytes in front of the first that is none of a name are those of names
+in_front : (text : List ℕ) → list_all is_printed (take (prefix_len is_printed text) text) ≡ true
+in_front text =
+    let n : ℕ = prefix_len is_printed text in
+    list_all-from_AllPass is_printed (take n text) (λ k d lt.
+    let inside : k < n = omega (arith, lt, length-take n text) in
+    ap is_printed (get_or-take n text k d inside) ∙ prefix_len_passes is_printed text k d inside)
+
+module _ (text others : List ℕ) (n : ℕ) (count : n ≡ prefix_len is_printed text) (behind : others ≡ drop n text) where
+  within : n ≤ length text
+  within = omega (arith, count, prefix_len-le-length is_printed text)
+
+  pub none_other : length others ≡ 0 → list_all is_printed text ≡ true
+  none_other none =
+      let all : take n text ≡ text = take_all n text (omega (arith, none, ap length behind, length-drop n text)) in
+      sym (ap (list_all is_printed) all) ∙ (ap (λ (m : ℕ). list_all is_printed (take m text)) count ∙ in_front text)
+
+  pub other_there : (end : ℕ) (rest : List ℕ) → others ≡ end ∷ rest → IsFirstOther text n end rest
+  other_there end rest split =
+      let is : text ≡ take n text ++ end ∷ rest = sym (take-append-drop n text) ∙ ap (λ (l : List ℕ). take n text ++ l) (sym behind ∙ split) in
+      let many : length (take n text) ≡ n = length-take-le n text within in
+      let short : prefix_len is_printed text < length text = omega (arith, count, many, ap length is, length-append (take n text) (end ∷ rest)) in
+      let there : get_or text n 0 ≡ end = ap (λ (l : List ℕ). get_or l n 0) is ∙ get_or_at (take n text) end rest 0 n many in
+      record {
+        front = take n text;
+        is = is;
+        printed = ap (λ (m : ℕ). list_all is_printed (take m text)) count ∙ in_front text;
+        other = ap is_printed (sym there) ∙ (ap (λ (m : ℕ). is_printed (get_or text m 0)) count ∙ prefix_len_stops is_printed text 0 short);
+        many = many;
+      }
 
 -- the first byte that is none of a name is at one place
 one_other : (front name r s : List ℕ) (b : ℕ) → list_all is_printed front ≡ true → list_all is_printed name ≡ true → is_printed b ≡ false → front ++ b ∷ r ≡ name ++ 10 ∷ s → (front ≡ name) × (b ≡ 10) × (r ≡ s)
@@ -226,10 +247,11 @@ module _ (text rest : List ℕ) (count byte : ℕ) (first : IsFirstOther text co
   pub begins_name : byte ≡ 10 → is_symbol first.front ≡ true → BeginsName (32 ∷ text) rest
   begins_name last symbol = record { symbol = Some first.front; is = ap (λ (t : List ℕ). 32 ∷ t) (first.is ∙ ap (λ (b : ℕ). first.front ++ b ∷ rest) last); valid = symbol }
 
--- another frame's line
-pub other_frame : (text behind rest others : List ℕ) (first n frame : ℕ) → n < 2 ^ 64 → frame < 10 ^ 19 → (n ≡ frame → ⊥) → text ≡ first ∷ behind → behind ≡ decimal n ++ 10 ∷ rest → text ≡ (64 ∷ decimal frame) ++ 10 ∷ others → ⊥
-other_frame text behind rest others first n frame small few other whole is begins =
-    other (same_number 10 n frame rest others (omega arith) small (omega (arith, few)) (sym is ∙ tail_same first 64 behind (decimal frame ++ 10 ∷ others) (sym whole ∙ begins))).0
+-- a line that goes on behind a frame's number
+pub longer_line : (digits text behind others rest : List ℕ) (first end : ℕ) → (end ≡ 10 → ⊥) → text ≡ first ∷ behind → behind ≡ digits ++ end ∷ others → text ≡ (64 ∷ digits) ++ 10 ∷ rest → ⊥
+longer_line digits text behind others rest first end other whole is begins =
+    let there = sym is ∙ tail_same first 64 behind (digits ++ 10 ∷ rest) (sym whole ∙ begins) in
+    other (sym (get_or_at digits end others 0 (length digits) refl) ∙ (ap (λ (l : List ℕ). get_or l (length digits) 0) there ∙ get_or_at digits 10 rest 0 (length digits) refl))
 
 -- the digits of a word, and what stands behind them
 length-binary : (width x : ℕ) → length (binary width x) ≡ width

@@ -181,7 +181,7 @@ fits_more shape (x ∷ frames) here fit = (fit.0, All-push (LaterFits shape) (fr
 pub record Closes (items : List Item) (settled : Run) (old new : WordPlay) : Type 0 where
   pub same : new.items ≡ items
   pub differs : (f : Frame) → IsNow settled f → new.differs ≡ cond (old.frames == 0) (first_different items f) old.differs
-  pub frames : new.frames ≡ min (old.frames + 1) (2 ^ 64 - 1)
+  pub frames : new.frames ≡ min (old.frames + 1) (2 ^ 64 - 2)
   pub run : new.run ≡ settled
   pub breach : (f : Frame) → IsNow settled f → new.breach ≡ option_or old.breach (violated_at old.frames (first_violated items f) None)
   pub rose : (f : Frame) → IsNow settled f → RisesIn (nodes_of is_bad items) f old.rose new.rose

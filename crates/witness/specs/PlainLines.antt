@@ -11,7 +11,7 @@ NoNumber end text = (n : ℕ) (rest : List ℕ) → n < 10 ^ 19 → text ≡ dec
 
 -- nor with the line that opens a frame
 abbrev pub NoFrameLine : ℕ → List ℕ → Type 0
-NoFrameLine frame text = (rest : List ℕ) → frame < 10 ^ 19 → text ≡ (64 ∷ decimal frame) ++ 10 ∷ rest → ⊥
+NoFrameLine frame text = (rest : List ℕ) → text ≡ (64 ∷ decimal frame) ++ 10 ∷ rest → ⊥
 
 -- a text begins with the end of a line, or with a space and a name and the end of the line
 pub record BeginsName (text rest : List ℕ) : Type 0 where

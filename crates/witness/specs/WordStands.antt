@@ -1,5 +1,5 @@
 -- What a judge of witnesses over a model holds, and which texts it stands for.
-use Rattle.std.specs.Prelude.{◌≡◌, ℕ, ◌+◌, ◌<◌, ◌^◌, ◌||◌, Bool, true, false, List, [], ◌∷◌, ◌++◌, None, Result, Ok, Err, codes, length, map}
+use Rattle.std.specs.Prelude.{◌≡◌, ℕ, suc, ◌<◌, ◌^◌, ◌||◌, Bool, true, false, List, [], ◌∷◌, ◌++◌, None, Result, Ok, Err, codes, length, map}
 use Rattle.std.specs.Str.{bytes_eq}
 use Rattle.base.specs.Lines.{IsLine}
 use Rattle.btor2.specs.declared.item.Item.{Item}
@@ -92,7 +92,7 @@ pub record TakesLine (old new : WordReader) (text rest : List ℕ) : Type 0 wher
 -- a text begins neither with the line of an assignment to an input that has no word in the open frame, nor with that which opens the next frame
 pub record NoPlainLine (q : WordReader) (text : List ℕ) : Type 0 where
   pub assignment : NoAssignment (widths_of is_input q.play.items) q.play.inputs_given text
-  pub opening : NoFrameLine (q.play.frames + 1) text
+  pub opening : NoFrameLine (suc q.play.frames) text
 
 -- the frames that are closed, and the steps that they took
 pub record Counts (items : List Item) (p : WordPlay) (r : Read) : Type 0 where

@@ -1,5 +1,5 @@
 //! A plain line of a witness over a model at the front of a text, read in one pass up to its end.
-ghost use Rattle.std.specs.Prelude.{◌≡◌, ◌≢◌, ◌<◌, ◌^◌, ◌∷◌, ◌++◌, MatchOption, Some, decimal, length, slice_get, take, true};
+ghost use Rattle.std.specs.Prelude.{◌≡◌, ◌≢◌, ◌<◌, ◌^◌, ◌∷◌, ◌++◌, MatchOption, Some, suc, decimal, length, slice_get, take, true};
 ghost use Rattle.std.specs.List.{list_all};
 ghost use Rattle.btor2.specs.Symbols.{is_printed, is_symbol};
 ghost use Rattle.witness.specs.PlainLines.{NoNumber, NoFrameLine, BeginsName, IsFirstOther, NoName, BeginsWord, NoWord, BeginsAssignment, NoAssignment};
@@ -7,7 +7,8 @@ ghost use Rattle.witness.specs.PlainLines.{NoNumber, NoFrameLine, BeginsName, Is
 use crate::bit_scan::is_digit;
 use crate::given::Given;
 use crate::word_value::known_word;
-use base::Width;
+use base::{Counter, Width};
+use btor2::printed_front;
 
 /// The most digits of a number that has room in 64 bits, whatever they are.
 const MOST_DIGITS: usize = 19;
@@ -53,58 +54,29 @@ fn number_before(text: &[u8], end: u8) -> Option<(u64, &[u8])>
     ended(text, most, value, end)
 }
 
-/// The text behind the line `@<k>` of this frame, where a text begins with it.
+/// The text behind the line `@<k>` that opens the frame behind so many, where a text begins with it.
 #[inline(always)]
-pub(crate) fn behind_frame_line(text: &[u8], frame: u64) -> Option<&[u8]>
-    ensures { MatchOption result (NoFrameLine frame text.now) (λ rest. text.now ≡ (64 ∷ decimal frame) ++ 10 ∷ rest.now) }
+pub(crate) fn behind_frame_line<'t>(text: &'t [u8], frames: &Counter) -> Option<&'t [u8]>
+    ensures { MatchOption result (NoFrameLine (suc frames.now) text.now) (λ rest. text.now ≡ (64 ∷ decimal (suc frames.now)) ++ 10 ∷ rest.now) }
 {
     let (first, behind) = text.split_first()?;
     if *first != b'@' {
         return None;
     }
-    let (number, rest) = number_before(behind, b'\n')?;
-    if number == frame { Some(rest) } else { None }
-}
-
-/// Whether a byte is one of a name.
-fn is_printed(byte: u8) -> bool
-    ensures { result ≡ is_printed byte }
-{
-    b'!' <= byte && byte <= b'~'
-}
-
-/// Whether eight bytes are those of names. All eight are tested at once.
-#[inline(always)]
-fn are_printed(bytes: &[u8; 8]) -> bool
-    ensures { result ≡ list_all is_printed bytes.now }
-{
-    let mut all = true;
-    for at in 0..8 {
-        all &= is_printed(bytes[at]);
-    }
-    all
+    let (end, rest) = frames.behind_next(behind)?.split_first()?;
+    if *end == b'\n' { Some(rest) } else { None }
 }
 
 /// How many bytes of names stand at the front of a text, the byte behind them, and the text behind it; nothing where all
-/// bytes are those of names. Eight are tested at a time as long as they all are.
+/// bytes are those of names.
 #[inline(always)]
 fn first_other(text: &[u8]) -> Option<(usize, u8, &[u8])>
     ensures { MatchOption result (list_all is_printed text.now ≡ true) (λ x. IsFirstOther text.now x.0 x.1 x.2.now) }
 {
-    let mut rest = text;
-    while let Some((eight, behind)) = rest.split_first_chunk::<8>() {
-        if !are_printed(eight) {
-            break;
-        }
-        rest = behind;
-    }
-    while let Some((first, behind)) = rest.split_first() {
-        if !is_printed(*first) {
-            return Some((text.len() - rest.len(), *first, behind));
-        }
-        rest = behind;
-    }
-    None
+    let count = printed_front(text);
+    let (_, others) = text.split_at(count);
+    let (end, rest) = others.split_first()?;
+    Some((count, *end, rest))
 }
 
 /// Whether bytes of names are one: 1 to 255, of which the first is not `;`.

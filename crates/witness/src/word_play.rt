@@ -1,5 +1,5 @@
 //! The frames of a witness over a model, played while its lines are read.
-ghost use Rattle.std.specs.Prelude.{◌≡◌, ℕ, ◌<◌, ◌+◌, ◌^◌, ◌==◌, true, false, Option, None, List, [], ◌∷◌, ◌++◌, if◌then◌else◌, IfErr, IfNone, IfOk, IfSome, OnErr, is_some, length, All, Some};
+ghost use Rattle.std.specs.Prelude.{◌≡◌, ℕ, ◌<◌, ◌+◌, ◌^◌, ◌==◌, true, false, Option, None, List, [], ◌∷◌, ◌++◌, if◌then◌else◌, IfErr, IfNone, IfOk, IfSome, OnErr, is_some, length, All, Some, MatchOption, suc, decimal};
 ghost use Rattle.btor2.specs.Items.{is_input, is_state, is_bad};
 ghost use Rattle.btor2.specs.Check.{IsWellFormed};
 ghost use Rattle.btor2.specs.Lists.{places, width_at, first_init_without_next};
@@ -10,19 +10,19 @@ ghost use Rattle.witness.specs.Judgements.{FrameWords, pairs_of, first_different
 ghost use Rattle.witness.specs.Texts.{Assignment, shape_of, widths_of};
 ghost use Rattle.witness.specs.KeptLines.{IsSmall};
 ghost use Rattle.witness.specs.Fits.{NoneIsSet, PairFits};
-ghost use Rattle.witness.specs.PlainLines.{NoAssignment};
+ghost use Rattle.witness.specs.PlainLines.{NoAssignment, NoFrameLine};
 ghost use Rattle.witness.specs.WordPlays.{IsStart, GoesOn, Plays, MayGive, GivesState, GivesInput, TakesInput, state_given, input_given, nothing_given, word_at, steps_taken};
 ghost use Rattle.witness.specs.WordValues.{widths_by};
 
 use crate::given::Given;
 use crate::judgement::Judgement;
-use crate::plain_line::plain_assignment;
+use crate::plain_line::{behind_frame_line, plain_assignment};
 use crate::verdicts::{
     Breach, first_different, first_violated, judgement_of, note_breach, note_rises,
 };
 use crate::why::Why;
 use crate::word_fields::assigned;
-use base::Width;
+use base::{Counter, Width};
 use btor2::Model;
 use runs::{NewFault, WordRun};
 use std::alloc::{AllocError, Global};
@@ -41,7 +41,7 @@ pub(crate) struct WordPlay<'a> {
     inputs_given: Given,
     // the first state whose initial word is not that of its init line, once the first frame is closed
     differs: Option<u64>,
-    frames: u64,
+    frames: Counter,
     // the first constraint that did not hold in a closed frame
     breach: Option<Breach>,
     // for each bad property whether it rose in a closed frame
@@ -162,7 +162,7 @@ impl<'a> WordPlay<'a> {
             states_given,
             inputs_given,
             differs: None,
-            frames: 0,
+            frames: Counter::new(),
             breach: None,
             rose,
         })
@@ -183,7 +183,17 @@ impl<'a> WordPlay<'a> {
     pub(crate) fn frames(&self) -> u64
         ensures { result ≡ self.now.frames }
     {
-        self.frames
+        self.frames.count()
+    }
+
+    /// The text behind the line that opens the next frame, where a text begins with it.
+    #[inline(always)]
+    pub(crate) fn behind_next<'t>(&self, text: &'t [u8]) -> Option<&'t [u8]>
+        ensures line { MatchOption result (NoFrameLine (suc self.now.frames) text.now) (λ rest. text.now ≡ (64 ∷ decimal (suc self.now.frames)) ++ 10 ∷ rest.now) }
+        ensures small { suc self.now.frames < 2 ^ 64 }
+    {
+        let _frames = self.frames.count();
+        behind_frame_line(text, &self.frames)
     }
 
     /// Gives a state a word in the open part.
@@ -261,13 +271,14 @@ impl<'a> WordPlay<'a> {
         let _items = self.model.items();
         go_on(&mut self.run);
         self.run.settle();
-        note_difference(self.model, &self.run, self.frames, &mut self.differs);
+        let frames = self.frames.count();
+        note_difference(self.model, &self.run, frames, &mut self.differs);
         let violated = first_violated(self.model, &self.run);
-        note_breach(&mut self.breach, self.frames, violated);
+        note_breach(&mut self.breach, frames, violated);
         note_rises(&self.run, self.rose.as_mut_slice());
         self.states_given.clear();
         self.inputs_given.clear();
-        self.frames = self.frames.saturating_add(1);
+        self.frames.add_one();
     }
 
     /// How many words the run holds.
@@ -306,7 +317,7 @@ impl<'a> WordPlay<'a> {
     pub(crate) fn judgement(&self, unreached: Option<u64>) -> Judgement
         ensures { result ≡ first_of self.now.differs self.now.breach unreached self.now.frames }
     {
-        judgement_of(self.differs, self.breach, unreached, self.frames)
+        judgement_of(self.differs, self.breach, unreached, self.frames())
     }
 
     /// For each bad property whether it rose in a closed frame.

@@ -14,7 +14,6 @@ ghost use Rattle.witness.specs.declared.word_reader.Place.TheVariants as place;
 ghost use Rattle.witness.specs.KeptLines.{AreAlike};
 ghost use Rattle.witness.specs.WordStands.{Reads, GivesLine, TakesLine, NoPlainLine, is_alone, place_of};
 
-use crate::plain_line::behind_frame_line;
 use crate::verdicts::first_unreached;
 use crate::why::Why;
 use crate::word_claims::ClaimScan;
@@ -264,8 +263,7 @@ impl<'a> WordReader<'a> {
         if let Some(rest) = self.play.take_input(text) {
             return Some(rest);
         }
-        let next = self.play.frames().saturating_add(1);
-        let rest = behind_frame_line(text, next)?;
+        let rest = self.play.behind_next(text)?;
         self.play.close();
         Some(rest)
     }

@@ -1,4 +1,4 @@
-use Rattle.std.proofs.Common.{◌≡◌, ℕ, suc, ◌+◌, ◌<◌, ◌^◌, ◌&&◌, Bool, List, Ok, length, decimal, ap, subst, sym, ◌∙◌, arith, ◌∷◌, ◌++◌, refl}
+use Rattle.std.proofs.Common.{◌≡◌, ℕ, suc, ◌<◌, ◌^◌, ◌&&◌, Bool, List, Ok, length, decimal, ap, subst, sym, ◌∙◌, arith, ◌∷◌, ◌++◌, refl}
 use Rattle.std.proofs.lemmas.Slice.Eq.{bytes_eq-Decides}
 use Rattle.btor2.specs.Items.{is_input}
 use Rattle.base.proofs.DecimalLemmas.{decimal_without}
@@ -34,16 +34,16 @@ returns-in-Some-clause-line c there =
 pub returns-clause-line : goal.returns-clause-line
 returns-clause-line c there =
     let same = ap (λ (p : WordPlay). record { play = p; place = c.self.inside.place; claims = c.self.inside.claims; claimed = c.self.inside.claimed.items; has_free = c.self.inside.has_free }) c.in_default.ensures.kept ∙ c.self.view_is in
-    let next : ℕ = c.saturating_add-next.result in
+    let next : ℕ = suc c.take_input.new.self.frames in
     let line : List ℕ = 64 ∷ decimal next in
     record {
       line = line;
-      is = c.in_ok-rest.ensures;
-      whole = decimal_without 10 next (omega arith) (omega arith);
+      is = c.in_ok-rest.ensures.line;
+      whole = decimal_without 10 next (omega arith) c.in_ok-rest.ensures.small;
       alone = ap (λ (x : CodePlace). is_alone (place_of x)) there;
       behind = ap (λ (x : CodePlace). is_status (place_of x)) there;
       gives = λ items r reads few.
-          let count : next ≡ suc (length r.closed) = c.saturating_add-next.ensures ∙ omega (arith, c.frames.ensures, frames_are items r line _ _ same reads, few) in
+          let count : next ≡ suc (length r.closed) = ap suc (frames_are items r line _ _ same reads) in
           next_frame items r line _ _ same reads c.close.new.self there (ap (λ (n : ℕ). opens_frame n line) (sym count) ∙ (bytes_eq-Decides line line).1 refl) few c.close.ensures.more;
     }
 
@@ -53,8 +53,7 @@ returns-in_err-rest-clause-none c =
     rw c.from_residual.ensures
     (record {
       assignment = subst (λ (q : WordReader). NoAssignment (widths_of is_input q.play.items) q.play.inputs_given c.args.text.now) c.self.view_is c.in_default.ensures.none;
-      opening = λ rest few is.
-          let frames = ap (λ (q : WordReader). q.play.frames) same in
-          let next : c.saturating_add-next.result ≡ c.args.self.now.play.frames + 1 = c.saturating_add-next.ensures ∙ omega (arith, c.frames.ensures, frames, few) in
-          c.in_err-rest.ensures rest (omega (arith, next, few)) (is ∙ sym (ap (λ (n : ℕ). (64 ∷ decimal n) ++ 10 ∷ rest) next));
+      opening = λ rest is.
+          let next = ap (λ (q : WordReader). suc q.play.frames) same in
+          c.in_err-rest.ensures.line rest (is ∙ sym (ap (λ (n : ℕ). (64 ∷ decimal n) ++ 10 ∷ rest) next));
     })
