@@ -1,7 +1,7 @@
 -- What numbering the lists of a file comes to: a circuit, or a gate that leads to a cycle.
 use Rattle.std.proofs.Common.{◌≡◌, ℕ, zero, suc, ◌+◌, ◌*◌, ◌<◌, ◌≤◌, Bool, true, false, not, ◌&&◌, ◌||◌, ◌==◌, List, [], ◌∷◌, ◌++◌, map, length, replicate, All, ◌⊎◌, inl, inr, nat_eq, nat_lt, slice_index_or, slice_set, cond, refl, ap, sym, ◌∙◌, subst, arith, if◌then◌else◌, length-append, append_assoc, append-nil, ⊎_elim}
 use Rattle.std.proofs.lemmas.Bool.Decides.{nat_tests}
-use Rattle.std.proofs.lemmas.Bool.{cases_lt, cases_order}
+use Rattle.std.proofs.lemmas.Bool.{cases_lt, cases_order, or_parts}
 use Rattle.std.proofs.lemmas.List.{length-map, length-set, get_or-set_other, length-replicate}
 use Rattle.std.proofs.lemmas.List.Elements.{All-weaker, All-map}
 use Rattle.std.proofs.lemmas.List.Folds.{list_any-append}
@@ -21,7 +21,7 @@ use Rattle.aiger.proofs.CircuitLemmas.{names_kept}
 use Rattle.aiger.proofs.RenumberingLemmas.{found, place_kept, named_from_test, new_of_variable, new_constant}
 use Rattle.aiger.proofs.OrderLemmas.{numbered-append, has_number-append, ready_parts, any_map, no_cycle, unnumbered_operand, number_from_known, AreGates, AreGates-push, gate_from_name, gate_is_variable}
 use Rattle.aiger.proofs.KnownLemmas.{All-unmap, IsKnown, AllKnown}
-use Rattle.aiger.specs.Readiness.{slot_at, waits, may_be_next, AreFirst}
+use Rattle.aiger.specs.Readiness.{slot_at, is_free, awaited, may_be_next, AreFirst}
 use Rattle.aiger.proofs.ReadinessLemmas.{any_suc}
 
 -- a gate that has no number uses one that has none, where none is ready
@@ -233,15 +233,15 @@ pub record AreSlotsOf (l : Loose) (slots : List ℕ) : Type 0 where
   pub first : (j : ℕ) → j < length l.gates → IsSlotOf l (gate_line l j).rhs0 (slot_at slots (2 * j))
   pub second : (j : ℕ) → j < length l.gates → IsSlotOf l (gate_line l j).rhs1 (slot_at slots (2 * j + 1))
 
--- a slot waits where its literal has no number
-slot_waits : (l : Loose) (slots done : List ℕ) (s lit : ℕ) → IsLoose l → AreGates l done → IsSlotOf l lit (slot_at slots s) → waits slots done s ≡ (if has_number (numbered l done) lit then 0 else 1)
-slot_waits l slots done s lit valid within is = by (slot_at slots s) refl
+-- a slot waits for nothing where its literal has a number
+slot_free : (l : Loose) (slots done : List ℕ) (s lit : ℕ) → IsLoose l → AreGates l done → IsSlotOf l lit (slot_at slots s) → is_free slots done s ≡ has_number (numbered l done) lit
+slot_free l slots done s lit valid within is = by (slot_at slots s) refl
   where
-    by : (slot : ℕ) → slot_at slots s ≡ slot → waits slots done s ≡ (if has_number (numbered l done) lit then 0 else 1)
+    by : (slot : ℕ) → slot_at slots s ≡ slot → is_free slots done s ≡ has_number (numbered l done) lit
     by zero e =
         let t : nat_eq (slot_at slots s) 0 ≡ true = grind (arith, nat_tests) in
         let n : has_number (numbered l done) lit ≡ true = subst (λ (ns : List ℕ). has_number ns lit ≡ true) (sym (numbered-append l [] done)) (has_number-append (numbered l []) (map (gate_name l) done) lit (is.leaf e)) in
-        ap (λ (b : Bool). if b || list_any (λ g. nat_eq (slot_at slots s) (suc g)) done then 0 else 1) t ∙ sym (ap (λ (b : Bool). if b then 0 else 1) n)
+        ap (λ (b : Bool). b || list_any (λ g. nat_eq (slot_at slots s) (suc g)) done) t ∙ sym n
     by (suc g) e =
         let r = is.gate g e in
         let a : nat_eq (slot_at slots s) 0 ≡ false = grind (arith, nat_tests) in
@@ -254,7 +254,7 @@ slot_waits l slots done s lit valid within is = by (slot_at slots s) refl
         let w : list_any (nat_eq (gate_name l g)) (numbered l done) ≡ true = grind (arith, nat_tests, x, y) in
         subst (λ (v : ℕ). list_any (nat_eq v) (numbered l done) ≡ true) (sym r.1) w) in
         let n : has_number (numbered l done) lit ≡ list_any (nat_eq g) done = ap (λ (x : Bool). x || list_any (nat_eq (variable lit)) (numbered l done)) z ∙ m in
-        ap (λ (x : Bool). if x || list_any (λ h. nat_eq (slot_at slots s) (suc h)) done then 0 else 1) a ∙ (ap (λ (x : Bool). if x then 0 else 1) b ∙ sym (ap (λ (x : Bool). if x then 0 else 1) n))
+        ap (λ (x : Bool). x || list_any (λ h. nat_eq (slot_at slots s) (suc h)) done) a ∙ (b ∙ sym n)
       where
         same_test : (x y : Bool) → (x ≡ true → y ≡ true) → (y ≡ true → x ≡ true) → x ≡ y
         same_test true true f g = refl
@@ -267,21 +267,21 @@ pub next_is_ready : (l : Loose) (slots done : List ℕ) → IsLoose l → AreGat
 next_is_ready l slots done valid within are j =
     ⊎_elim
     (λ (low : j < length l.gates).
-    let a = slot_waits l slots done (2 * j) (gate_line l j).rhs0 valid within (are.first j low) in
-    let b = slot_waits l slots done (2 * j + 1) (gate_line l j).rhs1 valid within (are.second j low) in
-    let p : nat_eq (waits slots done (2 * j) + waits slots done (2 * j + 1)) 0 ≡ (has_number (numbered l done) (gate_line l j).rhs0 && has_number (numbered l done) (gate_line l j).rhs1) =
-    both (has_number (numbered l done) (gate_line l j).rhs0) (has_number (numbered l done) (gate_line l j).rhs1) (waits slots done (2 * j)) (waits slots done (2 * j + 1)) a b in
-    ap (λ (x : Bool). nat_lt j (length l.gates) && (not (list_any (nat_eq j) done) && x)) p)
+    let a = slot_free l slots done (2 * j) (gate_line l j).rhs0 valid within (are.first j low) in
+    let b = slot_free l slots done (2 * j + 1) (gate_line l j).rhs1 valid within (are.second j low) in
+    ap (λ (x : Bool). nat_lt j (length l.gates) && (not (list_any (nat_eq j) done) && x)) (both (is_free slots done (2 * j)) (is_free slots done (2 * j + 1)) refl refl ∙ (ap (λ (x : Bool). x && is_free slots done (2 * j + 1)) a ∙ ap (λ (x : Bool). has_number (numbered l done) (gate_line l j).rhs0 && x) b)))
     (λ (high : length l.gates ≤ j).
     let t : nat_lt j (length l.gates) ≡ false = grind (arith, nat_tests) in
-    ap (λ (x : Bool). x && (not (list_any (nat_eq j) done) && nat_eq (waits slots done (2 * j) + waits slots done (2 * j + 1)) 0)) t ∙ sym (ap (λ (x : Bool). x && (not (list_any (nat_eq j) done) && (has_number (numbered l done) (gate_line l j).rhs0 && has_number (numbered l done) (gate_line l j).rhs1))) t))
+    ap (λ (x : Bool). x && (not (list_any (nat_eq j) done) && nat_eq (awaited slots done j) 0)) t ∙ sym (ap (λ (x : Bool). x && (not (list_any (nat_eq j) done) && (has_number (numbered l done) (gate_line l j).rhs0 && has_number (numbered l done) (gate_line l j).rhs1))) t))
     (cases_lt j (length l.gates))
   where
-    both : (x y : Bool) (m n : ℕ) → m ≡ (if x then 0 else 1) → n ≡ (if y then 0 else 1) → nat_eq (m + n) 0 ≡ (x && y)
-    both true true m n e f = let z : m + n ≡ 0 = omega (arith, e, f) in grind (arith, nat_tests)
-    both true false m n e f = let z : m + n ≡ 1 = omega (arith, e, f) in grind (arith, nat_tests)
-    both false true m n e f = let z : m + n ≡ 1 = omega (arith, e, f) in grind (arith, nat_tests)
-    both false false m n e f = let z : m + n ≡ 2 = omega (arith, e, f) in grind (arith, nat_tests)
+    names : (s : ℕ) → is_free slots done s ≡ false → nat_eq (slot_at slots s) 0 ≡ false
+    names s e = (or_parts (nat_eq (slot_at slots s) 0) (list_any (λ g. nat_eq (slot_at slots s) (suc g)) done) e).0
+
+    both : (x y : Bool) → is_free slots done (2 * j) ≡ x → is_free slots done (2 * j + 1) ≡ y → nat_eq (if x then (if y then 0 else slot_at slots (2 * j + 1)) else slot_at slots (2 * j)) 0 ≡ (x && y)
+    both true true e f = refl
+    both true false e f = names (2 * j + 1) f
+    both false y e f = names (2 * j) e
 
 -- gates in turn by their slots are in turn
 pub in_turn_from_slots : (l : Loose) (slots done js : List ℕ) → IsLoose l → AreGates l done → AreSlotsOf l slots → AreFirst (may_be_next slots (length l.gates)) done js → AreInTurn l done js

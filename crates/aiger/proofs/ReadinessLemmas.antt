@@ -1,219 +1,26 @@
 -- Gates that wait for others.
-use Rattle.std.proofs.Common.{◌≡◌, ℕ, zero, suc, ◌+◌, ◌-◌, ◌*◌, ◌/◌, ◌%◌, ◌<◌, ◌≤◌, Bool, true, false, not, ◌&&◌, ◌||◌, List, [], ◌∷◌, ◌++◌, length, ◌⊎◌, inl, inr, nat_eq, nat_lt, get_or, slice_index_or, slice_set, refl, ap, sym, ◌∙◌, subst, arith, if◌then◌else◌, length-append, length-drop, drop, append_assoc, append-nil, ⊎_elim}
+use Rattle.std.proofs.Common.{◌≡◌, ℕ, zero, suc, ◌+◌, ◌-◌, ◌*◌, ◌<◌, ◌≤◌, Bool, true, false, not, ◌&&◌, ◌||◌, List, [], ◌∷◌, ◌++◌, length, replicate, ◌⊎◌, inl, inr, nat_eq, nat_lt, get_or, slice_index_or, slice_set, refl, ap, sym, ◌∙◌, subst, arith, if◌then◌else◌, append_assoc, append-nil, ⊎_elim}
 use Rattle.std.proofs.HeapSift.{at_most}
 use Rattle.std.proofs.lemmas.Bool.Decides.{nat_tests}
-use Rattle.std.proofs.lemmas.Bool.{cases_lt, cases_order, and_parts, ltb-true}
+use Rattle.std.proofs.lemmas.Bool.{and_from, and_left, and_parts, and_right, both_ways, cases_eq, cases_lt, cases_order, eq-eqb, eqb-false, eqb-true, le-ltb, lt-ltb, ltb-true, ne_eqb, not-false, not-true, or_parts, or_right}
 use Rattle.std.proofs.lemmas.Cmp.{nat_eq_equiv}
-use Rattle.std.proofs.lemmas.List.{get_or-set_same, get_or-set_other, length-set, get_or_append_left, drop_more}
+use Rattle.std.proofs.lemmas.List.{get_or-replicate, get_or-set_same, get_or-set_other, length-replicate, length-set}
 use Rattle.std.proofs.lemmas.Grind.{get_or_default_zero}
-use Rattle.std.proofs.Math.Seq.{get_or-append_seam, set-append_seam}
 use Rattle.std.proofs.lemmas.List.Folds.{list_any-append}
 use Rattle.std.proofs.lemmas.List.Sorted.{sum_by_popped, sum_by_pushed}
 use Rattle.std.proofs.lemmas.List.Sums.{sum_by-cons}
 use Rattle.std.proofs.lemmas.Map.Keys.{IsDistinct-push}
 use Rattle.std.proofs.lemmas.Map.Steps.{length-le_from_distinct_below}
 use Rattle.std.specs.BinaryHeap.{IsHeap, IsUpperBound, KeepsHeap, PopsGreatest}
-use Rattle.std.specs.List.{list_any, IsDistinct}
+use Rattle.std.specs.List.{AllByRecursion, list_any, IsDistinct}
 use Rattle.std.specs.List.Sorted.{IsPermutation}
 use Rattle.std.specs.declared.cmp.Reverse.{Reverse}
-use Rattle.aiger.specs.Readiness.{slot_at, waits, last_user, may_be_next, AreSlots, HasChains, HasSlots, ForSlots, CountsWaits, waits_for_nothing, turns, one_if, times, HasReady, IsNoted, IsFirst, AreFirst, IsBetween, IsTaken, IsWholeOrder}
+use Rattle.aiger.specs.Readiness.{slot_at, is_free, awaited, may_be_next, AreSlots, is_passed, stands, IsChain, turns, one_if, times, IsNoted, is_open, IsPut, IsFirst, AreFirst, AreDone, IsUnderway, IsTaken, IsWholeOrder}
 use Rattle.aiger.proofs.OrderLemmas.{false_unless}
 
 -- what is read at a position is the element there
 pub read_at : (xs : List ℕ) (i e : ℕ) → i < length xs → e ≡ get_or xs i e → slice_index_or xs i 0 ≡ e
 read_at xs i e low h = sym (h ∙ get_or_default_zero xs i e low)
-
--- the last slot of a gate below a bound is below it
-pub last_user-le : (slots : List ℕ) (g u : ℕ) → last_user slots g u ≤ u
-last_user-le slots g zero = omega arith
-last_user-le slots g (suc s) = by (nat_eq (slot_at slots s) (suc g)) (last_user-le slots g s)
-  where
-    by : (b : Bool) → last_user slots g s ≤ s → (if b then suc s else last_user slots g s) ≤ suc s
-    by true h = omega arith
-    by false h = omega arith
-
--- no slot of the gate stands between the last one and the bound
-pub none_between : (slots : List ℕ) (g u s : ℕ) → last_user slots g u ≤ s → s < u → nat_eq (slot_at slots s) (suc g) ≡ false
-none_between slots g zero s low high = absurd (omega arith)
-none_between slots g (suc u) s low high = by (nat_eq (slot_at slots u) (suc g)) refl low (λ l h. none_between slots g u s l h)
-  where
-    by : (b : Bool) → nat_eq (slot_at slots u) (suc g) ≡ b → (if b then suc u else last_user slots g u) ≤ s → (last_user slots g u ≤ s → s < u → nat_eq (slot_at slots s) (suc g) ≡ false) → nat_eq (slot_at slots s) (suc g) ≡ false
-    by true e l rest = absurd (omega arith)
-    by false e l rest =
-        ⊎_elim (λ (h : s < u). rest l h) (λ (h : u ≤ s). let f : s ≡ u = omega arith in subst (λ (k : ℕ). nat_eq (slot_at slots k) (suc g) ≡ false) (sym f) e) (cases_lt s u)
-
--- the last slot is one of the gate
-pub last_is_user : (slots : List ℕ) (g u s : ℕ) → last_user slots g u ≡ suc s → (s < u) × (slot_at slots s ≡ suc g)
-last_is_user slots g zero s e = absurd (cc)
-last_is_user slots g (suc u) s e = by (nat_eq (slot_at slots u) (suc g)) refl e (λ f. last_is_user slots g u s f)
-  where
-    by : (b : Bool) → nat_eq (slot_at slots u) (suc g) ≡ b → (if b then suc u else last_user slots g u) ≡ suc s → (last_user slots g u ≡ suc s → (s < u) × (slot_at slots s ≡ suc g)) → (s < suc u) × (slot_at slots s ≡ suc g)
-    by true t f rest = let h : s ≡ u = omega arith in (omega arith, let k : slot_at slots u ≡ suc g = grind (arith, nat_tests) in subst (λ (x : ℕ). slot_at slots x ≡ suc g) (sym h) k)
-    by false t f rest = let r = rest f in (omega (arith, r.0), r.1)
-
--- what a slot waits for while the slots of a gate from a place on are released
-abbrev pub waits_at : List ℕ → List ℕ → ℕ → ℕ → ℕ → ℕ
-waits_at slots done g at s = if nat_eq (slot_at slots s) (suc g) then (if nat_lt s at then 1 else 0) else waits slots done s
-
--- while a gate is released
-pub record IsReleasing (slots : List ℕ) (n bound : ℕ) (done : List ℕ) (g at : ℕ) (waiting : List ℕ) (ready : List (Reverse ℕ)) : Type 0 where
-  pub count : length waiting ≡ n
-  pub each : (j : ℕ) → j < n → slice_index_or waiting j 0 ≡ waits_at slots done g at (2 * j) + waits_at slots done g at (2 * j + 1)
-  pub none : (j : ℕ) → list_any (nat_eq j) (done ++ g ∷ []) ≡ true → slice_index_or waiting j 0 ≡ 0
-  pub has : HasReady bound (done ++ g ∷ []) waiting ready
-  pub place : (s : ℕ) → at ≡ suc s → (s < length slots) × (slot_at slots s ≡ suc g)
-
-and_false : (b : Bool) → (b && false) ≡ false
-and_false true = refl
-and_false false = refl
-
--- a slot of the gate waits before its release
-waits_at-user : (slots done : List ℕ) (g at s : ℕ) → slot_at slots s ≡ suc g → waits_at slots done g at s ≡ (if nat_lt s at then 1 else 0)
-waits_at-user slots done g at s e =
-    let t : nat_eq (slot_at slots s) (suc g) ≡ true = grind (arith, nat_tests) in
-    ap (λ (b : Bool). if b then (if nat_lt s at then 1 else 0) else waits slots done s) t
-
-waits_at-other : (slots done : List ℕ) (g at s : ℕ) → nat_eq (slot_at slots s) (suc g) ≡ false → waits_at slots done g at s ≡ waits slots done s
-waits_at-other slots done g at s t = ap (λ (b : Bool). if b then (if nat_lt s at then 1 else 0) else waits slots done s) t
-
--- the other slots wait as before when one is released
-waits_at-kept : (slots done : List ℕ) (g s k : ℕ) → (k ≡ s → ⊥) → waits_at slots done g (last_user slots g s) k ≡ waits_at slots done g (suc s) k
-waits_at-kept slots done g s k other = by (nat_eq (slot_at slots k) (suc g)) refl
-  where
-    by : (b : Bool) → nat_eq (slot_at slots k) (suc g) ≡ b → waits_at slots done g (last_user slots g s) k ≡ waits_at slots done g (suc s) k
-    by true t =
-        let e : slot_at slots k ≡ suc g = grind (arith, nat_tests) in
-        ⊎_elim
-        (λ (low : k < s).
-        let h : k < last_user slots g s = ⊎_elim (λ (x : k < last_user slots g s). x) (λ (x : last_user slots g s ≤ k). absurd (let z : true ≡ false = sym t ∙ none_between slots g s k x low in cc)) (cases_lt k (last_user slots g s)) in
-        let a : nat_lt k (last_user slots g s) ≡ true = grind (arith, nat_tests) in
-        let b : nat_lt k (suc s) ≡ true = grind (arith, nat_tests) in
-        waits_at-user slots done g (last_user slots g s) k e ∙ (ap (λ (x : Bool). if x then 1 else 0) (a ∙ sym b) ∙ sym (waits_at-user slots done g (suc s) k e)))
-        (λ (high : s ≤ k).
-        let more : suc s ≤ k = ⊎_elim (λ (x : k ≡ s). absurd (other x)) (λ (o : (k < s) ⊎ (s < k)). ⊎_elim (λ (x : k < s). omega arith) (λ (x : s < k). omega arith) o) (cases_order k s) in
-        let l : last_user slots g s ≤ s = last_user-le slots g s in
-        let a : nat_lt k (last_user slots g s) ≡ false = grind (arith, nat_tests) in
-        let b : nat_lt k (suc s) ≡ false = grind (arith, nat_tests) in
-        waits_at-user slots done g (last_user slots g s) k e ∙ (ap (λ (x : Bool). if x then 1 else 0) (a ∙ sym b) ∙ sym (waits_at-user slots done g (suc s) k e)))
-        (cases_lt k s)
-    by false t = waits_at-other slots done g (last_user slots g s) k t ∙ sym (waits_at-other slots done g (suc s) k t)
-
--- the released slot
-waits_at-before : (slots done : List ℕ) (g s : ℕ) → slot_at slots s ≡ suc g → waits_at slots done g (suc s) s ≡ 1
-waits_at-before slots done g s e =
-    let b : nat_lt s (suc s) ≡ true = grind (arith, nat_tests) in
-    waits_at-user slots done g (suc s) s e ∙ ap (λ (x : Bool). if x then 1 else 0) b
-
-waits_at-after : (slots done : List ℕ) (g s : ℕ) → slot_at slots s ≡ suc g → waits_at slots done g (last_user slots g s) s ≡ 0
-waits_at-after slots done g s e =
-    let l : last_user slots g s ≤ s = last_user-le slots g s in
-    let b : nat_lt s (last_user slots g s) ≡ false = grind (arith, nat_tests) in
-    waits_at-user slots done g (last_user slots g s) s e ∙ ap (λ (x : Bool). if x then 1 else 0) b
-
--- a gate whose slot is next to be released waits for it
-pub waits_yet : (slots : List ℕ) (n bound : ℕ) (done : List ℕ) (g s : ℕ) (waiting : List ℕ) (ready : List (Reverse ℕ)) → AreSlots slots n → IsReleasing slots n bound done g (suc s) waiting ready → (s / 2 < n) × (1 ≤ slice_index_or waiting (s / 2) 0)
-waits_yet slots n bound done g s waiting ready are r =
-    let p = r.place s refl in
-    let low : s / 2 < n = omega (arith, p.0, are.count) in
-    let one : waits_at slots done g (suc s) s ≡ 1 = waits_at-before slots done g s p.1 in
-    let e = r.each (s / 2) low in (
-      low,
-      ⊎_elim (λ (even : s % 2 < 1). let f : s ≡ 2 * (s / 2) = omega arith in let o : waits_at slots done g (suc s) (2 * (s / 2)) ≡ 1 = ap (waits_at slots done g (suc s)) (sym f) ∙ one in omega (arith, e, o))
-          (λ (odd : 1 ≤ s % 2). let f : s ≡ 2 * (s / 2) + 1 = omega arith in let o : waits_at slots done g (suc s) (2 * (s / 2) + 1) ≡ 1 = ap (waits_at slots done g (suc s)) (sym f) ∙ one in omega (arith, e, o))
-          (cases_lt (s % 2) 1),
-    )
-
--- the waits of a gate after one slot is released
-each_released : (slots : List ℕ) (n bound : ℕ) (done : List ℕ) (g s left : ℕ) (waiting : List ℕ) (ready : List (Reverse ℕ)) → AreSlots slots n → IsReleasing slots n bound done g (suc s) waiting ready → left + 1 ≡ slice_index_or waiting (s / 2) 0
-    → (j : ℕ) → j < n → slice_index_or (slice_set waiting (s / 2) left) j 0 ≡ waits_at slots done g (last_user slots g s) (2 * j) + waits_at slots done g (last_user slots g s) (2 * j + 1)
-each_released slots n bound done g s left waiting ready are r less j h =
-    let p = r.place s refl in
-    let low : s / 2 < n = omega (arith, p.0, are.count) in
-    let at' : ℕ = last_user slots g s in
-    let one : waits_at slots done g (suc s) s ≡ 1 = waits_at-before slots done g s p.1 in
-    let zero' : waits_at slots done g at' s ≡ 0 = waits_at-after slots done g s p.1 in
-    let e = r.each j h in
-    ⊎_elim
-    (λ (same : j ≡ s / 2).
-    let here : slice_index_or (slice_set waiting (s / 2) left) j 0 ≡ left = ap (λ (k : ℕ). slice_index_or (slice_set waiting (s / 2) left) k 0) same ∙ get_or-set_same waiting (s / 2) left 0 (omega (arith, r.count, low)) in
-    let w : left + 1 ≡ slice_index_or waiting j 0 = less ∙ ap (λ (k : ℕ). slice_index_or waiting k 0) (sym same) in
-    ⊎_elim
-    (λ (even : s % 2 < 1).
-    let f : s ≡ 2 * j = omega arith in
-    let a : waits_at slots done g (suc s) (2 * j) ≡ 1 = ap (waits_at slots done g (suc s)) (sym f) ∙ one in
-    let b : waits_at slots done g at' (2 * j) ≡ 0 = ap (waits_at slots done g at') (sym f) ∙ zero' in
-    let k : waits_at slots done g at' (2 * j + 1) ≡ waits_at slots done g (suc s) (2 * j + 1) = waits_at-kept slots done g s (2 * j + 1) (λ x. omega arith) in
-    omega (arith, here, w, e, a, b, k))
-    (λ (odd : 1 ≤ s % 2).
-    let f : s ≡ 2 * j + 1 = omega arith in
-    let a : waits_at slots done g (suc s) (2 * j + 1) ≡ 1 = ap (waits_at slots done g (suc s)) (sym f) ∙ one in
-    let b : waits_at slots done g at' (2 * j + 1) ≡ 0 = ap (waits_at slots done g at') (sym f) ∙ zero' in
-    let k : waits_at slots done g at' (2 * j) ≡ waits_at slots done g (suc s) (2 * j) = waits_at-kept slots done g s (2 * j) (λ x. omega arith) in
-    omega (arith, here, w, e, a, b, k))
-    (cases_lt (s % 2) 1))
-    (λ (o : (j < s / 2) ⊎ (s / 2 < j)).
-    let other : j ≡ s / 2 → ⊥ = λ x. ⊎_elim (λ (l : j < s / 2). omega arith) (λ (l : s / 2 < j). omega arith) o in
-    let here : slice_index_or (slice_set waiting (s / 2) left) j 0 ≡ slice_index_or waiting j 0 = get_or-set_other waiting (s / 2) j left 0 other in
-    let a : waits_at slots done g at' (2 * j) ≡ waits_at slots done g (suc s) (2 * j) = waits_at-kept slots done g s (2 * j) (λ x. other (omega arith)) in
-    let b : waits_at slots done g at' (2 * j + 1) ≡ waits_at slots done g (suc s) (2 * j + 1) = waits_at-kept slots done g s (2 * j + 1) (λ x. other (omega arith)) in
-    omega (arith, here, e, a, b))
-    (cases_order j (s / 2))
-
--- a gate that waits for something is not done
-not_done : (slots : List ℕ) (n bound : ℕ) (done : List ℕ) (g at j : ℕ) (waiting : List ℕ) (ready : List (Reverse ℕ)) → IsReleasing slots n bound done g at waiting ready → 1 ≤ slice_index_or waiting j 0 → list_any (nat_eq j) (done ++ g ∷ []) ≡ false
-not_done slots n bound done g at j waiting ready r some = by (list_any (nat_eq j) (done ++ g ∷ [])) refl
-  where
-    by : (b : Bool) → list_any (nat_eq j) (done ++ g ∷ []) ≡ b → b ≡ false
-    by true t = absurd (omega (arith, r.none j t))
-    by false t = refl
-
--- what is ready after one slot is released
-ready_released : (slots : List ℕ) (n bound : ℕ) (done : List ℕ) (g s left : ℕ) (waiting : List ℕ) (ready noted : List (Reverse ℕ)) → AreSlots slots n → IsReleasing slots n bound done g (suc s) waiting ready → left + 1 ≡ slice_index_or waiting (s / 2) 0
-    → IsNoted (s / 2) bound left ready noted → HasReady bound (done ++ g ∷ []) (slice_set waiting (s / 2) left) noted
-ready_released slots n bound done g s left waiting ready noted are r less note =
-    record { heap = note.heap r.has.heap; each = each_at }
-  where
-    y : (s / 2 < n) × (1 ≤ slice_index_or waiting (s / 2) 0)
-    y = waits_yet slots n bound done g s waiting ready are r
-
-    each_at : (i : ℕ) → times noted i ≡ one_if (waits_for_nothing bound (done ++ g ∷ []) (slice_set waiting (s / 2) left) i)
-    each_at i =
-        let e = note.each i in
-        let f = r.has.each i in
-        ⊎_elim
-        (λ (same : i ≡ s / 2).
-        let new : list_any (nat_eq i) (done ++ g ∷ []) ≡ false = not_done slots n bound done g (suc s) i waiting ready r (subst (λ (k : ℕ). 1 ≤ slice_index_or waiting k 0) (sym same) y.1) in
-        let here : slice_index_or (slice_set waiting (s / 2) left) i 0 ≡ left = ap (λ (k : ℕ). slice_index_or (slice_set waiting (s / 2) left) k 0) same ∙ get_or-set_same waiting (s / 2) left 0 (omega (arith, r.count, y.0)) in
-        let before : slice_index_or waiting i 0 ≡ left + 1 = ap (λ (k : ℕ). slice_index_or waiting k 0) same ∙ sym less in
-        let z : nat_eq (slice_index_or waiting i 0) 0 ≡ false = grind (arith, nat_tests) in
-        let t : nat_eq (s / 2) i ≡ true = grind (arith, nat_tests) in
-        let old : one_if (waits_for_nothing bound (done ++ g ∷ []) waiting i) ≡ 0 = rw (z, new) (ap one_if (and_false (nat_lt i bound))) in
-        let now : one_if (waits_for_nothing bound (done ++ g ∷ []) (slice_set waiting (s / 2) left) i) ≡ one_if (nat_lt (s / 2) bound && nat_eq left 0) = rw (here, new) (ap (λ (k : ℕ). one_if (nat_lt k bound && nat_eq left 0)) same) in
-        let put : one_if (nat_eq (s / 2) i && (nat_lt (s / 2) bound && nat_eq left 0)) ≡ one_if (nat_lt (s / 2) bound && nat_eq left 0) = rw (t) refl in
-        omega (arith, e, f, old, now, put))
-        (λ (o : (i < s / 2) ⊎ (s / 2 < i)).
-        let other : i ≡ s / 2 → ⊥ = λ x. ⊎_elim (λ (l : i < s / 2). omega arith) (λ (l : s / 2 < i). omega arith) o in
-        let t : nat_eq (s / 2) i ≡ false = ⊎_elim (λ (l : i < s / 2). grind (arith, nat_tests)) (λ (l : s / 2 < i). grind (arith, nat_tests)) o in
-        let here : slice_index_or (slice_set waiting (s / 2) left) i 0 ≡ slice_index_or waiting i 0 = get_or-set_other waiting (s / 2) i left 0 other in
-        let now : one_if (waits_for_nothing bound (done ++ g ∷ []) (slice_set waiting (s / 2) left) i) ≡ one_if (waits_for_nothing bound (done ++ g ∷ []) waiting i) = rw (here) refl in
-        let put : one_if (nat_eq (s / 2) i && (nat_lt (s / 2) bound && nat_eq left 0)) ≡ 0 = rw (t) refl in
-        omega (arith, e, f, now, put))
-        (cases_order i (s / 2))
-
--- one slot is released
-pub release_step : (slots : List ℕ) (n bound : ℕ) (done : List ℕ) (g s left : ℕ) (waiting : List ℕ) (ready noted : List (Reverse ℕ)) → AreSlots slots n → IsReleasing slots n bound done g (suc s) waiting ready → left + 1 ≡ slice_index_or waiting (s / 2) 0
-    → IsNoted (s / 2) bound left ready noted → IsReleasing slots n bound done g (last_user slots g s) (slice_set waiting (s / 2) left) noted
-release_step slots n bound done g s left waiting ready noted are r less note =
-    record {
-      count = length-set waiting (s / 2) left ∙ r.count;
-      each = each_released slots n bound done g s left waiting ready are r less;
-      none = λ j t.
-          let z : slice_index_or waiting j 0 ≡ 0 = r.none j t in
-          let other : j ≡ s / 2 → ⊥ = λ x. let f : slice_index_or waiting j 0 ≡ left + 1 = ap (λ (k : ℕ). slice_index_or waiting k 0) x ∙ sym less in omega arith in
-          get_or-set_other waiting (s / 2) j left 0 other ∙ z;
-      has = ready_released slots n bound done g s left waiting ready noted are r less note;
-      place = λ k e. let u = last_is_user slots g s k e in (omega (arith, u.0, (r.place s refl).0), u.1);
-    }
 
 -- a slot of a gate among others
 pub any_suc : (slot g : ℕ) (xs : List ℕ) → slot ≡ suc g → list_any (λ h. nat_eq slot (suc h)) xs ≡ list_any (nat_eq g) xs
@@ -222,25 +29,6 @@ any_suc slot g (x ∷ xs) e =
     let r = any_suc slot g xs e in
     let h : nat_eq slot (suc x) ≡ nat_eq g x = grind (arith, nat_tests) in
     cc
-
--- a slot of a gate that is not done waits
-user_waits : (slots done : List ℕ) (g s : ℕ) → slot_at slots s ≡ suc g → list_any (nat_eq g) done ≡ false → waits slots done s ≡ 1
-user_waits slots done g s e new =
-    let a : nat_eq (slot_at slots s) 0 ≡ false = grind (arith, nat_tests) in
-    let b : list_any (λ h. nat_eq (slot_at slots s) (suc h)) done ≡ false = any_suc (slot_at slots s) g done e ∙ new in
-    ap (λ (t : Bool). if t || list_any (λ h. nat_eq (slot_at slots s) (suc h)) done then 0 else 1) a ∙ ap (λ (t : Bool). if t then 0 else 1) b
-
--- before the first slot is released all wait as before
-slot_begins : (slots done : List ℕ) (g s : ℕ) → list_any (nat_eq g) done ≡ false → s < length slots → waits_at slots done g (last_user slots g (length slots)) s ≡ waits slots done s
-slot_begins slots done g s new h = by (nat_eq (slot_at slots s) (suc g)) refl
-  where
-    by : (b : Bool) → nat_eq (slot_at slots s) (suc g) ≡ b → waits_at slots done g (last_user slots g (length slots)) s ≡ waits slots done s
-    by true t =
-        let e : slot_at slots s ≡ suc g = grind (arith, nat_tests) in
-        let low : s < last_user slots g (length slots) = ⊎_elim (λ (x : s < last_user slots g (length slots)). x) (λ (x : last_user slots g (length slots) ≤ s). absurd (let z : true ≡ false = sym t ∙ none_between slots g (length slots) s x h in cc)) (cases_lt s (last_user slots g (length slots))) in
-        let a : nat_lt s (last_user slots g (length slots)) ≡ true = grind (arith, nat_tests) in
-        waits_at-user slots done g (last_user slots g (length slots)) s e ∙ (ap (λ (x : Bool). if x then 1 else 0) a ∙ sym (user_waits slots done g s e new))
-    by false t = waits_at-other slots done g (last_user slots g (length slots)) s t
 
 -- a test of a list with one more at the end
 any_push : (j g : ℕ) (done : List ℕ) → list_any (nat_eq j) (done ++ g ∷ []) ≡ true → (list_any (nat_eq j) done ≡ true) ⊎ (j ≡ g)
@@ -253,73 +41,249 @@ any_push j g done t = by (list_any (nat_eq j) done) refl
         let s : nat_eq j g ≡ true = grind (arith, nat_tests, a, e, t) in
         inr (grind (arith, nat_tests))
 
--- before the first slot is released
-pub release_begins : (slots : List ℕ) (n bound : ℕ) (heads nexts order waiting : List ℕ) (ready : List (Reverse ℕ)) (t : IsTaken slots n bound order waiting ready) → AreSlots slots n → HasChains slots n heads nexts → IsReleasing slots n bound t.done t.gate (slice_index_or heads t.gate 0) waiting ready
-release_begins slots n bound heads nexts order waiting ready t are chains =
-    let g : ℕ = t.gate in
-    let done : List ℕ = t.done in
-    let head : slice_index_or heads g 0 ≡ last_user slots g (length slots) = chains.head g t.within in
-    let from_head : IsReleasing slots n bound done g (last_user slots g (length slots)) waiting ready =
-    record {
-      count = t.waits.count;
-      each = λ j h. omega (arith, t.waits.each j h, slot_begins slots done g (2 * j) t.new (omega (arith, are.count)), slot_begins slots done g (2 * j + 1) t.new (omega (arith, are.count)));
-      none = λ j u. ⊎_elim (λ (x : list_any (nat_eq j) done ≡ true). t.waits.none j x) (λ (x : j ≡ g). ap (λ (k : ℕ). slice_index_or waiting k 0) x ∙ t.free) (any_push j g done u);
-      has = subst (λ (o : List ℕ). HasReady bound o waiting ready) t.last t.has;
-      place = λ s e. last_is_user slots g (length slots) s e;
-    } in
-    subst (λ (at : ℕ). IsReleasing slots n bound done g at waiting ready) (sym head) from_head
+any_last : (g : ℕ) (done : List ℕ) → list_any (nat_eq g) (done ++ g ∷ []) ≡ true
+any_last g done =
+    let a = list_any-append (nat_eq g) done (g ∷ []) in
+    let s : nat_eq g g ≡ true = eq-eqb g g refl in
+    grind (arith, nat_tests, a, s)
+
+any_other : (j g : ℕ) (done : List ℕ) → nat_eq j g ≡ false → list_any (nat_eq j) (done ++ g ∷ []) ≡ list_any (nat_eq j) done
+any_other j g done s =
+    let a = list_any-append (nat_eq j) done (g ∷ []) in
+    grind (arith, nat_tests, a, s)
+
+or_last : (a b c : Bool) → (a || (b || (c || false))) ≡ ((a || b) || c)
+or_last true b c = refl
+or_last false true c = refl
+or_last false false true = refl
+or_last false false false = refl
 
 -- a slot once a gate more is done
-waits_push : (slots done : List ℕ) (g s : ℕ) → waits_at slots done g 0 s ≡ waits slots (done ++ g ∷ []) s
-waits_push slots done g s = by (nat_eq (slot_at slots s) (suc g)) refl
+free_push : (slots done : List ℕ) (g s : ℕ) → is_free slots (done ++ g ∷ []) s ≡ (is_free slots done s || nat_eq (slot_at slots s) (suc g))
+free_push slots done g s =
+    ap (λ (b : Bool). nat_eq (slot_at slots s) 0 || b) (list_any-append (λ (h : ℕ). nat_eq (slot_at slots s) (suc h)) done (g ∷ [])) ∙ or_last (nat_eq (slot_at slots s) 0) (list_any (λ h. nat_eq (slot_at slots s) (suc h)) done) (nat_eq (slot_at slots s) (suc g))
+
+-- a slot that waits names no gate that is done
+open_slot : (slots done : List ℕ) (s g : ℕ) → is_free slots done s ≡ false → slot_at slots s ≡ suc g → list_any (nat_eq g) done ≡ false
+open_slot slots done s g t e = sym (any_suc (slot_at slots s) g done e) ∙ (or_parts (nat_eq (slot_at slots s) 0) (list_any (λ h. nat_eq (slot_at slots s) (suc h)) done) t).1
+
+-- what a gate waits for is not done
+awaited_open : (slots done : List ℕ) (j g : ℕ) → awaited slots done j ≡ suc g → list_any (nat_eq g) done ≡ false
+awaited_open slots done j g e = by (is_free slots done (2 * j)) (is_free slots done (2 * j + 1)) refl refl e
   where
-    by : (b : Bool) → nat_eq (slot_at slots s) (suc g) ≡ b → waits_at slots done g 0 s ≡ waits slots (done ++ g ∷ []) s
-    by true t =
-        let e : slot_at slots s ≡ suc g = grind (arith, nat_tests) in
-        let z : nat_lt s 0 ≡ false = grind (arith, nat_tests) in
-        let a : list_any (λ h. nat_eq (slot_at slots s) (suc h)) (done ++ g ∷ []) ≡ true =
-        list_any-append (λ (h : ℕ). nat_eq (slot_at slots s) (suc h)) done (g ∷ []) ∙ (ap (λ (b : Bool). list_any (λ h. nat_eq (slot_at slots s) (suc h)) done || (b || false)) t ∙ or_true (list_any (λ h. nat_eq (slot_at slots s) (suc h)) done)) in
-        waits_at-user slots done g 0 s e ∙ (ap (λ (x : Bool). if x then 1 else 0) z ∙ sym (ap (λ (b : Bool). if nat_eq (slot_at slots s) 0 || b then 0 else 1) a ∙ ap (λ (b : Bool). if b then 0 else 1) (or_true (nat_eq (slot_at slots s) 0))))
-      where
-        or_true : (b : Bool) → (b || true) ≡ true
-        or_true true = refl
-        or_true false = refl
-    by false t =
-        let a : list_any (λ h. nat_eq (slot_at slots s) (suc h)) (done ++ g ∷ []) ≡ list_any (λ h. nat_eq (slot_at slots s) (suc h)) done =
-        list_any-append (λ (h : ℕ). nat_eq (slot_at slots s) (suc h)) done (g ∷ []) ∙ (ap (λ (b : Bool). list_any (λ h. nat_eq (slot_at slots s) (suc h)) done || (b || false)) t ∙ or_false (list_any (λ h. nat_eq (slot_at slots s) (suc h)) done)) in
-        waits_at-other slots done g 0 s t ∙ ap (λ (b : Bool). if nat_eq (slot_at slots s) 0 || b then 0 else 1) (sym a)
-      where
-        or_false : (b : Bool) → (b || false) ≡ b
-        or_false true = refl
-        or_false false = refl
+    by : (p q : Bool) → is_free slots done (2 * j) ≡ p → is_free slots done (2 * j + 1) ≡ q → (if p then (if q then 0 else slot_at slots (2 * j + 1)) else slot_at slots (2 * j)) ≡ suc g → list_any (nat_eq g) done ≡ false
+    by true true t u h = absurd (cc)
+    by true false t u h = open_slot slots done (2 * j + 1) g u h
+    by false q t u h = open_slot slots done (2 * j) g t h
 
--- whether a gate may be next, by the counts
-pub may_be_next_is : (slots : List ℕ) (n bound : ℕ) (done waiting : List ℕ) → CountsWaits slots n done waiting → bound ≤ n → (i : ℕ) → i < bound → may_be_next slots n done i ≡ waits_for_nothing bound done waiting i
-may_be_next_is slots n bound done waiting c most i h =
-    let a : nat_lt i n ≡ true = grind (arith, nat_tests) in
-    let b : nat_lt i bound ≡ true = grind (arith, nat_tests) in
-    let e = c.each i (omega (arith, h, most)) in
-    rw (a, b, e) refl
-
--- one more in turn
-pub AreFirst-push : (passes : List ℕ → ℕ → Bool) (done js : List ℕ) (j : ℕ) → AreFirst passes done js → IsFirst passes (done ++ js) j → AreFirst passes done (js ++ j ∷ [])
-AreFirst-push passes done [] j a f = (subst (λ (xs : List ℕ). IsFirst passes xs j) (append-nil done) f, tt)
-AreFirst-push passes done (i ∷ js) j a f = (a.0, AreFirst-push passes (done ++ i ∷ []) js j a.1 (subst (λ (xs : List ℕ). IsFirst passes xs j) (sym (append_assoc done (i ∷ []) js)) f))
-
--- the parts of a gate that waits for nothing
-nothing_parts : (n : ℕ) (done waiting : List ℕ) (j : ℕ) → waits_for_nothing n done waiting j ≡ true → (j < n) × (list_any (nat_eq j) done ≡ false) × (slice_index_or waiting j 0 ≡ 0)
-nothing_parts n done waiting j t = by (nat_lt j n) (list_any (nat_eq j) done) (nat_eq (slice_index_or waiting j 0) 0) refl refl refl t
+-- a gate that waits for another one waits for it still
+awaited_kept : (slots done : List ℕ) (g j : ℕ) → nat_eq (awaited slots done j) (suc g) ≡ false → awaited slots (done ++ g ∷ []) j ≡ awaited slots done j
+awaited_kept slots done g j other =
+    ap (λ (t : Bool). if t then (if is_free slots (done ++ g ∷ []) (2 * j + 1) then 0 else slot_at slots (2 * j + 1)) else slot_at slots (2 * j)) (free_push slots done g (2 * j))
+    ∙ (ap (λ (t : Bool). if is_free slots done (2 * j) || nat_eq (slot_at slots (2 * j)) (suc g) then (if t then 0 else slot_at slots (2 * j + 1)) else slot_at slots (2 * j)) (free_push slots done g (2 * j + 1))
+    ∙ by (slot_at slots (2 * j)) (slot_at slots (2 * j + 1)) (is_free slots done (2 * j)) (is_free slots done (2 * j + 1)) (nat_eq (slot_at slots (2 * j)) (suc g)) (nat_eq (slot_at slots (2 * j + 1)) (suc g)) refl refl other)
   where
-    by : (a b c : Bool) → nat_lt j n ≡ a → list_any (nat_eq j) done ≡ b → nat_eq (slice_index_or waiting j 0) 0 ≡ c → (a && (not b && c)) ≡ true → (j < n) × (list_any (nat_eq j) done ≡ false) × (slice_index_or waiting j 0 ≡ 0)
-    by true false true e f g u = (grind (arith, nat_tests), f, grind (arith, nat_tests))
-    by true false false e f g u = absurd (cc)
-    by true true c e f g u = absurd (cc)
-    by false b c e f g u = absurd (cc)
+    by : (a b : ℕ) (p q x y : Bool) → nat_eq a (suc g) ≡ x → nat_eq b (suc g) ≡ y → nat_eq (if p then (if q then 0 else b) else a) (suc g) ≡ false → (if p || x then (if q || y then 0 else b) else a) ≡ (if p then (if q then 0 else b) else a)
+    by a b true true x y e f h = refl
+    by a b true false x true e f h = absurd (both_ways (nat_eq b (suc g)) h f)
+    by a b true false x false e f h = refl
+    by a b false q true y e f h = absurd (both_ways (nat_eq a (suc g)) h e)
+    by a b false q false y e f h = refl
 
--- an order whose gates are all before a bound, and in turn
-pub record IsBegun (slots : List ℕ) (n bound : ℕ) (order : List ℕ) : Type 0 where
-  pub before : (i : ℕ) → list_any (nat_eq i) order ≡ true → i < bound
-  pub in_turn : AreFirst (may_be_next slots n) [] order
+-- the first slot of a gate that waits for this one waits no longer once it is done
+freed_first : (slots done : List ℕ) (g j : ℕ) → awaited slots done j ≡ suc g → is_free slots (done ++ g ∷ []) (2 * j) ≡ true
+freed_first slots done g j e = free_push slots done g (2 * j) ∙ by (is_free slots done (2 * j)) e
+  where
+    by : (p : Bool) → (if p then (if is_free slots done (2 * j + 1) then 0 else slot_at slots (2 * j + 1)) else slot_at slots (2 * j)) ≡ suc g → (p || nat_eq (slot_at slots (2 * j)) (suc g)) ≡ true
+    by true h = refl
+    by false h = eq-eqb (slot_at slots (2 * j)) (suc g) h
+
+-- where a gate's first slot waits, and where it does not
+awaited_first : (slots done : List ℕ) (j : ℕ) → is_free slots done (2 * j) ≡ false → awaited slots done j ≡ slot_at slots (2 * j)
+awaited_first slots done j t = ap (λ (b : Bool). if b then (if is_free slots done (2 * j + 1) then 0 else slot_at slots (2 * j + 1)) else slot_at slots (2 * j)) t
+
+awaited_second : (slots done : List ℕ) (j : ℕ) (b : Bool) → is_free slots done (2 * j) ≡ true → is_free slots done (2 * j + 1) ≡ b → awaited slots done j ≡ (if b then 0 else slot_at slots (2 * j + 1))
+awaited_second slots done j b t e =
+    ap (λ (b : Bool). if b then (if is_free slots done (2 * j + 1) then 0 else slot_at slots (2 * j + 1)) else slot_at slots (2 * j)) t ∙ ap (λ (b : Bool). if b then 0 else slot_at slots (2 * j + 1)) e
+
+-- a slot that the links still have is open where it waits
+open_is : (slots : List ℕ) (n : ℕ) (done heads links : List ℕ) (s : ℕ) → AreSlots slots n → AreDone n done heads → slot_at links s ≡ slot_at slots s → s < length slots → is_open heads links s ≡ not (is_free slots done s)
+open_is slots n done heads links s are marks e low =
+    ap (λ (x : ℕ). not (nat_eq x 0) && not (nat_eq (slice_index_or heads (x - 1) 0) 0)) e ∙ by (slot_at slots s) (are.within s 0 low)
+  where
+    by : (x : ℕ) → x ≤ n → (not (nat_eq x 0) && not (nat_eq (slice_index_or heads (x - 1) 0) 0)) ≡ not (nat_eq x 0 || list_any (λ g. nat_eq x (suc g)) done)
+    by zero h = refl
+    by (suc g) h =
+        let z : suc g - 1 ≡ g = omega arith in
+        let m : nat_eq (slice_index_or heads (suc g - 1) 0) 0 ≡ list_any (nat_eq g) done = ap (λ (k : ℕ). nat_eq (slice_index_or heads k 0) 0) z ∙ marks.each g (omega arith) in
+        let f : nat_eq (suc g) 0 ≡ false = ne_eqb (suc g) 0 (λ x. omega arith) in
+        ap (λ (b : Bool). not (nat_eq (suc g) 0) && not b) m ∙ (ap (λ (b : Bool). not b && not (list_any (nat_eq g) done)) f ∙ sym (ap (λ (b : Bool). not (b || list_any (λ h. nat_eq (suc g) (suc h)) done)) f ∙ ap not (any_suc (suc g) g done refl)))
+
+-- the parts of a gate that may be next
+next_parts : (slots : List ℕ) (n : ℕ) (done : List ℕ) (j : ℕ) → may_be_next slots n done j ≡ true → (j < n) × (list_any (nat_eq j) done ≡ false) × (awaited slots done j ≡ 0)
+next_parts slots n done j t =
+    let p = and_parts (nat_lt j n) (not (list_any (nat_eq j) done) && nat_eq (awaited slots done j) 0) t in
+    let q = and_parts (not (list_any (nat_eq j) done)) (nat_eq (awaited slots done j) 0) p.1 in
+    (ltb-true j n p.0, not-true (list_any (nat_eq j) done) q.0, eqb-true (awaited slots done j) 0 q.1)
+
+next_from : (slots : List ℕ) (n : ℕ) (done : List ℕ) (j : ℕ) → j < n → list_any (nat_eq j) done ≡ false → awaited slots done j ≡ 0 → may_be_next slots n done j ≡ true
+next_from slots n done j low new none =
+    and_from (nat_lt j n) (not (list_any (nat_eq j) done) && nat_eq (awaited slots done j) 0) (lt-ltb j n low) (and_from (not (list_any (nat_eq j) done)) (nat_eq (awaited slots done j) 0) (ap not new) (eq-eqb (awaited slots done j) 0 none))
+
+-- a gate that waits for something may not be next, and one that waits for nothing stands in no chain
+not_next : (slots : List ℕ) (n : ℕ) (done : List ℕ) (j k h : ℕ) → awaited slots done j ≡ suc h → nat_eq k j ≡ true → may_be_next slots n done k ≡ false
+not_next slots n done j k h wait t =
+    let w : awaited slots done k ≡ suc h = ap (awaited slots done) (eqb-true k j t) ∙ wait in
+    let z : nat_eq (awaited slots done k) 0 ≡ false = ne_eqb (awaited slots done k) 0 (λ x. let y : 0 ≡ suc h = sym x ∙ w in omega (arith, y)) in
+    and_right (nat_lt k n) (not (list_any (nat_eq k) done) && nat_eq (awaited slots done k) 0) (and_right (not (list_any (nat_eq k) done)) (nat_eq (awaited slots done k) 0) z)
+
+not_other : (slots done : List ℕ) (j k g h : ℕ) → awaited slots done j ≡ h → (h ≡ suc g → ⊥) → nat_eq k j ≡ true → nat_eq (awaited slots done k) (suc g) ≡ false
+not_other slots done j k g h wait other t = ne_eqb (awaited slots done k) (suc g) (λ x. other (sym (ap (awaited slots done) (eqb-true k j t) ∙ wait) ∙ x))
+
+-- a gate that is looked at stands nowhere
+looked_at : (bound : ℕ) (away : List ℕ) (j k : ℕ) (b : Bool) → nat_eq k j ≡ true → (is_passed bound (j ∷ away) k && b) ≡ false
+looked_at bound away j k b t =
+    and_left (is_passed bound (j ∷ away) k) b (and_right (nat_lt k bound) (not (nat_eq k j || list_any (nat_eq k) away)) (ap (λ (x : Bool). not (x || list_any (nat_eq k) away)) t))
+
+-- that it is looked at no longer changes only where it stands
+back : (bound : ℕ) (away : List ℕ) (j k : ℕ) (b : Bool) → (nat_eq k j ≡ true → b ≡ false) → (is_passed bound (j ∷ away) k && b) ≡ (is_passed bound away k && b)
+back bound away j k b none = by (nat_eq k j) refl
+  where
+    by : (t : Bool) → nat_eq k j ≡ t → (is_passed bound (j ∷ away) k && b) ≡ (is_passed bound away k && b)
+    by true e = looked_at bound away j k b e ∙ sym (and_right (is_passed bound away k) b (none e))
+    by false e = ap (λ (t : Bool). (nat_lt k bound && not (t || list_any (nat_eq k) away)) && b) e
+
+-- where it stands then
+stands_now : (bound : ℕ) (away : List ℕ) (j k : ℕ) (b : Bool) → list_any (nat_eq j) away ≡ false → j < bound → nat_eq k j ≡ true → b ≡ true → (is_passed bound away k && b) ≡ true
+stands_now bound away j k b new low t is =
+    let p : is_passed bound away j ≡ true = and_from (nat_lt j bound) (not (list_any (nat_eq j) away)) (lt-ltb j bound low) (ap not new) in
+    and_from (is_passed bound away k) b (ap (is_passed bound away) (eqb-true k j t) ∙ p) is
+
+-- a chain is kept where the link of a gate changes that does not stand in it
+chain_kept : (links : List ℕ) (k v at : ℕ) (js : List ℕ) → list_any (nat_eq k) js ≡ false → IsChain links at js → IsChain (slice_set links (2 * k) v) at js
+chain_kept links k v at [] new c = c
+chain_kept links k v at (j ∷ js) new c =
+    let p = or_parts (nat_eq k j) (list_any (nat_eq k) js) new in
+    let other : 2 * j ≡ 2 * k → ⊥ = λ e. eqb-false k j p.0 (omega (arith, e)) in
+    (c.0, c.1, subst (λ (a : ℕ). IsChain (slice_set links (2 * k) v) a js) (sym (get_or-set_other links (2 * k) (2 * j) v 0 other)) (chain_kept links k v (slot_at links (2 * j)) js p.1 c.2))
+
+-- a gate that is looked at is put into the chain of what it waits for
+put : (slots : List ℕ) (n bound : ℕ) (done away heads links heads_put links_put : List ℕ) (ready : List (Reverse ℕ)) (j s : ℕ) → IsUnderway slots n bound done (j ∷ away) heads links ready → list_any (nat_eq j) away ≡ false → j < bound
+    → s < length slots → slot_at links s ≡ slot_at slots s → is_free slots done s ≡ false → awaited slots done j ≡ slot_at slots s → IsPut j s heads links heads_put links_put → IsUnderway slots n bound done away heads_put links_put ready
+put slots n bound done away heads links heads_put links_put ready j s u new low place same busy waits is =
+    subst (λ (x : List ℕ). IsUnderway slots n bound done away heads_put x ready) (sym (is.link ∙ ap (λ (i : ℕ). slice_set links (2 * j) (slice_index_or heads i 0)) named))
+    (subst (λ (x : List ℕ). IsUnderway slots n bound done away x (slice_set links (2 * j) (slice_index_or heads h 0)) ready) (sym (is.head ∙ ap (λ (i : ℕ). slice_set heads i (j + 2)) named)) at_once)
+  where
+    h : ℕ
+    h = slot_at slots s - 1
+
+    some : slot_at slots s ≡ suc h
+    some = let x = eqb-false (slot_at slots s) 0 (or_parts (nat_eq (slot_at slots s) 0) (list_any (λ g. nat_eq (slot_at slots s) (suc g)) done) busy).0 in ⊎_elim (λ (z : slot_at slots s < 1). absurd (x (omega arith))) (λ (z : 1 ≤ slot_at slots s). omega arith) (cases_lt (slot_at slots s) 1)
+
+    named : slot_at links s - 1 ≡ h
+    named = ap (λ (x : ℕ). x - 1) same
+
+    wait : awaited slots done j ≡ suc h
+    wait = waits ∙ some
+
+    within : h < length heads
+    within = omega (arith, some, u.are.within s 0 place, u.marks.count)
+
+    here : (g : ℕ) → g ≡ h → slice_index_or (slice_set heads h (j + 2)) g 0 ≡ j + 2
+    here g e = ap (λ (i : ℕ). slice_index_or (slice_set heads h (j + 2)) i 0) e ∙ get_or-set_same heads h (j + 2) 0 within
+
+    marked : (g : ℕ) → g < n → nat_eq (slice_index_or (slice_set heads h (j + 2)) g 0) 0 ≡ list_any (nat_eq g) done
+    marked g l =
+        ⊎_elim
+        (λ (e : g ≡ h). ap (λ (i : ℕ). nat_eq i 0) (here g e) ∙ (ne_eqb (j + 2) 0 (λ x. omega arith) ∙ sym (ap (λ (i : ℕ). list_any (nat_eq i) done) e ∙ awaited_open slots done j h wait)))
+        (λ (o : g ≡ h → ⊥). ap (λ (i : ℕ). nat_eq i 0) (get_or-set_other heads h g (j + 2) 0 o) ∙ u.marks.each g l)
+        (cases_eq g h)
+
+    below : (g : ℕ) → g < length (slice_set heads h (j + 2)) → g < length heads
+    below g l = omega (arith, l, length-set heads h (j + 2))
+
+    absent : (g : ℕ) → g < length heads → list_any (nat_eq j) (u.chains.chain g) ≡ false
+    absent g l = u.chains.each g j l ∙ looked_at bound away j j (nat_eq (awaited slots done j) (suc g)) (eq-eqb j j refl)
+
+    kept : (g : ℕ) → g < length heads → IsChain (slice_set links (2 * j) (slice_index_or heads h 0)) (slice_index_or heads g 0) (u.chains.chain g)
+    kept g l = chain_kept links j (slice_index_or heads h 0) (slice_index_or heads g 0) (u.chains.chain g) (absent g l) (u.chains.are g l)
+
+    are : (g : ℕ) → g < length (slice_set heads h (j + 2)) → IsChain (slice_set links (2 * j) (slice_index_or heads h 0)) (slice_index_or (slice_set heads h (j + 2)) g 0) (if nat_eq g h then j ∷ u.chains.chain g else u.chains.chain g)
+    are g l = by (nat_eq g h) refl
+      where
+        by : (t : Bool) → nat_eq g h ≡ t → IsChain (slice_set links (2 * j) (slice_index_or heads h 0)) (slice_index_or (slice_set heads h (j + 2)) g 0) (if t then j ∷ u.chains.chain g else u.chains.chain g)
+        by true t =
+            let e : g ≡ h = eqb-true g h t in
+            let at' : slot_at (slice_set links (2 * j) (slice_index_or heads h 0)) (2 * j) ≡ slice_index_or heads g 0 =
+            get_or-set_same links (2 * j) (slice_index_or heads h 0) 0 (omega (arith, low, u.low, u.kept.count, u.are.count)) ∙ ap (λ (i : ℕ). slice_index_or heads i 0) (sym e) in
+            (here g e, absent g (below g l), subst (λ (a : ℕ). IsChain (slice_set links (2 * j) (slice_index_or heads h 0)) a (u.chains.chain g)) (sym at') (kept g (below g l)))
+        by false t =
+            subst (λ (a : ℕ). IsChain (slice_set links (2 * j) (slice_index_or heads h 0)) a (u.chains.chain g)) (sym (get_or-set_other heads h g (j + 2) 0 (eqb-false g h t))) (kept g (below g l))
+
+    each : (g k : ℕ) → g < length (slice_set heads h (j + 2)) → list_any (nat_eq k) (if nat_eq g h then j ∷ u.chains.chain g else u.chains.chain g) ≡ stands slots bound done away g k
+    each g k l = by (nat_eq g h) refl
+      where
+        other : (nat_eq k j ≡ true → nat_eq (awaited slots done k) (suc g) ≡ false) → list_any (nat_eq k) (u.chains.chain g) ≡ stands slots bound done away g k
+        other none = u.chains.each g k (below g l) ∙ back bound away j k (nat_eq (awaited slots done k) (suc g)) none
+
+        in_it : (b : Bool) → nat_eq k j ≡ b → g ≡ h → (b || list_any (nat_eq k) (u.chains.chain g)) ≡ stands slots bound done away g k
+        in_it true x e =
+            let w : awaited slots done k ≡ suc g = ap (awaited slots done) (eqb-true k j x) ∙ (wait ∙ ap suc (sym e)) in
+            sym (stands_now bound away j k (nat_eq (awaited slots done k) (suc g)) new low x (eq-eqb (awaited slots done k) (suc g) w))
+        in_it false x e = other (λ y. absurd (both_ways (nat_eq k j) x y))
+
+        by : (t : Bool) → nat_eq g h ≡ t → list_any (nat_eq k) (if t then j ∷ u.chains.chain g else u.chains.chain g) ≡ stands slots bound done away g k
+        by true t = in_it (nat_eq k j) refl (eqb-true g h t)
+        by false t = other (not_other slots done j k g (suc h) wait (λ x. eqb-false g h t (omega (arith, x))))
+
+    at_once : IsUnderway slots n bound done away (slice_set heads h (j + 2)) (slice_set links (2 * j) (slice_index_or heads h 0)) ready
+    at_once = record {
+      are = u.are;
+      low = u.low;
+      kept = record {
+        count = length-set links (2 * j) (slice_index_or heads h 0) ∙ u.kept.count;
+        second = λ k. get_or-set_other links (2 * j) (2 * k + 1) (slice_index_or heads h 0) 0 (λ e. omega (arith, e)) ∙ u.kept.second k;
+        first = λ k more. get_or-set_other links (2 * j) (2 * k) (slice_index_or heads h 0) 0 (λ e. omega (arith, e, more, low)) ∙ u.kept.first k more;
+      };
+      marks = record { count = length-set heads h (j + 2) ∙ u.marks.count; each = marked };
+      chains = record { chain = λ g. if nat_eq g h then j ∷ u.chains.chain g else u.chains.chain g; are = are; each = each };
+      has = record { heap = u.has.heap; each = λ k. u.has.each k ∙ ap one_if (back bound away j k (may_be_next slots n done k) (not_next slots n done j k h wait)) };
+      before = u.before;
+      closed = u.closed;
+      in_turn = u.in_turn;
+    }
+
+-- a gate that is put into a heap
+pub noted : (x : Reverse ℕ) (ready now : List (Reverse ℕ)) → IsPermutation (x ∷ ready) now → KeepsHeap turns ready now → IsNoted x.0 ready now
+noted x ready now moved keeps = record { heap = keeps; each = λ i. omega (arith, sum_by_pushed (λ (g : Reverse ℕ). one_if (nat_eq g.0 i)) x ready now moved) }
+
+-- a gate that is looked at is ready
+note : (slots : List ℕ) (n bound : ℕ) (done away heads links : List ℕ) (ready now : List (Reverse ℕ)) (j : ℕ) → IsUnderway slots n bound done (j ∷ away) heads links ready → list_any (nat_eq j) away ≡ false → j < bound → list_any (nat_eq j) done ≡ false → awaited slots done j ≡ 0
+    → IsNoted j ready now → IsUnderway slots n bound done away heads links now
+note slots n bound done away heads links ready now j u new low left none is =
+    record {
+      are = u.are;
+      low = u.low;
+      kept = u.kept;
+      marks = u.marks;
+      chains = record { chain = u.chains.chain; are = u.chains.are; each = λ g k l. u.chains.each g k l ∙ back bound away j k (nat_eq (awaited slots done k) (suc g)) (not_other slots done j k g 0 none (λ x. omega (arith, x))) };
+      has = record { heap = is.heap u.has.heap; each = λ k. each k (nat_eq k j) refl };
+      before = u.before;
+      closed = u.closed;
+      in_turn = u.in_turn;
+    }
+  where
+    each : (k : ℕ) (t : Bool) → nat_eq k j ≡ t → times now k ≡ one_if (is_passed bound away k && may_be_next slots n done k)
+    each k true t =
+        let turn : may_be_next slots n done k ≡ true = ap (may_be_next slots n done) (eqb-true k j t) ∙ next_from slots n done j (omega (arith, low, u.low)) left none in
+        let old : one_if (is_passed bound (j ∷ away) k && may_be_next slots n done k) ≡ 0 = ap one_if (looked_at bound away j k (may_be_next slots n done k) t) in
+        let more : one_if (nat_eq j k) ≡ 1 = ap one_if (eq-eqb j k (sym (eqb-true k j t))) in
+        let here : one_if (is_passed bound away k && may_be_next slots n done k) ≡ 1 = ap one_if (stands_now bound away j k (may_be_next slots n done k) new low t turn) in
+        omega (arith, is.each k, u.has.each k, old, more, here)
+    each k false t =
+        let more : one_if (nat_eq j k) ≡ 0 = ap one_if (ne_eqb j k (λ x. eqb-false k j t (sym x))) in
+        let same : one_if (is_passed bound (j ∷ away) k && may_be_next slots n done k) ≡ one_if (is_passed bound away k && may_be_next slots n done k) = ap one_if (back bound away j k (may_be_next slots n done k) (λ x. absurd (both_ways (nat_eq k j) t x))) in
+        omega (arith, is.each k, u.has.each k, more, same)
 
 -- no gate before the one that a heap gives is in it
 times_before : (i : ℕ) (x : Reverse ℕ) (ready : List (Reverse ℕ)) → i < x.0 → IsUpperBound turns x ready → times ready i ≡ 0
@@ -330,21 +294,6 @@ times_before i x (y ∷ ready) low h =
     let here : one_if (nat_eq y.0 i) ≡ 0 = ap one_if no in
     omega (arith, sum_by-cons (λ (g : Reverse ℕ). one_if (nat_eq g.0 i)) y ready, here, times_before i x ready low h.1)
 
--- a gate that is put into a heap
-pub noted : (x : Reverse ℕ) (bound left : ℕ) (ready now : List (Reverse ℕ)) → x.0 < bound → left ≡ 0 → IsPermutation (x ∷ ready) now → KeepsHeap turns ready now → IsNoted x.0 bound left ready now
-noted x bound left ready now low none moved keeps = record { heap = keeps; each = each_at }
-  where
-    and_true : (b : Bool) → (b && true) ≡ b
-    and_true true = refl
-    and_true false = refl
-
-    each_at : (i : ℕ) → times now i ≡ times ready i + one_if (nat_eq x.0 i && (nat_lt x.0 bound && nat_eq left 0))
-    each_at i =
-        let a : nat_lt x.0 bound ≡ true = grind (arith, nat_tests) in
-        let b : nat_eq left 0 ≡ true = grind (arith, nat_tests) in
-        let put : one_if (nat_eq x.0 i && (nat_lt x.0 bound && nat_eq left 0)) ≡ one_if (nat_eq x.0 i) = rw (a, b) (ap one_if (and_true (nat_eq x.0 i))) in
-        omega (arith, put, sum_by_pushed (λ (g : Reverse ℕ). one_if (nat_eq g.0 i)) x ready now moved)
-
 -- a test by how often it is passed
 passed : (b : Bool) → 1 ≤ one_if b → b ≡ true
 passed true h = refl
@@ -354,103 +303,343 @@ failed : (b : Bool) → one_if b ≡ 0 → b ≡ false
 failed true h = absurd (omega (arith, h))
 failed false h = refl
 
--- a gate is taken from those that are ready
-pub taken : (slots : List ℕ) (n bound : ℕ) (done waiting : List ℕ) (ready rest : List (Reverse ℕ)) (x : Reverse ℕ) → IsBetween slots n bound done waiting ready → bound ≤ n → IsPermutation ready (x ∷ rest) → PopsGreatest turns ready x rest
-    → IsTaken slots n bound (done ++ x.0 ∷ []) waiting rest × IsBegun slots n bound (done ++ x.0 ∷ [])
-taken slots n bound done waiting ready rest x b most moved pops =
-    (record { done = done; gate = x.0; last = refl; within = omega (arith, parts.0, most); new = parts.1; waits = b.waits; free = parts.2; has = record { heap = (pops b.has.heap).0; each = each_at } }, record { before = before; in_turn = AreFirst-push (may_be_next slots n) [] done x.0 b.in_turn first })
+-- where none before the bound is ready, none of them may be next
+none_passed : (bound i : ℕ) (b : Bool) → i < bound → one_if (is_passed bound [] i && b) ≡ 0 → b ≡ false
+none_passed bound i b low none = sym (ap (λ (t : Bool). (t && not false) && b) (lt-ltb i bound low)) ∙ failed (is_passed bound [] i && b) none
+
+-- the first of those that are ready leaves them
+pub popped : (slots : List ℕ) (n bound : ℕ) (done heads links : List ℕ) (ready rest : List (Reverse ℕ)) (x : Reverse ℕ) → IsUnderway slots n bound done [] heads links ready → IsPermutation ready (x ∷ rest) → PopsGreatest turns ready x rest → IsTaken slots n bound done x.0 heads links rest
+popped slots n bound done heads links ready rest x u moved pops =
+    record {
+      underway = record {
+        are = u.are;
+        low = u.low;
+        kept = u.kept;
+        marks = u.marks;
+        chains = record { chain = u.chains.chain; are = u.chains.are; each = λ g k l. u.chains.each g k l ∙ sym (back bound [] x.0 k (nat_eq (awaited slots done k) (suc g)) (not_other slots done x.0 k g 0 parts.2 (λ y. omega (arith, y)))) };
+        has = record { heap = (pops u.has.heap).0; each = λ k. each k (nat_eq k x.0) refl };
+        before = u.before;
+        closed = u.closed;
+        in_turn = u.in_turn;
+      };
+      first = record { ready = turn.1; first = λ i low. none_passed bound i (may_be_next slots n done i) (omega (arith, low, within)) (sym (u.has.each i) ∙ times_before i x ready low (pops u.has.heap).1) };
+      within = within;
+    }
   where
-    count : (i : ℕ) → times rest i + one_if (nat_eq x.0 i) ≡ times ready i
-    count i = sum_by_popped (λ (g : Reverse ℕ). one_if (nat_eq g.0 i)) x ready rest moved
+    count : (k : ℕ) → times rest k + one_if (nat_eq x.0 k) ≡ times ready k
+    count k = sum_by_popped (λ (g : Reverse ℕ). one_if (nat_eq g.0 k)) x ready rest moved
 
-    ready_there : waits_for_nothing bound done waiting x.0 ≡ true
-    ready_there =
-        let same : nat_eq x.0 x.0 ≡ true = grind (arith, nat_tests) in
-        let here : one_if (nat_eq x.0 x.0) ≡ 1 = ap one_if same in
-        passed (waits_for_nothing bound done waiting x.0) (omega (arith, count x.0, here, b.has.each x.0))
+    turn : (is_passed bound [] x.0 ≡ true) × (may_be_next slots n done x.0 ≡ true)
+    turn =
+        let here : one_if (nat_eq x.0 x.0) ≡ 1 = ap one_if (eq-eqb x.0 x.0 refl) in
+        and_parts (is_passed bound [] x.0) (may_be_next slots n done x.0) (passed (is_passed bound [] x.0 && may_be_next slots n done x.0) (omega (arith, count x.0, here, u.has.each x.0)))
 
-    parts : (x.0 < bound) × (list_any (nat_eq x.0) done ≡ false) × (slice_index_or waiting x.0 0 ≡ 0)
-    parts = nothing_parts bound done waiting x.0 ready_there
+    within : x.0 < bound
+    within = ltb-true x.0 bound (and_parts (nat_lt x.0 bound) (not false) turn.0).0
 
-    first : IsFirst (may_be_next slots n) done x.0
-    first = record {
-      ready = may_be_next_is slots n bound done waiting b.waits most x.0 parts.0 ∙ ready_there;
-      first = λ i low. may_be_next_is slots n bound done waiting b.waits most i (omega (arith, low, parts.0)) ∙ failed (waits_for_nothing bound done waiting i) (sym (b.has.each i) ∙ times_before i x ready low (pops b.has.heap).1);
+    parts : (x.0 < n) × (list_any (nat_eq x.0) done ≡ false) × (awaited slots done x.0 ≡ 0)
+    parts = next_parts slots n done x.0 turn.1
+
+    each : (k : ℕ) (t : Bool) → nat_eq k x.0 ≡ t → times rest k ≡ one_if (is_passed bound (x.0 ∷ []) k && may_be_next slots n done k)
+    each k true t =
+        let e : k ≡ x.0 = eqb-true k x.0 t in
+        let here : one_if (nat_eq x.0 k) ≡ 1 = ap one_if (eq-eqb x.0 k (sym e)) in
+        let once : one_if (is_passed bound [] k && may_be_next slots n done k) ≡ 1 = ap (λ (i : ℕ). one_if (is_passed bound [] i && may_be_next slots n done i)) e ∙ ap one_if (and_from (is_passed bound [] x.0) (may_be_next slots n done x.0) turn.0 turn.1) in
+        let now : one_if (is_passed bound (x.0 ∷ []) k && may_be_next slots n done k) ≡ 0 = ap one_if (looked_at bound [] x.0 k (may_be_next slots n done k) t) in
+        omega (arith, count k, here, once, u.has.each k, now)
+    each k false t =
+        let here : one_if (nat_eq x.0 k) ≡ 0 = ap one_if (ne_eqb x.0 k (λ y. eqb-false k x.0 t (sym y))) in
+        let now : one_if (is_passed bound (x.0 ∷ []) k && may_be_next slots n done k) ≡ one_if (is_passed bound [] k && may_be_next slots n done k) = ap one_if (back bound [] x.0 k (may_be_next slots n done k) (λ y. absurd (both_ways (nat_eq k x.0) t y))) in
+        omega (arith, count k, here, u.has.each k, now)
+
+-- a bound more, of which the last gate is looked at
+one_more : (c k : ℕ) → is_passed c [] k ≡ is_passed (c + 1) (c ∷ []) k
+one_more c k =
+    ⊎_elim
+    (λ (e : k ≡ c).
+    let a : nat_lt k c ≡ false = le-ltb k c (omega (arith, e)) in
+    let b : nat_eq k c ≡ true = eq-eqb k c e in
+    and_left (nat_lt k c) (not false) a ∙ sym (and_right (nat_lt k (c + 1)) (not (nat_eq k c || false)) (ap (λ (t : Bool). not (t || false)) b)))
+    (λ (o : (k < c) ⊎ (c < k)).
+    let b : nat_eq k c ≡ false = ne_eqb k c (λ e. ⊎_elim (λ (l : k < c). omega (arith, e, l)) (λ (l : c < k). omega (arith, e, l)) o) in
+    let a : nat_lt k c ≡ nat_lt k (c + 1) = ⊎_elim (λ (l : k < c). lt-ltb k c l ∙ sym (lt-ltb k (c + 1) (omega (arith, l)))) (λ (l : c < k). le-ltb k c (omega (arith, l)) ∙ sym (le-ltb k (c + 1) (omega (arith, l)))) o in
+    ap (λ (t : Bool). t && not false) a ∙ sym (ap (λ (t : Bool). nat_lt k (c + 1) && not (t || false)) b))
+    (cases_order k c)
+
+-- file order comes to a gate
+comes_to : (slots : List ℕ) (n c : ℕ) (done heads links : List ℕ) (ready : List (Reverse ℕ)) → IsUnderway slots n c done [] heads links ready → c < n → IsUnderway slots n (c + 1) done (c ∷ []) heads links ready
+comes_to slots n c done heads links ready u low =
+    record {
+      are = u.are;
+      low = omega (arith, low);
+      kept = record { count = u.kept.count; second = u.kept.second; first = λ j more. u.kept.first j (omega (arith, more)) };
+      marks = u.marks;
+      chains = record { chain = u.chains.chain; are = u.chains.are; each = λ g k l. u.chains.each g k l ∙ ap (λ (b : Bool). b && nat_eq (awaited slots done k) (suc g)) (one_more c k) };
+      has = record { heap = u.has.heap; each = λ k. u.has.each k ∙ ap (λ (b : Bool). one_if (b && may_be_next slots n done k)) (one_more c k) };
+      before = λ j t. omega (arith, u.before j t);
+      closed = u.closed;
+      in_turn = u.in_turn;
     }
 
-    before : (i : ℕ) → list_any (nat_eq i) (done ++ x.0 ∷ []) ≡ true → i < bound
-    before i t = ⊎_elim (λ (u : list_any (nat_eq i) done ≡ true). b.before i u) (λ (e : i ≡ x.0). omega (arith, e, parts.0)) (any_push i x.0 done t)
+-- whether its slots are open
+passed_open : (slots : List ℕ) (n c : ℕ) (done heads links : List ℕ) (ready : List (Reverse ℕ)) → IsUnderway slots n c done [] heads links ready → c < n → (is_open heads links (2 * c) ≡ not (is_free slots done (2 * c))) × (is_open heads links (2 * c + 1) ≡ not (is_free slots done (2 * c + 1)))
+passed_open slots n c done heads links ready u low = (
+  open_is slots n done heads links (2 * c) u.are u.marks (u.kept.first c (omega arith)) (omega (arith, u.are.count, low)),
+  open_is slots n done heads links (2 * c + 1) u.are u.marks (u.kept.second c) (omega (arith, u.are.count, low)),
+)
 
-    each_at : (i : ℕ) → times rest i ≡ one_if (waits_for_nothing bound (done ++ x.0 ∷ []) waiting i)
-    each_at i = by (nat_eq x.0 i) refl
-      where
-        by : (t : Bool) → nat_eq x.0 i ≡ t → times rest i ≡ one_if (waits_for_nothing bound (done ++ x.0 ∷ []) waiting i)
-        by true e =
-            let same : i ≡ x.0 = grind (arith, nat_tests) in
-            let u : nat_eq i x.0 ≡ true = grind (arith, nat_tests) in
-            let here : one_if (nat_eq x.0 i) ≡ 1 = ap one_if e in
-            let once : one_if (waits_for_nothing bound done waiting i) ≡ 1 = ap (λ (k : ℕ). one_if (waits_for_nothing bound done waiting k)) same ∙ ap one_if ready_there in
-            let joined = list_any-append (nat_eq i) done (x.0 ∷ []) in
-            let m : list_any (nat_eq i) (done ++ x.0 ∷ []) ≡ true = grind (arith, nat_tests, joined, u) in
-            let now : one_if (waits_for_nothing bound (done ++ x.0 ∷ []) waiting i) ≡ 0 = rw (m) (ap one_if (and_false (nat_lt i bound))) in
-            omega (arith, count i, here, once, b.has.each i, now)
-        by false e =
-            let u : nat_eq i x.0 ≡ false = grind (arith, nat_tests) in
-            let here : one_if (nat_eq x.0 i) ≡ 0 = ap one_if e in
-            let joined = list_any-append (nat_eq i) done (x.0 ∷ []) in
-            let m : list_any (nat_eq i) (done ++ x.0 ∷ []) ≡ list_any (nat_eq i) done = grind (arith, nat_tests, joined, u) in
-            let now : one_if (waits_for_nothing bound (done ++ x.0 ∷ []) waiting i) ≡ one_if (waits_for_nothing bound done waiting i) = rw (m) refl in
-            omega (arith, count i, here, b.has.each i, now)
+-- it waits for the first of its operands, for the second one, or is next
+pub waits_for_first : (slots : List ℕ) (n c : ℕ) (done heads links heads_put links_put : List ℕ) (ready : List (Reverse ℕ)) → IsUnderway slots n c done [] heads links ready → c < n → is_open heads links (2 * c) ≡ true → IsPut c (2 * c) heads links heads_put links_put → IsUnderway slots n (c + 1) done [] heads_put links_put ready
+waits_for_first slots n c done heads links heads_put links_put ready u low opened is =
+    let free : is_free slots done (2 * c) ≡ false = not-true (is_free slots done (2 * c)) (sym (passed_open slots n c done heads links ready u low).0 ∙ opened) in
+    put slots n (c + 1) done [] heads links heads_put links_put ready c (2 * c) (comes_to slots n c done heads links ready u low) refl (omega arith) (omega (arith, u.are.count, low)) (u.kept.first c (omega arith)) free (awaited_first slots done c free) is
 
--- the next gate may be ready too
-pub between_next : (slots : List ℕ) (n c left : ℕ) (order waiting : List ℕ) (ready noted : List (Reverse ℕ)) → IsBetween slots n c order waiting ready → left ≡ slice_index_or waiting c 0 → IsNoted c (c + 1) left ready noted → IsBetween slots n (c + 1) order waiting noted
-between_next slots n c left order waiting ready noted b is note =
-    record { waits = b.waits; has = record { heap = note.heap b.has.heap; each = each_at }; before = λ i t. omega (arith, b.before i t); in_turn = b.in_turn }
+pub waits_for_second : (slots : List ℕ) (n c : ℕ) (done heads links heads_put links_put : List ℕ) (ready : List (Reverse ℕ)) → IsUnderway slots n c done [] heads links ready → c < n → is_open heads links (2 * c) ≡ false → is_open heads links (2 * c + 1) ≡ true → IsPut c (2 * c + 1) heads links heads_put links_put
+    → IsUnderway slots n (c + 1) done [] heads_put links_put ready
+waits_for_second slots n c done heads links heads_put links_put ready u low closed opened is =
+    let p = passed_open slots n c done heads links ready u low in
+    let first : is_free slots done (2 * c) ≡ true = not-false (is_free slots done (2 * c)) (sym p.0 ∙ closed) in
+    let free : is_free slots done (2 * c + 1) ≡ false = not-true (is_free slots done (2 * c + 1)) (sym p.1 ∙ opened) in
+    put slots n (c + 1) done [] heads links heads_put links_put ready c (2 * c + 1) (comes_to slots n c done heads links ready u low) refl (omega arith) (omega (arith, u.are.count, low)) (u.kept.second c) free (awaited_second slots done c false first free) is
+
+pub taken_at_once : (slots : List ℕ) (n c : ℕ) (done heads links : List ℕ) (ready : List (Reverse ℕ)) → IsUnderway slots n c done [] heads links ready → c < n → ready ≡ [] → is_open heads links (2 * c) ≡ false → is_open heads links (2 * c + 1) ≡ false → IsTaken slots n (c + 1) done c heads links ready
+taken_at_once slots n c done heads links ready u low none closed shut =
+    let p = passed_open slots n c done heads links ready u low in
+    let first : is_free slots done (2 * c) ≡ true = not-false (is_free slots done (2 * c)) (sym p.0 ∙ closed) in
+    let second : is_free slots done (2 * c + 1) ≡ true = not-false (is_free slots done (2 * c + 1)) (sym p.1 ∙ shut) in
+    let new : list_any (nat_eq c) done ≡ false = false_unless (list_any (nat_eq c) done) (λ t. omega (arith, u.before c t)) in
+    record {
+      underway = comes_to slots n c done heads links ready u low;
+      first = record {
+        ready = next_from slots n done c low new (awaited_second slots done c true first second);
+        first = λ i less. none_passed c i (may_be_next slots n done i) less (sym (u.has.each i) ∙ ap (λ (r : List (Reverse ℕ)). times r i) none);
+      };
+      within = omega arith;
+    }
+
+-- one more in turn
+pub AreFirst-push : (passes : List ℕ → ℕ → Bool) (done js : List ℕ) (j : ℕ) → AreFirst passes done js → IsFirst passes (done ++ js) j → AreFirst passes done (js ++ j ∷ [])
+AreFirst-push passes done [] j a f = (subst (λ (xs : List ℕ). IsFirst passes xs j) (append-nil done) f, tt)
+AreFirst-push passes done (i ∷ js) j a f = (a.0, AreFirst-push passes (done ++ i ∷ []) js j a.1 (subst (λ (xs : List ℕ). IsFirst passes xs j) (sym (append_assoc done (i ∷ []) js)) f))
+
+-- a gate that waited for one that has its place now
+pub record IsFreed (slots : List ℕ) (bound : ℕ) (done : List ℕ) (j : ℕ) : Type 0 where
+  pub low : j < bound
+  pub left : list_any (nat_eq j) done ≡ false
+  pub first : is_free slots done (2 * j) ≡ true
+
+-- on the way along the chain of a gate that has its place now
+pub record IsWalk (slots : List ℕ) (n bound : ℕ) (done heads links : List ℕ) (ready : List (Reverse ℕ)) (at : ℕ) : Type 0 where
+  pub rest : List ℕ
+  pub underway : IsUnderway slots n bound done rest heads links ready
+  pub chain : IsChain links at rest
+  pub each : (j : ℕ) → list_any (nat_eq j) rest ≡ true → IsFreed slots bound done j
+
+-- where a gate other than the one that takes its place stands then
+moved_by : (g : ℕ) (low : Bool) (was now : ℕ) (test : ℕ → Bool) → test (suc g) ≡ false → (nat_eq was (suc g) ≡ false → now ≡ was) → (low && test was) ≡ ((low && not (low && nat_eq was (suc g))) && test now)
+moved_by g low was now test none same = by (nat_eq was (suc g)) refl low
   where
-    each_at : (i : ℕ) → times noted i ≡ one_if (waits_for_nothing (c + 1) order waiting i)
-    each_at i =
-        let e = note.each i in
-        let f = b.has.each i in
-        ⊎_elim
-        (λ (same : i ≡ c).
-        let new : list_any (nat_eq i) order ≡ false = false_unless (list_any (nat_eq i) order) (λ t. omega (arith, b.before i t, same)) in
-        let t : nat_eq c i ≡ true = grind (arith, nat_tests) in
-        let low : nat_lt c (c + 1) ≡ true = grind (arith, nat_tests) in
-        let more : nat_lt i (c + 1) ≡ true = grind (arith, nat_tests) in
-        let none : nat_lt i c ≡ false = grind (arith, nat_tests) in
-        let here : slice_index_or waiting i 0 ≡ left = ap (λ (k : ℕ). slice_index_or waiting k 0) same ∙ sym is in
-        let old : one_if (waits_for_nothing c order waiting i) ≡ 0 = rw (none) refl in
-        let put : one_if (nat_eq c i && (nat_lt c (c + 1) && nat_eq left 0)) ≡ one_if (nat_eq left 0) = rw (t, low) refl in
-        let now : one_if (waits_for_nothing (c + 1) order waiting i) ≡ one_if (nat_eq left 0) = rw (more, new, here) refl in
-        omega (arith, e, f, old, put, now))
-        (λ (o : (i < c) ⊎ (c < i)).
-        let t : nat_eq c i ≡ false = ⊎_elim (λ (l : i < c). grind (arith, nat_tests)) (λ (l : c < i). grind (arith, nat_tests)) o in
-        let put : one_if (nat_eq c i && (nat_lt c (c + 1) && nat_eq left 0)) ≡ 0 = rw (t) refl in
-        let same : nat_lt i (c + 1) ≡ nat_lt i c = ⊎_elim (λ (l : i < c). grind (arith, nat_tests)) (λ (l : c < i). grind (arith, nat_tests)) o in
-        let now : one_if (waits_for_nothing (c + 1) order waiting i) ≡ one_if (waits_for_nothing c order waiting i) = ap (λ (x : Bool). one_if (x && (not (list_any (nat_eq i) order) && nat_eq (slice_index_or waiting i 0) 0))) same in
-        omega (arith, e, f, put, now))
-        (cases_order i c)
+    by : (b : Bool) → nat_eq was (suc g) ≡ b → (l : Bool) → (l && test was) ≡ ((l && not (l && b)) && test now)
+    by true e true = ap test (eqb-true was (suc g) e) ∙ none
+    by true e false = refl
+    by false e true = ap test (sym (same e))
+    by false e false = refl
+
+pub walk_begins : (slots : List ℕ) (n bound : ℕ) (done heads links : List ℕ) (ready : List (Reverse ℕ)) (g : ℕ) → IsTaken slots n bound done g heads links ready → IsWalk slots n bound (done ++ g ∷ []) (slice_set heads g 0) links ready (slice_index_or heads g 0)
+walk_begins slots n bound done heads links ready g is =
+    record {
+      rest = u.chains.chain g;
+      underway = record {
+        are = u.are;
+        low = u.low;
+        kept = u.kept;
+        marks = record { count = length-set heads g 0 ∙ u.marks.count; each = λ k l. marked k (nat_eq k g) refl l };
+        chains = record { chain = λ h. if nat_eq h g then [] else u.chains.chain h; are = λ h l. are h (nat_eq h g) refl (below h l); each = λ h k l. each h k (nat_eq h g) refl (below h l) };
+        has = record { heap = u.has.heap; each = λ k. u.has.each k ∙ ap one_if (ready_now k (nat_eq k g) refl) };
+        before = λ k t. ⊎_elim (λ (x : list_any (nat_eq k) done ≡ true). u.before k x) (λ (e : k ≡ g). omega (arith, e, is.within)) (any_push k g done t);
+        closed = λ k t. let z : awaited slots done k ≡ 0 = waits_not k t in awaited_kept slots done g k (ne_eqb (awaited slots done k) (suc g) (λ x. let y : 0 ≡ suc g = sym z ∙ x in omega (arith, y))) ∙ z;
+        in_turn = AreFirst-push (may_be_next slots n) [] done g u.in_turn is.first;
+      };
+      chain = u.chains.are g within;
+      each = freed;
+    }
+  where
+    u : IsUnderway slots n bound done (g ∷ []) heads links ready
+    u = is.underway
+
+    parts : (g < n) × (list_any (nat_eq g) done ≡ false) × (awaited slots done g ≡ 0)
+    parts = next_parts slots n done g is.first.ready
+
+    within : g < length heads
+    within = omega (arith, parts.0, u.marks.count)
+
+    below : (h : ℕ) → h < length (slice_set heads g 0) → h < length heads
+    below h l = omega (arith, l, length-set heads g 0)
+
+    waits_not : (k : ℕ) → list_any (nat_eq k) (done ++ g ∷ []) ≡ true → awaited slots done k ≡ 0
+    waits_not k t = ⊎_elim (λ (x : list_any (nat_eq k) done ≡ true). u.closed k x) (λ (e : k ≡ g). ap (awaited slots done) e ∙ parts.2) (any_push k g done t)
+
+    marked : (k : ℕ) (t : Bool) → nat_eq k g ≡ t → k < n → nat_eq (slice_index_or (slice_set heads g 0) k 0) 0 ≡ list_any (nat_eq k) (done ++ g ∷ [])
+    marked k true t l =
+        let e : k ≡ g = eqb-true k g t in
+        ap (λ (i : ℕ). nat_eq (slice_index_or (slice_set heads g 0) i 0) 0) e ∙ (ap (λ (i : ℕ). nat_eq i 0) (get_or-set_same heads g 0 0 within) ∙ sym (ap (λ (i : ℕ). list_any (nat_eq i) (done ++ g ∷ [])) e ∙ any_last g done))
+    marked k false t l = ap (λ (i : ℕ). nat_eq i 0) (get_or-set_other heads g k 0 0 (eqb-false k g t)) ∙ (u.marks.each k l ∙ sym (any_other k g done t))
+
+    are : (h : ℕ) (t : Bool) → nat_eq h g ≡ t → h < length heads → IsChain links (slice_index_or (slice_set heads g 0) h 0) (if t then [] else u.chains.chain h)
+    are h true t l =
+        let z : slice_index_or (slice_set heads g 0) h 0 ≡ 0 = ap (λ (i : ℕ). slice_index_or (slice_set heads g 0) i 0) (eqb-true h g t) ∙ get_or-set_same heads g 0 0 within in
+        omega (arith, z)
+    are h false t l = subst (λ (a : ℕ). IsChain links a (u.chains.chain h)) (sym (get_or-set_other heads g h 0 0 (eqb-false h g t))) (u.chains.are h l)
+
+    and_true : (a b : Bool) → ((a && not false) && b) ≡ (a && b)
+    and_true true b = refl
+    and_true false b = refl
+
+    -- who stands in the chain
+    in_rest : (k : ℕ) → nat_eq k g ≡ false → list_any (nat_eq k) (u.chains.chain g) ≡ (nat_lt k bound && nat_eq (awaited slots done k) (suc g))
+    in_rest k t = u.chains.each g k within ∙ back bound [] g k (nat_eq (awaited slots done k) (suc g)) (λ x. absurd (both_ways (nat_eq k g) t x)) ∙ and_true (nat_lt k bound) (nat_eq (awaited slots done k) (suc g))
+
+    -- one that is not the gate, by what it waited for
+    moved : (k : ℕ) (test : ℕ → Bool) → nat_eq k g ≡ false → test (suc g) ≡ false → (is_passed bound (g ∷ []) k && test (awaited slots done k)) ≡ (is_passed bound (u.chains.chain g) k && test (awaited slots (done ++ g ∷ []) k))
+    moved k test t none =
+        back bound [] g k (test (awaited slots done k)) (λ x. absurd (both_ways (nat_eq k g) t x)) ∙ (and_true (nat_lt k bound) (test (awaited slots done k))
+        ∙ (moved_by g (nat_lt k bound) (awaited slots done k) (awaited slots (done ++ g ∷ []) k) test none (awaited_kept slots done g k) ∙ ap (λ (b : Bool). (nat_lt k bound && not b) && test (awaited slots (done ++ g ∷ []) k)) (sym (in_rest k t))))
+
+    each : (h k : ℕ) (t : Bool) → nat_eq h g ≡ t → h < length heads → list_any (nat_eq k) (if t then [] else u.chains.chain h) ≡ stands slots bound (done ++ g ∷ []) (u.chains.chain g) h k
+    each h k true t l =
+        let no : nat_eq (awaited slots (done ++ g ∷ []) k) (suc h) ≡ false = ne_eqb (awaited slots (done ++ g ∷ []) k) (suc h) (λ x. both_ways (list_any (nat_eq h) (done ++ g ∷ [])) (awaited_open slots (done ++ g ∷ []) k h x) (ap (λ (i : ℕ). list_any (nat_eq i) (done ++ g ∷ [])) (eqb-true h g t) ∙ any_last g done)) in
+        sym (and_right (is_passed bound (u.chains.chain g) k) (nat_eq (awaited slots (done ++ g ∷ []) k) (suc h)) no)
+    each h k false t l = u.chains.each h k l ∙ by (nat_eq k g) refl
+      where
+        by : (b : Bool) → nat_eq k g ≡ b → stands slots bound done (g ∷ []) h k ≡ stands slots bound (done ++ g ∷ []) (u.chains.chain g) h k
+        by true b =
+            let z : awaited slots (done ++ g ∷ []) k ≡ 0 = awaited_kept slots done g k (not_other slots done g k g 0 parts.2 (λ x. omega (arith, x)) b) ∙ (ap (awaited slots done) (eqb-true k g b) ∙ parts.2) in
+            let no : nat_eq (awaited slots (done ++ g ∷ []) k) (suc h) ≡ false = ne_eqb (awaited slots (done ++ g ∷ []) k) (suc h) (λ x. let y : 0 ≡ suc h = sym z ∙ x in omega (arith, y)) in
+            looked_at bound [] g k (nat_eq (awaited slots done k) (suc h)) b ∙ sym (and_right (is_passed bound (u.chains.chain g) k) (nat_eq (awaited slots (done ++ g ∷ []) k) (suc h)) no)
+        by false b = moved k (λ (a : ℕ). nat_eq a (suc h)) b (ne_eqb (suc g) (suc h) (λ x. eqb-false h g t (omega (arith, x))))
+
+    ready_now : (k : ℕ) (t : Bool) → nat_eq k g ≡ t → (is_passed bound (g ∷ []) k && may_be_next slots n done k) ≡ (is_passed bound (u.chains.chain g) k && may_be_next slots n (done ++ g ∷ []) k)
+    ready_now k true t =
+        let is_done : list_any (nat_eq k) (done ++ g ∷ []) ≡ true = ap (λ (i : ℕ). list_any (nat_eq i) (done ++ g ∷ [])) (eqb-true k g t) ∙ any_last g done in
+        let no : may_be_next slots n (done ++ g ∷ []) k ≡ false = and_right (nat_lt k n) (not (list_any (nat_eq k) (done ++ g ∷ [])) && nat_eq (awaited slots (done ++ g ∷ []) k) 0) (and_left (not (list_any (nat_eq k) (done ++ g ∷ []))) (nat_eq (awaited slots (done ++ g ∷ []) k) 0) (ap not is_done)) in
+        looked_at bound [] g k (may_be_next slots n done k) t ∙ sym (and_right (is_passed bound (u.chains.chain g) k) (may_be_next slots n (done ++ g ∷ []) k) no)
+    ready_now k false t =
+        moved k (λ (a : ℕ). nat_lt k n && (not (list_any (nat_eq k) done) && nat_eq a 0)) t (and_right (nat_lt k n) (not (list_any (nat_eq k) done) && nat_eq (suc g) 0) (and_right (not (list_any (nat_eq k) done)) (nat_eq (suc g) 0) (ne_eqb (suc g) 0 (λ x. omega (arith, x)))))
+        ∙ ap (λ (b : Bool). is_passed bound (u.chains.chain g) k && (nat_lt k n && (not b && nat_eq (awaited slots (done ++ g ∷ []) k) 0))) (sym (any_other k g done t))
+
+    freed : (k : ℕ) → list_any (nat_eq k) (u.chains.chain g) ≡ true → IsFreed slots bound (done ++ g ∷ []) k
+    freed k t =
+        let p = and_parts (is_passed bound (g ∷ []) k) (nat_eq (awaited slots done k) (suc g)) (sym (u.chains.each g k within) ∙ t) in
+        let wait : awaited slots done k ≡ suc g = eqb-true (awaited slots done k) (suc g) p.1 in
+        record {
+          low = ltb-true k bound (and_parts (nat_lt k bound) (not (list_any (nat_eq k) (g ∷ []))) p.0).0;
+          left = false_unless (list_any (nat_eq k) (done ++ g ∷ [])) (λ x. let y : 0 ≡ suc g = sym (waits_not k x) ∙ wait in omega (arith, y));
+          first = freed_first slots done g k wait;
+        }
+
+-- at a gate of the chain, with so many left
+pub record IsAt (slots : List ℕ) (n bound : ℕ) (done heads links : List ℕ) (ready : List (Reverse ℕ)) (j left : ℕ) : Type 0 where
+  pub rest : List ℕ
+  pub many : left ≡ suc (length rest)
+  pub underway : IsUnderway slots n bound done (j ∷ rest) heads links ready
+  pub new : list_any (nat_eq j) rest ≡ false
+  pub chain : IsChain links (slot_at links (2 * j)) rest
+  pub here : IsFreed slots bound done j
+  pub each : (k : ℕ) → list_any (nat_eq k) rest ≡ true → IsFreed slots bound done k
+
+pub walk_at : (slots : List ℕ) (n bound : ℕ) (done heads links : List ℕ) (ready : List (Reverse ℕ)) (at : ℕ) (w : IsWalk slots n bound done heads links ready at) → 1 < at → IsAt slots n bound done heads links ready (at - 2) (length w.rest)
+walk_at slots n bound done heads links ready at w more = by w.rest w.underway w.chain w.each
+  where
+    by : (rest : List ℕ) → IsUnderway slots n bound done rest heads links ready → IsChain links at rest → ((k : ℕ) → list_any (nat_eq k) rest ≡ true → IsFreed slots bound done k) → IsAt slots n bound done heads links ready (at - 2) (length rest)
+    by [] u c e = absurd (omega (arith, c, more))
+    by (j ∷ js) u c e =
+        let s : j ≡ at - 2 = omega (arith, c.0) in
+        let a : IsAt slots n bound done heads links ready j (length (j ∷ js)) = record {
+          rest = js;
+          many = omega arith;
+          underway = u;
+          new = c.1;
+          chain = c.2;
+          here = e j (ap (λ (t : Bool). t || list_any (nat_eq j) js) (eq-eqb j j refl));
+          each = λ k t. e k (or_right (nat_eq k j) (list_any (nat_eq k) js) t);
+        } in
+        subst (λ (k : ℕ). IsAt slots n bound done heads links ready k (length (j ∷ js))) s a
+
+-- its second slot is there, and names a gate if any
+pub at_place : (slots : List ℕ) (n bound : ℕ) (done heads links : List ℕ) (ready : List (Reverse ℕ)) (j left : ℕ) → IsAt slots n bound done heads links ready j left → (2 * j + 1 < length links) × (slot_at links (2 * j + 1) ≤ length heads)
+at_place slots n bound done heads links ready j left a =
+    let u = a.underway in
+    let place : 2 * j + 1 < length slots = omega (arith, u.are.count, a.here.low, u.low) in
+    (omega (arith, place, u.kept.count), omega (arith, u.kept.second j, u.are.within (2 * j + 1) 0 place, u.marks.count))
+
+-- where it stands then
+pub walk_step : (slots : List ℕ) (n bound : ℕ) (done heads links heads_now links_now : List ℕ) (ready now : List (Reverse ℕ)) (j left next : ℕ) → IsAt slots n bound done heads links ready j left → next ≡ slot_at links (2 * j)
+    → (is_open heads links (2 * j + 1) ≡ true → IsPut j (2 * j + 1) heads links heads_now links_now × (now ≡ ready)) → (is_open heads links (2 * j + 1) ≡ false → (heads_now ≡ heads) × (links_now ≡ links) × IsNoted j ready now)
+    → (w : IsWalk slots n bound done heads_now links_now now next) × (suc (length w.rest) ≡ left)
+walk_step slots n bound done heads links heads_now links_now ready now j left next a e waits notes =
+    subst (λ (k : ℕ). (w : IsWalk slots n bound done heads_now links_now now k) × (suc (length w.rest) ≡ left)) (sym e) (by (is_free slots done (2 * j + 1)) refl)
+  where
+    u : IsUnderway slots n bound done (j ∷ a.rest) heads links ready
+    u = a.underway
+
+    place : 2 * j + 1 < length slots
+    place = omega (arith, u.are.count, a.here.low, u.low)
+
+    test : is_open heads links (2 * j + 1) ≡ not (is_free slots done (2 * j + 1))
+    test = open_is slots n done heads links (2 * j + 1) u.are u.marks (u.kept.second j) place
+
+    by : (b : Bool) → is_free slots done (2 * j + 1) ≡ b → (w : IsWalk slots n bound done heads_now links_now now (slot_at links (2 * j))) × (suc (length w.rest) ≡ left)
+    by false t =
+        let is = waits (test ∙ ap not t) in
+        let after : IsUnderway slots n bound done a.rest heads_now links_now ready = put slots n bound done a.rest heads links heads_now links_now ready j (2 * j + 1) u a.new a.here.low place (u.kept.second j) t (awaited_second slots done j false a.here.first t) is.0 in
+        let chain : IsChain (slice_set links (2 * j) (slice_index_or heads (slot_at links (2 * j + 1) - 1) 0)) (slot_at links (2 * j)) a.rest = chain_kept links j (slice_index_or heads (slot_at links (2 * j + 1) - 1) 0) (slot_at links (2 * j)) a.rest a.new a.chain in
+        (record { rest = a.rest; underway = subst (λ (r : List (Reverse ℕ)). IsUnderway slots n bound done a.rest heads_now links_now r) (sym is.1) after; chain = subst (λ (l : List ℕ). IsChain l (slot_at links (2 * j)) a.rest) (sym is.0.link) chain; each = a.each }, sym a.many)
+    by true t =
+        let is = notes (test ∙ ap not t) in
+        let after : IsUnderway slots n bound done a.rest heads links now = note slots n bound done a.rest heads links ready now j u a.new a.here.low a.here.left (awaited_second slots done j true a.here.first t) is.2 in
+        let moved : IsUnderway slots n bound done a.rest heads_now links_now now = subst (λ (l : List ℕ). IsUnderway slots n bound done a.rest heads_now l now) (sym is.1) (subst (λ (l : List ℕ). IsUnderway slots n bound done a.rest l links now) (sym is.0) after) in
+        (record { rest = a.rest; underway = moved; chain = subst (λ (l : List ℕ). IsChain l (slot_at links (2 * j)) a.rest) (sym is.1) a.chain; each = a.each }, sym a.many)
+
+pub walk_ends : (slots : List ℕ) (n bound : ℕ) (done heads links : List ℕ) (ready : List (Reverse ℕ)) (at : ℕ) → IsWalk slots n bound done heads links ready at → at ≤ 1 → IsUnderway slots n bound done [] heads links ready
+walk_ends slots n bound done heads links ready at w low = by w.rest w.underway w.chain
+  where
+    by : (rest : List ℕ) → IsUnderway slots n bound done rest heads links ready → IsChain links at rest → IsUnderway slots n bound done [] heads links ready
+    by [] u c = u
+    by (j ∷ js) u c = absurd (omega (arith, c.0, low))
+
+-- how many gates a chain has, of so many at most
+pub walk_length : List ℕ → ℕ → ℕ → ℕ
+walk_length links at zero = 0
+walk_length links at (suc most) = if nat_lt at 2 then 0 else suc (walk_length links (slot_at links (2 * (at - 2))) most)
+
+length_is : (links : List ℕ) (at most : ℕ) (js : List ℕ) → IsChain links at js → length js ≤ most → walk_length links at most ≡ length js
+unfolding walk_length
+length_is links at zero [] c few = refl
+length_is links at zero (j ∷ js) c few = absurd (omega (arith, few))
+length_is links at (suc most) [] c few = ap (λ (t : Bool). if t then 0 else suc (walk_length links (slot_at links (2 * (at - 2))) most)) (lt-ltb at 2 c)
+length_is links at (suc most) (j ∷ js) c few =
+    let s : at - 2 ≡ j = omega (arith, c.0) in
+    ap (λ (t : Bool). if t then 0 else suc (walk_length links (slot_at links (2 * (at - 2))) most)) (le-ltb at 2 (omega (arith, c.0)))
+    ∙ ap suc (ap (λ (k : ℕ). walk_length links (slot_at links (2 * k)) most) s ∙ length_is links (slot_at links (2 * j)) most js c.2 (omega (arith, few)))
+
+chain_once : (links : List ℕ) (at : ℕ) (js : List ℕ) → IsChain links at js → IsDistinct nat_eq js
+unfolding IsDistinct
+chain_once links at [] c = tt
+chain_once links at (j ∷ js) c = (none j js c.1, chain_once links (slot_at links (2 * j)) js c.2)
+  where
+    none : (j : ℕ) (js : List ℕ) → list_any (nat_eq j) js ≡ false → AllByRecursion (λ k. nat_eq j k ≡ false) js
+    none j [] t = tt
+    none j (k ∷ ks) t = let p = or_parts (nat_eq j k) (list_any (nat_eq j) ks) t in (p.0, none j ks p.1)
+
+pub walk_left : (slots : List ℕ) (n bound : ℕ) (done heads links : List ℕ) (ready : List (Reverse ℕ)) (at : ℕ) (w : IsWalk slots n bound done heads links ready at) → walk_length links at (length heads) ≡ length w.rest
+walk_left slots n bound done heads links ready at w =
+    length_is links at (length heads) w.rest w.chain
+    (omega (arith, w.underway.marks.count, length-le_from_distinct_below w.rest n (chain_once links at w.rest w.chain) (λ k t. let l : k < bound = (w.each k t).low in omega (arith, l, w.underway.low))))
 
 -- where none is ready before the last bound, the order is whole
-pub between_ends : (slots : List ℕ) (n : ℕ) (order waiting : List ℕ) → IsBetween slots n n order waiting [] → IsWholeOrder slots n order waiting
-between_ends slots n order waiting b =
-    record { in_turn = b.in_turn; done = record { count = b.waits.count; each = each_at }; whole = λ j. ⊎_elim (λ (h : j < n). may_be_next_is slots n n order waiting b.waits (omega arith) j h ∙ none j) (λ (h : n ≤ j). beyond j h) (cases_lt j n) }
-  where
-    none : (j : ℕ) → waits_for_nothing n order waiting j ≡ false
-    none j = failed (waits_for_nothing n order waiting j) (sym (b.has.each j))
-
-    beyond : (j : ℕ) → n ≤ j → may_be_next slots n order j ≡ false
-    beyond j h = let t : nat_lt j n ≡ false = grind (arith, nat_tests) in rw (t) refl
-
-    each_at : (j : ℕ) → j < n → nat_eq (slice_index_or waiting j 0) 0 ≡ list_any (nat_eq j) order
-    each_at j h = by (list_any (nat_eq j) order) refl
-      where
-        by : (t : Bool) → list_any (nat_eq j) order ≡ t → nat_eq (slice_index_or waiting j 0) 0 ≡ list_any (nat_eq j) order
-        by true e = let z : slice_index_or waiting j 0 ≡ 0 = b.waits.none j e in grind (arith, nat_tests)
-        by false e =
-            let low : nat_lt j n ≡ true = grind (arith, nat_tests) in
-            let stuck : (nat_lt j n && (not (list_any (nat_eq j) order) && nat_eq (slice_index_or waiting j 0) 0)) ≡ false = none j in
-            grind (arith, nat_tests, e, low, stuck)
+pub underway_ends : (slots : List ℕ) (n : ℕ) (order heads links : List ℕ) (ready : List (Reverse ℕ)) → IsUnderway slots n n order [] heads links ready → ready ≡ [] → IsWholeOrder slots n order heads
+underway_ends slots n order heads links ready u none =
+    record { in_turn = u.in_turn; done = u.marks; whole = λ j. ⊎_elim (λ (h : j < n). none_passed n j (may_be_next slots n order j) h (sym (u.has.each j) ∙ ap (λ (r : List (Reverse ℕ)). times r j) none)) (λ (h : n ≤ j). and_left (nat_lt j n) (not (list_any (nat_eq j) order) && nat_eq (awaited slots order j) 0) (le-ltb j n h)) (cases_lt j n) }
 
 -- gates in turn are no more than there are
 few_from : (passes : List ℕ → ℕ → Bool) (n : ℕ) → ((done : List ℕ) (j : ℕ) → passes done j ≡ true → (j < n) × (list_any (nat_eq j) done ≡ false)) → (done js : List ℕ) → AreFirst passes done js → IsDistinct nat_eq done → ((i : ℕ) → list_any (nat_eq i) done ≡ true → i < n) → length (done ++ js) ≤ n
@@ -465,142 +654,35 @@ unfolding IsDistinct
 few_first passes n parts js turn = few_from passes n parts [] js turn tt (λ i t. absurd (cc))
 
 pub few_next : (slots : List ℕ) (n : ℕ) (order : List ℕ) → AreFirst (may_be_next slots n) [] order → length order ≤ n
-few_next slots n order turn = few_first (may_be_next slots n) n parts order turn
-  where
-    parts : (done : List ℕ) (j : ℕ) → may_be_next slots n done j ≡ true → (j < n) × (list_any (nat_eq j) done ≡ false)
-    parts done j t =
-        let p = and_parts (nat_lt j n) (not (list_any (nat_eq j) done) && nat_eq (waits slots done (2 * j) + waits slots done (2 * j + 1)) 0) t in
-        let q = and_parts (not (list_any (nat_eq j) done)) (nat_eq (waits slots done (2 * j) + waits slots done (2 * j + 1)) 0) p.1 in
-        (ltb-true j n p.0, grind (arith, nat_tests, q.0))
-
--- in the course of the release of the last gate of an order
-pub record InRelease (slots : List ℕ) (n bound : ℕ) (order : List ℕ) (gate at : ℕ) (waiting : List ℕ) (ready : List (Reverse ℕ)) : Type 0 where
-  pub done : List ℕ
-  pub last : order ≡ done ++ gate ∷ []
-  pub releasing : IsReleasing slots n bound done gate at waiting ready
-
--- the last gate of an order
-pub last_gate : (slots : List ℕ) (n bound : ℕ) (order waiting : List ℕ) (ready : List (Reverse ℕ)) (t : IsTaken slots n bound order waiting ready) → (1 ≤ length order) × (slice_index_or order (length order - 1) 0 ≡ t.gate)
-last_gate slots n bound order waiting ready t =
-    let k : length order ≡ length t.done + 1 = ap length t.last ∙ omega (arith, length-append t.done (t.gate ∷ [])) in
-    let z : length order - 1 ≡ length t.done = omega (arith, k) in
-    (omega (arith, k), ap (λ (i : ℕ). slice_index_or order i 0) z ∙ (ap (λ (o : List ℕ). slice_index_or o (length t.done) 0) t.last ∙ get_or-append_seam t.done t.gate [] 0))
-
-pub in_release_begins : (slots : List ℕ) (n bound : ℕ) (heads nexts order waiting : List ℕ) (ready : List (Reverse ℕ)) (gate at : ℕ) (t : IsTaken slots n bound order waiting ready) → AreSlots slots n → HasChains slots n heads nexts → gate ≡ slice_index_or order (length order - 1) 0 → at ≡ slice_index_or heads gate 0 → InRelease slots n bound order gate at waiting ready
-in_release_begins slots n bound heads nexts order waiting ready gate at t are chains e f =
-    let s : t.gate ≡ gate = sym (e ∙ (last_gate slots n bound order waiting ready t).1) in
-    let r : IsReleasing slots n bound t.done t.gate (slice_index_or heads t.gate 0) waiting ready = release_begins slots n bound heads nexts order waiting ready t are chains in
-    let q : IsReleasing slots n bound t.done gate (slice_index_or heads gate 0) waiting ready = subst (λ (k : ℕ). IsReleasing slots n bound t.done k (slice_index_or heads k 0) waiting ready) s r in
-    record { done = t.done; last = t.last ∙ ap (λ (k : ℕ). t.done ++ k ∷ []) s; releasing = subst (λ (k : ℕ). IsReleasing slots n bound t.done gate k waiting ready) (sym f) q }
-
--- where slots that a release is shown by are known, the place of the next slot
-pub in_release_place : (bound : ℕ) (heads nexts order waited : List ℕ) (left : List (Reverse ℕ)) (gate at slot : ℕ) (waiting : List ℕ) (ready : List (Reverse ℕ)) → HasSlots heads nexts (λ slots. IsTaken slots (length heads) bound order waited left)
-    → ForSlots heads nexts (λ slots. IsTaken slots (length heads) bound order waited left) (λ slots. InRelease slots (length heads) bound order gate at waiting ready) → at ≡ suc slot → (slot / 2 < length waiting) × (1 ≤ slice_index_or waiting (slot / 2) 0) × (slot < length nexts)
-in_release_place bound heads nexts order waited left gate at slot waiting ready k for e =
-    let r = for k.slots k.are k.chains k.holds in
-    let q : IsReleasing k.slots (length heads) bound r.done gate (suc slot) waiting ready = subst (λ (i : ℕ). IsReleasing k.slots (length heads) bound r.done gate i waiting ready) e r.releasing in
-    let y = waits_yet k.slots (length heads) bound r.done gate slot waiting ready k.are q in
-    (omega (arith, y.0, q.count), y.1, omega (arith, (q.place slot refl).0, k.chains.nexts_count))
-
-pub in_release_step : (slots : List ℕ) (n bound : ℕ) (heads nexts order : List ℕ) (gate at slot left next : ℕ) (waiting waited : List ℕ) (ready noted : List (Reverse ℕ)) → AreSlots slots n → HasChains slots n heads nexts → InRelease slots n bound order gate at waiting ready → at ≡ suc slot
-    → left + 1 ≡ slice_index_or waiting (slot / 2) 0 → waited ≡ slice_set waiting (slot / 2) left → next ≡ slice_index_or nexts slot 0 → IsNoted (slot / 2) bound left ready noted → InRelease slots n bound order gate next waited noted × (next < at)
-in_release_step slots n bound heads nexts order gate at slot left next waiting waited ready noted are chains r e less set' f note =
-    let q : IsReleasing slots n bound r.done gate (suc slot) waiting ready = subst (λ (k : ℕ). IsReleasing slots n bound r.done gate k waiting ready) e r.releasing in
-    let p = q.place slot refl in
-    let g : next ≡ last_user slots gate slot = f ∙ chains.next slot gate p.0 p.1 in
-    let after : IsReleasing slots n bound r.done gate (last_user slots gate slot) (slice_set waiting (slot / 2) left) noted = release_step slots n bound r.done gate slot left waiting ready noted are q less note in (
-      record { done = r.done; last = r.last; releasing = subst (λ (k : ℕ). IsReleasing slots n bound r.done gate k waited noted) (sym g) (subst (λ (w : List ℕ). IsReleasing slots n bound r.done gate (last_user slots gate slot) w noted) (sym set') after) },
-      omega (arith, g, last_user-le slots gate slot, e),
-    )
-
-pub in_release_ends : (slots : List ℕ) (n bound : ℕ) (order : List ℕ) (gate at : ℕ) (waiting : List ℕ) (ready : List (Reverse ℕ)) → InRelease slots n bound order gate at waiting ready → at ≡ 0 → CountsWaits slots n order waiting × HasReady bound order waiting ready
-in_release_ends slots n bound order gate at waiting ready r e =
-    let q : IsReleasing slots n bound r.done gate 0 waiting ready = subst (λ (k : ℕ). IsReleasing slots n bound r.done gate k waiting ready) e r.releasing in
-    let c : CountsWaits slots n (r.done ++ gate ∷ []) waiting = record {
-      count = q.count;
-      each = λ j h. omega (arith, q.each j h, waits_push slots r.done gate (2 * j), waits_push slots r.done gate (2 * j + 1));
-      none = q.none;
-    } in
-    (subst (λ (o : List ℕ). CountsWaits slots n o waiting) (sym r.last) c, subst (λ (o : List ℕ). HasReady bound o waiting ready) (sym r.last) q.has)
-
--- the chains of the slots below a place
-pub record ChainsBelow (slots : List ℕ) (n : ℕ) (s : ℕ) (heads : List ℕ) (nexts : List ℕ) : Type 0 where
-  pub heads_count : length heads ≡ n
-  pub nexts_count : length nexts ≡ s
-  pub head : (g : ℕ) → g < n → slice_index_or heads g 0 ≡ last_user slots g s
-  pub next : (k g : ℕ) → k < s → slot_at slots k ≡ suc g → slice_index_or nexts k 0 ≡ last_user slots g k
-
-pub chains_step : (slots : List ℕ) (n s : ℕ) (heads nexts linked : List ℕ) (next : ℕ) → ChainsBelow slots n s heads nexts → slot_at slots s ≤ n → ((g : ℕ) → slot_at slots s ≡ suc g → next ≡ slice_index_or heads g 0) → linked ≡ (if nat_eq (slot_at slots s) 0 then heads else slice_set heads (slot_at slots s - 1) (s + 1)) → ChainsBelow slots n (s + 1) linked (nexts ++ next ∷ [])
-chains_step slots n s heads nexts linked next b within e f =
-    record {
-      heads_count = heads_length (nat_eq (slot_at slots s) 0) f;
-      nexts_count = omega (arith, b.nexts_count, length-append nexts (next ∷ []));
-      head = λ g h. let z : s + 1 ≡ suc s = omega arith in head_at g h ∙ ap (last_user slots g) (sym z);
-      next = λ k g h u. ⊎_elim
-          (λ (low : k < s). get_or_append_left nexts (next ∷ []) 0 k (omega (arith, b.nexts_count)) ∙ b.next k g low u)
-          (λ (high : s ≤ k).
-          let q : k ≡ s = omega arith in
-          let v : slot_at slots s ≡ suc g = subst (λ (x : ℕ). slot_at slots x ≡ suc g) q u in
-          let l : g < n = omega arith in
-          let at' : slice_index_or (nexts ++ next ∷ []) k 0 ≡ next = ap (λ (i : ℕ). slice_index_or (nexts ++ next ∷ []) i 0) (q ∙ sym b.nexts_count) ∙ get_or-append_seam nexts next [] 0 in
-          at' ∙ (e g v ∙ (b.head g l ∙ ap (last_user slots g) (sym q))))
-          (cases_lt k s);
-    }
-  where
-    heads_length : (t : Bool) → linked ≡ (if t then heads else slice_set heads (slot_at slots s - 1) (s + 1)) → length linked ≡ n
-    heads_length true u = ap length u ∙ b.heads_count
-    heads_length false u = ap length u ∙ (length-set heads (slot_at slots s - 1) (s + 1) ∙ b.heads_count)
-
-    head_by : (g : ℕ) → g < n → (t w : Bool) → nat_eq (slot_at slots s) 0 ≡ t → nat_eq (slot_at slots s) (suc g) ≡ w → linked ≡ (if t then heads else slice_set heads (slot_at slots s - 1) (s + 1)) → slice_index_or linked g 0 ≡ (if w then suc s else last_user slots g s)
-    head_by g h true true x y u = absurd (let p : slot_at slots s ≡ 0 = grind (arith, nat_tests) in let q : slot_at slots s ≡ suc g = grind (arith, nat_tests) in omega arith)
-    head_by g h true false x y u = ap (λ (l : List ℕ). slice_index_or l g 0) u ∙ b.head g h
-    head_by g h false true x y u =
-        let q : slot_at slots s ≡ suc g = grind (arith, nat_tests) in
-        let z : slot_at slots s - 1 ≡ g = omega arith in
-        ap (λ (l : List ℕ). slice_index_or l g 0) (u ∙ ap (λ (i : ℕ). slice_set heads i (s + 1)) z) ∙ (get_or-set_same heads g (s + 1) 0 (omega (arith, b.heads_count)) ∙ omega arith)
-    head_by g h false false x y u =
-        let p : (slot_at slots s ≡ 0) → ⊥ = λ o. let t : nat_eq (slot_at slots s) 0 ≡ true = grind (arith, nat_tests) in let v : true ≡ false = sym t ∙ x in cc in
-        let q : (slot_at slots s ≡ suc g) → ⊥ = λ o. let t : nat_eq (slot_at slots s) (suc g) ≡ true = grind (arith, nat_tests) in let v : true ≡ false = sym t ∙ y in cc in
-        let other : g ≡ slot_at slots s - 1 → ⊥ = λ o. ⊎_elim (λ (l : slot_at slots s < 1). p (omega arith)) (λ (l : 1 ≤ slot_at slots s). q (omega arith)) (cases_lt (slot_at slots s) 1) in
-        ap (λ (l : List ℕ). slice_index_or l g 0) u ∙ (get_or-set_other heads (slot_at slots s - 1) g (s + 1) 0 other ∙ b.head g h)
-
-    head_at : (g : ℕ) → g < n → slice_index_or linked g 0 ≡ last_user slots g (suc s)
-    head_at g h = head_by g h (nat_eq (slot_at slots s) 0) (nat_eq (slot_at slots s) (suc g)) refl refl f
-
--- the chains of the slots below a place, and from it on the slots as they were
-pub record LinkedBelow (slots : List ℕ) (n : ℕ) (s : ℕ) (heads : List ℕ) (mixed : List ℕ) : Type 0 where
-  pub nexts : List ℕ
-  pub chains : ChainsBelow slots n s heads nexts
-  pub are : mixed ≡ nexts ++ drop s slots
-
--- what stands at the place, and how many there are
-pub linked_at : (slots : List ℕ) (n s : ℕ) (heads mixed : List ℕ) → LinkedBelow slots n s heads mixed → s < length slots → (slice_index_or mixed s 0 ≡ slot_at slots s) × (length mixed ≡ length slots)
-linked_at slots n s heads mixed b h =
-    let on : mixed ≡ b.nexts ++ slot_at slots s ∷ drop (s + 1) slots = b.are ∙ ap (λ (l : List ℕ). b.nexts ++ l) (drop_more slots s 0 h) in (
-      ap (λ (l : List ℕ). slice_index_or l s 0) on ∙ (ap (λ (i : ℕ). slice_index_or (b.nexts ++ slot_at slots s ∷ drop (s + 1) slots) i 0) (sym b.chains.nexts_count) ∙ get_or-append_seam b.nexts (slot_at slots s) (drop (s + 1) slots) 0),
-      omega (arith, ap length b.are, length-append b.nexts (drop s slots), length-drop s slots, b.chains.nexts_count, h),
-    )
-
-pub linked_step : (slots : List ℕ) (n s : ℕ) (heads mixed linked : List ℕ) (next : ℕ) → LinkedBelow slots n s heads mixed → s < length slots → slot_at slots s ≤ n → ((g : ℕ) → slot_at slots s ≡ suc g → next ≡ slice_index_or heads g 0)
-    → linked ≡ (if nat_eq (slot_at slots s) 0 then heads else slice_set heads (slot_at slots s - 1) (s + 1)) → LinkedBelow slots n (s + 1) linked (slice_set mixed s next)
-linked_step slots n s heads mixed linked next b h within e f =
-    let on : mixed ≡ b.nexts ++ slot_at slots s ∷ drop (s + 1) slots = b.are ∙ ap (λ (l : List ℕ). b.nexts ++ l) (drop_more slots s 0 h) in
-    let now : slice_set mixed s next ≡ b.nexts ++ next ∷ drop (s + 1) slots =
-    ap (λ (l : List ℕ). slice_set l s next) on ∙ (ap (λ (i : ℕ). slice_set (b.nexts ++ slot_at slots s ∷ drop (s + 1) slots) i next) (sym b.chains.nexts_count) ∙ set-append_seam b.nexts (slot_at slots s) (drop (s + 1) slots) next) in
-    record { nexts = b.nexts ++ next ∷ []; chains = chains_step slots n s heads b.nexts linked next b.chains within e f; are = now ∙ sym (append_assoc b.nexts (next ∷ []) (drop (s + 1) slots)) }
+few_next slots n order turn = few_first (may_be_next slots n) n (λ done j t. let p = next_parts slots n done j t in (p.0, p.1)) order turn
 
 no_gates : IsHeap turns []
 unfolding IsHeap
 no_gates = λ p k d low left right high. absurd (omega arith)
 
--- before any gate is taken
-pub between_begins : (slots : List ℕ) (n : ℕ) (order waiting : List ℕ) → CountsWaits slots n [] waiting → order ≡ [] → IsBetween slots n 0 order waiting []
-between_begins slots n order waiting w o = rw (o) (record { waits = w; has = record { heap = no_gates; each = none }; before = λ i t. absurd (cc); in_turn = tt })
+-- before file order comes to any gate
+pub underway_begins : (slots : List ℕ) (n : ℕ) (order heads : List ℕ) → AreSlots slots n → heads ≡ replicate n 1 → order ≡ [] → IsUnderway slots (length heads) 0 order [] heads slots []
+underway_begins slots n order heads are ones none =
+    subst (λ (k : ℕ). IsUnderway slots k 0 order [] heads slots []) (sym count) (subst (λ (o : List ℕ). IsUnderway slots n 0 o [] heads slots []) (sym none) begun)
   where
-    none : (i : ℕ) → times [] i ≡ one_if (waits_for_nothing 0 [] waiting i)
-    none i = let z : nat_lt i 0 ≡ false = grind (arith, nat_tests) in rw (z) refl
+    count : length heads ≡ n
+    count = ap length ones ∙ length-replicate n 1
 
--- the waits of the first gates
-pub record FirstWaits (slots : List ℕ) (gate : ℕ) (waiting : List ℕ) : Type 0 where
-  pub count : length waiting ≡ gate
-  pub each : (j : ℕ) → j < gate → slice_index_or waiting j 0 ≡ waits slots [] (2 * j) + waits slots [] (2 * j + 1)
+    one : (j : ℕ) → j < n → slice_index_or heads j 0 ≡ 1
+    one j low = ap (λ (hs : List ℕ). slice_index_or hs j 0) ones ∙ get_or-replicate n j 1 0 low
+
+    nowhere : (j : ℕ) (b : Bool) → (is_passed 0 [] j && b) ≡ false
+    nowhere j b = and_left (is_passed 0 [] j) b (and_left (nat_lt j 0) (not false) (le-ltb j 0 (omega arith)))
+
+    begun : IsUnderway slots n 0 [] [] heads slots []
+    begun = record {
+      are = are;
+      low = omega arith;
+      kept = record { count = refl; second = λ j. refl; first = λ j more. refl };
+      marks = record { count = count; each = λ j low. ap (λ (x : ℕ). nat_eq x 0) (one j low) };
+      chains = record { chain = λ g. []; are = λ g low. omega (arith, one g (omega (arith, low, count))); each = λ g j low. sym (nowhere j (nat_eq (awaited slots [] j) (suc g))) };
+      has = record { heap = no_gates; each = λ j. sym (ap one_if (nowhere j (may_be_next slots n [] j))) };
+      before = λ j t. absurd (cc);
+      closed = λ j t. absurd (cc);
+      in_turn = tt;
+    }

@@ -1,5 +1,5 @@
 -- Gates that wait for others: two slots for each gate say which gate's number an operand waits for.
-use Rattle.std.specs.Prelude.{◌≡◌, ℕ, zero, suc, ◌+◌, ◌*◌, ◌<◌, ◌≤◌, Bool, true, false, ◌&&◌, ◌||◌, not, List, [], ◌∷◌, ◌++◌, length, All, slice_index_or, nat_lt, nat_eq, count_by, cond, if◌then◌else◌}
+use Rattle.std.specs.Prelude.{◌≡◌, ℕ, suc, ◌+◌, ◌-◌, ◌*◌, ◌<◌, ◌≤◌, Bool, true, false, ◌&&◌, ◌||◌, not, List, [], ◌∷◌, ◌++◌, length, All, slice_index_or, slice_set, nat_lt, nat_eq, count_by, cond, if◌then◌else◌}
 use Rattle.std.specs.BinaryHeap.{IsHeap, KeepsHeap}
 use Rattle.std.specs.List.{list_any}
 use Rattle.std.specs.Ordering.{nat_cmp}
@@ -10,18 +10,17 @@ use Rattle.std.specs.declared.cmp.Reverse.{Reverse}
 abbrev pub slot_at : List ℕ → ℕ → ℕ
 slot_at slots s = slice_index_or slots s 0
 
--- what a slot waits for once these gates are done: nothing, or one gate
-abbrev pub waits : List ℕ → List ℕ → ℕ → ℕ
-waits slots done s = if nat_eq (slot_at slots s) 0 || list_any (λ g. nat_eq (slot_at slots s) (suc g)) done then 0 else 1
+-- a slot waits for nothing once these gates are done
+abbrev pub is_free : List ℕ → List ℕ → ℕ → Bool
+is_free slots done s = nat_eq (slot_at slots s) 0 || list_any (λ g. nat_eq (slot_at slots s) (suc g)) done
 
--- the last slot below a bound that names a gate, counted from 1, or 0
-abbrev pub last_user : List ℕ → ℕ → ℕ → ℕ
-last_user slots g zero = 0
-last_user slots g (suc s) = if nat_eq (slot_at slots s) (suc g) then suc s else last_user slots g s
+-- what a gate waits for once these gates are done: the first of its slots that waits, or 0
+abbrev pub awaited : List ℕ → List ℕ → ℕ → ℕ
+awaited slots done j = if is_free slots done (2 * j) then (if is_free slots done (2 * j + 1) then 0 else slot_at slots (2 * j + 1)) else slot_at slots (2 * j)
 
--- a gate may be next: it is not done, and none of its slots waits
+-- a gate may be next: it is not done, and it waits for nothing
 abbrev pub may_be_next : List ℕ → ℕ → List ℕ → ℕ → Bool
-may_be_next slots n done j = nat_lt j n && (not (list_any (nat_eq j) done) && nat_eq (waits slots done (2 * j) + waits slots done (2 * j + 1)) 0)
+may_be_next slots n done j = nat_lt j n && (not (list_any (nat_eq j) done) && nat_eq (awaited slots done j) 0)
 
 -- two slots for each of so many gates
 pub record AreSlots (slots : List ℕ) (n : ℕ) : Type 0 where
@@ -29,33 +28,36 @@ pub record AreSlots (slots : List ℕ) (n : ℕ) : Type 0 where
   pub few : n ≤ 1073741824
   pub within : All (λ slot. slot ≤ n) slots
 
--- each gate's slots as chains, from the last one down
-pub record HasChains (slots : List ℕ) (n : ℕ) (heads : List ℕ) (nexts : List ℕ) : Type 0 where
-  pub heads_count : length heads ≡ n
-  pub nexts_count : length nexts ≡ length slots
-  pub head : (g : ℕ) → g < n → slice_index_or heads g 0 ≡ last_user slots g (length slots)
-  pub next : (s g : ℕ) → s < length slots → slot_at slots s ≡ suc g → slice_index_or nexts s 0 ≡ last_user slots g s
-
--- there are slots with these chains, of which something holds
-pub record HasSlots (heads nexts : List ℕ) (Holds : List ℕ → Type 0) : Type 0 where
+-- gates by their slots, of which file order has passed those before a bound
+pub record Passed : Type 0 where
   pub slots : List ℕ
-  pub are : AreSlots slots (length heads)
-  pub chains : HasChains slots (length heads) heads nexts
-  pub holds : Holds slots
+  pub gates : ℕ
+  pub bound : ℕ
 
--- of all slots with these chains of which one thing holds another does
-abbrev pub ForSlots : List ℕ → List ℕ → (List ℕ → Type 0) → (List ℕ → Type 0) → Type 0
-ForSlots heads nexts If Then = (slots : List ℕ) → AreSlots slots (length heads) → HasChains slots (length heads) heads nexts → If slots → Then slots
+-- a gate is before a bound and none of those that are looked at
+abbrev pub is_passed : ℕ → List ℕ → ℕ → Bool
+is_passed bound away j = nat_lt j bound && not (list_any (nat_eq j) away)
 
--- for each gate how many of its slots wait; a gate that is done waits for nothing
-pub record CountsWaits (slots : List ℕ) (n : ℕ) (done : List ℕ) (waiting : List ℕ) : Type 0 where
-  pub count : length waiting ≡ n
-  pub each : (j : ℕ) → j < n → slice_index_or waiting j 0 ≡ waits slots done (2 * j) + waits slots done (2 * j + 1)
-  pub none : (j : ℕ) → list_any (nat_eq j) done ≡ true → slice_index_or waiting j 0 ≡ 0
+-- a gate stands in the chain of another one
+abbrev pub stands : List ℕ → ℕ → List ℕ → List ℕ → ℕ → ℕ → Bool
+stands slots bound done away g j = is_passed bound away j && nat_eq (awaited slots done j) (suc g)
 
--- the gates before a bound that are not done and wait for nothing
-abbrev pub waits_for_nothing : ℕ → List ℕ → List ℕ → ℕ → Bool
-waits_for_nothing bound done waiting j = nat_lt j bound && (not (list_any (nat_eq j) done) && nat_eq (slice_index_or waiting j 0) 0)
+-- gates as a chain from a head, each once: a head and a link are a gate's position and 2, and below 2 is the end
+abbrev pub IsChain : List ℕ → ℕ → List ℕ → Type 0
+IsChain links at [] = at < 2
+IsChain links at (j ∷ js) = (at ≡ j + 2) × (list_any (nat_eq j) js ≡ false) × IsChain links (slot_at links (2 * j)) js
+
+-- the chain of each gate has those that stand in it
+pub record HasChains (stand : ℕ → ℕ → Bool) (heads links : List ℕ) : Type 0 where
+  pub chain : ℕ → List ℕ
+  pub are : (g : ℕ) → g < length heads → IsChain links (slice_index_or heads g 0) (chain g)
+  pub each : (g j : ℕ) → g < length heads → list_any (nat_eq j) (chain g) ≡ stand g j
+
+-- the links still have the second slots of all gates, and both slots of those from a bound on
+pub record KeepsSlots (slots : List ℕ) (bound : ℕ) (links : List ℕ) : Type 0 where
+  pub count : length links ≡ length slots
+  pub second : (j : ℕ) → slot_at links (2 * j + 1) ≡ slot_at slots (2 * j + 1)
+  pub first : (j : ℕ) → bound ≤ j → slot_at links (2 * j) ≡ slot_at slots (2 * j)
 
 -- the order of a heap of gates, of which the first one is the greatest
 abbrev pub turns : Reverse ℕ → Reverse ℕ → Ordering
@@ -69,15 +71,24 @@ one_if test = cond test 1 0
 abbrev pub times : List (Reverse ℕ) → ℕ → ℕ
 times ready i = count_by (λ (g : Reverse ℕ). nat_eq g.0 i) ready
 
--- a heap has the gates before a bound that are not done and wait for nothing, each once
-pub record HasReady (bound : ℕ) (done waiting : List ℕ) (ready : List (Reverse ℕ)) : Type 0 where
+-- a heap has the gates that are ready, each once
+pub record HasReady (is_ready : ℕ → Bool) (ready : List (Reverse ℕ)) : Type 0 where
   pub heap : IsHeap turns ready
-  pub each : (i : ℕ) → times ready i ≡ one_if (waits_for_nothing bound done waiting i)
+  pub each : (i : ℕ) → times ready i ≡ one_if (is_ready i)
 
--- a gate is put into a heap where it is before a bound and so many of its slots that are left are none
-pub record IsNoted (gate bound left : ℕ) (ready noted : List (Reverse ℕ)) : Type 0 where
+-- a gate is put into a heap
+pub record IsNoted (gate : ℕ) (ready noted : List (Reverse ℕ)) : Type 0 where
   pub heap : KeepsHeap turns ready noted
-  pub each : (i : ℕ) → times noted i ≡ times ready i + one_if (nat_eq gate i && (nat_lt gate bound && nat_eq left 0))
+  pub each : (i : ℕ) → times noted i ≡ times ready i + one_if (nat_eq gate i)
+
+-- a slot names a gate whose head says that it has no place in the order
+abbrev pub is_open : List ℕ → List ℕ → ℕ → Bool
+is_open heads links s = not (nat_eq (slot_at links s) 0) && not (nat_eq (slice_index_or heads (slot_at links s - 1) 0) 0)
+
+-- a gate is put in front of the chain of the gate that a slot names
+pub record IsPut (j s : ℕ) (heads links heads_put links_put : List ℕ) : Type 0 where
+  pub head : heads_put ≡ slice_set heads (slot_at links s - 1) (j + 2)
+  pub link : links_put ≡ slice_set links (2 * j) (slice_index_or heads (slot_at links s - 1) 0)
 
 -- a position is the first that passes a test after these
 pub record IsFirst (passes : List ℕ → ℕ → Bool) (done : List ℕ) (j : ℕ) : Type 0 where
@@ -89,31 +100,31 @@ abbrev pub AreFirst : (List ℕ → ℕ → Bool) → List ℕ → List ℕ → 
 AreFirst passes done [] = Unit {0}
 AreFirst passes done (j ∷ js) = IsFirst passes done j × AreFirst passes (done ++ j ∷ []) js
 
--- the gates that wait for nothing are those that are done
-pub record AreDone (n : ℕ) (done : List ℕ) (waiting : List ℕ) : Type 0 where
-  pub count : length waiting ≡ n
-  pub each : (j : ℕ) → j < n → nat_eq (slice_index_or waiting j 0) 0 ≡ list_any (nat_eq j) done
+-- of so many numbers those of the gates that are done are 0
+pub record AreDone (n : ℕ) (done : List ℕ) (heads : List ℕ) : Type 0 where
+  pub count : length heads ≡ n
+  pub each : (j : ℕ) → j < n → nat_eq (slice_index_or heads j 0) 0 ≡ list_any (nat_eq j) done
 
--- between two gates: what waits, what is ready before a bound, and what is done, all of it before the bound
-pub record IsBetween (slots : List ℕ) (n bound : ℕ) (done : List ℕ) (waiting : List ℕ) (ready : List (Reverse ℕ)) : Type 0 where
-  pub waits : CountsWaits slots n done waiting
-  pub has : HasReady bound done waiting ready
-  pub before : (i : ℕ) → list_any (nat_eq i) done ≡ true → i < bound
+-- between two gates: what is done, all of it before a bound, and where each other gate before the bound stands, but for those that are looked at
+pub record IsUnderway (slots : List ℕ) (n bound : ℕ) (done away heads links : List ℕ) (ready : List (Reverse ℕ)) : Type 0 where
+  pub are : AreSlots slots n
+  pub low : bound ≤ n
+  pub kept : KeepsSlots slots bound links
+  pub marks : AreDone n done heads
+  pub chains : HasChains (stands slots bound done away) heads links
+  pub has : HasReady (λ j. is_passed bound away j && may_be_next slots n done j) ready
+  pub before : (j : ℕ) → list_any (nat_eq j) done ≡ true → j < bound
+  pub closed : (j : ℕ) → list_any (nat_eq j) done ≡ true → awaited slots done j ≡ 0
   pub in_turn : AreFirst (may_be_next slots n) [] done
 
--- a gate has left those that are ready, and its slots still count as waiting
-pub record IsTaken (slots : List ℕ) (n bound : ℕ) (order : List ℕ) (waiting : List ℕ) (ready : List (Reverse ℕ)) : Type 0 where
-  pub done : List ℕ
-  pub gate : ℕ
-  pub last : order ≡ done ++ gate ∷ []
-  pub within : gate < n
-  pub new : list_any (nat_eq gate) done ≡ false
-  pub waits : CountsWaits slots n done waiting
-  pub free : slice_index_or waiting gate 0 ≡ 0
-  pub has : HasReady bound order waiting ready
+-- a gate is next, and has left those that are ready
+pub record IsTaken (slots : List ℕ) (n bound : ℕ) (done : List ℕ) (gate : ℕ) (heads links : List ℕ) (ready : List (Reverse ℕ)) : Type 0 where
+  pub underway : IsUnderway slots n bound done (gate ∷ []) heads links ready
+  pub first : IsFirst (may_be_next slots n) done gate
+  pub within : gate < bound
 
 -- all gates in turn, until none may be next
-pub record IsWholeOrder (slots : List ℕ) (n : ℕ) (order : List ℕ) (waiting : List ℕ) : Type 0 where
+pub record IsWholeOrder (slots : List ℕ) (n : ℕ) (order : List ℕ) (heads : List ℕ) : Type 0 where
   pub in_turn : AreFirst (may_be_next slots n) [] order
-  pub done : AreDone n order waiting
+  pub done : AreDone n order heads
   pub whole : (j : ℕ) → may_be_next slots n order j ≡ false

@@ -105,8 +105,8 @@ impl Loose {
         requires slots { slots.items ≡ slots_of (defined_variables self.now) (length self.now.inputs + length self.now.latches) self.now.gates }
         ensures { AnswersNumber self.now result }
     {
-        let (order, waiting) = order_of_readiness(alloc, slots, self.gates().len())?;
-        match first_left(&waiting) {
+        let (order, heads) = order_of_readiness(alloc, slots, self.gates().len())?;
+        match first_left(heads) {
             Some(gate) => Err(LooseFault::Cycle(gate)),
             None => self.number_by_order(alloc, &order),
         }
@@ -193,9 +193,9 @@ fn are_within(slots: &[u32], most: usize) -> bool
     slots.iter().all(|slot| *slot as usize <= most)
 }
 
-/// The first gate that waits for something, if there is one.
-fn first_left(waiting: &[u8]) -> Option<usize>
-    ensures { result ≡ position (λ left. not (nat_eq left 0)) waiting.now }
+/// The first gate that has no place in the order, if there is one.
+fn first_left(heads: Vec<u32>) -> Option<usize>
+    ensures { result ≡ position (λ left. not (nat_eq left 0)) heads.items }
 {
-    waiting.iter().position(|left| *left != 0)
+    heads.iter().position(|left| *left != 0)
 }

@@ -1,162 +1,162 @@
 //! The order of readiness: each time the first gate of those that wait for no other.
-ghost use Rattle.std.specs.Prelude.{◌≡◌, ℕ, suc, ◌+◌, ◌-◌, ◌<◌, ◌≤◌, [], length, slice_index_or, nat_eq, IfOk, OnOk, slice_set, if◌then◌else◌};
+//!
+//! What gates wait for is kept in two lists. Each gate has two slots; a slot is 0 where its operand waits for no gate,
+//! or the position of the gate that it waits for and 1. A gate waits for one operand at a time, the first of the two that
+//! has no place in the order yet. Those that wait for a gate are its chain: its head is the position of one of them and 2,
+//! the link of that one is the position of the next one and 2, and 1 is the end; the head is 0 where the gate has its
+//! place. A gate's link stands in the place of its first slot, which is read no more once the gate waits.
+ghost use Rattle.std.specs.Prelude.{◌≡◌, ℕ, true, false, ◌+◌, ◌*◌, ◌<◌, ◌≤◌, ◌++◌, [], ◌∷◌, length, IfOk, OnOk};
 ghost use Rattle.std.specs.BinaryHeap.{heap_items};
-ghost use Rattle.aiger.specs.Readiness.{AreSlots, HasChains, HasSlots, ForSlots, CountsWaits, HasReady, IsNoted, IsBetween, IsTaken, IsWholeOrder};
+ghost use Rattle.aiger.specs.Readiness.{Passed, slot_at, is_open, AreSlots, IsPut, IsNoted, IsUnderway, IsTaken, IsWholeOrder};
 
 use std::alloc::{AllocError, Global};
 use std::cmp::Reverse;
 use std::collections::BinaryHeap;
 
-/// Who waits for whom.
-///
-/// Each gate has two slots; a slot is 0 where its operand waits for no gate, or the position of the
-/// gate that it waits for and 1. The slots that wait for one gate are a chain, from the last one
-/// down, in which a slot stands as its place and 1, and 0 is the end. What a slot's gate is the chains
-/// say too, so the list of the slots becomes that of the next ones.
-#[derive(Drop)]
-struct Users {
-    heads: Vec<u32>,
-    nexts: Vec<u32>,
-}
-
-/// The gates in the order of readiness, until none is ready, and for how many slots each waits then: those
-/// that have their place in the order for none, and the others for one at least. The error is want of memory.
+/// The gates in the order of readiness, until none is ready, and a number for each, which is 0 for those that
+/// have their place in the order and for no other. The error is want of memory.
 pub fn order_of_readiness(
     alloc: Global,
     slots: Vec<u32>,
     gates: usize,
-) -> Result<(Vec<u32>, Vec<u8>), AllocError>
+) -> Result<(Vec<u32>, Vec<u32>), AllocError>
     requires { AreSlots slots.items gates }
     ensures { IfOk result (λ r. IsWholeOrder slots.items gates r.0.items r.1.items) }
 {
-    let mut waiting = first_waits(alloc, &slots, gates)?;
-    let users = chains(alloc, slots, gates)?;
+    let mut heads = vec![in alloc; 1u32; gates]?;
+    let mut links = slots;
     let mut order = Vec::with_capacity(alloc, gates)?;
-    take_in_turn(alloc, &users, &mut waiting, &mut order)?;
-    Ok((order, waiting))
+    take_in_turn(alloc, &mut links, &mut heads, &mut order)?;
+    Ok((order, heads))
 }
 
 /// Puts the gates into their order: each in file order once it is ready, and behind it those before it that have become
 /// ready, each time the first one.
 fn take_in_turn(
     alloc: Global,
-    users: &Users,
-    waiting: &mut Vec<u8>,
+    links: &mut Vec<u32>,
+    heads: &mut Vec<u32>,
     order: &mut Vec<u32>,
 ) -> Result<(), AllocError>
-    requires { HasSlots users.now.heads.items users.now.nexts.items (λ slots. IsBetween slots (length users.now.heads.items) 0 order.old.items waiting.old.items []) }
-    ensures { OnOk result (ForSlots users.now.heads.items users.now.nexts.items (λ slots. IsBetween slots (length users.now.heads.items) 0 order.old.items waiting.old.items [])
-        (λ slots. IsWholeOrder slots (length users.now.heads.items) order.new.items waiting.new.items)) }
+    ghost passed: { Passed }
+    requires { IsUnderway passed.slots passed.gates 0 order.old.items [] heads.old.items links.old.items [] }
+    ensures { OnOk result (IsWholeOrder passed.slots passed.gates order.new.items heads.new.items) }
 {
     let mut ready = BinaryHeap::new(alloc);
-    for gate in 0..waiting.len() {
-        note(&mut ready, gate as u32, gate + 1, waiting[gate])?;
-        take_ready(users, gate + 1, waiting, &mut ready, order)?;
+    for gate in 0..heads.len() {
+        pass(gate, links, heads, &mut ready, order)?;
     }
     Ok(())
 }
 
-/// Puts the gates before a bound that are ready into their order, each time the first one, until none is ready.
-fn take_ready(
-    users: &Users,
-    bound: usize,
-    waiting: &mut Vec<u8>,
+/// The next gate in file order waits for the first of its operands that has no place in the order, or else takes its own,
+/// and those before it that have become ready take theirs.
+fn pass(
+    gate: usize,
+    links: &mut Vec<u32>,
+    heads: &mut Vec<u32>,
     ready: &mut BinaryHeap<Reverse<u32>>,
     order: &mut Vec<u32>,
 ) -> Result<(), AllocError>
-    requires known { HasSlots users.now.heads.items users.now.nexts.items (λ slots. IsBetween slots (length users.now.heads.items) bound order.old.items waiting.old.items (heap_items ready.old)) }
-    requires low { bound ≤ length users.now.heads.items }
-    ensures between { OnOk result (ForSlots users.now.heads.items users.now.nexts.items (λ slots. IsBetween slots (length users.now.heads.items) bound order.old.items waiting.old.items (heap_items ready.old))
-        (λ slots. IsBetween slots (length users.now.heads.items) bound order.new.items waiting.new.items [])) }
+    ghost passed: { Passed }
+    requires bound { passed.bound ≡ gate + 1 }
+    requires low { gate < passed.gates }
+    requires underway { IsUnderway passed.slots passed.gates gate order.old.items [] heads.old.items links.old.items (heap_items ready.old) }
+    requires none { heap_items ready.old ≡ [] }
+    ensures underway { OnOk result (IsUnderway passed.slots passed.gates passed.bound order.new.items [] heads.new.items links.new.items (heap_items ready.new)) }
+    ensures none { OnOk result (heap_items ready.new ≡ []) }
+{
+    if wait(gate, 2 * gate, links, heads) {
+        return Ok(());
+    }
+    if wait(gate, 2 * gate + 1, links, heads) {
+        return Ok(());
+    }
+    take(gate as u32, links, heads, ready, order)?;
+    take_ready(links, heads, ready, order)
+}
+
+/// Puts the gates that are ready into their order, each time the first one, until none is ready.
+fn take_ready(
+    links: &mut Vec<u32>,
+    heads: &mut Vec<u32>,
+    ready: &mut BinaryHeap<Reverse<u32>>,
+    order: &mut Vec<u32>,
+) -> Result<(), AllocError>
+    ghost passed: { Passed }
+    requires { IsUnderway passed.slots passed.gates passed.bound order.old.items [] heads.old.items links.old.items (heap_items ready.old) }
+    ensures underway { OnOk result (IsUnderway passed.slots passed.gates passed.bound order.new.items [] heads.new.items links.new.items (heap_items ready.new)) }
     ensures none { OnOk result (heap_items ready.new ≡ []) }
 {
     while let Some(Reverse(gate)) = ready.pop() {
-        order.push(gate)?;
-        release(users, order, bound, waiting, ready)?;
+        take(gate, links, heads, ready, order)?;
     }
     Ok(())
 }
 
-/// The chains of slots of each gate.
-fn chains(alloc: Global, slots: Vec<u32>, gates: usize) -> Result<Users, AllocError>
-    requires { AreSlots slots.items gates }
-    ensures { IfOk result (λ u. HasChains slots.items gates u.heads.items u.nexts.items) }
-{
-    let mut heads = vec![in alloc; 0u32; gates]?;
-    let mut nexts = slots;
-    for s in 0..nexts.len() {
-        let next = link(&mut heads, nexts[s], s as u32);
-        nexts[s] = next;
-    }
-    Ok(Users { heads, nexts })
-}
-
-/// Puts a slot in front of the chain of the gate that it waits for, and answers what was in front.
-fn link(heads: &mut Vec<u32>, slot: u32, s: u32) -> u32
-    requires slot { slot ≤ length heads.old.items }
-    requires place { s < 2147483648 }
-    ensures next { (g : ℕ) → slot ≡ suc g → result ≡ slice_index_or heads.old.items g 0 }
-    ensures heads { heads.new.items ≡ (if nat_eq slot 0 then heads.old.items else slice_set heads.old.items (slot - 1) (s + 1)) }
-{
-    if slot == 0 {
-        return 0;
-    }
-    let gate = slot as usize - 1;
-    let next = heads[gate];
-    heads[gate] = s + 1;
-    next
-}
-
-/// For each gate how many of its slots wait, before any gate is done.
-fn first_waits(alloc: Global, slots: &[u32], gates: usize) -> Result<Vec<u8>, AllocError>
-    requires { AreSlots slots.now gates }
-    ensures { IfOk result (λ r. CountsWaits slots.now gates [] r.items) }
-{
-    let mut waiting = Vec::with_capacity(alloc, gates)?;
-    for gate in 0..gates {
-        let count = u8::from(slots[2 * gate] != 0) + u8::from(slots[2 * gate + 1] != 0);
-        waiting.push(count)?;
-    }
-    Ok(waiting)
-}
-
-/// Notes a gate as ready where it stands before a bound and nothing is left that it waits for.
-fn note(
-    ready: &mut BinaryHeap<Reverse<u32>>,
+/// A ready gate takes its place in the order, and those that wait for it wait for it no longer.
+fn take(
     gate: u32,
-    bound: usize,
-    left: u8,
+    links: &mut Vec<u32>,
+    heads: &mut Vec<u32>,
+    ready: &mut BinaryHeap<Reverse<u32>>,
+    order: &mut Vec<u32>,
 ) -> Result<(), AllocError>
-    ensures { OnOk result (IsNoted gate bound left (heap_items ready.old) (heap_items ready.new)) }
+    ghost passed: { Passed }
+    requires { IsTaken passed.slots passed.gates passed.bound order.old.items gate heads.old.items links.old.items (heap_items ready.old) }
+    ensures order { OnOk result (order.new.items ≡ order.old.items ++ gate ∷ []) }
+    ensures underway { OnOk result (IsUnderway passed.slots passed.gates passed.bound order.new.items [] heads.new.items links.new.items (heap_items ready.new)) }
 {
-    if left != 0 || gate as usize >= bound {
+    order.push(gate)?;
+    let mut at = heads[gate as usize];
+    heads[gate as usize] = 0;
+    while at > 1 {
+        let user = at as usize - 2;
+        at = links[2 * user];
+        look_again(user, links, heads, ready)?;
+    }
+    Ok(())
+}
+
+/// A gate whose first operand has its place in the order waits for the second one, or is ready.
+fn look_again(
+    user: usize,
+    links: &mut Vec<u32>,
+    heads: &mut Vec<u32>,
+    ready: &mut BinaryHeap<Reverse<u32>>,
+) -> Result<(), AllocError>
+    requires place { 2 * user + 1 < length links.old.items }
+    requires few { length links.old.items ≤ 2147483648 }
+    requires within { slot_at links.old.items (2 * user + 1) ≤ length heads.old.items }
+    ensures waits { OnOk result (is_open heads.old.items links.old.items (2 * user + 1) ≡ true → IsPut user (2 * user + 1) heads.old.items links.old.items heads.new.items links.new.items × (heap_items ready.new ≡ heap_items ready.old)) }
+    ensures ready { OnOk result (is_open heads.old.items links.old.items (2 * user + 1) ≡ false → (heads.new.items ≡ heads.old.items) × (links.new.items ≡ links.old.items) × IsNoted user (heap_items ready.old) (heap_items ready.new)) }
+{
+    if wait(user, 2 * user + 1, links, heads) {
         return Ok(());
     }
-    ready.push(Reverse(gate))?;
+    ready.push(Reverse(user as u32))?;
     Ok(())
 }
 
-/// Each slot of the last gate of an order waits no longer.
-fn release(
-    users: &Users,
-    order: &[u32],
-    bound: usize,
-    waiting: &mut Vec<u8>,
-    ready: &mut BinaryHeap<Reverse<u32>>,
-) -> Result<(), AllocError>
-    requires { HasSlots users.now.heads.items users.now.nexts.items (λ slots. IsTaken slots (length users.now.heads.items) bound order.now waiting.old.items (heap_items ready.old)) }
-    ensures waits { OnOk result (ForSlots users.now.heads.items users.now.nexts.items (λ slots. IsTaken slots (length users.now.heads.items) bound order.now waiting.old.items (heap_items ready.old))
-        (λ slots. CountsWaits slots (length users.now.heads.items) order.now waiting.new.items)) }
-    ensures ready { OnOk result (HasReady bound order.now waiting.new.items (heap_items ready.new)) }
+/// A gate waits for what one of its slots names, where that has no place in the order: it stands in front of its chain.
+fn wait(gate: usize, slot: usize, links: &mut Vec<u32>, heads: &mut Vec<u32>) -> bool
+    requires place { 2 * gate < length links.old.items }
+    requires slot { slot < length links.old.items }
+    requires few { length links.old.items ≤ 2147483648 }
+    requires within { slot_at links.old.items slot ≤ length heads.old.items }
+    ensures waits { result ≡ is_open heads.old.items links.old.items slot }
+    ensures put { result ≡ true → IsPut gate slot heads.old.items links.old.items heads.new.items links.new.items }
+    ensures kept { result ≡ false → (heads.new.items ≡ heads.old.items) × (links.new.items ≡ links.old.items) }
 {
-    let gate = order[order.len() - 1] as usize;
-    let mut at = users.heads[gate];
-    while at != 0 {
-        let slot = at as usize - 1;
-        let left = waiting[slot / 2] - 1;
-        waiting[slot / 2] = left;
-        at = users.nexts[slot];
-        note(ready, (slot / 2) as u32, bound, left)?;
+    let named = links[slot];
+    if named == 0 {
+        return false;
     }
-    Ok(())
+    let head = heads[named as usize - 1];
+    if head == 0 {
+        return false;
+    }
+    heads[named as usize - 1] = gate as u32 + 2;
+    links[2 * gate] = head;
+    true
 }

@@ -1,13 +1,14 @@
-use Rattle.std.proofs.Common.{◌≡◌, [], length}
+use Rattle.std.proofs.Common.{◌≡◌, ◌+◌, []}
 use Rattle.std.specs.BinaryHeap.{heap_items}
-use Rattle.aiger.specs.Readiness.{ForSlots, IsBetween}
+use Rattle.aiger.specs.Readiness.{IsUnderway}
 use Rattle.aiger.proofs.readiness.take_in_turn.Given as goal
 
+abbrev pub ghost-pass : goal.ghost-pass
+ghost-pass g a = record { slots = g.passed.slots; gates = g.passed.gates; bound = a.gate + 1 }
+
 abbrev pub invariant-loop-gate : goal.invariant-loop-gate
-invariant-loop-gate l =
+invariant-loop-gate g l =
     record {
-      between : ForSlots l.users.heads.items l.users.nexts.items (λ slots. IsBetween slots (length l.users.heads.items) 0 l.fn.order.items l.fn.waiting.items [])
-          (λ slots. IsBetween slots (length l.users.heads.items) l.gate l.order.items l.waiting.items []);
+      underway : IsUnderway g.passed.slots g.passed.gates l.gate l.order.items [] l.heads.items l.links.items (heap_items l.ready);
       none : heap_items l.ready ≡ [];
-      count : length l.waiting.items ≡ length l.users.heads.items;
     }
