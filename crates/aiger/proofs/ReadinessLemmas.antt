@@ -11,7 +11,7 @@ use Rattle.std.proofs.lemmas.List.Sorted.{sum_by_popped, sum_by_pushed}
 use Rattle.std.proofs.lemmas.List.Sums.{sum_by-cons}
 use Rattle.std.proofs.lemmas.Map.Keys.{IsDistinct-push}
 use Rattle.std.proofs.lemmas.Map.Steps.{length-le_from_distinct_below}
-use Rattle.std.specs.BinaryHeap.{IsHeap, IsUpperBound, KeepsHeap, PopsGreatest}
+use Rattle.std.specs.BinaryHeap.{IsHeap, IsUpperBound, PopsGreatest}
 use Rattle.std.specs.List.{AllByRecursion, list_any, IsDistinct}
 use Rattle.std.specs.List.Sorted.{IsPermutation}
 use Rattle.std.specs.declared.cmp.Reverse.{Reverse}
@@ -253,13 +253,9 @@ put slots n bound done away heads links heads_put links_put ready j s u new low 
       in_turn = u.in_turn;
     }
 
--- a gate that is put into a heap
-pub noted : (x : Reverse ℕ) (ready now : List (Reverse ℕ)) → IsPermutation (x ∷ ready) now → KeepsHeap turns ready now → IsNoted x.0 ready now
-noted x ready now moved keeps = record { heap = keeps; each = λ i. omega (arith, sum_by_pushed (λ (g : Reverse ℕ). one_if (nat_eq g.0 i)) x ready now moved) }
-
 -- a gate that is looked at is ready
 note : (slots : List ℕ) (n bound : ℕ) (done away heads links : List ℕ) (ready now : List (Reverse ℕ)) (j : ℕ) → IsUnderway slots n bound done (j ∷ away) heads links ready → list_any (nat_eq j) away ≡ false → j < bound → list_any (nat_eq j) done ≡ false → awaited slots done j ≡ 0
-    → IsNoted j ready now → IsUnderway slots n bound done away heads links now
+    → IsNoted (record { 0 = j }) ready now → IsUnderway slots n bound done away heads links now
 note slots n bound done away heads links ready now j u new low left none is =
     record {
       are = u.are;
@@ -267,23 +263,26 @@ note slots n bound done away heads links ready now j u new low left none is =
       kept = u.kept;
       marks = u.marks;
       chains = record { chain = u.chains.chain; are = u.chains.are; each = λ g k l. u.chains.each g k l ∙ back bound away j k (nat_eq (awaited slots done k) (suc g)) (not_other slots done j k g 0 none (λ x. omega (arith, x))) };
-      has = record { heap = is.heap u.has.heap; each = λ k. each k (nat_eq k j) refl };
+      has = record { heap = is.1 u.has.heap; each = λ k. each k (nat_eq k j) refl };
       before = u.before;
       closed = u.closed;
       in_turn = u.in_turn;
     }
   where
+    count : (k : ℕ) → times now k ≡ one_if (nat_eq j k) + times ready k
+    count k = sum_by_pushed (λ (g : Reverse ℕ). one_if (nat_eq g.0 k)) (record { 0 = j }) ready now is.0
+
     each : (k : ℕ) (t : Bool) → nat_eq k j ≡ t → times now k ≡ one_if (is_passed bound away k && may_be_next slots n done k)
     each k true t =
         let turn : may_be_next slots n done k ≡ true = ap (may_be_next slots n done) (eqb-true k j t) ∙ next_from slots n done j (omega (arith, low, u.low)) left none in
         let old : one_if (is_passed bound (j ∷ away) k && may_be_next slots n done k) ≡ 0 = ap one_if (looked_at bound away j k (may_be_next slots n done k) t) in
         let more : one_if (nat_eq j k) ≡ 1 = ap one_if (eq-eqb j k (sym (eqb-true k j t))) in
         let here : one_if (is_passed bound away k && may_be_next slots n done k) ≡ 1 = ap one_if (stands_now bound away j k (may_be_next slots n done k) new low t turn) in
-        omega (arith, is.each k, u.has.each k, old, more, here)
+        omega (arith, count k, u.has.each k, old, more, here)
     each k false t =
         let more : one_if (nat_eq j k) ≡ 0 = ap one_if (ne_eqb j k (λ x. eqb-false k j t (sym x))) in
         let same : one_if (is_passed bound (j ∷ away) k && may_be_next slots n done k) ≡ one_if (is_passed bound away k && may_be_next slots n done k) = ap one_if (back bound away j k (may_be_next slots n done k) (λ x. absurd (both_ways (nat_eq k j) t x))) in
-        omega (arith, is.each k, u.has.each k, more, same)
+        omega (arith, count k, u.has.each k, more, same)
 
 -- no gate before the one that a heap gives is in it
 times_before : (i : ℕ) (x : Reverse ℕ) (ready : List (Reverse ℕ)) → i < x.0 → IsUpperBound turns x ready → times ready i ≡ 0
@@ -574,7 +573,7 @@ at_place slots n bound done heads links ready j left a =
 
 -- where it stands then
 pub walk_step : (slots : List ℕ) (n bound : ℕ) (done heads links heads_now links_now : List ℕ) (ready now : List (Reverse ℕ)) (j left next : ℕ) → IsAt slots n bound done heads links ready j left → next ≡ slot_at links (2 * j)
-    → (is_open heads links (2 * j + 1) ≡ true → IsPut j (2 * j + 1) heads links heads_now links_now × (now ≡ ready)) → (is_open heads links (2 * j + 1) ≡ false → (heads_now ≡ heads) × (links_now ≡ links) × IsNoted j ready now)
+    → (is_open heads links (2 * j + 1) ≡ true → IsPut j (2 * j + 1) heads links heads_now links_now × (now ≡ ready)) → (is_open heads links (2 * j + 1) ≡ false → (heads_now ≡ heads) × (links_now ≡ links) × IsNoted (record { 0 = j }) ready now)
     → (w : IsWalk slots n bound done heads_now links_now now next) × (suc (length w.rest) ≡ left)
 walk_step slots n bound done heads links heads_now links_now ready now j left next a e waits notes =
     subst (λ (k : ℕ). (w : IsWalk slots n bound done heads_now links_now now k) × (suc (length w.rest) ≡ left)) (sym e) (by (is_free slots done (2 * j + 1)) refl)

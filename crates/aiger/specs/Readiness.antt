@@ -2,6 +2,7 @@
 use Rattle.std.specs.Prelude.{◌≡◌, ℕ, suc, ◌+◌, ◌-◌, ◌*◌, ◌<◌, ◌≤◌, Bool, true, false, ◌&&◌, ◌||◌, not, List, [], ◌∷◌, ◌++◌, length, All, slice_index_or, slice_set, nat_lt, nat_eq, count_by, cond, if◌then◌else◌}
 use Rattle.std.specs.BinaryHeap.{IsHeap, KeepsHeap}
 use Rattle.std.specs.List.{list_any}
+use Rattle.std.specs.List.Sorted.{IsPermutation}
 use Rattle.std.specs.Ordering.{nat_cmp}
 use Rattle.std.specs.declared.cmp.Ordering.{Ordering}
 use Rattle.std.specs.declared.cmp.Reverse.{Reverse}
@@ -77,9 +78,8 @@ pub record HasReady (is_ready : ℕ → Bool) (ready : List (Reverse ℕ)) : Typ
   pub each : (i : ℕ) → times ready i ≡ one_if (is_ready i)
 
 -- a gate is put into a heap
-pub record IsNoted (gate : ℕ) (ready noted : List (Reverse ℕ)) : Type 0 where
-  pub heap : KeepsHeap turns ready noted
-  pub each : (i : ℕ) → times noted i ≡ times ready i + one_if (nat_eq gate i)
+abbrev pub IsNoted : Reverse ℕ → List (Reverse ℕ) → List (Reverse ℕ) → Type 0
+IsNoted gate ready noted = IsPermutation (gate ∷ ready) noted × KeepsHeap turns ready noted
 
 -- a slot names a gate whose head says that it has no place in the order
 abbrev pub is_open : List ℕ → List ℕ → ℕ → Bool

@@ -129,7 +129,7 @@ fn look_again(
     requires few { length links.old.items ≤ 2147483648 }
     requires within { slot_at links.old.items (2 * user + 1) ≤ length heads.old.items }
     ensures waits { OnOk result (is_open heads.old.items links.old.items (2 * user + 1) ≡ true → IsPut user (2 * user + 1) heads.old.items links.old.items heads.new.items links.new.items × (heap_items ready.new ≡ heap_items ready.old)) }
-    ensures ready { OnOk result (is_open heads.old.items links.old.items (2 * user + 1) ≡ false → (heads.new.items ≡ heads.old.items) × (links.new.items ≡ links.old.items) × IsNoted user (heap_items ready.old) (heap_items ready.new)) }
+    ensures ready { OnOk result (is_open heads.old.items links.old.items (2 * user + 1) ≡ false → (heads.new.items ≡ heads.old.items) × (links.new.items ≡ links.old.items) × IsNoted (record { 0 = user }) (heap_items ready.old) (heap_items ready.new)) }
 {
     if wait(user, 2 * user + 1, links, heads) {
         return Ok(());
