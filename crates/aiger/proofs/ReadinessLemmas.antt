@@ -1,5 +1,5 @@
 -- Gates that wait for others.
-use Rattle.std.proofs.Common.{◌≡◌, ℕ, zero, suc, ◌+◌, ◌-◌, ◌*◌, ◌<◌, ◌≤◌, Bool, true, false, not, ◌&&◌, ◌||◌, List, [], ◌∷◌, ◌++◌, length, replicate, ◌⊎◌, inl, inr, nat_eq, nat_lt, get_or, slice_index_or, slice_set, refl, ap, sym, ◌∙◌, subst, arith, if◌then◌else◌, append_assoc, append-nil, ⊎_elim}
+use Rattle.std.proofs.Common.{Option, None, Some, ◌≡◌, ℕ, zero, suc, ◌+◌, ◌-◌, ◌*◌, ◌<◌, ◌≤◌, Bool, true, false, not, ◌&&◌, ◌||◌, List, [], ◌∷◌, ◌++◌, length, replicate, ◌⊎◌, inl, inr, nat_eq, nat_lt, get_or, slice_index_or, slice_set, refl, ap, sym, ◌∙◌, subst, arith, if◌then◌else◌, append_assoc, append-nil, ⊎_elim}
 use Rattle.std.proofs.HeapSift.{at_most}
 use Rattle.std.proofs.lemmas.Bool.Decides.{nat_tests}
 use Rattle.std.proofs.lemmas.Bool.{and_from, and_left, and_parts, and_right, both_ways, cases_eq, cases_lt, cases_order, eq-eqb, eqb-false, eqb-true, le-ltb, lt-ltb, ltb-true, ne_eqb, not-false, not-true, or_parts, or_right}
@@ -15,7 +15,7 @@ use Rattle.std.specs.BinaryHeap.{IsHeap, IsUpperBound, PopsGreatest}
 use Rattle.std.specs.List.{AllByRecursion, list_any, IsDistinct}
 use Rattle.std.specs.List.Sorted.{IsPermutation}
 use Rattle.std.specs.declared.cmp.Reverse.{Reverse}
-use Rattle.aiger.specs.Readiness.{slot_at, is_free, awaited, may_be_next, AreSlots, is_passed, stands, IsChain, turns, one_if, times, IsNoted, is_open, IsPut, IsFirst, AreFirst, AreDone, IsUnderway, IsTaken, IsWholeOrder}
+use Rattle.aiger.specs.Readiness.{slot_at, is_free, awaited, may_be_next, AreSlots, is_passed, stands, IsChain, turns, one_if, times, IsFirstReady, is_open, IsPut, IsFirst, AreFirst, AreDone, IsUnderway, IsTaken, IsWholeOrder}
 use Rattle.aiger.proofs.OrderLemmas.{false_unless}
 
 -- what is read at a position is the element there
@@ -168,11 +168,11 @@ chain_kept links k v at (j ∷ js) new c =
     (c.0, c.1, subst (λ (a : ℕ). IsChain (slice_set links (2 * k) v) a js) (sym (get_or-set_other links (2 * k) (2 * j) v 0 other)) (chain_kept links k v (slot_at links (2 * j)) js p.1 c.2))
 
 -- a gate that is looked at is put into the chain of what it waits for
-put : (slots : List ℕ) (n bound : ℕ) (done away heads links heads_put links_put : List ℕ) (ready : List (Reverse ℕ)) (j s : ℕ) → IsUnderway slots n bound done (j ∷ away) heads links ready → list_any (nat_eq j) away ≡ false → j < bound
-    → s < length slots → slot_at links s ≡ slot_at slots s → is_free slots done s ≡ false → awaited slots done j ≡ slot_at slots s → IsPut j s heads links heads_put links_put → IsUnderway slots n bound done away heads_put links_put ready
-put slots n bound done away heads links heads_put links_put ready j s u new low place same busy waits is =
-    subst (λ (x : List ℕ). IsUnderway slots n bound done away heads_put x ready) (sym (is.link ∙ ap (λ (i : ℕ). slice_set links (2 * j) (slice_index_or heads i 0)) named))
-    (subst (λ (x : List ℕ). IsUnderway slots n bound done away x (slice_set links (2 * j) (slice_index_or heads h 0)) ready) (sym (is.head ∙ ap (λ (i : ℕ). slice_set heads i (j + 2)) named)) at_once)
+put : (slots : List ℕ) (n bound : ℕ) (done away heads links heads_put links_put : List ℕ) (ready now : ℕ → ℕ) (j s : ℕ) → IsUnderway slots n bound done (j ∷ away) heads links ready → list_any (nat_eq j) away ≡ false → j < bound
+    → s < length slots → slot_at links s ≡ slot_at slots s → is_free slots done s ≡ false → awaited slots done j ≡ slot_at slots s → IsPut j s heads links heads_put links_put → ((i : ℕ) → now i ≡ ready i) → IsUnderway slots n bound done away heads_put links_put now
+put slots n bound done away heads links heads_put links_put ready now j s u new low place same busy waits is still =
+    subst (λ (x : List ℕ). IsUnderway slots n bound done away heads_put x now) (sym (is.link ∙ ap (λ (i : ℕ). slice_set links (2 * j) (slice_index_or heads i 0)) named))
+    (subst (λ (x : List ℕ). IsUnderway slots n bound done away x (slice_set links (2 * j) (slice_index_or heads h 0)) now) (sym (is.head ∙ ap (λ (i : ℕ). slice_set heads i (j + 2)) named)) at_once)
   where
     h : ℕ
     h = slot_at slots s - 1
@@ -236,7 +236,7 @@ put slots n bound done away heads links heads_put links_put ready j s u new low 
         by true t = in_it (nat_eq k j) refl (eqb-true g h t)
         by false t = other (not_other slots done j k g (suc h) wait (λ x. eqb-false g h t (omega (arith, x))))
 
-    at_once : IsUnderway slots n bound done away (slice_set heads h (j + 2)) (slice_set links (2 * j) (slice_index_or heads h 0)) ready
+    at_once : IsUnderway slots n bound done away (slice_set heads h (j + 2)) (slice_set links (2 * j) (slice_index_or heads h 0)) now
     at_once = record {
       are = u.are;
       low = u.low;
@@ -247,15 +247,15 @@ put slots n bound done away heads links heads_put links_put ready j s u new low 
       };
       marks = record { count = length-set heads h (j + 2) ∙ u.marks.count; each = marked };
       chains = record { chain = λ g. if nat_eq g h then j ∷ u.chains.chain g else u.chains.chain g; are = are; each = each };
-      has = record { heap = u.has.heap; each = λ k. u.has.each k ∙ ap one_if (back bound away j k (may_be_next slots n done k) (not_next slots n done j k h wait)) };
+      has = λ k. still k ∙ u.has k ∙ ap one_if (back bound away j k (may_be_next slots n done k) (not_next slots n done j k h wait));
       before = u.before;
       closed = u.closed;
       in_turn = u.in_turn;
     }
 
 -- a gate that is looked at is ready
-note : (slots : List ℕ) (n bound : ℕ) (done away heads links : List ℕ) (ready now : List (Reverse ℕ)) (j : ℕ) → IsUnderway slots n bound done (j ∷ away) heads links ready → list_any (nat_eq j) away ≡ false → j < bound → list_any (nat_eq j) done ≡ false → awaited slots done j ≡ 0
-    → IsNoted (record { 0 = j }) ready now → IsUnderway slots n bound done away heads links now
+note : (slots : List ℕ) (n bound : ℕ) (done away heads links : List ℕ) (ready now : ℕ → ℕ) (j : ℕ) → IsUnderway slots n bound done (j ∷ away) heads links ready → list_any (nat_eq j) away ≡ false → j < bound → list_any (nat_eq j) done ≡ false → awaited slots done j ≡ 0
+    → ((i : ℕ) → now i ≡ ready i + one_if (nat_eq j i)) → IsUnderway slots n bound done away heads links now
 note slots n bound done away heads links ready now j u new low left none is =
     record {
       are = u.are;
@@ -263,35 +263,52 @@ note slots n bound done away heads links ready now j u new low left none is =
       kept = u.kept;
       marks = u.marks;
       chains = record { chain = u.chains.chain; are = u.chains.are; each = λ g k l. u.chains.each g k l ∙ back bound away j k (nat_eq (awaited slots done k) (suc g)) (not_other slots done j k g 0 none (λ x. omega (arith, x))) };
-      has = record { heap = is.1 u.has.heap; each = λ k. each k (nat_eq k j) refl };
+      has = λ k. each k (nat_eq k j) refl;
       before = u.before;
       closed = u.closed;
       in_turn = u.in_turn;
     }
   where
-    count : (k : ℕ) → times now k ≡ one_if (nat_eq j k) + times ready k
-    count k = sum_by_pushed (λ (g : Reverse ℕ). one_if (nat_eq g.0 k)) (record { 0 = j }) ready now is.0
-
-    each : (k : ℕ) (t : Bool) → nat_eq k j ≡ t → times now k ≡ one_if (is_passed bound away k && may_be_next slots n done k)
+    each : (k : ℕ) (t : Bool) → nat_eq k j ≡ t → now k ≡ one_if (is_passed bound away k && may_be_next slots n done k)
     each k true t =
         let turn : may_be_next slots n done k ≡ true = ap (may_be_next slots n done) (eqb-true k j t) ∙ next_from slots n done j (omega (arith, low, u.low)) left none in
         let old : one_if (is_passed bound (j ∷ away) k && may_be_next slots n done k) ≡ 0 = ap one_if (looked_at bound away j k (may_be_next slots n done k) t) in
         let more : one_if (nat_eq j k) ≡ 1 = ap one_if (eq-eqb j k (sym (eqb-true k j t))) in
         let here : one_if (is_passed bound away k && may_be_next slots n done k) ≡ 1 = ap one_if (stands_now bound away j k (may_be_next slots n done k) new low t turn) in
-        omega (arith, count k, u.has.each k, old, more, here)
+        omega (arith, is k, u.has k, old, more, here)
     each k false t =
         let more : one_if (nat_eq j k) ≡ 0 = ap one_if (ne_eqb j k (λ x. eqb-false k j t (sym x))) in
         let same : one_if (is_passed bound (j ∷ away) k && may_be_next slots n done k) ≡ one_if (is_passed bound away k && may_be_next slots n done k) = ap one_if (back bound away j k (may_be_next slots n done k) (λ x. absurd (both_ways (nat_eq k j) t x))) in
-        omega (arith, count k, u.has.each k, more, same)
+        omega (arith, is k, u.has k, more, same)
+
+-- how often a gate is in a heap
+abbrev pub times_in : List (Reverse ℕ) → ℕ → ℕ
+times_in others i = times None others i
 
 -- no gate before the one that a heap gives is in it
-times_before : (i : ℕ) (x : Reverse ℕ) (ready : List (Reverse ℕ)) → i < x.0 → IsUpperBound turns x ready → times ready i ≡ 0
-times_before i x [] low h = refl
-times_before i x (y ∷ ready) low h =
+pub times_before : (i g : ℕ) (x : Reverse ℕ) (others : List (Reverse ℕ)) → i < g → g ≤ x.0 → IsUpperBound turns x others → times_in others i ≡ 0
+times_before i g x [] low most h = refl
+times_before i g x (y ∷ others) low most h =
     let least : x.0 ≤ y.0 = at_most y.0 x.0 h.0 in
-    let no : nat_eq y.0 i ≡ false = grind (arith, nat_tests) in
+    let no : nat_eq y.0 i ≡ false = ne_eqb y.0 i (λ e. omega (arith, e, least, low, most)) in
     let here : one_if (nat_eq y.0 i) ≡ 0 = ap one_if no in
-    omega (arith, sum_by-cons (λ (g : Reverse ℕ). one_if (nat_eq g.0 i)) y ready, here, times_before i x ready low h.1)
+    omega (arith, sum_by-cons (λ (g : Reverse ℕ). one_if (nat_eq g.0 i)) y others, here, times_before i g x others low most h.1)
+
+-- one more in a heap, and the first one out of it
+pub times_pushed : (i : ℕ) (x : Reverse ℕ) (others now : List (Reverse ℕ)) → IsPermutation (x ∷ others) now → times_in now i ≡ one_if (nat_eq x.0 i) + times_in others i
+times_pushed i x others now moved = sum_by_pushed (λ (g : Reverse ℕ). one_if (nat_eq g.0 i)) x others now moved
+
+pub first_popped : (x : Reverse ℕ) (others now : List (Reverse ℕ)) → IsHeap turns others → IsPermutation others (x ∷ now) → PopsGreatest turns others x now → IsFirstReady (Some x.0) (times_in others) (times_in now)
+first_popped x others now heap moved pops = (λ i. sum_by_popped (λ (g : Reverse ℕ). one_if (nat_eq g.0 i)) x others now moved, λ i low. times_before i x.0 x others low (omega arith) (pops heap).1)
+
+-- the one that stands apart, where it comes before all in a heap
+pub apart_first : (g : ℕ) (others : List (Reverse ℕ)) → ((i : ℕ) → i < g → times_in others i ≡ 0) → IsFirstReady (Some g) (times (Some g) others) (times_in others)
+apart_first g others none = (λ i. omega arith, λ i low. let no : one_if (nat_eq g i) ≡ 0 = ap one_if (ne_eqb g i (λ e. omega (arith, e, low))) in omega (arith, no, none i low))
+
+-- of as many ready gates
+pub first_same : (g : Option ℕ) (old was new : ℕ → ℕ) → ((i : ℕ) → was i ≡ old i) → IsFirstReady g was new → IsFirstReady g old new
+first_same None old was new e f = λ i. (sym (e i) ∙ (f i).0, (f i).1)
+first_same (Some g) old was new e f = (λ i. f.0 i ∙ e i, λ i low. sym (e i) ∙ f.1 i low)
 
 -- a test by how often it is passed
 passed : (b : Bool) → 1 ≤ one_if b → b ≡ true
@@ -307,49 +324,46 @@ none_passed : (bound i : ℕ) (b : Bool) → i < bound → one_if (is_passed bou
 none_passed bound i b low none = sym (ap (λ (t : Bool). (t && not false) && b) (lt-ltb i bound low)) ∙ failed (is_passed bound [] i && b) none
 
 -- the first of those that are ready leaves them
-pub popped : (slots : List ℕ) (n bound : ℕ) (done heads links : List ℕ) (ready rest : List (Reverse ℕ)) (x : Reverse ℕ) → IsUnderway slots n bound done [] heads links ready → IsPermutation ready (x ∷ rest) → PopsGreatest turns ready x rest → IsTaken slots n bound done x.0 heads links rest
-popped slots n bound done heads links ready rest x u moved pops =
+pub popped : (slots : List ℕ) (n bound : ℕ) (done heads links : List ℕ) (ready rest : ℕ → ℕ) (x : ℕ) → IsUnderway slots n bound done [] heads links ready → IsFirstReady (Some x) ready rest → IsTaken slots n bound done x heads links rest
+popped slots n bound done heads links ready rest x u is =
     record {
       underway = record {
         are = u.are;
         low = u.low;
         kept = u.kept;
         marks = u.marks;
-        chains = record { chain = u.chains.chain; are = u.chains.are; each = λ g k l. u.chains.each g k l ∙ sym (back bound [] x.0 k (nat_eq (awaited slots done k) (suc g)) (not_other slots done x.0 k g 0 parts.2 (λ y. omega (arith, y)))) };
-        has = record { heap = (pops u.has.heap).0; each = λ k. each k (nat_eq k x.0) refl };
+        chains = record { chain = u.chains.chain; are = u.chains.are; each = λ g k l. u.chains.each g k l ∙ sym (back bound [] x k (nat_eq (awaited slots done k) (suc g)) (not_other slots done x k g 0 parts.2 (λ y. omega (arith, y)))) };
+        has = λ k. each k (nat_eq k x) refl;
         before = u.before;
         closed = u.closed;
         in_turn = u.in_turn;
       };
-      first = record { ready = turn.1; first = λ i low. none_passed bound i (may_be_next slots n done i) (omega (arith, low, within)) (sym (u.has.each i) ∙ times_before i x ready low (pops u.has.heap).1) };
+      first = record { ready = turn.1; first = λ i low. none_passed bound i (may_be_next slots n done i) (omega (arith, low, within)) (sym (u.has i) ∙ is.1 i low) };
       within = within;
     }
   where
-    count : (k : ℕ) → times rest k + one_if (nat_eq x.0 k) ≡ times ready k
-    count k = sum_by_popped (λ (g : Reverse ℕ). one_if (nat_eq g.0 k)) x ready rest moved
-
-    turn : (is_passed bound [] x.0 ≡ true) × (may_be_next slots n done x.0 ≡ true)
+    turn : (is_passed bound [] x ≡ true) × (may_be_next slots n done x ≡ true)
     turn =
-        let here : one_if (nat_eq x.0 x.0) ≡ 1 = ap one_if (eq-eqb x.0 x.0 refl) in
-        and_parts (is_passed bound [] x.0) (may_be_next slots n done x.0) (passed (is_passed bound [] x.0 && may_be_next slots n done x.0) (omega (arith, count x.0, here, u.has.each x.0)))
+        let here : one_if (nat_eq x x) ≡ 1 = ap one_if (eq-eqb x x refl) in
+        and_parts (is_passed bound [] x) (may_be_next slots n done x) (passed (is_passed bound [] x && may_be_next slots n done x) (omega (arith, is.0 x, here, u.has x)))
 
-    within : x.0 < bound
-    within = ltb-true x.0 bound (and_parts (nat_lt x.0 bound) (not false) turn.0).0
+    within : x < bound
+    within = ltb-true x bound (and_parts (nat_lt x bound) (not false) turn.0).0
 
-    parts : (x.0 < n) × (list_any (nat_eq x.0) done ≡ false) × (awaited slots done x.0 ≡ 0)
-    parts = next_parts slots n done x.0 turn.1
+    parts : (x < n) × (list_any (nat_eq x) done ≡ false) × (awaited slots done x ≡ 0)
+    parts = next_parts slots n done x turn.1
 
-    each : (k : ℕ) (t : Bool) → nat_eq k x.0 ≡ t → times rest k ≡ one_if (is_passed bound (x.0 ∷ []) k && may_be_next slots n done k)
+    each : (k : ℕ) (t : Bool) → nat_eq k x ≡ t → rest k ≡ one_if (is_passed bound (x ∷ []) k && may_be_next slots n done k)
     each k true t =
-        let e : k ≡ x.0 = eqb-true k x.0 t in
-        let here : one_if (nat_eq x.0 k) ≡ 1 = ap one_if (eq-eqb x.0 k (sym e)) in
-        let once : one_if (is_passed bound [] k && may_be_next slots n done k) ≡ 1 = ap (λ (i : ℕ). one_if (is_passed bound [] i && may_be_next slots n done i)) e ∙ ap one_if (and_from (is_passed bound [] x.0) (may_be_next slots n done x.0) turn.0 turn.1) in
-        let now : one_if (is_passed bound (x.0 ∷ []) k && may_be_next slots n done k) ≡ 0 = ap one_if (looked_at bound [] x.0 k (may_be_next slots n done k) t) in
-        omega (arith, count k, here, once, u.has.each k, now)
+        let e : k ≡ x = eqb-true k x t in
+        let here : one_if (nat_eq x k) ≡ 1 = ap one_if (eq-eqb x k (sym e)) in
+        let once : one_if (is_passed bound [] k && may_be_next slots n done k) ≡ 1 = ap (λ (i : ℕ). one_if (is_passed bound [] i && may_be_next slots n done i)) e ∙ ap one_if (and_from (is_passed bound [] x) (may_be_next slots n done x) turn.0 turn.1) in
+        let now : one_if (is_passed bound (x ∷ []) k && may_be_next slots n done k) ≡ 0 = ap one_if (looked_at bound [] x k (may_be_next slots n done k) t) in
+        omega (arith, is.0 k, here, once, u.has k, now)
     each k false t =
-        let here : one_if (nat_eq x.0 k) ≡ 0 = ap one_if (ne_eqb x.0 k (λ y. eqb-false k x.0 t (sym y))) in
-        let now : one_if (is_passed bound (x.0 ∷ []) k && may_be_next slots n done k) ≡ one_if (is_passed bound [] k && may_be_next slots n done k) = ap one_if (back bound [] x.0 k (may_be_next slots n done k) (λ y. absurd (both_ways (nat_eq k x.0) t y))) in
-        omega (arith, count k, here, u.has.each k, now)
+        let here : one_if (nat_eq x k) ≡ 0 = ap one_if (ne_eqb x k (λ y. eqb-false k x t (sym y))) in
+        let now : one_if (is_passed bound (x ∷ []) k && may_be_next slots n done k) ≡ one_if (is_passed bound [] k && may_be_next slots n done k) = ap one_if (back bound [] x k (may_be_next slots n done k) (λ y. absurd (both_ways (nat_eq k x) t y))) in
+        omega (arith, is.0 k, here, u.has k, now)
 
 -- a bound more, of which the last gate is looked at
 one_more : (c k : ℕ) → is_passed c [] k ≡ is_passed (c + 1) (c ∷ []) k
@@ -366,7 +380,7 @@ one_more c k =
     (cases_order k c)
 
 -- file order comes to a gate
-comes_to : (slots : List ℕ) (n c : ℕ) (done heads links : List ℕ) (ready : List (Reverse ℕ)) → IsUnderway slots n c done [] heads links ready → c < n → IsUnderway slots n (c + 1) done (c ∷ []) heads links ready
+comes_to : (slots : List ℕ) (n c : ℕ) (done heads links : List ℕ) (ready : ℕ → ℕ) → IsUnderway slots n c done [] heads links ready → c < n → IsUnderway slots n (c + 1) done (c ∷ []) heads links ready
 comes_to slots n c done heads links ready u low =
     record {
       are = u.are;
@@ -374,34 +388,34 @@ comes_to slots n c done heads links ready u low =
       kept = record { count = u.kept.count; second = u.kept.second; first = λ j more. u.kept.first j (omega (arith, more)) };
       marks = u.marks;
       chains = record { chain = u.chains.chain; are = u.chains.are; each = λ g k l. u.chains.each g k l ∙ ap (λ (b : Bool). b && nat_eq (awaited slots done k) (suc g)) (one_more c k) };
-      has = record { heap = u.has.heap; each = λ k. u.has.each k ∙ ap (λ (b : Bool). one_if (b && may_be_next slots n done k)) (one_more c k) };
+      has = λ k. u.has k ∙ ap (λ (b : Bool). one_if (b && may_be_next slots n done k)) (one_more c k);
       before = λ j t. omega (arith, u.before j t);
       closed = u.closed;
       in_turn = u.in_turn;
     }
 
 -- whether its slots are open
-passed_open : (slots : List ℕ) (n c : ℕ) (done heads links : List ℕ) (ready : List (Reverse ℕ)) → IsUnderway slots n c done [] heads links ready → c < n → (is_open heads links (2 * c) ≡ not (is_free slots done (2 * c))) × (is_open heads links (2 * c + 1) ≡ not (is_free slots done (2 * c + 1)))
+passed_open : (slots : List ℕ) (n c : ℕ) (done heads links : List ℕ) (ready : ℕ → ℕ) → IsUnderway slots n c done [] heads links ready → c < n → (is_open heads links (2 * c) ≡ not (is_free slots done (2 * c))) × (is_open heads links (2 * c + 1) ≡ not (is_free slots done (2 * c + 1)))
 passed_open slots n c done heads links ready u low = (
   open_is slots n done heads links (2 * c) u.are u.marks (u.kept.first c (omega arith)) (omega (arith, u.are.count, low)),
   open_is slots n done heads links (2 * c + 1) u.are u.marks (u.kept.second c) (omega (arith, u.are.count, low)),
 )
 
 -- it waits for the first of its operands, for the second one, or is next
-pub waits_for_first : (slots : List ℕ) (n c : ℕ) (done heads links heads_put links_put : List ℕ) (ready : List (Reverse ℕ)) → IsUnderway slots n c done [] heads links ready → c < n → is_open heads links (2 * c) ≡ true → IsPut c (2 * c) heads links heads_put links_put → IsUnderway slots n (c + 1) done [] heads_put links_put ready
+pub waits_for_first : (slots : List ℕ) (n c : ℕ) (done heads links heads_put links_put : List ℕ) (ready : ℕ → ℕ) → IsUnderway slots n c done [] heads links ready → c < n → is_open heads links (2 * c) ≡ true → IsPut c (2 * c) heads links heads_put links_put → IsUnderway slots n (c + 1) done [] heads_put links_put ready
 waits_for_first slots n c done heads links heads_put links_put ready u low opened is =
     let free : is_free slots done (2 * c) ≡ false = not-true (is_free slots done (2 * c)) (sym (passed_open slots n c done heads links ready u low).0 ∙ opened) in
-    put slots n (c + 1) done [] heads links heads_put links_put ready c (2 * c) (comes_to slots n c done heads links ready u low) refl (omega arith) (omega (arith, u.are.count, low)) (u.kept.first c (omega arith)) free (awaited_first slots done c free) is
+    put slots n (c + 1) done [] heads links heads_put links_put ready ready c (2 * c) (comes_to slots n c done heads links ready u low) refl (omega arith) (omega (arith, u.are.count, low)) (u.kept.first c (omega arith)) free (awaited_first slots done c free) is (λ i. refl)
 
-pub waits_for_second : (slots : List ℕ) (n c : ℕ) (done heads links heads_put links_put : List ℕ) (ready : List (Reverse ℕ)) → IsUnderway slots n c done [] heads links ready → c < n → is_open heads links (2 * c) ≡ false → is_open heads links (2 * c + 1) ≡ true → IsPut c (2 * c + 1) heads links heads_put links_put
+pub waits_for_second : (slots : List ℕ) (n c : ℕ) (done heads links heads_put links_put : List ℕ) (ready : ℕ → ℕ) → IsUnderway slots n c done [] heads links ready → c < n → is_open heads links (2 * c) ≡ false → is_open heads links (2 * c + 1) ≡ true → IsPut c (2 * c + 1) heads links heads_put links_put
     → IsUnderway slots n (c + 1) done [] heads_put links_put ready
 waits_for_second slots n c done heads links heads_put links_put ready u low closed opened is =
     let p = passed_open slots n c done heads links ready u low in
     let first : is_free slots done (2 * c) ≡ true = not-false (is_free slots done (2 * c)) (sym p.0 ∙ closed) in
     let free : is_free slots done (2 * c + 1) ≡ false = not-true (is_free slots done (2 * c + 1)) (sym p.1 ∙ opened) in
-    put slots n (c + 1) done [] heads links heads_put links_put ready c (2 * c + 1) (comes_to slots n c done heads links ready u low) refl (omega arith) (omega (arith, u.are.count, low)) (u.kept.second c) free (awaited_second slots done c false first free) is
+    put slots n (c + 1) done [] heads links heads_put links_put ready ready c (2 * c + 1) (comes_to slots n c done heads links ready u low) refl (omega arith) (omega (arith, u.are.count, low)) (u.kept.second c) free (awaited_second slots done c false first free) is (λ i. refl)
 
-pub taken_at_once : (slots : List ℕ) (n c : ℕ) (done heads links : List ℕ) (ready : List (Reverse ℕ)) → IsUnderway slots n c done [] heads links ready → c < n → ready ≡ [] → is_open heads links (2 * c) ≡ false → is_open heads links (2 * c + 1) ≡ false → IsTaken slots n (c + 1) done c heads links ready
+pub taken_at_once : (slots : List ℕ) (n c : ℕ) (done heads links : List ℕ) (ready : ℕ → ℕ) → IsUnderway slots n c done [] heads links ready → c < n → ((i : ℕ) → ready i ≡ 0) → is_open heads links (2 * c) ≡ false → is_open heads links (2 * c + 1) ≡ false → IsTaken slots n (c + 1) done c heads links ready
 taken_at_once slots n c done heads links ready u low none closed shut =
     let p = passed_open slots n c done heads links ready u low in
     let first : is_free slots done (2 * c) ≡ true = not-false (is_free slots done (2 * c)) (sym p.0 ∙ closed) in
@@ -411,7 +425,7 @@ taken_at_once slots n c done heads links ready u low none closed shut =
       underway = comes_to slots n c done heads links ready u low;
       first = record {
         ready = next_from slots n done c low new (awaited_second slots done c true first second);
-        first = λ i less. none_passed c i (may_be_next slots n done i) less (sym (u.has.each i) ∙ ap (λ (r : List (Reverse ℕ)). times r i) none);
+        first = λ i less. none_passed c i (may_be_next slots n done i) less (sym (u.has i) ∙ none i);
       };
       within = omega arith;
     }
@@ -428,7 +442,7 @@ pub record IsFreed (slots : List ℕ) (bound : ℕ) (done : List ℕ) (j : ℕ) 
   pub first : is_free slots done (2 * j) ≡ true
 
 -- on the way along the chain of a gate that has its place now
-pub record IsWalk (slots : List ℕ) (n bound : ℕ) (done heads links : List ℕ) (ready : List (Reverse ℕ)) (at : ℕ) : Type 0 where
+pub record IsWalk (slots : List ℕ) (n bound : ℕ) (done heads links : List ℕ) (ready : ℕ → ℕ) (at : ℕ) : Type 0 where
   pub rest : List ℕ
   pub underway : IsUnderway slots n bound done rest heads links ready
   pub chain : IsChain links at rest
@@ -444,7 +458,7 @@ moved_by g low was now test none same = by (nat_eq was (suc g)) refl low
     by false e true = ap test (sym (same e))
     by false e false = refl
 
-pub walk_begins : (slots : List ℕ) (n bound : ℕ) (done heads links : List ℕ) (ready : List (Reverse ℕ)) (g : ℕ) → IsTaken slots n bound done g heads links ready → IsWalk slots n bound (done ++ g ∷ []) (slice_set heads g 0) links ready (slice_index_or heads g 0)
+pub walk_begins : (slots : List ℕ) (n bound : ℕ) (done heads links : List ℕ) (ready : ℕ → ℕ) (g : ℕ) → IsTaken slots n bound done g heads links ready → IsWalk slots n bound (done ++ g ∷ []) (slice_set heads g 0) links ready (slice_index_or heads g 0)
 walk_begins slots n bound done heads links ready g is =
     record {
       rest = u.chains.chain g;
@@ -454,7 +468,7 @@ walk_begins slots n bound done heads links ready g is =
         kept = u.kept;
         marks = record { count = length-set heads g 0 ∙ u.marks.count; each = λ k l. marked k (nat_eq k g) refl l };
         chains = record { chain = λ h. if nat_eq h g then [] else u.chains.chain h; are = λ h l. are h (nat_eq h g) refl (below h l); each = λ h k l. each h k (nat_eq h g) refl (below h l) };
-        has = record { heap = u.has.heap; each = λ k. u.has.each k ∙ ap one_if (ready_now k (nat_eq k g) refl) };
+        has = λ k. u.has k ∙ ap one_if (ready_now k (nat_eq k g) refl);
         before = λ k t. ⊎_elim (λ (x : list_any (nat_eq k) done ≡ true). u.before k x) (λ (e : k ≡ g). omega (arith, e, is.within)) (any_push k g done t);
         closed = λ k t. let z : awaited slots done k ≡ 0 = waits_not k t in awaited_kept slots done g k (ne_eqb (awaited slots done k) (suc g) (λ x. let y : 0 ≡ suc g = sym z ∙ x in omega (arith, y))) ∙ z;
         in_turn = AreFirst-push (may_be_next slots n) [] done g u.in_turn is.first;
@@ -537,7 +551,7 @@ walk_begins slots n bound done heads links ready g is =
         }
 
 -- at a gate of the chain, with so many left
-pub record IsAt (slots : List ℕ) (n bound : ℕ) (done heads links : List ℕ) (ready : List (Reverse ℕ)) (j left : ℕ) : Type 0 where
+pub record IsAt (slots : List ℕ) (n bound : ℕ) (done heads links : List ℕ) (ready : ℕ → ℕ) (j left : ℕ) : Type 0 where
   pub rest : List ℕ
   pub many : left ≡ suc (length rest)
   pub underway : IsUnderway slots n bound done (j ∷ rest) heads links ready
@@ -546,7 +560,7 @@ pub record IsAt (slots : List ℕ) (n bound : ℕ) (done heads links : List ℕ)
   pub here : IsFreed slots bound done j
   pub each : (k : ℕ) → list_any (nat_eq k) rest ≡ true → IsFreed slots bound done k
 
-pub walk_at : (slots : List ℕ) (n bound : ℕ) (done heads links : List ℕ) (ready : List (Reverse ℕ)) (at : ℕ) (w : IsWalk slots n bound done heads links ready at) → 1 < at → IsAt slots n bound done heads links ready (at - 2) (length w.rest)
+pub walk_at : (slots : List ℕ) (n bound : ℕ) (done heads links : List ℕ) (ready : ℕ → ℕ) (at : ℕ) (w : IsWalk slots n bound done heads links ready at) → 1 < at → IsAt slots n bound done heads links ready (at - 2) (length w.rest)
 walk_at slots n bound done heads links ready at w more = by w.rest w.underway w.chain w.each
   where
     by : (rest : List ℕ) → IsUnderway slots n bound done rest heads links ready → IsChain links at rest → ((k : ℕ) → list_any (nat_eq k) rest ≡ true → IsFreed slots bound done k) → IsAt slots n bound done heads links ready (at - 2) (length rest)
@@ -565,15 +579,15 @@ walk_at slots n bound done heads links ready at w more = by w.rest w.underway w.
         subst (λ (k : ℕ). IsAt slots n bound done heads links ready k (length (j ∷ js))) s a
 
 -- its second slot is there, and names a gate if any
-pub at_place : (slots : List ℕ) (n bound : ℕ) (done heads links : List ℕ) (ready : List (Reverse ℕ)) (j left : ℕ) → IsAt slots n bound done heads links ready j left → (2 * j + 1 < length links) × (slot_at links (2 * j + 1) ≤ length heads)
+pub at_place : (slots : List ℕ) (n bound : ℕ) (done heads links : List ℕ) (ready : ℕ → ℕ) (j left : ℕ) → IsAt slots n bound done heads links ready j left → (2 * j + 1 < length links) × (slot_at links (2 * j + 1) ≤ length heads)
 at_place slots n bound done heads links ready j left a =
     let u = a.underway in
     let place : 2 * j + 1 < length slots = omega (arith, u.are.count, a.here.low, u.low) in
     (omega (arith, place, u.kept.count), omega (arith, u.kept.second j, u.are.within (2 * j + 1) 0 place, u.marks.count))
 
 -- where it stands then
-pub walk_step : (slots : List ℕ) (n bound : ℕ) (done heads links heads_now links_now : List ℕ) (ready now : List (Reverse ℕ)) (j left next : ℕ) → IsAt slots n bound done heads links ready j left → next ≡ slot_at links (2 * j)
-    → (is_open heads links (2 * j + 1) ≡ true → IsPut j (2 * j + 1) heads links heads_now links_now × (now ≡ ready)) → (is_open heads links (2 * j + 1) ≡ false → (heads_now ≡ heads) × (links_now ≡ links) × IsNoted (record { 0 = j }) ready now)
+pub walk_step : (slots : List ℕ) (n bound : ℕ) (done heads links heads_now links_now : List ℕ) (ready now : ℕ → ℕ) (j left next : ℕ) → IsAt slots n bound done heads links ready j left → next ≡ slot_at links (2 * j)
+    → (is_open heads links (2 * j + 1) ≡ true → IsPut j (2 * j + 1) heads links heads_now links_now × ((i : ℕ) → now i ≡ ready i)) → (is_open heads links (2 * j + 1) ≡ false → (heads_now ≡ heads) × (links_now ≡ links) × ((i : ℕ) → now i ≡ ready i + one_if (nat_eq j i)))
     → (w : IsWalk slots n bound done heads_now links_now now next) × (suc (length w.rest) ≡ left)
 walk_step slots n bound done heads links heads_now links_now ready now j left next a e waits notes =
     subst (λ (k : ℕ). (w : IsWalk slots n bound done heads_now links_now now k) × (suc (length w.rest) ≡ left)) (sym e) (by (is_free slots done (2 * j + 1)) refl)
@@ -590,16 +604,16 @@ walk_step slots n bound done heads links heads_now links_now ready now j left ne
     by : (b : Bool) → is_free slots done (2 * j + 1) ≡ b → (w : IsWalk slots n bound done heads_now links_now now (slot_at links (2 * j))) × (suc (length w.rest) ≡ left)
     by false t =
         let is = waits (test ∙ ap not t) in
-        let after : IsUnderway slots n bound done a.rest heads_now links_now ready = put slots n bound done a.rest heads links heads_now links_now ready j (2 * j + 1) u a.new a.here.low place (u.kept.second j) t (awaited_second slots done j false a.here.first t) is.0 in
+        let after : IsUnderway slots n bound done a.rest heads_now links_now now = put slots n bound done a.rest heads links heads_now links_now ready now j (2 * j + 1) u a.new a.here.low place (u.kept.second j) t (awaited_second slots done j false a.here.first t) is.0 is.1 in
         let chain : IsChain (slice_set links (2 * j) (slice_index_or heads (slot_at links (2 * j + 1) - 1) 0)) (slot_at links (2 * j)) a.rest = chain_kept links j (slice_index_or heads (slot_at links (2 * j + 1) - 1) 0) (slot_at links (2 * j)) a.rest a.new a.chain in
-        (record { rest = a.rest; underway = subst (λ (r : List (Reverse ℕ)). IsUnderway slots n bound done a.rest heads_now links_now r) (sym is.1) after; chain = subst (λ (l : List ℕ). IsChain l (slot_at links (2 * j)) a.rest) (sym is.0.link) chain; each = a.each }, sym a.many)
+        (record { rest = a.rest; underway = after; chain = subst (λ (l : List ℕ). IsChain l (slot_at links (2 * j)) a.rest) (sym is.0.link) chain; each = a.each }, sym a.many)
     by true t =
         let is = notes (test ∙ ap not t) in
         let after : IsUnderway slots n bound done a.rest heads links now = note slots n bound done a.rest heads links ready now j u a.new a.here.low a.here.left (awaited_second slots done j true a.here.first t) is.2 in
         let moved : IsUnderway slots n bound done a.rest heads_now links_now now = subst (λ (l : List ℕ). IsUnderway slots n bound done a.rest heads_now l now) (sym is.1) (subst (λ (l : List ℕ). IsUnderway slots n bound done a.rest l links now) (sym is.0) after) in
         (record { rest = a.rest; underway = moved; chain = subst (λ (l : List ℕ). IsChain l (slot_at links (2 * j)) a.rest) (sym is.1) a.chain; each = a.each }, sym a.many)
 
-pub walk_ends : (slots : List ℕ) (n bound : ℕ) (done heads links : List ℕ) (ready : List (Reverse ℕ)) (at : ℕ) → IsWalk slots n bound done heads links ready at → at ≤ 1 → IsUnderway slots n bound done [] heads links ready
+pub walk_ends : (slots : List ℕ) (n bound : ℕ) (done heads links : List ℕ) (ready : ℕ → ℕ) (at : ℕ) → IsWalk slots n bound done heads links ready at → at ≤ 1 → IsUnderway slots n bound done [] heads links ready
 walk_ends slots n bound done heads links ready at w low = by w.rest w.underway w.chain
   where
     by : (rest : List ℕ) → IsUnderway slots n bound done rest heads links ready → IsChain links at rest → IsUnderway slots n bound done [] heads links ready
@@ -630,15 +644,15 @@ chain_once links at (j ∷ js) c = (none j js c.1, chain_once links (slot_at lin
     none j [] t = tt
     none j (k ∷ ks) t = let p = or_parts (nat_eq j k) (list_any (nat_eq j) ks) t in (p.0, none j ks p.1)
 
-pub walk_left : (slots : List ℕ) (n bound : ℕ) (done heads links : List ℕ) (ready : List (Reverse ℕ)) (at : ℕ) (w : IsWalk slots n bound done heads links ready at) → walk_length links at (length heads) ≡ length w.rest
+pub walk_left : (slots : List ℕ) (n bound : ℕ) (done heads links : List ℕ) (ready : ℕ → ℕ) (at : ℕ) (w : IsWalk slots n bound done heads links ready at) → walk_length links at (length heads) ≡ length w.rest
 walk_left slots n bound done heads links ready at w =
     length_is links at (length heads) w.rest w.chain
     (omega (arith, w.underway.marks.count, length-le_from_distinct_below w.rest n (chain_once links at w.rest w.chain) (λ k t. let l : k < bound = (w.each k t).low in omega (arith, l, w.underway.low))))
 
 -- where none is ready before the last bound, the order is whole
-pub underway_ends : (slots : List ℕ) (n : ℕ) (order heads links : List ℕ) (ready : List (Reverse ℕ)) → IsUnderway slots n n order [] heads links ready → ready ≡ [] → IsWholeOrder slots n order heads
+pub underway_ends : (slots : List ℕ) (n : ℕ) (order heads links : List ℕ) (ready : ℕ → ℕ) → IsUnderway slots n n order [] heads links ready → ((i : ℕ) → ready i ≡ 0) → IsWholeOrder slots n order heads
 underway_ends slots n order heads links ready u none =
-    record { in_turn = u.in_turn; done = u.marks; whole = λ j. ⊎_elim (λ (h : j < n). none_passed n j (may_be_next slots n order j) h (sym (u.has.each j) ∙ ap (λ (r : List (Reverse ℕ)). times r j) none)) (λ (h : n ≤ j). and_left (nat_lt j n) (not (list_any (nat_eq j) order) && nat_eq (awaited slots order j) 0) (le-ltb j n h)) (cases_lt j n) }
+    record { in_turn = u.in_turn; done = u.marks; whole = λ j. ⊎_elim (λ (h : j < n). none_passed n j (may_be_next slots n order j) h (sym (u.has j) ∙ none j)) (λ (h : n ≤ j). and_left (nat_lt j n) (not (list_any (nat_eq j) order) && nat_eq (awaited slots order j) 0) (le-ltb j n h)) (cases_lt j n) }
 
 -- gates in turn are no more than there are
 few_from : (passes : List ℕ → ℕ → Bool) (n : ℕ) → ((done : List ℕ) (j : ℕ) → passes done j ≡ true → (j < n) × (list_any (nat_eq j) done ≡ false)) → (done js : List ℕ) → AreFirst passes done js → IsDistinct nat_eq done → ((i : ℕ) → list_any (nat_eq i) done ≡ true → i < n) → length (done ++ js) ≤ n
@@ -655,14 +669,14 @@ few_first passes n parts js turn = few_from passes n parts [] js turn tt (λ i t
 pub few_next : (slots : List ℕ) (n : ℕ) (order : List ℕ) → AreFirst (may_be_next slots n) [] order → length order ≤ n
 few_next slots n order turn = few_first (may_be_next slots n) n (λ done j t. let p = next_parts slots n done j t in (p.0, p.1)) order turn
 
-no_gates : IsHeap turns []
+pub no_gates : IsHeap turns []
 unfolding IsHeap
 no_gates = λ p k d low left right high. absurd (omega arith)
 
 -- before file order comes to any gate
-pub underway_begins : (slots : List ℕ) (n : ℕ) (order heads : List ℕ) → AreSlots slots n → heads ≡ replicate n 1 → order ≡ [] → IsUnderway slots (length heads) 0 order [] heads slots []
+pub underway_begins : (slots : List ℕ) (n : ℕ) (order heads : List ℕ) → AreSlots slots n → heads ≡ replicate n 1 → order ≡ [] → IsUnderway slots (length heads) 0 order [] heads slots (λ (i : ℕ). 0)
 underway_begins slots n order heads are ones none =
-    subst (λ (k : ℕ). IsUnderway slots k 0 order [] heads slots []) (sym count) (subst (λ (o : List ℕ). IsUnderway slots n 0 o [] heads slots []) (sym none) begun)
+    subst (λ (k : ℕ). IsUnderway slots k 0 order [] heads slots (λ (i : ℕ). 0)) (sym count) (subst (λ (o : List ℕ). IsUnderway slots n 0 o [] heads slots (λ (i : ℕ). 0)) (sym none) begun)
   where
     count : length heads ≡ n
     count = ap length ones ∙ length-replicate n 1
@@ -673,14 +687,14 @@ underway_begins slots n order heads are ones none =
     nowhere : (j : ℕ) (b : Bool) → (is_passed 0 [] j && b) ≡ false
     nowhere j b = and_left (is_passed 0 [] j) b (and_left (nat_lt j 0) (not false) (le-ltb j 0 (omega arith)))
 
-    begun : IsUnderway slots n 0 [] [] heads slots []
+    begun : IsUnderway slots n 0 [] [] heads slots (λ (i : ℕ). 0)
     begun = record {
       are = are;
       low = omega arith;
       kept = record { count = refl; second = λ j. refl; first = λ j more. refl };
       marks = record { count = count; each = λ j low. ap (λ (x : ℕ). nat_eq x 0) (one j low) };
       chains = record { chain = λ g. []; are = λ g low. omega (arith, one g (omega (arith, low, count))); each = λ g j low. sym (nowhere j (nat_eq (awaited slots [] j) (suc g))) };
-      has = record { heap = no_gates; each = λ j. sym (ap one_if (nowhere j (may_be_next slots n [] j))) };
+      has = λ j. sym (ap one_if (nowhere j (may_be_next slots n [] j)));
       before = λ j t. absurd (cc);
       closed = λ j t. absurd (cc);
       in_turn = tt;

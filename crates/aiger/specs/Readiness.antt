@@ -1,8 +1,6 @@
 -- Gates that wait for others: two slots for each gate say which gate's number an operand waits for.
-use Rattle.std.specs.Prelude.{◌≡◌, ℕ, suc, ◌+◌, ◌-◌, ◌*◌, ◌<◌, ◌≤◌, Bool, true, false, ◌&&◌, ◌||◌, not, List, [], ◌∷◌, ◌++◌, length, All, slice_index_or, slice_set, nat_lt, nat_eq, count_by, cond, if◌then◌else◌}
-use Rattle.std.specs.BinaryHeap.{IsHeap, KeepsHeap}
+use Rattle.std.specs.Prelude.{◌≡◌, ℕ, suc, ◌+◌, ◌-◌, ◌*◌, ◌<◌, ◌≤◌, Bool, true, false, ◌&&◌, ◌||◌, not, List, [], ◌∷◌, ◌++◌, length, Option, None, Some, All, slice_index_or, slice_set, nat_lt, nat_eq, count_by, cond, if◌then◌else◌}
 use Rattle.std.specs.List.{list_any}
-use Rattle.std.specs.List.Sorted.{IsPermutation}
 use Rattle.std.specs.Ordering.{nat_cmp}
 use Rattle.std.specs.declared.cmp.Ordering.{Ordering}
 use Rattle.std.specs.declared.cmp.Reverse.{Reverse}
@@ -68,18 +66,15 @@ turns x y = nat_cmp y.0 x.0
 abbrev pub one_if : Bool → ℕ
 one_if test = cond test 1 0
 
--- how often a gate is in a heap
-abbrev pub times : List (Reverse ℕ) → ℕ → ℕ
-times ready i = count_by (λ (g : Reverse ℕ). nat_eq g.0 i) ready
+-- how often a gate is ready: as the one that stands apart, and in a heap
+abbrev pub times : Option ℕ → List (Reverse ℕ) → ℕ → ℕ
+times None others i = count_by (λ (g : Reverse ℕ). nat_eq g.0 i) others
+times (Some first) others i = one_if (nat_eq first i) + count_by (λ (g : Reverse ℕ). nat_eq g.0 i) others
 
--- a heap has the gates that are ready, each once
-pub record HasReady (is_ready : ℕ → Bool) (ready : List (Reverse ℕ)) : Type 0 where
-  pub heap : IsHeap turns ready
-  pub each : (i : ℕ) → times ready i ≡ one_if (is_ready i)
-
--- a gate is put into a heap
-abbrev pub IsNoted : Reverse ℕ → List (Reverse ℕ) → List (Reverse ℕ) → Type 0
-IsNoted gate ready noted = IsPermutation (gate ∷ ready) noted × KeepsHeap turns ready noted
+-- the first one is taken from those that are ready, where there is one
+abbrev pub IsFirstReady : Option ℕ → (ℕ → ℕ) → (ℕ → ℕ) → Type 0
+IsFirstReady None old new = (i : ℕ) → (old i ≡ 0) × (new i ≡ 0)
+IsFirstReady (Some g) old new = ((i : ℕ) → new i + one_if (nat_eq g i) ≡ old i) × ((i : ℕ) → i < g → old i ≡ 0)
 
 -- a slot names a gate whose head says that it has no place in the order
 abbrev pub is_open : List ℕ → List ℕ → ℕ → Bool
@@ -106,19 +101,19 @@ pub record AreDone (n : ℕ) (done : List ℕ) (heads : List ℕ) : Type 0 where
   pub each : (j : ℕ) → j < n → nat_eq (slice_index_or heads j 0) 0 ≡ list_any (nat_eq j) done
 
 -- between two gates: what is done, all of it before a bound, and where each other gate before the bound stands, but for those that are looked at
-pub record IsUnderway (slots : List ℕ) (n bound : ℕ) (done away heads links : List ℕ) (ready : List (Reverse ℕ)) : Type 0 where
+pub record IsUnderway (slots : List ℕ) (n bound : ℕ) (done away heads links : List ℕ) (ready : ℕ → ℕ) : Type 0 where
   pub are : AreSlots slots n
   pub low : bound ≤ n
   pub kept : KeepsSlots slots bound links
   pub marks : AreDone n done heads
   pub chains : HasChains (stands slots bound done away) heads links
-  pub has : HasReady (λ j. is_passed bound away j && may_be_next slots n done j) ready
+  pub has : (j : ℕ) → ready j ≡ one_if (is_passed bound away j && may_be_next slots n done j)
   pub before : (j : ℕ) → list_any (nat_eq j) done ≡ true → j < bound
   pub closed : (j : ℕ) → list_any (nat_eq j) done ≡ true → awaited slots done j ≡ 0
   pub in_turn : AreFirst (may_be_next slots n) [] done
 
 -- a gate is next, and has left those that are ready
-pub record IsTaken (slots : List ℕ) (n bound : ℕ) (done : List ℕ) (gate : ℕ) (heads links : List ℕ) (ready : List (Reverse ℕ)) : Type 0 where
+pub record IsTaken (slots : List ℕ) (n bound : ℕ) (done : List ℕ) (gate : ℕ) (heads links : List ℕ) (ready : ℕ → ℕ) : Type 0 where
   pub underway : IsUnderway slots n bound done (gate ∷ []) heads links ready
   pub first : IsFirst (may_be_next slots n) done gate
   pub within : gate < bound

@@ -1,6 +1,6 @@
-use Rattle.std.proofs.Common.{◌≡◌, ◌+◌, []}
+use Rattle.std.proofs.Common.{◌≡◌, ◌+◌, ℕ, []}
 use Rattle.std.specs.BinaryHeap.{heap_items}
-use Rattle.aiger.specs.Readiness.{IsUnderway}
+use Rattle.aiger.specs.Readiness.{IsUnderway, times}
 use Rattle.aiger.proofs.readiness.take_in_turn.Given as goal
 
 abbrev pub ghost-pass : goal.ghost-pass
@@ -9,6 +9,6 @@ ghost-pass g a = record { slots = g.passed.slots; gates = g.passed.gates; bound 
 abbrev pub invariant-loop-gate : goal.invariant-loop-gate
 invariant-loop-gate g l =
     record {
-      underway : IsUnderway g.passed.slots g.passed.gates l.gate l.order.items [] l.heads.items l.links.items (heap_items l.ready);
-      none : heap_items l.ready ≡ [];
+      underway : IsUnderway g.passed.slots g.passed.gates l.gate l.order.items [] l.heads.items l.links.items (times l.ready.first (heap_items l.ready.others));
+      none : (i : ℕ) → times l.ready.first (heap_items l.ready.others) i ≡ 0;
     }
