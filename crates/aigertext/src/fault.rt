@@ -1,6 +1,6 @@
 //! Why a text is no circuit.
 ghost use Rattle.std.specs.Prelude.{◌≡◌};
-ghost use Rattle.aigertext.specs.Whys.{why_number, why_name};
+ghost use Rattle.aigertext.specs.Whys.{why_row, why_number, why_name};
 
 use std::fmt;
 use thiserror::Error;
@@ -42,48 +42,40 @@ pub enum Why {
 }
 
 impl Why {
+    /// The number and the name that are printed for it.
+    fn row(self) -> (u32, &'static str)
+        ensures { (result.0, result.1.now) ≡ why_row self }
+    {
+        match self {
+            Why::BadHeader => (50, "BadHeader"),
+            Why::CountsDisagree => (51, "CountsDisagree"),
+            Why::BadNumber => (52, "BadNumber"),
+            Why::BadLatch => (53, "BadLatch"),
+            Why::GateOrder => (54, "GateOrder"),
+            Why::DeltaNotShortest => (55, "DeltaNotShortest"),
+            Why::DeltaTooLong => (56, "DeltaTooLong"),
+            Why::BadSymbol => (57, "BadSymbol"),
+            Why::Truncated => (58, "Truncated"),
+            Why::TooBig => (59, "TooBig"),
+            Why::Cycle => (62, "Cycle"),
+            Why::Undefined => (63, "Undefined"),
+            Why::Device => (60, "Device"),
+            Why::NoMemory => (61, "NoMemory"),
+        }
+    }
+
     /// The number that is printed for it.
     pub fn number(self) -> u32
         ensures { result ≡ why_number self }
     {
-        match self {
-            Why::BadHeader => 50,
-            Why::CountsDisagree => 51,
-            Why::BadNumber => 52,
-            Why::BadLatch => 53,
-            Why::GateOrder => 54,
-            Why::DeltaNotShortest => 55,
-            Why::DeltaTooLong => 56,
-            Why::BadSymbol => 57,
-            Why::Truncated => 58,
-            Why::TooBig => 59,
-            Why::Cycle => 62,
-            Why::Undefined => 63,
-            Why::Device => 60,
-            Why::NoMemory => 61,
-        }
+        self.row().0
     }
 
     /// The name that is printed for it.
     pub fn name(self) -> &'static str
         ensures { result.now ≡ why_name self }
     {
-        match self {
-            Why::BadHeader => "BadHeader",
-            Why::CountsDisagree => "CountsDisagree",
-            Why::BadNumber => "BadNumber",
-            Why::BadLatch => "BadLatch",
-            Why::GateOrder => "GateOrder",
-            Why::DeltaNotShortest => "DeltaNotShortest",
-            Why::DeltaTooLong => "DeltaTooLong",
-            Why::BadSymbol => "BadSymbol",
-            Why::Truncated => "Truncated",
-            Why::TooBig => "TooBig",
-            Why::Cycle => "Cycle",
-            Why::Undefined => "Undefined",
-            Why::Device => "Device",
-            Why::NoMemory => "NoMemory",
-        }
+        self.row().1
     }
 }
 

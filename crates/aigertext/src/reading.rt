@@ -54,18 +54,13 @@ fn read_lines(alloc: Global, counts: &Counts, text: &[u8], lines: &[u8]) -> Resu
     ensures { ReadsBy (λ e. e.why) (λ c. c) result (AnswersText text.now) }
 {
     one_renumbering();
-    let (front, gates) = match uses(alloc, Form::Binary, counts, lines) {
-        Ok(found) => found,
-        Err(stop) => return Err(stop),
-    };
+    let (front, gates) = uses(alloc, Form::Binary, counts, lines)?;
     let mut circuit = match Circuit::new(alloc, front.counts.inputs, front.counts.latches) {
         Ok(circuit) => circuit,
         Err(_) => return Err(stop(text, Why::NoMemory)),
     };
-    match read_left(&mut circuit, &front, gates) {
-        Ok(()) => Ok(circuit),
-        Err(stop) => Err(stop),
-    }
+    read_left(&mut circuit, &front, gates)?;
+    Ok(circuit)
 }
 
 /// The circuit that a text spells; its first word decides the form.
@@ -128,15 +123,10 @@ pub fn read<S: Source>(alloc: Global, source: &mut S) -> Result<Circuit, ReadFau
 {
     one_answer();
     one_renumbering();
-    match take(alloc, source) {
-        Ok(taken) => read_taken(alloc, taken),
-        Err(ReadAllFault::Device) => Err(ReadFault {
-            place: 0,
-            why: Why::Device,
-        }),
-        Err(ReadAllFault::NoMemory) => Err(ReadFault {
-            place: 0,
-            why: Why::NoMemory,
-        }),
-    }
+    let why = match take(alloc, source) {
+        Ok(taken) => return read_taken(alloc, taken),
+        Err(ReadAllFault::Device) => Why::Device,
+        Err(ReadAllFault::NoMemory) => Why::NoMemory,
+    };
+    Err(ReadFault { place: 0, why })
 }

@@ -48,17 +48,15 @@ pub fn lists_so_far(
     ensures stand { IfSome result (λ x. StandBefore x.0 before.now x.1) }
     ensures own { IfSome result (λ x. line_texts x.1.gates ≡ gates_text variant.Ascii first gates.now) }
 {
-    let (counts, lines) = match header_line(before) {
-        Ok(((Form::Ascii, counts), lines)) => (counts, lines),
-        _ => return None,
+    let Ok(((Form::Ascii, counts), lines)) = header_line(before) else {
+        return None;
     };
     let mut without_gates = counts;
     without_gates.gates = 0;
     let mut lists = Loose::new(alloc);
-    match read_lists(alloc, &mut lists, &without_gates, lines) {
-        Ok([]) => {}
-        _ => return None,
-    }
+    let Ok([]) = read_lists(alloc, &mut lists, &without_gates, lines) else {
+        return None;
+    };
     if push_own(&mut lists, 2 * counts.variables + 1, first, gates) {
         Some((counts, lists))
     } else {

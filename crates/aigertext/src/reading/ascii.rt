@@ -32,10 +32,7 @@ fn push_properties<'a>(
     ensures { Reads (λ x. (lists.new, x.now)) result (properties_onto counts.now lists.old text.now) }
 {
     let mut properties = PropertyLines::new(alloc);
-    let rest = match read_properties(&mut properties, text, counts) {
-        Ok(rest) => rest,
-        Err(stop) => return Err(stop),
-    };
+    let rest = read_properties(&mut properties, text, counts)?;
     match put_properties(lists, &properties) {
         Ok(()) => Ok(rest),
         Err(_) => Err(stop(rest, Why::NoMemory)),
@@ -129,12 +126,9 @@ pub fn named(
     ensures { ReadsBy (λ e. e.why) (λ c. c) result (AnswersLists counts.now text.now (Ok (lists.now, names.now))) }
 {
     match lists.number(alloc) {
-        Ok(found) => {
-            let mut circuit = found;
-            match give_names(&mut circuit, names) {
-                Ok(()) => Ok(circuit),
-                Err(stop) => Err(stop),
-            }
+        Ok(mut circuit) => {
+            give_names(&mut circuit, names)?;
+            Ok(circuit)
         }
         Err(LooseFault::Undefined(k)) => Err(stop(from_use(text, counts, k), Why::Undefined)),
         Err(LooseFault::Cycle(gate)) => {
@@ -152,8 +146,6 @@ pub fn read_file(alloc: Global, counts: &Counts, text: &[u8]) -> Result<Circuit,
     ensures { ReadsBy (λ e. e.why) (λ c. c) result (AnswersLists counts.now text.now (lists_of_file counts.now text.now)) }
 {
     let mut lists = Loose::new(alloc);
-    match read_lists(alloc, &mut lists, counts, text) {
-        Ok(names) => named(alloc, &lists, counts, text, names),
-        Err(stop) => Err(stop),
-    }
+    let names = read_lists(alloc, &mut lists, counts, text)?;
+    named(alloc, &lists, counts, text, names)
 }

@@ -1,16 +1,16 @@
 //! The lines of an ascii text that define variables, inputs, latches and gates, read onto the lists of a file.
-ghost use Rattle.std.specs.Prelude.{◌≡◌, ℕ, List, Result, [], ◌∷◌, Ok, OnOk, IfSome};
+ghost use Rattle.std.specs.Prelude.{◌≡◌, ℕ, List, Result, Ok, OnOk, IfSome};
 ghost use Rattle.base.specs.Decimals.{number_of};
 ghost use Rattle.aiger.specs.Loose.{Loose as Lists, with_input_line, with_latch_line, with_gate_line};
 ghost use Rattle.aigertext.specs.declared.fault.Why.{Why as LineWhy};
 ghost use Rattle.aigertext.specs.Reading.{Gives, line_at};
-ghost use Rattle.aigertext.specs.AsciiReading.{defining, defining_by, input_of, latch_of, gate_fields, gate_of, onto_lists};
+ghost use Rattle.aigertext.specs.AsciiReading.{defining, defining_by, input_of, latch_of, gate_of, onto_lists};
 ghost use Rattle.aigertext.specs.Passes.{Reads};
 
 use crate::fault::{Stop, Why};
 use crate::reading::fields::{first_field, next_field};
 use crate::reading::latches::latch_behind;
-use crate::reading::lines::{line, stop};
+use crate::reading::lines::{at, line, stop};
 use crate::reading::numbers::literal_within;
 use crate::reading::plain_numbers::three_numbers;
 use aiger::{CircuitFault, GateLine, LatchLine, Lit, Loose};
@@ -72,17 +72,13 @@ impl Definition for LatchLine {
     fn of_line(line: &[u8], greatest: u32, lists: &Loose) -> Result<LatchLine, Why> {
         let (current, rest) = first_field(line);
         let current = defined_by(current, Why::BadLatch, greatest, lists)?;
-        match next_field(rest) {
-            None => Err(Why::BadLatch),
-            Some((next, rest)) => {
-                let latch = latch_behind(next, rest, greatest, current.number())?;
-                Ok(LatchLine {
-                    current,
-                    next: latch.next,
-                    reset: latch.reset,
-                })
-            }
-        }
+        let (next, rest) = next_field(rest).ok_or(Why::BadLatch)?;
+        let latch = latch_behind(next, rest, greatest, current.number())?;
+        Ok(LatchLine {
+            current,
+            next: latch.next,
+            reset: latch.reset,
+        })
     }
 
     fn plain<'a>(_text: &'a [u8], _greatest: u32, _lists: &Loose) -> Option<(LatchLine, &'a [u8])> {
@@ -106,16 +102,16 @@ impl Definition for GateLine {
     #[tactic(auto, unfolding(crate::specs::AsciiReading::gate_fields))]
     fn of_line(line: &[u8], greatest: u32, lists: &Loose) -> Result<GateLine, Why> {
         let (lhs, rest) = first_field(line);
-        match next_field(rest) {
-            None => Err(Why::BadNumber),
-            Some((rhs0, rest)) => match next_field(rest) {
-                None => Err(Why::BadNumber),
-                Some((rhs1, rest)) => match next_field(rest) {
-                    None => gate_with(lhs, rhs0, rhs1, greatest, lists),
-                    Some(_) => Err(Why::BadNumber),
-                },
-            },
+        let (rhs0, rest) = next_field(rest).ok_or(Why::BadNumber)?;
+        let (rhs1, rest) = next_field(rest).ok_or(Why::BadNumber)?;
+        if next_field(rest).is_some() {
+            return Err(Why::BadNumber);
         }
+        let own = decimal(lhs).ok_or(Why::BadNumber)?;
+        let rhs0 = literal_within(rhs0, greatest, Why::BadNumber)?;
+        let rhs1 = literal_within(rhs1, greatest, Why::BadNumber)?;
+        let lhs = defining(own, Why::GateOrder, greatest, lists)?;
+        Ok(GateLine { lhs, rhs0, rhs1 })
     }
 
     fn plain<'a>(text: &'a [u8], greatest: u32, lists: &Loose) -> Option<(GateLine, &'a [u8])> {
@@ -123,14 +119,11 @@ impl Definition for GateLine {
         if first > greatest || second > greatest {
             return None;
         }
-        match defining(u64::from(number), Why::GateOrder, greatest, lists) {
-            Ok(lhs) => {
-                let rhs0 = Lit::new(first);
-                let rhs1 = Lit::new(second);
-                Some((GateLine { lhs, rhs0, rhs1 }, behind))
-            }
-            Err(_) => None,
-        }
+        let Ok(lhs) = defining(u64::from(number), Why::GateOrder, greatest, lists) else {
+            return None;
+        };
+        let (rhs0, rhs1) = (Lit::new(first), Lit::new(second));
+        Some((GateLine { lhs, rhs0, rhs1 }, behind))
     }
 
     fn push(self, lists: &mut Loose) -> Result<(), CircuitFault> {
@@ -157,32 +150,8 @@ fn defining(number: u64, why: Why, greatest: u32, lists: &Loose) -> Result<Lit, 
 fn defined_by(bytes: &[u8], why: Why, greatest: u32, lists: &Loose) -> Result<Lit, Why>
     ensures { Gives (λ x. x) result (defining_by why greatest lists.now (number_of bytes.now)) }
 {
-    match decimal(bytes) {
-        None => Err(why),
-        Some(number) => defining(number, why, greatest, lists),
-    }
-}
-
-/// A gate of three numbers.
-#[tactic(auto, unfolding(crate::specs::AsciiReading::gate_fields))]
-fn gate_with(
-    lhs: &[u8],
-    rhs0: &[u8],
-    rhs1: &[u8],
-    greatest: u32,
-    lists: &Loose,
-) -> Result<GateLine, Why>
-    ensures { Gives (λ x. x) result (gate_fields greatest lists.now (lhs.now ∷ rhs0.now ∷ rhs1.now ∷ [])) }
-{
-    match decimal(lhs) {
-        None => Err(Why::BadNumber),
-        Some(number) => {
-            let rhs0 = literal_within(rhs0, greatest, Why::BadNumber)?;
-            let rhs1 = literal_within(rhs1, greatest, Why::BadNumber)?;
-            let lhs = defining(number, Why::GateOrder, greatest, lists)?;
-            Ok(GateLine { lhs, rhs0, rhs1 })
-        }
-    }
+    let number = decimal(bytes).ok_or(why)?;
+    defining(number, why, greatest, lists)
 }
 
 /// What the line at the front of a text defines, and the text behind it.
@@ -197,10 +166,8 @@ fn first<'a, D: Definition>(
         return Ok(found);
     }
     let (bytes, behind) = line(text)?;
-    match D::of_line(bytes, greatest, lists) {
-        Ok(definition) => Ok((definition, behind)),
-        Err(why) => Err(stop(text, why)),
-    }
+    let definition = at(text, D::of_line(bytes, greatest, lists))?;
+    Ok((definition, behind))
 }
 
 /// Adds so many definitions by their lines, and answers the text behind them.
@@ -214,10 +181,7 @@ pub fn push_definitions<'a, D: Definition>(
 {
     let mut rest = text;
     for _index in 0..count {
-        let (definition, after) = match first::<D>(rest, greatest, lists) {
-            Ok(found) => found,
-            Err(stop) => return Err(stop),
-        };
+        let (definition, after) = first::<D>(rest, greatest, lists)?;
         if definition.push(lists).is_err() {
             return Err(stop(rest, Why::NoMemory));
         }

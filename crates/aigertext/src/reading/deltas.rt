@@ -4,7 +4,7 @@ ghost use Rattle.aigertext.specs.Reading.{Gives, more_digits, delta_at, gate_at}
 ghost use Rattle.aigertext.specs.Passes.{greater_at, smaller_at};
 
 use crate::fault::{Stop, Why};
-use crate::reading::lines::stop;
+use crate::reading::lines::at;
 use aiger::{Gate, Lit};
 
 /// The digits of a delta behind its first one, of which so many more may follow, and the text behind them.
@@ -25,10 +25,8 @@ fn more_digits(more: u32, text: &[u8]) -> Result<(u64, &[u8]), Why>
             if more == 0 {
                 return Err(Why::DeltaTooLong);
             }
-            match more_digits(more - 1, rest) {
-                Ok((higher, behind)) => Ok((u64::from(*byte - 128) + 128 * higher, behind)),
-                Err(why) => Err(why),
-            }
+            let (higher, behind) = more_digits(more - 1, rest)?;
+            Ok((u64::from(*byte - 128) + 128 * higher, behind))
         }
     }
 }
@@ -55,10 +53,8 @@ fn delta(text: &[u8]) -> Result<(u64, &[u8]), Why>
             Ok((u64::from(*low - 128) + 128 * higher, rest))
         }
         [byte, rest @ ..] => {
-            match more_digits(3, rest) {
-                Ok((higher, behind)) => Ok((u64::from(*byte - 128) + 128 * higher, behind)),
-                Err(why) => Err(why),
-            }
+            let (higher, behind) = more_digits(3, rest)?;
+            Ok((u64::from(*byte - 128) + 128 * higher, behind))
         }
     }
 }
@@ -96,19 +92,8 @@ pub fn gate(text: &[u8], own: u32) -> Result<(Gate, &[u8]), Stop>
     ensures gives { Gives (λ x. (x.0, x.1.now)) result (gate_at own text.now) }
     ensures ordered { IfOk result (λ x. (x.0.rhs0 < own) × (x.0.rhs1 ≤ x.0.rhs0)) }
 {
-    let (greater, rest) = match greater_operand(text, own) {
-        Ok(found) => found,
-        Err(why) => return Err(stop(text, why)),
-    };
-    let (smaller, behind) = match smaller_operand(rest, greater) {
-        Ok(found) => found,
-        Err(why) => return Err(stop(rest, why)),
-    };
-    Ok((
-        Gate {
-            rhs0: Lit::new(greater),
-            rhs1: Lit::new(smaller),
-        },
-        behind,
-    ))
+    let (greater, rest) = at(text, greater_operand(text, own))?;
+    let (smaller, behind) = at(rest, smaller_operand(rest, greater))?;
+    let (rhs0, rhs1) = (Lit::new(greater), Lit::new(smaller));
+    Ok((Gate { rhs0, rhs1 }, behind))
 }

@@ -46,10 +46,7 @@ fn finish(circuit: &mut Circuit, front: &Front, names: &[u8]) -> Result<(), Stop
         return Err(stop(names, Why::NoMemory));
     }
     let _bare = circuit.variables();
-    match give_names(circuit, names) {
-        Ok(()) => {}
-        Err(stop) => return Err(stop),
-    }
+    give_names(circuit, names)?;
     let _named = circuit.variables();
     Ok(())
 }

@@ -53,9 +53,8 @@ fn read_latches<'a>(
             Ok(found) => found,
             Err(stop) => return Err(stop),
         };
-        match latches.push(latch) {
-            Ok(()) => {}
-            Err(_) => return Err(stop(rest, Why::NoMemory)),
+        if latches.push(latch).is_err() {
+            return Err(stop(rest, Why::NoMemory));
         }
         rest = after;
     }
@@ -98,10 +97,8 @@ pub fn uses<'a>(
         latches: Vec::new(alloc),
         properties: PropertyLines::new(alloc),
     };
-    match read_uses(&mut front, text) {
-        Ok(gates) => Ok((front, gates)),
-        Err(stop) => Err(stop),
-    }
+    let gates = read_uses(&mut front, text)?;
+    Ok((front, gates))
 }
 
 /// The text behind the lines of so many inputs, where these have the first variables in turn.
@@ -111,10 +108,7 @@ fn inputs_in_order(text: &[u8], count: u32) -> Option<&[u8]>
 {
     let mut rest = text;
     for index in 0..count {
-        let (number, behind) = match number_before(rest, b'\n') {
-            Some(found) => found,
-            None => return None,
-        };
+        let (number, behind) = number_before(rest, b'\n')?;
         if number != 2 * (index + 1) {
             return None;
         }
@@ -139,18 +133,17 @@ fn behind_inputs(form: Form, text: &[u8], count: u32) -> Option<&[u8]>
 fn front_of(alloc: Global, text: &[u8]) -> Option<(Front, usize)>
     ensures { IfSome result (λ x. HasFront x.0 x.1 text.now) }
 {
-    let ((form, counts), lines) = match header_line(text) {
-        Ok(found) => found,
-        Err(_) => return None,
+    let Ok(((form, counts), lines)) = header_line(text) else {
+        return None;
     };
     if counts.variables != counts.inputs + counts.latches + counts.gates {
         return None;
     }
     let latches = behind_inputs(form, lines, counts.inputs)?;
-    match uses(alloc, form, &counts, latches) {
-        Ok((front, gates)) => Some((front, text.len() - gates.len())),
-        Err(_) => None,
-    }
+    let Ok((front, gates)) = uses(alloc, form, &counts, latches) else {
+        return None;
+    };
+    Some((front, text.len() - gates.len()))
 }
 
 /// Reads a source until the lines before the gates of such a text are there, and answers what they say and how many bytes
@@ -171,9 +164,8 @@ pub fn read_front<S: Source>(
     let mut enough = 0;
     while read_piece(text, &mut piece, source)? {
         if text.len() >= enough {
-            match front_of(alloc, text.as_slice()) {
-                Some(found) => return Ok(Some(found)),
-                None => {}
+            if let Some(found) = front_of(alloc, text.as_slice()) {
+                return Ok(Some(found));
             }
             enough = text.len().saturating_mul(2);
         }

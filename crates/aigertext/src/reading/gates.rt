@@ -85,13 +85,11 @@ impl TakesGates for Circuit {
         let mut rest = text;
         let mut own = 2 * (self.variables() + 1);
         for _index in 0..most {
-            let (gate, behind) = match gate_in(form, rest, own) {
-                Some(found) => found,
-                None => return rest,
+            let Some((gate, behind)) = gate_in(form, rest, own) else {
+                return rest;
             };
-            match self.push_gate(gate.rhs0, gate.rhs1) {
-                Ok(_) => {}
-                Err(_) => return rest,
+            if self.push_gate(gate.rhs0, gate.rhs1).is_err() {
+                return rest;
             }
             own += 2;
             rest = behind;
@@ -114,9 +112,8 @@ impl TakesGates for Loose {
     fn push_gates<'a>(&mut self, _form: Form, top: u32, text: &'a [u8], most: usize) -> &'a [u8] {
         let mut rest = text;
         for _index in 0..most {
-            let (own, first, second, behind) = match three_numbers(rest) {
-                Some(found) => found,
-                None => return rest,
+            let Some((own, first, second, behind)) = three_numbers(rest) else {
+                return rest;
             };
             if !push_line(self, top, own, first, second) {
                 return rest;
@@ -137,10 +134,8 @@ pub fn push_line(lists: &mut Loose, greatest: u32, own: u32, first: u32, second:
     if own > greatest || first > greatest || second > greatest {
         return false;
     }
-    match lists.push_gate(Lit::new(own), Lit::new(first), Lit::new(second)) {
-        Ok(()) => true,
-        Err(_) => false,
-    }
+    let (own, first, second) = (Lit::new(own), Lit::new(first), Lit::new(second));
+    lists.push_gate(own, first, second).is_ok()
 }
 
 /// Adds gates by what is held and what a source has to come, until there are so many or one is not taken, and holds what
@@ -167,10 +162,8 @@ pub fn read_gates<T: TakesGates, S: Source>(
         let behind = target.push_gates(form, greatest, window.as_slice(), left);
         let more = window.len() - behind.len();
         remove_front(window, more);
-        match passed.checked_add(more as u64) {
-            Some(sum) => passed = sum,
-            None => return Err(ReadAllFault::NoMemory),
-        }
+        let sum = passed.checked_add(more as u64);
+        passed = sum.ok_or(ReadAllFault::NoMemory)?;
         if target.gate_count() >= count || window.len() >= LONG_GATE {
             return Ok(passed);
         }

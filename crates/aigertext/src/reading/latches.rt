@@ -16,18 +16,10 @@ fn reset(field: &[u8], own: u32) -> Result<Reset, Why>
     ensures { Gives (λ x. x) result (reset_of own (number_of field.now)) }
 {
     match decimal(field) {
-        None => Err(Why::BadLatch),
-        Some(number) => {
-            if number == 0 {
-                Ok(Reset::Zero)
-            } else if number == 1 {
-                Ok(Reset::One)
-            } else if number == u64::from(own) {
-                Ok(Reset::Free)
-            } else {
-                Err(Why::BadLatch)
-            }
-        }
+        Some(0) => Ok(Reset::Zero),
+        Some(1) => Ok(Reset::One),
+        Some(number) if number == u64::from(own) => Ok(Reset::Free),
+        _ => Err(Why::BadLatch),
     }
 }
 
@@ -68,18 +60,12 @@ fn own_latch(line: &[u8], greatest: u32, own: u32) -> Result<Latch, Why>
     ensures { Gives (λ x. x) result (own_fields greatest own (fields line.now)) }
 {
     let (current, rest) = first_field(line);
-    match decimal(current) {
-        None => Err(Why::BadLatch),
-        Some(number) => {
-            if number != u64::from(own) {
-                return Err(Why::BadLatch);
-            }
-            match next_field(rest) {
-                None => Err(Why::BadLatch),
-                Some((next, rest)) => latch_behind(next, rest, greatest, own),
-            }
-        }
+    let number = decimal(current).ok_or(Why::BadLatch)?;
+    if number != u64::from(own) {
+        return Err(Why::BadLatch);
     }
+    let (next, rest) = next_field(rest).ok_or(Why::BadLatch)?;
+    latch_behind(next, rest, greatest, own)
 }
 
 /// The latch of a line of a form, whose own literal is given: its next literal, which is at most the greatest one, and

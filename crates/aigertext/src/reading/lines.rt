@@ -1,5 +1,5 @@
 //! What stands at the front of a text: a line, and what it says.
-ghost use Rattle.std.specs.Prelude.{◌≡◌, ◌+◌, ◌≤◌, Ok, IfOk};
+ghost use Rattle.std.specs.Prelude.{◌≡◌, ◌+◌, ◌≤◌, Ok, Err, IfOk, MatchResult};
 ghost use Rattle.aigertext.specs.Counts.{AreSmall, Fits};
 ghost use Rattle.aigertext.specs.Reading.{Gives, stop, line_at, header_of, literal_of, size_of};
 ghost use Rattle.aigertext.specs.Passes.{latch_in, told};
@@ -17,9 +17,18 @@ use base::next_line;
 pub fn stop(text: &[u8], why: Why) -> Stop
     ensures { result ≡ stop text.now why }
 {
-    Stop {
-        left: text.len(),
-        why,
+    let left = text.len();
+    Stop { left, why }
+}
+
+/// What was read at the front of a text, whose why is told with its place.
+#[inline(always)]
+pub fn at<T>(text: &[u8], read: Result<T, Why>) -> Result<T, Stop>
+    ensures { MatchResult result (λ x. read ≡ Ok x) (λ e. (read ≡ Err e.why) × (e ≡ stop text.now e.why)) }
+{
+    match read {
+        Ok(found) => Ok(found),
+        Err(why) => Err(stop(text, why)),
     }
 }
 
@@ -28,16 +37,11 @@ pub fn stop(text: &[u8], why: Why) -> Stop
 pub fn fault(total: u64, stop: Stop) -> ReadFault
     ensures { result ≡ told total stop.left stop.why }
 {
-    match stop.why {
-        Why::NoMemory | Why::Device => ReadFault {
-            place: 0,
-            why: Why::NoMemory,
-        },
-        why => ReadFault {
-            place: total.saturating_sub(stop.left as u64),
-            why,
-        },
-    }
+    let (place, why) = match stop.why {
+        Why::NoMemory | Why::Device => (0, Why::NoMemory),
+        why => (total.saturating_sub(stop.left as u64), why),
+    };
+    ReadFault { place, why }
 }
 
 /// The first line of a text, and the text behind it.
@@ -46,7 +50,7 @@ pub fn line(text: &[u8]) -> Result<(&[u8], &[u8]), Stop>
 {
     match next_line(text) {
         None => Err(stop(text, Why::Truncated)),
-        Some((line, behind)) => Ok((line, behind)),
+        Some(found) => Ok(found),
     }
 }
 
@@ -57,10 +61,8 @@ pub fn header_line(text: &[u8]) -> Result<((Form, Counts), &[u8]), Stop>
     ensures fits { IfOk result (λ x. Fits x.0.0 x.0.1) }
 {
     let (bytes, behind) = line(text)?;
-    match header(bytes) {
-        Ok(said) => Ok((said, behind)),
-        Err(why) => Err(stop(text, why)),
-    }
+    let said = at(text, header(bytes))?;
+    Ok((said, behind))
 }
 
 /// The latch of the first line of a text of a form, whose own literal is given, and the text behind it.
@@ -68,10 +70,8 @@ pub fn latch_line(form: Form, text: &[u8], greatest: u32, own: u32) -> Result<(L
     ensures { Gives (λ x. (x.0, x.1.now)) result (line_at (latch_in form greatest own) text.now) }
 {
     let (bytes, behind) = line(text)?;
-    match latch_in(form, bytes, greatest, own) {
-        Ok(latch) => Ok((latch, behind)),
-        Err(why) => Err(stop(text, why)),
-    }
+    let latch = at(text, latch_in(form, bytes, greatest, own))?;
+    Ok((latch, behind))
 }
 
 /// The literal of the first line, and the text behind it.
@@ -80,10 +80,8 @@ pub fn literal_line(text: &[u8], greatest: u32) -> Result<(Lit, &[u8]), Stop>
     ensures { Gives (λ x. (x.0, x.1.now)) result (line_at (literal_of greatest) text.now) }
 {
     let (bytes, behind) = line(text)?;
-    match literal_within(bytes, greatest, Why::BadNumber) {
-        Ok(literal) => Ok((literal, behind)),
-        Err(why) => Err(stop(text, why)),
-    }
+    let literal = at(text, literal_within(bytes, greatest, Why::BadNumber))?;
+    Ok((literal, behind))
 }
 
 /// The size that the first line gives, where those before it have so many literals together, and the text behind it.
@@ -93,8 +91,6 @@ pub fn size_line(text: &[u8], before: u32) -> Result<(u32, &[u8]), Stop>
     ensures small { IfOk result (λ x. before + x.0 ≤ 1073741824) }
 {
     let (bytes, behind) = line(text)?;
-    match size(bytes, before) {
-        Ok(size) => Ok((size, behind)),
-        Err(why) => Err(stop(text, why)),
-    }
+    let size = at(text, size(bytes, before))?;
+    Ok((size, behind))
 }

@@ -1,11 +1,10 @@
 //! Reading the names behind the gates, and the beginning of a comment.
 ghost use Rattle.std.specs.Prelude.{◌≡◌};
-ghost use Rattle.aiger.specs.Circuit.{with_name, name_refusal};
-ghost use Rattle.aigertext.specs.Reading.{accepted, section_of, named_by, name_on, names_at, cut};
+ghost use Rattle.aigertext.specs.Reading.{section_of, named_by, name_on, names_at, cut};
 ghost use Rattle.aigertext.specs.Passes.{Reads, ReadsLine};
 
 use crate::fault::{Stop, Why};
-use crate::reading::lines::stop;
+use crate::reading::lines::{at, stop};
 use aiger::{Circuit, CircuitFault, Section};
 use base::{cut_at, decimal, next_line};
 
@@ -20,29 +19,18 @@ fn section(letter: u8) -> Option<Section>
         .find(|section| section.letter() == letter)
 }
 
-/// Gives a name to a position of a section.
+/// Gives a section's position the name that stands behind its letter.
 ///
 /// Errors: `BadSymbol` and `NoMemory`.
-fn give(circuit: &mut Circuit, section: Section, position: u64, name: &[u8]) -> Result<(), Why>
-    ensures { ReadsLine (λ u. circuit.new) result (accepted (with_name circuit.old section position name.now) (name_refusal circuit.old section position name.now)) }
+fn give_by(circuit: &mut Circuit, section: Section, bytes: &[u8]) -> Result<(), Why>
+    ensures { ReadsLine (λ u. circuit.new) result (named_by circuit.old section (cut 32 bytes.now)) }
 {
+    let (digits, name) = cut_at(bytes, b' ').ok_or(Why::BadSymbol)?;
+    let position = decimal(digits).ok_or(Why::BadSymbol)?;
     match circuit.set_name(section, position as usize, name) {
         Ok(()) => Ok(()),
         Err(CircuitFault::NoMemory) => Err(Why::NoMemory),
         Err(_) => Err(Why::BadSymbol),
-    }
-}
-
-/// Gives a section's position the name that stands behind its letter.
-fn give_by(circuit: &mut Circuit, section: Section, bytes: &[u8]) -> Result<(), Why>
-    ensures { ReadsLine (λ u. circuit.new) result (named_by circuit.old section (cut 32 bytes.now)) }
-{
-    match cut_at(bytes, b' ') {
-        None => Err(Why::BadSymbol),
-        Some((digits, name)) => match decimal(digits) {
-            None => Err(Why::BadSymbol),
-            Some(position) => give(circuit, section, position, name),
-        },
     }
 }
 
@@ -51,13 +39,11 @@ fn give_by(circuit: &mut Circuit, section: Section, bytes: &[u8]) -> Result<(), 
 fn give_line(circuit: &mut Circuit, line: &[u8]) -> Result<(), Why>
     ensures { ReadsLine (λ u. circuit.new) result (name_on circuit.old line.now) }
 {
-    match line {
-        [] => Err(Why::BadSymbol),
-        [letter, rest @ ..] => match section(*letter) {
-            None => Err(Why::BadSymbol),
-            Some(section) => give_by(circuit, section, rest),
-        },
-    }
+    let [letter, rest @ ..] = line else {
+        return Err(Why::BadSymbol);
+    };
+    let section = section(*letter).ok_or(Why::BadSymbol)?;
+    give_by(circuit, section, rest)
 }
 
 /// Gives the names of the lines of a text, up to a line `c` or the end.
@@ -71,15 +57,11 @@ pub fn give_names(circuit: &mut Circuit, text: &[u8]) -> Result<(), Stop>
         if line == b"c".as_slice() {
             return Ok(());
         }
-        match give_line(circuit, line) {
-            Ok(()) => {}
-            Err(why) => return Err(stop(rest, why)),
-        }
+        at(rest, give_line(circuit, line))?;
         rest = after;
     }
-    if rest.is_empty() {
-        Ok(())
-    } else {
-        Err(stop(rest, Why::Truncated))
+    if !rest.is_empty() {
+        return Err(stop(rest, Why::Truncated));
     }
+    Ok(())
 }

@@ -12,14 +12,8 @@ pub fn literal_within(bytes: &[u8], greatest: u32, why: Why) -> Result<Lit, Why>
     ensures { Gives (λ x. x) result (within why greatest (number_of bytes.now)) }
 {
     match decimal(bytes) {
-        None => Err(why),
-        Some(number) => {
-            if number <= u64::from(greatest) {
-                Ok(Lit::new(number as u32))
-            } else {
-                Err(why)
-            }
-        }
+        Some(number) if number <= u64::from(greatest) => Ok(Lit::new(number as u32)),
+        _ => Err(why),
     }
 }
 
@@ -32,12 +26,7 @@ pub fn size(line: &[u8], before: u32) -> Result<u32, Why>
 {
     match decimal(line) {
         None => Err(Why::BadNumber),
-        Some(number) => {
-            if number <= u64::from(GREATEST_COUNT - before) {
-                Ok(number as u32)
-            } else {
-                Err(Why::TooBig)
-            }
-        }
+        Some(number) if number <= u64::from(GREATEST_COUNT - before) => Ok(number as u32),
+        Some(_) => Err(Why::TooBig),
     }
 }

@@ -61,9 +61,8 @@ fn read_literals<'a>(
             Ok(found) => found,
             Err(stop) => return Err(stop),
         };
-        match list.push(literal) {
-            Ok(()) => {}
-            Err(_) => return Err(stop(rest, Why::NoMemory)),
+        if list.push(literal).is_err() {
+            return Err(stop(rest, Why::NoMemory));
         }
         rest = after;
     }
@@ -79,13 +78,9 @@ fn read_sizes<'a>(list: &mut Vec<u32>, text: &'a [u8], count: u32) -> Result<(u3
     let mut rest = text;
     let mut total = 0;
     for _index in 0..count {
-        let (size, after) = match size_line(rest, total) {
-            Ok(found) => found,
-            Err(stop) => return Err(stop),
-        };
-        match list.push(size) {
-            Ok(()) => {}
-            Err(_) => return Err(stop(rest, Why::NoMemory)),
+        let (size, after) = size_line(rest, total)?;
+        if list.push(size).is_err() {
+            return Err(stop(rest, Why::NoMemory));
         }
         total += size;
         rest = after;
@@ -95,24 +90,19 @@ fn read_sizes<'a>(list: &mut Vec<u32>, text: &'a [u8], count: u32) -> Result<(u3
 
 /// Reads the lines of all properties, and answers the text behind them.
 pub fn read_properties<'a>(
-    properties: &mut PropertyLines,
+    lines: &mut PropertyLines,
     text: &'a [u8],
     counts: &Counts,
 ) -> Result<&'a [u8], Stop>
-    requires none { numbers_of properties.old ≡ no_numbers }
+    requires none { numbers_of lines.old ≡ no_numbers }
     requires small { counts.now.variables ≤ 1073741824 }
-    ensures { Reads (λ x. (numbers_of properties.new, x.now)) result (properties_at counts.now text.now) }
+    ensures { Reads (λ x. (numbers_of lines.new, x.now)) result (properties_at counts.now text.now) }
 {
     let greatest = 2 * counts.variables + 1;
-    let rest = read_literals(&mut properties.outputs, text, greatest, counts.outputs)?;
-    let rest = read_literals(&mut properties.bads, rest, greatest, counts.bads)?;
-    let rest = read_literals(
-        &mut properties.constraints,
-        rest,
-        greatest,
-        counts.constraints,
-    )?;
-    let (listed, rest) = read_sizes(&mut properties.sizes, rest, counts.justice)?;
-    let rest = read_literals(&mut properties.listed, rest, greatest, listed)?;
-    read_literals(&mut properties.fair, rest, greatest, counts.fair)
+    let rest = read_literals(&mut lines.outputs, text, greatest, counts.outputs)?;
+    let rest = read_literals(&mut lines.bads, rest, greatest, counts.bads)?;
+    let rest = read_literals(&mut lines.constraints, rest, greatest, counts.constraints)?;
+    let (listed, rest) = read_sizes(&mut lines.sizes, rest, counts.justice)?;
+    let rest = read_literals(&mut lines.listed, rest, greatest, listed)?;
+    read_literals(&mut lines.fair, rest, greatest, counts.fair)
 }

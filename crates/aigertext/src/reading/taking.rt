@@ -44,10 +44,7 @@ fn is_out_of_turn(form: Form, circuit: &Circuit, count: usize) -> bool
     ensures ascii { result ≡ true → form ≡ variant.Ascii }
     ensures all { result ≡ false → form ≡ variant.Ascii → length circuit.now.gates ≡ count }
 {
-    match form {
-        Form::Ascii => circuit.gates().len() != count,
-        Form::Binary => false,
-    }
+    form == Form::Ascii && circuit.gates().len() != count
 }
 
 /// Reads the gates of a text, and all behind them, onto a fresh circuit, where the gates' text as far as it was read is
@@ -79,16 +76,12 @@ fn read_onto<S: Source>(
         let Some((counts, mut lists)) = lists_so_far(alloc, before, first, circuit.gates()) else {
             return Err(ReadAllFault::NoMemory);
         };
-        return match take_onto(alloc, before, &counts, &mut lists, window, source) {
-            Ok(taken) => Ok(Some(taken)),
-            Err(fault) => Err(fault),
-        };
+        let taken = take_onto(alloc, before, &counts, &mut lists, window, source)?;
+        return Ok(Some(taken));
     }
     read_rest(window, source)?;
-    let total = match total(before.len(), passed, window.len()) {
-        Some(total) => total,
-        None => return Err(ReadAllFault::NoMemory),
-    };
+    let total = total(before.len(), passed, window.len());
+    let total = total.ok_or(ReadAllFault::NoMemory)?;
     match read_left(circuit, front, window.as_slice()) {
         Ok(()) => Ok(None),
         Err(stop) => Ok(Some(Taken::Fault(fault(total, stop)))),
@@ -117,11 +110,10 @@ fn take_behind<S: Source>(
     let Ok(mut circuit) = Circuit::new(alloc, front.counts.inputs, front.counts.latches) else {
         return Err(ReadAllFault::NoMemory);
     };
-    match read_onto(alloc, front, before, &mut circuit, &mut window, source) {
-        Ok(None) => Ok(Taken::Circuit(circuit)),
-        Ok(Some(taken)) => Ok(taken),
-        Err(fault) => Err(fault),
+    if let Some(taken) = read_onto(alloc, front, before, &mut circuit, &mut window, source)? {
+        return Ok(taken);
     }
+    Ok(Taken::Circuit(circuit))
 }
 
 /// Takes all of a source. Of a binary text and of an ascii text in order only the lines before the gates are held, and a

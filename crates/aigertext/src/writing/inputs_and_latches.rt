@@ -52,15 +52,11 @@ fn write_next(line: &mut Line, own: u32, latch: &Latch)
     ensures short { length line.new ≤ 22 }
 {
     let next = latch.next.number();
-    match latch.reset {
-        Reset::Zero => line.last(next),
-        Reset::One => {
-            line.last(1);
-            line.before(next);
-        }
-        Reset::Free => {
-            line.last(own);
-            line.before(next);
-        }
-    }
+    let reset = match latch.reset {
+        Reset::Zero => return line.last(next),
+        Reset::One => 1,
+        Reset::Free => own,
+    };
+    line.last(reset);
+    line.before(next);
 }

@@ -36,9 +36,8 @@ fn put_name_at<K: Sink>(
 )
     ensures { Writes K.written K.failures sink.old sink.new pen.old pen.new (name_line (letter section) position (name_of circuit.now section position)) }
 {
-    match circuit.name(section, position as usize) {
-        None => {}
-        Some(name) => put_name(pen, sink, section, position, name),
+    if let Some(name) = circuit.name(section, position as usize) {
+        put_name(pen, sink, section, position, name);
     }
 }
 

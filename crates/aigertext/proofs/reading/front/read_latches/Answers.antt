@@ -1,4 +1,4 @@
-use Rattle.std.proofs.Common.{◌+◌, ◌-◌, ◌*◌, ◌∙◌, ap, inr, arith}
+use Rattle.std.proofs.Common.{◌≡◌, ◌+◌, ◌-◌, ◌*◌, ◌∷◌, [], ◌++◌, ◌∙◌, ap, inr, rules, arith}
 use Rattle.aigertext.specs.Passes.{onto, latch_in, latches_in}
 use Rattle.aigertext.proofs.PassLemmas.{onto_step, onto_stop}
 use Rattle.aigertext.proofs.reading.front.read_latches.Goals as goal
@@ -10,6 +10,7 @@ returns-in-Err c =
 
 pub loop-index-preserved : goal.loop-index-preserved
 loop-index-preserved c =
-    ap (λ ls. onto ls (latches_in c.args.form c.args.greatest (c.args.first + 2 * (c.loop-index.index + 1)) (c.args.count - (c.loop-index.index + 1)) c.in-Ok.found.1.now)) c.in-Ok-push.ensures.items
+    let pushed : c.push.new.self.items ≡ c.loop-index.latches.items ++ c.in-Ok.found.0 ∷ [] = search rules in
+    ap (λ ls. onto ls (latches_in c.args.form c.args.greatest (c.args.first + 2 * (c.loop-index.index + 1)) (c.args.count - (c.loop-index.index + 1)) c.in-Ok.found.1.now)) pushed
     ∙ onto_step (latch_in c.args.form c.args.greatest) (λ o l. o + 2) (c.args.first + 2 * c.loop-index.index) (c.args.count - c.loop-index.index) (c.args.count - (c.loop-index.index + 1)) c.loop-index.rest.now (omega arith)
     c.loop-index.latches.items c.in-Ok.found.0 c.in-Ok.found.1.now (c.args.first + 2 * (c.loop-index.index + 1)) _ (omega arith) c.in-Ok.ensures c.loop-index.invariant

@@ -1,14 +1,26 @@
-use Rattle.std.proofs.Common.{inr, refl, sym}
+use Rattle.std.proofs.Common.{◌≡◌, Err, inr, refl, sym, ◌∙◌, rules}
+use Rattle.std.proofs.lemmas.Option.{MatchOption-at_some, MatchOption-at_none}
+use Rattle.aigertext.specs.declared.fault.Why.TheVariants as why
 use Rattle.aigertext.proofs.FrontLemmas.{cut-none, cut-at}
 use Rattle.aigertext.proofs.reading.names.give_by.Goals as goal
 
-pub returns-in-None : goal.returns-in-None
-returns-in-None c = rw (cut-none 32 c.args.bytes.now c.in-None.ensures) (inr refl)
+pub returns-in_err-digits : goal.returns-in_err-digits
+returns-in_err-digits c =
+    let is : c.from_residual.result ≡ Err why.BadSymbol = search rules in
+    rw (is, cut-none 32 c.args.bytes.now (MatchOption-at_none _ _ c.in_err-digits.ensures.ok_part c.cut_at.ensures)) (inr refl)
 
-pub returns-in-None-decimal : goal.returns-in-None-decimal
-returns-in-None-decimal c =
-    rw (cut-at 32 c.args.bytes.now c.in-Some.digits.now c.in-Some.name.now c.in-Some.ensures.0 c.in-Some.ensures.1, sym c.in-None-decimal.ensures) (inr refl)
+pub returns-in_err-position : goal.returns-in_err-position
+returns-in_err-position c =
+    let cut = MatchOption-at_some _ _ _ c.in_ok-digits.ensures.ok_part c.cut_at.ensures in
+    let is : c.from_residual-in_err-position.result ≡ Err why.BadSymbol = search rules in
+    rw (is, cut-at 32 c.args.bytes.now c.in_ok-digits.digits.now c.in_ok-digits.name.now cut.0 cut.1, sym c.decimal.ensures ∙ c.in_err-position.ensures.ok_part) (inr refl)
 
-pub returns-in-Some-decimal : goal.returns-in-Some-decimal
-returns-in-Some-decimal c =
-    rw (cut-at 32 c.args.bytes.now c.in-Some.digits.now c.in-Some.name.now c.in-Some.ensures.0 c.in-Some.ensures.1, sym c.in-Some-decimal.ensures) c.give.ensures
+pub returns-in-Ok : goal.returns-in-Ok
+returns-in-Ok c =
+    let cut = MatchOption-at_some _ _ _ c.in_ok-digits.ensures.ok_part c.cut_at.ensures in
+    rw (cut-at 32 c.args.bytes.now c.in_ok-digits.digits.now c.in_ok-digits.name.now cut.0 cut.1) (search rules)
+
+pub returns-in-Err : goal.returns-in-Err
+returns-in-Err c =
+    let cut = MatchOption-at_some _ _ _ c.in_ok-digits.ensures.ok_part c.cut_at.ensures in
+    rw (cut-at 32 c.args.bytes.now c.in_ok-digits.digits.now c.in_ok-digits.name.now cut.0 cut.1) (search rules)

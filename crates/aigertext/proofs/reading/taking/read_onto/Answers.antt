@@ -4,31 +4,30 @@ use Rattle.aigertext.specs.InOrder.{text_with}
 use Rattle.aigertext.proofs.AnswerLemmas.{fault_read, taken_kept}
 use Rattle.aigertext.proofs.InOrderLemmas.{put_together, text_kept, text_all, text_long}
 use Rattle.aigertext.proofs.reading.taking.read_onto.Goals as goal
-use Rattle.aigertext.proofs.reading.taking.read_onto.Goals.{in-Ok, in-Err}
 
-pub returns-in-Ok-read_left-clause-taken : goal.returns-in-Ok-read_left-clause-taken
-returns-in-Ok-read_left-clause-taken g c = record {
+pub returns-in-Ok-clause-taken : goal.returns-in-Ok-clause-taken
+returns-in-Ok-clause-taken g c = record {
   text = text_with c.args.front.now.form c.args.front.now.counts c.args.before.now c.read_gates.new.target.gates c.read_rest.new.bytes.items;
   is =
       text_all c.args.front.now.form c.args.front.now.counts c.args.before.now c.args.circuit.now c.read_gates.new.target c.in_ok-passed.passed c.args.window.now.items c.read_gates.new.window.items
       (g.S.Source.to_come c.args.source.now) (g.S.Source.to_come c.read_gates.new.source) c.requires.fresh c.in_ok-passed.ensures.puts
       c.read_rest.new.bytes.items (g.S.Source.to_come c.read_rest.new.source) c.in_ok-read_rest.ensures.bytes c.in_ok-read_rest.ensures.end;
-  reads = rw c.as_slice.ensures.value at (c.in-Ok-read_left.ensures c.args.before.now c.requires.front);
+  reads = rw c.as_slice.ensures.value at (c.in-Ok.ensures c.args.before.now c.requires.front);
 }
 
-pub returns-in-Err-read_left-clause-taken : goal.returns-in-Err-read_left-clause-taken
-returns-in-Err-read_left-clause-taken g c = record {
+pub returns-in-Err-clause-taken : goal.returns-in-Err-clause-taken
+returns-in-Err-clause-taken g c = record {
   text = text_with c.args.front.now.form c.args.front.now.counts c.args.before.now c.read_gates.new.target.gates c.read_rest.new.bytes.items;
   is =
       text_all c.args.front.now.form c.args.front.now.counts c.args.before.now c.args.circuit.now c.read_gates.new.target c.in_ok-passed.passed c.args.window.now.items c.read_gates.new.window.items
       (g.S.Source.to_come c.args.source.now) (g.S.Source.to_come c.read_gates.new.source) c.requires.fresh c.in_ok-passed.ensures.puts
       c.read_rest.new.bytes.items (g.S.Source.to_come c.read_rest.new.source) c.in_ok-read_rest.ensures.bytes c.in_ok-read_rest.ensures.end;
   reads =
-      fault_read _ c.in-Some-total.total c.in-Err-read_left.stop c.fault.result
+      fault_read _ c.in_ok-total.total c.in-Err.stop c.fault.result
       (text_long c.args.front.now.form c.args.front.now.counts c.args.before.now c.args.circuit.now c.read_gates.new.target c.in_ok-passed.passed c.args.window.now.items c.read_gates.new.window.items
       (g.S.Source.to_come c.args.source.now) (g.S.Source.to_come c.read_gates.new.source) c.requires.fresh c.in_ok-passed.ensures.puts
-      c.in-Some-total.total c.read_rest.new.bytes.items (omega (arith, c.in-Some-total.ensures, c.len.ensures)))
-      c.fault.ensures (rw c.as_slice.ensures.value at (c.in-Err-read_left.ensures c.args.before.now c.requires.front));
+      c.in_ok-total.total c.read_rest.new.bytes.items (omega (arith, rw c.in_ok-total.ensures.ok_part at c.total-total.ensures, c.len.ensures)))
+      c.fault.ensures (rw c.as_slice.ensures.value at (c.in-Err.ensures c.args.before.now c.requires.front));
 }
 
 pub returns-then-is_out_of_turn-clause-taken : goal.returns-then-is_out_of_turn-clause-taken
@@ -41,7 +40,4 @@ returns-then-is_out_of_turn-clause-taken g c =
     let kept =
     subst (λ t. Keeps (prepend_known (c.args.before.now ++ c.args.window.now.items) k0) (prepend_known t k1)) own
     (text_kept f.form f.counts c.args.before.now c.args.circuit.now c.read_gates.new.target c.in_ok-passed.passed c.args.window.now.items window k0 k1 c.requires.fresh c.in_ok-passed.ensures.puts) in
-    elim c.match-take_onto.branch [
-      | in-Ok w ↦ rw w.result-is (taken_kept _ _ w.in-Ok.taken kept w.in-Ok.ensures.taken)
-      | in-Err w ↦ rw w.result-is tt
-    ]
+    taken_kept _ _ c.in_ok-taken.taken kept c.in_ok-taken.ensures.taken

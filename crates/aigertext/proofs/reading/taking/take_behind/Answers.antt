@@ -1,4 +1,7 @@
 use Rattle.aigertext.proofs.reading.taking.take_behind.Goals as goal
 
-pub returns-in-Ok-None-clause-taken : goal.returns-in-Ok-None-clause-taken
-returns-in-Ok-None-clause-taken g c = rw (c.in-Ok.ensures.items_if_clones_equal (λ x y same. same), c.in-Ok-None.field-0-is) at c.in-Ok-None.ensures.taken
+pub returns-in-Some-clause-taken : goal.returns-in-Some-clause-taken
+returns-in-Some-clause-taken g c = rw (c.in-Ok.ensures.items_if_clones_equal (λ x y same. same), c.in-Some.is) at c.in_ok-taken.ensures.taken
+
+pub returns-clause-taken : goal.returns-clause-taken
+returns-clause-taken g c = rw (c.in-Ok.ensures.items_if_clones_equal (λ x y same. same), c.in_default-2.is) at c.in_ok-taken.ensures.taken

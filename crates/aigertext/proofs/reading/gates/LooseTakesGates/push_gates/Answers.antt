@@ -8,7 +8,7 @@ loop-index-preserved c =
     let added = c.if-not-push_line.ensures.added refl in
     record {
       puts =
-          puts_more (IsPutOnLists c.args.top) (lists_pieces c.args.top) c.args.self.now c.loop-index.self c.push_line.new.lists _ c.args.text.now c.loop-index.rest.now _ c.in-Some.found.3.now c.loop-index.invariant.puts c.in-Some.ensures
+          puts_more (IsPutOnLists c.args.top) (lists_pieces c.args.top) c.args.self.now c.loop-index.self c.push_line.new.lists _ c.args.text.now c.loop-index.rest.now _ c.in-Some.behind.now c.loop-index.invariant.puts c.in-Some.ensures
           (one_line c.args.top c.loop-index.self c.push_line.new.lists _ added);
       few = omega (arith, one_line_more c.loop-index.self c.push_line.new.lists _ added.0, c.loop-index.invariant.few);
     }
