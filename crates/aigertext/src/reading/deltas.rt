@@ -31,32 +31,44 @@ fn more_digits(more: u32, text: &[u8]) -> Result<(u64, &[u8]), Why>
     }
 }
 
-/// A delta, and the text behind it. Whether it has one byte or two is no branch, since no guess of it would be right.
-#[inline(always)]
+/// A delta, and the text behind it, byte by byte.
+///
+/// Errors: `Truncated`, `DeltaNotShortest`, `DeltaTooLong`.
+#[cold]
+#[inline(never)]
 #[tactic(auto, unfolding(crate::specs::Reading::delta_at))]
-fn delta(text: &[u8]) -> Result<(u64, &[u8]), Why>
+fn any_delta(text: &[u8]) -> Result<(u64, &[u8]), Why>
     ensures { Gives (λ x. (x.0, x.1.now)) result (delta_at text.now) }
 {
-    if let [low, high, ..] = text {
-        let more = *low / 128;
-        let second = more * *high;
-        if more <= second && second < 128 {
-            let (_, rest) = text.split_at(usize::from(more + 1));
-            return Ok((u64::from(*low % 128) + 128 * u64::from(second), rest));
-        }
-    }
     match text {
         [] => Err(Why::Truncated),
         [byte, rest @ ..] if *byte < 128 => Ok((u64::from(*byte), rest)),
-        [low, middle, high, rest @ ..] if *middle >= 128 && *high >= 1 && *high < 128 => {
-            let higher = u64::from(*middle - 128) + 128 * u64::from(*high);
-            Ok((u64::from(*low - 128) + 128 * higher, rest))
-        }
         [byte, rest @ ..] => {
             let (higher, behind) = more_digits(3, rest)?;
             Ok((u64::from(*byte - 128) + 128 * higher, behind))
         }
     }
+}
+
+/// A delta, and the text behind it. Whether it has one byte, two or three is no branch, since no guess of it would be
+/// right.
+#[inline(always)]
+#[tactic(auto, unfolding(crate::specs::Reading::delta_at))]
+fn delta(text: &[u8]) -> Result<(u64, &[u8]), Why>
+    ensures { Gives (λ x. (x.0, x.1.now)) result (delta_at text.now) }
+{
+    if let [low, middle, high, ..] = text {
+        let more = *low / 128;
+        let second = more * *middle;
+        let further = second / 128;
+        let third = further * *high;
+        if more <= second && further <= third && third < 128 {
+            let value = u64::from(*low % 128) + 128 * u64::from(second % 128);
+            let (_, rest) = text.split_at(usize::from(1 + more + further));
+            return Ok((value + 16384 * u64::from(third), rest));
+        }
+    }
+    any_delta(text)
 }
 
 /// The greater operand of a gate with this literal, and the text behind its delta.
