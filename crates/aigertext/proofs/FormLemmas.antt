@@ -24,3 +24,13 @@ ordered_at first variable i [] g o h v e = absurd (omega arith)
 ordered_at first variable zero (x ∷ gates) g o h v e =
     subst (λ (y : Gate). (y.rhs0 < 2 * variable) × (y.rhs1 ≤ y.rhs0)) (sym e) (omega (arith, o.0, v), o.1)
 ordered_at first variable (suc i) (x ∷ gates) g o h v e = ordered_at (suc first) variable i gates g o.2 (omega arith) (omega arith) e
+
+-- gates in order are so in parts
+pub ordered_parts : (first : ℕ) (gs hs : List Gate) → AreOrderedFrom first (gs ++ hs) → AreOrderedFrom first gs × AreOrderedFrom (first + length gs) hs
+ordered_parts first [] hs o =
+    let same : first ≡ first + 0 = omega arith in
+    (tt, subst (λ (n : ℕ). AreOrderedFrom n hs) same o)
+ordered_parts first (g ∷ gs) hs o =
+    let p = ordered_parts (suc first) gs hs o.2 in
+    let next : suc first + length gs ≡ first + suc (length gs) = omega arith in
+    ((o.0, o.1, p.0), subst (λ (n : ℕ). AreOrderedFrom n hs) next p.1)

@@ -1,14 +1,21 @@
 //! The gates: a line for each in the ascii form, and two deltas for each in the binary one.
-ghost use Rattle.std.specs.Prelude.{◌≡◌, ◌+◌, ◌≤◌, ◌++◌, suc, length};
+ghost use Rattle.std.specs.Prelude.{◌≡◌, ◌+◌, ◌≤◌, ◌++◌, suc, length, take};
 ghost use Rattle.aiger.specs.Circuit.{IsCircuit};
 ghost use Rattle.aiger.specs.Net.{AreOrderedFrom};
 ghost use Rattle.aigertext.specs.Binary.{delta, gate_text, gates_text};
+ghost use Rattle.aigertext.specs.declared.forms.Form.TheVariants as variant;
 ghost use Rattle.aigertext.specs.Writing.{Writes};
 
 use crate::forms::Form;
 use crate::writing::pen::Pen;
 use aiger::{Circuit, Gate};
 use base::Sink;
+
+/// How many gates have their deltas put together.
+const GATES: usize = 512;
+
+/// How many bytes these take at most.
+const ROOM: usize = 5120;
 
 /// The variable of the first gate.
 pub fn first_gate(circuit: &Circuit) -> u32
@@ -24,56 +31,111 @@ pub fn put_gates<K: Sink>(pen: &mut Pen, sink: &mut K, form: Form, first: u32, g
     requires ordered { AreOrderedFrom first gates.now }
     ensures { Writes K.written K.failures sink.old sink.new pen.old pen.new (gates_text form first gates.now) }
 {
+    match form {
+        Form::Ascii => put_lines(pen, sink, first, gates),
+        Form::Binary => put_deltas(pen, sink, first, gates),
+    }
+}
+
+/// Puts the lines of gates: of each its literal and its operands.
+fn put_lines<K: Sink>(pen: &mut Pen, sink: &mut K, first: u32, gates: &[Gate])
+    requires { first + length gates.now ≤ 1073741825 }
+    ensures { Writes K.written K.failures sink.old sink.new pen.old pen.new (gates_text variant.Ascii first gates.now) }
+{
     let mut variable = first;
     for gate in gates {
-        put_gate(pen, sink, form, 2 * variable, gate);
+        pen.line.last(gate.rhs1.number());
+        pen.line.before(gate.rhs0.number());
+        pen.line.before(2 * variable);
+        pen.put_line(sink);
         variable += 1;
     }
 }
 
-/// Puts a gate: a line of its literal and its operands, or two deltas.
-fn put_gate<K: Sink>(pen: &mut Pen, sink: &mut K, form: Form, own: u32, gate: &Gate)
+/// Puts the deltas of gates, those of many together.
+fn put_deltas<K: Sink>(pen: &mut Pen, sink: &mut K, first: u32, gates: &[Gate])
+    requires few { first + length gates.now ≤ 1073741825 }
+    requires ordered { AreOrderedFrom first gates.now }
+    ensures { Writes K.written K.failures sink.old sink.new pen.old pen.new (gates_text variant.Binary first gates.now) }
+{
+    let mut buffer = [0u8; ROOM];
+    let mut variable = first;
+    let mut rest = gates;
+    while !rest.is_empty() {
+        let (some, others) = rest.split_at(rest.len().min(GATES));
+        let end = write_gates(&mut buffer, variable, some);
+        let (bytes, _) = buffer.split_at(end);
+        pen.put(sink, bytes);
+        variable += some.len() as u32;
+        rest = others;
+    }
+}
+
+/// Writes the deltas of gates to the front of a buffer, and answers how many bytes they are.
+fn write_gates(buffer: &mut [u8; ROOM], first: u32, gates: &[Gate]) -> usize
+    requires few { first + length gates.now ≤ 1073741825 }
+    requires room { length gates.now ≤ 512 }
+    requires ordered { AreOrderedFrom first gates.now }
+    ensures bytes { take result buffer.new ≡ gates_text variant.Binary first gates.now }
+    ensures most { result ≤ length buffer.new }
+{
+    let mut variable = first;
+    let mut end = 0;
+    for gate in gates {
+        end = write_gate(buffer, end, 2 * variable, gate);
+        variable += 1;
+    }
+    end
+}
+
+/// Writes the two deltas of a gate into a buffer, and answers the place behind them.
+#[inline(always)]
+fn write_gate(buffer: &mut [u8], at: usize, own: u32, gate: &Gate) -> usize
+    requires room { at + 10 ≤ length buffer.old }
     requires below { gate.now.rhs0 ≤ own }
     requires ordered { gate.now.rhs1 ≤ gate.now.rhs0 }
-    ensures { Writes K.written K.failures sink.old sink.new pen.old pen.new (gate_text form own gate.now) }
+    ensures bytes { take result buffer.new ≡ take at buffer.old ++ gate_text variant.Binary own gate.now }
+    ensures most { result ≤ at + 10 }
+    ensures same { length buffer.new ≡ length buffer.old }
 {
-    match form {
-        Form::Ascii => {
-            pen.line.last(gate.rhs1.number());
-            pen.line.before(gate.rhs0.number());
-            pen.line.before(own);
-            pen.put_line(sink);
-        }
-        Form::Binary => {
-            let greater = gate.rhs0.number();
-            put_two_deltas(pen, sink, own - greater, greater - gate.rhs1.number());
-        }
-    }
+    let greater = gate.rhs0.number();
+    let at = write_delta(buffer, at, own - greater);
+    write_delta(buffer, at, greater - gate.rhs1.number())
 }
 
-/// Puts two deltas; where both have two bytes, as most have, in one piece.
-fn put_two_deltas<K: Sink>(pen: &mut Pen, sink: &mut K, first: u32, second: u32)
-    ensures { Writes K.written K.failures sink.old sink.new pen.old pen.new (delta first ++ delta second) }
+/// Writes a delta into a buffer, a byte for each seven bits, lowest first, and answers the place behind it. Whether it has
+/// one byte, two or three is no branch, since no guess of it would be right.
+#[inline(always)]
+fn write_delta(buffer: &mut [u8], at: usize, number: u32) -> usize
+    requires { at + 5 ≤ length buffer.old }
+    ensures bytes { take result buffer.new ≡ take at buffer.old ++ delta number }
+    ensures most { result ≤ at + 5 }
+    ensures same { length buffer.new ≡ length buffer.old }
 {
-    if first >= 128 && first < 16384 && second >= 128 && second < 16384 {
-        let low = (first % 128) as u8 + 128;
-        let other = (second % 128) as u8 + 128;
-        let bytes = [low, (first / 128) as u8, other, (second / 128) as u8];
-        pen.put(sink, &bytes);
-        return;
+    if number >= 2097152 {
+        return write_digits(buffer, at, number);
     }
-    put_delta(pen, sink, first);
-    put_delta(pen, sink, second);
+    let (more, further) = (u8::from(number >= 128), u8::from(number >= 16384));
+    buffer[at] = (number % 128) as u8 + 128 * more;
+    buffer[at + 1] = (number / 128 % 128) as u8 + 128 * further;
+    buffer[at + 2] = (number / 16384) as u8;
+    at + usize::from(1 + more + further)
 }
 
-/// Puts a delta: a byte for each seven bits, lowest first, and at least one.
-fn put_delta<K: Sink>(pen: &mut Pen, sink: &mut K, number: u32)
-    ensures { Writes K.written K.failures sink.old sink.new pen.old pen.new (delta number) }
+/// The same, byte by byte.
+fn write_digits(buffer: &mut [u8], at: usize, number: u32) -> usize
+    requires { at + 5 ≤ length buffer.old }
+    ensures bytes { take result buffer.new ≡ take at buffer.old ++ delta number }
+    ensures most { result ≤ at + 5 }
+    ensures same { length buffer.new ≡ length buffer.old }
 {
     let mut rest = number;
+    let mut end = at;
     while rest >= 128 {
-        pen.put(sink, &[(rest % 128) as u8 + 128]);
+        buffer[end] = (rest % 128) as u8 + 128;
         rest /= 128;
+        end += 1;
     }
-    pen.put(sink, &[rest as u8]);
+    buffer[end] = rest as u8;
+    end + 1
 }
