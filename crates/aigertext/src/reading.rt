@@ -55,9 +55,8 @@ fn read_lines(alloc: Global, counts: &Counts, text: &[u8], lines: &[u8]) -> Resu
 {
     one_renumbering();
     let (front, gates) = uses(alloc, Form::Binary, counts, lines)?;
-    let mut circuit = match Circuit::new(alloc, front.counts.inputs, front.counts.latches) {
-        Ok(circuit) => circuit,
-        Err(_) => return Err(stop(text, Why::NoMemory)),
+    let Ok(mut circuit) = Circuit::new(alloc, front.counts.inputs, front.counts.latches) else {
+        return Err(stop(text, Why::NoMemory));
     };
     read_left(&mut circuit, &front, gates)?;
     Ok(circuit)
@@ -68,10 +67,10 @@ fn read_lines(alloc: Global, counts: &Counts, text: &[u8], lines: &[u8]) -> Resu
 fn read_known(alloc: Global, text: &[u8]) -> Result<Circuit, Stop>
     ensures { ReadsBy (λ e. e.why) (λ c. c) result (AnswersText text.now) }
 {
-    match header_line(text) {
-        Ok(((Form::Binary, counts), lines)) => read_lines(alloc, &counts, text, lines),
-        Ok(((Form::Ascii, counts), lines)) => read_file(alloc, &counts, lines),
-        Err(stop) => Err(stop),
+    let ((form, counts), lines) = header_line(text)?;
+    match form {
+        Form::Binary => read_lines(alloc, &counts, text, lines),
+        Form::Ascii => read_file(alloc, &counts, lines),
     }
 }
 

@@ -33,10 +33,8 @@ pub fn write<K: Sink>(circuit: &Circuit, form: Form, sink: &mut K) -> Result<(),
 {
     let mut pen = Pen::new();
     put_text(&mut pen, sink, form, circuit);
-    match pen.answer {
-        Ok(()) => pen.outbox.flush(sink),
-        Err(fault) => Err(fault),
-    }
+    pen.answer?;
+    pen.outbox.flush(sink)
 }
 
 /// Writes the ascii text of a circuit. No memory is taken.

@@ -1,6 +1,6 @@
 //! An ascii text whose inputs and latches are in order, but one of whose gates is out of turn: its gates are read onto the
 //! lists of a file. Where these are no circuit, or a line is spelled otherwise, the text is put together again.
-ghost use Rattle.std.specs.Prelude.{◌≡◌, ◌+◌, ◌≤◌, ◌++◌, [], true, length, Ok, IfOk, IfErr, IfSome, OnOk, IsErrOf};
+ghost use Rattle.std.specs.Prelude.{◌≡◌, ◌+◌, ◌≤◌, ◌++◌, [], Some, length, Ok, IfOk, IfErr, IfSome, OnOk, IsErrOf};
 ghost use Rattle.std.specs.Io.KnownBytes.{prepend_known, IsAtEnd};
 ghost use Rattle.base.specs.Device.{HasRisen};
 ghost use Rattle.aigertext.specs.Binary.{gates_text};
@@ -20,20 +20,18 @@ use aiger::{Gate, GateLine, Loose};
 use base::{ReadAllFault, Source};
 use std::alloc::{AllocError, Global};
 
-/// Adds gates to the lists of a file, the first of which has the given variable; answers whether there was memory for it.
-fn push_own(lists: &mut Loose, greatest: u32, first: u32, gates: &[Gate]) -> bool
+/// Adds gates to the lists of a file, the first of which has the given variable; nothing where memory is wanting.
+fn push_own(lists: &mut Loose, greatest: u32, first: u32, gates: &[Gate]) -> Option<()>
     requires { first + length gates.now ≤ 1073741825 }
-    ensures { result ≡ true → IsPutOnLists greatest lists.old lists.new (gates_text variant.Ascii first gates.now) }
+    ensures { result ≡ Some tt → IsPutOnLists greatest lists.old lists.new (gates_text variant.Ascii first gates.now) }
 {
     let mut variable = first;
     for gate in gates {
         let (first, second) = (gate.rhs0.number(), gate.rhs1.number());
-        if !push_line(lists, greatest, 2 * variable, first, second) {
-            return false;
-        }
+        push_line(lists, greatest, 2 * variable, first, second)?;
         variable += 1;
     }
-    true
+    Some(())
 }
 
 /// The lists of what stands before the gates of a text and of these gates, the first of which has the given variable, with
@@ -57,11 +55,8 @@ pub fn lists_so_far(
     let Ok([]) = read_lists(alloc, &mut lists, &without_gates, lines) else {
         return None;
     };
-    if push_own(&mut lists, 2 * counts.variables + 1, first, gates) {
-        Some((counts, lists))
-    } else {
-        None
-    }
+    push_own(&mut lists, 2 * counts.variables + 1, first, gates)?;
+    Some((counts, lists))
 }
 
 /// Puts the lines of gates behind a text.
@@ -110,18 +105,15 @@ pub fn take_onto<S: Source>(
     let count = counts.gates as usize;
     read_gates(Form::Ascii, greatest, lists, window, count, source)?;
     if lists.gates().len() != count {
-        let Some(mut text) = restored(alloc, before, lists.gates(), window.as_slice()) else {
-            return Err(ReadAllFault::NoMemory);
-        };
+        let text = restored(alloc, before, lists.gates(), window.as_slice());
+        let mut text = text.ok_or(ReadAllFault::NoMemory)?;
         read_rest(&mut text, source)?;
         return Ok(Taken::Text(text));
     }
     read_rest(window, source)?;
-    match named(alloc, lists, counts, before, window.as_slice()) {
-        Ok(circuit) => Ok(Taken::Circuit(circuit)),
-        Err(_) => match restored(alloc, before, lists.gates(), window.as_slice()) {
-            Some(text) => Ok(Taken::Text(text)),
-            None => Err(ReadAllFault::NoMemory),
-        },
+    if let Ok(circuit) = named(alloc, lists, counts, before, window.as_slice()) {
+        return Ok(Taken::Circuit(circuit));
     }
+    let text = restored(alloc, before, lists.gates(), window.as_slice());
+    Ok(Taken::Text(text.ok_or(ReadAllFault::NoMemory)?))
 }

@@ -31,7 +31,10 @@ pub(crate) trait Definition {
     /// What the line at the front of a text defines, and the text behind it, where it is quickly read; else nothing. Of
     /// nothing no more is said.
     fn plain<'a>(text: &'a [u8], greatest: u32, lists: &Loose) -> Option<(Self, &'a [u8])>
-        ensures { IfSome result (λ x. line_at (says greatest lists.now) text.now ≡ Ok (x.0, x.1.now)) };
+        ensures { IfSome result (λ x. line_at (says greatest lists.now) text.now ≡ Ok (x.0, x.1.now)) }
+    {
+        None
+    }
 
     /// Adds it to lists.
     fn push(self, lists: &mut Loose) -> Result<(), CircuitFault>
@@ -49,10 +52,6 @@ impl Definition for Lit {
     #[tactic(auto, unfolding(crate::specs::AsciiReading::input_of))]
     fn of_line(line: &[u8], greatest: u32, lists: &Loose) -> Result<Lit, Why> {
         defined_by(line, Why::BadNumber, greatest, lists)
-    }
-
-    fn plain<'a>(_text: &'a [u8], _greatest: u32, _lists: &Loose) -> Option<(Lit, &'a [u8])> {
-        None
     }
 
     fn push(self, lists: &mut Loose) -> Result<(), CircuitFault> {
@@ -79,10 +78,6 @@ impl Definition for LatchLine {
             next: latch.next,
             reset: latch.reset,
         })
-    }
-
-    fn plain<'a>(_text: &'a [u8], _greatest: u32, _lists: &Loose) -> Option<(LatchLine, &'a [u8])> {
-        None
     }
 
     fn push(self, lists: &mut Loose) -> Result<(), CircuitFault> {

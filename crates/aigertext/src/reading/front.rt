@@ -3,7 +3,6 @@
 ghost use Rattle.std.specs.Prelude.{◌≡◌, ◌+◌, ◌*◌, ◌≤◌, ◌++◌, [], IfOk, IfSome, MatchOption, OnOk, IsErrOf};
 ghost use Rattle.std.specs.Io.KnownBytes.{prepend_known, Keeps, IsAtEnd};
 ghost use Rattle.base.specs.Device.{HasRisen};
-ghost use Rattle.aigertext.specs.Ascii.{input_lines};
 ghost use Rattle.aigertext.specs.Binary.{inputs_text};
 ghost use Rattle.aigertext.specs.Counts.{AreSmall, Fits};
 ghost use Rattle.aigertext.specs.Passes.{latches_in, Reads};
@@ -101,11 +100,15 @@ pub fn uses<'a>(
     Ok((front, gates))
 }
 
-/// The text behind the lines of so many inputs, where these have the first variables in turn.
-fn inputs_in_order(text: &[u8], count: u32) -> Option<&[u8]>
+/// The text behind the lines of so many inputs, which only the ascii form has, where these have the first variables in
+/// turn.
+fn behind_inputs(form: Form, text: &[u8], count: u32) -> Option<&[u8]>
     requires { count ≤ 1073741824 }
-    ensures { IfSome result (λ rest. text.now ≡ input_lines 1 count ++ rest.now) }
+    ensures { IfSome result (λ rest. text.now ≡ inputs_text form count ++ rest.now) }
 {
+    if form == Form::Binary {
+        return Some(text);
+    }
     let mut rest = text;
     for index in 0..count {
         let (number, behind) = number_before(rest, b'\n')?;
@@ -115,17 +118,6 @@ fn inputs_in_order(text: &[u8], count: u32) -> Option<&[u8]>
         rest = behind;
     }
     Some(rest)
-}
-
-/// The text behind the lines of so many inputs, which only the ascii form has.
-fn behind_inputs(form: Form, text: &[u8], count: u32) -> Option<&[u8]>
-    requires { count ≤ 1073741824 }
-    ensures { IfSome result (λ rest. text.now ≡ inputs_text form count ++ rest.now) }
-{
-    match form {
-        Form::Ascii => inputs_in_order(text, count),
-        Form::Binary => Some(text),
-    }
 }
 
 /// What stands before the gates of a text, and how many bytes that is, where all lines before the gates are there, none is

@@ -1,6 +1,6 @@
 //! The gates of a text, put piece by piece onto a circuit, where each has the circuit's next variable, and operands below
 //! it, the greater one first; or onto the lists of a file.
-ghost use Rattle.std.specs.Prelude.{◌≡◌, ℕ, ◌+◌, ◌-◌, ◌≤◌, ◌∷◌, ◌++◌, List, [], true, false, Some, length, IfOk, IfSome, OnOk, IsErrOf};
+ghost use Rattle.std.specs.Prelude.{◌≡◌, ℕ, ◌+◌, ◌-◌, ◌≤◌, ◌∷◌, ◌++◌, List, [], Some, None, length, IfOk, IfSome, OnOk, IsErrOf};
 ghost use Rattle.std.specs.Io.KnownBytes.{prepend_known};
 ghost use Rattle.base.specs.Device.{HasRisen};
 ghost use Rattle.aiger.specs.Loose.{with_gate_line};
@@ -115,7 +115,7 @@ impl TakesGates for Loose {
             let Some((own, first, second, behind)) = three_numbers(rest) else {
                 return rest;
             };
-            if !push_line(self, top, own, first, second) {
+            if push_line(self, top, own, first, second).is_none() {
                 return rest;
             }
             rest = behind;
@@ -125,17 +125,17 @@ impl TakesGates for Loose {
 }
 
 /// Adds a gate to the lists of a file, where its literals are at most the greatest, its own one defines a new variable and
-/// there is memory; answers whether it did.
+/// there is memory; else there is nothing, and the lists are the same.
 #[inline(always)]
-pub fn push_line(lists: &mut Loose, greatest: u32, own: u32, first: u32, second: u32) -> bool
-    ensures added { result ≡ true → (lists.new ≡ with_gate_line lists.old (record { lhs = own; rhs0 = first; rhs1 = second })) × IsLineUpTo greatest (record { lhs = own; rhs0 = first; rhs1 = second }) }
-    ensures same { result ≡ false → lists.new ≡ lists.old }
+pub fn push_line(lists: &mut Loose, greatest: u32, own: u32, first: u32, second: u32) -> Option<()>
+    ensures added { result ≡ Some tt → (lists.new ≡ with_gate_line lists.old (record { lhs = own; rhs0 = first; rhs1 = second })) × IsLineUpTo greatest (record { lhs = own; rhs0 = first; rhs1 = second }) }
+    ensures same { result ≡ None → lists.new ≡ lists.old }
 {
     if own > greatest || first > greatest || second > greatest {
-        return false;
+        return None;
     }
     let (own, first, second) = (Lit::new(own), Lit::new(first), Lit::new(second));
-    lists.push_gate(own, first, second).is_ok()
+    lists.push_gate(own, first, second).ok()
 }
 
 /// Adds gates by what is held and what a source has to come, until there are so many or one is not taken, and holds what

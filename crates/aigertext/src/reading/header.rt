@@ -20,9 +20,7 @@ fn numbers_in(rest: &[u8], numbers: &mut [u64; 9]) -> Result<usize, Why>
     let mut rest = rest;
     let mut count = 0;
     while let Some((field, behind)) = next_field(rest) {
-        let Some(number) = decimal(field) else {
-            return Err(Why::BadHeader);
-        };
+        let number = decimal(field).ok_or(Why::BadHeader)?;
         if count == 9 {
             return Err(Why::BadHeader);
         }

@@ -6,9 +6,9 @@ use Rattle.base.proofs.PieceLemmas.{rest_fails}
 use Rattle.aigertext.specs.Binary.{circuit_text}
 use Rattle.aigertext.proofs.writing.write.Goals as goal
 
-pub returns-in-Ok : goal.returns-in-Ok
-returns-in-Ok g c =
-    let w = rw (c.new-pen.ensures.well, c.in-Ok.is, c.new-pen.ensures.kept) at c.put_text.ensures.puts in
+pub returns : goal.returns
+returns g c =
+    let w = rw (c.new-pen.ensures.well, c.in_ok-pen.was, c.new-pen.ensures.kept) at c.put_text.ensures.puts in
     record {
       ok =
           on_ok_weaker c.flush.result

@@ -11,7 +11,7 @@ pub returns-then-gates-count-clause-taken : goal.returns-then-gates-count-clause
 returns-then-gates-count-clause-taken g c =
     let k1 = g.S.Source.to_come c.read_gates.new.source in
     let k2 = g.S.Source.to_come c.read_rest.new.source in
-    let whole = c.in-Some.ensures ∙ ap (λ gs. c.args.before.now ++ (line_texts gs ++ c.as_slice.result.now)) c.gates-then-gates-count.ensures.items ∙ ap (λ t. c.args.before.now ++ (line_texts c.read_gates.new.target.gates ++ t)) c.as_slice.ensures.value in
+    let whole = (rw c.in_ok-text.ensures.ok_part at c.restored-text.ensures) ∙ ap (λ gs. c.args.before.now ++ (line_texts gs ++ c.as_slice.result.now)) c.gates-then-gates-count.ensures.items ∙ ap (λ t. c.args.before.now ++ (line_texts c.read_gates.new.target.gates ++ t)) c.as_slice.ensures.value in
     at_end _ c.read_rest.new.bytes.items k2
     (Keeps-trans _ _ _ (lists_kept c.args.counts.now c.args.before.now c.args.lists.now c.read_gates.new.target _ c.args.window.now.items c.read_gates.new.window.items _ k1 c.requires c.in_ok-read_gates.ensures.puts)
     (subst (λ t. Keeps (prepend_known t k1) (prepend_known c.read_rest.new.bytes.items k2)) whole c.in_ok-read_rest.ensures.bytes)) c.in_ok-read_rest.ensures.end
@@ -29,9 +29,9 @@ returns-in-Ok-clause-taken g c =
           (ap length (sym c.gates.ensures.items) ∙ omega (arith, c.if-gates-count.false)) rest c.one_renumbering.ensures.circuit c.in-Ok.circuit (only_named _ _ _ _ c.in-Ok.circuit (rw c.as_slice-2.ensures.value at c.in-Ok.ensures)));
     }
 
-pub returns-in-Some-restored-clause-taken : goal.returns-in-Some-restored-clause-taken
-returns-in-Some-restored-clause-taken g c =
+pub returns-clause-taken : goal.returns-clause-taken
+returns-clause-taken g c =
     let rest = c.read_rest-2.new.bytes.items in
-    let whole = c.in-Some-restored.ensures ∙ ap (λ gs. c.args.before.now ++ (line_texts gs ++ c.as_slice-in-Err.result.now)) c.gates-in-Err.ensures.items ∙ ap (λ t. c.args.before.now ++ (line_texts c.read_gates.new.target.gates ++ t)) c.as_slice-in-Err.ensures.value in
+    let whole = (rw c.in_ok-ok_or.ensures.ok_part at c.restored-text-2.ensures) ∙ ap (λ gs. c.args.before.now ++ (line_texts gs ++ c.as_slice-3.result.now)) c.gates-2.ensures.items ∙ ap (λ t. c.args.before.now ++ (line_texts c.read_gates.new.target.gates ++ t)) c.as_slice-3.ensures.value in
     subst (λ t. IfSome (prepend_known (c.args.before.now ++ (line_texts c.args.lists.now.gates ++ c.args.window.now.items)) (g.S.Source.to_come c.args.source.now)) (λ all. t ≡ all)) (sym whole)
     (all_lists_kept c.args.counts.now c.args.before.now c.args.lists.now c.read_gates.new.target _ c.args.window.now.items c.read_gates.new.window.items rest _ _ _ c.requires c.in_ok-read_gates.ensures.puts c.in_ok-read_rest-2.ensures.bytes c.in_ok-read_rest-2.ensures.end)

@@ -1,6 +1,6 @@
 use Rattle.std.proofs.Common.{arith}
 use Rattle.aigertext.proofs.PutsLemmas.{inputs_step}
-use Rattle.aigertext.proofs.reading.front.inputs_in_order.Goals as goal
+use Rattle.aigertext.proofs.reading.front.behind_inputs.Goals as goal
 
 pub loop-index-preserved : goal.loop-index-preserved
 loop-index-preserved c =
