@@ -39,10 +39,9 @@ fn finish(circuit: &mut Circuit, front: &Front, names: &[u8]) -> Result<(), Stop
     requires front { (before : List ℕ) × IsFront front.now.form front.now.counts (uses_of front.now) before }
     ensures { IsFinish front.now.counts (uses_of front.now) circuit.old.gates circuit.new names.now result }
 {
-    if set_latches(circuit, &front.latches).is_err() {
-        return Err(stop(names, Why::NoMemory));
-    }
-    if put_properties(circuit, &front.properties).is_err() {
+    if set_latches(circuit, &front.latches).is_err()
+        || put_properties(circuit, &front.properties).is_err()
+    {
         return Err(stop(names, Why::NoMemory));
     }
     let _bare = circuit.variables();

@@ -35,9 +35,7 @@ fn numbers_in(rest: &[u8], numbers: &mut [u64; 9]) -> Result<usize, Why>
 fn are_small(numbers: &[u64]) -> bool
     ensures { result ≡ list_all (λ n. nat_le n greatest_count) numbers.now }
 {
-    numbers
-        .iter()
-        .all(|number| *number <= u64::from(GREATEST_COUNT))
+    numbers.iter().all(|one| *one <= u64::from(GREATEST_COUNT))
 }
 
 /// One of small numbers, 0 where it is left out.

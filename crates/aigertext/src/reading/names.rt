@@ -1,6 +1,7 @@
 //! Reading the names behind the gates, and the beginning of a comment.
 ghost use Rattle.std.specs.Prelude.{◌≡◌};
-ghost use Rattle.aigertext.specs.Reading.{section_of, named_by, name_on, names_at, cut};
+ghost use Rattle.aiger.specs.Circuit.{with_name, name_refusal};
+ghost use Rattle.aigertext.specs.Reading.{accepted, section_of, named_by, name_on, names_at, cut};
 ghost use Rattle.aigertext.specs.Passes.{Reads, ReadsLine};
 
 use crate::fault::{Stop, Why};
@@ -19,19 +20,26 @@ fn section(letter: u8) -> Option<Section>
         .find(|section| section.letter() == letter)
 }
 
-/// Gives a section's position the name that stands behind its letter.
+/// Gives a name to a position of a section.
 ///
 /// Errors: `BadSymbol` and `NoMemory`.
-fn give_by(circuit: &mut Circuit, section: Section, bytes: &[u8]) -> Result<(), Why>
-    ensures { ReadsLine (λ u. circuit.new) result (named_by circuit.old section (cut 32 bytes.now)) }
+fn give(circuit: &mut Circuit, section: Section, position: u64, name: &[u8]) -> Result<(), Why>
+    ensures { ReadsLine (λ u. circuit.new) result (accepted (with_name circuit.old section position name.now) (name_refusal circuit.old section position name.now)) }
 {
-    let (digits, name) = cut_at(bytes, b' ').ok_or(Why::BadSymbol)?;
-    let position = decimal(digits).ok_or(Why::BadSymbol)?;
     match circuit.set_name(section, position as usize, name) {
         Ok(()) => Ok(()),
         Err(CircuitFault::NoMemory) => Err(Why::NoMemory),
         Err(_) => Err(Why::BadSymbol),
     }
+}
+
+/// Gives a section's position the name that stands behind its letter.
+fn give_by(circuit: &mut Circuit, section: Section, bytes: &[u8]) -> Result<(), Why>
+    ensures { ReadsLine (λ u. circuit.new) result (named_by circuit.old section (cut 32 bytes.now)) }
+{
+    let (digits, name) = cut_at(bytes, b' ').ok_or(Why::BadSymbol)?;
+    let position = decimal(digits).ok_or(Why::BadSymbol)?;
+    give(circuit, section, position, name)
 }
 
 /// Gives the name of a line.

@@ -1,6 +1,6 @@
 //! The lines of the names that positions have.
 ghost use Rattle.std.specs.Prelude.{Some};
-ghost use Rattle.aiger.specs.Circuit.{letter};
+ghost use Rattle.aiger.specs.Circuit.{letter, name_of};
 ghost use Rattle.aigertext.specs.Ascii.{name_line, names_of, all_names};
 ghost use Rattle.aigertext.specs.Writing.{Writes};
 
@@ -22,9 +22,16 @@ fn put_names<K: Sink>(pen: &mut Pen, sink: &mut K, circuit: &Circuit, section: S
     ensures { Writes K.written K.failures sink.old sink.new pen.old pen.new (names_of circuit.now section) }
 {
     for position in 0..circuit.count(section) as u32 {
-        if let Some(name) = circuit.name(section, position as usize) {
-            put_name(pen, sink, section, position, name);
-        }
+        put_name_at(pen, sink, circuit, section, position);
+    }
+}
+
+/// Puts the line of a position's name, where it has one.
+fn put_name_at<K: Sink>(pen: &mut Pen, sink: &mut K, circuit: &Circuit, section: Section, at: u32)
+    ensures { Writes K.written K.failures sink.old sink.new pen.old pen.new (name_line (letter section) at (name_of circuit.now section at)) }
+{
+    if let Some(name) = circuit.name(section, at as usize) {
+        put_name(pen, sink, section, at, name);
     }
 }
 

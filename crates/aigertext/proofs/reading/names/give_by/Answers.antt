@@ -15,12 +15,7 @@ returns-in_err-position c =
     let is : c.from_residual-in_err-position.result ≡ Err why.BadSymbol = search rules in
     rw (is, cut-at 32 c.args.bytes.now c.in_ok-digits.digits.now c.in_ok-digits.name.now cut.0 cut.1, sym c.decimal.ensures ∙ c.in_err-position.ensures.ok_part) (inr refl)
 
-pub returns-in-Ok : goal.returns-in-Ok
-returns-in-Ok c =
+pub returns : goal.returns
+returns c =
     let cut = MatchOption-at_some _ _ _ c.in_ok-digits.ensures.ok_part c.cut_at.ensures in
-    rw (cut-at 32 c.args.bytes.now c.in_ok-digits.digits.now c.in_ok-digits.name.now cut.0 cut.1) (search rules)
-
-pub returns-in-Err : goal.returns-in-Err
-returns-in-Err c =
-    let cut = MatchOption-at_some _ _ _ c.in_ok-digits.ensures.ok_part c.cut_at.ensures in
-    rw (cut-at 32 c.args.bytes.now c.in_ok-digits.digits.now c.in_ok-digits.name.now cut.0 cut.1) (search rules)
+    rw (cut-at 32 c.args.bytes.now c.in_ok-digits.digits.now c.in_ok-digits.name.now cut.0 cut.1, sym c.decimal.ensures ∙ c.in_ok-position.ensures.ok_part) c.give.ensures
