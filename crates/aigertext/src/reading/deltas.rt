@@ -32,8 +32,6 @@ fn more_digits(more: u32, text: &[u8]) -> Result<(u64, &[u8]), Why>
 }
 
 /// A delta, and the text behind it, byte by byte.
-///
-/// Errors: `Truncated`, `DeltaNotShortest`, `DeltaTooLong`.
 #[cold]
 #[inline(never)]
 #[tactic(auto, unfolding(crate::specs::Reading::delta_at))]
@@ -50,8 +48,7 @@ fn any_delta(text: &[u8]) -> Result<(u64, &[u8]), Why>
     }
 }
 
-/// A delta, and the text behind it. Whether it has one byte, two or three is no branch, since no guess of it would be
-/// right.
+/// A delta, and the text behind it. Whether it has one byte, two or three is no branch: no guess of it would be right.
 #[inline(always)]
 #[tactic(auto, unfolding(crate::specs::Reading::delta_at))]
 fn delta(text: &[u8]) -> Result<(u64, &[u8]), Why>

@@ -100,8 +100,7 @@ pub fn uses<'a>(
     Ok((front, gates))
 }
 
-/// The text behind the lines of so many inputs, which only the ascii form has, where these have the first variables in
-/// turn.
+/// The text behind the lines of so many inputs, where these have the first variables in turn; only the ascii form has them.
 fn behind_inputs(form: Form, text: &[u8], count: u32) -> Option<&[u8]>
     requires { count ≤ 1073741824 }
     ensures { IfSome result (λ rest. text.now ≡ inputs_text form count ++ rest.now) }

@@ -28,8 +28,7 @@ fn line_gate(text: &[u8], own: u32) -> Option<(Gate, &[u8])>
     if number != own {
         return None;
     }
-    let rhs0 = Lit::new(first);
-    let rhs1 = Lit::new(second);
+    let (rhs0, rhs1) = (Lit::new(first), Lit::new(second));
     Some((Gate { rhs0, rhs1 }, behind))
 }
 

@@ -11,10 +11,7 @@ use crate::writing::pen::Pen;
 use aiger::{Circuit, Gate};
 use base::Sink;
 
-/// How many gates have their deltas put together.
-const GATES: usize = 512;
-
-/// How many bytes these take at most.
+/// Room for the deltas that are put together: those of a gate take ten bytes at most.
 const ROOM: usize = 5120;
 
 /// The variable of the first gate.
@@ -62,7 +59,7 @@ fn put_deltas<K: Sink>(pen: &mut Pen, sink: &mut K, first: u32, gates: &[Gate])
     let mut variable = first;
     let mut rest = gates;
     while !rest.is_empty() {
-        let (some, others) = rest.split_at(rest.len().min(GATES));
+        let (some, others) = rest.split_at(rest.len().min(ROOM / 10));
         let end = write_gates(&mut buffer, variable, some);
         let (bytes, _) = buffer.split_at(end);
         pen.put(sink, bytes);
