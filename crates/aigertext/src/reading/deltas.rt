@@ -65,7 +65,7 @@ fn delta(text: &[u8]) -> Result<(u64, &[u8]), Stop>
             return Ok((value + 16384 * u64::from(third), rest));
         }
     }
-    at(text, any_delta(text))
+    Ok(at(text, any_delta(text))?)
 }
 
 /// The greater operand of a gate with this literal, and the text behind its delta.
