@@ -1,18 +1,24 @@
 #!/usr/bin/env python3
 """Proves and builds the program, with crates that do not stand on each other side by side.
 
-    tools/build.py              the libraries that the program stands on, and the program
-    tools/build.py NAME ..      the same for these crates, with no program
+    tools/build.py              the program, and the libraries that it stands on
+    tools/build.py NAME ..      the same of these crates: the program, a library, or the library for C programs
 
-Commands of the toolchain that work on crates of one repository wait for each other where they share a library below. So
-each crate is checked in a copy of the sources, in which the libraries below it stand already, with files that are linked and
-not copied; what it leaves, the library and the kept work, then stands in this repository, as if it had been made here. What is
-proved is the same. Of the crates whose libraries below stand, the one with the longest way up to the program comes first and has
-twice the jobs, and where fewer crates can be checked than there are processors, each has more of them.
+A crate is proved as the gate proves it, from its sources, over the statements of the libraries below: what can be cited of a
+library, without the proofs that were admitted when it was proved. That is a fifth of what stands in the libraries that `rt lib`
+and `rt run` make, over which checks go on from each other; those are other files, and no part of this.
+
+Processors are shared among the crates whose libraries stand. The one with the longest way up to the program comes first, and
+the others give way to it. What is made of a crate stands in its folder `out/proved`, with a sum of all that it was made from,
+and is made again where that sum is another one: since nothing else is kept, a crate that changed is proved whole, and so is
+each above it.
 
 On standard error it passes on what the toolchain says of a crate where that is done, and says how many are. The status is 0
 where all stands.
 """
+import fcntl
+import functools
+import hashlib
 import os
 import pathlib
 import shutil
@@ -24,95 +30,132 @@ import time
 
 TOP = pathlib.Path(__file__).resolve().parent.parent
 PROGRAM = "hwtool"
-# Memory that a check of a large crate takes, with more than one job.
+RT = shutil.which("rt") or sys.exit("hwtool: the toolchain's command rt is not on the path")
+# The toolchain's folder.
+KIT = pathlib.Path(os.path.realpath(RT)).parent.parent
+# Memory that a check of a large crate takes, with the copies of itself that work on its functions.
 NEED = 3_000_000_000
-# What a check leaves in out/: the library, and work that a further check begins with.
-LIBRARY, WORK = "rlib", "incremental"
+# What a crate without code takes, in bytes of code that take as long.
+READING = 20_000
 
 
-def crates_and_libraries():
-    """Each crate of crates.txt with the repository's libraries that it names."""
-    lines = [line.partition(":") for line in (TOP / "crates.txt").read_text().splitlines() if line[:1].isalpha()]
-    named = {front.split()[0]: behind.split() for front, _, behind in lines}
-    return {crate: [it for it in libraries if it in named] for crate, libraries in named.items()}
+class Crate:
+    """A crate of crates.txt: its name, what it is, the repository's libraries and the toolchain's that it names."""
 
+    def __init__(self, line, crates):
+        front, _, behind = line.partition(":")
+        self.name, *kinds = front.split()
+        self.folder = TOP / "crates" / self.name
+        self.is_program = (self.folder / "src/main.rt").is_file()
+        self.is_static = "staticlib" in kinds
+        self.line = line
+        self.direct = [crates[it] for it in behind.split() if it in crates]
+        self.of_kit = ["std", *(it for it in behind.split() if it not in crates)]
+        # in the order of crates.txt, in which a crate stands behind those below it
+        self.below = [it for it in crates.values() if it in self.direct or any(it in direct.below for direct in self.direct)]
 
-def below(crate, libraries):
-    """The libraries that a crate stands on."""
-    direct = libraries[crate]
-    return set(direct).union(*(below(it, libraries) for it in direct))
+    def files(self):
+        """What the crate is made from."""
+        parts = [self.folder / it for it in ("src", "specs", "proofs")]
+        return sorted(it for part in parts for it in part.rglob("*") if it.is_file())
 
+    @functools.cached_property
+    def weight(self):
+        """What the crate's time goes by: the bytes of its code, and as many as reading the libraries takes."""
+        return READING + sum(it.stat().st_size for it in self.files() if it.suffix == ".rt")
 
-def size(crate):
-    """How many bytes the sources, definitions and proofs of a crate have, which its time goes by."""
-    parts = [TOP / "crates" / crate / it for it in ("src", "specs", "proofs")]
-    return sum(it.stat().st_size for part in parts for it in part.rglob("*") if it.is_file())
+    def sum_of_files(self):
+        """A sum of the crate's files as they stand."""
+        return hashlib.sha256(repr([(str(it.relative_to(self.folder)), it.read_bytes()) for it in self.files()]).encode()).hexdigest()
 
+    @functools.cached_property
+    def sum(self):
+        """That sum as it was when the build began."""
+        return self.sum_of_files()
 
-def heights(wanted, libraries):
-    """Of each crate its size and that of the largest chain of crates above it."""
-    found = {}
+    def made_from(self):
+        """All that it is made from: the toolchain, its line, and the sums of the files of those below and of its own."""
+        return repr([(KIT / "KIT-ID").read_text(), self.line, *(it.sum for it in [*self.below, self])])
 
-    def height(crate):
-        if crate not in found:
-            found[crate] = size(crate) + max((height(it) for it in wanted if crate in libraries[it]), default=0)
-        return found[crate]
+    @property
+    def proved(self):
+        """The folder of what is made."""
+        return self.folder / "out/proved"
 
-    return {crate: height(crate) for crate in wanted}
+    @property
+    def made(self):
+        """What is made: a library, the library for C programs, or what the program is linked from."""
+        return self.proved / (f"lib{self.name}.a" if self.is_static else f"{self.name}.o" if self.is_program else f"{self.name}.rlib")
 
+    @property
+    def stamp(self):
+        """The file that says what it was made from."""
+        return self.proved / "made-from"
 
-def link(made, to):
-    """Has what was made in one folder stand in another, in place of what stands there."""
-    fresh = to.with_name(to.name + ".fresh")
-    shutil.rmtree(fresh, ignore_errors=True)
-    to.parent.mkdir(exist_ok=True)
-    shutil.copytree(made, fresh, copy_function=os.link)
-    shutil.rmtree(to, ignore_errors=True)
-    fresh.rename(to)
+    def stands(self):
+        """Whether what stands was made of what it is made from now."""
+        return self.made.exists() and self.stamp.is_file() and self.stamp.read_text() == self.made_from()
 
-
-def pass_on(made, to, parts):
-    """Has parts of what was made of a crate stand in another copy of it."""
-    for part in parts:
-        if (made / "out" / part).is_dir():
-            link(made / "out" / part, to / "out" / part)
+    def command(self, jobs):
+        """What proves the crate and makes it."""
+        words = [KIT / "bin/rattle", "build", "--crate-name", self.name, f"src/{'main' if self.is_program else 'lib'}.rt"]
+        words += ["--antt-project", KIT / "rattle/logic/antt-project.json", "--logic-built", KIT / "logic_built", "--jobs", jobs]
+        for it in self.of_kit:
+            words += ["--extern", f"{it}={KIT}/rlibs/{it}.rlib"]
+        for it in self.direct:
+            words += ["--extern", f"{it.name}={it.made}"]
+        for it in [KIT / "rlibs", *(it.proved for it in self.below)]:
+            words += ["-L", f"dependency={it}"]
+        if self.is_program or self.is_static:
+            words += ["--toolchain", KIT / "toolchain", *["--crate-type", "staticlib"] * self.is_static]
+        else:
+            words += ["--statements"]
+        return [str(it) for it in [*words, "-o", self.made]]
 
 
 class Check:
-    """A check of a crate that is under way, in a copy of the sources."""
+    """A check of a crate that is under way."""
 
-    def __init__(self, crate, copy, standing, jobs):
-        self.crate, self.copy = crate, copy
-        for it in standing:
-            if not (copy / "crates" / it / "out").is_dir():
-                pass_on(TOP / "crates" / it, copy / "crates" / it, [LIBRARY])
-        pass_on(TOP / "crates" / crate, copy / "crates" / crate, [LIBRARY, WORK])
+    def __init__(self, crate, jobs, gives_way):
+        self.crate = crate
+        shutil.rmtree(crate.proved, ignore_errors=True)
+        crate.proved.mkdir(parents=True)
         self.said = tempfile.TemporaryFile("w+", errors="replace")
+        # a crate that gives way works where those before it leave a processor
         self.run = subprocess.Popen(
-            ["rt", "lib", "--jobs", str(jobs)], cwd=copy / "crates" / crate,
+            crate.command(jobs), cwd=crate.folder, preexec_fn=lambda: os.nice(10 if gives_way else 0),
             stdin=subprocess.DEVNULL, stdout=self.said, stderr=self.said)
 
     def end(self):
-        """Passes on what was said, and, where all is proved, what was made; answers whether it is."""
+        """Passes on what was said; answers whether the crate is proved."""
         self.said.seek(0)
         shutil.copyfileobj(self.said, sys.stderr)
-        if self.run.returncode == 0:
-            pass_on(self.copy / "crates" / self.crate, TOP / "crates" / self.crate, [LIBRARY, WORK])
+        # what was edited meanwhile is made again by the next build
+        if self.run.returncode == 0 and self.crate.sum_of_files() == self.crate.sum:
+            self.crate.stamp.write_text(self.crate.made_from())
         return self.run.returncode == 0
-
-
-def copies(folder, count):
-    """So many copies of the sources."""
-    made = [folder / str(number) for number in range(count)]
-    for copy in made:
-        shutil.copytree(TOP / "crates", copy / "crates", ignore=shutil.ignore_patterns("out"))
-        for file in ("crates.txt", "HANDLES"):
-            shutil.copy2(TOP / file, copy)
-    return made
 
 
 def say(line):
     print(f"hwtool: {line}", file=sys.stderr, flush=True)
+
+
+def crates_of(file):
+    """The crates that a file like crates.txt names, by their names."""
+    found = {}
+    for line in file.read_text().splitlines():
+        if line[:1].isalpha():
+            crate = Crate(line, found)
+            found[crate.name] = crate
+    return found
+
+
+def heights(wanted):
+    """Of each crate its weight and that of the heaviest chain of crates above it."""
+    found = {}
+    for crate in reversed(wanted):
+        found[crate] = crate.weight + max((found[it] for it in found if crate in it.direct), default=0)
+    return found
 
 
 def free_memory():
@@ -121,51 +164,59 @@ def free_memory():
     return next(int(line.split()[1]) * 1024 for line in lines if line.startswith("MemAvailable:"))
 
 
-def build(wanted, libraries, free):
-    """Checks the crates, each in one of the free copies; answers whether all are proved."""
+def build(wanted):
+    """Makes the crates, each of which stands behind those below it; answers whether all are proved."""
     processors = len(os.sched_getaffinity(0))
-    height = heights(wanted, libraries)
-    left, running, standing = sorted(wanted, key=lambda it: -height[it]), [], set()
-    while left or running:
-        ready = [it for it in left if below(it, libraries) <= standing]
-        for crate in ready[:len(free)]:
-            share = -(-processors // (len(ready) + len(running)))
-            jobs = share if any(height[it.crate] > height[crate] for it in running) else min(2 * share, processors)
-            say(f"crate {crate} begins")
-            running.append(Check(crate, free.pop(), below(crate, libraries), jobs))
-            left.remove(crate)
-            ready.remove(crate)
-        time.sleep(0.2)
-        for check in [it for it in running if it.run.poll() is not None]:
-            running.remove(check)
-            free.append(check.copy)
-            if not check.end():
-                for other in running:
-                    other.run.terminate()
-                    other.run.wait()
-                return False
-            standing.add(check.crate)
-            say(f"crate {check.crate} is done, {len(standing)} of {len(wanted)}")
-    return True
+    at_once = max(1, min(processors, free_memory() // NEED))
+    height, standing, running = heights(wanted), set(), []
+    for crate in wanted:
+        if crate.stands() and standing.issuperset(crate.below):
+            standing.add(crate)
+    left = sorted((it for it in wanted if it not in standing), key=lambda it: -height[it])
+    try:
+        while left or running:
+            ready = [it for it in left if standing.issuperset(it.below)]
+            for crate in ready[:at_once - len(running)]:
+                # half as many again as its share, since a crate does not use all of its jobs at all times
+                jobs = min(processors, max(1, round(1.5 * processors / (len(ready) + len(running)))))
+                say(f"crate {crate.name} begins")
+                running.append(Check(crate, jobs, any(height[it.crate] > height[crate] for it in running)))
+                ready.remove(crate)
+                left.remove(crate)
+            time.sleep(0.1)
+            for check in [it for it in running if it.run.poll() is not None]:
+                running.remove(check)
+                if not check.end():
+                    return False
+                standing.add(check.crate)
+                say(f"crate {check.crate.name} is done, {len(standing)} of {len(wanted)}")
+        return True
+    finally:
+        for check in running:
+            check.run.terminate()
+            check.run.wait()
+
+
+def link(program):
+    """Links the program."""
+    words = [KIT / "bin/rattle-link", "--target", "x86_64-unknown-linux-gnu", "--toolchain", KIT / "toolchain"]
+    words += ["-o", program.folder / "out" / program.name, program.made, KIT / "c/libos_c.a", KIT / "c/liblibc_c.a"]
+    return subprocess.run(words, stdin=subprocess.DEVNULL, stdout=sys.stderr).returncode
 
 
 def main():
-    named, libraries = sys.argv[1:], crates_and_libraries()
-    wanted = set().union(*(below(it, libraries) for it in named or [PROGRAM])) | set(named)
-    processors = len(os.sched_getaffinity(0))
-    out = TOP / "crates" / PROGRAM / "out"
+    crates = crates_of(TOP / "crates.txt")
+    named = [crates.get(it) or sys.exit(f"hwtool: crates.txt names no crate {it}") for it in sys.argv[1:] or [PROGRAM]]
+    wanted = [it for it in crates.values() if it in named or any(it in above.below for above in named)]
+    out = crates[PROGRAM].folder / "out"
     out.mkdir(exist_ok=True)
-    with tempfile.TemporaryDirectory(prefix="copies.", dir=out) as folder:
-        count = max(1, min(processors, free_memory() // NEED))
-        if not build(wanted, libraries, copies(pathlib.Path(folder), count)):
-            return 1
-    if named:
-        return 0
-    run = ["rt", "run", "--jobs", str(processors), "--", "--version"]
-    return subprocess.run(run, cwd=TOP / "crates" / PROGRAM, stdout=sys.stderr).returncode
+    with open(out / "lock", "w") as lock:
+        # two builds at once would make each crate twice
+        fcntl.flock(lock, fcntl.LOCK_EX)
+        return 0 if build(wanted) and not any(link(it) for it in named if it.is_program) else 1
 
 
 if __name__ == "__main__":
-    # so that the copies are removed then
+    # so that what is under way ends with this
     signal.signal(signal.SIGTERM, lambda *_: sys.exit(143))
     sys.exit(main())
