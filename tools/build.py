@@ -8,9 +8,10 @@ A crate is proved as the gate proves it, from its sources, over the statements o
 library, without the proofs that were admitted when it was proved. That is a fifth of what stands in the libraries that `rt lib`
 and `rt run` make, over which checks go on from each other; those are other files, and no part of this.
 
-Processors are shared among the crates whose libraries stand. The one with the longest way up to the program comes first, and
-the others give way to it. What is made of a crate stands in its folder `out/proved`, with a sum of all that it was made from,
-and is made again where that sum is another one: since nothing else is kept, a crate that changed is proved whole, and so is
+Of the crates whose libraries stand, those with the longest way up to the program come first. A further job of a crate costs, since
+each function is checked by a copy of the checker, which reads for itself what it cites of the libraries; so a crate has more
+than one only where processors are free. What is made of a crate stands in its folder `out/proved`, with a note of all that it
+was made from, and is made again where that is another: nothing else is kept, so a crate that changed is proved whole, and so is
 each above it.
 
 On standard error it passes on what the toolchain says of a crate where that is done, and says how many are. The status is 0
@@ -116,15 +117,13 @@ class Crate:
 class Check:
     """A check of a crate that is under way."""
 
-    def __init__(self, crate, jobs, gives_way):
-        self.crate = crate
+    def __init__(self, crate, jobs):
+        self.crate, self.jobs = crate, jobs
         shutil.rmtree(crate.proved, ignore_errors=True)
         crate.proved.mkdir(parents=True)
         self.said = tempfile.TemporaryFile("w+", errors="replace")
-        # a crate that gives way works where those before it leave a processor
         self.run = subprocess.Popen(
-            crate.command(jobs), cwd=crate.folder, preexec_fn=lambda: os.nice(10 if gives_way else 0),
-            stdin=subprocess.DEVNULL, stdout=self.said, stderr=self.said)
+            crate.command(jobs), cwd=crate.folder, stdin=subprocess.DEVNULL, stdout=self.said, stderr=self.said)
 
     def end(self):
         """Passes on what was said; answers whether the crate is proved."""
@@ -167,7 +166,7 @@ def free_memory():
 def build(wanted):
     """Makes the crates, each of which stands behind those below it; answers whether all are proved."""
     processors = len(os.sched_getaffinity(0))
-    at_once = max(1, min(processors, free_memory() // NEED))
+    at_once = max(1, min(processors + 1, free_memory() // NEED))
     height, standing, running = heights(wanted), set(), []
     for crate in wanted:
         if crate.stands() and standing.issuperset(crate.below):
@@ -175,14 +174,15 @@ def build(wanted):
     left = sorted((it for it in wanted if it not in standing), key=lambda it: -height[it])
     try:
         while left or running:
-            ready = [it for it in left if standing.issuperset(it.below)]
-            for crate in ready[:at_once - len(running)]:
-                # half as many again as its share, since a crate does not use all of its jobs at all times
-                jobs = min(processors, max(1, round(1.5 * processors / (len(ready) + len(running)))))
-                say(f"crate {crate.name} begins")
-                running.append(Check(crate, jobs, any(height[it.crate] > height[crate] for it in running)))
-                ready.remove(crate)
+            begin = [it for it in left if standing.issuperset(it.below)][:at_once - len(running)]
+            for place, crate in enumerate(begin):
                 left.remove(crate)
+                # those that begin share the processors that are free; what only the crates above it wait for has all
+                free = processors - sum(it.jobs for it in running)
+                is_last = all(crate in it.below for it in left)
+                jobs = processors if is_last else max(1, -(-free // (len(begin) - place)))
+                say(f"crate {crate.name} begins")
+                running.append(Check(crate, jobs))
             time.sleep(0.1)
             for check in [it for it in running if it.run.poll() is not None]:
                 running.remove(check)
