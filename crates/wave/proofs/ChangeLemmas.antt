@@ -1,7 +1,7 @@
 -- The changes of a frame, signal by signal.
-use Rattle.std.proofs.Common.{◌≡◌, ℕ, zero, suc, ◌+◌, ◌<◌, ◌≤◌, Bool, List, [], ◌∷◌, ◌++◌, All, length, map, take, drop, get_or, set, refl, sym, ap, ap₂, subst, ◌∙◌, drop-cons, add-one, arith, inl, inr}
+use Rattle.std.proofs.Common.{◌≡◌, ℕ, zero, suc, ◌+◌, ◌<◌, ◌≤◌, Bool, List, [], ◌∷◌, ◌++◌, All, length, map, take, drop, get_or, set, refl, sym, ap, ap₂, subst, ◌∙◌, append-nil, drop-cons, add-one, arith, inl, inr}
 use Rattle.std.proofs.lemmas.Bool.{cases_eq}
-use Rattle.std.proofs.lemmas.List.{length-set, get_or-set_same, get_or-set_other}
+use Rattle.std.proofs.lemmas.List.{drop_all, take_all, length-set, get_or-set_same, get_or-set_other}
 use Rattle.wave.specs.declared.signals.Signal.{Signal}
 use Rattle.wave.specs.Stands.{with_word, change, changes}
 
@@ -37,6 +37,9 @@ kept_step words at list now d new word lt is told kept =
     let old : get_or now at d ≡ get_or list at d = ap (λ (l : List Signal). get_or l at d) is ∙ same_rest words list at d lt in
     let own : new ≡ with_word words (get_or list at d) = kept ∙ rw (told, old) refl in
     ap₂ (λ (l : List Signal) (s : Signal). set l at s) is own ∙ (set_more words list at d lt ∙ ap (With words list) (sym (add-one at)))
+
+pub all_kept : (words : ℕ → ℕ) (list : List Signal) (at : ℕ) → length list ≤ at → map (with_word words) (take at list) ++ drop at list ≡ map (with_word words) list
+all_kept words list at all = ap₂ (λ (front rest : List Signal). map (with_word words) front ++ rest) (take_all at list all) (drop_all at list all) ∙ append-nil (map (with_word words) list)
 
 pub allowed_step : (at : ℕ) (now : List Signal) (d new : Signal) → at < length now → All (λ s. s.width ≤ 64) now → new.width ≡ (get_or now at d).width → All (λ s. s.width ≤ 64) (set now at new)
 allowed_step at now d new lt all same k e inside =

@@ -107,11 +107,6 @@ end_failed s title items fs old mid new left sent begun =
 
 -- ---- a whole source
 
-abbrev pub Waved : {T E : Type 0} → Result T E → Shown → List ℕ → List Item → Option (List ℕ) → Option (List ℕ) → Waver → List ℕ → Type 0
-Waved r s title items old new after text =
-    MatchResult r (λ x. Waves s items after text × ((fs : List Frame) → IsClosedTrace items text fs → Appends old new (vcd_text s title items fs)))
-    (λ e. (fs : List Frame) → IsClosedTrace items text fs → AppendsBeginning old new (vcd_text s title items fs))
-
 -- a beginning of the dump of each trace
 abbrev pub Begun : Shown → List ℕ → List Item → Option (List ℕ) → Option (List ℕ) → List ℕ → Type 0
 Begun s title items old new text = (fs : List Frame) → IsClosedTrace items text fs → AppendsBeginning old new (vcd_text s title items fs)
@@ -129,8 +124,9 @@ pub through_end : (T E S F : Type 0) (x : S) (r : Result T E) (s : Shown) (title
     → IfSome source (Takes {T = S} {E = F} (Ok x) mid last kept left before after)
     → OnOk r ((s' : Shown) (items' : List Item) (text : List ℕ) (fs : List Frame) → Waves s' items' after text → IsClosedTrace items' text fs → Appends last new (left ++ text_of_lines (end_lines fs)))
     → OnErr r ((s' : Shown) (items' : List Item) (text : List ℕ) (fs : List Frame) → Waves s' items' after text → IsClosedTrace items' text fs → AppendsBeginning last new (left ++ text_of_lines (end_lines fs)))
-    → IfSome source (Waved r s title items old new after)
-through_end T E S F x r s title items None old mid last new kept left before after h sent t ok err = tt
+    → MatchResult r (λ y. IfSome source (Waves s items after) × IfSome source (λ text. (fs : List Frame) → IsClosedTrace items text fs → Appends old new (vcd_text s title items fs))) (λ e. IfSome source (Begun s title items old new))
+through_end T E S F x (Ok y) s title items None old mid last new kept left before after h sent t ok err = (tt, tt)
+through_end T E S F x (Err e) s title items None old mid last new kept left before after h sent t ok err = tt
 through_end T E S F x (Ok y) s title items (Some text) old mid last new kept left before after h sent t ok err =
     let one = t.takes s title items [] old h (begins s title items old mid kept sent) in
     (one.0, λ fs trace. ended s title items fs old last new left (one.1 fs trace) (ok s items text fs one.0 trace))

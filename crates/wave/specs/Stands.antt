@@ -90,6 +90,6 @@ pub record Takes {T E : Type 0} (r : Result T E) (old new : Option (List ℕ)) (
 abbrev pub WavesAll : {T E : Type 0} → Result T E → Shown → List ℕ → List Item → Option (List ℕ) → Option (List ℕ) → Option (List ℕ) → Waver → Waver → Type 0
 WavesAll r s title items source old new before after =
     Waves s items before []
-    → IfSome source (λ text. MatchResult r
-    (λ x. Waves s items after text × ((fs : List Frame) → IsClosedTrace items text fs → Appends old new (vcd_text s title items fs)))
-    (λ e. (fs : List Frame) → IsClosedTrace items text fs → AppendsBeginning old new (vcd_text s title items fs)))
+    → MatchResult r
+    (λ x. IfSome source (Waves s items after) × IfSome source (λ text. (fs : List Frame) → IsClosedTrace items text fs → Appends old new (vcd_text s title items fs)))
+    (λ e. IfSome source (λ text. (fs : List Frame) → IsClosedTrace items text fs → AppendsBeginning old new (vcd_text s title items fs)))

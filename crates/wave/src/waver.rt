@@ -4,6 +4,7 @@ ghost use Rattle.base.specs.Device.{CountsFaults};
 ghost use Rattle.base.specs.Lines.{IsLine, text_of_lines};
 ghost use Rattle.base.specs.Pieces.{Puts};
 ghost use Rattle.btor2.specs.declared.item.Item.{Item};
+ghost use Rattle.btor2.specs.Check.{IsWellFormed};
 ghost use Rattle.btor2.specs.Lists.{first_init_without_next};
 ghost use Rattle.btor2.specs.Trace.{Frame};
 ghost use Rattle.witness.specs.Judgements.{Judges};
@@ -19,7 +20,6 @@ use crate::scope::Shown;
 use crate::signals::{Signal, signals};
 use base::{DeviceFault, Outbox, Sink, next_line};
 use btor2::Model;
-use runs::NewFault;
 use std::alloc::Global;
 use witness::{Judgement, WordJudge};
 
@@ -50,15 +50,17 @@ impl<'a> Waver<'a> {
         ensures ok { IfOk result (λ w. Waves shown model.now w []) }
         ensures answer { AnswersWave result (first_init_without_next model.now model.now) }
         ensures fault { IfErr result IsEarly }
+        ensures well_formed { IsWellFormed model.now }
     {
         let _items = model.items();
-        let judge = match WordJudge::new(alloc, model) {
-            Ok(judge) => judge,
-            Err(NewFault::NoNext(id)) => return Err(WaveFault::NoNext(id)),
-            Err(NewFault::NoMemory) => return Err(WaveFault::NoMemory),
+        if let Some(id) = model.first_init_without_next() {
+            return Err(WaveFault::NoNext(id));
+        }
+        let Ok(signals) = signals(alloc, model, shown) else {
+            return Err(WaveFault::NoMemory);
         };
-        match signals(alloc, model, shown) {
-            Ok(signals) => Ok(Waver { judge, signals }),
+        match WordJudge::new(alloc, model) {
+            Ok(judge) => Ok(Waver { judge, signals }),
             Err(_) => Err(WaveFault::NoMemory),
         }
     }

@@ -165,10 +165,11 @@ pub fn wave<S: Source, K: Sink>(
     // the items of a model are one, so that its frames have a trace
     ensures well_formed { IsWellFormed model.now }
 {
-    let _items = model.items();
     let mut waver = Waver::new(alloc, model, shown)?;
-    match write_dump(&mut waver, model, shown, title, source, sink) {
-        Ok(()) => Ok(waver.finish()),
+    let written = write_dump(&mut waver, model, shown, title, source, sink);
+    let judgement = waver.finish();
+    match written {
+        Ok(()) => Ok(judgement),
         Err(fault) => Err(fault),
     }
 }

@@ -1,10 +1,10 @@
-use Rattle.std.proofs.Common.{◌<◌, length, ap, ◌∙◌, arith, rules}
-use Rattle.std.proofs.lemmas.List.{length-set}
+use Rattle.std.proofs.Common.{◌<◌, length, ap, refl, ◌∙◌, arith, rules}
+use Rattle.std.proofs.lemmas.List.{drop_all, length-set}
 use Rattle.std.proofs.lemmas.Result.{err_from_is_err_and}
-use Rattle.base.proofs.PieceLemmas.{put_more, put_fails}
+use Rattle.base.proofs.PieceLemmas.{put_none, put_more, put_all, put_fails}
 use Rattle.wave.specs.declared.signals.Signal.{Signal}
-use Rattle.wave.specs.Stands.{told_word}
-use Rattle.wave.proofs.ChangeLemmas.{change_step, kept_step, allowed_step}
+use Rattle.wave.specs.Stands.{told_word, changes}
+use Rattle.wave.proofs.ChangeLemmas.{change_step, kept_step, allowed_step, all_kept}
 use Rattle.wave.proofs.changes.put_changes.Goals as goal
 
 pub returns-in_err-put_change-clause-puts : goal.returns-in_err-put_change-clause-puts
@@ -25,3 +25,14 @@ loop-at-preserved g c =
       many = length-set c.loop-at.signals c.loop-at.at c.put_change.new.signal ∙ c.loop-at.invariant.many;
       counted = search rules;
     }
+
+pub loop-at-init : goal.loop-at-init
+loop-at-init g c = record { put = λ items f shows. put_none _ _ _; kept = λ items f shows. refl; allowed = c.requires; many = refl; counted = refl }
+
+pub returns-clause-puts : goal.returns-clause-puts
+returns-clause-puts g c items f shows =
+    put_all _ _ _ _ _ _ (c.loop-at.invariant.put items f shows) (ap (changes c.args.first (told_word items f)) (drop_all c.loop-at.at c.args.signals.now (omega (arith, c.loop-at-test.false, c.loop-at.invariant.many))))
+
+pub returns-clause-kept : goal.returns-clause-kept
+returns-clause-kept g c items f shows =
+    c.loop-at.invariant.kept items f shows ∙ all_kept (told_word items f) c.args.signals.now c.loop-at.at (omega (arith, c.loop-at-test.false, c.loop-at.invariant.many))

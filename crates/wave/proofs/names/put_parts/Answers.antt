@@ -1,6 +1,8 @@
-use Rattle.std.proofs.Common.{refl, arith, rules}
+use Rattle.std.proofs.Common.{refl, ap, arith, rules}
+use Rattle.std.proofs.lemmas.List.{drop_all}
 use Rattle.std.proofs.lemmas.Result.{err_from_is_err_and}
-use Rattle.base.proofs.PieceLemmas.{put_more, put_fails}
+use Rattle.base.proofs.PieceLemmas.{put_none, put_more, put_all, put_fails}
+use Rattle.wave.specs.Stands.{concat_slices}
 use Rattle.wave.proofs.PartLemmas.{parts_at}
 use Rattle.wave.proofs.names.put_parts.Goals as goal
 
@@ -14,3 +16,9 @@ loop-part-preserved g c = record {
   put = put_more _ _ _ _ _ _ _ _ _ _ c.loop-part.invariant.put c.in_ok-put_bytes.ensures.puts (parts_at c.loop-part.part-index c.args.parts.now _ _ (omega arith) refl);
   counted = search rules;
 }
+
+pub loop-part-init : goal.loop-part-init
+loop-part-init g c = record { put = put_none _ _ _; counted = refl }
+
+pub returns-clause-puts : goal.returns-clause-puts
+returns-clause-puts g c = put_all _ _ _ _ _ _ c.loop-part.invariant.put (ap concat_slices (drop_all c.loop-part.part-index c.args.parts.now (omega arith)))
