@@ -11,7 +11,7 @@ ghost use Rattle.tasks.specs.Done.{IsModelOf, Judged};
 ghost use Rattle.commands.specs.Done.{IsLifted};
 ghost use Rattle.commands.specs.Refusals.{of_lifting};
 ghost use Rattle.tasks.specs.Refusals.{IsNotLowered};
-ghost use Rattle.tasks.specs.Statuses.{Counts, IfInput, ErrUntold};
+ghost use Rattle.tasks.specs.Statuses.{Counts, IfInput, ErrUntold, IsOfNoInput};
 
 use aiger::Circuit;
 use base::{Sink, Source};
@@ -42,11 +42,30 @@ pub(crate) fn lift_witness<B: Source, O: Sink, E: Sink, W: Watch>(
     // a model's items are well-formed
     let _ = model.items();
     let circuit = lower_watched(alloc, model, watch)?;
-    let judgement = match lift_with(alloc, named, model, &circuit, second, out) {
+    lift_over_circuit(alloc, named, model, &circuit, second, out, err)
+}
+
+/// The same over a model that was lowered.
+fn lift_over_circuit<B: Source, O: Sink, E: Sink>(
+    alloc: Global,
+    named: bool,
+    model: &Model,
+    circuit: &Circuit,
+    second: &mut B,
+    out: &mut O,
+    err: &mut E,
+) -> Result<Answer, Refusal>
+    requires { Lowers model.now circuit.now }
+    ensures done { (known : Option (List ℕ)) → IsModelOf known model.now → IfOk result (Judged (IsLifted named known (B.to_come second.old) (O.written out.old) (O.written out.new) (E.written err.old) (E.written err.new))) }
+    ensures no_input { IsOfNoInput result }
+    ensures untold { ErrUntold result (err.new ≡ err.old) }
+    ensures counted { (f : ℕ) → Counts result f f (B.failures second.old) (B.failures second.new) (O.failures out.old) (O.failures out.new) (E.failures err.old) (E.failures err.new) }
+{
+    let judgement = match lift_with(alloc, named, model, circuit, second, out) {
         Ok(judgement) => judgement,
         Err(fault) => return Err(refusal_of(fault)),
     };
-    let subject = Subject::Lowered(model, &circuit);
+    let subject = Subject::Lowered(model, circuit);
     tell_judgement(alloc, named, subject, &judgement, err)
 }
 
