@@ -5,13 +5,19 @@
 #[cfg(test)]
 mod cuts;
 #[cfg(test)]
+mod judging;
+#[cfg(test)]
 mod large;
+#[cfg(test)]
+mod made;
 #[cfg(test)]
 mod no_memory_left;
 #[cfg(test)]
 mod restoring;
 #[cfg(test)]
 mod sizes;
+#[cfg(test)]
+mod texts;
 #[cfg(test)]
 mod too_big;
 #[cfg(test)]

@@ -2,33 +2,34 @@
 //! later one is; what a test stands on may be refused first, which ends it with that error. What takes no memory answers as
 //! ever, and what takes some tells that none was there, and has read and written nothing then. That there is an answer with
 //! ample memory is shown elsewhere. `tests/refused_memory.py` refuses the allocations.
+ghost use Rattle.blast.specs.Lowering.{Lowers};
+
+use crate::judging::{Counts, Over, judged};
+use crate::made::{over_circuit, over_model};
 use aiger::Circuit;
-use aigertext::{Form, Why, read, write};
+use aigertext::{Form, Why, write};
 use base::VecSink;
 use blast::{ConvertFault, LowerFault, convert, lower};
 use btor2::Model;
 use library_tests::samples::{
-    BOUNDED, COUNTER, Comparing, FOLLOWER, GATE, KEEPER, KEEPS, TOGGLER, TOGGLES, model_of,
+    BOUNDED, COUNTER, Comparing, FOLLOWER, GATE, KEEPER, KEEPS, TOGGLER, TOGGLES,
 };
 use lift::{LiftFault, lift};
 use runs::NewFault;
 use std::alloc::Global;
 use std::test::Fail;
-use witness::{BitJudge, Judgement, WordJudge, judge_bits};
+use witness::{JudgeFault, Judgement, judge_bits};
 
-/// The circuit of a text.
-fn circuit_of(alloc: Global, text: &[u8]) -> Result<Circuit, Fail> {
-    let mut source = text;
-    Ok(read(alloc, &mut source)?)
+/// Whether a model is written as a text.
+fn is_written(model: &Model, text: &str) -> bool {
+    let mut sink = Comparing::new(text.as_bytes());
+    btor2text::write(model, &mut sink).is_ok() && sink.is_whole()
 }
 
 /// Whether the text of a model is read, and written again as it is; or no memory is told, of no line.
 fn is_read(alloc: Global, text: &str) -> bool {
-    match btor2text::read(alloc, &mut text.as_bytes()) {
-        Ok(model) => {
-            let mut sink = Comparing::new(text.as_bytes());
-            btor2text::write(&model, &mut sink).is_ok() && sink.is_whole()
-        }
+    match over_model(alloc, text, |model| is_written(model, text)) {
+        Ok(is_written) => is_written,
         Err(fault) => fault.line == 0 && fault.why == btor2text::Why::NoMemory,
     }
 }
@@ -66,14 +67,16 @@ const CIRCUITS: [(&[u8], Form, &[u8]); 6] = [
     ),
 ];
 
+/// Whether a circuit is written so in a form.
+fn is_spelled(circuit: &Circuit, form: Form, spelled: &[u8]) -> bool {
+    let mut sink = Comparing::new(spelled);
+    write(circuit, form, &mut sink).is_ok() && sink.is_whole()
+}
+
 /// Whether the text of a circuit is read, and written in a form; or no memory is told, of no place.
-fn is_spelled(alloc: Global, text: &[u8], form: Form, spelled: &[u8]) -> bool {
-    let mut source = text;
-    match read(alloc, &mut source) {
-        Ok(circuit) => {
-            let mut sink = Comparing::new(spelled);
-            write(&circuit, form, &mut sink).is_ok() && sink.is_whole()
-        }
+fn is_spelled_again(alloc: Global, text: &[u8], form: Form, spelled: &[u8]) -> bool {
+    match over_circuit(alloc, text, |circuit| is_spelled(circuit, form, spelled)) {
+        Ok(is_spelled) => is_spelled,
         Err(fault) => fault.place == 0 && fault.why == Why::NoMemory,
     }
 }
@@ -81,7 +84,7 @@ fn is_spelled(alloc: Global, text: &[u8], form: Form, spelled: &[u8]) -> bool {
 #[test]
 fn circuits_are_read_and_written(rt: HostRuntime) {
     for (text, form, spelled) in &CIRCUITS {
-        assert!(rt; is_spelled(rt.alloc(), text, *form, spelled));
+        assert!(rt; is_spelled_again(rt.alloc(), text, *form, spelled));
     }
 }
 
@@ -103,52 +106,70 @@ fn is_converted(alloc: Global, text: &str, written: &str) -> bool {
     }
 }
 
-/// Whether a circuit's bad property rises in the fourth frame from 0 on, as the counter's does.
-fn is_counter(alloc: Global, circuit: &Circuit) -> Result<bool, Fail> {
+/// Whether a circuit's bad property rises in the fourth frame from 0 on, as the counter's does; or no memory is told.
+fn is_counter(alloc: Global, circuit: &Circuit) -> bool {
     let mut witness = b"1\nb0\n00\n\n\n\n\n.\n".as_slice();
-    Ok(judge_bits(alloc, circuit, &mut witness)? == Judgement::Accepted { frames: 4 })
+    match judge_bits(alloc, circuit, &mut witness) {
+        Ok(judgement) => judgement == Judgement::Accepted { frames: 4 },
+        Err(fault) => fault == JudgeFault::NoMemory,
+    }
 }
 
 /// Whether a model is lowered as the counter; or no memory is told.
-fn is_lowered_as_counter(alloc: Global, model: &Model) -> Result<bool, Fail> {
+fn is_lowered_as_counter(alloc: Global, model: &Model) -> bool {
     match lower(alloc, model) {
         Ok(circuit) => is_counter(alloc, &circuit),
-        Err(fault) => Ok(fault == LowerFault::NoMemory),
+        Err(fault) => fault == LowerFault::NoMemory,
     }
 }
 
 /// Whether the counter is lowered; or no memory is told.
-fn is_counter_lowered(alloc: Global) -> Result<bool, Fail> {
-    match btor2text::read(alloc, &mut COUNTER.as_bytes()) {
-        Ok(model) => is_lowered_as_counter(alloc, &model),
-        Err(fault) => Ok(fault.why == btor2text::Why::NoMemory),
+fn is_counter_lowered(alloc: Global) -> bool {
+    match over_model(alloc, COUNTER, |model| is_lowered_as_counter(alloc, model)) {
+        Ok(is_lowered) => is_lowered,
+        Err(fault) => fault.why == btor2text::Why::NoMemory,
+    }
+}
+
+/// Whether the text of a circuit is that of the counter; or no memory is told.
+fn is_text_of_counter(alloc: Global, text: &[u8]) -> bool {
+    match over_circuit(alloc, text, |circuit| is_counter(alloc, circuit)) {
+        Ok(is_counter) => is_counter,
+        Err(fault) => fault.why == Why::NoMemory,
     }
 }
 
 /// Whether the counter's circuit is written to a sink that takes memory; or no memory is told, or that sink's fault, and
 /// nothing was written.
-fn is_counter_kept(alloc: Global) -> Result<bool, Fail> {
+fn is_counter_kept(alloc: Global) -> bool {
     let mut sink = VecSink::new(alloc);
-    match convert(alloc, &mut COUNTER.as_bytes(), &mut sink, Form::Ascii) {
-        Ok(()) => is_counter(alloc, &circuit_of(alloc, sink.bytes())?),
-        Err(ConvertFault::Write(_)) => Ok(sink.bytes().is_empty()),
-        Err(fault) => Ok(sink.bytes().is_empty() && is_want_of_memory(fault)),
+    let converted = convert(alloc, &mut COUNTER.as_bytes(), &mut sink, Form::Ascii);
+    is_kept(alloc, converted, sink.bytes())
+}
+
+/// Whether that is so of what is told and written.
+fn is_kept(alloc: Global, converted: Result<(), ConvertFault>, written: &[u8]) -> bool {
+    match converted {
+        Ok(()) => is_text_of_counter(alloc, written),
+        Err(ConvertFault::Write(_)) => written.is_empty(),
+        Err(fault) => written.is_empty() && is_want_of_memory(fault),
     }
 }
 
 #[test]
-fn models_are_lowered(rt: HostRuntime) -> Result<(), Fail> {
-    assert!(rt; is_converted(rt.alloc(), KEEPER, KEEPS));
-    assert!(rt; is_converted(rt.alloc(), TOGGLER, TOGGLES));
-    let is_lowered = is_counter_lowered(rt.alloc())?;
-    let is_kept = is_counter_kept(rt.alloc())?;
-    assert!(rt; is_lowered && is_kept);
-    Ok(())
+fn models_are_lowered(rt: HostRuntime) {
+    let are_converted = is_converted(rt.alloc(), KEEPER, KEEPS)
+        & is_converted(rt.alloc(), TOGGLER, TOGGLES);
+    let is_lowered = is_counter_lowered(rt.alloc());
+    let is_kept = is_counter_kept(rt.alloc());
+    assert!(rt; are_converted & is_lowered & is_kept);
 }
 
-/// Witnesses of the counter, and what a judge that is fed them answers and has counted: words held, steps, closed frames
-/// and admitted lines.
-const COUNTED: [(&str, Judgement, (u64, u128, u64, u64)); 2] = [
+/// A witness, and what a judge that is fed it answers and has counted.
+type Row = (&'static str, Judgement, Counts);
+
+/// Witnesses of the counter.
+const OF_COUNTER: [Row; 2] = [
     (
         "sat\nb0\n#0\n@0\n@1\n@2\n@3\n.\n",
         Judgement::Accepted { frames: 4 },
@@ -161,35 +182,25 @@ const COUNTED: [(&str, Judgement, (u64, u128, u64, u64)); 2] = [
     ),
 ];
 
-/// Whether a judge that was made answers so and has counted so; or no memory was told when it was to be made.
-fn judges_words(
-    alloc: Global,
-    model: &Model,
-    text: &[u8],
-    wanted: &Judgement,
-    counts: (u64, u128, u64, u64),
-) -> bool {
-    match WordJudge::new(alloc, model) {
-        Ok(mut judge) => {
-            for byte in text {
-                judge.feed(&[*byte]);
-            }
-            let given = (
-                judge.held(),
-                judge.steps(),
-                judge.closed_frames(),
-                judge.admitted_lines(),
-            );
-            given == counts && judge.finish() == *wanted
-        }
+/// A witness of the toggling bit's circuit.
+const OF_TOGGLES: [Row; 1] = [(
+    "1\nb0\n0\n\n\n.\n",
+    Judgement::Accepted { frames: 2 },
+    (3, 2, 2, 6),
+)];
+
+/// Whether a judge that was made answers so byte by byte, and has counted so; or no memory was told when it was to be made.
+fn is_judged(alloc: Global, over: Over<'_>, row: &Row) -> bool {
+    match judged(alloc, over, row.0.as_bytes(), 1, 1) {
+        Ok((counts, judgement)) => (judgement == row.1) & (counts == row.2),
         Err(fault) => fault == NewFault::NoMemory,
     }
 }
 
 /// Whether each of these witnesses is judged so.
-fn are_judged(alloc: Global, model: &Model) -> bool {
-    for (text, wanted, counts) in &COUNTED {
-        if !judges_words(alloc, model, text.as_bytes(), wanted, *counts) {
+fn are_judged(alloc: Global, over: Over<'_>, rows: &[Row]) -> bool {
+    for row in rows {
+        if !is_judged(alloc, over, row) {
             return false;
         }
     }
@@ -198,39 +209,29 @@ fn are_judged(alloc: Global, model: &Model) -> bool {
 
 #[test]
 fn witnesses_of_models_are_judged(rt: HostRuntime) -> Result<(), Fail> {
-    let model = model_of(rt.alloc(), COUNTER)?;
-    assert!(rt; are_judged(rt.alloc(), &model));
+    let alloc = rt.alloc();
+    let are_judged = over_model(alloc, COUNTER, |model| {
+        are_judged(alloc, Over::Model(model), &OF_COUNTER)
+    })?;
+    assert!(rt; are_judged);
     Ok(())
-}
-
-/// Whether a judge of a toggling bit's circuit, once made, accepts two frames; or no memory was told when it was to be made.
-fn judges_bits(alloc: Global, circuit: &Circuit) -> bool {
-    match BitJudge::new(alloc, circuit) {
-        Ok(mut judge) => {
-            for byte in b"1\nb0\n0\n\n\n.\n" {
-                judge.feed(&[*byte]);
-            }
-            let given = (
-                judge.held(),
-                judge.steps(),
-                judge.closed_frames(),
-                judge.admitted_lines(),
-            );
-            given == (3, 2, 2, 6) && judge.finish() == Judgement::Accepted { frames: 2 }
-        }
-        Err(fault) => fault == NewFault::NoMemory,
-    }
 }
 
 #[test]
 fn witnesses_of_circuits_are_judged(rt: HostRuntime) -> Result<(), Fail> {
-    let circuit = circuit_of(rt.alloc(), TOGGLES.as_bytes())?;
-    assert!(rt; judges_bits(rt.alloc(), &circuit));
+    let alloc = rt.alloc();
+    let are_judged = over_circuit(alloc, TOGGLES.as_bytes(), |circuit| {
+        are_judged(alloc, Over::Circuit(circuit), &OF_TOGGLES)
+    })?;
+    assert!(rt; are_judged);
     Ok(())
 }
 
 /// A model, a witness of its circuit, and what that is lifted to, over one frame or two.
-const LIFTED: [(&str, &str, &str, u64); 2] = [
+type Lifted = (&'static str, &'static str, &'static str, u64);
+
+/// Models and their witnesses.
+const LIFTED: [Lifted; 2] = [
     (KEEPER, "1\nb0\n01\n\n.\n", "sat\nb0\n#0\n0 10\n@0\n.\n", 1),
     (
         FOLLOWER,
@@ -240,27 +241,32 @@ const LIFTED: [(&str, &str, &str, u64); 2] = [
     ),
 ];
 
-/// Whether a witness is lifted to a text; or no memory is told, before anything was read or written.
-fn is_lifted(alloc: Global, model: &Model, witness: &[u8], lifted: &[u8], frames: u64) -> bool {
-    let circuit = match lower(alloc, model) {
-        Ok(circuit) => circuit,
-        Err(fault) => return fault == LowerFault::NoMemory,
-    };
-    let mut source = witness;
-    let mut sink = Comparing::new(lifted);
-    match lift(alloc, model, &circuit, &mut source, &mut sink) {
+/// Whether a witness is lifted so; or no memory is told, before anything was read or written.
+fn is_lifted_over(alloc: Global, model: &Model, circuit: &Circuit, row: &Lifted) -> bool
+    requires { Lowers model.now circuit.now }
+{
+    let (_, witness, lifted, frames) = *row;
+    let mut source = witness.as_bytes();
+    let mut sink = Comparing::new(lifted.as_bytes());
+    match lift(alloc, model, circuit, &mut source, &mut sink) {
         Ok(judgement) => judgement == Judgement::Accepted { frames } && sink.is_whole(),
         Err(LiftFault::NoMemory) => source.len() == witness.len() && sink.is_untouched(),
         Err(_) => false,
     }
 }
 
-/// Whether each of these witnesses is lifted so.
+/// Whether it is where the model is lowered; or no memory is told.
+fn is_lifted(alloc: Global, model: &Model, row: &Lifted) -> bool {
+    match lower(alloc, model) {
+        Ok(circuit) => is_lifted_over(alloc, model, &circuit, row),
+        Err(fault) => fault == LowerFault::NoMemory,
+    }
+}
+
+/// Whether each of these witnesses is.
 fn are_lifted(alloc: Global) -> Result<bool, Fail> {
-    for (model, witness, lifted, frames) in &LIFTED {
-        let model = model_of(alloc, model)?;
-        let (witness, lifted) = (witness.as_bytes(), lifted.as_bytes());
-        if !is_lifted(alloc, &model, witness, lifted, *frames) {
+    for row in &LIFTED {
+        if !over_model(alloc, row.0, |model| is_lifted(alloc, model, row))? {
             return Ok(false);
         }
     }

@@ -1,28 +1,33 @@
 //! The way back from engines at size, with ample memory: counterexamples over engine forms of circuits, of ten thousand frames
 //! and over one with more than 4,096 latches and gates, restored to witnesses of the circuit and lifted to those of its model;
 //! and the calls of `restore` that no row reaches by text, each once.
-ghost use Rattle.std.specs.Prelude.{◌≤◌, None};
+ghost use Rattle.std.specs.Prelude.{◌≡◌, ◌<◌, length, [], false, None};
 ghost use Rattle.blast.specs.Lowering.{Lowers};
 ghost use Rattle.engine.specs.EngineForm.{IsEngineFormOf};
+ghost use Rattle.restore.specs.Pieces.{is_written};
 
+use crate::made::{expect_none, over_circuit, over_model};
+use crate::texts::{Part, Word, push_part, text_before, text_of};
 use aiger::Circuit;
-use aigertext::read;
-use base::{Chop, FailAt, Sink, Source, VecSink};
+use base::{Chop, FailAt, Sink, VecSink};
 use blast::lower;
 use btor2::Model;
 use engine::engine_form;
-use library_tests::samples::model_of;
+use library_tests::samples::Comparing;
 use lift::{lift_form, lift_restored};
 use restore::{
     FrameReader, RestoreFault, RestoreWhy, Restorer, restore, restore_form, take_form,
     take_restored, told_of,
 };
-use std::alloc::Global;
+use std::alloc::{AllocError, Global};
 use std::test::Fail;
 use witness::{BitJudge, Judgement, Why, judge_bits, judge_words};
 
+/// Three sorts, a word of ones, and the beginning of a number's line.
+const SORTS: &str = "1 sort bitvec 1\n2 sort bitvec 14\n3 sort bitvec 64\n4 ones 3\n5 constd 2 ";
+
 /// A bit that begins as it may and is kept, a counter from 0 on, an input or the bit as a constraint, and what is bad: the
-/// bit is 1 where the counter is so much. In front stand the sorts, a word of ones and the number.
+/// bit is 1 where the counter is the number.
 const COUNTER: &str = "6 input 1
 7 state 1
 8 next 1 7 7
@@ -39,266 +44,195 @@ const COUNTER: &str = "6 input 1
 19 constraint 18
 ";
 
-/// Adds the lines of a word of 64 ones, which takes the and of itself and the one before.
-fn push_word(alloc: Global, text: &mut String, k: u64) -> Result<(), Fail>
-    requires { k ≤ 70 }
-{
-    let word = 4 * k + 20;
-    let before = if k == 0 { 4 } else { word - 4 };
-    let lines = format!(in alloc;
-        "{word} state 3\n{} init 3 {word} 4\n{} and 3 {word} {before}\n{} next 3 {word} {}\n",
-        word + 1,
-        word + 2,
-        word + 3,
-        word + 2
-    )?;
-    text.push_str(lines.as_str())?;
-    Ok(())
-}
+/// A word of 64 ones, which takes the and of itself and the word of ones.
+const FIRST: &str = "20 state 3\n21 init 3 20 4\n22 and 3 20 4\n23 next 3 20 22\n";
 
-/// The model, which is bad first where its counter is so much; it has so many words.
-fn counter(alloc: Global, last: u64, words: u64) -> Result<Model, Fail>
-    requires { words ≤ 70 }
-{
-    let mut text = format!(in alloc;
-        "1 sort bitvec 1\n2 sort bitvec 14\n3 sort bitvec 64\n4 ones 3\n5 constd 2 {last}\n{COUNTER}"
-    )?;
-    for k in 0..words {
-        push_word(alloc, &mut text, k)?;
-    }
-    model_of(alloc, text.as_str())
-}
+/// Further ones, each of which takes the and of itself and the one before.
+const FURTHER: &[Word] = &[
+    Word::Counted(24, 4),
+    Word::Said(" state 3\n"),
+    Word::Counted(25, 4),
+    Word::Said(" init 3 "),
+    Word::Counted(24, 4),
+    Word::Said(" 4\n"),
+    Word::Counted(26, 4),
+    Word::Said(" and 3 "),
+    Word::Counted(24, 4),
+    Word::Said(" "),
+    Word::Counted(20, 4),
+    Word::Said("\n"),
+    Word::Counted(27, 4),
+    Word::Said(" next 3 "),
+    Word::Counted(24, 4),
+    Word::Said(" "),
+    Word::Counted(26, 4),
+    Word::Said("\n"),
+];
 
-/// The calls that write what a counterexample is of the circuit or of the model.
-#[derive(Clone, Copy, Debug, PartialEq, Eq)]
-enum Way {
-    Restore,
-    RestoreForm,
-    Lift,
-    LiftForm,
+/// The model that is bad first where its counter is 99, with one word, and with 66.
+const NARROW: [Part<'static>; 3] = [
+    (SORTS, 1, &[Word::Said("99\n")]),
+    (COUNTER, 0, &[]),
+    (FIRST, 0, &[]),
+];
+
+const WIDE: [Part<'static>; 3] = [
+    (SORTS, 1, &[Word::Said("99\n")]),
+    (COUNTER, 0, &[]),
+    (FIRST, 65, FURTHER),
+];
+
+/// The model that is bad first where its counter is 9,999, with one word.
+const LATE: [Part<'static>; 3] = [
+    (SORTS, 1, &[Word::Said("9999\n")]),
+    (COUNTER, 0, &[]),
+    (FIRST, 0, &[]),
+];
+
+/// A call that writes what a counterexample is.
+struct Way {
+    name: &'static str,
+    /// Whether it writes a witness of the model, or one of the circuit.
+    lifts: bool,
+    /// Whether it takes a witness of the form as the AIGER format has them, or what ABC writes.
+    takes_witness: bool,
 }
 
 /// All of them.
-const WAYS: [Way; 4] = [Way::Restore, Way::RestoreForm, Way::Lift, Way::LiftForm];
+const WAYS: [Way; 4] = [
+    Way {
+        name: "restore",
+        lifts: false,
+        takes_witness: false,
+    },
+    Way {
+        name: "restore_form",
+        lifts: false,
+        takes_witness: true,
+    },
+    Way {
+        name: "lift_restored",
+        lifts: true,
+        takes_witness: false,
+    },
+    Way {
+        name: "lift_form",
+        lifts: true,
+        takes_witness: true,
+    },
+];
 
-impl Way {
-    /// Whether it takes a witness of the form as the AIGER format has them.
-    fn takes_witness(self) -> bool {
-        self == Way::RestoreForm || self == Way::LiftForm
-    }
+/// What is told of a text: what is judged, or the faulty line and why.
+type Told = Result<Judgement, (u64, RestoreWhy)>;
 
-    /// The end of the texts that it takes.
-    fn end(self) -> &'static [u8] {
-        if self.takes_witness() {
-            b".\n"
-        } else {
-            b"# DONE\n"
+/// A text of a counterexample, and what is told of it.
+enum Case {
+    /// It comes in pieces of so many bytes, and is accepted: so many frames are up to the first that is bad, two behind it.
+    Whole(usize, u64),
+    /// It has so many frames, what stands behind them, and no end; this is told of it where ABC writes it. Of a witness of the
+    /// form with the same frames it is told that it is cut in the line behind the three first and the frames.
+    Cut(u64, &'static str, Told),
+    /// It comes in four pieces, with 102 frames, and its source fails at this call.
+    Failing(u64),
+}
+
+/// How many frames a text has, what stands behind them, in pieces of how many bytes it comes, the call at which its source
+/// fails, and what is told of it.
+type Given = (u64, &'static str, usize, u64, Told);
+
+/// What is given to a call, and told by it.
+fn given(way: &Way, case: &Case) -> Given {
+    let end = if way.takes_witness { ".\n" } else { "# DONE\n" };
+    match *case {
+        Case::Whole(size, frames) => {
+            let told = Ok(Judgement::Accepted { frames });
+            (frames.saturating_add(2), end, size, u64::MAX, told)
         }
-    }
-
-    /// Whether it writes a witness of the model.
-    fn lifts(self) -> bool {
-        self == Way::Lift || self == Way::LiftForm
+        Case::Cut(frames, end, told) if !way.takes_witness => (frames, end, 4096, u64::MAX, told),
+        Case::Cut(frames, end, _) => {
+            let line = frames.saturating_add(4);
+            let why = Why::Truncated;
+            let told = Ok(Judgement::Malformed { line, why });
+            (frames, end, 4096, u64::MAX, told)
+        }
+        Case::Failing(call) => (102, end, 100, call, Err((0, RestoreWhy::Device))),
     }
 }
 
-/// How many latches the engine form of a circuit has.
-fn form_latches(alloc: Global, circuit: &Circuit) -> Result<usize, Fail> {
-    let form = engine_form(alloc, circuit, None)?;
-    Ok(form.latches().len())
+/// Adds so many frames, in the first of which the bit is 1, while its input is passed over in the others; and what stands
+/// behind them.
+fn push_frames(alloc: Global, text: &mut String, frames: u64, end: &str) -> Result<(), AllocError> {
+    let first = if frames == 0 { "\n" } else { "\n01\n" };
+    push_part(
+        alloc,
+        text,
+        &(first, frames.saturating_sub(1), &[Word::Said("10\n")]),
+    )?;
+    text.push_str(end)
 }
 
-/// What stands before the frames in the text of a counterexample over the engine form of a model's circuit: what ABC writes
-/// has a line of zeros, of whatever number, and a witness its status, its claim and as many zeros as the form has latches.
-fn beginning(alloc: Global, way: Way, model: &Model) -> Result<Vec<u8>, Fail> {
-    if !way.takes_witness() {
-        return Ok(Vec::from_slice(alloc, b"000\n")?);
-    }
-    let circuit = lower(alloc, model)?;
-    beginning_of_witness(alloc, form_latches(alloc, &circuit)?)
-}
-
-/// The same of a witness over a form of so many latches.
-fn beginning_of_witness(alloc: Global, latches: usize) -> Result<Vec<u8>, Fail> {
-    let mut text = Vec::from_slice(alloc, b"1\nb0\n")?;
-    for _ in 0..latches {
-        text.push(b'0')?;
-    }
-    text.push(b'\n')?;
-    Ok(text)
-}
-
-/// The text with so many frames, in the first of which the bit is 1, while its input is passed over in the others; and what
-/// stands behind them.
-fn text_of(
+/// The text with so many frames and what stands behind them. What ABC writes has a line of zeros before the frames, of
+/// whatever number, and a witness its status, its claim and as many zeros as the form has latches.
+fn text_of_frames(
     alloc: Global,
-    way: Way,
-    model: &Model,
+    way: &Way,
+    form: &Circuit,
     frames: u64,
-    end: &[u8],
-) -> Result<Vec<u8>, Fail> {
-    let mut text = beginning(alloc, way, model)?;
-    for k in 0..frames {
-        text.extend_from_slice(if k == 0 { b"01\n" } else { b"10\n" })?;
-    }
-    text.extend_from_slice(end)?;
+    end: &str,
+) -> Result<String, AllocError> {
+    let (head, zeros) = if way.takes_witness {
+        ("1\nb0\n", form.latches().len() as u64)
+    } else {
+        ("", 3)
+    };
+    let mut text = text_before(alloc, &(head, zeros, &[Word::Said("0")]), "")?;
+    push_frames(alloc, &mut text, frames, end)?;
     Ok(text)
 }
 
-/// What a call answers of a source.
-fn told<S: Source, K: Sink>(
+/// What a call answers of a text.
+fn told<K: Sink>(
     alloc: Global,
-    way: Way,
-    model: &Model,
-    source: &mut S,
-    sink: &mut K,
-) -> Result<Result<Judgement, RestoreFault>, Fail> {
-    let circuit = lower(alloc, model)?;
-    told_over(alloc, way, model, &circuit, source, sink)
-}
-
-/// The same over the model's circuit.
-fn told_over<S: Source, K: Sink>(
-    alloc: Global,
-    way: Way,
-    model: &Model,
-    circuit: &Circuit,
-    source: &mut S,
-    sink: &mut K,
-) -> Result<Result<Judgement, RestoreFault>, Fail>
-    requires lowers { Lowers model.now circuit.now }
-{
-    let form = engine_form(alloc, circuit, None)?;
-    told_with(alloc, way, model, circuit, &form, source, sink)
-}
-
-/// The same over the circuit and its engine form.
-fn told_with<S: Source, K: Sink>(
-    alloc: Global,
-    way: Way,
+    way: &Way,
     model: &Model,
     circuit: &Circuit,
     form: &Circuit,
-    source: &mut S,
+    text: &[u8],
+    given: &Given,
     sink: &mut K,
-) -> Result<Result<Judgement, RestoreFault>, Fail>
+) -> Result<Judgement, RestoreFault>
     requires lowers { Lowers model.now circuit.now }
     requires is_form { IsEngineFormOf circuit.now None form.now }
+    requires claim { 0 < length circuit.now.bads }
 {
-    if circuit.bads().is_empty() {
-        Err("a bad property")?;
-    }
-    Ok(match way {
-        Way::Restore => restore(alloc, circuit, 0, source, sink),
-        Way::RestoreForm => restore_form(alloc, circuit, form, None, source, sink),
-        Way::Lift => lift_restored(alloc, model, circuit, 0, true, source, sink),
-        Way::LiftForm => lift_form(alloc, model, circuit, form, None, true, source, sink),
-    })
-}
-
-/// What is judged of what a call has written.
-fn judged_again(alloc: Global, way: Way, model: &Model, written: &[u8]) -> Result<Judgement, Fail> {
-    let mut source = written;
-    if way.lifts() {
-        Ok(judge_words(alloc, model, &mut source)?)
-    } else {
-        let circuit = lower(alloc, model)?;
-        Ok(judge_bits(alloc, &circuit, &mut source)?)
+    let mut source = FailAt::new(Chop::new(text, given.2.max(1)), given.3);
+    match (way.lifts, way.takes_witness) {
+        (false, false) => restore(alloc, circuit, 0, &mut source, sink),
+        (false, true) => restore_form(alloc, circuit, form, None, &mut source, sink),
+        (true, false) => lift_restored(alloc, model, circuit, 0, true, &mut source, sink),
+        (true, true) => lift_form(alloc, model, circuit, form, None, true, &mut source, sink),
     }
 }
 
-/// Whether a call accepts a source, and what it writes is accepted, with so many frames.
-fn is_accepted<S: Source>(
+/// Whether what was written is accepted with as many frames where the text is.
+fn is_accepted_again(
     alloc: Global,
-    way: Way,
+    way: &Way,
     model: &Model,
-    source: &mut S,
-    frames: u64,
-) -> Result<bool, Fail> {
-    let wanted = Judgement::Accepted { frames };
-    let mut sink = VecSink::new(alloc);
-    match told(alloc, way, model, source, &mut sink)? {
-        Ok(judgement) => {
-            Ok(judgement == wanted && judged_again(alloc, way, model, sink.bytes())? == wanted)
-        }
-        Err(_) => Ok(false),
+    circuit: &Circuit,
+    wanted: &Told,
+    mut written: &[u8],
+) -> bool {
+    let again = match (wanted, way.lifts) {
+        (Ok(Judgement::Accepted { .. }), true) => judge_words(alloc, model, &mut written),
+        (Ok(Judgement::Accepted { .. }), false) => judge_bits(alloc, circuit, &mut written),
+        _ => return true,
+    };
+    match (again, wanted) {
+        (Ok(again), Ok(wanted)) => again == *wanted,
+        _ => false,
     }
 }
-
-/// Fails where a model's circuit does not have more than 4,096 latches and as many gates.
-fn expect_wide(alloc: Global, model: &Model) -> Result<(), Fail> {
-    let circuit = lower(alloc, model)?;
-    let is_wide = circuit.latches().len() > 4096 && circuit.gates().len() > 4096;
-    if !is_wide {
-        Err("more latches and gates")?;
-    }
-    Ok(())
-}
-
-/// Whether a call accepts a text that comes in pieces, of which so many frames are up to the first that is bad and two are
-/// behind it.
-fn is_accepted_in_pieces(
-    alloc: Global,
-    way: Way,
-    model: &Model,
-    size: usize,
-    frames: u64,
-) -> Result<bool, Fail> {
-    let text = text_of(alloc, way, model, frames.saturating_add(2), way.end())?;
-    let mut source = Chop::new(text.as_slice(), size.max(1));
-    is_accepted(alloc, way, model, &mut source, frames)
-}
-
-/// Fails where some call does not accept such a text.
-fn expect_accepted(alloc: Global, model: &Model, size: usize, frames: u64) -> Result<(), Fail> {
-    for way in WAYS {
-        if !is_accepted_in_pieces(alloc, way, model, size, frames)? {
-            Err((way, size))?;
-        }
-    }
-    Ok(())
-}
-
-#[test]
-fn a_hundred_frames_of_a_wide_circuit(rt: HostRuntime) -> Result<(), Fail> {
-    let model = counter(rt.alloc(), 99, 66)?;
-    expect_wide(rt.alloc(), &model)?;
-    expect_accepted(rt.alloc(), &model, 1000, 100)
-}
-
-#[test]
-fn ten_thousand_frames(rt: HostRuntime) -> Result<(), Fail> {
-    let model = counter(rt.alloc(), 9999, 1)?;
-    expect_accepted(rt.alloc(), &model, 1000, 10_000)
-}
-
-/// Fails where a text of a hundred frames is not accepted in pieces of some size.
-fn expect_accepted_in_sizes(alloc: Global, model: &Model) -> Result<(), Fail> {
-    for size in [1, 2, 7, 4096] {
-        expect_accepted(alloc, model, size, 100)?;
-    }
-    Ok(())
-}
-
-#[test]
-fn texts_in_pieces(rt: HostRuntime) -> Result<(), Fail> {
-    let model = counter(rt.alloc(), 99, 1)?;
-    expect_accepted_in_sizes(rt.alloc(), &model)
-}
-
-/// What is told of a text that ABC writes: what is judged, or the faulty line and why.
-type Told = Result<Judgement, (u64, RestoreWhy)>;
-
-/// So many frames, what stands behind them, and what is told of such a text that ABC writes. The hundredth frame is bad.
-const CUTS: [(u64, &[u8], Told); 7] = [
-    (0, b"", Err((2, RestoreWhy::NoFrame))),
-    (50, b"", Ok(Judgement::NotReached { claim: 0 })),
-    (50, b"1", Err((52, RestoreWhy::WrongLength))),
-    (50, b"10", Ok(Judgement::NotReached { claim: 0 })),
-    (99, b"1", Err((101, RestoreWhy::WrongLength))),
-    (99, b"10", Ok(Judgement::Accepted { frames: 100 })),
-    (100, b"1", Err((102, RestoreWhy::WrongLength))),
-];
 
 /// Whether two answers are one.
 fn is_same(told: &Result<Judgement, RestoreFault>, wanted: &Told) -> bool {
@@ -309,77 +243,164 @@ fn is_same(told: &Result<Judgement, RestoreFault>, wanted: &Told) -> bool {
     }
 }
 
-/// Whether this is told of a text that ABC writes; and of a witness of the form with the same frames, that it is cut in the
-/// line behind the three first and the frames.
-fn is_told_cut(
+/// Whether a call tells so of a text, and what it writes is accepted where the text is.
+fn is_text_told(
     alloc: Global,
-    way: Way,
+    way: &Way,
     model: &Model,
-    frames: u64,
-    end: &[u8],
-    wanted: &Told,
-) -> Result<bool, Fail> {
-    let text = text_of(alloc, way, model, frames, end)?;
+    circuit: &Circuit,
+    form: &Circuit,
+    text: &[u8],
+    given: &Given,
+) -> bool
+    requires lowers { Lowers model.now circuit.now }
+    requires is_form { IsEngineFormOf circuit.now None form.now }
+    requires claim { 0 < length circuit.now.bads }
+{
     let mut sink = VecSink::new(alloc);
-    let told = told(alloc, way, model, &mut text.as_slice(), &mut sink)?;
-    let line = frames.saturating_add(4);
-    let why = Why::Truncated;
-    Ok(if way.takes_witness() {
-        is_same(&told, &Ok(Judgement::Malformed { line, why }))
-    } else {
-        is_same(&told, wanted)
-    })
+    let told = told(alloc, way, model, circuit, form, text, given, &mut sink);
+    is_same(&told, &given.4) & is_accepted_again(alloc, way, model, circuit, &given.4, sink.bytes())
 }
 
-/// Fails where a call tells another thing of some cut text.
-fn expect_cuts(alloc: Global, way: Way, model: &Model) -> Result<(), Fail> {
-    for (frames, end, wanted) in &CUTS {
-        if !is_told_cut(alloc, way, model, *frames, end, wanted)? {
-            Err((way, *frames))?;
-        }
+/// Whether a call does so of a case.
+fn is_told(
+    alloc: Global,
+    way: &Way,
+    model: &Model,
+    circuit: &Circuit,
+    form: &Circuit,
+    case: &Case,
+) -> bool
+    requires lowers { Lowers model.now circuit.now }
+    requires is_form { IsEngineFormOf circuit.now None form.now }
+    requires claim { 0 < length circuit.now.bads }
+{
+    let given = given(way, case);
+    match text_of_frames(alloc, way, form, given.0, given.1) {
+        Ok(text) => is_text_told(alloc, way, model, circuit, form, text.as_bytes(), &given),
+        Err(_) => false,
     }
-    Ok(())
 }
 
-/// Fails where some call does.
-fn expect_all_cuts(alloc: Global, model: &Model) -> Result<(), Fail> {
-    for way in WAYS {
-        expect_cuts(alloc, way, model)?;
-    }
-    Ok(())
-}
+/// What is not as it should be: a call, and the place of a case.
+type Wrong = (&'static str, usize);
 
-#[test]
-fn texts_that_are_cut(rt: HostRuntime) -> Result<(), Fail> {
-    let model = counter(rt.alloc(), 99, 1)?;
-    expect_all_cuts(rt.alloc(), &model)
-}
-
-/// Whether it is told that a source has failed, where one that gives a text of 102 frames in four pieces fails at a call.
-fn is_told_failed(alloc: Global, way: Way, model: &Model, call: u64) -> Result<bool, Fail> {
-    let text = text_of(alloc, way, model, 102, way.end())?;
-    let size = text.len() / 4 + 1;
-    let mut source = FailAt::new(Chop::new(text.as_slice(), size), call);
-    let told = told(alloc, way, model, &mut source, &mut VecSink::new(alloc))?;
-    Ok(is_same(&told, &Err((0, RestoreWhy::Device))))
-}
-
-/// Fails where some call does not tell so of a source that fails at one of its five calls.
-fn expect_failures(alloc: Global, model: &Model) -> Result<(), Fail> {
-    for way in WAYS {
-        for call in 0..5 {
-            if !is_told_failed(alloc, way, model, call)? {
-                Err((way, call))?;
+/// The first call that tells another thing in some case.
+fn mistold(
+    alloc: Global,
+    model: &Model,
+    circuit: &Circuit,
+    form: &Circuit,
+    cases: &[Case],
+) -> Option<Wrong>
+    requires lowers { Lowers model.now circuit.now }
+    requires is_form { IsEngineFormOf circuit.now None form.now }
+    requires claim { 0 < length circuit.now.bads }
+{
+    for way in &WAYS {
+        for (place, case) in cases.iter().enumerate() {
+            if !is_told(alloc, way, model, circuit, form, case) {
+                return Some((way.name, place));
             }
         }
     }
-    Ok(())
+    None
+}
+
+/// The first that does over the engine form of a model's circuit, where that has more latches and gates than so many.
+fn mistold_over(
+    alloc: Global,
+    model: &Model,
+    circuit: &Circuit,
+    least: usize,
+    cases: &[Case],
+) -> Option<Wrong>
+    requires lowers { Lowers model.now circuit.now }
+{
+    if circuit.bads().is_empty() {
+        return Some(("no bad property", 0));
+    }
+    if (circuit.latches().len() <= least) | (circuit.gates().len() <= least) {
+        return Some(("less latches or gates", least));
+    }
+    match engine_form(alloc, circuit, None) {
+        Ok(form) => mistold(alloc, model, circuit, &form, cases),
+        Err(_) => Some(("no engine form", 0)),
+    }
+}
+
+/// The first that does over a model.
+fn misrestored(alloc: Global, model: &Model, least: usize, cases: &[Case]) -> Option<Wrong> {
+    match lower(alloc, model) {
+        Ok(circuit) => mistold_over(alloc, model, &circuit, least, cases),
+        Err(_) => Some(("no circuit", 0)),
+    }
+}
+
+/// Fails where one does over the model of a text.
+fn expect_restored(
+    alloc: Global,
+    parts: &[Part<'_>],
+    least: usize,
+    cases: &[Case],
+) -> Result<(), Fail> {
+    let text = text_of(alloc, parts)?;
+    expect_none(over_model(alloc, text.as_str(), |model| {
+        misrestored(alloc, model, least, cases)
+    })?)
 }
 
 #[test]
+fn a_hundred_frames_of_a_wide_circuit(rt: HostRuntime) -> Result<(), Fail> {
+    expect_restored(rt.alloc(), &WIDE, 4096, &[Case::Whole(1000, 100)])
+}
+
+#[test]
+fn ten_thousand_frames(rt: HostRuntime) -> Result<(), Fail> {
+    expect_restored(rt.alloc(), &LATE, 0, &[Case::Whole(1000, 10_000)])
+}
+
+/// A text of a hundred frames in pieces of each of some sizes.
+const PIECES: [Case; 4] = [
+    Case::Whole(1, 100),
+    Case::Whole(2, 100),
+    Case::Whole(7, 100),
+    Case::Whole(4096, 100),
+];
+
+#[test]
+fn texts_in_pieces(rt: HostRuntime) -> Result<(), Fail> {
+    expect_restored(rt.alloc(), &NARROW, 0, &PIECES)
+}
+
+/// Texts that are cut. The hundredth frame is bad.
+const CUTS: [Case; 7] = [
+    Case::Cut(0, "", Err((2, RestoreWhy::NoFrame))),
+    Case::Cut(50, "", Ok(Judgement::NotReached { claim: 0 })),
+    Case::Cut(50, "1", Err((52, RestoreWhy::WrongLength))),
+    Case::Cut(50, "10", Ok(Judgement::NotReached { claim: 0 })),
+    Case::Cut(99, "1", Err((101, RestoreWhy::WrongLength))),
+    Case::Cut(99, "10", Ok(Judgement::Accepted { frames: 100 })),
+    Case::Cut(100, "1", Err((102, RestoreWhy::WrongLength))),
+];
+
+#[test]
+fn texts_that_are_cut(rt: HostRuntime) -> Result<(), Fail> {
+    expect_restored(rt.alloc(), &NARROW, 0, &CUTS)
+}
+
+/// Sources that fail at each of their five calls.
+const FAILURES: [Case; 5] = [
+    Case::Failing(0),
+    Case::Failing(1),
+    Case::Failing(2),
+    Case::Failing(3),
+    Case::Failing(4),
+];
+
+#[test]
 fn sources_that_fail(rt: HostRuntime) -> Result<(), Fail> {
-    let model = counter(rt.alloc(), 99, 1)?;
-    expect_failures(rt.alloc(), &model)
+    expect_restored(rt.alloc(), &NARROW, 0, &FAILURES)
 }
 
 /// A latch without an initial value that keeps its bit, and is bad where that is 1.
@@ -390,64 +411,104 @@ const FOUND: &[u8] = b"00\n1\n0\n# DONE\n";
 
 const RESTORED: &[u8] = b"1\nb0\n1\n\n.\n";
 
-/// Whether its frames are read.
-fn are_frames_read(alloc: Global) -> Result<bool, Fail> {
+/// Whether a reader gives its frames.
+fn gives_frames(reader: &mut FrameReader) -> bool {
     let mut source = FOUND;
-    let mut reader = FrameReader::new(alloc, 1)?;
     for bit in [true, false] {
         if reader.advance(&mut source) != Ok(true) || reader.frame() != [bit].as_slice() {
-            return Ok(false);
+            return false;
         }
     }
-    Ok(reader.advance(&mut source) == Ok(false))
+    reader.advance(&mut source) == Ok(false)
+}
+
+/// Whether its frames are read.
+fn are_frames_read(alloc: Global) -> bool {
+    match FrameReader::new(alloc, 1) {
+        Ok(mut reader) => gives_frames(&mut reader),
+        Err(_) => false,
+    }
+}
+
+/// The pieces of that.
+const RESTORED_PIECES: [&str; 4] = ["1\nb0\n", "1\n", "\n", ".\n"];
+
+/// Whether a restorer gives its pieces.
+fn gives_pieces(restorer: &mut Restorer<'_>) -> bool {
+    let mut source = FOUND;
+    let mut are_given = true;
+    for piece in &RESTORED_PIECES {
+        are_given &= restorer.advance(&mut source) == Ok(true);
+        are_given &= restorer.piece() == piece.as_bytes();
+    }
+    are_given & (restorer.advance(&mut source) == Ok(false))
 }
 
 /// Whether its pieces are made.
-fn are_pieces_made(alloc: Global, circuit: &Circuit) -> Result<bool, Fail> {
-    if circuit.bads().is_empty() {
-        return Ok(false);
+fn are_pieces_made(alloc: Global, circuit: &Circuit) -> bool
+    requires { 0 < length circuit.now.bads }
+{
+    match Restorer::new(alloc, circuit, 0) {
+        Ok(mut restorer) => gives_pieces(&mut restorer),
+        Err(_) => false,
     }
-    let mut source = FOUND;
-    let mut restorer = Restorer::new(alloc, circuit, 0)?;
-    for piece in ["1\nb0\n", "1\n", "\n", ".\n"] {
-        if restorer.advance(&mut source) != Ok(true) || restorer.piece() != piece.as_bytes() {
-            return Ok(false);
-        }
+}
+
+/// Whether a judge takes the pieces of a restorer.
+fn takes_pieces(restorer: &mut Restorer<'_>, mut judge: BitJudge<'_>) -> bool
+    requires unread { restorer.old.reader.rest ≡ [] }
+    requires begins { is_written restorer.old.stage ≡ false }
+{
+    let mut sink = Comparing::new(RESTORED);
+    let told = take_restored(restorer, &mut judge, &mut FOUND, &mut sink);
+    let is_written = (told == Ok(())) & sink.is_whole();
+    is_written & (judge.finish() == Judgement::Accepted { frames: 1 })
+}
+
+/// Whether a judge that is made does.
+fn is_taker_made(alloc: Global, circuit: &Circuit, restorer: &mut Restorer<'_>) -> bool
+    requires unread { restorer.old.reader.rest ≡ [] }
+    requires begins { is_written restorer.old.stage ≡ false }
+{
+    match BitJudge::new(alloc, circuit) {
+        Ok(judge) => takes_pieces(restorer, judge),
+        Err(_) => false,
     }
-    Ok(restorer.advance(&mut source) == Ok(false))
 }
 
 /// Whether a judge takes its pieces.
-fn are_pieces_taken(alloc: Global, circuit: &Circuit) -> Result<bool, Fail> {
-    if circuit.bads().is_empty() {
-        return Ok(false);
+fn are_pieces_taken(alloc: Global, circuit: &Circuit) -> bool
+    requires { 0 < length circuit.now.bads }
+{
+    match Restorer::new(alloc, circuit, 0) {
+        Ok(mut restorer) => is_taker_made(alloc, circuit, &mut restorer),
+        Err(_) => false,
     }
-    let mut restorer = Restorer::new(alloc, circuit, 0)?;
-    let mut judge = BitJudge::new(alloc, circuit)?;
-    let mut sink = VecSink::new(alloc);
-    let told = take_restored(&mut restorer, &mut judge, &mut FOUND, &mut sink);
-    Ok(
-        told == Ok(())
-            && sink.bytes() == RESTORED
-            && judge.finish() == Judgement::Accepted { frames: 1 },
-    )
 }
 
-/// Whether a judge takes what the witness of the form is restored to, with what is told of that: it is accepted over the form
-/// with two frames, and over the circuit with one.
-fn is_witness_taken(alloc: Global, circuit: &Circuit) -> Result<bool, Fail> {
-    let form = engine_form(alloc, circuit, None)?;
-    is_taken_over(alloc, circuit, &form)
+/// Whether a witness is accepted over the form with two frames, and over the circuit with one.
+fn is_restored(over: Result<Judgement, RestoreFault>, restored: Judgement) -> bool {
+    match over {
+        Ok(over) => {
+            over == Judgement::Accepted { frames: 2 }
+                && told_of(over, restored) == Judgement::Accepted { frames: 1 }
+        }
+        Err(_) => false,
+    }
 }
 
-/// The same over the form.
-fn is_taken_over(alloc: Global, circuit: &Circuit, form: &Circuit) -> Result<bool, Fail>
+/// Whether a judge takes what the witness of the form is restored to, with what is told of that.
+fn is_witness_taken_by(
+    alloc: Global,
+    circuit: &Circuit,
+    form: &Circuit,
+    mut judge: BitJudge<'_>,
+) -> bool
     requires { IsEngineFormOf circuit.now None form.now }
 {
     let mut source = b"1\nb0\n00\n1\n0\n.\n".as_slice();
-    let mut judge = BitJudge::new(alloc, circuit)?;
-    let mut sink = VecSink::new(alloc);
-    match take_form(
+    let mut sink = Comparing::new(RESTORED);
+    let over = take_form(
         alloc,
         circuit,
         form,
@@ -455,30 +516,48 @@ fn is_taken_over(alloc: Global, circuit: &Circuit, form: &Circuit) -> Result<boo
         &mut judge,
         &mut source,
         &mut sink,
-    ) {
-        Ok(over) => {
-            let is_over = over == Judgement::Accepted { frames: 2 };
-            let told = told_of(over, judge.finish());
-            Ok(is_over && sink.bytes() == RESTORED && told == Judgement::Accepted { frames: 1 })
-        }
-        Err(_) => Ok(false),
+    );
+    sink.is_whole() & is_restored(over, judge.finish())
+}
+
+/// Whether a judge that is made does.
+fn is_taken_over(alloc: Global, circuit: &Circuit, form: &Circuit) -> bool
+    requires { IsEngineFormOf circuit.now None form.now }
+{
+    match BitJudge::new(alloc, circuit) {
+        Ok(judge) => is_witness_taken_by(alloc, circuit, form, judge),
+        Err(_) => false,
     }
 }
 
-/// Fails where one of these is not so.
-fn expect_takers(alloc: Global, circuit: &Circuit) -> Result<(), Fail> {
-    let are_read = are_frames_read(alloc)?;
-    let are_made = are_pieces_made(alloc, circuit)?;
-    let are_taken = are_pieces_taken(alloc, circuit)?;
-    let is_taken = is_witness_taken(alloc, circuit)?;
-    if !(are_read && are_made && are_taken && is_taken) {
-        Err((are_read, are_made, are_taken, is_taken))?;
+/// The same over the engine form of the circuit.
+fn is_witness_taken(alloc: Global, circuit: &Circuit) -> bool {
+    match engine_form(alloc, circuit, None) {
+        Ok(form) => is_taken_over(alloc, circuit, &form),
+        Err(_) => false,
     }
-    Ok(())
+}
+
+/// Whether frames are read; and whether pieces are made and taken, and what the witness is restored to.
+fn are_taken(alloc: Global, circuit: &Circuit) -> (bool, bool, bool, bool) {
+    if circuit.bads().is_empty() {
+        return (false, false, false, false);
+    }
+    (
+        are_frames_read(alloc),
+        are_pieces_made(alloc, circuit),
+        are_pieces_taken(alloc, circuit),
+        is_witness_taken(alloc, circuit),
+    )
 }
 
 #[test]
 fn frames_pieces_and_takers(rt: HostRuntime) -> Result<(), Fail> {
-    let circuit = read(rt.alloc(), &mut KEEPER.as_bytes())?;
-    expect_takers(rt.alloc(), &circuit)
+    let alloc = rt.alloc();
+    let are = over_circuit(
+        alloc,
+        KEEPER.as_bytes(),
+        |circuit| are_taken(alloc, circuit),
+    )?;
+    expect_none((are != (true, true, true, true)).then_some(are))
 }

@@ -1,35 +1,23 @@
 //! Models that are too big to be lowered, and how many gates are told while one is lowered.
+use crate::made::{expect_none, over_model};
+use crate::texts::{Word, text_before};
 use blast::{LowerFault, Watch, bound, cost, lower, lower_watched};
 use btor2::Model;
-use library_tests::samples::{COUNTER, model_of};
+use library_tests::samples::COUNTER;
 use std::alloc::Global;
 use std::test::Fail;
 
-/// The text of so many overflow tests of a product of two inputs of 64 bits, and a last line.
-fn products(alloc: Global, count: u64, last: &str) -> Result<String, Fail> {
-    let mut text = String::from_str(
-        alloc,
-        "1 sort bitvec 64\n2 sort bitvec 1\n3 input 1\n4 input 1\n",
-    )?;
-    for k in 0..count {
-        let id = k.saturating_add(5);
-        let line = format!(in alloc; "{id} smulo 2 3 4\n")?;
-        text.push_str(line.as_str())?;
-    }
-    text.push_str(last)?;
-    Ok(text)
-}
+/// The sorts and two inputs of 64 bits.
+const FACTORS: &str = "1 sort bitvec 64\n2 sort bitvec 1\n3 input 1\n4 input 1\n";
 
-/// What such a text is refused for, its bound and its cost.
-fn refusal(alloc: Global, count: u64, last: &str) -> Result<(Option<LowerFault>, u64, u64), Fail> {
-    let text = products(alloc, count, last)?;
-    let model = model_of(alloc, text.as_str())?;
-    Ok((lower(alloc, &model).err(), bound(&model), cost(&model)))
-}
+/// An overflow test of their product.
+const PRODUCT: &[Word] = &[Word::Counted(5, 1), Word::Said(" smulo 2 3 4\n")];
 
-/// Numbers of these tests and a last line, what it is refused for, its bound and its cost. Each of these tests has the
-/// bound 164,096, and the inputs have 128 bits; 2^30 is 1,073,741,824.
-const TOO_BIG: [(u64, &str, LowerFault, u64, u64); 3] = [
+/// A number of these tests and a last line, what the model is refused for, its bound and its cost.
+type Row = (u64, &'static str, LowerFault, u64, u64);
+
+/// Each of these tests has the bound 164,096, and the inputs have 128 bits; 2^30 is 1,073,741,824.
+const TOO_BIG: [Row; 3] = [
     (
         6543,
         "9999 fair 5\n",
@@ -47,13 +35,31 @@ const TOO_BIG: [(u64, &str, LowerFault, u64, u64); 3] = [
     ),
 ];
 
+/// Whether a model is refused so.
+fn is_refused(alloc: Global, model: &Model, row: &Row) -> bool {
+    let (_, _, refused, most, least) = *row;
+    let is_bounded = (bound(model) == most) & (cost(model) == least);
+    match lower(alloc, model) {
+        Ok(_) => false,
+        Err(fault) => is_bounded & (fault == refused),
+    }
+}
+
+/// Whether the model of a row is.
+fn is_too_big(alloc: Global, row: &Row) -> bool {
+    match text_before(alloc, &(FACTORS, row.0, PRODUCT), row.1) {
+        Ok(text) => {
+            over_model(alloc, text.as_str(), |model| is_refused(alloc, model, row)) == Ok(true)
+        }
+        Err(_) => false,
+    }
+}
+
 #[test]
 fn models_that_are_too_big(rt: HostRuntime) -> Result<(), Fail> {
-    for (count, last, fault, bound, cost) in &TOO_BIG {
-        let refused = refusal(rt.alloc(), *count, last)?;
-        if refused != (Some(*fault), *bound, *cost) {
-            Err(refused)?;
-        }
+    for row in &TOO_BIG {
+        let is_too_big = is_too_big(rt.alloc(), row);
+        expect_none((!is_too_big).then_some((row.0, row.1)))?;
     }
     Ok(())
 }
@@ -73,17 +79,21 @@ impl Watch for Told {
 }
 
 /// Whether as many lines are told as a model has, and at the last as many gates as its circuit has, which are some.
-fn is_told_behind_lines(alloc: Global, model: &Model) -> Result<bool, Fail> {
+fn is_told_behind_lines(alloc: Global, model: &Model) -> bool {
     let mut told = Told { lines: 0, gates: 0 };
-    let circuit = lower_watched(alloc, model, &mut told)?;
-    let are_gates = told.gates == circuit.gates().len() && told.gates > 0;
-    Ok(are_gates && told.lines == model.items().len())
+    match lower_watched(alloc, model, &mut told) {
+        Ok(circuit) => {
+            (told.gates == circuit.gates().len())
+                & (told.gates > 0)
+                & (told.lines == model.items().len())
+        }
+        Err(_) => false,
+    }
 }
 
 #[test]
 fn gates_are_told_behind_each_line(rt: HostRuntime) -> Result<(), Fail> {
-    let model = model_of(rt.alloc(), COUNTER)?;
-    let is_told = is_told_behind_lines(rt.alloc(), &model)?;
-    assert!(rt; is_told);
-    Ok(())
+    let alloc = rt.alloc();
+    let is_told = over_model(alloc, COUNTER, |model| is_told_behind_lines(alloc, model))?;
+    expect_none((!is_told).then_some("other lines or gates"))
 }
