@@ -1,6 +1,8 @@
 //! Calls with ample memory, and the first fault of each. What a circuit and the lists of a file have after a call is
 //! pinned by the call's clauses.
+use crate::samples::Comparing;
 use aiger::{Circuit, CircuitFault, Gate, Lit, Loose, LooseFault, Reset, Section};
+use aigertext::Form;
 use std::alloc::{AllocError, Global};
 use std::test::Fail;
 
@@ -57,6 +59,20 @@ pub(crate) fn done(alloc: Global, circuit: &mut Circuit, call: Call) -> Result<(
     }
 }
 
+/// Does calls one after the other.
+fn do_all(alloc: Global, circuit: &mut Circuit, calls: &[Call]) -> Result<(), CircuitFault> {
+    for call in calls {
+        done(alloc, circuit, *call)?;
+    }
+    Ok(())
+}
+
+/// Whether a circuit has a text.
+pub(crate) fn is_spelled(circuit: &Circuit, form: Form, text: &[u8]) -> bool {
+    let mut sink = Comparing::new(text);
+    aigertext::write(circuit, form, &mut sink).is_ok() && sink.is_whole()
+}
+
 /// The circuit of some inputs and latches and some calls.
 pub(crate) fn circuit_of(
     alloc: Global,
@@ -65,10 +81,7 @@ pub(crate) fn circuit_of(
     calls: &[Call],
 ) -> Result<Circuit, CircuitFault> {
     let mut circuit = Circuit::new(alloc, inputs, latches)?;
-    for call in calls {
-        done(alloc, &mut circuit, *call)?;
-    }
-    Ok(circuit)
+    do_all(alloc, &mut circuit, calls).and(Ok(circuit))
 }
 
 /// A latch, the gate 8 of the literals 5 and 2, properties of each kind and names, in any order.
@@ -93,11 +106,22 @@ const CALLS: [Call; 18] = [
     Call::Name(Section::Fair, 0, b"f"),
 ];
 
+/// Whether a circuit has so many variables and justice properties.
+fn has(circuit: &Circuit, variables: u32, justice: usize) -> bool {
+    (circuit.variables() == variables) & (circuit.justice_count() == justice)
+}
+
+/// Whether each call is done.
+fn are_done(alloc: Global) -> bool {
+    match circuit_of(alloc, 2, 1, &CALLS) {
+        Ok(circuit) => has(&circuit, 4, 3),
+        Err(_) => false,
+    }
+}
+
 #[test]
-fn each_call_with_ample_memory(rt: HostRuntime) -> Result<(), Fail> {
-    let circuit = circuit_of(rt.alloc(), 2, 1, &CALLS)?;
-    assert!(rt; circuit.variables() == 4 && circuit.justice_count() == 3);
-    Ok(())
+fn each_call_with_ample_memory(rt: HostRuntime) {
+    assert!(rt; are_done(rt.alloc()));
 }
 
 /// Numbers of inputs and of latches that are too many together.
@@ -105,10 +129,7 @@ const TOO_MANY: [(u32, u32); 3] = [(1_073_741_825, 0), (1_073_741_824, 1), (u32:
 
 /// Whether a circuit of so many inputs and latches is refused as too big.
 fn is_too_big(alloc: Global, inputs: u32, latches: u32) -> bool {
-    matches!(
-        Circuit::new(alloc, inputs, latches),
-        Err(CircuitFault::TooBig)
-    )
+    Circuit::new(alloc, inputs, latches).err() == Some(CircuitFault::TooBig)
 }
 
 #[test]
@@ -122,7 +143,7 @@ fn too_many_variables(rt: HostRuntime) -> Result<(), Fail> {
 }
 
 /// Calls that are refused on a circuit of an input with a name and a latch, and their faults.
-const REFUSED: [(Call, CircuitFault); 16] = [
+const REFUSED: [(Call, CircuitFault); 15] = [
     (Call::Gate(6, 6, 7), CircuitFault::LiteralOutOfRange),
     (Call::Gate(6, 5, 6), CircuitFault::LiteralOutOfRange),
     (Call::Gate(6, 4, 5), CircuitFault::OrderBroken),
@@ -153,57 +174,39 @@ const REFUSED: [(Call, CircuitFault); 16] = [
         Call::Name(Section::Latch, 0, b"\x7f"),
         CircuitFault::BadName,
     ),
-    (
-        Call::Name(Section::Latch, 0, &[b'x'; 301]),
-        CircuitFault::BadName,
-    ),
 ];
 
-#[test]
-fn the_first_fault_of_a_call(rt: HostRuntime) -> Result<(), Fail> {
-    let named = [Call::Name(Section::Input, 0, b"x")];
-    let mut circuit = circuit_of(rt.alloc(), 1, 1, &named)?;
-    for (call, fault) in &REFUSED {
-        let answer = done(rt.alloc(), &mut circuit, *call).err();
-        assert!(rt; answer == Some(*fault), "{fault}");
+/// The name of the input.
+const NAMED: [Call; 1] = [Call::Name(Section::Input, 0, b"x")];
+
+/// Whether a latch's name of 301 bytes is refused, and one of 300 is not.
+fn bounds_names(circuit: &mut Circuit) -> bool {
+    let name = [b'x'; 301];
+    circuit.set_name(Section::Latch, 0, &name) == Err(CircuitFault::BadName)
+        && circuit.set_name(Section::Latch, 0, &name[..300]) == Ok(())
+}
+
+/// Fails unless calls are refused by their faults, and so are names by their length.
+fn refuses(
+    alloc: Global,
+    circuit: &mut Circuit,
+    refused: &[(Call, CircuitFault)],
+) -> Result<(), Fail> {
+    for (call, fault) in refused {
+        if done(alloc, circuit, *call) != Err(*fault) {
+            Err(fault.name())?
+        }
     }
-    done(
-        rt.alloc(),
-        &mut circuit,
-        Call::Name(Section::Latch, 0, &[b'x'; 300]),
-    )?;
+    if !bounds_names(circuit) {
+        Err("names of 301 and of 300 bytes")?
+    }
     Ok(())
 }
 
-/// Faults of calls, and what is printed of them.
-const PRINTED: [(CircuitFault, &str); 7] = [
-    (CircuitFault::LiteralOutOfRange, "40 LiteralOutOfRange"),
-    (CircuitFault::OrderBroken, "41 OrderBroken"),
-    (CircuitFault::TooBig, "42 TooBig"),
-    (CircuitFault::NoMemory, "43 NoMemory"),
-    (CircuitFault::NoSuchPosition, "44 NoSuchPosition"),
-    (CircuitFault::NameTaken, "45 NameTaken"),
-    (CircuitFault::BadName, "46 BadName"),
-];
-
-/// Faults of numbering, and what is printed of them.
-const PRINTED_OF_NUMBERING: [(LooseFault, &str); 3] = [
-    (LooseFault::Undefined(3), "63 Undefined"),
-    (LooseFault::Cycle(0), "62 Cycle"),
-    (LooseFault::NoMemory, "43 NoMemory"),
-];
-
 #[test]
-fn faults_are_printed(rt: HostRuntime) -> Result<(), Fail> {
-    for (fault, text) in &PRINTED {
-        let printed = format!(in rt.alloc(); "{fault}")?;
-        assert!(rt; printed.as_str() == *text, "{text}");
-    }
-    for (fault, text) in &PRINTED_OF_NUMBERING {
-        let printed = format!(in rt.alloc(); "{fault}")?;
-        assert!(rt; printed.as_str() == *text, "{text}");
-    }
-    Ok(())
+fn the_first_fault_of_a_call(rt: HostRuntime) -> Result<(), Fail> {
+    let mut circuit = circuit_of(rt.alloc(), 1, 1, &NAMED)?;
+    refuses(rt.alloc(), &mut circuit, &REFUSED)
 }
 
 /// A line of a file in the ascii form, with the numbers of literals.
@@ -240,13 +243,18 @@ fn added(alloc: Global, lines: &mut Loose, line: Line) -> Result<(), CircuitFaul
     }
 }
 
+/// Adds lines one after the other.
+fn add_all(alloc: Global, lines: &mut Loose, list: &[Line]) -> Result<(), CircuitFault> {
+    for line in list {
+        added(alloc, lines, *line)?;
+    }
+    Ok(())
+}
+
 /// The lists of some lines.
 pub(crate) fn lists_of(alloc: Global, list: &[Line]) -> Result<Loose, CircuitFault> {
     let mut lines = Loose::new(alloc);
-    for line in list {
-        added(alloc, &mut lines, *line)?;
-    }
-    Ok(lines)
+    add_all(alloc, &mut lines, list).and(Ok(lines))
 }
 
 /// An input 6 with a name and a property of each kind, and then a latch 4 and the gate 10 of the literals 13 and 6.
@@ -273,14 +281,20 @@ const REFUSED_LINES: [(Line, CircuitFault); 7] = [
     (Line::Output(2_147_483_650), CircuitFault::TooBig),
 ];
 
+/// Fails unless lines are refused by their faults.
+fn refuse(alloc: Global, lines: &mut Loose, refused: &[(Line, CircuitFault)]) -> Result<(), Fail> {
+    for (line, fault) in refused {
+        if added(alloc, lines, *line) != Err(*fault) {
+            Err(fault.name())?
+        }
+    }
+    Ok(())
+}
+
 #[test]
 fn lines_are_added_and_others_refused(rt: HostRuntime) -> Result<(), Fail> {
     let mut lines = lists_of(rt.alloc(), &LINES)?;
-    for (line, fault) in &REFUSED_LINES {
-        let answer = added(rt.alloc(), &mut lines, *line).err();
-        assert!(rt; answer == Some(*fault), "{fault}");
-    }
-    Ok(())
+    refuse(rt.alloc(), &mut lines, &REFUSED_LINES)
 }
 
 /// An input 2, two justice properties with one literal in all, and gates in reverse order.
@@ -313,13 +327,21 @@ const UNDEFINED: [Line; 6] = [
     Line::Gate(8, 4, 10),
 ];
 
-/// The circuit of some lines, or the fault of their numbering.
-fn numbered(alloc: Global, list: &[Line]) -> Result<Result<Circuit, LooseFault>, CircuitFault> {
-    Ok(lists_of(alloc, list)?.number(alloc))
-}
+/// The operands of gates, or a fault of their numbering.
+type Numbering = Result<&'static [[u32; 2]], LooseFault>;
+
+/// Lines, and how they are numbered.
+type Row = (&'static [Line], Numbering);
+
+/// Lines whose gates are numbered, and others.
+const NUMBERINGS: [Row; 3] = [
+    (&IN_REVERSE, Ok(&[[3, 2], [4, 2], [6, 2]])),
+    (&CYCLE, Err(LooseFault::Cycle(0))),
+    (&UNDEFINED, Err(LooseFault::Undefined(3))),
+];
 
 /// Whether gates have these operands.
-fn are_gates(list: &[Gate], operands: &[[u32; 2]]) -> bool {
+pub(crate) fn are_gates(list: &[Gate], operands: &[[u32; 2]]) -> bool {
     if list.len() != operands.len() {
         return false;
     }
@@ -331,18 +353,33 @@ fn are_gates(list: &[Gate], operands: &[[u32; 2]]) -> bool {
     true
 }
 
-#[test]
-fn gates_are_numbered(rt: HostRuntime) -> Result<(), Fail> {
-    let circuit = numbered(rt.alloc(), &IN_REVERSE)??;
-    assert!(rt; are_gates(circuit.gates(), &[[3, 2], [4, 2], [6, 2]]));
-    Ok(())
+/// Whether a circuit has the gates of a row.
+fn has_gates(circuit: &Circuit, row: &Row) -> bool {
+    match row.1 {
+        Ok(operands) => are_gates(circuit.gates(), operands),
+        Err(_) => false,
+    }
+}
+
+/// Whether the gates of lists are numbered as a row says.
+fn is_numbered(alloc: Global, lines: &Loose, row: &Row) -> bool {
+    match lines.number(alloc) {
+        Ok(circuit) => has_gates(&circuit, row),
+        Err(fault) => row.1.err() == Some(fault),
+    }
+}
+
+/// Whether those of the lines of a row are.
+fn are_numbered(alloc: Global, row: &Row) -> bool {
+    match lists_of(alloc, row.0) {
+        Ok(lines) => is_numbered(alloc, &lines, row),
+        Err(_) => false,
+    }
 }
 
 #[test]
-fn faults_of_numbering(rt: HostRuntime) -> Result<(), Fail> {
-    let cycle = numbered(rt.alloc(), &CYCLE)?.err();
-    let undefined = numbered(rt.alloc(), &UNDEFINED)?.err();
-    assert!(rt; cycle == Some(LooseFault::Cycle(0)));
-    assert!(rt; undefined == Some(LooseFault::Undefined(3)));
-    Ok(())
+fn gates_are_numbered(rt: HostRuntime) {
+    for row in &NUMBERINGS {
+        assert!(rt; are_numbered(rt.alloc(), row));
+    }
 }

@@ -33,23 +33,30 @@ fn a_read_fails_and_the_next_go_on(rt: HostRuntime) {
     assert!(rt; failing.into_inner().is_empty());
 }
 
-#[test]
-fn few_bytes_a_write(rt: HostRuntime) -> Result<(), Fail> {
-    let mut chopped = Chop::new(VecSink::new(rt.alloc()), 2);
-    let first = chopped.write(b"hello");
-    write_all(&mut chopped, b"llo")?;
-    assert!(rt; first == Ok(2));
-    assert!(rt; chopped.inner().bytes() == b"hello".as_slice());
-    assert!(rt; chopped.into_inner().bytes() == b"hello".as_slice());
-    Ok(())
+/// Whether a device of two bytes a call takes the first two of a write and then the rest.
+fn takes_two_bytes(chopped: &mut Chop<VecSink>) -> bool {
+    chopped.write(b"hello") == Ok(2)
+        && write_all(chopped, b"llo") == Ok(())
+        && chopped.inner().bytes() == b"hello".as_slice()
 }
 
 #[test]
-fn a_write_fails_and_the_next_go_on(rt: HostRuntime) -> Result<(), Fail> {
+fn few_bytes_a_write(rt: HostRuntime) {
+    let mut chopped = Chop::new(VecSink::new(rt.alloc()), 2);
+    let is_taken = takes_two_bytes(&mut chopped);
+    assert!(rt; is_taken & (chopped.into_inner().bytes() == b"hello".as_slice()));
+}
+
+/// Whether a device fails at its first write, which is lost, and goes on at the next.
+fn fails_once(failing: &mut FailAt<VecSink>) -> bool {
+    write_all(failing, b"lost") == Err(DeviceFault::Failed)
+        && failing.inner().bytes().is_empty()
+        && write_all(failing, b"kept") == Ok(())
+        && failing.inner().bytes() == b"kept".as_slice()
+}
+
+#[test]
+fn a_write_fails_and_the_next_go_on(rt: HostRuntime) {
     let mut failing = FailAt::new(VecSink::new(rt.alloc()), 0);
-    let lost = write_all(&mut failing, b"lost");
-    assert!(rt; lost == Err(DeviceFault::Failed) && failing.inner().bytes().is_empty());
-    write_all(&mut failing, b"kept")?;
-    assert!(rt; failing.inner().bytes() == b"kept".as_slice());
-    Ok(())
+    assert!(rt; fails_once(&mut failing));
 }

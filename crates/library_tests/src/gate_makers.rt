@@ -1,18 +1,20 @@
-//! The bounds, the limit on variables, and what is printed of the refusals.
+//! The bounds, the limit on variables, and the gates that makers make.
 ghost use Rattle.std.specs.Prelude.{◌≡◌, []};
 
-use aiger::{Gate, Lit};
+use crate::circuits::are_gates;
+use aiger::Lit;
 use base::{Binary, Unary};
 use gates::{GateFault, Gates, HashGates, Op, PlainGates, gate_bound};
 use std::alloc::Global;
-use std::test::Fail;
 
-/// Whether a plain maker of so many inputs and latches is refused as too big.
-fn is_too_big(alloc: Global, inputs: u32, latches: u32) -> bool {
-    matches!(
-        PlainGates::new(alloc, inputs, latches),
-        Err(GateFault::TooBig)
-    )
+/// Whether a plain maker of 2^30 inputs and a latch is refused as too big.
+fn is_plain_too_big(alloc: Global) -> bool {
+    PlainGates::new(alloc, 1 << 30, 1).err() == Some(GateFault::TooBig)
+}
+
+/// Whether a sharing one is.
+fn is_shared_too_big(alloc: Global) -> bool {
+    HashGates::new(alloc, 1 << 30, 1).err() == Some(GateFault::TooBig)
 }
 
 /// How many inputs the circuit of a plain maker of two inputs and a latch has.
@@ -24,23 +26,8 @@ fn inputs_of_a_maker(alloc: Global) -> Option<u32> {
 fn bounds_and_limits(rt: HostRuntime) {
     assert!(rt; gate_bound(Op::Unary(Unary::Not), 64) == 0);
     assert!(rt; gate_bound(Op::Binary(Binary::And), 64) == 64);
-    assert!(rt; is_too_big(rt.alloc(), 1073741824, 1));
+    assert!(rt; is_plain_too_big(rt.alloc()) & is_shared_too_big(rt.alloc()));
     assert!(rt; inputs_of_a_maker(rt.alloc()) == Some(2));
-}
-
-/// Refusals, and what is printed of them.
-const PRINTED: [(GateFault, &str); 2] = [
-    (GateFault::TooBig, "80 TooBig"),
-    (GateFault::NoMemory, "81 NoMemory"),
-];
-
-#[test]
-fn refusals_are_printed(rt: HostRuntime) -> Result<(), Fail> {
-    for (fault, text) in &PRINTED {
-        let printed = format!(in rt.alloc(); "{fault}")?;
-        assert!(rt; printed.as_str() == *text);
-    }
-    Ok(())
 }
 
 /// What a maker over two inputs answers to six ands.
@@ -58,38 +45,39 @@ fn answers<G: Gates>(g: &mut G) -> Result<[u32; 6], GateFault>
 }
 
 /// Whether a sharing maker answers six ands so, and has made two gates.
-fn makes_two_gates(alloc: Global) -> Option<bool> {
-    let mut gates = HashGates::new(alloc, 2, 0).ok()?;
-    let are_answered = answers(&mut gates) == Ok([6, 6, 0, 6, 8, 8]);
-    let circuit = gates.finish();
-    let wanted = [(4, 2), (4, 3)].map(|(a, b)| Gate {
-        rhs0: Lit::new(a),
-        rhs1: Lit::new(b),
-    });
-    Some(are_answered && circuit.gates() == wanted.as_slice())
+fn makes_two_gates(alloc: Global) -> bool {
+    match HashGates::new(alloc, 2, 0) {
+        Ok(mut g) => {
+            let are_answered = answers(&mut g) == Ok([6, 6, 0, 6, 8, 8]);
+            are_answered & are_gates(g.finish().gates(), &[[4, 2], [4, 3]])
+        }
+        Err(_) => false,
+    }
 }
 
 #[test]
 fn a_gate_is_made_once(rt: HostRuntime) {
-    assert!(rt; makes_two_gates(rt.alloc()) == Some(true));
+    assert!(rt; makes_two_gates(rt.alloc()));
 }
 
-/// What a sharing maker with as many inputs as there may be answers to the and of an input with true, and of two inputs.
-fn full_answers(alloc: Global) -> Option<(Option<Lit>, Option<GateFault>)> {
-    let mut g = HashGates::new(alloc, 1 << 30, 0).ok()?;
+/// Whether a maker with as many inputs as there may be answers the and of an input with true, and makes no gate.
+fn is_full(g: &mut HashGates) -> bool
+    requires { g.old ≡ record { inputs = 1073741824; latches = 0; gates = [] } }
+{
     let x = Lit::new(2);
-    let with_true = g.and(x, Lit::TRUE).ok();
-    Some((with_true, g.and(x, Lit::new(4)).err()))
+    let is_answered = g.and(x, Lit::TRUE) == Ok(x);
+    is_answered & (g.and(x, Lit::new(4)) == Err(GateFault::TooBig))
+}
+
+/// Whether a sharing maker does.
+fn is_full_by_inputs(alloc: Global) -> bool {
+    match HashGates::new(alloc, 1 << 30, 0) {
+        Ok(mut g) => is_full(&mut g),
+        Err(_) => false,
+    }
 }
 
 #[test]
 fn the_limit_is_for_new_gates(rt: HostRuntime) {
-    let want = Some((Some(Lit::new(2)), Some(GateFault::TooBig)));
-    assert!(rt; full_answers(rt.alloc()) == want);
-    assert!(rt;
-        matches!(
-            HashGates::new(rt.alloc(), 1073741824, 1),
-            Err(GateFault::TooBig)
-        )
-    );
+    assert!(rt; is_full_by_inputs(rt.alloc()));
 }

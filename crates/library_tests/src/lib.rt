@@ -18,6 +18,8 @@ mod models;
 #[cfg(test)]
 mod operator_tables;
 #[cfg(test)]
+mod printing;
+#[cfg(test)]
 mod proof_cuts;
 #[cfg(test)]
 mod refused_memory;

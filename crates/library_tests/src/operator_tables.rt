@@ -5,11 +5,10 @@ ghost use Rattle.std.specs.Prelude.{◌≡◌, ◌+◌, ◌*◌, ◌<◌, ◌≤
 use aiger::{Circuit, Lit};
 use base::{Binary, Tally, Unary, Width, binary, ite, ones, unary};
 use gates::{
-    Bits, GateFault, Gates, HashGates, Op, PlainGates, binary_bits, equal, gate_bound, ite_bits,
-    mux, rotate, shift, unary_bits, xor,
+    Bits, Gates, HashGates, Op, PlainGates, binary_bits, equal, gate_bound, ite_bits, mux, rotate,
+    shift, unary_bits, xor,
 };
 use std::alloc::{AllocError, Global};
-use std::test::Fail;
 
 /// The operators of the table.
 const OPERATORS: [Op; 46] = [
@@ -61,14 +60,13 @@ const OPERATORS: [Op; 46] = [
     Op::Ite,
 ];
 
-/// The greatest width at which all operands are tested.
-const WIDEST: u32 = 5;
-
-/// The greatest width at which all operands of an operator are tested: products and quotients take many gates.
+/// The greatest width at which all operands of an operator are tested: products and quotients take many gates, and two
+/// operators are only of bits.
 fn widest(op: Op) -> u32
     ensures { result ≤ 5 }
 {
     match op {
+        Op::Binary(Binary::Iff | Binary::Implies) => 1,
         Op::Binary(
             Binary::Mul
             | Binary::Udiv
@@ -79,7 +77,7 @@ fn widest(op: Op) -> u32
             | Binary::Umulo
             | Binary::Smulo,
         ) => 4,
-        _ => WIDEST,
+        _ => 5,
     }
 }
 
@@ -100,8 +98,8 @@ pub(crate) fn inputs(before: u32, width: u32) -> Bits
     bits
 }
 
-/// The bits that an operator's builder makes of inputs; none where the operator is not one of this width.
-fn built<G: Gates>(g: &mut G, op: Op, width: u32) -> Result<Option<Bits>, GateFault>
+/// The bits that an operator's builder makes of inputs; none where it is refused, or the operator is not one of this width.
+fn built<G: Gates>(g: &mut G, op: Op, width: u32) -> Option<Bits>
     requires some { 1 ≤ width }
     requires most { width ≤ 64 }
     requires fresh { G.made g.old ≡ record { inputs = 192; latches = 0; gates = [] } }
@@ -109,48 +107,10 @@ fn built<G: Gates>(g: &mut G, op: Op, width: u32) -> Result<Option<Bits>, GateFa
     let a = inputs(0, width);
     let b = inputs(64, width);
     match op {
-        Op::Unary(op) => Ok(Some(unary_bits(g, op, a.as_slice())?)),
-        Op::Binary(Binary::Iff) if width > 1 => Ok(None),
-        Op::Binary(Binary::Implies) if width > 1 => Ok(None),
-        Op::Binary(op) => Ok(Some(binary_bits(g, op, a.as_slice(), b.as_slice())?)),
-        Op::Ite => Ok(Some(ite_bits(g, inputs(128, 1).as_slice(), a.as_slice(), b.as_slice())?)),
-    }
-}
-
-/// A circuit and literals of it.
-#[derive(Drop)]
-struct Made {
-    circuit: Circuit,
-    bits: Bits,
-}
-
-/// What an operator's builder makes over the plain maker; none where the operator is not one of this width.
-fn plain(alloc: Global, op: Op, width: u32) -> Option<Option<Made>>
-    requires some { 1 ≤ width }
-    requires most { width ≤ 64 }
-{
-    let mut g = PlainGates::new(alloc, INPUTS, 0).ok()?;
-    match built(&mut g, op, width).ok()? {
-        Some(bits) => Some(Some(Made {
-            circuit: g.finish(),
-            bits,
-        })),
-        None => Some(None),
-    }
-}
-
-/// What an operator's builder makes over the sharing maker; none where the operator is not one of this width.
-fn shared(alloc: Global, op: Op, width: u32) -> Option<Option<Made>>
-    requires some { 1 ≤ width }
-    requires most { width ≤ 64 }
-{
-    let mut g = HashGates::new(alloc, INPUTS, 0).ok()?;
-    match built(&mut g, op, width).ok()? {
-        Some(bits) => Some(Some(Made {
-            circuit: g.finish(),
-            bits,
-        })),
-        None => Some(None),
+        Op::Unary(op) => unary_bits(g, op, a.as_slice()).ok(),
+        Op::Binary(Binary::Iff | Binary::Implies) if width > 1 => None,
+        Op::Binary(op) => binary_bits(g, op, a.as_slice(), b.as_slice()).ok(),
+        Op::Ite => ite_bits(g, inputs(128, 1).as_slice(), a.as_slice(), b.as_slice()).ok(),
     }
 }
 
@@ -219,15 +179,16 @@ fn expected(op: Op, w: Width, operands: Operands) -> u64 {
 /// Whether a circuit's literals read as what an operator gives, for operands in batches of up to 64.
 fn agrees(
     alloc: Global,
-    made: &Made,
+    circuit: &Circuit,
+    bits: &Bits,
     op: Op,
     w: Width,
     all: &[Operands],
 ) -> Result<bool, AllocError> {
     for batch in all.chunks(64) {
-        let values = values(alloc, &made.circuit, batch)?;
+        let values = values(alloc, circuit, batch)?;
         for k in 0..batch.len() {
-            if word(&values, &made.bits, k) != expected(op, w, batch[k]) {
+            if word(&values, bits, k) != expected(op, w, batch[k]) {
                 return Ok(false);
             }
         }
@@ -247,65 +208,78 @@ fn all_operands(alloc: Global, width: u32) -> Result<Vec<Operands>, AllocError>
 }
 
 /// How many gates a circuit has whose literals read as what an operator gives for these operands; none where they do not.
-fn gates_if_right(alloc: Global, made: &Made, op: Op, w: Width, all: &[Operands]) -> Option<u64> {
-    match agrees(alloc, made, op, w, all) {
-        Ok(true) => Some(made.circuit.gates().len() as u64),
+fn gates_if_right(
+    alloc: Global,
+    circuit: &Circuit,
+    bits: &Option<Bits>,
+    op: Op,
+    width: u32,
+    all: &[Operands],
+) -> Option<u64> {
+    let w = Width::new(u64::from(width))?;
+    match agrees(alloc, circuit, bits.as_ref()?, op, w, all) {
+        Ok(true) => Some(circuit.gates().len() as u64),
         _ => None,
     }
 }
 
-/// How many gates an operator takes over the plain maker, where they are right at these operands; 0 where the operator is
-/// not one of this width.
-fn plain_gates(alloc: Global, op: Op, width: u32, w: Width, all: &[Operands]) -> Option<u64>
+/// How many gates an operator takes over the plain maker, where they are right at these operands.
+fn plain_gates(alloc: Global, op: Op, width: u32, all: &[Operands]) -> Option<u64>
     requires some { 1 ≤ width }
     requires most { width ≤ 64 }
 {
-    match plain(alloc, op, width) {
-        Some(Some(made)) => gates_if_right(alloc, &made, op, w, all),
-        Some(None) => Some(0),
-        None => None,
+    match PlainGates::new(alloc, INPUTS, 0) {
+        Ok(mut g) => {
+            let bits = built(&mut g, op, width);
+            gates_if_right(alloc, &g.finish(), &bits, op, width, all)
+        }
+        Err(_) => None,
     }
 }
 
 /// How many gates an operator takes over the sharing maker, likewise.
-fn shared_gates(alloc: Global, op: Op, width: u32, w: Width, all: &[Operands]) -> Option<u64>
+fn shared_gates(alloc: Global, op: Op, width: u32, all: &[Operands]) -> Option<u64>
     requires some { 1 ≤ width }
     requires most { width ≤ 64 }
 {
-    match shared(alloc, op, width) {
-        Some(Some(made)) => gates_if_right(alloc, &made, op, w, all),
-        Some(None) => Some(0),
-        None => None,
+    match HashGates::new(alloc, INPUTS, 0) {
+        Ok(mut g) => {
+            let bits = built(&mut g, op, width);
+            gates_if_right(alloc, &g.finish(), &bits, op, width, all)
+        }
+        Err(_) => None,
     }
 }
 
-/// Whether an operator's circuits agree with the operator at these operands, the plain one has few enough gates and the
-/// shared one no more.
-fn is_right(alloc: Global, op: Op, width: u32, all: &[Operands]) -> bool
+/// Whether an operator's circuits agree with the operator at all operands of a width, the plain one has few enough gates
+/// and the shared one no more.
+fn is_right(alloc: Global, op: Op, width: u32) -> bool
     requires some { 1 ≤ width }
-    requires most { width ≤ 64 }
+    requires most { width ≤ 5 }
 {
-    let Some(w) = Width::new(u64::from(width)) else {
+    let Ok(all) = all_operands(alloc, width) else {
         return false;
     };
-    let plain = plain_gates(alloc, op, width, w, all);
-    match (plain, shared_gates(alloc, op, width, w, all)) {
-        (Some(plain), Some(shared)) => {
-            shared <= plain && plain <= gate_bound(op, u64::from(width))
-        }
+    let plain = plain_gates(alloc, op, width, &all);
+    let shared = shared_gates(alloc, op, width, &all);
+    are_few(plain, shared, gate_bound(op, u64::from(width)))
+}
+
+/// Whether plain gates are within a bound and shared ones no more.
+fn are_few(plain: Option<u64>, shared: Option<u64>, bound: u64) -> bool {
+    match (plain, shared) {
+        (Some(plain), Some(shared)) => (shared <= plain) & (plain <= bound),
         _ => false,
     }
 }
 
 #[test]
-fn every_operand_of_every_operator(rt: HostRuntime) -> Result<(), Fail> {
-    for op in OPERATORS {
-        for width in 1..widest(op) + 1 {
-            let all = all_operands(rt.alloc(), width)?;
-            assert!(rt; is_right(rt.alloc(), op, width, &all), "{op:?} at {width}");
+fn every_operand_of_every_operator(rt: HostRuntime) {
+    for op in &OPERATORS {
+        for width in 1..widest(*op) + 1 {
+            assert!(rt; is_right(rt.alloc(), *op, width), "{op:?} at {width}");
         }
     }
-    Ok(())
 }
 
 /// A number's place in a list that looks like no order (Steele, Lea and Flood, "Fast splittable pseudorandom number
@@ -344,107 +318,82 @@ fn stored_operands(alloc: Global) -> Result<Vec<Operands>, AllocError> {
     Ok(all)
 }
 
-/// Whether an operator's circuit at width 64 agrees with the operator at these operands and has few enough gates.
-fn is_right_at_64(alloc: Global, op: Op, all: &[Operands]) -> bool {
-    let Some(w) = Width::new(64) else {
+/// Whether an operator's circuit at width 64 agrees with the operator at the stored operands and has few enough gates, or
+/// the operator is only of bits.
+fn is_right_at_64(alloc: Global, op: Op) -> bool {
+    let Ok(all) = stored_operands(alloc) else {
         return false;
     };
-    match plain_gates(alloc, op, 64, w, all) {
+    match plain_gates(alloc, op, 64, &all) {
         Some(gates) => gates <= gate_bound(op, 64),
-        None => false,
+        None => widest(op) == 1,
     }
 }
 
 #[test]
-fn a_thousand_operands_of_every_operator(rt: HostRuntime) -> Result<(), Fail> {
-    let all = stored_operands(rt.alloc())?;
-    for op in OPERATORS {
-        assert!(rt; is_right_at_64(rt.alloc(), op, &all), "{op:?}");
+fn a_thousand_operands_of_every_operator(rt: HostRuntime) {
+    for op in &OPERATORS {
+        assert!(rt; is_right_at_64(rt.alloc(), *op), "{op:?}");
     }
-    Ok(())
 }
 
-/// How many gates the exclusive or of two literals takes.
-fn xor_gates(alloc: Global, a: Lit, b: Lit) -> Option<usize>
-    requires left { a < 386 }
-    requires right { b < 386 }
+/// A builder, with the numbers of the literals that it is given, or else for two words of two bits.
+#[derive(Clone, Copy)]
+enum Asked {
+    Xor(u32, u32),
+    Mux(u32, u32, u32),
+    Equal,
+    Shift,
+    Rotation,
+}
+
+/// Builders, and how many gates they take over the sharing maker.
+const COUNTED: [(Asked, usize); 11] = [
+    (Asked::Xor(2, 4), 3),
+    (Asked::Xor(2, 2), 0),
+    (Asked::Xor(2, 3), 0),
+    (Asked::Xor(2, 1), 0),
+    (Asked::Mux(2, 4, 6), 3),
+    (Asked::Mux(2, 4, 4), 0),
+    (Asked::Mux(1, 4, 6), 0),
+    (Asked::Mux(2, 4, 0), 1),
+    (Asked::Equal, 7),
+    (Asked::Shift, 6),
+    (Asked::Rotation, 6),
+];
+
+/// The literal of a number, which is one of the first three inputs or a constant.
+fn literal(number: u32) -> Lit
+    ensures { result < 386 }
 {
-    let mut g = HashGates::new(alloc, INPUTS, 0).ok()?;
-    xor(&mut g, a, b).ok()?;
-    Some(g.finish().gates().len())
+    Lit::new(number.min(7))
 }
 
-/// How many gates a choice between two literals takes.
-fn mux_gates(alloc: Global, c: Lit, t: Lit, e: Lit) -> Option<usize>
-    requires condition { c < 386 }
-    requires then { t < 386 }
-    requires otherwise { e < 386 }
+/// Whether a builder answers.
+fn is_made(g: &mut HashGates, asked: Asked) -> bool
+    requires fresh { g.old ≡ record { inputs = 192; latches = 0; gates = [] } }
 {
-    let mut g = HashGates::new(alloc, INPUTS, 0).ok()?;
-    mux(&mut g, c, t, e).ok()?;
-    Some(g.finish().gates().len())
+    let (a, b) = (inputs(0, 2), inputs(64, 2));
+    match asked {
+        Asked::Xor(x, y) => xor(g, literal(x), literal(y)).is_ok(),
+        Asked::Mux(c, t, e) => mux(g, literal(c), literal(t), literal(e)).is_ok(),
+        Asked::Equal => equal(g, a.as_slice(), b.as_slice()).is_ok(),
+        Asked::Shift => shift(g, Binary::Sll, a.as_slice(), b.as_slice()).is_ok(),
+        Asked::Rotation => rotate(g, Binary::Rol, a.as_slice(), b.as_slice()).is_ok(),
+    }
 }
 
-/// How many gates the test for equality of two words of two bits takes.
-fn equal_gates(alloc: Global) -> Option<usize> {
-    let mut g = HashGates::new(alloc, INPUTS, 0).ok()?;
-    equal(&mut g, inputs(0, 2).as_slice(), inputs(64, 2).as_slice()).ok()?;
-    Some(g.finish().gates().len())
-}
-
-/// How many gates a shift of a word of two bits takes.
-fn shift_gates(alloc: Global) -> Option<usize> {
-    let mut g = HashGates::new(alloc, INPUTS, 0).ok()?;
-    shift(
-        &mut g,
-        Binary::Sll,
-        inputs(0, 2).as_slice(),
-        inputs(64, 2).as_slice(),
-    )
-    .ok()?;
-    Some(g.finish().gates().len())
-}
-
-/// How many gates a rotation of a word of two bits takes.
-fn rotation_gates(alloc: Global) -> Option<usize> {
-    let mut g = HashGates::new(alloc, INPUTS, 0).ok()?;
-    rotate(
-        &mut g,
-        Binary::Rol,
-        inputs(0, 2).as_slice(),
-        inputs(64, 2).as_slice(),
-    )
-    .ok()?;
-    Some(g.finish().gates().len())
-}
-
-/// How many gates exclusive ors of literals take.
-fn gates_of_xors(alloc: Global) -> [Option<usize>; 4] {
-    let (x, y) = (Lit::new(2), Lit::new(4));
-    [
-        xor_gates(alloc, x, y),
-        xor_gates(alloc, x, x),
-        xor_gates(alloc, x, x.not()),
-        xor_gates(alloc, x, Lit::TRUE),
-    ]
-}
-
-/// How many gates choices between literals take.
-fn gates_of_choices(alloc: Global) -> [Option<usize>; 4] {
-    let (x, y, z) = (Lit::new(2), Lit::new(4), Lit::new(6));
-    [
-        mux_gates(alloc, x, y, z),
-        mux_gates(alloc, x, y, y),
-        mux_gates(alloc, Lit::TRUE, y, z),
-        mux_gates(alloc, x, y, Lit::FALSE),
-    ]
+/// Whether a builder takes so many gates.
+fn takes(alloc: Global, asked: Asked, gates: usize) -> bool {
+    match HashGates::new(alloc, INPUTS, 0) {
+        Ok(mut g) => is_made(&mut g, asked) & (g.gate_count() == gates),
+        Err(_) => false,
+    }
 }
 
 #[test]
 fn constants_and_equal_operands_take_no_gate(rt: HostRuntime) {
-    assert!(rt; gates_of_xors(rt.alloc()) == [Some(3), Some(0), Some(0), Some(0)]);
-    assert!(rt; gates_of_choices(rt.alloc()) == [Some(3), Some(0), Some(0), Some(1)]);
-    assert!(rt; equal_gates(rt.alloc()) == Some(7));
-    assert!(rt; shift_gates(rt.alloc()) == Some(6));
-    assert!(rt; rotation_gates(rt.alloc()) == Some(6));
+    for (asked, gates) in &COUNTED {
+        assert!(rt; takes(rt.alloc(), *asked, *gates));
+    }
 }

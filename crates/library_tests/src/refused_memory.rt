@@ -3,7 +3,7 @@
 //! trial, it was not in the other. `tests/refused_memory.py` refuses each allocation in turn.
 ghost use Rattle.std.specs.Prelude.{◌≡◌, []};
 
-use crate::circuits::{Call, IN_REVERSE, done, lists_of};
+use crate::circuits::{Call, IN_REVERSE, done, is_spelled, lists_of};
 use crate::operator_tables::inputs;
 use crate::samples::{BOUNDED, Comparing};
 use aiger::{Circuit, CircuitFault, Lit, Loose, LooseFault, Reset, Section};
@@ -170,23 +170,17 @@ const CALLS: [(Call, &str); 9] = [
     ),
 ];
 
-/// Whether a circuit has a text.
-fn is_spelled(circuit: &Circuit, text: &str) -> bool {
-    let mut sink = Comparing::new(text.as_bytes());
-    aigertext::write(circuit, Form::Ascii, &mut sink).is_ok() && sink.is_whole()
-}
-
 /// Whether a call on a circuit succeeds, or is refused, which leaves the circuit, and then succeeds.
 fn is_done(alloc: Global, circuit: &mut Circuit, call: Call, before: &str, after: &str) -> bool {
     let succeeds = match done(alloc, circuit, call) {
         Ok(()) => true,
         Err(fault) => {
             fault == CircuitFault::NoMemory
-                && is_spelled(circuit, before)
+                && is_spelled(circuit, Form::Ascii, before.as_bytes())
                 && done(alloc, circuit, call).is_ok()
         }
     };
-    succeeds && is_spelled(circuit, after)
+    succeeds && is_spelled(circuit, Form::Ascii, after.as_bytes())
 }
 
 /// Whether each call is done on a circuit of an input and a latch.
@@ -215,7 +209,7 @@ const IN_ORDER: &str = "aag 4 1 0 0 3 0 0 2\n2\n0\n1\n1\n4 3 2\n6 4 2\n8 6 2\n";
 /// Whether lists are numbered; none where that was refused.
 fn is_numbered(alloc: Global, lines: &Loose) -> Option<bool> {
     match lines.number(alloc) {
-        Ok(circuit) => Some(is_spelled(&circuit, IN_ORDER)),
+        Ok(circuit) => Some(is_spelled(&circuit, Form::Ascii, IN_ORDER.as_bytes())),
         Err(LooseFault::NoMemory) => None,
         Err(_) => Some(false),
     }

@@ -2,8 +2,8 @@
 //! words of more than small tests have.
 ghost use Rattle.std.specs.Prelude.{◌≡◌, ◌<◌, []};
 
+use crate::circuits::is_spelled;
 use crate::operator_tables::inputs;
-use crate::samples::Comparing;
 use aiger::Lit;
 use aigertext::Form;
 use base::{Chop, FromReader, Outbox, Source, ToWriter, read_all, write_all};
@@ -151,20 +151,17 @@ fn binary_text(alloc: Global) -> Result<Vec<u8>, Fail> {
 }
 
 /// Whether the circuit of a text is spelled so in a form.
-fn is_spelled(alloc: Global, text: &[u8], form: Form, spelled: &[u8]) -> bool {
+fn is_respelled(alloc: Global, text: &[u8], form: Form, spelled: &[u8]) -> bool {
     let mut source = text;
     match aigertext::read(alloc, &mut source) {
-        Ok(circuit) => {
-            let mut sink = Comparing::new(spelled);
-            aigertext::write(&circuit, form, &mut sink).is_ok() && sink.is_whole()
-        }
+        Ok(circuit) => is_spelled(&circuit, form, spelled),
         Err(_) => false,
     }
 }
 
 /// Whether the circuit of a text is spelled so in both forms.
 fn is_spelled_twice(alloc: Global, text: &[u8], ascii: &[u8], binary: &[u8]) -> bool {
-    is_spelled(alloc, text, Form::Ascii, ascii) && is_spelled(alloc, text, Form::Binary, binary)
+    is_respelled(alloc, text, Form::Ascii, ascii) && is_respelled(alloc, text, Form::Binary, binary)
 }
 
 #[test]
@@ -179,34 +176,26 @@ fn five_thousand_latches_and_gates(rt: HostRuntime) -> Result<(), Fail> {
     Ok(())
 }
 
-/// How many literals the sum of two words of 128 literals has.
-fn sum_length<G: Gates>(g: &mut G) -> Result<usize, GateFault>
+/// How many literals the sum or the product of two words of 128 literals has.
+fn word_length<G: Gates>(g: &mut G, is_sum: bool) -> Result<usize, GateFault>
     requires fresh { G.made g.old ≡ record { inputs = 256; latches = 0; gates = [] } }
 {
-    let added = add(g, &inputs(0, 128), &inputs(128, 128), Lit::FALSE)?;
-    Ok(added.sum.len())
+    let (a, b) = (inputs(0, 128), inputs(128, 128));
+    if is_sum {
+        Ok(add(g, &a, &b, Lit::FALSE)?.sum.len())
+    } else {
+        Ok(mul(g, &a, &b)?.len())
+    }
 }
 
-/// How many literals the product of two words of 128 literals has.
-fn product_length<G: Gates>(g: &mut G) -> Result<usize, GateFault>
-    requires fresh { G.made g.old ≡ record { inputs = 256; latches = 0; gates = [] } }
-{
-    let product = mul(g, &inputs(0, 128), &inputs(128, 128))?;
-    Ok(product.len())
-}
-
-/// The same of the sum, over a sharing maker.
-fn sum_of_128_literals(alloc: Global) -> Result<usize, GateFault> {
-    sum_length(&mut HashGates::new(alloc, 256, 0)?)
-}
-
-/// The same of the product.
-fn product_of_128_literals(alloc: Global) -> Result<usize, GateFault> {
-    product_length(&mut HashGates::new(alloc, 256, 0)?)
+/// The same over a sharing maker.
+fn shared_length(alloc: Global, is_sum: bool) -> Result<usize, GateFault> {
+    word_length(&mut HashGates::new(alloc, 256, 0)?, is_sum)
 }
 
 #[test]
 fn words_of_128_literals(rt: HostRuntime) {
-    assert!(rt; sum_of_128_literals(rt.alloc()) == Ok(128));
-    assert!(rt; product_of_128_literals(rt.alloc()) == Ok(128));
+    for is_sum in [true, false] {
+        assert!(rt; shared_length(rt.alloc(), is_sum) == Ok(128));
+    }
 }

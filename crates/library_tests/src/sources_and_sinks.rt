@@ -1,4 +1,5 @@
-//! What no clause says of devices: that calls succeed, what is printed, and that nothing is tried again.
+//! What no clause says of devices: that calls succeed, and that nothing is tried again.
+use crate::samples::Comparing;
 use base::{
     DeviceFault, FromReader, Outbox, ReadAllFault, Sink, Source, ToWriter, VecSink, laws, read_all,
     write_all,
@@ -94,17 +95,28 @@ impl Sink for Dripping {
     }
 }
 
-#[test]
-fn bytes_reach_a_sink(rt: HostRuntime) -> Result<(), Fail> {
-    let mut kept = VecSink::new(rt.alloc());
-    write_all(&mut kept, b"one ")?;
-    write_all(&mut kept, b"")?;
-    write_all(&mut kept, b"two")?;
-    assert!(rt; kept.bytes() == b"one two".as_slice());
-    let mut through = ToWriter::new(VecDeque::new(rt.alloc()));
-    write_all(&mut through, b"three")?;
-    assert!(rt; drips(rt.alloc()));
+/// Writes pieces one after the other.
+fn write_pieces<S: Sink>(sink: &mut S, pieces: &[&[u8]]) -> Result<(), DeviceFault> {
+    for piece in pieces {
+        write_all(sink, piece)?;
+    }
     Ok(())
+}
+
+/// Pieces of which one is empty.
+const WORDS: [&[u8]; 3] = [b"one ", b"", b"two"];
+
+/// Whether pieces are written through to a device of std.
+fn are_through(alloc: Global) -> bool {
+    write_pieces(&mut ToWriter::new(VecDeque::new(alloc)), &WORDS).is_ok()
+}
+
+#[test]
+fn bytes_reach_a_sink(rt: HostRuntime) {
+    let mut kept = VecSink::new(rt.alloc());
+    let are_kept = write_pieces(&mut kept, &WORDS).is_ok();
+    assert!(rt; are_kept & (kept.bytes() == b"one two".as_slice()));
+    assert!(rt; are_through(rt.alloc()) & drips(rt.alloc()));
 }
 
 /// Whether writing four bytes to a sink of room for three fails, and writes three.
@@ -138,11 +150,18 @@ fn failed_reads(alloc: Global) -> Option<u128> {
     }
 }
 
+/// More bytes than are read in one call.
+const SEVENS: [u8; 70_000] = [7; 70_000];
+
+/// Whether bytes are read to their end, from where they are and through a device of std.
+fn are_read(alloc: Global, bytes: &[u8]) -> bool {
+    let mut source = bytes;
+    reads(alloc, &mut source, bytes) & reads(alloc, &mut FromReader::new(bytes), bytes)
+}
+
 #[test]
 fn a_source_is_read_to_its_end(rt: HostRuntime) {
-    let long = [7u8; 70_000];
-    assert!(rt; reads(rt.alloc(), &mut long.as_slice(), &long));
-    assert!(rt; reads(rt.alloc(), &mut FromReader::new(long.as_slice()), &long));
+    assert!(rt; are_read(rt.alloc(), &SEVENS));
     assert!(rt; failed_reads(rt.alloc()) == Some(1));
 }
 
@@ -177,70 +196,63 @@ fn a_call_that_failed_is_not_tried_again(rt: HostRuntime) -> Result<(), Fail> {
     Ok(())
 }
 
-/// Puts pieces into an outbox over a sink, long ones among them, and flushes it.
-fn puts_pieces<S: Sink>(
+/// A piece that is longer than what an outbox holds.
+const LONG: [u8; 40_000] = [1; 40_000];
+
+/// A piece of half that length.
+const HALF: [u8; 20_000] = [1; 20_000];
+
+/// Pieces, long ones among them.
+const PIECES: [&[u8]; 6] = [b"a small piece", &LONG, b"", &HALF, &HALF, b"end"];
+
+/// Puts pieces into an outbox over a sink, and flushes it.
+fn put_pieces<S: Sink>(
     outbox: &mut Outbox,
     sink: &mut S,
-    long: &[u8; 40_000],
+    pieces: &[&[u8]],
 ) -> Result<(), DeviceFault> {
-    outbox.put(sink, b"a small piece")?;
-    outbox.put(sink, long)?;
-    outbox.put(sink, b"")?;
-    outbox.put(sink, &long[..20_000])?;
-    outbox.put(sink, &long[..20_000])?;
-    outbox.put(sink, b"end")?;
+    for piece in pieces {
+        outbox.put(sink, piece)?;
+    }
     outbox.flush(sink)
 }
 
-/// The same pieces, written at once.
-fn pieces(alloc: Global, long: &[u8; 40_000]) -> Result<VecSink, DeviceFault> {
-    let mut direct = VecSink::new(alloc);
-    write_all(&mut direct, b"a small piece")?;
-    write_all(&mut direct, long)?;
-    write_all(&mut direct, long)?;
-    write_all(&mut direct, b"end")?;
-    Ok(direct)
+/// Whether bytes are those of pieces.
+fn are_pieces(bytes: &[u8], pieces: &[&[u8]]) -> bool {
+    let mut sink = Comparing::new(bytes);
+    write_pieces(&mut sink, pieces).is_ok() && sink.is_whole()
+}
+
+/// Whether an outbox writes pieces to a sink.
+fn writes(sink: &mut VecSink, pieces: &[&[u8]]) -> bool {
+    put_pieces(&mut Outbox::new(), sink, pieces).is_ok() && are_pieces(sink.bytes(), pieces)
 }
 
 #[test]
-fn an_outbox_writes_what_it_was_given(rt: HostRuntime) -> Result<(), Fail> {
-    let long = [1u8; 40_000];
-    let direct = pieces(rt.alloc(), &long)?;
+fn an_outbox_writes_what_it_was_given(rt: HostRuntime) {
     let mut whole = VecSink::new(rt.alloc());
-    puts_pieces(&mut Outbox::new(), &mut whole, &long)?;
-    assert!(rt; whole.bytes() == direct.bytes());
-    Ok(())
+    assert!(rt; writes(&mut whole, &PIECES));
+}
+
+/// Whether an outbox writes pieces to a sink of one byte a call, and fails where its room ends.
+fn drips_pieces(dripping: &mut Dripping, pieces: &[&[u8]]) -> Result<bool, DeviceFault> {
+    let mut outbox = Outbox::new();
+    put_pieces(&mut outbox, dripping, pieces)?;
+    let is_put = are_pieces(dripping.sink.bytes(), pieces);
+    dripping.room = 2;
+    outbox.put(dripping, b"xyz")?;
+    let answer = outbox.flush(dripping);
+    Ok(is_put & (answer == Err(DeviceFault::Failed)) & (dripping.sink.bytes().len() == 80_018))
 }
 
 #[test]
-fn an_outbox_over_a_sink_of_one_byte_a_call(rt: HostRuntime) -> Result<(), Fail> {
-    let long = [1u8; 40_000];
-    let direct = pieces(rt.alloc(), &long)?;
-    let mut outbox = Outbox::new();
+fn an_outbox_over_a_sink_of_one_byte_a_call(rt: HostRuntime) {
     let mut dripping = Dripping {
         sink: VecSink::new(rt.alloc()),
         room: 200_000,
         failures: 0,
     };
-    puts_pieces(&mut outbox, &mut dripping, &long)?;
-    assert!(rt; dripping.sink.bytes() == direct.bytes());
-    dripping.room = 2;
-    outbox.put(&mut dripping, b"xyz")?;
-    let answer = outbox.flush(&mut dripping);
-    assert!(rt; answer == Err(DeviceFault::Failed) && dripping.sink.bytes().len() == 80_018);
-    Ok(())
-}
-
-#[test]
-fn faults_print_their_names(rt: HostRuntime) -> Result<(), Fail> {
-    let (first, second, third) = (
-        DeviceFault::Failed,
-        ReadAllFault::Device,
-        ReadAllFault::NoMemory,
-    );
-    let printed = format!(in rt.alloc(); "{first} {second} {third}")?;
-    assert!(rt; printed.as_str() == "device device no memory");
-    Ok(())
+    assert!(rt; drips_pieces(&mut dripping, &PIECES) == Ok(true));
 }
 
 #[test]
