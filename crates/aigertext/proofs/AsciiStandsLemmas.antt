@@ -17,7 +17,7 @@ use Rattle.aigertext.specs.AsciiReading.{lists_of_file, AnswersNamed, AnswersUnd
 use Rattle.aigertext.proofs.BackLemmas.{SaysAt, line-back}
 use Rattle.aigertext.proofs.FileBackLemmas.{ListsBack, lists-back}
 use Rattle.aigertext.proofs.FileReadLemmas.{lists-read}
-use Rattle.aigertext.proofs.GateBackLemmas.{AreBytes}
+use Rattle.deltas.proofs.BackLemmas.{AreBytes}
 use Rattle.aigertext.proofs.HeaderBackLemmas.{HeaderBack, header-back}
 use Rattle.aigertext.proofs.HeaderLemmas.{counts_small, header-read}
 use Rattle.aigertext.proofs.HeaderSmallLemmas.{header_small}

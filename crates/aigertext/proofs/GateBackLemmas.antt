@@ -1,24 +1,22 @@
 -- From what reading gives back to the text: deltas and gates.
-use Rattle.std.proofs.Common.{◌≡◌, ℕ, zero, suc, ◌+◌, ◌-◌, ◌*◌, ◌/◌, ◌%◌, ◌<◌, ◌≤◌, ◌==◌, ◌||◌, nat_lt, List, [], ◌∷◌, ◌++◌, length, get_or, Fits, w8, Result, Ok, Err, refl, sym, ap, subst, ◌∙◌, append_assoc, inl, inr, if◌then◌else◌, arith}
-use Rattle.std.specs.List.{AllByRecursion}
-use Rattle.std.proofs.lemmas.Bool.{eqb-false, ltb-true, ltb-false, or_parts}
+use Rattle.std.proofs.Common.{◌≡◌, ℕ, zero, suc, ◌+◌, ◌-◌, ◌*◌, ◌<◌, ◌≤◌, ◌==◌, ◌||◌, nat_lt, List, [], ◌∷◌, ◌++◌, length, get_or, Fits, w8, Result, Ok, Err, refl, sym, ap, subst, ◌∙◌, append_assoc, inl, inr, arith}
+use Rattle.std.proofs.lemmas.Bool.{eqb-false, ltb-false, or_parts}
 use Rattle.base.proofs.DecimalLemmas.{chosen}
+use Rattle.deltas.specs.declared.reading.DeltaFault.{DeltaFault}
+use Rattle.deltas.specs.Deltas.{delta, number_at}
+use Rattle.deltas.proofs.BackLemmas.{AreBytes, number-back}
 use Rattle.aiger.specs.declared.circuit.Gate.{Gate}
 use Rattle.aiger.specs.Net.{AreOrderedFrom}
 use Rattle.aigertext.specs.declared.fault.Stop.{Stop}
 use Rattle.aigertext.specs.declared.fault.Why.{Why}
 use Rattle.aigertext.specs.declared.fault.Why.TheVariants as why
 use Rattle.aigertext.specs.declared.forms.Form.TheVariants.{Binary}
-use Rattle.aigertext.specs.Binary.{digits_128, delta, gates_text}
-use Rattle.aigertext.specs.Reading.{◌>>=◌, at, more_digits, delta_at, below, at_or_below, gate_at, gates_at}
+use Rattle.aigertext.specs.Binary.{gates_text}
+use Rattle.aigertext.specs.Reading.{◌>>=◌, at, delta_told, delta_at, below, at_or_below, gate_at, gates_at}
 use Rattle.aigertext.proofs.BackLemmas.{ok_same, not_err}
-use Rattle.aigertext.proofs.DeltaLemmas.{digits-more, digits-one}
 use Rattle.aigertext.proofs.GateLemmas.{next_literal}
 
 -- bytes
-abbrev pub AreBytes : List ℕ → Type 0
-AreBytes text = AllByRecursion (λ b. b < 256) text
-
 pub bytes_of : (text : List ℕ) → ((i : ℕ) → Fits w8 (get_or text i 0)) → AreBytes text
 bytes_of [] h = tt
 bytes_of (b ∷ bs) h = (omega (arith, h 0), bytes_of bs (λ i. h (suc i)))
@@ -27,66 +25,14 @@ pub bytes_behind : (front rest : List ℕ) → AreBytes (front ++ rest) → AreB
 bytes_behind [] rest h = h
 bytes_behind (b ∷ front) rest h = bytes_behind front rest h.1
 
--- digits at the front of a text
-record AreDigits (more : ℕ) (text : List ℕ) (n : ℕ) (rest : List ℕ) : Type 0 where
-  parts : text ≡ digits_128 more n ++ rest
-  some : 0 < n
-
-last_by : (more b : ℕ) (bs : List ℕ) (n : ℕ) (rest : List ℕ) → b < 128 → if◌then◌else◌ {A = Result (ℕ × List ℕ) Why} (b == 0) (Err why.DeltaNotShortest) (Ok (b, bs)) ≡ Ok (n, rest) → AreDigits more (b ∷ bs) n rest
-last_by more b bs n rest small e =
-    elim (chosen (b == 0) (Err why.DeltaNotShortest) (Ok (b, bs)) (Ok (n, rest)) e) [
-      | inl wrong ↦ absurd (not_err _ _ wrong.1)
-      | inr good ↦
-          let is : (b, bs) ≡ (n, rest) = ok_same (b, bs) (n, rest) good.1 in
-          subst (λ (p : ℕ × List ℕ). AreDigits more (b ∷ bs) p.0 p.1) is
-          (record { parts = ap (λ (l : List ℕ). l ++ bs) (sym (digits-one more b small)); some = omega (arith, eqb-false b 0 good.0) })
-    ]
-
--- a digit before others
-digit_before : (b m : ℕ) → 128 ≤ b → b < 256 → ((b - 128 + 128 * m) % 128 + 128 ≡ b) × ((b - 128 + 128 * m) / 128 ≡ m)
-digit_before b m low high = (omega arith, omega arith)
-
-more_by : (more b : ℕ) (bs : List ℕ) (n : ℕ) (rest : List ℕ) (r : Result (ℕ × List ℕ) Why) → 128 ≤ b → b < 256 → ((m : ℕ) (rest : List ℕ) → r ≡ Ok (m, rest) → AreDigits more bs m rest)
-    → ◌>>=◌ {A = ℕ × List ℕ} {B = ℕ × List ℕ} {E = Why} r (λ x. Ok ((b - 128) + 128 * x.0, x.1)) ≡ Ok (n, rest)
-    → (b ∷ bs ≡ digits_128 (suc more) n ++ rest) × (0 < n)
-more_by more b bs n rest (Err w) low high others e = absurd (not_err _ _ e)
-more_by more b bs n rest (Ok x) low high others e =
-    let is : ◌≡◌ {A = ℕ × List ℕ} ((b - 128) + 128 * x.0, x.1) (n, rest) = ok_same ((b - 128) + 128 * x.0, x.1) (n, rest) e in
-    let o = others x.0 x.1 refl in
-    let d = digit_before b x.0 low high in
-    let large : 128 ≤ (b - 128) + 128 * x.0 = omega (arith, o.some) in
-    let digits : digits_128 (suc more) ((b - 128) + 128 * x.0) ≡ b ∷ digits_128 more x.0 =
-    digits-more more ((b - 128) + 128 * x.0) large ∙ ap (λ (k : ℕ). k ∷ digits_128 more (((b - 128) + 128 * x.0) / 128)) d.0 ∙ ap (λ (k : ℕ). b ∷ digits_128 more k) d.1 in
-    subst (λ (p : ℕ × List ℕ). (b ∷ bs ≡ digits_128 (suc more) p.0 ++ p.1) × (0 < p.0)) is
-    (ap (λ (l : List ℕ). b ∷ l) o.parts ∙ ap (λ (l : List ℕ). l ++ x.1) (sym digits), omega (arith, o.some))
-
-more_digits-back : (more : ℕ) (text : List ℕ) (n : ℕ) (rest : List ℕ) → AreBytes text → more_digits more text ≡ Ok (n, rest) → AreDigits more text n rest
-more_digits-back more [] n rest bytes e = absurd (not_err _ _ e)
-more_digits-back zero (b ∷ bs) n rest bytes e =
-    elim (chosen (nat_lt b 128) (if◌then◌else◌ {A = Result (ℕ × List ℕ) Why} (b == 0) (Err why.DeltaNotShortest) (Ok (b, bs))) (Err why.DeltaTooLong) (Ok (n, rest)) e) [
-      | inl small ↦ last_by zero b bs n rest (ltb-true b 128 small.0) small.1
-      | inr wrong ↦ absurd (not_err _ _ wrong.1)
-    ]
-more_digits-back (suc more) (b ∷ bs) n rest bytes e =
-    elim (chosen (nat_lt b 128) (if◌then◌else◌ {A = Result (ℕ × List ℕ) Why} (b == 0) (Err why.DeltaNotShortest) (Ok (b, bs))) (◌>>=◌ {A = ℕ × List ℕ} {B = ℕ × List ℕ} {E = Why} (more_digits more bs) (λ x. Ok ((b - 128) + 128 * x.0, x.1))) (Ok (n, rest)) e) [
-      | inl small ↦ last_by (suc more) b bs n rest (ltb-true b 128 small.0) small.1
-      | inr large ↦
-          let p = more_by more b bs n rest (more_digits more bs) (ltb-false b 128 large.0) bytes.0 (λ m after f. more_digits-back more bs m after bytes.1 f) large.1 in
-          record { parts = p.0; some = p.1 }
-    ]
-
 -- a delta at the front of a text
-pub delta-back : (text : List ℕ) (n : ℕ) (rest : List ℕ) → AreBytes text → delta_at text ≡ Ok (n, rest) → text ≡ delta n ++ rest
+told_back : (r : Result (ℕ × List ℕ) DeltaFault) (x : ℕ × List ℕ) → delta_told r ≡ Ok x → r ≡ Ok x
+told_back (Ok y) x e = ap (λ (p : ℕ × List ℕ). Ok p) (ok_same y x e)
+told_back (Err f) x e = absurd (not_err _ _ e)
+
+delta-back : (text : List ℕ) (n : ℕ) (rest : List ℕ) → AreBytes text → delta_at text ≡ Ok (n, rest) → text ≡ delta n ++ rest
 unfolding delta_at
-delta-back [] n rest bytes e = absurd (not_err _ _ e)
-delta-back (b ∷ bs) n rest bytes e =
-    elim (chosen (nat_lt b 128) (Ok (b, bs)) (◌>>=◌ {A = ℕ × List ℕ} {B = ℕ × List ℕ} {E = Why} (more_digits 3 bs) (λ x. Ok ((b - 128) + 128 * x.0, x.1))) (Ok (n, rest)) e) [
-      | inl small ↦
-          let is : (b, bs) ≡ (n, rest) = ok_same (b, bs) (n, rest) small.1 in
-          subst (λ (p : ℕ × List ℕ). b ∷ bs ≡ delta p.0 ++ p.1) is (ap (λ (l : List ℕ). l ++ bs) (sym (digits-one 4 b (ltb-true b 128 small.0))))
-      | inr large ↦
-          (more_by 3 b bs n rest (more_digits 3 bs) (ltb-false b 128 large.0) bytes.0 (λ m after f. more_digits-back 3 bs m after bytes.1 f) large.1).0
-    ]
+delta-back text n rest bytes e = number-back text n rest bytes (told_back (number_at text) (n, rest) e)
 
 -- the operands of a gate
 taken_twice : (a d : ℕ) → d ≤ a → a - (a - d) ≡ d

@@ -1,7 +1,6 @@
 mod LineLemmas
 mod PenLemmas
 mod SectionLemmas
-mod DeltaLemmas
 mod FormLemmas
 mod FieldLemmas
 mod GateLemmas
@@ -21,7 +20,6 @@ mod ReadStandsLemmas
 mod FieldCutLemmas
 mod FrontLemmas
 mod PassLemmas
-mod DigitReadLemmas
 mod TakeLemmas
 mod PropertyListLemmas
 mod NamingLemmas

@@ -27,7 +27,8 @@ use Rattle.aigertext.specs.Spelling.{IsHeader, AreNextLines, GiveNames, Given, I
 use Rattle.aigertext.specs.Reading.{Properties, lists_of, line_at, literal_of, size_within, size_of, literals_at, sizes_at, nexts_at, gates_at, properties_at, nameless, binary_at, names_at, header_of}
 use Rattle.aigertext.proofs.BackLemmas.{ok_same, not_err, bind-back, bind-then, lines-back, within-back, literals-back, sizes-back, SaysAt, line-back}
 use Rattle.aigertext.proofs.FieldLemmas.{joined, numbers_line-joined}
-use Rattle.aigertext.proofs.GateBackLemmas.{AreBytes, bytes_behind, AreGatesAt, gates-back}
+use Rattle.deltas.proofs.BackLemmas.{AreBytes}
+use Rattle.aigertext.proofs.GateBackLemmas.{bytes_behind, AreGatesAt, gates-back}
 use Rattle.aigertext.proofs.HeaderBackLemmas.{HeaderBack, header-back, AreCounts}
 use Rattle.aigertext.proofs.LatchBackLemmas.{AreLatchesAt, latches-back}
 use Rattle.aigertext.proofs.NameBackLemmas.{names-back}

@@ -1,20 +1,12 @@
 -- The text of a circuit in both forms ("AIGER 1.9 and Beyond", ascii and binary format): the one spelling that the writer gives.
-use Rattle.std.specs.Prelude.{ℕ, suc, zero, ◌+◌, ◌-◌, ◌*◌, ◌/◌, ◌%◌, List, [], ◌∷◌, ◌++◌, length, nat_lt, if◌then◌else◌}
+use Rattle.std.specs.Prelude.{ℕ, suc, ◌+◌, ◌-◌, ◌*◌, List, [], ◌∷◌, ◌++◌, length}
+use Rattle.deltas.specs.Deltas.{delta}
 use Rattle.aiger.specs.declared.circuit.Gate.{Gate}
 use Rattle.aiger.specs.declared.circuit.Latch.{Latch}
 use Rattle.aiger.specs.Circuit.{Circuit}
 use Rattle.aigertext.specs.declared.forms.Form.{Form}
 use Rattle.aigertext.specs.declared.forms.Form.TheVariants.{Ascii, Binary}
 use Rattle.aigertext.specs.Ascii.{header, numbers_line, reset_numbers, input_lines, property_lines, all_names}
-
--- the digits of a number to base 128, lowest first: all but the last have the top bit; there are so many more than one at most
-abbrev pub digits_128 : ℕ → ℕ → List ℕ
-digits_128 zero n = n ∷ []
-digits_128 (suc more) n = if nat_lt n 128 then n ∷ [] else (n % 128 + 128) ∷ digits_128 more (n / 128)
-
--- the bytes of a delta, a number of at most five digits
-abbrev pub delta : ℕ → List ℕ
-delta n = digits_128 4 n
 
 -- the lines of so many inputs in a form: the binary one has none
 abbrev pub inputs_text : Form → ℕ → List ℕ

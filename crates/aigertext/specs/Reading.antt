@@ -4,6 +4,9 @@ use Rattle.std.specs.List.{find, list_all, sum}
 use Rattle.std.specs.Str.{bytes_eq}
 use Rattle.base.specs.Lines.{text_of_lines, onto_first, whole_lines, unfinished}
 use Rattle.base.specs.Decimals.{number_of}
+use Rattle.deltas.specs.declared.reading.DeltaFault.{DeltaFault}
+use Rattle.deltas.specs.declared.reading.DeltaFault.TheVariants as delta_fault
+use Rattle.deltas.specs.Deltas.{number_at}
 use Rattle.aiger.specs.declared.circuit.Gate.{Gate}
 use Rattle.aiger.specs.declared.circuit.Latch.{Latch}
 use Rattle.aiger.specs.declared.circuit.Reset.{Reset}
@@ -197,18 +200,20 @@ sizes_at before n text = lines_at size_of (λ b size. b + size) before n text
 
 -- ---- gates of the binary form
 
--- the digits of a delta behind its first one, of which so many more may follow, and the text behind them
-abbrev pub more_digits : ℕ → List ℕ → Result (ℕ × List ℕ) Why
-more_digits more [] = Err why.Truncated
-more_digits zero (b ∷ bs) = if nat_lt b 128 then (if b == 0 then Err why.DeltaNotShortest else Ok (b, bs)) else Err why.DeltaTooLong
-more_digits (suc more) (b ∷ bs) =
-    if nat_lt b 128 then (if b == 0 then Err why.DeltaNotShortest else Ok (b, bs))
-    else (more_digits more bs >>= (λ x. Ok ((b - 128) + 128 * x.0, x.1)))
+-- why a delta is none
+abbrev pub delta_why : DeltaFault → Why
+delta_why delta_fault.Truncated = why.Truncated
+delta_why delta_fault.NotShortest = why.DeltaNotShortest
+delta_why delta_fault.TooLong = why.DeltaTooLong
+
+-- what was read of a delta, whose why is one of a circuit's text
+abbrev pub delta_told : Result (ℕ × List ℕ) DeltaFault → Result (ℕ × List ℕ) Why
+delta_told (Ok x) = Ok x
+delta_told (Err e) = Err (delta_why e)
 
 -- a delta, and the text behind it
 unfoldable pub delta_at : List ℕ → Result (ℕ × List ℕ) Why
-delta_at [] = Err why.Truncated
-delta_at (b ∷ bs) = if nat_lt b 128 then Ok (b, bs) else (more_digits 3 bs >>= (λ x. Ok ((b - 128) + 128 * x.0, x.1)))
+delta_at text = delta_told (number_at text)
 
 -- the greater operand of a gate with this literal, and the text behind its delta
 abbrev pub below : ℕ → ℕ × List ℕ → Result (ℕ × List ℕ) Why

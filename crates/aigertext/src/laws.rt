@@ -2,7 +2,7 @@
 ghost use Rattle.std.specs.Prelude.{◌≡◌, ℕ, ◌<◌, All, List, [], ◌∷◌, ◌++◌, Result, Ok, Err, codes};
 ghost use Rattle.aiger.specs.Circuit.{Circuit, IsCircuit};
 ghost use Rattle.aigertext.specs.Ascii.{numbers_line, without_zero_tail, name_line};
-ghost use Rattle.aigertext.specs.Binary.{delta, ascii_text, binary_text, circuit_text};
+ghost use Rattle.aigertext.specs.Binary.{ascii_text, binary_text, circuit_text};
 ghost use Rattle.aigertext.specs.Reading.{stop, line_at, header_of};
 ghost use Rattle.aigertext.specs.declared.forms.Form.{Form};
 ghost use Rattle.aigertext.specs.declared.forms.Form.TheVariants as form;
@@ -36,16 +36,6 @@ pub fn worked_lines()
     ensures no_name { name_line 98 12 None ≡ [] }
 {}
 
-/// Worked rows: the bytes of deltas, on both sides of each number of digits.
-pub fn worked_deltas()
-    ensures least { delta 0 ≡ 0 ∷ [] }
-    ensures one_digit { (delta 2 ≡ 2 ∷ []) × (delta 127 ≡ 127 ∷ []) }
-    ensures two_digits { (delta 128 ≡ 128 ∷ 1 ∷ []) × (delta 130 ≡ 130 ∷ 1 ∷ []) × (delta 16383 ≡ 255 ∷ 127 ∷ []) }
-    ensures three_digits { (delta 16384 ≡ 128 ∷ 128 ∷ 1 ∷ []) × (delta 2097151 ≡ 255 ∷ 255 ∷ 127 ∷ []) }
-    ensures four_digits { (delta 2097152 ≡ 128 ∷ 128 ∷ 128 ∷ 1 ∷ []) × (delta 268435455 ≡ 255 ∷ 255 ∷ 255 ∷ 127 ∷ []) }
-    ensures five_digits { (delta 268435456 ≡ 128 ∷ 128 ∷ 128 ∷ 128 ∷ 1 ∷ []) × (delta 2147483648 ≡ 128 ∷ 128 ∷ 128 ∷ 128 ∷ 8 ∷ []) }
-{}
-
 /// Worked rows: binary texts of the same circuits, and of a gate that is an output.
 pub fn worked_binary_texts()
     ensures toggler { binary_text toggler ≡ codes "aig 1 0 1 0 0 1\n3\n2\nl0 t[0]\n" }
@@ -56,7 +46,7 @@ pub fn worked_binary_texts()
 {}
 
 /// Worked rows: binary texts that are read, in the writer's spelling and in others.
-#[tactic(auto, unfolding(crate::specs::AsciiReading::AnswersText, crate::specs::Reading::binary_at, crate::specs::Reading::properties_at, crate::specs::Reading::name_on, crate::specs::Reading::section_of, crate::specs::Reading::gate_at, crate::specs::Reading::delta_at, crate::specs::Reading::size_of, crate::specs::Reading::next_fields, crate::specs::Reading::literal_of, crate::specs::Reading::header_fields, crate::specs::Reading::form_of, crate::specs::Reading::fitting, crate::specs::Reading::counts_of, base::specs::Decimals::number_of, base::specs::Decimals::capped_value, base::specs::Decimals::is_decimal))]
+#[tactic(auto, unfolding(crate::specs::AsciiReading::AnswersText, crate::specs::Reading::binary_at, crate::specs::Reading::properties_at, crate::specs::Reading::name_on, crate::specs::Reading::section_of, crate::specs::Reading::gate_at, crate::specs::Reading::delta_at, deltas::specs::Deltas::number_at, crate::specs::Reading::size_of, crate::specs::Reading::next_fields, crate::specs::Reading::literal_of, crate::specs::Reading::header_fields, crate::specs::Reading::form_of, crate::specs::Reading::fitting, crate::specs::Reading::counts_of, base::specs::Decimals::number_of, base::specs::Decimals::capped_value, base::specs::Decimals::is_decimal))]
 pub fn worked_binary_readings()
     ensures toggler { AnswersText ((codes "aig 1 0 1 0 0 1\n3\n2\nl0 t[0]\n")) (Ok toggler) }
     ensures spelled_out { AnswersText ((codes "aig 1 0 1 0 0 1 0 0 0\n3 0\n2\nl0 t[0]\nc\nany")) (Ok toggler) }
@@ -67,7 +57,7 @@ pub fn worked_binary_readings()
 {}
 
 /// Worked rows: where reading a binary text stops, in bytes before the end, and why.
-#[tactic(auto, unfolding(crate::specs::AsciiReading::AnswersText, crate::specs::Reading::binary_at, crate::specs::Reading::properties_at, crate::specs::Reading::name_on, crate::specs::Reading::section_of, crate::specs::Reading::gate_at, crate::specs::Reading::delta_at, crate::specs::Reading::size_of, crate::specs::Reading::next_fields, crate::specs::Reading::literal_of, crate::specs::Reading::header_fields, crate::specs::Reading::form_of, crate::specs::Reading::fitting, crate::specs::Reading::counts_of, base::specs::Decimals::number_of, base::specs::Decimals::capped_value, base::specs::Decimals::is_decimal))]
+#[tactic(auto, unfolding(crate::specs::AsciiReading::AnswersText, crate::specs::Reading::binary_at, crate::specs::Reading::properties_at, crate::specs::Reading::name_on, crate::specs::Reading::section_of, crate::specs::Reading::gate_at, crate::specs::Reading::delta_at, deltas::specs::Deltas::number_at, crate::specs::Reading::size_of, crate::specs::Reading::next_fields, crate::specs::Reading::literal_of, crate::specs::Reading::header_fields, crate::specs::Reading::form_of, crate::specs::Reading::fitting, crate::specs::Reading::counts_of, base::specs::Decimals::number_of, base::specs::Decimals::capped_value, base::specs::Decimals::is_decimal))]
 pub fn worked_binary_faults()
     ensures header { AnswersText ((codes "aig 1 1 0 0\n")) (Err (record { left = 12; why = why.BadHeader })) }
     ensures two_spaces { AnswersText ((codes "aig 0  0 0 0 0\n")) (Err (record { left = 15; why = why.BadHeader })) }

@@ -3,66 +3,246 @@
 use orders::{Given, Task};
 use wave::Shown;
 
-/// What a command writes.
-#[derive(Clone, Copy, PartialEq, Eq)]
-pub(crate) enum Product {
-    /// A line or a few.
-    Lines,
-    /// A text.
-    Text,
-    /// A circuit, in one of two forms.
-    Circuit,
+/// What a word of a command is.
+#[derive(Clone, Copy)]
+pub(crate) enum Kind {
+    /// It stands for a file.
+    File,
+    /// A flag.
+    Flag,
+    /// A flag that goes with another.
+    FlagWith(&'static str),
+    /// An option with a value of this name.
+    Value(&'static str),
+    /// An option with a value of this name, which has a letter too.
+    Letter(char, &'static str),
 }
 
-/// What engine forms are to a command.
-#[derive(Clone, Copy, PartialEq, Eq)]
-pub(crate) enum Engine {
-    /// Nothing.
-    Unknown,
-    /// It writes one where that is asked for.
-    Written,
-    /// It reads a counterexample over one.
-    Read,
-    /// It reads a counterexample over one where that is asked for.
-    ReadWhereAsked,
-    /// It reads an invariant over one.
-    Owed,
-    /// It reads an invariant over one, and a proof.
-    Certified,
+/// A word of a command: its name, what it is, and what help says of it.
+#[derive(Clone, Copy)]
+pub(crate) struct Word {
+    pub(crate) name: &'static str,
+    pub(crate) kind: Kind,
+    pub(crate) help: &'static str,
 }
 
-/// A command of this program: its word, its task, what help says of it, and its files.
+/// A command of this program: its word, its task, what help says of it, and its words, of which the first stands for its
+/// first file.
 pub(crate) struct Row {
     pub(crate) word: &'static str,
     pub(crate) task: Task,
     pub(crate) about: &'static str,
-    /// The first file: its name and what help says of it.
-    pub(crate) file: (&'static str, &'static str),
-    /// The second file, where the command has one.
-    pub(crate) witness: Option<&'static str>,
-    /// What is written.
-    pub(crate) product: Product,
-    /// What engine forms are to it.
-    pub(crate) engine: Engine,
+    pub(crate) words: &'static [Word],
 }
 
-/// The first file of commands on models, and what help says of it.
-const MODEL: (&str, &str) = (
-    "MODEL",
-    "The file of a BTOR2 model, or - for standard input",
-);
+/// The name of the second file of a command that has one.
+pub(crate) const WITNESS: &str = "WITNESS";
+
+/// The names of the second and the third file of a command on certificates.
+pub(crate) const INVARIANT: &str = "INVARIANT";
+
+pub(crate) const PROOF: &str = "PROOF";
+
+/// The name of the option for the file that a result goes to.
+pub(crate) const OUTPUT: &str = "output";
+
+/// The flags that choose the form of a circuit that is written.
+pub(crate) const ASCII: &str = "ascii";
+
+pub(crate) const BINARY: &str = "binary";
+
+/// The flag for a dump of all nodes that have a value.
+pub(crate) const ALL: &str = "all";
+
+/// The flag for names.
+pub(crate) const NAMES: &str = "names";
+
+/// The flag that leaves out how far work is.
+pub(crate) const QUIET: &str = "quiet";
+
+/// The flag for a circuit in place of a model.
+pub(crate) const AIGER: &str = "aiger";
+
+/// The flag for the engine form of a circuit, and the option for the bad property that it keeps.
+pub(crate) const ENGINE: &str = "engine";
+
+pub(crate) const BAD: &str = "bad";
+
+/// The flag for a counterexample in the form that ABC writes.
+pub(crate) const ABC: &str = "abc";
+
+/// The first file of commands on models.
+const MODEL_FILE: Word = Word {
+    name: "MODEL",
+    kind: Kind::File,
+    help: "The file of a BTOR2 model, or - for standard input",
+};
 
 /// The first file of commands on circuits.
-const CIRCUIT: (&str, &str) = (
-    "CIRCUIT",
-    "The file of an AIGER circuit of either form, or - for standard input",
-);
+const CIRCUIT_FILE: Word = Word {
+    name: "CIRCUIT",
+    kind: Kind::File,
+    help: "The file of an AIGER circuit of either form, or - for standard input",
+};
 
-/// What help says of a witness of a model.
-const BTOR_WITNESS: &str = "The file of a BTOR2 witness, or - for standard input";
+/// The file of lines of vectors.
+const VECTOR_FILE: Word = Word {
+    name: "FILE",
+    kind: Kind::File,
+    help: "The file of vector lines, or - for standard input",
+};
 
-/// What help says of a witness of a circuit.
-const AIGER_WITNESS: &str = "The file of an AIGER witness, or - for standard input";
+/// A witness of a model.
+const BTOR_WITNESS: Word = Word {
+    name: WITNESS,
+    kind: Kind::File,
+    help: "The file of a BTOR2 witness, or - for standard input",
+};
+
+/// A witness of a circuit.
+const AIGER_WITNESS: Word = Word {
+    name: WITNESS,
+    kind: Kind::File,
+    help: "The file of an AIGER witness, or - for standard input",
+};
+
+/// What is restored.
+const FORM_WITNESS: Word = Word {
+    name: WITNESS,
+    kind: Kind::File,
+    help: "The file of an AIGER witness of the engine form, or with --abc of what ABC writes, or - for standard input",
+};
+
+/// An invariant.
+const INVARIANT_FILE: Word = Word {
+    name: INVARIANT,
+    kind: Kind::File,
+    help: "The file of an invariant over the engine form of the bad property, as ABC writes it by pdr -d -I, or - for standard input",
+};
+
+/// A proof.
+const PROOF_FILE: Word = Word {
+    name: PROOF,
+    kind: Kind::File,
+    help: "The file of a proof of the obligation, in ascii DRAT, or - for standard input",
+};
+
+/// That it is not told how far work is.
+const QUIET_FLAG: Word = Word {
+    name: QUIET,
+    kind: Kind::Flag,
+    help: "Do not tell on a terminal how far work is that takes more than two seconds",
+};
+
+/// The file that a result goes to.
+const OUTPUT_FILE: Word = Word {
+    name: OUTPUT,
+    kind: Kind::Letter('o', "FILE"),
+    help: "Write to this file, which is made or replaced only when all is written; - is standard output",
+};
+
+/// The forms of a circuit that is written.
+const ASCII_FLAG: Word = Word {
+    name: ASCII,
+    kind: Kind::Flag,
+    help: "Write the ascii form (the default)",
+};
+
+const BINARY_FLAG: Word = Word {
+    name: BINARY,
+    kind: Kind::Flag,
+    help: "Write the binary form",
+};
+
+/// What a dump shows.
+const ALL_FLAG: Word = Word {
+    name: ALL,
+    kind: Kind::Flag,
+    help: "Show every node that has a value, not only those with a symbol",
+};
+
+/// Names, with a judgement over a model, over a circuit, with what is lifted, and with a certificate.
+const MODEL_NAMES: Word = Word {
+    name: NAMES,
+    kind: Kind::Flag,
+    help: "Say on standard error which line of the model the judgement is about, by its symbol and its id",
+};
+
+const CIRCUIT_NAMES: Word = Word {
+    name: NAMES,
+    kind: Kind::Flag,
+    help: "Say on standard error which name the judgement is about",
+};
+
+const LIFTED_NAMES: Word = Word {
+    name: NAMES,
+    kind: Kind::Flag,
+    help: "Write symbols behind words, and say on standard error which line of the model the judgement is about",
+};
+
+const CERTIFIED_NAMES: Word = Word {
+    name: NAMES,
+    kind: Kind::Flag,
+    help: "Say on standard error which line of the model, or name of the circuit, the bad property is that holds",
+};
+
+/// An engine form that is written where it is asked for, and the bad property that it keeps.
+const WRITTEN_FORM: Word = Word {
+    name: ENGINE,
+    kind: Kind::Flag,
+    help: "Write a circuit that every engine reads alike: latches begin with 0, and there are bad properties alone",
+};
+
+const WRITTEN_BAD: Word = Word {
+    name: BAD,
+    kind: Kind::Value("K"),
+    help: "With --engine, keep the bad property at this position alone, from 0",
+};
+
+/// A witness of an engine form, where it is asked for.
+const ASKED_FORM: Word = Word {
+    name: ENGINE,
+    kind: Kind::Flag,
+    help: "The witness is one of the engine form of the model's circuit",
+};
+
+const ASKED_ABC: Word = Word {
+    name: ABC,
+    kind: Kind::FlagWith(ENGINE),
+    help: "With --engine, the counterexample is in the form that ABC writes",
+};
+
+const ASKED_BAD: Word = Word {
+    name: BAD,
+    kind: Kind::Value("K"),
+    help: "With --engine, the position of the bad property that the form was made for, from 0; with --abc it says which is claimed, and is needed where the model has more than one",
+};
+
+/// A witness of an engine form, for a command that reads nothing else.
+const READ_ABC: Word = Word {
+    name: ABC,
+    kind: Kind::Flag,
+    help: "The witness is a counterexample in the form that ABC writes by write_cex -a",
+};
+
+const READ_BAD: Word = Word {
+    name: BAD,
+    kind: Kind::Value("K"),
+    help: "The position of the bad property that the form was made for, from 0; with --abc it says which is claimed, and is needed where the circuit has more than one",
+};
+
+/// What a certificate is of.
+const AIGER_FLAG: Word = Word {
+    name: AIGER,
+    kind: Kind::Flag,
+    help: "The first file is an AIGER circuit of either form",
+};
+
+const CLAIMED_BAD: Word = Word {
+    name: BAD,
+    kind: Kind::Value("K"),
+    help: "The position of the bad property that is claimed, from 0; needed where there is more than one",
+};
 
 /// The commands, in the order in which help lists them.
 pub(crate) static ROWS: [Row; 12] = [
@@ -70,111 +250,120 @@ pub(crate) static ROWS: [Row; 12] = [
         word: "lower",
         task: Task::Lower,
         about: "Lower a BTOR2 model to an AIGER circuit on standard output",
-        file: MODEL,
-        witness: None,
-        product: Product::Circuit,
-        engine: Engine::Written,
+        words: &[
+            MODEL_FILE,
+            QUIET_FLAG,
+            OUTPUT_FILE,
+            ASCII_FLAG,
+            BINARY_FLAG,
+            WRITTEN_FORM,
+            WRITTEN_BAD,
+        ],
     },
     Row {
         word: "check-btor",
         task: Task::CheckBtor,
         about: "Judge a BTOR2 witness over a model",
-        file: MODEL,
-        witness: Some(BTOR_WITNESS),
-        product: Product::Lines,
-        engine: Engine::Unknown,
+        words: &[MODEL_FILE, QUIET_FLAG, BTOR_WITNESS, MODEL_NAMES],
     },
     Row {
         word: "show",
         task: Task::Show,
         about: "Write a BTOR2 model in the one spelling that this program gives",
-        file: MODEL,
-        witness: None,
-        product: Product::Text,
-        engine: Engine::Unknown,
+        words: &[MODEL_FILE, QUIET_FLAG, OUTPUT_FILE],
     },
     Row {
         word: "cost",
         task: Task::Cost,
         about: "Tell how many gates and variables the circuit of a BTOR2 model has at most",
-        file: MODEL,
-        witness: None,
-        product: Product::Lines,
-        engine: Engine::Unknown,
+        words: &[MODEL_FILE, QUIET_FLAG],
     },
     Row {
         word: "aig-convert",
         task: Task::AigConvert,
         about: "Write an AIGER circuit of either form in one, its variables numbered as in the binary form",
-        file: CIRCUIT,
-        witness: None,
-        product: Product::Circuit,
-        engine: Engine::Written,
+        words: &[
+            CIRCUIT_FILE,
+            QUIET_FLAG,
+            OUTPUT_FILE,
+            ASCII_FLAG,
+            BINARY_FLAG,
+            WRITTEN_FORM,
+            WRITTEN_BAD,
+        ],
     },
     Row {
         word: "check-aig",
         task: Task::CheckAig,
         about: "Judge an AIGER witness over a circuit",
-        file: CIRCUIT,
-        witness: Some(AIGER_WITNESS),
-        product: Product::Lines,
-        engine: Engine::Unknown,
+        words: &[CIRCUIT_FILE, QUIET_FLAG, AIGER_WITNESS, CIRCUIT_NAMES],
     },
     Row {
         word: "lift",
         task: Task::Lift,
         about: "Lift an AIGER witness of a model's circuit to a BTOR2 witness on standard output",
-        file: MODEL,
-        witness: Some(AIGER_WITNESS),
-        product: Product::Text,
-        engine: Engine::ReadWhereAsked,
+        words: &[
+            MODEL_FILE,
+            QUIET_FLAG,
+            AIGER_WITNESS,
+            OUTPUT_FILE,
+            LIFTED_NAMES,
+            ASKED_FORM,
+            ASKED_ABC,
+            ASKED_BAD,
+        ],
     },
     Row {
         word: "restore",
         task: Task::Restore(None),
         about: "Restore a witness of the engine form of a circuit to an AIGER witness of the circuit on standard output",
-        file: CIRCUIT,
-        witness: Some(
-            "The file of an AIGER witness of the engine form, or with --abc of what ABC writes, or - for standard input",
-        ),
-        product: Product::Text,
-        engine: Engine::Read,
+        words: &[
+            CIRCUIT_FILE,
+            QUIET_FLAG,
+            FORM_WITNESS,
+            OUTPUT_FILE,
+            READ_ABC,
+            READ_BAD,
+        ],
     },
     Row {
         word: "wave",
         task: Task::Wave(Shown::Named),
         about: "Judge a BTOR2 witness over a model, and write its frames as a value change dump (VCD) to standard output",
-        file: MODEL,
-        witness: Some(BTOR_WITNESS),
-        product: Product::Text,
-        engine: Engine::Unknown,
+        words: &[MODEL_FILE, QUIET_FLAG, BTOR_WITNESS, OUTPUT_FILE, ALL_FLAG],
     },
     Row {
         word: "obligation",
         task: Task::Obligation(Given::Model, None),
         about: "Write the formula that nothing satisfies where an invariant shows that a bad property never rises, in DIMACS on standard output",
-        file: MODEL,
-        witness: None,
-        product: Product::Text,
-        engine: Engine::Owed,
+        words: &[
+            MODEL_FILE,
+            QUIET_FLAG,
+            OUTPUT_FILE,
+            INVARIANT_FILE,
+            AIGER_FLAG,
+            CLAIMED_BAD,
+        ],
     },
     Row {
         word: "check-proof",
         task: Task::CheckProof(Given::Model, None),
         about: "Judge an invariant and a proof of its obligation: whether a bad property never rises",
-        file: MODEL,
-        witness: None,
-        product: Product::Lines,
-        engine: Engine::Certified,
+        words: &[
+            MODEL_FILE,
+            QUIET_FLAG,
+            CERTIFIED_NAMES,
+            INVARIANT_FILE,
+            AIGER_FLAG,
+            CLAIMED_BAD,
+            PROOF_FILE,
+        ],
     },
     Row {
         word: "vectors",
         task: Task::Vectors,
         about: "Compare what operators give, in the evaluator and in a circuit, with lines of vectors",
-        file: ("FILE", "The file of vector lines, or - for standard input"),
-        witness: None,
-        product: Product::Lines,
-        engine: Engine::Unknown,
+        words: &[VECTOR_FILE, QUIET_FLAG],
     },
 ];
 

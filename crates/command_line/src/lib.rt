@@ -1,7 +1,6 @@
 //! The words of the command line: the orders that they give, or what stands in place of one, as help and what refusals mean.
 #![tactic(auto)]
 
-mod arguments;
 mod command_table;
 mod engine_words;
 mod explaining;

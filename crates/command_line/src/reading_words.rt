@@ -3,9 +3,11 @@
 ghost use Rattle.std.specs.Prelude.{◌≡◌, IfOk, false, option_map};
 ghost use Rattle.orders.specs.Files.{names_standard_input, reads_input_twice};
 
-use crate::arguments::{file_name, flag};
-use crate::command_table::{Product, ROWS, Row, row_of};
-use crate::engine_words::{INVARIANT, PROOF, engine_properties, with_engine, with_engine_words};
+use crate::command_table::{
+    ALL, ASCII, BINARY, INVARIANT, Kind, NAMES, OUTPUT, PROOF, QUIET, ROWS, Row, WITNESS, Word,
+    row_of,
+};
+use crate::engine_words::{engine_properties, with_engine};
 use crate::explaining::explain;
 use crate::explanations::refusal_table;
 use aigertext::Form;
@@ -51,133 +53,40 @@ const INPUT_TWICE: &str = "words: standard input is read once, so - stands for o
 /// What is told of words that choose both forms of a circuit.
 const TWO_FORMS: &str = "words: choose one form\n";
 
-/// The flags that choose the form of a circuit that is written.
-const ASCII: &str = "ascii";
-
-const BINARY: &str = "binary";
-
-/// The name of the second file of a command that has one.
-const WITNESS: &str = "WITNESS";
-
-/// The name of the option for the file that a result goes to.
-const OUTPUT: &str = "output";
-
-/// The flag for a dump of all nodes that have a value.
-const ALL: &str = "all";
-
-/// The flag for names.
-const NAMES: &str = "names";
-
-/// The flag that leaves out how far work is.
-const QUIET: &str = "quiet";
-
 /// The word that asks what refusals mean, and the name of the number or the name that may stand behind it.
 const EXPLAIN: &str = "explain";
 
 const REFUSAL: &str = "REFUSAL";
 
-/// The option for the file that a result goes to.
-fn output_option<'a>(alloc: Global) -> Arg<'a> {
-    Arg::new(alloc, OUTPUT)
-        .short('o')
-        .long(OUTPUT)
-        .value_name("FILE")
-        .action(ArgAction::Set)
-        .help(
-            "Write to this file, which is made or replaced only when all is written; - is standard output",
-        )
+/// What a word of a command is to the parser.
+fn arg_of<'a>(alloc: Global, word: &'a Word) -> Result<Arg<'a>, AllocError> {
+    let arg = Arg::new(alloc, word.name).help(word.help);
+    match word.kind {
+        Kind::File => Ok(arg.required(true).action(ArgAction::Set)),
+        Kind::Flag => Ok(arg.long(word.name).action(ArgAction::SetTrue)),
+        Kind::FlagWith(other) => arg
+            .long(word.name)
+            .action(ArgAction::SetTrue)
+            .requires_arg(other),
+        Kind::Value(value) => Ok(arg.long(word.name).value_name(value).action(ArgAction::Set)),
+        Kind::Letter(letter, value) => Ok(
+            arg.short(letter)
+                .long(word.name)
+                .value_name(value)
+                .action(ArgAction::Set),
+        ),
+    }
 }
 
 /// The words of a command.
 fn command_of<'a>(alloc: Global, row: &'a Row) -> Result<Command<'a>, AllocError> {
-    let (name, help) = row.file;
-    let command = Command::new(alloc, row.word)
+    let mut command = Command::new(alloc, row.word)
         .about(row.about)
-        .after_help(HELP_END)
-        .arg(file_name(alloc, name, help))?
-        .arg(flag(
-            alloc,
-            QUIET,
-            "Do not tell on a terminal how far work is that takes more than two seconds",
-        ))?;
-    let command = with_witness(alloc, command, row)?;
-    let command = with_product(alloc, command, row.product)?;
-    let command = with_shown(alloc, command, row.task)?;
-    let command = with_name_word(alloc, command, row.task)?;
-    with_engine_words(alloc, command, row.engine)
-}
-
-/// These words with that for a witness, where a command reads one.
-fn with_witness<'a>(
-    alloc: Global,
-    command: Command<'a>,
-    row: &'a Row,
-) -> Result<Command<'a>, AllocError> {
-    match row.witness {
-        Some(help) => command.arg(file_name(alloc, WITNESS, help)),
-        None => Ok(command),
+        .after_help(HELP_END);
+    for word in row.words {
+        command = command.arg(arg_of(alloc, word)?)?;
     }
-}
-
-/// These words with those for what a command writes.
-fn with_product<'a>(
-    alloc: Global,
-    command: Command<'a>,
-    product: Product,
-) -> Result<Command<'a>, AllocError> {
-    match product {
-        Product::Lines => Ok(command),
-        Product::Text => command.arg(output_option(alloc)),
-        Product::Circuit => command
-            .arg(output_option(alloc))?
-            .arg(flag(alloc, ASCII, "Write the ascii form (the default)"))?
-            .arg(flag(alloc, BINARY, "Write the binary form")),
-    }
-}
-
-/// These words with that for what a dump shows.
-fn with_shown<'a>(
-    alloc: Global,
-    command: Command<'a>,
-    task: Task,
-) -> Result<Command<'a>, AllocError> {
-    if task != Task::Wave(Shown::Named) {
-        return Ok(command);
-    }
-    command.arg(flag(
-        alloc,
-        ALL,
-        "Show every node that has a value, not only those with a symbol",
-    ))
-}
-
-/// These words with that for names, where a command knows them.
-fn with_name_word<'a>(
-    alloc: Global,
-    command: Command<'a>,
-    task: Task,
-) -> Result<Command<'a>, AllocError> {
-    match help_of_names(task) {
-        Some(help) => command.arg(flag(alloc, NAMES, help)),
-        None => Ok(command),
-    }
-}
-
-/// What help says of names, for a command that knows them.
-fn help_of_names<'a>(task: Task) -> Option<&'a str> {
-    match task {
-        Task::CheckBtor => Some(
-            "Say on standard error which line of the model the judgement is about, by its symbol and its id",
-        ),
-        Task::CheckAig => Some("Say on standard error which name the judgement is about"),
-        Task::Lift => Some(
-            "Write symbols behind words, and say on standard error which line of the model the judgement is about",
-        ),
-        Task::CheckProof(..) => Some(
-            "Say on standard error which line of the model, or name of the circuit, the bad property is that holds",
-        ),
-        _ => None,
-    }
+    Ok(command)
 }
 
 /// The words that ask what refusals mean.
@@ -275,7 +184,7 @@ fn order_of<'a>(
     engine: Option<Option<usize>>,
 ) -> Option<Order<'a>> {
     let row = row_of(word)?;
-    let (name, _) = row.file;
+    let file = row.words.first()?;
     Some(Order {
         task: task_of(row.task, words, engine),
         form: if words.get_flag(BINARY) {
@@ -283,7 +192,7 @@ fn order_of<'a>(
         } else {
             Form::Ascii
         },
-        first: words.get_str(name)?,
+        first: words.get_str(file.name)?,
         second: second_of(words),
         third: words.get_str(PROOF),
         output: output_of(words),

@@ -7,7 +7,7 @@ ghost use Rattle.aigertext.specs.Passes.{with_latches, with_gates};
 ghost use Rattle.aigertext.specs.InOrder.{uses_of, IsFront, text_with, IsFinish, ReadsOnto};
 
 use crate::fault::{Stop, Why};
-use crate::reading::deltas::gate;
+use crate::reading::binary_gates::gate;
 use crate::reading::front::Front;
 use crate::reading::gates::TakesGates;
 use crate::reading::lines::stop;

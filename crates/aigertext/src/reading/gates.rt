@@ -10,7 +10,7 @@ ghost use Rattle.aigertext.specs.declared.forms.Form.{Form as FormValue};
 ghost use Rattle.aigertext.specs.InOrder.{IsLineUpTo, IsPut, IsPutOnLists, PutsText, FollowEachOther};
 
 use crate::forms::Form;
-use crate::reading::deltas::gate;
+use crate::reading::binary_gates::gate;
 use crate::reading::pieces::{PIECE, read_piece, remove_front};
 use crate::reading::plain_numbers::three_numbers;
 use aiger::{Circuit, Gate, Lit, Loose};

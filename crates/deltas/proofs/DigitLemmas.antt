@@ -1,6 +1,6 @@
 -- Laws of deltas and of their digits.
 use Rattle.std.proofs.Common.{◌≡◌, ℕ, zero, suc, ◌+◌, ◌*◌, ◌/◌, ◌%◌, ◌^◌, ◌<◌, ◌≤◌, List, [], ◌∷◌, ◌++◌, length, take, sym, ap, append_assoc, inl, inr, true, false, refl, ◌∙◌, arith, nat_lt}
-use Rattle.aigertext.specs.Binary.{digits_128, delta}
+use Rattle.deltas.specs.Deltas.{digits_128, delta}
 use Rattle.std.proofs.lemmas.Bool.{cases_lt}
 use Rattle.std.proofs.lemmas.Bool.Decides.{nat_tests}
 use Rattle.std.proofs.lemmas.List.{take_more_set, take-set-le, length-set}

@@ -1,6 +1,6 @@
 use Rattle.std.proofs.Common.{arith, ◌+◌, ◌-◌}
-use Rattle.aigertext.proofs.DigitReadLemmas.{power_low, power_high}
-use Rattle.aigertext.proofs.reading.deltas.+more_digits.Goals as goal
+use Rattle.deltas.proofs.DigitReadLemmas.{power_low, power_high}
+use Rattle.deltas.proofs.reading.+more_digits.Goals as goal
 
 pub returns-then-byte-lt128-clause-small : goal.returns-then-byte-lt128-clause-small
 returns-then-byte-lt128-clause-small t c = omega (arith, power_low c.args.more c.requires, c.if-byte-lt128.true, c.from.ensures)

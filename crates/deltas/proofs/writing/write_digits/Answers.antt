@@ -1,9 +1,9 @@
 use Rattle.std.proofs.Common.{◌+◌, ◌/◌, ◌%◌, ◌++◌, take, sym, refl, ap, ◌∙◌, arith}
 use Rattle.std.proofs.lemmas.List.{take_more_set}
 use Rattle.std.proofs.lemmas.Grind.{common_steps}
-use Rattle.aigertext.specs.Binary.{digits_128, delta}
-use Rattle.aigertext.proofs.DeltaLemmas.{digits-one, digit_written}
-use Rattle.aigertext.proofs.writing.gates.write_digits.Goals as goal
+use Rattle.deltas.specs.Deltas.{digits_128, delta}
+use Rattle.deltas.proofs.DigitLemmas.{digits-one, digit_written}
+use Rattle.deltas.proofs.writing.write_digits.Goals as goal
 
 pub loop-rest-init : goal.loop-rest-init
 loop-rest-init c = record { more = 4; written = refl; small = omega (arith, c.ranges.number.fits); room = omega arith; same = refl }

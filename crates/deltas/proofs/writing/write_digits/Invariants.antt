@@ -1,6 +1,6 @@
 use Rattle.std.proofs.Common.{◌≡◌, ℕ, ◌+◌, ◌*◌, ◌^◌, ◌<◌, ◌≤◌, ◌++◌, take, length}
-use Rattle.aigertext.specs.Binary.{digits_128, delta}
-use Rattle.aigertext.proofs.writing.gates.write_digits.Given as goal
+use Rattle.deltas.specs.Deltas.{digits_128, delta}
+use Rattle.deltas.proofs.writing.write_digits.Given as goal
 
 abbrev pub invariant-loop-rest : goal.invariant-loop-rest
 invariant-loop-rest l = record {

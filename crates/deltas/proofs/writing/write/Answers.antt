@@ -1,7 +1,7 @@
 use Rattle.std.proofs.Common.{◌≡◌, ◌<◌, ◌≤◌, arith}
 use Rattle.std.proofs.lemmas.Bool.Decides.{nat_tests}
-use Rattle.aigertext.proofs.DeltaLemmas.{digits_kept}
-use Rattle.aigertext.proofs.writing.gates.write_delta.Goals as goal
+use Rattle.deltas.proofs.DigitLemmas.{digits_kept}
+use Rattle.deltas.proofs.writing.write.Goals as goal
 
 pub returns-clause-bytes : goal.returns-clause-bytes
 returns-clause-bytes c =

@@ -1,0 +1,4 @@
+mod DigitLemmas
+mod DigitReadLemmas
+pub mod ReadLemmas
+pub mod BackLemmas
