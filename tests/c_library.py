@@ -1,14 +1,15 @@
-"""Tries the calls of the library for C programs over the texts of the gate's rows: c_library.py LIBRARY PROGRAM ROWS.
+"""Tries the calls of the library for C programs over the texts of the gate's rows: c_library.py LIBRARY PROGRAM.
 
 Each row of a command that the library has a call for must be answered as the row says; so must it with a buffer that is one
 byte too small, and then with one that fits. The first rows of each command are also tried cut after each byte of each file,
 and compared with what the program prints and answers then. The last line tells how many were tried, and how many were wrong."""
 import ctypes
 import os
-import re
 import subprocess
 import sys
 import tempfile
+
+import rows
 
 CUT_ROWS = 4
 
@@ -126,33 +127,6 @@ def answer(words, first, second):
     return None
 
 
-def unescaped(text):
-    return re.sub(rb"\\(?:x(..)|(.))", lambda found: bytes([int(found[1], 16)]) if found[1] else found[2], text)
-
-
-def rows(path):
-    """The rows: number of the first line, words, first and second file, status, standard output and standard error."""
-    before = b""
-    for block in re.finditer(rb"(?:[^\n]+\n)+", open(path, "rb").read()):
-        words, files, outs, status = None, {b"1": None, b"2": None}, {b"o": b"", b"e": b""}, None
-        for line in block[0].split(b"\n")[:-1]:
-            kind, mark, rest = line[:1], line[1:2], unescaped(line[2:])
-            if kind == b"$":
-                words = unescaped(line[1:]).decode(errors="replace").split()
-            elif kind in files and mark in (b"|", b"/"):
-                files[kind] = (files[kind] or b"") + rest + (b"\n" if mark == b"|" else b"")
-            elif kind == b"1" and mark == b"^":
-                files[b"1"] = before
-            elif kind in outs and mark in (b"|", b"/"):
-                outs[kind] += rest + (b"\n" if mark == b"|" else b"")
-            elif kind == b"=":
-                status = int(line[1:])
-        if words is None:
-            continue
-        before = files[b"1"] if files[b"1"] is not None else before
-        yield words, files[b"1"], files[b"2"], (status, outs[b"o"], outs[b"e"])
-
-
 def printed(program, words, first, second, folder):
     """What the program answers and prints."""
     for name_, text in zip([word for word in words[1:] if not word.startswith("-")], (first, second)):
@@ -163,7 +137,7 @@ def printed(program, words, first, second, folder):
 
 
 def main():
-    program, path = sys.argv[2:4]
+    program = sys.argv[2]
     tried, wrong, cut = 0, 0, {}
 
     def compare(about, expected, got):
@@ -174,7 +148,9 @@ def main():
             print(f"{about}: expected {expected}, got {got}")
 
     with tempfile.TemporaryDirectory() as folder:
-        for words, first, second, expected in rows(path):
+        for row in rows.read_rows():
+            words, (first, second, _) = [word.decode(errors="replace") for word in row.words], row.files
+            expected = row.status, row.out, row.err
             if not words or first is None or (second is None and words[0] in ("check-btor", "check-aig", "lift", "wave")):
                 continue
             got = answer(words, first, second or b"")

@@ -8,7 +8,7 @@ cd "$(dirname "$0")/.."
 program=$(readlink -f "${1:-crates/hwtool/out/hwtool}")
 work=$(mktemp -d)
 trap 'rm -rf "$work"' EXIT
-tools/c-library.sh "$work" 2>"$work/log" || { tail -n 20 "$work/log"; exit 1; }
+tools/release.py --libraries "$work" 2>"$work/log" || { tail -n 20 "$work/log"; exit 1; }
 
 tried=0 wrong=0
 # same NAME EXPECTED GOT: two texts are one
@@ -44,4 +44,4 @@ echo "examples: $tried tried, $wrong wrong"
 "${CC:-cc}" $flags tests/c/refused.c "$work/libhwtool.a" -Wl,--wrap=malloc,--wrap=realloc -o "$work/refused"
 "$work/refused" examples/wraps.btor2 examples/counter.witness examples/twice.aag examples/twice.witness \
     examples/wraps.invariant examples/wraps.proof
-python3 tests/c_library.py "$work/libhwtool.so" "$program" crates/rows/stdin
+python3 tests/c_library.py "$work/libhwtool.so" "$program"

@@ -14,19 +14,20 @@ than one only where processors are free. What is made of a crate stands in its f
 was made from, and is made again where that is another: nothing else is kept, so a crate that changed is proved whole, and so is
 each above it.
 
-On standard error it passes on what the toolchain says of a crate where that is done, and says how many are. The status is 0
-where all stands.
+On standard error it tells how far it is: on a terminal in one line that changes, else in a line a minute at most. What the
+prover says goes into the log `crates/hwtool/out/build.log`, and of a crate that is not proved the last lines are told too. The
+status is 0 where all stands.
 """
 import fcntl
 import functools
 import hashlib
 import os
 import pathlib
+import re
 import shutil
 import signal
 import subprocess
 import sys
-import tempfile
 import time
 
 TOP = pathlib.Path(__file__).resolve().parent.parent
@@ -38,6 +39,8 @@ KIT = pathlib.Path(os.path.realpath(RT)).parent.parent
 NEED = 3_000_000_000
 # What a crate without code takes, in bytes of code that take as long.
 READING = 20_000
+# Of what the prover says of a crate that is not proved, so many lines are told.
+TOLD = 12
 
 
 class Crate:
@@ -93,9 +96,24 @@ class Crate:
         """The file that says what it was made from."""
         return self.proved / "made-from"
 
+    @property
+    def said(self):
+        """The file with what the prover said of it."""
+        return self.proved / "said"
+
+    @property
+    def verdict(self):
+        """The last line that the prover said, `logic=proved functions=8 ..` where it is proved."""
+        return self.said.read_text(errors="replace").rstrip().rpartition("\n")[2]
+
+    @property
+    def functions(self):
+        """How many functions of it are proved."""
+        return int(re.search(r"^logic=proved functions=(\d+)", self.verdict)[1])
+
     def stands(self):
         """Whether what stands was made of what it is made from now."""
-        return self.made.exists() and self.stamp.is_file() and self.stamp.read_text() == self.made_from()
+        return self.made.exists() and self.said.is_file() and self.stamp.is_file() and self.stamp.read_text() == self.made_from()
 
     def command(self, jobs):
         """What proves the crate and makes it."""
@@ -121,18 +139,53 @@ class Check:
         self.crate, self.jobs = crate, jobs
         shutil.rmtree(crate.proved, ignore_errors=True)
         crate.proved.mkdir(parents=True)
-        self.said = tempfile.TemporaryFile("w+", errors="replace")
-        self.run = subprocess.Popen(
-            crate.command(jobs), cwd=crate.folder, stdin=subprocess.DEVNULL, stdout=self.said, stderr=self.said)
+        with open(crate.said, "w") as said:
+            self.run = subprocess.Popen(crate.command(jobs), cwd=crate.folder, stdin=subprocess.DEVNULL, stdout=said, stderr=said)
 
-    def end(self):
-        """Passes on what was said; answers whether the crate is proved."""
-        self.said.seek(0)
-        shutil.copyfileobj(self.said, sys.stderr)
+    def end(self, log):
+        """Puts what was said into the log; answers whether the crate is proved, or else tells the last lines."""
+        said = self.crate.said.read_text(errors="replace")
+        log.write(f"---- crate {self.crate.name}\n{said}")
+        log.flush()
+        if self.run.returncode != 0:
+            telling = [it for it in said.splitlines() if not it.endswith(": proved")]
+            say("\n".join([f"crate {self.crate.name} is not proved:", *telling[-TOLD:], f"all that the prover said: {log.name}"]))
+            return False
         # what was edited meanwhile is made again by the next build
-        if self.run.returncode == 0 and self.crate.sum_of_files() == self.crate.sum:
+        if self.crate.sum_of_files() == self.crate.sum:
             self.crate.stamp.write_text(self.crate.made_from())
-        return self.run.returncode == 0
+        return True
+
+
+class Telling:
+    """Tells how far a build is."""
+
+    def __init__(self, wanted, standing):
+        self.wanted, self.begun, self.told = wanted, time.monotonic(), 0
+        self.to_do = sum(it.weight for it in wanted if it not in standing)
+        self.is_terminal = sys.stderr.isatty()
+
+    @property
+    def minutes(self):
+        return (time.monotonic() - self.begun) / 60
+
+    def tell(self, standing, running, left):
+        """Says how many crates are done, and how long what is left takes at the pace so far."""
+        # a crate that is under way counts half
+        half_done = sum(check.crate.weight for check in running) / 2
+        done = self.to_do - sum(it.weight for it in left) - half_done
+        rest = f", about {max(1, round(self.minutes * (self.to_do / done - 1)))} left" if done > self.to_do / 10 else ""
+        line = f"hwtool: crate {min(len(standing) + 1, len(self.wanted))} of {len(self.wanted)}, {int(self.minutes)} minutes so far{rest}"
+        if self.is_terminal:
+            print(f"\r{line}\x1b[K", end="", file=sys.stderr, flush=True)
+        elif self.minutes >= self.told + 1:
+            self.told = self.minutes
+            print(line, file=sys.stderr, flush=True)
+
+    def clear(self):
+        """Takes the line that changes away."""
+        if self.is_terminal:
+            print("\r\x1b[K", end="", file=sys.stderr, flush=True)
 
 
 def say(line):
@@ -163,7 +216,7 @@ def free_memory():
     return next(int(line.split()[1]) * 1024 for line in lines if line.startswith("MemAvailable:"))
 
 
-def build(wanted):
+def build(wanted, log):
     """Makes the crates, each of which stands behind those below it; answers whether all are proved."""
     processors = len(os.sched_getaffinity(0))
     at_once = max(1, min(processors + 1, free_memory() // NEED))
@@ -172,6 +225,7 @@ def build(wanted):
         if crate.stands() and standing.issuperset(crate.below):
             standing.add(crate)
     left = sorted((it for it in wanted if it not in standing), key=lambda it: -height[it])
+    telling = Telling(wanted, standing)
     try:
         while left or running:
             begin = [it for it in left if standing.issuperset(it.below)][:at_once - len(running)]
@@ -181,42 +235,49 @@ def build(wanted):
                 free = processors - sum(it.jobs for it in running)
                 is_last = all(crate in it.below for it in left)
                 jobs = processors if is_last else max(1, -(-free // (len(begin) - place)))
-                say(f"crate {crate.name} begins")
                 running.append(Check(crate, jobs))
+            telling.tell(standing, running, left)
             time.sleep(0.1)
             for check in [it for it in running if it.run.poll() is not None]:
                 running.remove(check)
-                if not check.end():
+                telling.clear()
+                if not check.end(log):
                     return False
                 standing.add(check.crate)
-                say(f"crate {check.crate.name} is done, {len(standing)} of {len(wanted)}")
+        functions = sum(it.functions for it in wanted)
+        say(f"{len(wanted)} crates, {functions} functions, all proved, in {round(telling.minutes)} minutes")
         return True
     finally:
+        telling.clear()
         for check in running:
             check.run.terminate()
             check.run.wait()
 
 
-def link(program):
+def link(program, log):
     """Links the program."""
     words = [KIT / "bin/rattle-link", "--target", "x86_64-unknown-linux-gnu", "--toolchain", KIT / "toolchain"]
     words += ["-o", program.folder / "out" / program.name, program.made, KIT / "c/libos_c.a", KIT / "c/liblibc_c.a"]
-    return subprocess.run(words, stdin=subprocess.DEVNULL, stdout=sys.stderr).returncode
+    return subprocess.run(words, stdin=subprocess.DEVNULL, stdout=log, stderr=log).returncode
 
 
-def main():
+def make(names):
+    """Makes the crates of these names, and those that they stand on; answers all of these, lowest first, or none where one is
+    not proved."""
     crates = crates_of(TOP / "crates.txt")
-    named = [crates.get(it) or sys.exit(f"hwtool: crates.txt names no crate {it}") for it in sys.argv[1:] or [PROGRAM]]
+    named = [crates.get(it) or sys.exit(f"hwtool: crates.txt names no crate {it}") for it in names]
     wanted = [it for it in crates.values() if it in named or any(it in above.below for above in named)]
     out = crates[PROGRAM].folder / "out"
     out.mkdir(exist_ok=True)
-    with open(out / "lock", "w") as lock:
+    with open(out / "lock", "w") as lock, open(out / "build.log", "w") as log:
         # two builds at once would make each crate twice
         fcntl.flock(lock, fcntl.LOCK_EX)
-        return 0 if build(wanted) and not any(link(it) for it in named if it.is_program) else 1
+        if not build(wanted, log) or any(link(it, log) for it in named if it.is_program):
+            return []
+        return wanted
 
 
 if __name__ == "__main__":
     # so that what is under way ends with this
     signal.signal(signal.SIGTERM, lambda *_: sys.exit(143))
-    sys.exit(main())
+    sys.exit(0 if make(sys.argv[1:] or [PROGRAM]) else 1)

@@ -1,0 +1,143 @@
+#!/usr/bin/env bash
+# Tries what is released as those have it who have no toolchain: tests/release.sh, beside the gate. It takes what is committed
+# into a folder of its own, without `rt` on the path and without anything built there; runs README's first command and the
+# launcher, also as another user in a folder that can't be written; runs the program's tests, hostile texts and the rows of the
+# gate; installs into an empty prefix, and compiles and runs the examples from there, in C, C++ and Python; looks at the names
+# that the libraries give out, the page and the completions; and runs the program in a plain Debian userland, where debootstrap
+# is installed. The status is 0 where all is as it should be, else 1.
+set -uo pipefail
+top=$(cd "$(dirname "$(readlink -f "${BASH_SOURCE[0]}")")/.." && pwd)
+work=$(mktemp -d)
+trap 'chmod -R u+w "$work"; rm -rf "$work"' EXIT
+chmod 755 "$work"
+tried=0 wrong=0 left=()
+
+# good NAME COMMAND ..: a command does well; what it says is shown where it does not
+good() {
+    local name=$1
+    shift
+    tried=$((tried + 1))
+    if ! "$@" >"$work/said" 2>&1; then
+        wrong=$((wrong + 1))
+        echo "$name:"
+        tail -n 20 "$work/said"
+    fi
+}
+
+# same NAME EXPECTED GOT: two texts are one
+same() {
+    tried=$((tried + 1))
+    [ "$2" = "$3" ] && return
+    wrong=$((wrong + 1))
+    printf '%s: expected\n%s\ngot\n%s\n' "$1" "$2" "$3"
+}
+
+# at_most SECONDS COMMAND ..: a command is done in so many seconds
+at_most() {
+    timeout "$1" "${@:2}"
+}
+
+# what someone has who has cloned the repository, with a path on which no `rt` is
+export PATH=/usr/local/sbin:/usr/sbin:/usr/bin:/sbin:/bin PYTHONDONTWRITEBYTECODE=1
+command -v rt >/dev/null && echo "release.sh: rt is on the path even so"
+git clone --quiet "$top" "$work/clone" && cd "$work/clone" || exit 1
+toggler=$(printf 'aag 1 0 1 0 0 1\n2 3\n2\nl0 t[0]\n')
+released=$work/clone/release
+version=$("$released/hwtool" --version | cut -d' ' -f2)
+
+# ---- the sums, the first command, the launcher
+
+good "the sums" bash -c 'cd release && sha256sum --quiet -c SHA256SUMS'
+same "README's first command" "$toggler" "$(at_most 1 release/hwtool lower examples/toggler.btor2)"
+same "the launcher" "$toggler" "$(at_most 1 ./hwtool lower examples/toggler.btor2)"
+same "the version" "hwtool $version" "$(at_most 1 ./hwtool --version)"
+good "help of other sources" bash -c 'echo >>crates/base/src/lib.rt && timeout 1 ./hwtool --help && timeout 1 ./hwtool lower --help && git checkout -q crates'
+good "other sources without a toolchain" bash -c 'echo >>crates/base/src/lib.rt && timeout 1 ./hwtool lower examples/toggler.btor2 && git checkout -q crates'
+good "without git" bash -c 'mv .git ../git && timeout 1 ./hwtool lower examples/toggler.btor2 && mv ../git .git'
+if [ "$(id -u)" = 0 ]; then
+    chmod -R a+rX,a-w .
+    same "another user, in a folder that can't be written" "$toggler" "$(at_most 1 setpriv --reuid=65534 --regid=65534 --clear-groups ./hwtool lower examples/toggler.btor2)"
+    same "the launcher of an unwritten folder, by its whole path" "$toggler" "$(cd / && at_most 1 setpriv --reuid=65534 --regid=65534 --clear-groups "$work/clone/hwtool" lower "$work/clone/examples/toggler.btor2")"
+    chmod -R u+w .
+else
+    left+=("another user: only root can be one")
+fi
+
+# ---- the program
+
+good "tests/program.sh" tests/program.sh "$released/hwtool"
+good "tests/hostile.py" python3 tests/hostile.py "$released/hwtool"
+good "tests/rows.py" python3 tests/rows.py "$released/hwtool"
+good "tests/dumps.py" python3 tests/dumps.py "$released/hwtool"
+good "tests/restored_cuts.py" python3 tests/restored_cuts.py "$released/hwtool"
+
+# ---- the libraries
+
+same "names that are given out" "" "$(nm -D --defined-only "$released/libhwtool.so" | awk '$3 !~ /^hwtool_/')"
+same "names of the header" "$(grep -o 'hwtool_[a-z_]*(' include/hwtool.h | tr -d '(' | sort -u)" "$(nm -D --defined-only "$released/libhwtool.so" | awk '{ print $3 }' | sort -u)"
+same "the SONAME" "libhwtool.so.1" "$(objdump -p "$released/libhwtool.so" | awk '$1 == "SONAME" { print $2 }')"
+good "the rows by the library" python3 tests/c_library.py "$released/libhwtool.so" "$released/hwtool"
+
+# ---- installed
+
+prefix=$work/prefix
+good "make install" make install PREFIX="$prefix"
+good "make install into a folder of its own" make install PREFIX=/usr DESTDIR="$work/staged"
+good "what was staged" test -x "$work/staged/usr/bin/hwtool"
+same "the program that is installed" "$toggler" "$("$prefix/bin/hwtool" lower examples/toggler.btor2)"
+if command -v pkg-config >/dev/null && command -v cc >/dev/null; then
+    export PKG_CONFIG_PATH=$prefix/lib/pkgconfig
+    same "pkg-config" "$version" "$(pkg-config --modversion hwtool)"
+    flags="-std=c11 -Wall -Wextra -Werror"
+    # shellcheck disable=SC2086,SC2046
+    good "the example over the shared library" cc $flags examples/c/judge.c $(pkg-config --cflags --libs hwtool) -o "$work/judge-so"
+    # shellcheck disable=SC2086
+    good "the example over the archive" cc $flags -I"$prefix/include" examples/c/judge.c "$prefix/lib/libhwtool.a" -o "$work/judge-a"
+    same "what it says" "accepted 2 frames" "$(LD_LIBRARY_PATH=$prefix/lib "$work/judge-so" examples/toggler.btor2 examples/toggler.witness)"
+    same "what it says over the archive" "accepted 2 frames" "$("$work/judge-a" examples/toggler.btor2 examples/toggler.witness)"
+    # shellcheck disable=SC2046
+    echo '#include "hwtool.h"' | good "the header in C++" c++ -Wall -Wextra -Werror $(pkg-config --cflags hwtool) -x c++ -fsyntax-only -
+else
+    left+=("the examples in C: no pkg-config or no cc")
+fi
+good "tests of the package for Python" env HWTOOL_LIBRARY="$prefix/lib/libhwtool.so" python3 -m unittest discover -q -s python/tests
+if python3 -m venv "$work/venv" >/dev/null 2>&1; then
+    good "pip install without a network" "$work/venv/bin/pip" install --no-index --quiet ./python
+    same "the example in Python" "accepted 2 frames" "$(cd / && "$work/venv/bin/python" "$work/clone/examples/python/judge.py" "$work/clone/examples/toggler.btor2" "$work/clone/examples/toggler.witness")"
+else
+    left+=("pip install: no venv")
+fi
+if command -v groff >/dev/null; then
+    same "the page" "" "$(groff -man -Tutf8 -ww "$prefix/share/man/man1/hwtool.1" 2>&1 >/dev/null)"
+else
+    left+=("the page: no groff")
+fi
+good "completions of bash" bash -c '. '"$prefix"'/share/bash-completion/completions/hwtool; COMP_WORDS=(hwtool low) COMP_CWORD=1; _hwtool; [ "${COMPREPLY[*]}" = lower ]'
+for shell in zsh fish; do
+    if command -v "$shell" >/dev/null; then
+        good "completions of $shell" "$shell" -n "$(find "$prefix" -name _hwtool -o -name hwtool.fish | grep "$shell")"
+    else
+        left+=("completions of $shell: it is not installed")
+    fi
+done
+good "make uninstall" make uninstall PREFIX="$prefix"
+same "what it leaves" "" "$(find "$prefix" -type f -o -type l)"
+
+# ---- a plain Debian userland
+
+if [ "$(id -u)" = 0 ] && command -v debootstrap >/dev/null && debootstrap --variant=minbase bookworm "$work/debian" >"$work/said" 2>&1; then
+    cp -r release examples "$work/debian/"
+    same "a plain Debian userland" "$toggler" "$(chroot "$work/debian" /release/hwtool lower /examples/toggler.btor2)"
+    if [ -x "$work/judge-a" ]; then
+        cp "$work/judge-a" "$work/debian/judge"
+        same "the example there" "accepted 2 frames" "$(chroot "$work/debian" /judge /examples/toggler.btor2 /examples/toggler.witness)"
+    fi
+else
+    left+=("a plain Debian userland: no debootstrap, no root, or no packages")
+fi
+
+echo "release: $tried tried, $wrong wrong"
+for it in "${left[@]}"; do
+    echo "left out: $it"
+done
+[ "$wrong" = 0 ]
