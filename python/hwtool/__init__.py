@@ -26,6 +26,9 @@ from ._refusals import Case, Refused, explain, name
 
 __version__ = "0.1.0"
 
+# so is it told where nobody catches it
+Refused.__module__ = __name__
+
 __all__ = [
     "Case",
     "Cost",
