@@ -122,7 +122,7 @@ class Circuits(unittest.TestCase):
         self.assertEqual(hwtool.convert(b"aag 9 1 0 1 2\n18\n3\n2 4 19\n4 18 18\n"), b"aag 3 1 0 1 2\n2\n7\n4 2 2\n6 4 3\n")
         # the gate 6 has the deltas 2 and 2
         self.assertEqual(hwtool.convert(TWICE, binary=True), b"aig 3 1 1 0 1 1\n2\n6\n\x02\x02")
-        self.assertEqual(hwtool.convert(b"aig 3 1 1 0 1 1\n2\n6\n\x02\x02"), b"aag 3 1 1 0 0 1 1\n2\n4 2\n6\n6 4 2\n".replace(b" 0 0 1 1", b" 0 1 1"))
+        self.assertEqual(hwtool.convert(b"aig 3 1 1 0 1 1\n2\n6\n\x02\x02"), TWICE)
 
     def test_engine_form(self):
         # as docs/FORMATS.md has it
@@ -136,14 +136,15 @@ class Circuits(unittest.TestCase):
         self.assertEqual(hwtool.check_aig(hwtool.engine_form(both, bad=0, binary=True), b"1\nb0\n0\n0\n.\n").accepted, False)
 
     def test_long_text(self):
-        # a product of two words of 64 bits, a hundred times: more than what is first made room for, and within the bound
-        lines = [b"1 sort bitvec 64", b"2 input 1", b"3 input 1"]
-        lines += [b"%d mul 1 %d %d\n%d output %d" % (2 * it, 2 * it - 2 if it > 2 else 2, 3, 2 * it + 1, 2 * it) for it in range(2, 102)]
-        model = b"\n".join(lines) + b"\n"
+        # products of words of 64 bits: more than room is first made for, and within the bound
+        lines = [b"1 sort bitvec 64", b"2 input 1", b"3 input 1", b"4 mul 1 2 3", b"5 output 4"]
+        for line in range(6, 86, 2):
+            lines += [b"%d mul 1 %d 3" % (line, line - 2), b"%d output %d" % (line + 1, line)]
+        model = b"\n".join([*lines, b""])
         text = hwtool.lower(model)
         self.assertGreater(len(text), (1 << 24) + 32 * len(model))
         header = text.split(b"\n", 1)[0].split()
-        self.assertEqual(header[:5], [b"aag", b"%d" % (128 + int(header[5])), b"128", b"0", b"6400"])
+        self.assertEqual(header[:5], [b"aag", b"%d" % (128 + int(header[5])), b"128", b"0", b"%d" % (64 * 41)])
         self.assertLessEqual(int(header[5]), hwtool.cost(model).gates)
         self.assertEqual(text, hwtool.convert(hwtool.lower(model, binary=True)))
 
