@@ -2,7 +2,8 @@
 # Tries the library for C programs: tests/c_library.sh [PROGRAM], where PROGRAM is hwtool, or the one that `rt run` builds in
 # crates/hwtool. It builds the library, compiles the example in C with warnings as errors, plainly and with the address and undefined-behaviour sanitizers
 # where they are there, runs it and the example in Python over examples/, and tries each call over the texts of each row of
-# the gate, over every cut of some, with buffers that are too small, and with each allocation refused in turn.
+# the gate, over every cut of some, with buffers that are too small, and with each allocation refused in turn; and the tests
+# of the package in Python.
 set -euo pipefail
 cd "$(dirname "$0")/.."
 program=$(readlink -f "${1:-crates/hwtool/out/hwtool}")
@@ -19,6 +20,9 @@ same() {
     printf '%s: expected\n%s\ngot\n%s\n' "$1" "$2" "$3"
 }
 
+# the package in Python is loaded from the sources, over the library that was built, and leaves nothing beside them
+export HWTOOL_LIBRARY="$work/libhwtool.so" PYTHONPATH=python PYTHONDONTWRITEBYTECODE=1
+
 flags="-std=c11 -Wall -Wextra -Werror -Iinclude"
 "${CC:-cc}" $flags examples/c/judge.c "$work/libhwtool.a" -o "$work/judge"
 judges=("$work/judge")
@@ -33,7 +37,7 @@ for witness in examples/*.witness; do
     [ -f "$model" ] || continue
     status=0; told=$("$program" check-btor "$model" "$witness") || status=$?
     [ "$status" = 0 ] || told="status $status"
-    for judge in "${judges[@]}" "python3 examples/python/judge.py $work/libhwtool.so"; do
+    for judge in "${judges[@]}" "python3 examples/python/judge.py"; do
         status=0; got=$($judge "$model" "$witness") || status=$?
         [ "$status" = 0 ] || got="status $status"
         same "$judge $model" "$told" "$got"
@@ -45,3 +49,4 @@ echo "examples: $tried tried, $wrong wrong"
 "$work/refused" examples/wraps.btor2 examples/counter.witness examples/twice.aag examples/twice.witness \
     examples/wraps.invariant examples/wraps.proof
 python3 tests/c_library.py "$work/libhwtool.so" "$program"
+HWTOOL_LIBRARY="$work/libhwtool.so" python3 -m unittest discover -s python/tests

@@ -1,0 +1,226 @@
+"""The calls."""
+
+from __future__ import annotations
+
+import ctypes
+import operator
+import os
+from typing import List, NoReturn, Optional, SupportsIndex, Tuple, Union
+
+from ._answers import Cost, Dump, Kind, Lifted, ProofKind, ProofVerdict, Verdict
+from ._library import DONE, MODEL_REFUSED, NO_MEMORY, SECOND_REFUSED, TEXT_REFUSED, RawRefusal, RawVerdict, call, library_version, written
+from ._refusals import Refused, name
+
+Text = Union[bytes, bytearray, memoryview, str, "os.PathLike[str]", "os.PathLike[bytes]"]
+"""A text: its bytes, or the path of its file. A `str` is a path."""
+
+# The refusal of an obligation that is too big, which is told of the invariant as a whole.
+_TOO_MANY_CUBES = 196
+
+
+class _Given:
+    """A text that was handed in: its bytes, which nobody changes during a call, and the path that they were read from."""
+
+    def __init__(self, text: Text) -> None:
+        self.file: Optional[str] = None
+        if isinstance(text, bytes):
+            self.bytes = text
+        elif isinstance(text, (str, os.PathLike)):
+            self.file = os.fsdecode(text)
+            try:
+                with open(self.file, "rb") as file:
+                    self.bytes = file.read()
+            except (OSError, ValueError) as error:
+                if "\n" not in self.file:
+                    raise
+                raise ValueError("a str is the path of a file; a text itself is handed in as bytes") from error
+        else:
+            try:
+                self.bytes = memoryview(text).tobytes()
+            except TypeError:
+                raise TypeError(f"a text is bytes or the path of its file, not {type(text).__name__}") from None
+
+    @property
+    def words(self) -> List[object]:
+        """How it is given to a call."""
+        return [self.bytes, len(self.bytes)]
+
+    @property
+    def room(self) -> int:
+        """For a text that is made of it, most often enough."""
+        return (1 << 24) + 32 * len(self.bytes)
+
+
+def _position(bad: SupportsIndex) -> int:
+    """A position of a bad property."""
+    position = operator.index(bad)
+    if not 0 <= position < 1 << 64:
+        raise ValueError(f"a bad property is named by its position, from 0, and {position} is none")
+    return position
+
+
+def _refuse(status: int, raw: RawRefusal, kind: str, first: _Given, invariant: Optional[_Given] = None) -> NoReturn:
+    """Tells why a call is not done."""
+    if status == NO_MEMORY:
+        raise MemoryError("hwtool: no memory")
+    number, place = raw.number, raw.place
+    if status == TEXT_REFUSED:
+        raise Refused(number, name(number), kind, "byte" if kind == "circuit" else "line", place, first.file)
+    if invariant is not None and status == SECOND_REFUSED:
+        raise Refused(number, name(number), "invariant", "line", place, invariant.file)
+    if invariant is not None and number == _TOO_MANY_CUBES:
+        raise Refused(number, name(number), "invariant", file=invariant.file)
+    if status == MODEL_REFUSED:
+        raise Refused(number, name(number), kind, "item" if place else None, place or None, first.file)
+    raise RuntimeError(f"hwtool: the library answered the status {status}")
+
+
+def _verdict(raw: RawVerdict, of_circuit: bool) -> Verdict:
+    """What is said of a witness."""
+    kind, first, second = Kind(raw.kind), raw.first, raw.second
+    if kind is Kind.ACCEPTED:
+        return Verdict(kind, frames=first, of_circuit=of_circuit)
+    if kind is Kind.NOT_REACHED:
+        return Verdict(kind, claim=first, of_circuit=of_circuit)
+    if kind is Kind.VIOLATED:
+        return Verdict(kind, frame=first, constraint=second, of_circuit=of_circuit)
+    if kind is Kind.INIT_DIFFERS:
+        return Verdict(kind, state=first, of_circuit=of_circuit)
+    if kind is Kind.MALFORMED:
+        return Verdict(kind, line=first, why=raw.why, why_name=name(raw.why), of_circuit=of_circuit)
+    return Verdict(kind, of_circuit=of_circuit)
+
+
+def _judged(call_name: str, kind: str, text: Text, witness: Text) -> Verdict:
+    """Judges a witness."""
+    first, second, verdict = _Given(text), _Given(witness), RawVerdict()
+    status, refusal = call(call_name, [*first.words, *second.words], ctypes.byref(verdict))
+    if status != DONE:
+        _refuse(status, refusal, kind, first)
+    return _verdict(verdict, kind == "circuit")
+
+
+def check_btor(model: Text, witness: Text) -> Verdict:
+    """Judges a witness of a BTOR2 model.
+
+    Raises Refused where the model is none, or has a state with an init and no next; a witness that is none is judged as
+    malformed. Raises MemoryError where memory is wanting, and OSError where a file can't be read, as all calls do.
+    """
+    return _judged("hwtool_check_btor", "model", model, witness)
+
+
+def check_aig(circuit: Text, witness: Text) -> Verdict:
+    """Judges a witness of an AIGER circuit of either form. Raises Refused where the circuit is none."""
+    return _judged("hwtool_check_aig", "circuit", circuit, witness)
+
+
+def lower(model: Text, *, binary: bool = False) -> bytes:
+    """The AIGER circuit of a BTOR2 model, ascii or binary: in each frame its bad properties rise as the model's do.
+
+    Raises Refused where the model is none, or is not lowered: it has a justice or fairness line, a state with an init and no
+    next, or is too big.
+    """
+    first = _Given(model)
+    status, refusal, text = written("hwtool_lower", [*first.words, bool(binary)], first.room)
+    if status != DONE:
+        _refuse(status, refusal, "model", first)
+    return text
+
+
+def cost(model: Text) -> Cost:
+    """How many AND gates and variables the circuit of a BTOR2 model has at most. Raises Refused where the model is none."""
+    first, gates, variables = _Given(model), ctypes.c_uint64(), ctypes.c_uint64()
+    status, refusal = call("hwtool_cost", first.words, ctypes.byref(gates), ctypes.byref(variables))
+    if status != DONE:
+        _refuse(status, refusal, "model", first)
+    return Cost(gates.value, variables.value)
+
+
+def convert(circuit: Text, *, binary: bool = False) -> bytes:
+    """An AIGER circuit of either form in the ascii or the binary one, its variables numbered as in the binary form: inputs,
+    latches, gates. Raises Refused where the circuit is none."""
+    first = _Given(circuit)
+    status, refusal, text = written("hwtool_convert", [*first.words, bool(binary)], first.room)
+    if status != DONE:
+        _refuse(status, refusal, "circuit", first)
+    return text
+
+
+def engine_form(circuit: Text, *, bad: Optional[SupportsIndex] = None, binary: bool = False) -> bytes:
+    """The engine form of an AIGER circuit, which every model checker reads alike: all latches begin with 0, and it has no
+    constraints and no names. With all its bad properties, or with the one at position `bad`, from 0, alone.
+
+    Raises Refused where the circuit is none, has a justice property or a fairness constraint, has no bad property at that
+    position, or is too big.
+    """
+    first = _Given(circuit)
+    chosen, position = bad is not None, 0 if bad is None else _position(bad)
+    status, refusal, text = written("hwtool_engine_form", [*first.words, chosen, position, bool(binary)], first.room)
+    if status != DONE:
+        _refuse(status, refusal, "circuit", first)
+    return text
+
+
+def _with_verdict(call_name: str, given: List[object], model: _Given, witness: _Given, of_circuit: bool) -> Tuple[Verdict, bytes]:
+    """Judges a witness and writes what is made of it."""
+    verdict = RawVerdict()
+    status, refusal, text = written(call_name, given, model.room + witness.room, ctypes.byref(verdict))
+    if status != DONE:
+        _refuse(status, refusal, "model", model)
+    return _verdict(verdict, of_circuit), text
+
+
+def lift(model: Text, witness: Text) -> Lifted:
+    """Judges a witness of the circuit that `lower` makes of a BTOR2 model, and lifts it to one of the model, which has the same
+    verdict. Raises Refused as `lower` does."""
+    first, second = _Given(model), _Given(witness)
+    return Lifted(*_with_verdict("hwtool_lift", [*first.words, *second.words], first, second, True))
+
+
+def wave(model: Text, witness: Text, *, all: bool = False, title: bytes = b"") -> Dump:
+    """Judges a witness of a BTOR2 model, and writes its frames as a value change dump, which wave viewers read, with a title in
+    its comment. It shows inputs, states, properties and outputs, and of other nodes those that have a symbol, or all.
+
+    Raises Refused as `check_btor` does.
+    """
+    first, second, about = _Given(model), _Given(witness), memoryview(title).tobytes()
+    given = [*first.words, bool(all), about, len(about), *second.words]
+    return Dump(*_with_verdict("hwtool_wave", given, first, second, False))
+
+
+def obligation(model: Text, bad: SupportsIndex, invariant: Text) -> bytes:
+    """The formula, in DIMACS CNF, that an invariant owes for the bad property of a BTOR2 model at position `bad`, from 0: where
+    nothing satisfies it, the property rises in no frame up to which the constraints hold.
+
+    The invariant is a PLA as ABC writes it over the engine form with that property alone. Raises Refused where the model is
+    none or is not lowered, has no such property, or the invariant is none.
+    """
+    first, second = _Given(model), _Given(invariant)
+    status, refusal, text = written("hwtool_obligation", [*first.words, _position(bad), *second.words], first.room + second.room)
+    if status != DONE:
+        _refuse(status, refusal, "model", first, second)
+    return text
+
+
+def check_proof(model: Text, bad: SupportsIndex, invariant: Text, proof: Text) -> ProofVerdict:
+    """Judges a proof, in ascii DRAT, of what `obligation` writes. Where it holds, the bad property rises in no frame up to which
+    the constraints hold, from any initial state under every input sequence; neither engine nor solver is trusted.
+
+    Raises Refused as `obligation` does; a proof that is none is judged as malformed.
+    """
+    first, second, third, position = _Given(model), _Given(invariant), _Given(proof), _position(bad)
+    raw = RawVerdict()
+    status, refusal = call("hwtool_check_proof", [*first.words, position, *second.words, *third.words], ctypes.byref(raw))
+    if status != DONE:
+        _refuse(status, refusal, "model", first, second)
+    kind = ProofKind(raw.kind)
+    if kind is ProofKind.MALFORMED:
+        return ProofVerdict(kind, position, raw.first, raw.why, name(raw.why))
+    return ProofVerdict(kind, position, None if kind is ProofKind.NOT_DERIVED else raw.first)
+
+
+def version() -> str:
+    """The version of the library, where it tells one, and else of this package."""
+    from . import __version__
+
+    return library_version() or __version__
