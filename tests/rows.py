@@ -19,10 +19,12 @@ PROGRAM = f"{TOP}/crates/hwtool/out/hwtool"
 
 
 class Row(typing.NamedTuple):
-    """A row: its words, its files in order (None for one that is not there), and what is to come of it."""
+    """A row: the number of its first line, its words, its files in order (None for one that is not there), and what is to come of
+    it."""
 
-    words: list[bytes]
-    files: list[bytes | None]
+    line: int
+    words: typing.List[bytes]
+    files: typing.List[typing.Optional[bytes]]
     status: int
     out: bytes
     err: bytes
@@ -50,8 +52,8 @@ def read_rows(path=ROWS):
     """The rows of a file."""
     before = None
     with open(path, "rb") as file:
-        blocks = re.finditer(rb"(?:[^\n]+\n)+", file.read())
-    for block in blocks:
+        text = file.read()
+    for block in re.finditer(rb"(?:[^\n]+\n)+", text):
         words, texts, status = None, {}, 0
         for line in block[0].split(b"\n")[:-1]:
             kind, mark, rest = line[:1], line[1:2], unescaped(line[2:])
@@ -65,7 +67,8 @@ def read_rows(path=ROWS):
                 texts[kind] = texts.get(kind, b"") + rest + (b"\n" if mark == b"|" else b"")
         if words is not None:
             before = texts.get(b"1", before)
-            yield Row(words, [texts.get(it) for it in (b"1", b"2", b"3")], status, texts.get(b"o", b""), texts.get(b"e", b""))
+            line = text.count(b"\n", 0, block.start()) + 1
+            yield Row(line, words, [texts.get(it) for it in (b"1", b"2", b"3")], status, texts.get(b"o", b""), texts.get(b"e", b""))
 
 
 def answer(program, row, folder):

@@ -7,12 +7,12 @@ import tempfile
 import unittest
 
 HERE = pathlib.Path(__file__).resolve().parent
-sys.path.insert(0, str(HERE))
+sys.path.insert(0, str(HERE.parents[1] / "tests"))
 if not os.environ.get("HWTOOL_TEST_INSTALLED"):
     sys.path.insert(0, str(HERE.parent))
 
 import hwtool  # noqa: E402
-from rows import rows  # noqa: E402
+from rows import read_rows  # noqa: E402
 
 FILES = {
     "check-btor": 2, "check-aig": 2, "lower": 1, "cost": 1, "aig-convert": 1, "lift": 2, "wave": 2, "obligation": 2,
@@ -74,14 +74,15 @@ class Rows(unittest.TestCase):
 
     def test_rows(self):
         tried = {}
-        for row in rows():
+        for row in read_rows():
             # with status 4 the program refuses words
-            found = asked(row.words) if row.words and row.status != 4 else None
+            words = [word.decode(errors="replace") for word in row.words]
+            found = asked(words) if words and row.status != 4 else None
             if found is None:
                 continue
             command, flags, bad, names = found
-            texts = [row.files[key] for key in (b"1", b"2", b"3")[: len(names)]]
-            with self.subTest(row=row.line, words=row.words):
+            texts = row.files[: len(names)]
+            with self.subTest(row=row.line, words=words):
                 for name, text in zip(names, texts):
                     pathlib.Path(name).unlink(missing_ok=True)
                     if text is not None:
