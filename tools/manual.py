@@ -148,7 +148,8 @@ def in_zsh(all_commands):
     def spec(each):
         value = f":{each.value}:{'_files' if each.value == 'FILE' else ''}" if each.value else ""
         text = re.sub(r"([\[\]:])", r"\\\1", each.help)
-        return quoted(f"--{each.word}[{text}]{value}")
+        names = f"'(-{each.letter} --{each.word})'{{-{each.letter},--{each.word}}}" if each.letter else f"--{each.word}"
+        return names + quoted(f"[{text}]{value}")
 
     lines = ["#compdef hwtool", "# Completions of hwtool for zsh, made from its table of commands.", "local -a commands", "commands=("]
     lines += ["    " + quoted(f"{it.word}:{it.about}") for it in all_commands]
