@@ -1,5 +1,5 @@
 -- An engine form from its parts.
-use Rattle.std.proofs.Common.{◌≡◌, ℕ, suc, ◌-◌, ◌≤◌, Bool, true, false, not, List, [], ◌∷◌, ◌++◌, length, map, drop, replicate, Option, Some, None, if◌then◌else◌, nat_lt, refl, sym, ap, ap₂, subst, ◌∙◌, arith}
+use Rattle.std.proofs.Common.{◌≡◌, ℕ, suc, ◌-◌, ◌<◌, ◌≤◌, Bool, true, false, not, List, [], ◌∷◌, ◌++◌, ◌==◌, length, map, drop, replicate, Option, Some, None, if◌then◌else◌, nat_lt, refl, sym, ap, ap₂, subst, ◌∙◌, arith}
 use Rattle.std.specs.Prelude.{slice_set}
 use Rattle.std.proofs.lemmas.Bool.Decides.{nat_tests}
 use Rattle.std.proofs.lemmas.List.{length-map, length-replicate}
@@ -11,6 +11,7 @@ use Rattle.aiger.specs.Literal.{negation}
 use Rattle.aiger.specs.Net.{Net}
 use Rattle.aiger.specs.Circuit.{Circuit, IsCircuit, net, fresh_latch, with_latch}
 use Rattle.gates.specs.Made.{gates_only}
+use Rattle.engine.specs.declared.fault.EngineFault.{EngineFault}
 use Rattle.engine.specs.declared.fault.EngineFault.TheVariants as fault
 use Rattle.engine.specs.EngineForm.{free_count, with_own, latch_count, has_chosen, IsEngineFormOf}
 use Rattle.engine.specs.Reads.{kept_latch, form_latches, FormMade}
@@ -28,18 +29,31 @@ some_there : (n : ℕ) → nat_lt 0 (suc n) ≡ true
 some_there n = grind (arith, nat_tests)
 
 pub accepted_given : (c : Circuit) (choice : Option ℕ) → engine_refusal c choice ≡ None → IsAccepted c choice × (engine_bound c ≤ greatest_count)
-accepted_given c choice e = by c.justice c.fair (has_chosen choice c.bads) (nat_lt greatest_count (engine_bound c)) refl refl refl refl e
+accepted_given c choice e = by c.justice c.fair (length c.bads == 0) (has_chosen choice c.bads) (nat_lt greatest_count (engine_bound c)) refl refl refl refl e
   where
-    by : (j : List (List ℕ)) (f : List ℕ) (b large : Bool) → c.justice ≡ j → c.fair ≡ f → has_chosen choice c.bads ≡ b → nat_lt greatest_count (engine_bound c) ≡ large
+    by : (j : List (List ℕ)) (f : List ℕ) (none b large : Bool) → c.justice ≡ j → c.fair ≡ f → has_chosen choice c.bads ≡ b → nat_lt greatest_count (engine_bound c) ≡ large
         → (if nat_lt 0 (length j) then Some fault.Justice
         else (if nat_lt 0 (length f) then Some fault.Fair
+        else (if none then Some fault.NoBad
         else (if not b then Some fault.NoSuchBad
-        else (if large then Some fault.TooBig else None)))) ≡ None → IsAccepted c choice × (engine_bound c ≤ greatest_count)
-    by (x ∷ j) f b large p q r s e = let h = rw (some_there (length j)) at e in absurd (cc)
-    by [] (x ∷ f) b large p q r s e = let h = rw (some_there (length f)) at e in absurd (cc)
-    by [] [] false large p q r s e = absurd (cc)
-    by [] [] true true p q r s e = absurd (cc)
-    by [] [] true false p q r s e = (record { no_justice = p; no_fair = q; has_bad = r }, grind (arith, nat_tests))
+        else (if large then Some fault.TooBig else None))))) ≡ None → IsAccepted c choice × (engine_bound c ≤ greatest_count)
+    by (x ∷ j) f none b large p q r s e = let h = rw (some_there (length j)) at e in absurd (cc)
+    by [] (x ∷ f) none b large p q r s e = let h = rw (some_there (length f)) at e in absurd (cc)
+    by [] [] true b large p q r s e = absurd (cc)
+    by [] [] false false large p q r s e = absurd (cc)
+    by [] [] false true true p q r s e = absurd (cc)
+    by [] [] false true false p q r s e = (record { no_justice = p; no_fair = q; has_bad = r }, grind (arith, nat_tests))
+
+-- and it has a bad property
+pub some_bad : (c : Circuit) (choice : Option ℕ) → engine_refusal c choice ≡ None → 0 < length c.bads
+some_bad c choice e = by c.justice c.fair c.bads (if not (has_chosen choice c.bads) then Some fault.NoSuchBad else (if nat_lt greatest_count (engine_bound c) then Some fault.TooBig else None)) e
+  where
+    by : (j : List (List ℕ)) (f bads : List ℕ) (rest : Option EngineFault)
+        → (if nat_lt 0 (length j) then Some fault.Justice else (if nat_lt 0 (length f) then Some fault.Fair else (if length bads == 0 then Some fault.NoBad else rest))) ≡ None → 0 < length bads
+    by (x ∷ j) f bads rest e = let h = rw (some_there (length j)) at e in absurd (cc)
+    by [] (x ∷ f) bads rest e = let h = rw (some_there (length f)) at e in absurd (cc)
+    by [] [] [] rest e = absurd (cc)
+    by [] [] (b ∷ bads) rest e = omega arith
 
 -- the latches of a form begin with 0
 kept_resets : (table : List ℕ) (ls : List Latch) → map (λ (latch : Latch). latch.reset) (map (kept_latch table) ls) ≡ replicate (length ls) Zero

@@ -1,7 +1,11 @@
 mod AssemblyLemmas
+mod CopyLemmas
 mod FormLemmas
 mod LatchLemmas
 mod MadeLemmas
+mod MoveLemmas
+mod OutputLemmas
+mod OutputRows
 mod RiseLemmas
 mod TableLemmas
 mod WorkedLemmas

@@ -7,6 +7,7 @@ use Rattle.engine.specs.declared.fault.EngineFault.TheVariants as fault
 abbrev pub number_of : EngineFault → ℕ
 number_of fault.Justice = 140
 number_of fault.Fair = 141
+number_of fault.NoBad = 145
 number_of fault.NoSuchBad = 142
 number_of fault.TooBig = 143
 number_of fault.NoMemory = 144
@@ -15,6 +16,7 @@ number_of fault.NoMemory = 144
 abbrev pub name_of : EngineFault → List ℕ
 name_of fault.Justice = codes "Justice"
 name_of fault.Fair = codes "Fair"
+name_of fault.NoBad = codes "NoBad"
 name_of fault.NoSuchBad = codes "NoSuchBad"
 name_of fault.TooBig = codes "TooBig"
 name_of fault.NoMemory = codes "NoMemory"

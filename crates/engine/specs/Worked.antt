@@ -1,5 +1,5 @@
--- Worked circuits, their engine forms, and what is none.
-use Rattle.std.specs.Prelude.{[], ◌∷◌}
+-- Worked circuits, their engine forms, what is none, and circuits that have the outputs of others as bad properties.
+use Rattle.std.specs.Prelude.{[], ◌∷◌, codes}
 use Rattle.aiger.specs.declared.circuit.Reset.TheVariants.{Zero, One, Free}
 use Rattle.aiger.specs.Circuit.{Circuit, fresh_circuit}
 
@@ -50,3 +50,34 @@ either = record (fresh_circuit 1 0) { bads = 2 ∷ 3 ∷ [] }
 
 abbrev pub second_form : Circuit
 second_form = record (fresh_circuit 1 1) { bads = 3 ∷ [] }
+
+-- two outputs, and no bad property
+abbrev pub outputs_alone : Circuit
+outputs_alone = record (fresh_circuit 1 0) { outputs = 2 ∷ 3 ∷ [] }
+
+-- `aag 3 1 1 1 1`, `2`, `4 2`, `6`, `6 4 2`: an output that is 1 where an input is and was in the frame before
+abbrev pub conjunction : Circuit
+conjunction =
+    record (fresh_circuit 1 1) {
+      latches = record { next = 2; reset = Zero } ∷ [];
+      gates = record { rhs0 = 4; rhs1 = 2 } ∷ [];
+      outputs = 6 ∷ [];
+    }
+
+-- the same as a bad property
+abbrev pub conjunction_bad : Circuit
+conjunction_bad = record conjunction { outputs = []; bads = 6 ∷ [] }
+
+-- the same circuit where the latch begins with 1 and the input is to be 1, with a bad property, the input, and with names
+abbrev pub named : Circuit
+named =
+    record conjunction {
+      latches = record { next = 2; reset = One } ∷ [];
+      bads = 2 ∷ [];
+      constraints = 2 ∷ [];
+      names = ((2, 0), codes "out") ∷ ((3, 0), codes "low") ∷ [];
+    }
+
+-- its output is its second bad property
+abbrev pub named_bad : Circuit
+named_bad = record named { outputs = []; bads = 2 ∷ 6 ∷ []; names = ((3, 0), codes "low") ∷ ((3, 1), codes "out") ∷ [] }

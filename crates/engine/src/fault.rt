@@ -2,6 +2,7 @@
 ghost use Rattle.std.specs.Prelude.{◌≡◌};
 ghost use Rattle.engine.specs.Faults.{number_of, name_of};
 
+use std::alloc::AllocError;
 use std::fmt;
 use thiserror::Error;
 
@@ -12,7 +13,9 @@ pub enum EngineFault {
     Justice,
     /// It has a fairness constraint; the first, at position 0, is meant.
     Fair,
-    /// It has no bad property at the chosen position.
+    /// It has no bad property at all.
+    NoBad,
+    /// It has bad properties, but none at the chosen position.
     NoSuchBad,
     /// The bound on the variables of the form is above 2^30.
     TooBig,
@@ -28,6 +31,7 @@ impl EngineFault {
         match self {
             EngineFault::Justice => 140,
             EngineFault::Fair => 141,
+            EngineFault::NoBad => 145,
             EngineFault::NoSuchBad => 142,
             EngineFault::TooBig => 143,
             EngineFault::NoMemory => 144,
@@ -41,6 +45,7 @@ impl EngineFault {
         match self {
             EngineFault::Justice => "Justice",
             EngineFault::Fair => "Fair",
+            EngineFault::NoBad => "NoBad",
             EngineFault::NoSuchBad => "NoSuchBad",
             EngineFault::TooBig => "TooBig",
             EngineFault::NoMemory => "NoMemory",
@@ -51,5 +56,16 @@ impl EngineFault {
 impl fmt::Display for EngineFault {
     fn fmt<W: fmt::Write>(&self, f: &mut fmt::Formatter<W>) -> fmt::Result {
         write!(f, "{} {}", self.number(), self.name())
+    }
+}
+
+/// A growth that was refused.
+impl From<AllocError> for EngineFault {
+    ghost use Rattle.engine.specs.declared.fault.EngineFault.TheVariants.{NoMemory};
+
+    ghost from_gives = { λ _ e. e ≡ NoMemory };
+
+    fn from(_: AllocError) -> EngineFault {
+        EngineFault::NoMemory
     }
 }

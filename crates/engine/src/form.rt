@@ -1,24 +1,24 @@
 //! The engine form of a circuit.
-ghost use Rattle.std.specs.Prelude.{◌≡◌, ◌+◌, ◌++◌, ◌≤◌, None, length, All, IfOk, IfErr, OnOk};
-ghost use Rattle.aiger.specs.Limits.{greatest_count};
-ghost use Rattle.aiger.specs.Net.{IsDefined};
-ghost use Rattle.aiger.specs.Circuit.{IsCircuit, net, with_bad};
+ghost use Rattle.std.specs.Prelude.{◌≡◌, None, IfOk, IfErr};
+ghost use Rattle.aiger.specs.Circuit.{IsCircuit, net};
 ghost use Rattle.gates.specs.Made.{gates_only};
 ghost use Rattle.engine.specs.EngineForm.{IsEngineFormOf};
 ghost use Rattle.engine.specs.Reads.{bare_net, sizes_of, FormMade};
 ghost use Rattle.engine.specs.Refusal.{engine_refusal, AnswersForm};
 
 use crate::choice::has_chosen;
+use crate::copies::push_bads;
 use crate::fault::EngineFault;
 use crate::latches::set_latches;
 use crate::literals::{Literals, make};
 use crate::sizes::{Sizes, bound, sizes_of};
-use aiger::{Circuit, CircuitFault, GREATEST_COUNT, Lit};
+use aiger::{Circuit, GREATEST_COUNT};
 use gates::{GateFault, HashGates};
 use std::alloc::Global;
 
-/// Why a circuit has no engine form, want of memory apart.
-fn refusal(circuit: &Circuit, choice: Option<usize>) -> Option<EngineFault>
+/// Why a circuit has no engine form, with all its bad properties or with the one at a position, want of memory apart: the first
+/// refusal that applies. It takes no memory.
+pub fn why_no_form(circuit: &Circuit, choice: Option<usize>) -> Option<EngineFault>
     ensures first { result ≡ engine_refusal circuit.now choice }
     ensures valid { IsCircuit circuit.now }
 {
@@ -28,6 +28,8 @@ fn refusal(circuit: &Circuit, choice: Option<usize>) -> Option<EngineFault>
         Some(EngineFault::Justice)
     } else if circuit.fair().len() > 0 {
         Some(EngineFault::Fair)
+    } else if circuit.bads().is_empty() {
+        Some(EngineFault::NoBad)
     } else if !has_chosen(circuit, choice) {
         Some(EngineFault::NoSuchBad)
     } else if bound(circuit) > u64::from(GREATEST_COUNT) {
@@ -35,33 +37,6 @@ fn refusal(circuit: &Circuit, choice: Option<usize>) -> Option<EngineFault>
     } else {
         None
     }
-}
-
-/// Adds a bad property of a literal that is there.
-fn push_bad(bad: Lit, form: &mut Circuit) -> Result<(), EngineFault>
-    requires defined { IsDefined (net form.old) bad }
-    requires few { length form.old.bads + 1 ≤ greatest_count }
-    ensures ok { OnOk result (form.new ≡ with_bad form.old bad) }
-    ensures memory { IfErr result (λ e. e ≡ EngineFault.NoMemory) }
-{
-    match form.push_bad(bad) {
-        Ok(()) => Ok(()),
-        Err(CircuitFault::NoMemory) => Err(EngineFault::NoMemory),
-        Err(_) => unreachable!(),
-    }
-}
-
-/// Adds bad properties of literals that are there.
-fn push_bads(bads: &[Lit], form: &mut Circuit) -> Result<(), EngineFault>
-    requires defined { All (IsDefined (net form.old)) bads.now }
-    requires few { length form.old.bads + length bads.now ≤ greatest_count }
-    ensures ok { OnOk result (form.new ≡ record form.old { bads = form.old.bads ++ bads.now }) }
-    ensures memory { IfErr result (λ e. e ≡ EngineFault.NoMemory) }
-{
-    for bad in bads {
-        push_bad(*bad, form)?;
-    }
-    Ok(())
 }
 
 /// The engine form of a circuit, from the bare circuit of its gates: the latches and the bad properties are put in.
@@ -138,8 +113,8 @@ fn accepted_form(
 /// are at most those of the circuit, 3 for each latch without an initial value, and 1 for each constraint and bad property.
 ///
 /// Errors, of which the first that applies in this order is answered: `Justice` and `Fair` where the circuit has such a
-/// property, `NoSuchBad` where there is no bad property at the position, `TooBig` where inputs, latches and the bound on
-/// the gates sum to more than 2^30, and `NoMemory`.
+/// property, `NoBad` where it has no bad property, whether one is chosen or not, `NoSuchBad` where there is none at the
+/// position, `TooBig` where inputs, latches and the bound on the gates sum to more than 2^30, and `NoMemory`.
 pub fn engine_form(
     alloc: Global,
     circuit: &Circuit,
@@ -148,7 +123,7 @@ pub fn engine_form(
     ensures ok { IfOk result (λ d. IsEngineFormOf circuit.now choice d) }
     ensures answer { AnswersForm result (engine_refusal circuit.now choice) }
 {
-    match refusal(circuit, choice) {
+    match why_no_form(circuit, choice) {
         Some(fault) => Err(fault),
         None => accepted_form(alloc, circuit, choice),
     }

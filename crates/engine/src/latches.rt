@@ -7,6 +7,7 @@ ghost use Rattle.aiger.specs.Circuit.{IsCircuit, net, with_latch, fresh_latch};
 ghost use Rattle.engine.specs.EngineForm.{latch_count};
 ghost use Rattle.engine.specs.Reads.{literal_of, kept_literal, kept_latch, sizes_of, form_latches};
 
+use crate::copies::set_latch;
 use crate::sizes::Sizes;
 use crate::variables::literal_of;
 use aiger::{Circuit, Latch, Lit, Reset};
@@ -29,10 +30,8 @@ fn set(circuit: &mut Circuit, k: usize, next: Lit)
     requires defined { IsDefined (net circuit.old) next }
     ensures { circuit.new ≡ with_latch circuit.old k (record { next = next; reset = Zero }) }
 {
-    match circuit.set_latch(k, next, Reset::Zero) {
-        Ok(()) => {}
-        Err(_) => unreachable!(),
-    }
+    let reset = Reset::Zero;
+    set_latch(k, Latch { next, reset }, circuit);
 }
 
 /// Sets the latches that stand for those of a circuit.

@@ -20,7 +20,7 @@ returns-clause-ok c =
     let l = c.args.literals.now in
     let set : c.set_latches.new.form ≡ record c.args.form { latches = form_latches circuit l.table.items l.met } =
     c.set_latches.ensures ∙ ap (λ (t : List ℕ). record c.args.form { latches = form_latches circuit t l.met }) c.deref.ensures.value in
-    let pushed : c.push_bads.new.form ≡ record c.set_latches.new.form { bads = c.set_latches.new.form.bads ++ l.bads.items } =
-    c.in_ok-push_bads.ensures.ok ∙ ap (λ (b : List ℕ). record c.set_latches.new.form { bads = c.set_latches.new.form.bads ++ b }) c.deref-2.ensures.value in
-    completed circuit c.args.choice c.args.form c.set_latches.new.form c.push_bads.new.form l.table.items l.met l.bads.items
+    let pushed : c.push_bads.new.made ≡ record c.set_latches.new.form { bads = c.set_latches.new.form.bads ++ l.bads.items } =
+    c.in_ok-push_bads.ensures ∙ ap (λ (b : List ℕ). record c.set_latches.new.form { bads = c.set_latches.new.form.bads ++ b }) c.deref-2.ensures.value in
+    completed circuit c.args.choice c.args.form c.set_latches.new.form c.push_bads.new.made l.table.items l.met l.bads.items
     c.requires.valid (accepted_given circuit c.args.choice c.requires.accepted).0 c.variables.ensures.valid c.requires.bare c.requires.made set pushed
