@@ -1,0 +1,4 @@
+-- The lemmas of this crate.
+pub mod PlainLemmas
+pub mod BitTextLemmas
+pub mod WordTextLemmas

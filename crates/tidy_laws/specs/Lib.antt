@@ -1,0 +1,1 @@
+-- This crate has laws alone: their words are those of the crates below.
