@@ -20,7 +20,7 @@ use Rattle.witness.proofs.JudgedLemmas.{some_judged, judged_once, breach_by}
 -- ---- traces that are the same have the same verdict
 
 -- a literal that is defined says the same in the same frames
-same_bit : (c : Circuit) (v w : Valuation) (l : ℕ) → SameFrame c v w → IsDefined (net c) l → literal_value v l ≡ literal_value w l
+pub same_bit : (c : Circuit) (v w : Valuation) (l : ℕ) → SameFrame c v w → IsDefined (net c) l → literal_value v l ≡ literal_value w l
 same_bit c v w l same defined =
     literal_value-agree (suc (variables (net c))) v w l (λ k low high. same k low (omega arith)) (omega (arith, defined))
 

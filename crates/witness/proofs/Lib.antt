@@ -34,3 +34,5 @@ pub mod WordPartLemmas
 pub mod WordReaderLemmas
 pub mod WordJudgeLemmas
 pub mod ClosedLemmas
+pub mod ReachedLemmas
+pub mod GrowthLemmas

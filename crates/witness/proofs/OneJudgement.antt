@@ -46,12 +46,12 @@ nodes_from kind items before (x ∷ xs) w is =
       | false ↦ rest
     ]
 
-nodes_have_widths : (kind : Body → Bool) (items : List Item) → IsWellFormed items → Each (HasWidth items) (nodes_of kind items)
+pub nodes_have_widths : (kind : Body → Bool) (items : List Item) → IsWellFormed items → Each (HasWidth items) (nodes_of kind items)
 nodes_have_widths kind items w = nodes_from kind items [] items w refl
 
 -- ---- traces that are the same have the same verdict
 
-same_word : (items : List Item) (f g : Frame) (a : ℕ) → SameFrame items f g → HasWidth items a → f a ≡ g a
+pub same_word : (items : List Item) (f g : Frame) (a : ℕ) → SameFrame items f g → HasWidth items a → f a ≡ g a
 same_word items f g a same h = same a (is_some_from (node_width items a) h.0 h.1)
 
 first_same : (f g : Frame) (n : ℕ) (nodes : List ℕ) → Each (λ a. f a ≡ g a) nodes → position_from (λ a. not (nat_eq (f a) 1)) n nodes ≡ position_from (λ a. not (nat_eq (g a) 1)) n nodes

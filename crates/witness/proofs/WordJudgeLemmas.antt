@@ -17,7 +17,8 @@ use Rattle.witness.specs.Judgements.{frame_words, makes_no_claim, FrameWords, wo
 use Rattle.witness.specs.WordPlays.{nothing_given, is_between, steps_of, steps_taken, WordPlay, Plays, Traced, TracedBy, frames_alone, word_at}
 use Rattle.witness.specs.ClosedWords.{closed_word_frames, ClosesFrame, ClosesAtMostOne, IsClosedTrace, last_word}
 use Rattle.witness.specs.Stands.{IsOfLines}
-use Rattle.witness.specs.WordStands.{place_of, WordReader, Reads, GivesLine, TakesLine, is_status, Counts, here_of, WordJudge, word_judging, StandsFor, JudgesLine, JudgesLines, ClaimsAt}
+use Rattle.witness.specs.declared.word_reader.Place.TheVariants as code
+use Rattle.witness.specs.WordStands.{place_of, SaidAt, WordReader, Reads, GivesLine, TakesLine, is_status, Counts, here_of, WordJudge, word_judging, StandsFor, JudgesLine, JudgesLines, ClaimsAt}
 use Rattle.witness.proofs.TextEndLemmas.{whole_lines-line_end, unfinished-line_end}
 use Rattle.witness.proofs.ReadingLemmas.{by_test, stopped, stays, holds_behind}
 use Rattle.witness.proofs.StandsLemmas.{awaits, none_awaited, ClaimsMore, line_admitted, with_bytes, line_ended}
@@ -237,11 +238,49 @@ few_frames items lines line j is few =
 pub claims_more : (items : List Item) → ClaimsMore (word_judging items)
 claims_more items lines line = claim_more (shape_of items) 0 nothing_read lines line refl
 
-pub counts_of : (items : List Item) (q : WordReader) (r : Read) (line : List ℕ) → Reads items q r line → Counts items q.play r
+-- behind the claims they are known
+claims_known : (q : WordReader) (r : Read) (line : List ℕ) (at : Place) → SaidAt r at → ClaimsAt q r line at → (r.closed ≡ [] → ⊥) → AreClaimed q.claimed r.claims
+claims_known q r line AtStatus said claims some = absurd (some said.closed)
+claims_known q r line AtClaims said claims some = absurd (some said.closed)
+claims_known q r line AtParts said claims some = claims
+claims_known q r line InStates said claims some = claims
+claims_known q r line InFrame said claims some = claims
+claims_known q r line AtEnd said claims some = claims
+
+pub counts_of : (items : List Item) (q : WordReader) (r : Read) (line : List ℕ) → Reads items q r line → Counts items q r
 counts_of items q r line reads =
     let many : length (map frame_words r.closed) ≡ length r.closed = length-map r.closed frame_words in
     let steps : reads.play.ahead.steps ≡ steps_taken q.play.items q.play.run = goes_steps q.play.items q.play.run reads.play.ahead (reads.play.run ∙ sym reads.play.items_are) reads.play.goes in
-    record { items_are = reads.play.items_are; frames = reads.play.count ∙ many; steps = sym steps ∙ (reads.play.steps ∙ ap (steps_of items) many); plays = reads.play }
+    record {
+      items_are = reads.play.items_are;
+      frames = reads.play.count ∙ many;
+      steps = sym steps ∙ (reads.play.steps ∙ ap (steps_of items) many);
+      plays = reads.play;
+      claimed = claims_known q r line r.place reads.said reads.claims;
+    }
+
+-- where no frame is closed in the line of the claims
+no_frame_yet : (r : Read) (at : Place) → at ≡ AtClaims → SaidAt r at → r.closed ≡ []
+no_frame_yet r AtClaims e said = said.closed
+no_frame_yet r AtStatus e said = said.closed
+no_frame_yet r AtParts e said = said.closed
+no_frame_yet r InStates e said = absurd cc
+no_frame_yet r InFrame e said = absurd cc
+no_frame_yet r AtEnd e said = absurd cc
+
+-- behind a line that is refused the same is known: what is kept changes in the line of the claims alone
+pub refused_counts : (items : List Item) (old new : WordReader) (r : Read) (line : List ℕ) → Reads items old r line → new.play ≡ old.play → ((old.place ≡ code.Claims → ⊥) → new ≡ old) → Counts items new r
+refused_counts items old new r line reads same alike =
+    let was : Counts items old r = counts_of items old r line reads in
+    record {
+      items_are = ap (λ (p : WordPlay). p.items) same ∙ was.items_are;
+      frames = ap (λ (p : WordPlay). p.frames) same ∙ was.frames;
+      steps = subst (λ (p : WordPlay). steps_taken p.items p.run ≡ steps_of items (length r.closed)) (sym same) was.steps;
+      plays = subst (Plays items (map frame_words r.closed) (here_of r r.place)) (sym same) was.plays;
+      claimed = λ some.
+          let other : old.place ≡ code.Claims → ⊥ = λ e. some (no_frame_yet r r.place (sym reads.place ∙ ap place_of e) reads.said) in
+          subst (λ (q : WordReader). AreClaimed q.claimed r.claims) (sym (alike other)) (was.claimed some);
+    }
 
 -- behind a line that is given to the reader
 pub given_line : (items : List Item) (lines : List (List ℕ)) (line taken : List ℕ) (j : WordJudge) (q : WordReader) (no_claim : Bool) → IsOfLines (word_judging items) j lines taken → j.refused ≡ None → j.admitted < most_lines

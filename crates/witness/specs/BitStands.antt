@@ -1,7 +1,9 @@
 -- What a judge of witnesses of a circuit holds, and which texts it stands for.
 use Rattle.std.specs.Prelude.{◌≡◌, ℕ, ◌<◌, ◌||◌, Bool, true, false, List, [], Result, Ok, Err, codes, length}
 use Rattle.std.specs.Str.{bytes_eq}
+use Rattle.aiger.specs.Literal.{Valuation}
 use Rattle.aiger.specs.Circuit.{Circuit}
+use Rattle.aiger.specs.Trace.{IsTrace}
 use Rattle.witness.specs.declared.why.Why.{Why}
 use Rattle.witness.specs.declared.bit_reader.BitPlace.{BitPlace as CodePlace}
 use Rattle.witness.specs.declared.bit_reader.BitPlace.TheVariants as code
@@ -9,7 +11,7 @@ use Rattle.witness.specs.declared.bit_reader.BitReader.{BitReader}
 use Rattle.witness.specs.declared.bit_scan.Scan.{Scan}
 use Rattle.witness.specs.Stands.{Judge, Judging, StandsFor as JudgeStandsFor}
 use Rattle.witness.specs.BitAdmits.{BitPlace, AtHeader, AtClaim, AtInitial, AtFirst, AtLater, AtDone, BitRead, bit_admit, bit_reader}
-use Rattle.witness.specs.BitJudgements.{makes_no_bit_claim}
+use Rattle.witness.specs.BitJudgements.{makes_no_bit_claim, bit_rises}
 use Rattle.witness.specs.BitScans.{Scans}
 use Rattle.witness.specs.BitPlays.{BitPlay, play_start, steps_of, Begins, Plays}
 
@@ -44,6 +46,14 @@ pub record Reads (c : Circuit) (q : BitReader) (r : BitRead) (line : List ℕ) :
   pub claim : q.claim ≡ r.claim
   pub play : PlaysAt c r q.play line r.place
 
+-- the frames that are closed, the steps that they took, the claim, and whether it rose in them
+pub record Tells (c : Circuit) (q : BitReader) (r : BitRead) : Type 0 where
+  pub circuit : q.play.circuit ≡ c
+  pub frames : q.play.frames ≡ length r.frames
+  pub steps : q.play.run.steps ≡ steps_of c (length r.frames)
+  pub claim : q.claim ≡ r.claim
+  pub rose : (vs : List Valuation) → IsTrace c r.initial r.frames vs → q.play.rose ≡ bit_rises c r.claim vs
+
 -- a line behind them is admitted, and is what is kept now
 abbrev pub Admits : Circuit → BitRead → List ℕ → BitReader → Type 0
 Admits c r line q = (next : BitRead) × ((bit_admit c r line ≡ Ok next) × Reads c q next [])
@@ -69,7 +79,7 @@ bit_judging c =
       awaits_status = λ r. is_header r.place;
       says_none = λ line. bytes_eq line (codes "0") || bytes_eq line (codes "2");
       makes_no_claim = makes_no_bit_claim;
-      Counts = Counts c;
+      Counts = Tells c;
       Reads = Reads c;
       Keeps = Scans;
     }

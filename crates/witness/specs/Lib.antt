@@ -18,6 +18,7 @@ pub mod KeptLines
 pub mod WordClaims
 pub mod WordValues
 pub mod ClosedWords
+pub mod Reached
 pub mod WordPlays
 pub mod WordStands
 pub mod PlainLines

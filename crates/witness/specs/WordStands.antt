@@ -94,12 +94,13 @@ pub record NoPlainLine (q : WordReader) (text : List ℕ) : Type 0 where
   pub assignment : NoAssignment (widths_of is_input q.play.items) q.play.inputs_given text
   pub opening : NoFrameLine (suc q.play.frames) text
 
--- the frames that are closed, and the steps that they took
-pub record Counts (items : List Item) (p : WordPlay) (r : Read) : Type 0 where
-  pub items_are : p.items ≡ items
-  pub frames : p.frames ≡ length r.closed
-  pub steps : steps_taken p.items p.run ≡ steps_of items (length r.closed)
-  pub plays : Plays items (map frame_words r.closed) (here_of r r.place) p
+-- the frames that are closed, the steps that they took, and what is claimed where one is closed
+pub record Counts (items : List Item) (q : WordReader) (r : Read) : Type 0 where
+  pub items_are : q.play.items ≡ items
+  pub frames : q.play.frames ≡ length r.closed
+  pub steps : steps_taken q.play.items q.play.run ≡ steps_of items (length r.closed)
+  pub plays : Plays items (map frame_words r.closed) (here_of r r.place) q.play
+  pub claimed : (r.closed ≡ [] → ⊥) → AreClaimed q.claimed r.claims
 
 -- what a judge holds, with the first bytes of the line that has not ended
 abbrev pub WordJudge : Type 0
@@ -112,7 +113,7 @@ word_judging items =
       awaits_status = λ r. is_status r.place;
       says_none = λ line. bytes_eq line (codes "unsat") || bytes_eq line (codes "unknown");
       makes_no_claim = makes_no_claim 0;
-      Counts = λ q r. Counts items q.play r;
+      Counts = Counts items;
       Reads = Reads items;
       Keeps = λ bytes line. bytes ≡ kept line;
     }

@@ -2,12 +2,14 @@
 ghost use Rattle.std.specs.Prelude.{◌≡◌, ℕ, ◌&&◌, ◌||◌, ◌<◌, ◌^◌, true, false, List, [], ◌∷◌, ◌++◌, MatchResult, None, codes};
 ghost use Rattle.std.specs.Str.{bytes_eq};
 ghost use Rattle.base.specs.Lines.{IsLine, unfinished};
+ghost use Rattle.aiger.specs.Literal.{Valuation};
 ghost use Rattle.aiger.specs.Circuit.{Circuit};
 ghost use Rattle.runs.specs.CircuitRun.{circuit_held};
 ghost use Rattle.witness.specs.BitAdmits.{admitted_lines, closed_frames, is_done};
 ghost use Rattle.witness.specs.BitJudgements.{BitJudges};
 ghost use Rattle.witness.specs.BitScans.{Scans};
 ghost use Rattle.witness.specs.BitPlays.{steps_of};
+ghost use Rattle.witness.specs.Reached.{IsClosedBitTrace, bit_reached};
 ghost use Rattle.witness.specs.Stands.{IsOfLines};
 ghost use Rattle.witness.specs.BitStands.{StandsFor, bit_judging, is_header, place_of};
 
@@ -234,6 +236,14 @@ impl<'a> BitJudge<'a> {
         ensures { (c : Circuit) (text : List ℕ) → StandsFor c self.now text → result ≡ closed_frames c text }
     {
         self.reader.play().frames()
+    }
+
+    /// Whether the bad property at a position, counted from 0, is the claim, and was 1 in a closed frame; none is beyond the
+    /// last. It takes no memory.
+    pub fn has_reached(&self, position: usize) -> bool
+        ensures { (c : Circuit) (text : List ℕ) (vs : List Valuation) → StandsFor c self.now text → IsClosedBitTrace c text vs → result ≡ bit_reached c text vs position }
+    {
+        self.reader.reaches(position)
     }
 
     /// How many whole lines stand before the first faulty line.

@@ -1,5 +1,5 @@
 //! The lines of a witness of a circuit, admitted one after the other.
-ghost use Rattle.std.specs.Prelude.{◌≡◌, ℕ, ◌<◌, ◌-◌, ◌^◌, min, true, false, List, [], ◌∷◌, ◌++◌, MatchResult, None, OnErr, Ok, Err, Some, length, map, if◌then◌else◌};
+ghost use Rattle.std.specs.Prelude.{◌≡◌, ℕ, ◌<◌, ◌==◌, ◌&&◌, ◌-◌, ◌^◌, min, true, false, List, [], ◌∷◌, ◌++◌, MatchResult, None, OnErr, Ok, Err, Some, length, map, if◌then◌else◌};
 ghost use Rattle.aiger.specs.Circuit.{Circuit};
 ghost use Rattle.witness.specs.BitAdmits.{BitRead, AtLater, bits_at};
 ghost use Rattle.witness.specs.BitScans.{Scans, is_one_bit};
@@ -68,6 +68,13 @@ impl<'a> BitReader<'a> {
             return None;
         }
         Some(self.claim)
+    }
+
+    /// Whether the claim is the bad property at a position, and rose in a closed frame.
+    pub(crate) fn reaches(&self, position: usize) -> bool
+        ensures { result ≡ ((self.now.claim == position) && self.now.play.rose) }
+    {
+        self.claim == position as u64 && self.play.rose()
     }
 
     /// Which line comes next.

@@ -11,6 +11,7 @@ ghost use Rattle.witness.specs.Admits.{is_at_end};
 ghost use Rattle.witness.specs.Judgements.{Judges};
 ghost use Rattle.witness.specs.WordPlays.{steps_of};
 ghost use Rattle.witness.specs.ClosedWords.{admitted_word_lines, closed_word_frames, IsClosedTrace, last_word};
+ghost use Rattle.witness.specs.Reached.{word_reached};
 ghost use Rattle.base.specs.Lines.{IsLine, unfinished};
 ghost use Rattle.witness.specs.KeptLines.{AreAlike};
 ghost use Rattle.witness.specs.declared.word_reader.Place.TheVariants as place;
@@ -262,6 +263,14 @@ impl<'a> WordJudge<'a> {
         ensures { (items : List Item) (text : List ℕ) (fs : List Frame) → StandsFor items self.now text → IsClosedTrace items text fs → result ≡ last_word items text fs node }
     {
         self.reader.play().closed_word(node)
+    }
+
+    /// Whether the bad property at a position, counted from 0 in file order, is claimed, and was 1 in a closed frame; none is
+    /// beyond the last. It takes no memory.
+    pub fn has_reached(&self, position: usize) -> bool
+        ensures { (items : List Item) (text : List ℕ) (fs : List Frame) → StandsFor items self.now text → IsClosedTrace items text fs → result ≡ word_reached items text fs position }
+    {
+        self.reader.reaches(position)
     }
 
     /// How many whole lines stand before the first faulty line.

@@ -9,7 +9,7 @@ ghost use Rattle.witness.specs.Texts.{has_free, shape_of};
 ghost use Rattle.witness.specs.Admits.{Read, nothing_read, opens_states, names_free, cut_at_space};
 ghost use Rattle.base.specs.Decimals.{number_of};
 ghost use Rattle.witness.specs.Judgements.{nodes_of, unreached_from};
-ghost use Rattle.witness.specs.Fits.{NoneIsSet, RisesAmong, AreClaimed};
+ghost use Rattle.witness.specs.Fits.{NoneIsSet, RisesAmong, AreClaimed, is_set};
 ghost use Rattle.witness.specs.declared.word_reader.Place.TheVariants as place;
 ghost use Rattle.witness.specs.KeptLines.{AreAlike};
 ghost use Rattle.witness.specs.WordStands.{Reads, GivesLine, TakesLine, NoPlainLine, is_alone, place_of};
@@ -133,6 +133,15 @@ impl<'a> WordReader<'a> {
         first_unreached(self.claimed.as_slice(), self.play.rose())
     }
 
+    /// Whether the bad property at a position is claimed, and rose in a closed frame; none is beyond the last.
+    pub(crate) fn reaches(&self, position: usize) -> bool
+        ensures flags { result ≡ (is_set self.now.claimed position && is_set self.now.play.rose position) }
+        ensures there { result ≡ true → position < length (places is_bad 0 self.now.play.items) }
+    {
+        let rose = self.play.rose();
+        position < rose.len() && self.claimed[position] && rose[position]
+    }
+
     /// Takes bytes of the next line.
     pub(crate) fn take(&mut self, bytes: &[u8])
         ensures { (items : List Item) (r : Read) (line : List ℕ) → Reads items self.old r line → Reads items self.new r (line ++ bytes.now) }
@@ -170,7 +179,7 @@ impl<'a> WordReader<'a> {
     /// A comment or the status has ended.
     fn admit_status(&mut self, line: &[u8]) -> Result<(), Why>
         ensures line { (items : List Item) (r : Read) → Reads items self.old r line.now → self.old.place ≡ place.Status → GivesLine items r line.now self.new result }
-        ensures err { OnErr result (self.new.play ≡ self.old.play) }
+        ensures err { OnErr result (self.new ≡ self.old) }
     {
         if is_comment(line) {
             return Ok(());
@@ -195,7 +204,7 @@ impl<'a> WordReader<'a> {
     /// The line behind the claims has ended.
     fn admit_parts(&mut self, line: &[u8]) -> Result<(), Why>
         ensures line { (items : List Item) (r : Read) → Reads items self.old r line.now → self.old.place ≡ place.Parts → GivesLine items r line.now self.new result }
-        ensures err { OnErr result (self.new.play ≡ self.old.play) }
+        ensures err { OnErr result (self.new ≡ self.old) }
     {
         if is_numbered(line, b'#', 0) {
             self.place = Place::States;
@@ -211,7 +220,7 @@ impl<'a> WordReader<'a> {
     /// A line of a part of states has ended, or the one behind it.
     fn admit_states(&mut self, line: &[u8]) -> Result<(), Why>
         ensures line { (items : List Item) (r : Read) → Reads items self.old r line.now → self.old.place ≡ place.States → length r.closed < 2 ^ 62 → GivesLine items r line.now self.new result }
-        ensures err { OnErr result (self.new.play ≡ self.old.play) }
+        ensures err { OnErr result (self.new ≡ self.old) }
     {
         if is_numbered(line, b'@', self.play.frames()) {
             self.place = Place::Frame;
@@ -229,7 +238,7 @@ impl<'a> WordReader<'a> {
     /// A line behind that which opens a frame has ended.
     fn admit_frame(&mut self, line: &[u8]) -> Result<(), Why>
         ensures line { (items : List Item) (r : Read) → Reads items self.old r line.now → self.old.place ≡ place.Frame → length r.closed < 2 ^ 62 → GivesLine items r line.now self.new result }
-        ensures err { OnErr result (self.new.play ≡ self.old.play) }
+        ensures err { OnErr result (self.new ≡ self.old) }
     {
         if !begins_part(line) {
             return self.play.assign_input(line);
@@ -286,6 +295,8 @@ impl<'a> WordReader<'a> {
     pub(crate) fn admit(&mut self, line: &[u8]) -> Result<(), Why>
         ensures line { (items : List Item) (r : Read) (bytes : List ℕ) → Reads items self.old r bytes → AreAlike line.now bytes → length r.closed < 2 ^ 62 → GivesLine items r bytes self.new result }
         ensures err { OnErr result (self.new.play ≡ self.old.play) }
+        // the line of the claims sets flags before it is refused
+        ensures other { OnErr result ((self.old.place ≡ place.Claims → ⊥) → self.new ≡ self.old) }
     {
         let _model = self.play.model();
         match self.place {

@@ -1,4 +1,4 @@
-use Rattle.std.proofs.Common.{◌≡◌, Bool, ◌||◌, ◌&&◌, codes, length, ◌<◌, ◌^◌, subst, sym, ap, ◌∙◌}
+use Rattle.std.proofs.Common.{◌≡◌, [], Bool, ◌||◌, ◌&&◌, codes, length, ◌<◌, ◌^◌, subst, sym, ap, ◌∙◌}
 use Rattle.std.specs.Str.{bytes_eq}
 use Rattle.std.proofs.lemmas.Bool.{leb-true, leb-false}
 use Rattle.witness.specs.declared.bit_reader.BitPlace.{BitPlace as CodePlace}
@@ -6,9 +6,10 @@ use Rattle.witness.specs.Readings.{lines_read}
 use Rattle.witness.specs.BitAdmits.{BitRead, bit_reader}
 use Rattle.witness.specs.Stands.{IsOfLines}
 use Rattle.witness.specs.declared.bit_reader.BitReader.{BitReader}
-use Rattle.witness.specs.BitStands.{Counts, Admits, BitJudge, bit_judging, is_header, place_of}
+use Rattle.witness.specs.BitStands.{Tells, Admits, BitJudge, bit_judging, is_header, place_of}
 use Rattle.witness.proofs.StandsLemmas.{too_many, not_admitted, line_admitted}
 use Rattle.witness.proofs.BitJudgeLemmas.{claims_more, few_frames}
+use Rattle.witness.proofs.ReachedLemmas.{tells_of}
 use Rattle.witness.proofs.bit_judge.BitJudge.judge_line.Goals as goal
 
 pub returns-then-are_most-clause-lines : goal.returns-then-are_most-clause-lines
@@ -27,7 +28,7 @@ returns-in-Ok-clause-lines c circuit lines bytes is scans none =
     let few : length read.frames < 2 ^ 62 = few_frames circuit lines bytes _ now below in
     let status : is_header (place_of c.self.inside.reader.place) ≡ is_header read.place = ap is_header (now.reads fresh).place in
     let gives : Admits circuit read bytes c.admit.new.self = c.in-Ok.ensures.line circuit read bytes (now.reads fresh) scans few in
-    line_admitted (bit_judging circuit) (claims_more circuit) lines bytes bytes _ now fresh below c.admit.new.self gives.0 (c.self.inside.no_claim || c.says_no_claim.result) (is_header (place_of c.self.inside.reader.place)) gives.1.0 gives.1.1 gives.1.1.counts status says
+    line_admitted (bit_judging circuit) (claims_more circuit) lines bytes bytes _ now fresh below c.admit.new.self gives.0 (c.self.inside.no_claim || c.says_no_claim.result) (is_header (place_of c.self.inside.reader.place)) gives.1.0 gives.1.1 (tells_of circuit c.admit.new.self gives.0 [] gives.1.1) status says
 
 pub returns-in-Err-clause-lines : goal.returns-in-Err-clause-lines
 returns-in-Err-clause-lines c circuit lines bytes is scans none =
@@ -38,6 +39,6 @@ returns-in-Err-clause-lines c circuit lines bytes is scans none =
     let read : BitRead = (lines_read (bit_reader circuit) lines).read in
     let few : length read.frames < 2 ^ 62 = few_frames circuit lines bytes _ now below in
     let status : is_header (place_of c.self.inside.reader.place) ≡ is_header read.place = ap is_header (now.reads fresh).place in
-    let counts : Counts circuit c.admit.new.self read = subst (λ (q : BitReader). Counts circuit q read) (sym c.in-Err.ensures.err) now.counts in
+    let counts : Tells circuit c.admit.new.self read = subst (λ (q : BitReader). Tells circuit q read) (sym c.in-Err.ensures.err) now.counts in
     not_admitted (bit_judging circuit) (claims_more circuit) lines bytes bytes _ now fresh below c.admit.new.self c.in-Err.why (c.self.inside.no_claim || c.says_no_claim.result) (is_header (place_of c.self.inside.reader.place)) counts
     (c.in-Err.ensures.line circuit read bytes (now.reads fresh) scans few) status says

@@ -6,6 +6,7 @@ use Rattle.witness.specs.BitAdmits.{bit_reader}
 use Rattle.witness.specs.BitStands.{Admits, BitJudge, Reads, bit_judging, StandsFor, is_header, place_of}
 use Rattle.witness.proofs.StandsLemmas.{line_admitted}
 use Rattle.witness.proofs.BitJudgeLemmas.{claims_more, few_frames, whole_line}
+use Rattle.witness.proofs.ReachedLemmas.{tells_of}
 use Rattle.witness.proofs.bit_judge.BitJudge.takes_bits.Goals as goal
 use Rattle.std.proofs.Math.Bool.{or-false}
 
@@ -22,6 +23,6 @@ returns-clause-taken c circuit text line stands risen =
     let later : is_header (place_of c.self.inside.reader.place) ≡ false = c.take_line.ensures.later c.if-not-take_line.false in
     let says : c.self.inside.no_claim ≡ (c.self.inside.no_claim || (is_header (place_of c.self.inside.reader.place) && (bytes_eq bytes (codes "0") || bytes_eq bytes (codes "2")))) = rw later (sym (or-false c.self.inside.no_claim)) in
     let gives : Admits circuit read bytes c.take_line.new.self = c.take_line.ensures.taken circuit read reads few c.if-not-take_line.false in
-    let lines = line_admitted (bit_judging circuit) (claims_more circuit) (whole_lines text) bytes (unfinished text) _ now.lines fresh below c.take_line.new.self gives.0 c.self.inside.no_claim (is_header (place_of c.self.inside.reader.place)) gives.1.0 gives.1.1 gives.1.1.counts
+    let lines = line_admitted (bit_judging circuit) (claims_more circuit) (whole_lines text) bytes (unfinished text) _ now.lines fresh below c.take_line.new.self gives.0 c.self.inside.no_claim (is_header (place_of c.self.inside.reader.place)) gives.1.0 gives.1.1 (tells_of circuit c.take_line.new.self gives.0 [] gives.1.1)
     (ap is_header (now.lines.reads fresh).place) says in
     whole_line circuit text bytes _ _ line now empty refl lines

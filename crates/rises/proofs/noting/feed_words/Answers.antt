@@ -1,0 +1,14 @@
+use Rattle.std.proofs.Common.{refl, ◌∙◌}
+use Rattle.witness.proofs.FeedLemmas.{fed_nothing, fed_more}
+use Rattle.rises.specs.Notes.{NotesWords}
+use Rattle.rises.proofs.noting.feed_words.Goals as goal
+
+pub loop-count-init : goal.loop-count-init
+loop-count-init g c = record { fed = fed_nothing NotesWords _ _; counted = refl }
+
+pub loop-count-preserved : goal.loop-count-preserved
+loop-count-preserved g c =
+    record {
+      fed = fed_more NotesWords (g.S.Source.to_come c.args.source.now) (g.S.Source.to_come c.loop-count.source) (g.S.Source.to_come c.read.new.self) c.args.noter.now c.loop-count.noter c.feed.new.self _ c.loop-count.invariant.fed c.in-Ok.ensures.bytes.0 c.feed.ensures;
+      counted = c.in-Ok.ensures.failures ∙ c.loop-count.invariant.counted;
+    }

@@ -1,0 +1,116 @@
+-- Which claims a judge of either kind says are reached.
+use Rattle.std.proofs.Common.{◌≡◌, ℕ, ◌<◌, ◌≤◌, nat_eq, Bool, true, false, not, ◌&&◌, List, [], ◌∷◌, Option, Some, None, length, map, get_or, slice_get, refl, sym, ap, ap₂, subst, ◌∙◌, arith, inl, inr}
+use Rattle.std.specs.List.{list_any}
+use Rattle.std.specs.Option.{option_map_or}
+use Rattle.std.proofs.lemmas.Bool.{cases_lt, cases_eq, and_left, and_right, ne_eqb, false_from_ne_true}
+use Rattle.std.proofs.lemmas.Option.{slice_get-get_or, slice_get_past}
+use Rattle.base.specs.Lines.{whole_lines}
+use Rattle.btor2.specs.declared.item.Item.{Item}
+use Rattle.btor2.specs.Items.{is_bad}
+use Rattle.btor2.specs.Lists.{places}
+use Rattle.btor2.specs.Trace.{Frame, IsTrace}
+use Rattle.aiger.specs.Literal.{Valuation}
+use Rattle.aiger.specs.Circuit.{Circuit}
+use Rattle.aiger.specs.Trace.{IsTrace as IsBitTrace}
+use Rattle.witness.specs.Texts.{Parts, shape_of}
+use Rattle.witness.specs.Readings.{lines_read, reading}
+use Rattle.witness.specs.Admits.{Read, word_reader}
+use Rattle.witness.specs.Judgements.{nodes_of, never_rises, frame_words, initial_words, given_words}
+use Rattle.witness.specs.Fits.{is_set, NoneIsSet, AreClaimed}
+use Rattle.witness.specs.ClosedWords.{IsClosedTrace}
+use Rattle.witness.specs.WordPlays.{TracedBy, frames_alone}
+use Rattle.witness.specs.WordStands.{WordReader, WordJudge, StandsFor}
+use Rattle.witness.specs.BitAdmits.{BitPlace, AtHeader, AtClaim, AtInitial, AtFirst, AtLater, AtDone, BitRead, bit_reader}
+use Rattle.witness.specs.BitJudgements.{bit_rises}
+use Rattle.witness.specs.BitPlays.{BitPlay}
+use Rattle.witness.specs.declared.bit_reader.BitReader.{BitReader}
+use Rattle.witness.specs.BitStands.{Reads, PlaysAt, Tells, BitJudge, StandsFor as StandsForBits}
+use Rattle.witness.specs.Reached.{word_rises, word_reached, IsClosedBitTrace, bit_reached}
+use Rattle.witness.proofs.FrameLemmas.{bad_names, length-nodes}
+
+-- ---- over a model
+
+rises_there : (items : List Item) (fs : List Frame) (k : ℕ) → k < length (nodes_of is_bad items) → word_rises items fs k ≡ not (never_rises fs (get_or (nodes_of is_bad items) k 0))
+rises_there items fs k h = ap (λ (o : Option ℕ). option_map_or (λ a. not (never_rises fs a)) o false) (slice_get-get_or (nodes_of is_bad items) k 0 h)
+
+rises_past : (items : List Item) (fs : List Frame) (k : ℕ) → length (nodes_of is_bad items) ≤ k → word_rises items fs k ≡ false
+rises_past items fs k h = ap (λ (o : Option ℕ). option_map_or (λ a. not (never_rises fs a)) o false) (slice_get_past (nodes_of is_bad items) k h)
+
+-- nothing rises in no frame
+none_rises : (items : List Item) (k : ℕ) → word_rises items [] k ≡ false
+none_rises items k = by (slice_get (nodes_of is_bad items) k)
+  where
+    by : (o : Option ℕ) → option_map_or (λ a. not (never_rises [] a)) o false ≡ false
+    by None = refl
+    by (Some a) = refl
+
+no_flag : NoneIsSet []
+no_flag i = refl
+
+some_frames : (x : Parts) (xs : List Parts) → x ∷ xs ≡ [] → ⊥
+some_frames x xs e = cc
+
+-- by the frames that are closed
+by_frames : (items : List Item) (q : WordReader) (claims : List ℕ) (k : ℕ) (closed : List Parts) (base : List ℕ) (fs : List Frame) → TracedBy items base q.play (map frame_words closed)
+    → IsTrace items (initial_words items (frames_alone (map frame_words closed))) (map (given_words items) (map frame_words closed)) fs → ((closed ≡ [] → ⊥) → AreClaimed q.claimed claims) → k < length (nodes_of is_bad items)
+    → (is_set q.claimed k && is_set q.play.rose k) ≡ (list_any (λ c. nat_eq c k) claims && word_rises items fs k)
+by_frames items q claims k [] base [] fresh t known h =
+    and_right (is_set q.claimed k) (is_set q.play.rose k) (fresh.rose k) ∙ sym (and_right (list_any (λ c. nat_eq c k) claims) (word_rises items [] k) (none_rises items k))
+by_frames items q claims k [] base (f ∷ fs) fresh t known h = absurd t
+by_frames items q claims k (x ∷ xs) base fs traced t known h =
+    let one = traced fs t in
+    ap₂ (λ (a b : Bool). a && b) (known (some_frames x xs) k) (one.rose [] no_flag k h ∙ sym (rises_there items fs k h))
+
+pub word_reached_is : (items : List Item) (text : List ℕ) (j : WordJudge) (fs : List Frame) (k : ℕ) (b : Bool) → StandsFor items j text → IsClosedTrace items text fs
+    → b ≡ (is_set j.reader.claimed k && is_set j.reader.play.rose k) → (b ≡ true → k < length (places is_bad 0 j.reader.play.items)) → b ≡ word_reached items text fs k
+unfolding reading
+word_reached_is items text j fs k b stands trace flags there =
+    let r : Read = (lines_read (word_reader (shape_of items)) (whole_lines text)).read in
+    let counts = stands.lines.counts in
+    elim (cases_lt k (length (nodes_of is_bad items))) [
+      | inl h ↦ flags ∙ by_frames items j.reader r.claims k r.closed counts.plays.base fs counts.plays.traced trace counts.claimed h
+      | inr h ↦
+          let none : b ≡ false = false_from_ne_true b (λ e.
+          let inside : k < length (places is_bad 0 items) = subst (λ (l : List Item). k < length (places is_bad 0 l)) counts.items_are (there e) in
+          omega (arith, inside, h, length-nodes is_bad items bad_names)) in
+          none ∙ sym (and_right (list_any (λ c. nat_eq c k) r.claims) (word_rises items fs k) (rises_past items fs k h))
+    ]
+
+-- ---- over a circuit
+
+no_valuation : (c : Circuit) (state : List Bool) (vs : List Valuation) → IsBitTrace c state [] vs → vs ≡ []
+no_valuation c state [] t = refl
+no_valuation c state (v ∷ vs) t = absurd t
+
+-- where no frame is closed
+none_rose : (c : Circuit) (r : BitRead) (rose : Bool) (vs : List Valuation) → r.frames ≡ [] → rose ≡ false → IsBitTrace c r.initial r.frames vs → rose ≡ bit_rises c r.claim vs
+none_rose c r rose vs none is t =
+    is ∙ sym (ap (bit_rises c r.claim) (no_valuation c r.initial vs (subst (λ (frames : List (List Bool)). IsBitTrace c r.initial frames vs) none t)))
+
+rose_at : (c : Circuit) (p : BitPlay) (r : BitRead) (line : List ℕ) (at : BitPlace) → PlaysAt c r p line at → (vs : List Valuation) → IsBitTrace c r.initial r.frames vs → p.rose ≡ bit_rises c r.claim vs
+rose_at c p r line AtHeader plays vs t = none_rose c r p.rose vs plays.1 (ap (λ (x : BitPlay). x.rose) plays.0) t
+rose_at c p r line AtClaim plays vs t = none_rose c r p.rose vs plays.1 (ap (λ (x : BitPlay). x.rose) plays.0) t
+rose_at c p r line AtInitial plays vs t = none_rose c r p.rose vs plays.1 (ap (λ (x : BitPlay). x.rose) plays.0.start) t
+rose_at c p r line AtFirst plays vs t = (plays.0.traced vs t).rose
+rose_at c p r line AtLater plays vs t = (plays.0.traced vs t).rose
+rose_at c p r line AtDone plays vs t = (plays.traced vs t).rose
+
+pub tells_of : (c : Circuit) (q : BitReader) (r : BitRead) (line : List ℕ) → Reads c q r line → Tells c q r
+tells_of c q r line reads =
+    record { circuit = reads.counts.circuit; frames = reads.counts.frames; steps = reads.counts.steps; claim = reads.claim; rose = rose_at c q.play r line r.place reads.play }
+
+-- of the position itself
+at_claim : (P : ℕ → Bool) (i k : ℕ) → (nat_eq i k && P i) ≡ (nat_eq i k && P k)
+at_claim P i k =
+    elim (cases_eq i k) [
+      | inl e ↦ ap (λ (n : ℕ). nat_eq i k && P n) e
+      | inr ne ↦ and_left (nat_eq i k) (P i) (ne_eqb i k ne) ∙ sym (and_left (nat_eq i k) (P k) (ne_eqb i k ne))
+    ]
+
+pub bit_reached_is : (c : Circuit) (text : List ℕ) (j : BitJudge) (vs : List Valuation) (k : ℕ) (b : Bool) → StandsForBits c j text → IsClosedBitTrace c text vs
+    → b ≡ (nat_eq j.reader.claim k && j.reader.play.rose) → b ≡ bit_reached c text vs k
+unfolding reading
+bit_reached_is c text j vs k b stands trace is =
+    let r : BitRead = (lines_read (bit_reader c) (whole_lines text)).read in
+    let tells = stands.lines.counts in
+    is ∙ (ap₂ (λ (i : ℕ) (x : Bool). nat_eq i k && x) tells.claim (tells.rose vs trace) ∙ at_claim (λ i. bit_rises c i vs) r.claim k)
