@@ -8,3 +8,5 @@ pub mod ChangeLemmas
 pub mod WaverLemmas
 pub mod WavingLemmas
 pub mod WorkedLemmas
+pub mod NameLemmas
+pub mod LawLemmas

@@ -5,8 +5,8 @@ use Rattle.base.specs.Lines.{text_of_lines}
 use Rattle.btor2.specs.declared.item.Item.{Item}
 use Rattle.wave.specs.declared.scope.Scope.{Scope}
 use Rattle.wave.specs.declared.scope.Shown.{Shown}
-use Rattle.wave.specs.Names.{code, name_of, title_byte, title_bytes}
-use Rattle.wave.specs.Signals.{scope_name, scopes, signals_in, signal_width}
+use Rattle.wave.specs.Names.{code, title_byte, title_bytes}
+use Rattle.wave.specs.Signals.{scope_name, scopes, signals_in}
 use Rattle.wave.specs.Dumps.{range, var_line, scope_lines, declaration_lines}
 use Rattle.wave.specs.Stands.{concat_slices}
 
@@ -34,25 +34,20 @@ lines_at test line i items x d lt e =
 
 -- a scope: its first line, the lines of its signals, and its last
 pub scope_parts : (s : Shown) (items : List Item) (c : Scope) (name : List ℕ) → name ≡ scope_name c
-    → text_of_lines (scope_lines s items c) ≡ (codes "$scope module " ++ (name ++ (codes " $end\n" ++ []))) ++ (text_of_lines (map (var_line items) (signals_in s items c)) ++ (codes "$upscope $end\n" ++ []))
+    → text_of_lines (scope_lines s items c) ≡ (codes "$scope module " ++ (name ++ (codes " $end\n" ++ []))) ++ (text_of_lines (map (var_line s items c) (signals_in s items c)) ++ (codes "$upscope $end\n" ++ []))
 scope_parts s items c name e =
     rw e
     (ap₂ (λ (h l : List ℕ). h ++ l) (append_assoc (codes "$scope module ") (scope_name c ++ codes " $end") (10 ∷ []) ∙ ap (λ (l : List ℕ). codes "$scope module " ++ l) (append_assoc (scope_name c) (codes " $end") (10 ∷ [])))
-    (flat_map-append (λ line. line ++ 10 ∷ []) (map (var_line items) (signals_in s items c)) (codes "$upscope $end" ∷ [])))
+    (flat_map-append (λ line. line ++ 10 ∷ []) (map (var_line s items c) (signals_in s items c)) (codes "$upscope $end" ∷ [])))
 
--- the line of a signal
-pub var_parts : (items : List Item) (x : Item)
-    → var_line items x ++ 10 ∷ [] ≡ (codes "$var wire " ++ (decimal (signal_width items x) ++ 32 ∷ (code x.id ++ 32 ∷ []))) ++ (name_of x ++ (range (signal_width items x) ++ (codes " $end\n" ++ [])))
-var_parts items x =
-    let w : List ℕ = decimal (signal_width items x) in
-    let rest : List ℕ = name_of x ++ (range (signal_width items x) ++ codes " $end") in
-    append_assoc (codes "$var wire ") (w ++ 32 ∷ (code x.id ++ 32 ∷ rest)) (10 ∷ [])
-    ∙ (ap (λ (l : List ℕ). codes "$var wire " ++ l) (append_assoc w (32 ∷ (code x.id ++ 32 ∷ rest)) (10 ∷ []))
-    ∙ (ap (λ (l : List ℕ). codes "$var wire " ++ (w ++ 32 ∷ l)) (append_assoc (code x.id) (32 ∷ rest) (10 ∷ []))
-    ∙ (ap (λ (l : List ℕ). codes "$var wire " ++ (w ++ 32 ∷ (code x.id ++ 32 ∷ l))) (append_assoc (name_of x) (range (signal_width items x) ++ codes " $end") (10 ∷ []) ∙ ap (λ (l : List ℕ). name_of x ++ l) (append_assoc (range (signal_width items x)) (codes " $end") (10 ∷ [])))
-    ∙ sym (append_assoc (codes "$var wire ") (w ++ 32 ∷ (code x.id ++ 32 ∷ [])) (name_of x ++ (range (signal_width items x) ++ codes " $end\n"))
-    ∙ (ap (λ (l : List ℕ). codes "$var wire " ++ l) (append_assoc w (32 ∷ (code x.id ++ 32 ∷ [])) (name_of x ++ (range (signal_width items x) ++ codes " $end\n")))
-    ∙ ap (λ (l : List ℕ). codes "$var wire " ++ (w ++ 32 ∷ l)) (append_assoc (code x.id) (32 ∷ []) (name_of x ++ (range (signal_width items x) ++ codes " $end\n"))))))))
+-- the line of a signal, whose width and name are these
+pub var_pieces : (width id : ℕ) (name : List ℕ)
+    → (codes "$var wire " ++ (decimal width ++ 32 ∷ (code id ++ 32 ∷ (name ++ (range width ++ codes " $end\n"))))) ≡ (codes "$var wire " ++ (decimal width ++ 32 ∷ (code id ++ 32 ∷ []))) ++ (name ++ (range width ++ (codes " $end\n" ++ [])))
+var_pieces width id name =
+    let rest : List ℕ = name ++ (range width ++ codes " $end\n") in
+    sym (append_assoc (codes "$var wire ") (decimal width ++ 32 ∷ (code id ++ 32 ∷ [])) rest
+    ∙ (ap (λ (l : List ℕ). codes "$var wire " ++ l) (append_assoc (decimal width) (32 ∷ (code id ++ 32 ∷ [])) rest)
+    ∙ ap (λ (l : List ℕ). codes "$var wire " ++ (decimal width ++ 32 ∷ l)) (append_assoc (code id) (32 ∷ []) rest)))
 
 -- all declarations
 pub declaration_parts : (s : Shown) (title : List ℕ) (items : List Item)

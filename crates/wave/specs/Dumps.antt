@@ -7,8 +7,8 @@ use Rattle.btor2.specs.Trace.{Frame}
 use Rattle.witness.specs.Texts.{binary}
 use Rattle.wave.specs.declared.scope.Scope.{Scope}
 use Rattle.wave.specs.declared.scope.Shown.{Shown}
-use Rattle.wave.specs.Names.{code, name_of, title_bytes}
-use Rattle.wave.specs.Signals.{scope_name, scopes, signals_in, signals, signal_width, signal_word}
+use Rattle.wave.specs.Names.{code, title_bytes}
+use Rattle.wave.specs.Signals.{scope_name, scopes, signals_in, signals, name_of, signal_width, signal_word}
 
 -- ---- declarations
 
@@ -17,13 +17,13 @@ abbrev pub range : ℕ → List ℕ
 range width = if width == 1 then [] else codes " [" ++ (decimal (width - 1) ++ codes ":0]")
 
 -- `$var wire <width> <code> <name> $end`, with the places behind the name
-abbrev pub var_line : List Item → Item → List ℕ
-var_line items x =
-    codes "$var wire " ++ (decimal (signal_width items x) ++ 32 ∷ (code x.id ++ 32 ∷ (name_of x ++ (range (signal_width items x) ++ codes " $end"))))
+abbrev pub var_line : Shown → List Item → Scope → Item → List ℕ
+var_line s items c x =
+    codes "$var wire " ++ (decimal (signal_width items x) ++ 32 ∷ (code x.id ++ 32 ∷ (name_of s items c x ++ (range (signal_width items x) ++ codes " $end"))))
 
 abbrev pub scope_lines : Shown → List Item → Scope → List (List ℕ)
 scope_lines s items c =
-    (codes "$scope module " ++ (scope_name c ++ codes " $end")) ∷ (map (var_line items) (signals_in s items c) ++ codes "$upscope $end" ∷ [])
+    (codes "$scope module " ++ (scope_name c ++ codes " $end")) ∷ (map (var_line s items c) (signals_in s items c) ++ codes "$upscope $end" ∷ [])
 
 abbrev pub declaration_lines : Shown → List ℕ → List Item → List (List ℕ)
 declaration_lines s title items =

@@ -1,8 +1,11 @@
--- Names in a value change dump (IEEE 1364, "Value change dump (VCD) files" and "Escaped identifiers"). That a node without a symbol is named by its id, and what is
--- written for bytes of a title that could end it, are this project's.
-use Rattle.std.specs.Prelude.{ℕ, Bool, false, ◌&&◌, ◌||◌, ◌==◌, nat_le, List, [], ◌∷◌, Option, Some, None, decimal, map, if◌then◌else◌}
+-- Names in a value change dump (IEEE 1364, "Value change dump (VCD) files" and "Escaped identifiers"). That a line without a symbol is named by its number or its id,
+-- what stands before the name of a property, how two signals of one name are told apart, and what is written for bytes of a title that could end it, are this project's.
+use Rattle.std.specs.Prelude.{ℕ, Bool, false, ◌&&◌, ◌||◌, ◌==◌, nat_le, List, [], ◌∷◌, ◌++◌, Option, Some, None, codes, decimal, map, if◌then◌else◌}
 use Rattle.std.specs.List.{list_all}
+use Rattle.base.specs.Decimals.{are_digits}
 use Rattle.btor2.specs.declared.item.Item.{Item}
+use Rattle.wave.specs.declared.scope.Scope.{Scope}
+use Rattle.wave.specs.declared.scope.Scope.TheVariants as scope
 
 -- a letter or `_`, and a byte that may follow one in a plain name
 abbrev pub is_letter : ℕ → Bool
@@ -24,13 +27,35 @@ escaped name = if is_plain_name name then name else 92 ∷ name
 abbrev pub code : ℕ → List ℕ
 code id = 110 ∷ decimal id
 
--- the name of a line: its symbol, or its identifier code
-abbrev pub name_by : ℕ → Option (List ℕ) → List ℕ
-name_by id None = code id
-name_by id (Some symbol) = escaped symbol
+-- what stands before the names of a scope: a bad property's signal is 1 where it fails, a constraint's where it is kept, and the name says which it is
+abbrev pub prefix : Scope → List ℕ
+prefix scope.Bads = codes "bad:"
+prefix scope.Constraints = codes "constraint:"
+prefix _ = []
 
-abbrev pub name_of : Item → List ℕ
-name_of x = name_by x.id x.symbol
+-- what names a line of a scope that has no symbol: the number of a bad property or a constraint among those of the model, from 0, and else the identifier code
+abbrev pub own_name : Scope → ℕ → ℕ → List ℕ
+own_name scope.Bads number id = decimal number
+own_name scope.Constraints number id = decimal number
+own_name _ number id = code id
+
+-- what names a line of a scope: its symbol where it has one
+abbrev pub stem_by : Scope → ℕ → ℕ → Option (List ℕ) → List ℕ
+stem_by c number id None = own_name c number id
+stem_by c number id (Some symbol) = symbol
+
+-- the plain name of a line that is signal `number` of a scope
+abbrev pub plain_name : Scope → ℕ → Item → List ℕ
+plain_name c number x = prefix c ++ stem_by c number x.id x.symbol
+
+-- a name ends in `#` and digits, or in `#`: what stands behind a name that is told apart
+abbrev pub ends_in_number : List ℕ → Bool
+ends_in_number [] = false
+ends_in_number (b ∷ bs) = ((b == 35) && are_digits bs) || ends_in_number bs
+
+-- a name that is told apart has `#` and the id of its line behind it
+abbrev pub with_id : Bool → ℕ → List ℕ → List ℕ
+with_id apart id name = if apart then name ++ 35 ∷ decimal id else name
 
 -- a byte of a title, and `_` in place of one that could end it or is not printed: what is left are the bytes of plain names, `/`, `-` and blanks
 abbrev pub title_byte : ℕ → ℕ

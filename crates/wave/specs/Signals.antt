@@ -1,15 +1,18 @@
 -- The signals of a value change dump of a model: which lines are shown, in which scope, and the words that they show (this project's).
-use Rattle.std.specs.Prelude.{ℕ, Bool, false, true, not, ◌&&◌, ◌||◌, List, [], ◌∷◌, is_some, codes, filter, flat_map}
+use Rattle.std.specs.Prelude.{ℕ, Bool, false, true, not, ◌&&◌, ◌||◌, List, [], ◌∷◌, is_some, unwrap_or, codes, filter, flat_map, length, take}
+use Rattle.std.specs.List.{list_any}
+use Rattle.std.specs.Str.{bytes_eq}
 use Rattle.btor2.specs.declared.item.Item.{Item}
 use Rattle.btor2.specs.declared.item.Body.{Body}
 use Rattle.btor2.specs.declared.item.Body.TheVariants as body
-use Rattle.btor2.specs.Items.{is_input, is_state, is_bad, is_constraint}
+use Rattle.btor2.specs.Items.{is_input, is_state, is_bad, is_constraint, position_of}
 use Rattle.btor2.specs.Trace.{Frame, bits_of}
 use Rattle.runs.specs.Frames.{has_value, is_leaf}
 use Rattle.wave.specs.declared.scope.Scope.{Scope}
 use Rattle.wave.specs.declared.scope.Scope.TheVariants as scope
 use Rattle.wave.specs.declared.scope.Shown.{Shown}
 use Rattle.wave.specs.declared.scope.Shown.TheVariants as shown
+use Rattle.wave.specs.Names.{plain_name, ends_in_number, with_id, escaped}
 
 abbrev pub is_output : Body → Bool
 is_output (body.Output a) = true
@@ -47,6 +50,29 @@ signals_in s items c = filter (is_in s c) items
 
 abbrev pub signals : Shown → List Item → List Item
 signals s items = flat_map (signals_in s items) scopes
+
+-- ---- names
+
+-- the signals of a scope that stand before a line, and the line's plain name there
+abbrev pub signals_before : Shown → List Item → Scope → Item → List Item
+signals_before s items c x = signals_in s (take (unwrap_or (position_of items x.id) 0) items) c
+
+abbrev pub plain_name_in : Shown → List Item → Scope → Item → List ℕ
+plain_name_in s items c x = plain_name c (length (signals_before s items c x)) x
+
+-- an earlier signal of the scope has the plain name
+abbrev pub is_named_before : Shown → List Item → Scope → Item → Bool
+is_named_before s items c x = list_any (λ y. bytes_eq (plain_name_in s items c x) (plain_name_in s items c y)) (signals_before s items c x)
+
+-- a signal is told apart where an earlier one of the scope has its plain name, or that could be the name of one that is told apart
+abbrev pub is_told_apart : Shown → List Item → Scope → Item → Bool
+is_told_apart s items c x = is_named_before s items c x || ends_in_number (plain_name_in s items c x)
+
+-- the name of a signal of a scope
+abbrev pub name_of : Shown → List Item → Scope → Item → List ℕ
+name_of s items c x = escaped (with_id (is_told_apart s items c x) x.id (plain_name_in s items c x))
+
+-- ---- words
 
 -- the node whose word a line shows: that which a property or an output names, and else its own
 abbrev pub node_by : ℕ → Body → ℕ

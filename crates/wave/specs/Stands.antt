@@ -1,7 +1,8 @@
 -- What a waver holds, and which texts it stands for; pieces of bytes that are put together.
-use Rattle.std.specs.Prelude.{◌≡◌, ℕ, Bool, true, not, ◌||◌, ◌==◌, List, [], ◌∷◌, ◌++◌, Option, Some, None, Result, MatchResult, IfSome, flat_map, map, unwrap_or, if◌then◌else◌}
+use Rattle.std.specs.Prelude.{◌≡◌, ℕ, ◌≤◌, Bool, true, not, ◌&&◌, ◌||◌, ◌==◌, List, [], ◌∷◌, ◌++◌, Option, Some, None, Result, MatchResult, IfSome, filter, flat_map, length, map, take, unwrap_or, if◌then◌else◌}
 use Rattle.std.specs.Io.KnownBytes.{Appends}
-use Rattle.std.specs.List.{last_or}
+use Rattle.std.specs.List.{last_or, list_any}
+use Rattle.std.specs.Str.{bytes_eq}
 use Rattle.std.specs.Borrow.{Bor}
 use Rattle.base.specs.Device.{Sent, AppendsBeginning}
 use Rattle.btor2.specs.declared.item.Item.{Item}
@@ -10,15 +11,43 @@ use Rattle.btor2.specs.Check.{IsWellFormed}
 use Rattle.btor2.specs.Trace.{Frame}
 use Rattle.witness.specs.WordStands.{WordJudge, StandsFor}
 use Rattle.witness.specs.ClosedWords.{IsClosedTrace, said_in, is_behind_frame, word_at}
+use Rattle.wave.specs.declared.scope.Scope.{Scope}
 use Rattle.wave.specs.declared.scope.Shown.{Shown}
 use Rattle.wave.specs.declared.signals.Signal.{Signal}
-use Rattle.wave.specs.Names.{code}
-use Rattle.wave.specs.Signals.{shown_node, signals, signal_width, signal_word}
+use Rattle.wave.specs.Names.{code, stem_by}
+use Rattle.wave.specs.Signals.{is_in, scopes, shown_node, signals, signals_before, is_told_apart, signal_width, signal_word}
 use Rattle.wave.specs.Dumps.{value, begun_text, vcd_text}
 
 -- the bytes of some pieces, one behind the other
 abbrev pub concat_slices : List (Bor (List ℕ)) → List ℕ
 concat_slices parts = flat_map (λ p. p.now) parts
+
+-- ---- names
+
+-- what names a signal of a scope, behind what stands before all names of the scope
+abbrev pub stem_in : Shown → List Item → Scope → Item → List ℕ
+stem_in s items c x = stem_by c (length (signals_before s items c x)) x.id x.symbol
+
+-- the signals of a scope so far: what names them, each once, and how many they are
+pub record Seen : Type 0 where
+  pub names : List (List ℕ)
+  pub number : ℕ
+
+-- they are the signals of a scope before a place
+pub record HasSeen (s : Shown) (items : List Item) (c : Scope) (place : ℕ) (seen : Seen) : Type 0 where
+  pub named : (name : List ℕ) → list_any (bytes_eq name) seen.names ≡ list_any (λ y. bytes_eq name (stem_in s items c y)) (filter (is_in s c) (take place items))
+  pub counted : seen.number ≡ length (filter (is_in s c) (take place items))
+  pub few : seen.number ≤ place
+
+-- a line is a signal of a scope that is told apart, and so for each line, scope by scope
+abbrev pub is_marked : Shown → List Item → Scope → Item → Bool
+is_marked s items c x = is_in s c x && is_told_apart s items c x
+
+abbrev pub scope_marks : Shown → List Item → Scope → List Bool
+scope_marks s items c = map (is_marked s items c) items
+
+abbrev pub marks : Shown → List Item → List Bool
+marks s items = flat_map (scope_marks s items) scopes
 
 -- ---- signals
 

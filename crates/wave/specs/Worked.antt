@@ -1,11 +1,14 @@
 -- Worked rows: models whose lines have names, and frames of them.
-use Rattle.std.specs.Prelude.{ℕ, List, [], ◌∷◌, Some, codes, ◌==◌, if◌then◌else◌}
+use Rattle.std.specs.Prelude.{ℕ, List, [], ◌∷◌, Some, codes, map, ◌==◌, if◌then◌else◌}
 use Rattle.btor2.specs.declared.item.Item.{Item}
 use Rattle.btor2.specs.declared.item.Body.{Body}
 use Rattle.btor2.specs.declared.item.Body.TheVariants as body
 use Rattle.base.specs.declared.operators.Binary.TheVariants as binary
 use Rattle.btor2.specs.Trace.{Frame}
 use Rattle.btor2.specs.Worked.{line}
+use Rattle.wave.specs.declared.scope.Scope.{Scope}
+use Rattle.wave.specs.declared.scope.Shown.{Shown}
+use Rattle.wave.specs.Signals.{signals_in, name_of}
 
 -- an item with a name
 abbrev pub named : ℕ → List ℕ → Body → Item
@@ -25,6 +28,29 @@ names =
     ∷ line 9 (body.Output 6)
     ∷ line 10 (body.Next 1 4 6)
     ∷ []
+
+-- signals of one name, names that could be that of a signal without a symbol or of one that is told apart, and properties with symbols and without
+abbrev pub alike : List Item
+alike =
+    line 1 (body.Sort 1)
+    ∷ named 2 (codes "a") (body.Input 1)
+    ∷ named 3 (codes "a") (body.Input 1)
+    ∷ named 4 (codes "n5") (body.Input 1)
+    ∷ line 5 (body.Input 1)
+    ∷ named 6 (codes "a#3") (body.Input 1)
+    ∷ named 7 (codes "a#b") (body.Input 1)
+    ∷ named 8 (codes "a") (body.State 1)
+    ∷ named 9 (codes "kept") (body.Constraint 2)
+    ∷ named 10 (codes "1") (body.Bad 2)
+    ∷ line 11 (body.Bad 3)
+    ∷ line 12 (body.Constraint 3)
+    ∷ line 13 (body.Bad 4)
+    ∷ named 14 (codes "bad:2") (body.Output 4)
+    ∷ []
+
+-- the names of the signals of a scope
+abbrev pub names_in : Shown → List Item → Scope → List (List ℕ)
+names_in s items c = map (name_of s items c) (signals_in s items c)
 
 -- a frame in which one node has a word, and all others 0
 abbrev pub one_word : ℕ → ℕ → Frame

@@ -1,6 +1,7 @@
 //! Value change dumps of the frames of witnesses over models.
 #![tactic(auto)]
 
+mod apart;
 mod changes;
 mod declarations;
 mod fault;

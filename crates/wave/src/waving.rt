@@ -1,5 +1,5 @@
 //! Writing whole sources as dumps.
-ghost use Rattle.std.specs.Prelude.{◌≡◌, ◌++◌, List, ℕ, IfErr, IfOk, IfSome, OnErr, OnOk};
+ghost use Rattle.std.specs.Prelude.{◌≡◌, ◌++◌, List, ℕ, None, IfErr, IfOk, IfSome, OnErr, OnOk};
 ghost use Rattle.std.specs.Io.KnownBytes.{Appends, IsAtEnd};
 ghost use Rattle.base.specs.Device.{AppendsBeginning, CountsFaults};
 ghost use Rattle.base.specs.Lines.{text_of_lines};
@@ -13,8 +13,9 @@ ghost use Rattle.witness.specs.ClosedWords.{IsClosedTrace};
 ghost use Rattle.wave.specs.declared.scope.Shown.{Shown as ShownSpec};
 ghost use Rattle.wave.specs.Answers.{AnswersWave, CountsWave, IsBefore, IsDeviceFault};
 ghost use Rattle.wave.specs.Dumps.{declaration_lines, end_lines, vcd_text};
-ghost use Rattle.wave.specs.Stands.{Waves, Takes, WavesAll};
+ghost use Rattle.wave.specs.Stands.{Waves, Takes, WavesAll, marks as all_marks};
 
+use crate::apart::marks;
 use crate::declarations::put_declarations;
 use crate::fault::WaveFault;
 use crate::scope::Shown;
@@ -78,13 +79,15 @@ fn begin<K: Sink>(
     sink: &mut K,
     model: &Model,
     shown: Shown,
+    marks: &[bool],
     title: &[u8],
 ) -> Result<(), WaveFault>
+    requires { marks.now ≡ all_marks shown model.now }
     ensures puts { Puts result (K.written sink.old) (K.written sink.new) outbox.old outbox.new (text_of_lines (declaration_lines shown title.now model.now)) }
     ensures fault { IfErr result (λ e. e ≡ WaveFault.Write) }
     ensures failures { CountsFaults result (K.failures sink.old) (K.failures sink.new) }
 {
-    match put_declarations(outbox, sink, model, shown, title) {
+    match put_declarations(outbox, sink, model, shown, marks, title) {
         Ok(()) => Ok(()),
         Err(_) => Err(WaveFault::Write),
     }
@@ -108,10 +111,35 @@ fn end<K: Sink>(waver: &Waver<'_>, outbox: &mut Outbox, sink: &mut K) -> Result<
     }
 }
 
-/// Reads a source to its end, and writes the dump of the frames of its text.
+/// Reads a source to its end, and writes the dump of the frames of its text, in which signals with a mark are told apart.
 ///
 /// Errors: the source's own, and the sink's.
 fn write_dump<S: Source, K: Sink>(
+    waver: &mut Waver<'_>,
+    model: &Model,
+    shown: Shown,
+    marks: &[bool],
+    title: &[u8],
+    source: &mut S,
+    sink: &mut K,
+) -> Result<(), WaveFault>
+    requires { marks.now ≡ all_marks shown model.now }
+    ensures writes { WavesAll result shown title.now model.now (S.to_come source.old) (K.written sink.old) (K.written sink.new) waver.old waver.new }
+    ensures end { OnOk result (IsAtEnd (S.to_come source.new)) }
+    ensures fault { IfErr result IsDeviceFault }
+    ensures counted { CountsWave result (S.failures source.old) (S.failures source.new) (K.failures sink.old) (K.failures sink.new) }
+{
+    let mut outbox = Outbox::new();
+    begin(&mut outbox, sink, model, shown, marks, title)?;
+    take_all(waver, &mut outbox, source, sink)?;
+    end(waver, &mut outbox, sink)
+}
+
+/// Reads a source to its end, and writes the dump of the frames of its text.
+///
+/// Errors: `NoMemory`, with nothing read or written; the source's own, and the sink's.
+fn write_told<S: Source, K: Sink>(
+    alloc: Global,
     waver: &mut Waver<'_>,
     model: &Model,
     shown: Shown,
@@ -120,14 +148,16 @@ fn write_dump<S: Source, K: Sink>(
     sink: &mut K,
 ) -> Result<(), WaveFault>
     ensures writes { WavesAll result shown title.now model.now (S.to_come source.old) (K.written sink.old) (K.written sink.new) waver.old waver.new }
+    ensures fault { AnswersWave result None }
+    ensures unread { IsBefore result → source.new ≡ source.old }
+    ensures unwritten { IsBefore result → sink.new ≡ sink.old }
     ensures end { OnOk result (IsAtEnd (S.to_come source.new)) }
-    ensures fault { IfErr result IsDeviceFault }
     ensures counted { CountsWave result (S.failures source.old) (S.failures source.new) (K.failures sink.old) (K.failures sink.new) }
 {
-    let mut outbox = Outbox::new();
-    begin(&mut outbox, sink, model, shown, title)?;
-    take_all(waver, &mut outbox, source, sink)?;
-    end(waver, &mut outbox, sink)
+    match marks(alloc, model, shown) {
+        Ok(marks) => write_dump(waver, model, shown, marks.as_slice(), title, source, sink),
+        Err(_) => Err(WaveFault::NoMemory),
+    }
 }
 
 /// Reads a witness of a model to its end, judges it, and writes its frames as a value change dump: the declarations of the
@@ -137,7 +167,8 @@ fn write_dump<S: Source, K: Sink>(
 /// beside it what the judge holds, a word for each signal, and what one call of the sink takes.
 ///
 /// `shown` says which nodes are shown beside inputs, states, properties and outputs; the title stands in the dump's
-/// comment, with `_` in place of bytes that could end it.
+/// comment, with `_` in place of bytes that could end it. Two signals of a scope have two names: to see to that, what names
+/// the signals of one scope is held before anything is written, and six marks for each line of the model until the end.
 ///
 /// Errors: `NoNext` with the first state in file order that has an init and no next, or else `NoMemory` where a growth was
 /// refused, and after both nothing was read or written; `Read` where the source failed in this call, and `Write` where the
@@ -166,7 +197,7 @@ pub fn wave<S: Source, K: Sink>(
     ensures well_formed { IsWellFormed model.now }
 {
     let mut waver = Waver::new(alloc, model, shown)?;
-    let written = write_dump(&mut waver, model, shown, title, source, sink);
+    let written = write_told(alloc, &mut waver, model, shown, title, source, sink);
     let judgement = waver.finish();
     match written {
         Ok(()) => Ok(judgement),

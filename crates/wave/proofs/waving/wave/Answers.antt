@@ -6,7 +6,7 @@ use Rattle.wave.proofs.waving.wave.Goals as goal
 
 pub returns-in-Ok-clause-judged : goal.returns-in-Ok-clause-judged
 returns-in-Ok-clause-judged g c =
-    if_some_then _ (λ (text : List ℕ). Waves c.args.shown c.args.model.now c.write_dump-written.new.waver text) (λ (text : List ℕ). Judges c.args.model.now text c.finish-judgement.result)
+    if_some_then _ (λ (text : List ℕ). Waves c.args.shown c.args.model.now c.write_told-written.new.waver text) (λ (text : List ℕ). Judges c.args.model.now text c.finish-judgement.result)
     (c.finish-judgement.ensures c.args.shown c.args.model.now) (c.in-Ok.ensures.writes c.in_ok-waver.ensures.ok).0
 
 pub returns-in-Ok-clause-written : goal.returns-in-Ok-clause-written
