@@ -25,6 +25,9 @@
 extern "C" {
 #endif
 
+/* The version of the library that this header goes with. */
+#define HWTOOL_VERSION "0.2.0"
+
 /* The statuses. */
 enum {
     HWTOOL_DONE = 0,           /* the answer is there */
@@ -114,6 +117,10 @@ uint32_t hwtool_obligation(const uint8_t *model, size_t model_length, size_t bad
 uint32_t hwtool_check_proof(const uint8_t *model, size_t model_length, size_t bad, const uint8_t *invariant,
                             size_t invariant_length, const uint8_t *proof, size_t proof_length,
                             struct hwtool_verdict *verdict, struct hwtool_refusal *refusal);
+
+/* The version, which is that of the program, as HWTOOL_VERSION has it for this header; not ended by a zero byte. Answers DONE and
+ * TOO_SMALL with `needed`. */
+uint32_t hwtool_version(uint8_t *buffer, size_t buffer_length, size_t *needed);
 
 /* The name of a refusal, by its number, as the program prints it; not ended by a zero byte. Answers DONE and TOO_SMALL with
  * `needed`; TEXT_REFUSED where no refusal has this number. */

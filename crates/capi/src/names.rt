@@ -1,9 +1,11 @@
-//! The call that names refusals.
+//! The calls that name refusals and the version.
 ghost use Rattle.std.specs.Prelude.{◌≡◌, ◌⊎◌, ◌<◌, ⊤, length};
-ghost use Rattle.capi.specs.Written.{Fills};
+ghost use Rattle.orders.specs.Version.{version};
+ghost use Rattle.capi.specs.Written.{Fills, Needs};
 
 use crate::buffers::hand_over;
 use command_line::refusal_table;
+use orders::version;
 
 /// The status where no refusal has a number.
 const UNKNOWN: u32 = 2;
@@ -35,4 +37,17 @@ pub extern "C" fn hwtool_name(number: u32, buffer: &mut [u8], needed: &mut usize
         Some(name) => hand_over(name.as_bytes(), buffer, needed),
         None => UNKNOWN,
     }
+}
+
+/// Tells the version of the library, which is that of the program; it does not end with a zero byte.
+///
+/// Answers 0 where it stands at the front of the buffer, and 1 where it is longer than the buffer, of which nothing is promised
+/// then: after both `needed` is its length.
+#[unsafe(no_mangle)]
+pub extern "C" fn hwtool_version(buffer: &mut [u8], needed: &mut usize) -> u32
+    ensures done { result ≡ 0 → Fills (λ text. text ≡ version) buffer.new needed.new }
+    ensures small { result ≡ 1 → Needs (λ text. text ≡ version) (length buffer.old) needed.new }
+    ensures statuses { (result ≡ 0) ⊎ (result ≡ 1) }
+{
+    hand_over(version().as_bytes(), buffer, needed)
 }

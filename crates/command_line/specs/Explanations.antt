@@ -1,29 +1,45 @@
 -- What is told of refusals that are asked for, and that a table has a refusal.
-use Rattle.std.specs.Prelude.{◌≡◌, ℕ, ◌==◌, Bool, true, ◌&&◌, cond, List, [], ◌++◌, Option, Some, None, flat_map, codes, decimal}
-use Rattle.std.specs.List.{list_any}
-use Rattle.std.specs.Str.{bytes_eq}
-use Rattle.base.specs.Decimals.{number_of}
+use Rattle.std.specs.Prelude.{◌≡◌, ℕ, ◌==◌, nat_eq, Bool, true, false, not, ◌&&◌, cond, List, [], ◌++◌, Option, Some, None, option_map, flat_map, codes, decimal}
+use Rattle.std.specs.List.{list_any, starts_with}
+use Rattle.std.specs.Str.{bytes_eq, str_eq_ignore_ascii_case}
 use Rattle.btor2text.specs.Whys.{number_of as why_number, name_of as why_name}
 use Rattle.btor2text.specs.declared.fault.Why.{Why}
 use Rattle.btor2text.specs.declared.fault.Why.TheVariants as why
 use Rattle.command_line.specs.declared.explanations.Explanation.{Explanation}
 use Rattle.command_line.specs.declared.explanations.Part.{Part}
+use Rattle.command_line.specs.declared.explaining.Sought.{Sought}
+
+-- ---- what is sought
+
+-- a number is that of a row, where one is sought
+abbrev pub has_number : Option ℕ → Explanation → Bool
+has_number None row = true
+has_number (Some number) row = number == row.number
+
+-- a name is that of a row, in letters of either case, where one is sought
+abbrev pub has_name : Option (List ℕ) → Explanation → Bool
+has_name None row = true
+has_name (Some name) row = str_eq_ignore_ascii_case name row.name.now
+
+-- a row is sought: it has the number and the name
+abbrev pub is_sought : Sought → Explanation → Bool
+is_sought s row = has_number s.number row && has_name (option_map (λ name. name.now) s.name) row
+
+-- a row is about the first line of a file
+abbrev pub is_of_first_line : Explanation → Bool
+is_of_first_line row = starts_with nat_eq row.when.now (codes "at line 1")
+
+-- two answers are the same
+abbrev pub is_same : Bool → Bool → Bool
+is_same true b = b
+is_same false b = not b
+
+-- a row fits what is known of the line: in the first one those about it do, in a later one the others, and all do where nothing is known
+abbrev pub is_of_line : Option Bool → Explanation → Bool
+is_of_line None row = true
+is_of_line (Some first) row = is_same first (is_of_first_line row)
 
 -- ---- what is told
-
--- a word, which may write this number, names the refusal of a row
-abbrev pub is_named_by : Option ℕ → List ℕ → Explanation → Bool
-is_named_by (Some number) word row = number == row.number
-is_named_by None word row = bytes_eq word row.name.now
-
--- a word names the refusal of a row: a decimal by its number, another word by its name
-abbrev pub is_named : List ℕ → Explanation → Bool
-is_named word row = is_named_by (number_of word) word row
-
--- a row is wanted: one that a word names, or any where there is no word
-abbrev pub is_wanted : Option (List ℕ) → Explanation → Bool
-is_wanted (Some word) row = is_named word row
-is_wanted None row = true
 
 -- the lines of a row, with the title of its part
 abbrev pub row_lines : List ℕ → Explanation → List ℕ
@@ -31,17 +47,25 @@ row_lines title row =
     decimal row.number ++ (codes " " ++ (row.name.now ++ (codes " (" ++ (title ++ (codes ")\n  when: "
     ++ (row.when.now ++ (codes "\n  do: " ++ (row.remedy.now ++ codes "\n"))))))))
 
--- what is told of a row: nothing where it is not wanted
-abbrev pub told_row : Option (List ℕ) → List ℕ → Explanation → List ℕ
-told_row wanted title row = cond (is_wanted wanted row) (row_lines title row) []
+-- a row is told: it is sought, and it fits the line, or does not
+abbrev pub is_told : Sought → Bool → Explanation → Bool
+is_told s fitting row = is_sought s row && is_same fitting (is_of_line s.in_first_line row)
 
--- what is told of a part: its rows that are wanted, in their order
-abbrev pub told_part : Option (List ℕ) → Part → List ℕ
-told_part wanted part = flat_map (told_row wanted part.title.now) part.rows.now
+-- what is told of a row: nothing where it is not told
+abbrev pub told_row : Sought → Bool → List ℕ → Explanation → List ℕ
+told_row s fitting title row = cond (is_told s fitting row) (row_lines title row) []
+
+-- what is told of a part: its rows that are told, in their order
+abbrev pub told_part : Sought → Bool → Part → List ℕ
+told_part s fitting part = flat_map (told_row s fitting part.title.now) part.rows.now
 
 -- what is told of some parts
-abbrev pub explained : Option (List ℕ) → List Part → List ℕ
-explained wanted parts = flat_map (told_part wanted) parts
+abbrev pub told_parts : Sought → Bool → List Part → List ℕ
+told_parts s fitting parts = flat_map (told_part s fitting) parts
+
+-- what is told of some parts: first the rows that fit the line
+abbrev pub explained : Sought → List Part → List ℕ
+explained s parts = told_parts s true parts ++ told_parts s false parts
 
 -- ---- what the table has
 

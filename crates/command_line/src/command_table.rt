@@ -68,6 +68,12 @@ pub(crate) const ENGINE: &str = "engine";
 
 pub(crate) const BAD: &str = "bad";
 
+/// The flag for outputs as bad properties.
+pub(crate) const OUTPUTS: &str = "outputs";
+
+/// The option for the number of a witness in its file.
+pub(crate) const PICK: &str = "pick";
+
 /// The flag for a counterexample in the form that ABC writes.
 pub(crate) const ABC: &str = "abc";
 
@@ -165,13 +171,13 @@ const ALL_FLAG: Word = Word {
 const MODEL_NAMES: Word = Word {
     name: NAMES,
     kind: Kind::Flag,
-    help: "Say on standard error which line of the model the judgement is about, by its symbol and its id",
+    help: "Say on standard error which line of the model the judgement is about, by its symbol and its id; of an accepted witness, in which frame each claim is reached first",
 };
 
 const CIRCUIT_NAMES: Word = Word {
     name: NAMES,
     kind: Kind::Flag,
-    help: "Say on standard error which name the judgement is about",
+    help: "Say on standard error which name the judgement is about; of an accepted witness, in which frame each claim is reached first",
 };
 
 const LIFTED_NAMES: Word = Word {
@@ -197,6 +203,26 @@ const WRITTEN_BAD: Word = Word {
     name: BAD,
     kind: Kind::Value("K"),
     help: "With --engine, keep the bad property at this position alone, from 0",
+};
+
+/// The properties of a circuit of before AIGER 1.9.
+const OUTPUTS_FLAG: Word = Word {
+    name: OUTPUTS,
+    kind: Kind::Flag,
+    help: "Make each output a bad property, behind those that there are and under its name, as for circuits of before AIGER 1.9",
+};
+
+/// A witness as tools write it, and its number.
+const LOOSE_WITNESS: Word = Word {
+    name: WITNESS,
+    kind: Kind::File,
+    help: "The file of a witness of a model or a circuit, as tools write it, or - for standard input",
+};
+
+const PICK_NUMBER: Word = Word {
+    name: PICK,
+    kind: Kind::Value("N"),
+    help: "Of several witnesses in the file take this one, from 1; without it the first",
 };
 
 /// A witness of an engine form, where it is asked for.
@@ -245,7 +271,7 @@ const CLAIMED_BAD: Word = Word {
 };
 
 /// The commands, in the order in which help lists them.
-pub(crate) static ROWS: [Row; 12] = [
+pub(crate) static ROWS: [Row; 13] = [
     Row {
         word: "lower",
         task: Task::Lower,
@@ -288,6 +314,7 @@ pub(crate) static ROWS: [Row; 12] = [
             OUTPUT_FILE,
             ASCII_FLAG,
             BINARY_FLAG,
+            OUTPUTS_FLAG,
             WRITTEN_FORM,
             WRITTEN_BAD,
         ],
@@ -358,6 +385,12 @@ pub(crate) static ROWS: [Row; 12] = [
             CLAIMED_BAD,
             PROOF_FILE,
         ],
+    },
+    Row {
+        word: "tidy-witness",
+        task: Task::TidyWitness(1),
+        about: "Write the strict text of a witness as tools write it, for check-btor, check-aig and the others: blanks at a line's end, stray lines, comments and what stands behind the witness go, and x becomes 0, one of the runs that it stands for",
+        words: &[LOOSE_WITNESS, QUIET_FLAG, OUTPUT_FILE, PICK_NUMBER],
     },
     Row {
         word: "vectors",

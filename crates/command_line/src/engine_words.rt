@@ -60,6 +60,7 @@ pub(crate) fn with_engine(
     match task {
         Task::Lower => Task::LowerForEngines(choice),
         Task::AigConvert => Task::ConvertForEngines(choice),
+        Task::ConvertOutputs => Task::ConvertOutputsForEngines(choice),
         Task::Restore(_) if words.get_flag(ABC) => Task::Restore(choice),
         Task::Restore(_) => Task::RestoreForm(choice),
         Task::Lift if words.get_flag(ABC) => Task::LiftFound(choice),

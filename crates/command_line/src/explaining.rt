@@ -1,32 +1,155 @@
 //! What is told of refusals that are asked for.
 
-ghost use Rattle.std.specs.Prelude.{◌≡◌, ◌++◌, ◌⊎◌, [], IfOk, OnOk, option_map};
+ghost use Rattle.std.specs.Prelude.{◌≡◌, ◌++◌, ◌⊎◌, Bool, [], IfOk, OnOk, option_map};
 ghost use Rattle.std.specs.String.{string_bytes};
-ghost use Rattle.command_line.specs.Explanations.{explained, is_named, is_wanted, row_lines, told_part, told_row};
+ghost use Rattle.command_line.specs.Explanations.{explained, has_name, has_number, is_of_first_line, is_of_line, is_same, is_sought, is_told, row_lines, told_part, told_parts, told_row};
 
 use crate::explanations::{Explanation, Part};
 use base::decimal;
 use orders::Stop;
 use std::alloc::{AllocError, Global};
 
-/// Whether a word names the refusal of a row: a decimal by its number, another word by its name.
-fn is_named(word: &str, row: &Explanation) -> bool
-    ensures { result ≡ is_named word.now row.now }
-{
-    match decimal(word.as_bytes()) {
-        Some(number) => number == u64::from(row.number),
-        None => word == row.name,
+/// What is sought among refusals: those of a number, of a name, or of both, or all; and whether what was told of it is of the
+/// first line of a file, where that is known.
+#[derive(Clone, Copy)]
+pub struct Sought<'a> {
+    /// The number.
+    pub number: Option<u64>,
+    /// The name, in letters of either case.
+    pub name: Option<&'a str>,
+    /// Whether it is of the first line.
+    pub in_first_line: Option<bool>,
+}
+
+/// The words with which the cases of a refusal begin that are about the first line of a file.
+const FIRST_LINE: &[u8] = b"at line 1";
+
+impl<'a> Sought<'a> {
+    /// All refusals.
+    pub fn all() -> Sought<'a>
+        ensures { result ≡ record { number = None; name = None; in_first_line = None } }
+    {
+        Sought {
+            number: None,
+            name: None,
+            in_first_line: None,
+        }
+    }
+
+    /// What words seek, as they are given or as a line of this program has them: a number, a name, or both at the end of a
+    /// line, which may say before it that it is about a line of a file.
+    pub fn by_words(words: &[&'a str]) -> Sought<'a> {
+        let mut reading = Reading {
+            sought: Sought::all(),
+            is_behind_line: false,
+        };
+        for word in words {
+            reading.take(word);
+        }
+        reading.sought
+    }
+
+    /// What is sought with a word more: a number, behind `line` a line's, or a name, which goes with the number before it.
+    fn with_word(self, word: &'a str, is_behind_line: bool) -> Sought<'a> {
+        if let Some(number) = decimal(word.as_bytes()) {
+            return Sought {
+                number: Some(number),
+                name: None,
+                in_first_line: self.in_first_line,
+            };
+        }
+        if is_behind_line {
+            return Sought {
+                number: None,
+                name: None,
+                in_first_line: Some(word == "1:"),
+            };
+        }
+        Sought {
+            number: if self.name.is_none() {
+                self.number
+            } else {
+                None
+            },
+            name: Some(word),
+            in_first_line: self.in_first_line,
+        }
     }
 }
 
-/// Whether a row is wanted. Without a word all are.
-fn is_wanted(wanted: Option<&str>, row: &Explanation) -> bool
-    ensures { result ≡ is_wanted (option_map (λ word. word.now) wanted.entry) row.now }
+/// What the words sought so far, and whether the last of them is `line`.
+#[derive(Clone, Copy)]
+struct Reading<'a> {
+    sought: Sought<'a>,
+    is_behind_line: bool,
+}
+
+impl<'a> Reading<'a> {
+    /// Takes a text of words.
+    fn take(&mut self, text: &'a str) {
+        for word in text.split_ascii_whitespace() {
+            self.sought = self.sought.with_word(word, self.is_behind_line);
+            self.is_behind_line = word == "line";
+        }
+    }
+}
+
+/// Whether a number is that of a row, where one is sought.
+fn has_number(number: Option<u64>, row: &Explanation) -> bool
+    ensures { result ≡ has_number number row.now }
 {
-    match wanted {
-        Some(word) => is_named(word, row),
+    match number {
+        Some(number) => number == u64::from(row.number),
         None => true,
     }
+}
+
+/// Whether a name is that of a row, in letters of either case, where one is sought.
+fn has_name(name: Option<&str>, row: &Explanation) -> bool
+    ensures { result ≡ has_name (option_map (λ name. name.now) name.entry) row.now }
+{
+    match name {
+        Some(name) => name.eq_ignore_ascii_case(row.name),
+        None => true,
+    }
+}
+
+/// Whether a row is sought.
+fn is_sought(sought: Sought<'_>, row: &Explanation) -> bool
+    ensures { result ≡ is_sought sought.entry row.now }
+{
+    has_number(sought.number, row) && has_name(sought.name, row)
+}
+
+/// Whether a row is about the first line of a file.
+fn is_of_first_line(row: &Explanation) -> bool
+    ensures { result ≡ is_of_first_line row.now }
+{
+    row.when.as_bytes().starts_with(FIRST_LINE)
+}
+
+/// Whether two answers are the same.
+fn is_same(one: bool, other: bool) -> bool
+    ensures { result ≡ is_same one other }
+{
+    if one { other } else { !other }
+}
+
+/// Whether a row fits what is known of the line.
+fn is_of_line(first: Option<bool>, row: &Explanation) -> bool
+    ensures { result ≡ is_of_line first row.now }
+{
+    match first {
+        Some(first) => is_same(first, is_of_first_line(row)),
+        None => true,
+    }
+}
+
+/// Whether a row is told: it is sought, and it fits the line, or does not.
+fn is_told(sought: Sought<'_>, fitting: bool, row: &Explanation) -> bool
+    ensures { result ≡ is_told sought.entry fitting row.now }
+{
+    is_sought(sought, row) && is_same(fitting, is_of_line(sought.in_first_line, row))
 }
 
 /// The lines of a row, with the title of its part.
@@ -40,17 +163,18 @@ fn row_lines(alloc: Global, title: &str, row: &Explanation) -> Result<String, Al
     format!(in alloc; "{number} {name} ({title})\n  when: {when}\n  do: {remedy}\n")
 }
 
-/// Tells a row behind a text, where it is wanted.
+/// Tells a row behind a text, where it is told.
 fn tell_row(
     alloc: Global,
-    wanted: Option<&str>,
+    sought: Sought<'_>,
+    fitting: bool,
     title: &str,
     row: &Explanation,
     text: &mut String,
 ) -> Result<(), AllocError>
-    ensures { OnOk result (string_bytes text.new ≡ string_bytes text.old ++ told_row (option_map (λ word. word.now) wanted.entry) title.now row.now) }
+    ensures { OnOk result (string_bytes text.new ≡ string_bytes text.old ++ told_row sought.entry fitting title.now row.now) }
 {
-    let is_told = is_wanted(wanted, row);
+    let is_told = is_told(sought, fitting, row);
     if is_told {
         let lines = row_lines(alloc, title, row)?;
         text.push_str(lines.as_str())?;
@@ -58,64 +182,87 @@ fn tell_row(
     Ok(())
 }
 
-/// Tells the rows of a part behind a text that are wanted.
+/// Tells the rows of a part behind a text that are told.
 #[tactic(auto, using(crate::proofs::PieceLemmas::all_written))]
 fn tell_part(
     alloc: Global,
-    wanted: Option<&str>,
+    sought: Sought<'_>,
+    fitting: bool,
     part: &Part,
     text: &mut String,
 ) -> Result<(), AllocError>
-    ensures { OnOk result (string_bytes text.new ≡ string_bytes text.old ++ told_part (option_map (λ word. word.now) wanted.entry) part.now) }
+    ensures { OnOk result (string_bytes text.new ≡ string_bytes text.old ++ told_part sought.entry fitting part.now) }
 {
     let mut rest = part.rows;
     while let [row, behind @ ..] = rest {
-        tell_row(alloc, wanted, part.title, row, text)?;
+        tell_row(alloc, sought, fitting, part.title, row, text)?;
         rest = behind;
     }
     Ok(())
 }
 
-/// What is told of the refusals of some parts that are wanted.
+/// Tells the rows of some parts behind a text that are told.
 #[tactic(auto, using(crate::proofs::PieceLemmas::all_written))]
-fn explained(alloc: Global, wanted: Option<&str>, parts: &[Part]) -> Result<String, AllocError>
-    ensures { IfOk result (λ text. string_bytes text ≡ explained (option_map (λ word. word.now) wanted.entry) parts.now) }
+fn tell_parts(
+    alloc: Global,
+    sought: Sought<'_>,
+    fitting: bool,
+    parts: &[Part],
+    text: &mut String,
+) -> Result<(), AllocError>
+    ensures { OnOk result (string_bytes text.new ≡ string_bytes text.old ++ told_parts sought.entry fitting parts.now) }
 {
-    let mut text = String::new(alloc);
     let mut rest = parts;
     while let [part, behind @ ..] = rest {
-        tell_part(alloc, wanted, part, &mut text)?;
+        tell_part(alloc, sought, fitting, part, text)?;
         rest = behind;
     }
+    Ok(())
+}
+
+/// What is told of the refusals of some parts that are sought.
+fn explained(alloc: Global, sought: Sought<'_>, parts: &[Part]) -> Result<String, AllocError>
+    ensures { IfOk result (λ text. string_bytes text ≡ explained sought.entry parts.now) }
+{
+    let mut text = String::new(alloc);
+    tell_parts(alloc, sought, true, parts, &mut text)?;
+    tell_parts(alloc, sought, false, parts, &mut text)?;
     Ok(text)
 }
 
-/// What stands in place of a command where a number or a name is none of a refusal.
-fn unknown(alloc: Global, word: &str) -> Stop
+/// What stands in place of a command where no refusal is sought that there is.
+fn unknown(alloc: Global, sought: Sought<'_>) -> Stop
     ensures { (result.status ≡ 4) ⊎ (result.status ≡ 3) }
 {
-    match format!(in alloc;
-        "words: {word} is no number and no name of a refusal; hwtool explain tells all\n"
-    ) {
+    let text = match (sought.number, sought.name) {
+        (Some(number), Some(name)) => format!(in alloc; "{number} {name}"),
+        (Some(number), None) => format!(in alloc; "{number}"),
+        (None, name) => String::from_str(alloc, name.unwrap_or("")),
+    };
+    let text = match text {
+        Ok(words) => format!(in alloc;
+            "words: {words} is no number and no name of a refusal; hwtool explain tells all\n"
+        ),
+        Err(error) => Err(error),
+    };
+    match text {
         Ok(text) => Stop::refused(text),
         Err(_) => Stop::no_memory(alloc),
     }
 }
 
-/// What the refusals of a table mean and what to do about them: those of a number or a name, or all.
+/// What the refusals of a table mean and what to do about them: those that are sought, first those that fit what is known of the
+/// line that they are told of.
 ///
-/// The text is shown, with status 0; a number or a name that no refusal has is refused as words are, with status 4.
-pub fn explain(alloc: Global, table: &[Part], wanted: Option<&str>) -> Stop
-    ensures shown { result.status ≡ 0 → string_bytes result.text ≡ explained (option_map (λ word. word.now) wanted.entry) table.now }
+/// The text is shown, with status 0; where no refusal is sought that there is, the words are refused, with status 4.
+pub fn explain(alloc: Global, table: &[Part], sought: Sought<'_>) -> Stop
+    ensures shown { result.status ≡ 0 → string_bytes result.text ≡ explained sought.entry table.now }
     // a refusal that is there is told
-    ensures known { result.status ≡ 4 → explained (option_map (λ word. word.now) wanted.entry) table.now ≡ [] }
+    ensures known { result.status ≡ 4 → explained sought.entry table.now ≡ [] }
 {
-    let text = match explained(alloc, wanted, table) {
-        Ok(text) => text,
-        Err(_) => return Stop::no_memory(alloc),
-    };
-    match wanted {
-        Some(word) if text.is_empty() => unknown(alloc, word),
-        _ => Stop::shown(text),
+    match explained(alloc, sought, table) {
+        Ok(text) if text.is_empty() => unknown(alloc, sought),
+        Ok(text) => Stop::shown(text),
+        Err(_) => Stop::no_memory(alloc),
     }
 }

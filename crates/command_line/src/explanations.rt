@@ -32,6 +32,8 @@ ghost use Rattle.restore.specs.Faults.{why_name as restore_name, why_number as r
 ghost use Rattle.restore.specs.declared.fault.RestoreWhy.{RestoreWhy};
 ghost use Rattle.runs.specs.Faults.{new_name, new_number};
 ghost use Rattle.runs.specs.declared.fault.NewFault.{NewFault};
+ghost use Rattle.tidy.specs.Answers.{fault_name as tidy_name, fault_number as tidy_number};
+ghost use Rattle.tidy.specs.declared.fault.TidyFault.{TidyFault};
 ghost use Rattle.wave.specs.Answers.{fault_name as wave_name, fault_number as wave_number};
 ghost use Rattle.wave.specs.declared.fault.WaveFault.{WaveFault};
 ghost use Rattle.witness.specs.Answers.{judge_name, judge_number};
@@ -70,7 +72,7 @@ pub struct Part {
 /// What all refusals mean and what to do about them. A refusal may have several cases, also in several parts.
 ///
 /// Each refusal of each library is there, by the number and the name that the library gives it.
-pub fn refusal_table() -> [Part; 17]
+pub fn refusal_table() -> [Part; 18]
     // the number of a why of a model's text that a push gives is its own, which is printed for it
     ensures models { (why : Why) → Explains result (printed_number why) (name_of why) }
     ensures symbols { (fault : SymbolFault) → Explains result (symbol_fault_number fault) (symbol_fault_name fault) }
@@ -91,6 +93,7 @@ pub fn refusal_table() -> [Part; 17]
     ensures clauses { (fault : ClauseFault) → Explains result (clause_number fault) (clause_name fault) }
     ensures formulas { (fault : FormulaFault) → Explains result (formula_number fault) (formula_name fault) }
     ensures claims { (fault : ClaimFault) → Explains result (claim_number fault) (claim_name fault) }
+    ensures tidying { (fault : TidyFault) → Explains result (tidy_number fault) (tidy_name fault) }
     ensures certificates { (fault : CertificateFault) → Explains result (certificate_number fault) (certificate_name fault) }
 {
     [
@@ -161,6 +164,10 @@ pub fn refusal_table() -> [Part; 17]
         Part {
             title: "Invariants and certificates",
             rows: certificates::invariants(),
+        },
+        Part {
+            title: "Tidied witnesses",
+            rows: witnesses::tidying(),
         },
     ]
 }

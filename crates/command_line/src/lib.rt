@@ -8,7 +8,7 @@ mod explanations;
 mod reading_words;
 mod terminals;
 
-pub use explaining::explain;
+pub use explaining::{Sought, explain};
 pub use explanations::{Explanation, Part, refusal_table};
 pub use reading_words::{given_words, order};
 pub use terminals::{Terminals, order_at};

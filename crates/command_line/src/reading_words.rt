@@ -4,16 +4,17 @@ ghost use Rattle.std.specs.Prelude.{◌≡◌, IfOk, false, option_map};
 ghost use Rattle.orders.specs.Files.{names_standard_input, reads_input_twice};
 
 use crate::command_table::{
-    ALL, ASCII, BINARY, INVARIANT, Kind, NAMES, OUTPUT, PROOF, QUIET, ROWS, Row, WITNESS, Word,
-    row_of,
+    ALL, ASCII, BINARY, INVARIANT, Kind, NAMES, OUTPUT, OUTPUTS, PICK, PROOF, QUIET, ROWS, Row,
+    WITNESS, Word, row_of,
 };
 use crate::engine_words::{engine_properties, with_engine};
-use crate::explaining::explain;
+use crate::explaining::{Sought, explain};
 use crate::explanations::refusal_table;
 use aigertext::Form;
+use base::decimal;
 use clap::error::ErrorKind;
 use clap::{Arg, ArgAction, ArgMatches, Command, Error};
-use orders::{Named, Order, STANDARD_INPUT, STANDARD_OUTPUT, Stop, Task};
+use orders::{Named, Order, STANDARD_INPUT, STANDARD_OUTPUT, Stop, Task, version};
 use std::alloc::{AllocError, AllocGlobal, Global};
 use std::convert::AsStr;
 use std::env::Env;
@@ -22,9 +23,6 @@ use wave::Shown;
 
 /// The program's name, with which each usage line begins.
 const PROGRAM: &str = "hwtool";
-
-/// What `--version` prints behind the program's name.
-const VERSION: &str = "0.1.0";
 
 /// The end of each help.
 const HELP_END: &str = "The file - is standard input.
@@ -49,6 +47,9 @@ const NO_TEXT: &str = "words: not UTF-8\n";
 
 /// What is told of words that name standard input twice.
 const INPUT_TWICE: &str = "words: standard input is read once, so - stands for one file\n";
+
+/// What is told of words that pick no witness.
+const NO_NUMBER: &str = "words: --pick takes the number of a witness in its file, from 1\n";
 
 /// What is told of words that choose both forms of a circuit.
 const TWO_FORMS: &str = "words: choose one form\n";
@@ -91,9 +92,12 @@ fn command_of<'a>(alloc: Global, row: &'a Row) -> Result<Command<'a>, AllocError
 
 /// The words that ask what refusals mean.
 fn explain_command<'a>(alloc: Global) -> Result<Command<'a>, AllocError> {
-    let refusal = Arg::new(alloc, REFUSAL).action(ArgAction::Set).help(
-        "The number or the name of a refusal; without one all are told",
-    );
+    let refusal = Arg::new(alloc, REFUSAL)
+        .num_args(0..)
+        .action(ArgAction::Append)
+        .help(
+            "The number or the name of a refusal, or a whole line that tells one; without it all are told",
+        );
     Command::new(alloc, EXPLAIN)
         .about("Tell what a refusal means and what to do about it")
         .arg(refusal)
@@ -104,7 +108,7 @@ fn program<'a>(alloc: Global) -> Result<Command<'a>, AllocError> {
     let named = Command::new(alloc, PROGRAM).bin_name(PROGRAM)?;
     Ok(
         named
-            .version(VERSION)
+            .version(version())
             .after_help(HELP_END)
             .about(
                 "Word-level BTOR2 models to AIGER circuits, and their witnesses. Without any word: lower standard input.",
@@ -168,25 +172,48 @@ fn with_names(task: Task) -> Task {
     }
 }
 
-/// The command that words ask for, with the engine form that they ask for.
-fn task_of(task: Task, words: &ArgMatches<'_>, engine: Option<Option<usize>>) -> Task {
-    match with_engine(task, words, engine) {
+/// A command, where outputs are to be bad properties the one that makes them so.
+fn with_outputs(task: Task, words: &ArgMatches<'_>) -> Task {
+    match task {
+        Task::AigConvert if words.get_flag(OUTPUTS) => Task::ConvertOutputs,
+        task => task,
+    }
+}
+
+/// The number of the witness that words pick; the first one where they pick none.
+///
+/// Errors: what is told of words that pick so.
+fn picked(words: &ArgMatches<'_>) -> Result<u64, &'static str> {
+    match words.get_str(PICK) {
+        None => Ok(1),
+        Some(word) => match decimal(word.as_bytes()) {
+            None | Some(0) => Err(NO_NUMBER),
+            Some(number) => Ok(number),
+        },
+    }
+}
+
+/// The command that words ask for, with the engine form and the witness that they ask for.
+fn task_of(task: Task, words: &ArgMatches<'_>, engine: Option<Option<usize>>, pick: u64) -> Task {
+    match with_engine(with_outputs(task, words), words, engine) {
+        Task::TidyWitness(_) => Task::TidyWitness(pick),
         Task::Wave(_) if words.get_flag(ALL) => Task::Wave(Shown::All),
         task if words.get_flag(NAMES) => with_names(task),
         task => task,
     }
 }
 
-/// The order that the words of a command name, with the engine form that they ask for.
+/// The order that the words of a command name, with the engine form and the witness that they ask for.
 fn order_of<'a>(
     word: &str,
     words: &ArgMatches<'a>,
     engine: Option<Option<usize>>,
+    pick: u64,
 ) -> Option<Order<'a>> {
     let row = row_of(word)?;
     let file = row.words.first()?;
     Some(Order {
-        task: task_of(row.task, words, engine),
+        task: task_of(row.task, words, engine, pick),
         form: if words.get_flag(BINARY) {
             Form::Binary
         } else {
@@ -233,7 +260,11 @@ fn order_or_stop<'a>(alloc: Global, word: &str, words: &ArgMatches<'a>) -> Resul
     ensures { IfOk result (λ order. reads_input_twice order.first.now (option_map (λ name. name.now) order.second) (option_map (λ name. name.now) order.third) ≡ false) }
 {
     if word == EXPLAIN {
-        return Err(explain(alloc, &refusal_table(), words.get_str(REFUSAL)));
+        let sought = match words.get_strs(REFUSAL) {
+            Some(words) => Sought::by_words(words),
+            None => Sought::all(),
+        };
+        return Err(explain(alloc, &refusal_table(), sought));
     }
     if words.get_flag(ASCII) && words.get_flag(BINARY) {
         return Err(refused(alloc, TWO_FORMS));
@@ -242,10 +273,32 @@ fn order_or_stop<'a>(alloc: Global, word: &str, words: &ArgMatches<'a>) -> Resul
         Ok(engine) => engine,
         Err(line) => return Err(refused(alloc, line)),
     };
-    match order_of(word, words, engine) {
+    let pick = match picked(words) {
+        Ok(pick) => pick,
+        Err(line) => return Err(refused(alloc, line)),
+    };
+    match order_of(word, words, engine, pick) {
         Some(order) if reads_input_twice(&order) => Err(refused(alloc, INPUT_TWICE)),
         Some(order) => Ok(order),
         None => Err(Stop::no_memory(alloc)),
+    }
+}
+
+/// The tip of the parser that a flag which is unknown goes behind `--`, where no command of this program takes it.
+const MISLEADING_TIP: &str = "\n  tip: to pass ";
+
+/// What stands in place of a command where the parser refuses words: what it says of them, without a tip that misleads.
+fn refused_by_parser(alloc: Global, text: String) -> Stop {
+    let without = match text.split_once(MISLEADING_TIP) {
+        Some((before, tip)) => match tip.split_once('\n') {
+            Some((_, behind)) => format!(in alloc; "{}\n{behind}", before.trim_end()),
+            None => return Stop::refused(text),
+        },
+        None => return Stop::refused(text),
+    };
+    match without {
+        Ok(text) => Stop::refused(text),
+        Err(_) => Stop::no_memory(alloc),
     }
 }
 
@@ -255,7 +308,7 @@ fn stop_of(alloc: Global, error: &Error) -> Stop {
         return Stop::no_memory(alloc);
     }
     match format!(in alloc; "{error}") {
-        Ok(text) if error.use_stderr() => Stop::refused(text),
+        Ok(text) if error.use_stderr() => refused_by_parser(alloc, text),
         Ok(text) => Stop::shown(text),
         Err(_) => Stop::no_memory(alloc),
     }

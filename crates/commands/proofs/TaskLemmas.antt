@@ -41,6 +41,8 @@ no_circuit : (t : Task) (known : Option (List ℕ)) (f : Fault) → first_of t �
 unfolding first_of Refuses RefusesByName
 no_circuit task.AigConvert known (fault.Circuit e) on is = is
 no_circuit (task.ConvertForEngines choice) known (fault.Circuit e) on is = is
+no_circuit task.ConvertOutputs known (fault.Circuit e) on is = is
+no_circuit (task.ConvertOutputsForEngines choice) known (fault.Circuit e) on is = is
 no_circuit task.CheckAig known (fault.Circuit e) on is = is
 no_circuit (task.Restore choice) known (fault.Circuit e) on is = is
 no_circuit (task.RestoreForm choice) known (fault.Circuit e) on is = is

@@ -17,7 +17,8 @@ use Rattle.lift.specs.Verdicts.{KeepsVerdictIn}
 use Rattle.tasks.specs.declared.answers.Answer.{Answer}
 use Rattle.tasks.specs.declared.answers.Answer.TheVariants as answer
 use Rattle.tasks.specs.Certificates.{Certifies, CertifiesByName, WritesOwed}
-use Rattle.tasks.specs.Done.{Compares, ConvertsForEngines, IsDumped, IsFormRestored, IsJudged, IsJudgedByName, IsJudgedOver, IsJudgedOverByName, Judged, LowersForEngines, Restores, Rewrites, Shows, TellsCost, TellsRestored, judgement_line}
+use Rattle.tasks.specs.Done.{Compares, ConvertsForEngines, IsDumped, IsFormRestored, IsJudged, IsJudgedByName, IsJudgedOver, IsJudgedOverByName, Judged, LowersForEngines, Restores, Rewrites, Shows, TellsCost, TellsRestored, Tidies, judgement_line}
+use Rattle.tasks.specs.Outputs.{ConvertsOutputs, ConvertsOutputsForEngines}
 use Rattle.tasks.specs.Subjects.{lifted_said, where_named}
 use Rattle.tasks.specs.Texts.{IsModelOf, IsClaim}
 use Rattle.commands.specs.declared.running.First.{First}
@@ -84,6 +85,9 @@ Answers task.Show form answer.Done first second third before now told told' = Sh
 Answers task.Cost form answer.Done first second third before now told told' = TellsCost first before now
 Answers task.AigConvert form answer.Done first second third before now told told' = Rewrites first before now form
 Answers (task.ConvertForEngines choice) form answer.Done first second third before now told told' = ConvertsForEngines first before now form choice
+Answers task.ConvertOutputs form answer.Done first second third before now told told' = ConvertsOutputs first before now form
+Answers (task.ConvertOutputsForEngines choice) form answer.Done first second third before now told told' = ConvertsOutputsForEngines first before now form choice
+Answers (task.TidyWitness pick) form answer.Done first second third before now told told' = Tidies pick first before now
 Answers task.CheckAig form a first second third before now told told' = Judged (IsJudgedOver first second before now) a
 Answers task.Lift form a first second third before now told told' = Judged (IsLifted false first second before now told told') a
 Answers (task.Wave shown) form a first second third before now told told' = Judged (IsDumped shown first second before now told told') a
@@ -120,8 +124,11 @@ has_one_file _ = true
 unfoldable pub first_of : Task → First
 first_of task.Lower = first_is.Text
 first_of task.Vectors = first_is.Text
+first_of (task.TidyWitness pick) = first_is.Text
 first_of task.AigConvert = first_is.Circuit
 first_of (task.ConvertForEngines choice) = first_is.Circuit
+first_of task.ConvertOutputs = first_is.Circuit
+first_of (task.ConvertOutputsForEngines choice) = first_is.Circuit
 first_of task.CheckAig = first_is.Circuit
 first_of (task.Restore choice) = first_is.Circuit
 first_of (task.RestoreForm choice) = first_is.Circuit

@@ -7,20 +7,22 @@ use Rattle.orders.specs.declared.tasks.Named.{Named}
 use Rattle.orders.specs.declared.tasks.Named.TheVariants as named
 use Rattle.orders.specs.declared.tasks.Task.{Task}
 use Rattle.orders.specs.declared.tasks.Task.TheVariants as task
+use Rattle.tasks.specs.declared.refusals.Claimed.TheVariants as claimed
 use Rattle.tasks.specs.declared.refusals.Device.TheVariants as device
 use Rattle.tasks.specs.declared.refusals.Fault.{Fault}
 use Rattle.tasks.specs.declared.refusals.Refusal.{Refusal}
 use Rattle.tasks.specs.declared.refusals.Refusal.TheVariants as refusal
 use Rattle.tasks.specs.Refusals.{IsFaultyInvariant, IsNoCircuit, IsNoModel, IsNoVectorList, IsNotClaimed, IsNotForEngines, IsNotJudged, IsNotLowered}
+use Rattle.tasks.specs.Outputs.{IsNotWithOutputs, IsNotWithOutputsForEngines}
 
 -- the first text has this fault, for which a command refuses it that says by name what its judgement is about
 unfoldable pub RefusesByName : Named → Option (List ℕ) → Fault → Type 0
 RefusesByName named.CheckBtor known f = IsNotJudged known f
 RefusesByName named.CheckAig known f = IsNoCircuit known f
 RefusesByName named.Lift known f = IsNotLowered known f
-RefusesByName (named.LiftFound choice) known f = IsNotClaimed given.Model choice known f
+RefusesByName (named.LiftFound choice) known f = IsNotClaimed claimed.Found given.Model choice known f
 RefusesByName (named.LiftForm choice) known f = IsNotForEngines given.Model choice known f
-RefusesByName (named.CheckProof g choice) known f = IsNotClaimed g choice known f
+RefusesByName (named.CheckProof g choice) known f = IsNotClaimed claimed.Certified g choice known f
 
 -- the first text has this fault, for which a command refuses it
 unfoldable pub Refuses : Task → Option (List ℕ) → Fault → Type 0
@@ -31,17 +33,20 @@ Refuses task.Show known f = IsNoModel known f
 Refuses task.Cost known f = IsNoModel known f
 Refuses task.AigConvert known f = IsNoCircuit known f
 Refuses (task.ConvertForEngines choice) known f = IsNotForEngines given.Circuit choice known f
+Refuses task.ConvertOutputs known f = IsNotWithOutputs known f
+Refuses (task.ConvertOutputsForEngines choice) known f = IsNotWithOutputsForEngines choice known f
 Refuses task.CheckAig known f = IsNoCircuit known f
 Refuses task.Lift known f = IsNotLowered known f
-Refuses (task.Restore choice) known f = IsNotClaimed given.Circuit choice known f
+Refuses (task.Restore choice) known f = IsNotClaimed claimed.Found given.Circuit choice known f
 Refuses (task.RestoreForm choice) known f = IsNotForEngines given.Circuit choice known f
-Refuses (task.LiftFound choice) known f = IsNotClaimed given.Model choice known f
+Refuses (task.LiftFound choice) known f = IsNotClaimed claimed.Found given.Model choice known f
 Refuses (task.LiftForm choice) known f = IsNotForEngines given.Model choice known f
 Refuses (task.Wave shown) known f = IsNotJudged known f
 Refuses (task.Named n) known f = RefusesByName n known f
+Refuses (task.TidyWitness pick) known f = ⊥
 Refuses task.Vectors known f = IsNoVectorList known f
-Refuses (task.Obligation g choice) known f = IsNotClaimed g choice known f
-Refuses (task.CheckProof g choice) known f = IsNotClaimed g choice known f
+Refuses (task.Obligation g choice) known f = IsNotClaimed claimed.Certified g choice known f
+Refuses (task.CheckProof g choice) known f = IsNotClaimed claimed.Certified g choice known f
 
 -- the second text has this fault, for which a command refuses it
 abbrev pub RefusesSecond : Task → Option (List ℕ) → Option (List ℕ) → Fault → Type 0

@@ -1,14 +1,15 @@
 -- What the exit statuses 2, 3 and 4 of a command say.
-use Rattle.std.specs.Prelude.{ℕ, List, Option, Err, ◌⊎◌}
+use Rattle.std.specs.Prelude.{◌≡◌, ℕ, List, Option, Err, ◌⊎◌}
 use Rattle.std.specs.Io.KnownBytes.{Appends}
 use Rattle.base.specs.Device.{HasRisen}
 use Rattle.orders.specs.declared.tasks.Task.{Task}
+use Rattle.tasks.specs.declared.refusals.Claimed.{Claimed}
 use Rattle.tasks.specs.declared.refusals.Device.TheVariants as device
 use Rattle.tasks.specs.declared.refusals.Fault.{Fault}
 use Rattle.tasks.specs.declared.refusals.Fault.TheVariants as fault
 use Rattle.tasks.specs.declared.refusals.Refusal.{Refusal}
 use Rattle.tasks.specs.declared.refusals.Refusal.TheVariants as refusal
-use Rattle.tasks.specs.Refusals.{fault_line, refusal_line, second_name}
+use Rattle.tasks.specs.Refusals.{fault_line, refusal_line, second_name, status_of_fault}
 use Rattle.tasks.specs.Statuses.{CountsAll}
 use Rattle.commands.specs.Refusals.{Refuses, RefusesSecond}
 
@@ -16,12 +17,14 @@ use Rattle.commands.specs.Refusals.{Refuses, RefusesSecond}
 pub record IsFirstRefused (task : Task) (file : List ℕ) (first told told' : Option (List ℕ)) : Type 0 where
   pub fault : Fault
   pub has : Refuses task first fault
+  pub status : status_of_fault fault ≡ 2
   pub line : Appends told told' (fault_line file fault)
 
 -- the second text has one, and the line that tells that fault of the second file was written
 pub record IsSecondRefused (task : Task) (file : List ℕ) (first second told told' : Option (List ℕ)) : Type 0 where
   pub fault : Fault
   pub has : RefusesSecond task first second fault
+  pub status : status_of_fault fault ≡ 2
   pub line : Appends told told' (fault_line file fault)
 
 -- Status 2: the first file is refused, or the second one; the line names the file that it is about.
@@ -30,8 +33,9 @@ IsRefused task file name first second told told' = IsFirstRefused task file firs
 
 -- Status 4: words leave open which bad property of the first text is claimed, and the line that says so was written.
 pub record IsLeftOpen (task : Task) (file : List ℕ) (first told told' : Option (List ℕ)) : Type 0 where
-  pub has : Refuses task first fault.Unchosen
-  pub line : Appends told told' (fault_line file fault.Unchosen)
+  pub claimed : Claimed
+  pub has : Refuses task first (fault.Unchosen claimed)
+  pub line : Appends told told' (fault_line file (fault.Unchosen claimed))
 
 -- a refusal is none of an input, and standard error did not fail
 abbrev pub IsTold : Refusal → Type 0

@@ -7,6 +7,7 @@ ghost use Rattle.orders.specs.declared.tasks.Given.TheVariants as given_is;
 ghost use Rattle.tasks.specs.Done.{IsModelOf};
 ghost use Rattle.commands.specs.Done.{LiftsFound};
 ghost use Rattle.tasks.specs.Refusals.{IsNotClaimed};
+ghost use Rattle.tasks.specs.declared.refusals.Claimed.TheVariants as claimed_is;
 ghost use Rattle.tasks.specs.Statuses.{Counts, IfInput, ErrUntold};
 
 use aiger::Circuit;
@@ -15,7 +16,7 @@ use blast::{Watch, lower_watched};
 use btor2::Model;
 use lift::lift_restored;
 use std::alloc::Global;
-use tasks::{Answer, Refusal, Subject, claim_of, has_form, read_model, tell_restored};
+use tasks::{Answer, Claimed, Refusal, Subject, claim_of, has_form, read_model, tell_restored};
 
 /// Lowers a model, lifts a counterexample over the engine form of its circuit to standard output, with names or without, and
 /// tells on standard error how that is judged, with names behind it what the judgement is about.
@@ -30,7 +31,7 @@ pub(crate) fn lift_counterexample<B: Source, O: Sink, E: Sink, W: Watch>(
     watch: &mut W,
 ) -> Result<Answer, Refusal>
     ensures done { (known : Option (List ℕ)) → IsModelOf known model.now → IfOk result (LiftsFound named choice known (B.to_come second.old) (O.written out.old) (O.written out.new) (E.written err.old) (E.written err.new)) }
-    ensures refused { (known : Option (List ℕ)) → IsModelOf known model.now → IfErr result (IfInput (IsNotClaimed given_is.Model choice known)) }
+    ensures refused { (known : Option (List ℕ)) → IsModelOf known model.now → IfErr result (IfInput (IsNotClaimed claimed_is.Found given_is.Model choice known)) }
     ensures unwritten { IfErr result (IfInput (λ _. out.new ≡ out.old)) }
     ensures untold { ErrUntold result (err.new ≡ err.old) }
     ensures counted { (f : ℕ) → Counts result f f (B.failures second.old) (B.failures second.new) (O.failures out.old) (O.failures out.new) (E.failures err.old) (E.failures err.new) }
@@ -55,7 +56,7 @@ fn lift_over_circuit<B: Source, O: Sink, E: Sink>(
     requires accepted { lowering_refusal model.now ≡ None }
     requires lowers { Lowers model.now circuit.now }
     ensures done { (known : Option (List ℕ)) → IsModelOf known model.now → IfOk result (LiftsFound named choice known (B.to_come second.old) (O.written out.old) (O.written out.new) (E.written err.old) (E.written err.new)) }
-    ensures refused { (known : Option (List ℕ)) → IsModelOf known model.now → IfErr result (IfInput (IsNotClaimed given_is.Model choice known)) }
+    ensures refused { (known : Option (List ℕ)) → IsModelOf known model.now → IfErr result (IfInput (IsNotClaimed claimed_is.Found given_is.Model choice known)) }
     ensures unwritten { IfErr result (IfInput (λ _. out.new ≡ out.old)) }
     ensures untold { ErrUntold result (err.new ≡ err.old) }
     ensures counted { (f : ℕ) → Counts result f f (B.failures second.old) (B.failures second.new) (O.failures out.old) (O.failures out.new) (E.failures err.old) (E.failures err.new) }
@@ -63,8 +64,8 @@ fn lift_over_circuit<B: Source, O: Sink, E: Sink>(
     lift::laws::lifting_keeps_the_verdict();
     lift::laws::names_keep_the_verdict();
     lift::engine_laws::found_over_the_form_is_found_in_the_model();
-    let claim = claim_of(circuit, choice)?;
-    has_form(alloc, circuit, claim)?;
+    let claim = claim_of(circuit, choice, Claimed::Found)?;
+    has_form(circuit, claim)?;
     let told = lift_restored(alloc, model, circuit, claim, named, second, out);
     tell_restored(alloc, told, named, Subject::Lowered(model, circuit), err)
 }

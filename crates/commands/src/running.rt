@@ -20,9 +20,11 @@ use btor2::Model;
 use orders::{DEVICE, Named, Order, Task};
 use std::alloc::Global;
 use tasks::{
-    Answer, Refusal, check_circuit, check_model, check_proof, compare_vectors, convert_circuit,
-    convert_for_engines, dump_witness, lower_for_engines, lower_model, read_circuit, read_model,
-    restore_counterexample, restore_witness, show, tell, tell_cost, write_obligation,
+    Answer, Refusal, check_circuit, check_circuit_by_name, check_model, check_model_by_name,
+    check_proof, compare_vectors, convert_circuit, convert_for_engines, convert_outputs,
+    convert_outputs_for_engines, dump_witness, lower_for_engines, lower_model, read_circuit,
+    read_model, restore_counterexample, restore_witness, show, tell, tell_cost, tidy_witness,
+    write_obligation,
 };
 
 /// Does a command, and answers the exit status: 0 done or accepted, 1 not accepted, 2 input refused, 3 device or memory, 4
@@ -105,9 +107,11 @@ fn first_of(task: Task) -> First
     ensures { result ≡ first_of task }
 {
     match task {
-        Task::Lower | Task::Vectors => First::Text,
+        Task::Lower | Task::Vectors | Task::TidyWitness(_) => First::Text,
         Task::AigConvert
         | Task::ConvertForEngines(_)
+        | Task::ConvertOutputs
+        | Task::ConvertOutputsForEngines(_)
         | Task::CheckAig
         | Task::Restore(_)
         | Task::RestoreForm(_)
@@ -231,6 +235,7 @@ fn obey_on_text<A: Source, O: Sink, W: Watch>(
     match order.task {
         Task::Lower => lower_model(alloc, order.form, first, out, watch),
         Task::Vectors => compare_vectors(alloc, first, out),
+        Task::TidyWitness(pick) => tidy_witness(pick, first, out),
         _ => unreachable!(),
     }
 }
@@ -282,7 +287,7 @@ fn do_on_model<B: Source, O: Sink, E: Sink, W: Watch>(
         Task::LowerForEngines(choice) => {
             lower_for_engines(alloc, model, order.form, choice, out, watch)
         }
-        Task::CheckBtor => check_model(alloc, false, model, second, out, err),
+        Task::CheckBtor => check_model(alloc, model, second, out),
         Task::Show => show(alloc, model, out),
         Task::Cost => tell_cost(alloc, model, out),
         Task::Lift => lift_witness(alloc, false, model, second, out, err, watch),
@@ -293,7 +298,7 @@ fn do_on_model<B: Source, O: Sink, E: Sink, W: Watch>(
             lift_form_witness(alloc, false, model, choice, second, out, err, watch)
         }
         Task::Wave(shown) => dump_witness(alloc, order, shown, model, second, out, err),
-        Task::Named(Named::CheckBtor) => check_model(alloc, true, model, second, out, err),
+        Task::Named(Named::CheckBtor) => check_model_by_name(alloc, model, second, out, err),
         Task::Named(Named::Lift) => lift_witness(alloc, true, model, second, out, err, watch),
         Task::Named(Named::LiftFound(choice)) => {
             lift_counterexample(alloc, true, model, choice, second, out, err, watch)
@@ -351,10 +356,14 @@ fn do_on_circuit<B: Source, O: Sink, E: Sink>(
         Task::ConvertForEngines(choice) => {
             convert_for_engines(alloc, circuit, order.form, choice, out)
         }
-        Task::CheckAig => check_circuit(alloc, false, circuit, second, out, err),
+        Task::ConvertOutputs => convert_outputs(alloc, circuit, order.form, out),
+        Task::ConvertOutputsForEngines(choice) => {
+            convert_outputs_for_engines(alloc, circuit, order.form, choice, out)
+        }
+        Task::CheckAig => check_circuit(alloc, circuit, second, out),
         Task::Restore(choice) => restore_counterexample(alloc, circuit, choice, second, out, err),
         Task::RestoreForm(choice) => restore_witness(alloc, circuit, choice, second, out, err),
-        Task::Named(Named::CheckAig) => check_circuit(alloc, true, circuit, second, out, err),
+        Task::Named(Named::CheckAig) => check_circuit_by_name(alloc, circuit, second, out, err),
         _ => unreachable!(),
     }
 }

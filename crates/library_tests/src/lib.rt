@@ -28,3 +28,5 @@ pub mod samples;
 mod sizes;
 #[cfg(test)]
 mod sources_and_sinks;
+#[cfg(test)]
+mod tidied_witnesses;

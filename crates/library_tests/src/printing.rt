@@ -83,9 +83,10 @@ const OF_GATES: [(GateFault, &str); 2] = [
 ];
 
 /// Why there is no engine form.
-const OF_FORMS: [(EngineFault, &str); 5] = [
+const OF_FORMS: [(EngineFault, &str); 6] = [
     (EngineFault::Justice, "140 Justice"),
     (EngineFault::Fair, "141 Fair"),
+    (EngineFault::NoBad, "145 NoBad"),
     (EngineFault::NoSuchBad, "142 NoSuchBad"),
     (EngineFault::TooBig, "143 TooBig"),
     (EngineFault::NoMemory, "144 NoMemory"),

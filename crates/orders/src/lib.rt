@@ -1,8 +1,10 @@
-//! What the words of a command line ask for, what stands in its place, and the exit statuses.
+//! What the words of a command line ask for, what stands in its place, the exit statuses, and the version.
 #![tactic(auto)]
 
+mod release;
 mod statuses;
 mod tasks;
 
+pub use release::version;
 pub use statuses::{DEVICE, DONE, NOT_ACCEPTED, REFUSED, WORDS_REFUSED};
 pub use tasks::{Given, Named, Order, STANDARD_INPUT, STANDARD_OUTPUT, Stop, Task};

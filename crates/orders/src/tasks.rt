@@ -60,6 +60,11 @@ pub enum Task {
     AigConvert,
     /// Writes the engine form of a circuit, with all bad properties or with the one at a position.
     ConvertForEngines(Option<usize>),
+    /// Writes a circuit with its outputs as bad properties, in a form.
+    ConvertOutputs,
+    /// Writes the engine form of a circuit with its outputs as bad properties, with all bad properties or with the one at a
+    /// position.
+    ConvertOutputsForEngines(Option<usize>),
     /// Judges a witness over a circuit.
     CheckAig,
     /// Lifts a witness of a model's circuit to one of the model.
@@ -79,6 +84,8 @@ pub enum Task {
     Wave(Shown),
     /// Judges a witness, and says by name what the judgement is about.
     Named(Named),
+    /// Writes the strict text of a witness as tools write it: of the one with this number in the file, from 1.
+    TidyWitness(u64),
     /// Judges vectors of operators.
     Vectors,
     /// Writes the formula that an invariant owes for a bad property of what is given: for the one at a position, or for the

@@ -1,16 +1,20 @@
 -- Bad properties of an engine form rise as those of a circuit, and of the model that it lowers.
-use Rattle.std.proofs.Common.{◌≡◌, ◌↔◌, ℕ, List, Option, Some, None, Result, Ok, Err, OnOk}
+use Rattle.std.proofs.Common.{◌≡◌, ◌↔◌, ℕ, ◌+◌, ◌<◌, List, length, Option, Some, None, Result, Ok, Err, OnOk}
+use Rattle.std.specs.Io.KnownBytes.{Appends}
 use Rattle.btor2.specs.declared.item.Item.{Item}
 use Rattle.aiger.specs.Circuit.{Circuit}
 use Rattle.aiger.specs.Reachability.{CanRiseInCircuit}
 use Rattle.aigertext.specs.declared.forms.Form.{Form}
+use Rattle.aigertext.specs.Binary.{circuit_text}
 use Rattle.blast.specs.Lowering.{Lowers}
 use Rattle.blast.specs.Reachability.{CanRise}
 use Rattle.blast.specs.Refusal.{lowering_refusal}
 use Rattle.engine.specs.EngineForm.{IsEngineFormOf}
+use Rattle.engine.specs.Outputs.{HasOutputsAsBads, OutputCanBeOne}
 use Rattle.tasks.specs.declared.answers.Answer.{Answer}
 use Rattle.tasks.specs.declared.refusals.Refusal.{Refusal}
 use Rattle.tasks.specs.Done.{ConvertsForEngines, IsCircuitText, IsModelOf, LowersForEngines, RiseAlike, WritesEngineForm}
+use Rattle.tasks.specs.Outputs.{ConvertsOutputs, ConvertsOutputsForEngines}
 
 -- the laws of engine forms: with all bad properties, and with a chosen one
 abbrev pub AllRise : Type 0
@@ -58,3 +62,40 @@ lowered (Ok x) known before now form choice items c text accepted lowers rise al
   appends = w.appends;
 }
 lowered (Err e) known before now form choice items c text accepted lowers rise all one w = w
+
+-- ---- outputs as bad properties
+
+-- the laws of them: those that were outputs rise where these can be 1, and the others where they could
+abbrev pub OutputsRise : Type 0
+OutputsRise = (c d : Circuit) → HasOutputsAsBads c d → (k : ℕ) → OutputCanBeOne c k ↔ CanRiseInCircuit d (length c.bads + k)
+
+abbrev pub BadsRise : Type 0
+BadsRise = (c d : Circuit) → HasOutputsAsBads c d → (b : ℕ) → b < length c.bads → CanRiseInCircuit c b ↔ CanRiseInCircuit d b
+
+pub outputs_converted : (r : Result Answer Refusal) (known before now : Option (List ℕ)) (form : Form) (c made : Circuit)
+    → IsCircuitText known c → HasOutputsAsBads c made → OutputsRise → BadsRise → OnOk r (Appends before now (circuit_text form made)) → OnOk r (ConvertsOutputs known before now form)
+outputs_converted (Ok x) known before now form c made text outputs rise others appends = record {
+  original = c;
+  circuit = made;
+  text = text;
+  outputs = outputs;
+  rise = record { outputs = rise c made outputs; bads = others c made outputs };
+  appends = appends;
+}
+outputs_converted (Err e) known before now form c made text outputs rise others appends = appends
+
+pub outputs_for_engines : (r : Result Answer Refusal) (known before now : Option (List ℕ)) (form : Form) (choice : Option ℕ) (c made : Circuit)
+    → IsCircuitText known c → HasOutputsAsBads c made → OutputsRise → BadsRise → AllRise → OneRises → OnOk r (WritesEngineForm made choice before now form)
+    → OnOk r (ConvertsOutputsForEngines known before now form choice)
+outputs_for_engines (Ok x) known before now form choice c made text outputs rise others all one w = record {
+  original = c;
+  made = made;
+  circuit = w.circuit;
+  text = text;
+  outputs = outputs;
+  rise = record { outputs = rise c made outputs; bads = others c made outputs };
+  is_form = w.is_form;
+  rise_alike = rise_alike choice made w.circuit all one w.is_form;
+  appends = w.appends;
+}
+outputs_for_engines (Err e) known before now form choice c made text outputs rise others all one w = w

@@ -7,6 +7,8 @@ use Rattle.btor2text.specs.declared.fault.Why.TheVariants as why
 use Rattle.aigertext.specs.declared.fault.ReadFault.{ReadFault as CircuitFault}
 use Rattle.aigertext.specs.declared.fault.Why.{Why as CircuitWhy}
 use Rattle.aigertext.specs.declared.fault.Why.TheVariants as circuit_why
+use Rattle.aiger.specs.declared.fault.CircuitFault.{CircuitFault as Made}
+use Rattle.aiger.specs.declared.fault.CircuitFault.TheVariants as made
 use Rattle.engine.specs.declared.fault.EngineFault.{EngineFault}
 use Rattle.engine.specs.declared.fault.EngineFault.TheVariants as engine
 use Rattle.blast.specs.declared.fault.LowerFault.{LowerFault}
@@ -32,6 +34,11 @@ use Rattle.tasks.specs.declared.refusals.Device.TheVariants as device
 use Rattle.tasks.specs.declared.refusals.Fault.TheVariants as fault
 use Rattle.tasks.specs.declared.refusals.Refusal.{Refusal}
 use Rattle.tasks.specs.declared.refusals.Refusal.TheVariants as refusal
+
+-- of a circuit whose outputs are taken as bad properties
+abbrev pub of_outputs : Made → Refusal
+of_outputs made.NoMemory = refusal.NoMemory
+of_outputs e = refusal.Input (fault.Outputs e)
 
 -- of the text of a model, by the why of its fault
 abbrev pub of_reading_for : ReadFault → Why → Refusal

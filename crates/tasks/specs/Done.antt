@@ -1,5 +1,5 @@
 -- What a task has done.
-use Rattle.std.specs.Prelude.{◌≡◌, ◌≢◌, ◌↔◌, ◌⊎◌, ℕ, Bool, true, false, List, [], ◌∷◌, ◌++◌, length, Option, Some, None, IfSome, codes, decimal}
+use Rattle.std.specs.Prelude.{◌≡◌, ◌≢◌, ◌↔◌, ◌⊎◌, ℕ, List, [], ◌∷◌, ◌++◌, length, Option, Some, None, IfSome, codes, decimal}
 use Rattle.std.specs.List.{All}
 use Rattle.std.specs.Io.KnownBytes.{Appends}
 use Rattle.btor2.specs.declared.item.Item.{Item}
@@ -26,18 +26,23 @@ use Rattle.witness.specs.declared.judgement.Judgement.{Judgement}
 use Rattle.witness.specs.declared.judgement.Judgement.TheVariants as judgement
 use Rattle.witness.specs.Judgements.{Judges}
 use Rattle.witness.specs.BitJudgements.{BitJudges}
+use Rattle.reached.specs.Accepted.{Reaches, ReachesInCircuit}
 use Rattle.blast.specs.Lowering.{Lowers}
 use Rattle.btor2.specs.Trace.{Frame}
 use Rattle.witness.specs.ClosedWords.{IsClosedTrace}
+use Rattle.witness.specs.Reached.{IsClosedBitTrace}
+use Rattle.rises.specs.FirstRises.{word_first_rises, bit_first_rises}
+use Rattle.aiger.specs.Literal.{Valuation}
 use Rattle.wave.specs.Dumps.{vcd_text}
 use Rattle.wave.specs.declared.scope.Shown.{Shown}
 use Rattle.witness.specs.Printed.{judgement_text}
+use Rattle.tidy.specs.Tidied.{tidied}
 use Rattle.vectors.specs.declared.lines.Vector.{Vector}
 use Rattle.vectors.specs.Vectors.{AreVectorsOf, IsRight, numbered, differing, report}
 pub use Rattle.tasks.specs.Texts.{IsModelOf, IsCircuitText, IsClaim}
 use Rattle.tasks.specs.declared.answers.Answer.{Answer}
 use Rattle.tasks.specs.declared.answers.Answer.TheVariants as answer
-use Rattle.tasks.specs.Subjects.{item_said, name_said}
+use Rattle.tasks.specs.Subjects.{bad_item_said, bad_name_said, item_said, name_said, said_by_name}
 
 -- a judgement is that the witness is accepted
 abbrev pub IsAccepted : Judgement → Type 0
@@ -48,21 +53,23 @@ IsAccepted _ = ⊥
 abbrev pub judgement_line : Judgement → List ℕ
 judgement_line j = judgement_text j ++ 10 ∷ []
 
--- The first text is of a model, each of whose states has a next or is free; the second is judged so over it; and what was written is the line of that judgement.
+-- The first text is of a model, each of whose states has a next or is free; the second is judged so over it, and where it is accepted all bad properties that it claims can rise; and what was written is the line of that judgement.
 pub record IsJudged (model witness before now : Option (List ℕ)) (verdict : Judgement) : Type 0 where
   pub items : List Item
   pub text : IsModelOf model items
   pub well_formed : IsWellFormed items
   pub each_has_next_or_is_free : first_init_without_next items items ≡ None
   pub judged : IfSome witness (λ text. Judges items text verdict)
+  pub reached : IfSome witness (λ text. Reaches items text verdict)
   pub line : Appends before now (judgement_line verdict)
 
--- The first text is of a circuit; the second is judged so over it; and what was written is the line of that judgement.
+-- The first text is of a circuit; the second is judged so over it, and where it is accepted the bad property that it claims can rise; and what was written is the line of that judgement.
 pub record IsJudgedOver (circuit witness before now : Option (List ℕ)) (verdict : Judgement) : Type 0 where
   pub value : Circuit
   pub is_circuit : IsCircuit value
   pub text : IsCircuitText circuit value
   pub judged : IfSome witness (λ text. BitJudges value text verdict)
+  pub reached : IfSome witness (λ text. ReachesInCircuit value text verdict)
   pub line : Appends before now (judgement_line verdict)
 
 -- a witness is accepted where an answer is that all is done, and else it is not
@@ -206,6 +213,10 @@ pub record Restores (choice : Option ℕ) (circuit found before now told told' :
   pub is_restored : IsRestored choice circuit found before now
   pub tells : TellsRestored (λ verdict. []) a is_restored.value is_restored.claim found told told'
 
+-- what was written is the strict text of the witness with a number, from 1, in all that was to come
+abbrev pub Tidies : ℕ → Option (List ℕ) → Option (List ℕ) → Option (List ℕ) → Type 0
+Tidies pick known before now = IfSome known (λ text. Appends before now (tidied pick text))
+
 -- all that was to come is a text of some vectors, each of which is right, and what was written is that all of them agree
 pub record Agree (known before now : Option (List ℕ)) : Type 0 where
   pub vectors : List Vector
@@ -227,21 +238,16 @@ Compares known before now answer.NotAccepted = Differ known before now
 
 -- ---- with names
 
--- a witness is judged so over a model, and what was told is the line that says what the judgement is about
+-- A witness is judged so over a model, and what was told says what the judgement is about, and of an acceptance in which frame of the model's one trace each claim is reached first.
 pub record IsJudgedByName (model witness before now told told' : Option (List ℕ)) (verdict : Judgement) : Type 0 where
   pub judged : IsJudged model witness before now verdict
-  pub subject : Appends told told' (item_said judged.items verdict)
+  pub firsts : List (Option ℕ)
+  pub rises : IfSome witness (λ text. (fs : List Frame) → IsClosedTrace judged.items text fs → firsts ≡ word_first_rises judged.items text fs)
+  pub subject : Appends told told' (said_by_name (item_said judged.items) (bad_item_said judged.items) firsts verdict)
 
--- a witness is judged so over a circuit, and what was told is the line that says what the judgement is about
+-- The same over a circuit.
 pub record IsJudgedOverByName (circuit witness before now told told' : Option (List ℕ)) (verdict : Judgement) : Type 0 where
   pub judged : IsJudgedOver circuit witness before now verdict
-  pub subject : Appends told told' (name_said judged.value verdict)
-
--- with names or without
-abbrev pub IsJudgedWith : Bool → Option (List ℕ) → Option (List ℕ) → Option (List ℕ) → Option (List ℕ) → Option (List ℕ) → Option (List ℕ) → Judgement → Type 0
-IsJudgedWith false model witness before now told told' verdict = IsJudged model witness before now verdict
-IsJudgedWith true model witness before now told told' verdict = IsJudgedByName model witness before now told told' verdict
-
-abbrev pub IsJudgedOverWith : Bool → Option (List ℕ) → Option (List ℕ) → Option (List ℕ) → Option (List ℕ) → Option (List ℕ) → Option (List ℕ) → Judgement → Type 0
-IsJudgedOverWith false circuit witness before now told told' verdict = IsJudgedOver circuit witness before now verdict
-IsJudgedOverWith true circuit witness before now told told' verdict = IsJudgedOverByName circuit witness before now told told' verdict
+  pub firsts : List (Option ℕ)
+  pub rises : IfSome witness (λ text. (vs : List Valuation) → IsClosedBitTrace judged.value text vs → firsts ≡ bit_first_rises judged.value text vs)
+  pub subject : Appends told told' (said_by_name (name_said judged.value) (bad_name_said judged.value) firsts verdict)

@@ -2,6 +2,7 @@
 pub mod Certificates
 pub mod Conversions
 pub mod Done
+pub mod Outputs
 pub mod Files
 pub mod Refusals
 pub mod Restoring

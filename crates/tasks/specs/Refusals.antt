@@ -1,10 +1,11 @@
 -- What a task says that is not done: the fault that its input has, or which file or stream failed, and the line that tells it.
-use Rattle.std.specs.Prelude.{◌≡◌, ◌≢◌, ℕ, List, [], ◌++◌, length, Option, None, Some, Err, IfSome, unwrap_or, codes, decimal}
+use Rattle.std.specs.Prelude.{◌≡◌, ◌⊎◌, ℕ, ◌<◌, List, [], ◌++◌, length, Option, None, Some, Err, IfSome, unwrap_or, codes, decimal}
 use Rattle.btor2.specs.declared.item.Item.{Item}
 use Rattle.btor2.specs.Check.{IsWellFormed}
 use Rattle.btor2.specs.Lists.{first_init_without_next}
 use Rattle.btor2text.specs.FirstFault.{IsFaultOf}
 use Rattle.aiger.specs.Circuit.{Circuit}
+use Rattle.aiger.specs.Refusal.{fault_number, fault_name}
 use Rattle.btor2text.specs.Whys.{printed_number, name_of}
 use Rattle.aigertext.specs.AsciiReading.{IsFaultOf as IsCircuitFaultOf}
 use Rattle.aigertext.specs.Whys.{why_number, why_name}
@@ -22,6 +23,8 @@ use Rattle.invariants.specs.Reading.{Reads}
 use Rattle.invariants.specs.Refusal.{obligation_refusal}
 use Rattle.witness.specs.Answers.{judge_number, judge_name}
 use Rattle.witness.specs.declared.fault.JudgeFault.TheVariants as judge
+use Rattle.tasks.specs.declared.refusals.Claimed.{Claimed}
+use Rattle.tasks.specs.declared.refusals.Claimed.TheVariants as claimed
 use Rattle.tasks.specs.declared.refusals.Device.{Device}
 use Rattle.tasks.specs.declared.refusals.Device.TheVariants as device
 use Rattle.tasks.specs.declared.refusals.Fault.{Fault}
@@ -63,16 +66,18 @@ abbrev pub fault_line : List ℕ → Fault → List ℕ
 fault_line file (fault.Model e) = about file (at (codes "line ") e.line (numbered_name (printed_number e.why) (name_of e.why)))
 fault_line file (fault.Circuit e) = about file (at (codes "byte ") e.place (numbered_name (why_number e.why) (why_name e.why)))
 fault_line file (fault.Lowering e) = about file (at_item e (numbered_name (lower_number e) (lower_name e)))
+fault_line file (fault.Outputs e) = about file (numbered_name (fault_number e) (fault_name e))
 fault_line file (fault.Engine e) = about file (numbered_name (engine_number e) (engine_name e))
 fault_line file (fault.Invariant e) = about file (at (codes "line ") e.line (numbered_name (invariant_number e.why) (invariant_name e.why)))
 fault_line file (fault.Obligation e) = about file (numbered_name (obligation_number e) (obligation_name e))
 fault_line file (fault.NoNext id) = item_line file id (judge_number (judge.NoNext id)) (judge_name (judge.NoNext id))
 fault_line file (fault.Vector n) = about file (at (codes "line ") n (codes "bad vector\n"))
-fault_line file fault.Unchosen = about file (codes "--bad K says which bad property is claimed: ABC prints its number as Output K of miter was asserted\n")
+fault_line file (fault.Unchosen claimed.Found) = about file (codes "--bad K says which bad property rises: the K that the engine form was made for, or of a form of all, that of ABC's Output K of miter\n")
+fault_line file (fault.Unchosen claimed.Certified) = about file (codes "--bad K says which bad property holds: the K that the engine form of the invariant was made for\n")
 
 -- the exit status of a fault: words that leave a choice open are refused, and else the input is
 abbrev pub status_of_fault : Fault → ℕ
-status_of_fault fault.Unchosen = 4
+status_of_fault (fault.Unchosen c) = 4
 status_of_fault _ = 2
 
 -- the name by which the second file is told
@@ -164,18 +169,32 @@ pub record GivesNoForm (g : Given) (choice : Option ℕ) (known : Option (List �
   pub is_claim : IsClaim choice circuit claim
   pub first : engine_refusal circuit (Some claim) ≡ Some e
 
--- the first text gives a circuit that has none or several bad properties, and none is chosen
+-- no bad property of a circuit is claimed so, where none is chosen: it has none, and this is the first that speaks against an engine form of it; or it has several
+abbrev pub IsUnclaimed : Claimed → Circuit → Fault → Type 0
+IsUnclaimed c circuit (fault.Engine e) = (circuit.bads ≡ []) × (engine_refusal circuit None ≡ Some e)
+IsUnclaimed c circuit (fault.Unchosen c') = (c' ≡ c) × (1 < length circuit.bads)
+IsUnclaimed c circuit _ = ⊥
+
+-- the first text gives a circuit without a bad property, none is chosen, and this is the first that speaks against an engine form of it
+pub record GivesNoBad (g : Given) (choice : Option ℕ) (known : Option (List ℕ)) (e : EngineFault) : Type 0 where
+  pub circuit : Circuit
+  pub gives : Gives g known circuit
+  pub unchosen : choice ≡ None
+  pub none : circuit.bads ≡ []
+  pub first : engine_refusal circuit None ≡ Some e
+
+-- the first text gives a circuit that has several bad properties, and none is chosen
 pub record GivesUnchosen (g : Given) (choice : Option ℕ) (known : Option (List ℕ)) : Type 0 where
   pub circuit : Circuit
   pub gives : Gives g known circuit
-  pub none : choice ≡ None
-  pub not_one : length circuit.bads ≢ 1
+  pub unchosen : choice ≡ None
+  pub several : 1 < length circuit.bads
 
--- the first text gives no circuit, or one without an engine form for the bad property that is claimed
-abbrev pub IsNotClaimed : Given → Option ℕ → Option (List ℕ) → Fault → Type 0
-IsNotClaimed g choice known (fault.Engine e) = GivesNoForm g choice known e
-IsNotClaimed g choice known fault.Unchosen = GivesUnchosen g choice known
-IsNotClaimed g choice known f = IsNotGiven g known f
+-- the first text gives no circuit, or one without an engine form for the bad property that is claimed, or leaves open which one that is, of what is so claimed
+abbrev pub IsNotClaimed : Claimed → Given → Option ℕ → Option (List ℕ) → Fault → Type 0
+IsNotClaimed c g choice known (fault.Engine e) = GivesNoForm g choice known e ⊎ GivesNoBad g choice known e
+IsNotClaimed c g choice known (fault.Unchosen c') = (c' ≡ c) × GivesUnchosen g choice known
+IsNotClaimed c g choice known f = IsNotGiven g known f
 
 -- ---- the fault of a second input
 

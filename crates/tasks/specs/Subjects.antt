@@ -1,5 +1,5 @@
 -- What a judgement is about, by name: the line of the model, or the name in the circuit, of the bad property, the constraint, the state or the latch that it tells by a number (this project's).
-use Rattle.std.specs.Prelude.{ℕ, Bool, true, false, List, [], ◌++◌, Option, Some, None, slice_get, codes, decimal}
+use Rattle.std.specs.Prelude.{ℕ, suc, Bool, true, false, List, [], ◌∷◌, ◌++◌, Option, Some, None, slice_get, codes, decimal}
 use Rattle.btor2.specs.declared.item.Item.{Item}
 use Rattle.btor2.specs.declared.item.Body.{Body}
 use Rattle.btor2.specs.Items.{is_state, is_bad, is_constraint}
@@ -81,6 +81,31 @@ lifted_said items c j = item_said items j
 abbrev pub holds_said : Verdict → List ℕ → List ℕ
 holds_said (verdict.Derived line) what = what
 holds_said _ what = []
+
+-- ---- of an acceptance
+
+-- in which frame something is reached
+abbrev pub frame_said : ℕ → List ℕ
+frame_said frame = codes "reached in frame " ++ decimal frame
+
+-- of a claim that is reached first in a frame, that it is, and which bad property it is; and nothing of a bad property of which no frame is told
+abbrev pub first_said : (ℕ → List ℕ) → ℕ → Option ℕ → List ℕ
+first_said bad k None = []
+first_said bad k (Some frame) = says (codes "b") k (frame_said frame) ++ bad k
+
+-- the same of the bad properties from number k on
+abbrev pub firsts_said : (ℕ → List ℕ) → ℕ → List (Option ℕ) → List ℕ
+firsts_said bad k [] = []
+firsts_said bad k (first ∷ more) = first_said bad k first ++ firsts_said bad (suc k) more
+
+-- it is said where a witness is accepted
+abbrev pub where_accepted : Judgement → List ℕ → List ℕ
+where_accepted (judgement.Accepted frames) what = what
+where_accepted _ what = []
+
+-- what is said by name of a judgement: what it is about, and of an acceptance in which frames the claims are reached first
+abbrev pub said_by_name : (Judgement → List ℕ) → (ℕ → List ℕ) → List (Option ℕ) → Judgement → List ℕ
+said_by_name said bad firsts j = said j ++ where_accepted j (firsts_said bad 0 firsts)
 
 -- ---- of a subject
 

@@ -11,6 +11,7 @@ ghost use Rattle.invariants.specs.Certificates.{IsCertified, IsOwed};
 ghost use Rattle.orders.specs.declared.tasks.Given.TheVariants as given_is;
 ghost use Rattle.tasks.specs.Certificates.{CertifiesWith, Gives, IsRead, IsSoDerived, WritesOwed, given_said, read_said, verdict_line};
 ghost use Rattle.tasks.specs.Done.{IsModelOf};
+ghost use Rattle.tasks.specs.declared.refusals.Claimed.TheVariants as claimed_is;
 ghost use Rattle.tasks.specs.Refusals.{IsFaultyFor, IsFaultyInvariant, IsNoCircuit, IsNotClaimed, IsNotGiven, IsNotLowered, IsWithoutForm};
 ghost use Rattle.tasks.specs.Statuses.{Counts, CountsAll, ErrUntold, IfInput, IfSecond, IsOfNoInput};
 ghost use Rattle.tasks.specs.Subjects.{bad_said, holds_said, where_named};
@@ -18,7 +19,7 @@ ghost use Rattle.tasks.specs.Subjects.{bad_said, holds_said, where_named};
 use crate::answers::Answer;
 use crate::circuits::read_circuit;
 use crate::models::read_model;
-use crate::refusals::{Device, Refusal};
+use crate::refusals::{Claimed, Device, Refusal};
 use crate::restoring::claim_of;
 use crate::subjects::{Subject, tell_bad};
 use crate::telling::write_result;
@@ -153,13 +154,13 @@ fn write_owed_over<B: Source, O: Sink>(
 ) -> Result<Answer, Refusal>
     ensures done { (g : Given) (known : Option (List ℕ)) → Gives g known circuit.now → OnOk result (WritesOwed g choice known (B.to_come second.old) (O.written out.old) (O.written out.new)) }
     ensures answer { IfOk result (λ answer. answer ≡ Answer.Done) }
-    ensures refused { (g : Given) (known : Option (List ℕ)) → Gives g known circuit.now → IfErr result (IfInput (IsNotClaimed g choice known)) }
+    ensures refused { (g : Given) (known : Option (List ℕ)) → Gives g known circuit.now → IfErr result (IfInput (IsNotClaimed claimed_is.Certified g choice known)) }
     ensures second { (g : Given) (known : Option (List ℕ)) → Gives g known circuit.now → IfErr result (IfSecond (IsFaultyInvariant g choice known (B.to_come second.old))) }
     ensures unwritten { IfErr result (IfInput (λ _. out.new ≡ out.old)) }
     ensures unwritten_second { IfErr result (IfSecond (λ _. out.new ≡ out.old)) }
     ensures counted { (f t e : ℕ) → CountsAll result f f (B.failures second.old) (B.failures second.new) t t (O.failures out.old) (O.failures out.new) e e }
 {
-    let claim = claim_of(circuit, choice)?;
+    let claim = claim_of(circuit, choice, Claimed::Certified)?;
     let formula = owed(alloc, circuit, claim, second)?;
     write_owed(&formula, out)
 }
@@ -179,7 +180,7 @@ pub fn write_obligation<A: Source, B: Source, O: Sink, W: Watch>(
 ) -> Result<Answer, Refusal>
     ensures done { OnOk result (WritesOwed given choice (A.to_come first.old) (B.to_come second.old) (O.written out.old) (O.written out.new)) }
     ensures answer { IfOk result (λ answer. answer ≡ Answer.Done) }
-    ensures refused { IfErr result (IfInput (IsNotClaimed given choice (A.to_come first.old))) }
+    ensures refused { IfErr result (IfInput (IsNotClaimed claimed_is.Certified given choice (A.to_come first.old))) }
     ensures second { IfErr result (IfSecond (IsFaultyInvariant given choice (A.to_come first.old) (B.to_come second.old))) }
     ensures unwritten { IfErr result (IfInput (λ _. out.new ≡ out.old)) }
     ensures unwritten_second { IfErr result (IfSecond (λ _. out.new ≡ out.old)) }
@@ -309,7 +310,7 @@ fn check_over<B: Source, T: Source, O: Sink, E: Sink>(
     err: &mut E,
 ) -> Result<Answer, Refusal>
     ensures done { (g : Given) (known : Option (List ℕ)) (gives : Gives g known circuit.now) → ((k : ℕ) → bad_said subject.entry k ≡ given_said g known circuit.now gives k) → IfOk result (CertifiesWith named g choice known (B.to_come second.old) (T.to_come third.old) (O.written out.old) (O.written out.new) (E.written err.old) (E.written err.new)) }
-    ensures refused { (g : Given) (known : Option (List ℕ)) → Gives g known circuit.now → IfErr result (IfInput (IsNotClaimed g choice known)) }
+    ensures refused { (g : Given) (known : Option (List ℕ)) → Gives g known circuit.now → IfErr result (IfInput (IsNotClaimed claimed_is.Certified g choice known)) }
     ensures second { (g : Given) (known : Option (List ℕ)) → Gives g known circuit.now → IfErr result (IfSecond (IsFaultyInvariant g choice known (B.to_come second.old))) }
     ensures unwritten { IfErr result (IfInput (λ _. out.new ≡ out.old)) }
     ensures unwritten_second { IfErr result (IfSecond (λ _. out.new ≡ out.old)) }
@@ -319,7 +320,7 @@ fn check_over<B: Source, T: Source, O: Sink, E: Sink>(
 {
     invariants::laws::certified_property_never_rises();
     blast::laws::bad_properties_rise_alike();
-    let claim = claim_of(circuit, choice)?;
+    let claim = claim_of(circuit, choice, Claimed::Certified)?;
     let judgement = judged(alloc, circuit, claim, second, third)?;
     tell_verdict(alloc, named, subject, claim, &judgement, out, err)
 }
@@ -338,7 +339,7 @@ pub fn check_proof<A: Source, B: Source, T: Source, O: Sink, E: Sink, W: Watch>(
     watch: &mut W,
 ) -> Result<Answer, Refusal>
     ensures done { IfOk result (CertifiesWith named given choice (A.to_come first.old) (B.to_come second.old) (T.to_come third.old) (O.written out.old) (O.written out.new) (E.written err.old) (E.written err.new)) }
-    ensures refused { IfErr result (IfInput (IsNotClaimed given choice (A.to_come first.old))) }
+    ensures refused { IfErr result (IfInput (IsNotClaimed claimed_is.Certified given choice (A.to_come first.old))) }
     ensures second { IfErr result (IfSecond (IsFaultyInvariant given choice (A.to_come first.old) (B.to_come second.old))) }
     ensures unwritten { IfErr result (IfInput (λ _. out.new ≡ out.old)) }
     ensures unwritten_second { IfErr result (IfSecond (λ _. out.new ≡ out.old)) }

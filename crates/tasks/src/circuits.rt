@@ -1,20 +1,22 @@
 //! The commands on circuits.
 
-ghost use Rattle.std.specs.Prelude.{◌≡◌, ℕ, false, List, Option, IfOk, IfErr, OnOk};
+ghost use Rattle.std.specs.Prelude.{◌≡◌, ℕ, List, Option, IfOk, IfErr, OnOk};
 ghost use Rattle.std.specs.Io.KnownBytes.{Appends};
 ghost use Rattle.aiger.specs.Circuit.{IsCircuit};
 ghost use Rattle.aigertext.specs.Binary.{circuit_text};
-ghost use Rattle.tasks.specs.Done.{IsCircuitText, IsJudgedOverWith, Judged, Rewrites};
+ghost use Rattle.tasks.specs.Done.{IsCircuitText, IsJudgedOver, IsJudgedOverByName, Judged, Rewrites};
 ghost use Rattle.tasks.specs.Refusals.{IsNoCircuit};
 ghost use Rattle.tasks.specs.Statuses.{Counts, ErrUntold, IfInput, IsOfNoInput};
 
 use crate::answers::Answer;
-use crate::judgements::write_judgement;
+use crate::judgements::{write_judgement, write_judgement_by_name};
 use crate::refusals::{Device, Refusal};
 use crate::subjects::Subject;
 use aiger::Circuit;
 use aigertext::{Form, read, write};
 use base::{Sink, Source};
+use reached::laws::judged_claims_are_reached;
+use rises::judge_bits_with_rises;
 use std::alloc::Global;
 use witness::judge_bits;
 
@@ -59,34 +61,52 @@ pub fn write_circuit<O: Sink>(circuit: &Circuit, form: Form, out: &mut O) -> Res
     }
 }
 
-/// Judges a witness over a circuit, and with names says what the judgement is about.
-pub fn check_circuit<B: Source, O: Sink, E: Sink>(
+/// Judges a witness over a circuit.
+pub fn check_circuit<B: Source, O: Sink>(
     alloc: Global,
-    named: bool,
+    circuit: &Circuit,
+    second: &mut B,
+    out: &mut O,
+) -> Result<Answer, Refusal>
+    ensures done { (known : Option (List ℕ)) → IsCircuitText known circuit.now → IfOk result (Judged (IsJudgedOver known (B.to_come second.old) (O.written out.old) (O.written out.new))) }
+    ensures no_input { IsOfNoInput result }
+    ensures counted { (f e : ℕ) → Counts result f f (B.failures second.old) (B.failures second.new) (O.failures out.old) (O.failures out.new) e e }
+{
+    // the lists of a circuit are one
+    let _ = circuit.inputs();
+    judged_claims_are_reached();
+    match judge_bits(alloc, circuit, second) {
+        Ok(judgement) => write_judgement(alloc, &judgement, out),
+        Err(fault) => Err(Refusal::from(fault)),
+    }
+}
+
+/// Judges a witness over a circuit, and says what the judgement is about, and of an acceptance in which frames the claims are
+/// reached first.
+pub fn check_circuit_by_name<B: Source, O: Sink, E: Sink>(
+    alloc: Global,
     circuit: &Circuit,
     second: &mut B,
     out: &mut O,
     err: &mut E,
 ) -> Result<Answer, Refusal>
-    ensures done { (known : Option (List ℕ)) → IsCircuitText known circuit.now → IfOk result (Judged (IsJudgedOverWith named known (B.to_come second.old) (O.written out.old) (O.written out.new) (E.written err.old) (E.written err.new))) }
+    ensures done { (known : Option (List ℕ)) → IsCircuitText known circuit.now → IfOk result (Judged (IsJudgedOverByName known (B.to_come second.old) (O.written out.old) (O.written out.new) (E.written err.old) (E.written err.new))) }
     ensures no_input { IsOfNoInput result }
     ensures untold { ErrUntold result (err.new ≡ err.old) }
-    ensures quiet { named ≡ false → err.new ≡ err.old }
     ensures counted { (f : ℕ) → Counts result f f (B.failures second.old) (B.failures second.new) (O.failures out.old) (O.failures out.new) (E.failures err.old) (E.failures err.new) }
 {
     // the lists of a circuit are one
     let _ = circuit.inputs();
-    match judge_bits(alloc, circuit, second) {
-        Ok(judgement) => {
-            write_judgement(
-                alloc,
-                named,
-                Subject::Circuit(circuit),
-                &judgement,
-                out,
-                err,
-            )
-        }
+    judged_claims_are_reached();
+    match judge_bits_with_rises(alloc, circuit, second) {
+        Ok((judgement, firsts)) => write_judgement_by_name(
+            alloc,
+            Subject::Circuit(circuit),
+            &judgement,
+            &firsts,
+            out,
+            err,
+        ),
         Err(fault) => Err(Refusal::from(fault)),
     }
 }

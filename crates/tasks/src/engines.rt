@@ -19,7 +19,7 @@ use engine::engine_form;
 use std::alloc::Global;
 
 /// Writes the engine form of a circuit, with all its bad properties or with a chosen one.
-fn write_engine_form<O: Sink>(
+pub(crate) fn write_engine_form<O: Sink>(
     alloc: Global,
     circuit: &Circuit,
     form: Form,

@@ -5,13 +5,14 @@ ghost use Rattle.std.specs.Io.KnownBytes.{Appends};
 ghost use Rattle.std.specs.String.{string_bytes};
 ghost use Rattle.tasks.specs.Done.{IsSo, judgement_line};
 ghost use Rattle.tasks.specs.Statuses.{Counts, ErrUntold, IsOfNoInput};
-ghost use Rattle.tasks.specs.Subjects.{subject_said, where_named};
+ghost use Rattle.tasks.specs.Subjects.{bad_said, said_by_name, subject_said, where_named};
 
 use crate::answers::Answer;
 use crate::refusals::{Device, Refusal};
-use crate::subjects::{Subject, tell_subject};
+use crate::subjects::{Subject, tell_by_name, tell_subject};
 use crate::telling::write_result;
 use base::{Sink, write_all};
+use rises::FirstRises;
 use std::alloc::{AllocError, Global};
 use witness::Judgement;
 
@@ -23,7 +24,11 @@ fn judgement_line(alloc: Global, judgement: &Judgement) -> Result<String, AllocE
 }
 
 /// Writes the line of a judgement to standard output, and answers whether the witness is accepted.
-fn write_line<O: Sink>(alloc: Global, judgement: &Judgement, out: &mut O) -> Result<Answer, Refusal>
+pub fn write_judgement<O: Sink>(
+    alloc: Global,
+    judgement: &Judgement,
+    out: &mut O,
+) -> Result<Answer, Refusal>
     ensures written { OnOk result (Appends (O.written out.old) (O.written out.new) (judgement_line judgement.now)) }
     ensures so { IfOk result (λ answer. IsSo answer judgement.now) }
     ensures no_input { IsOfNoInput result }
@@ -34,26 +39,25 @@ fn write_line<O: Sink>(alloc: Global, judgement: &Judgement, out: &mut O) -> Res
     Ok(Answer::of(judgement))
 }
 
-/// Writes the line of a judgement to standard output, with names says on standard error what it is about, and answers whether
-/// the witness is accepted.
-pub fn write_judgement<O: Sink, E: Sink>(
+/// Writes the line of a judgement to standard output, says on standard error what it is about, and of an acceptance in which
+/// frames the claims are reached first, and answers whether the witness is accepted.
+pub fn write_judgement_by_name<O: Sink, E: Sink>(
     alloc: Global,
-    named: bool,
     subject: Subject<'_>,
     judgement: &Judgement,
+    firsts: &FirstRises,
     out: &mut O,
     err: &mut E,
 ) -> Result<Answer, Refusal>
     ensures written { OnOk result (Appends (O.written out.old) (O.written out.new) (judgement_line judgement.now)) }
-    ensures told { OnOk result (Appends (E.written err.old) (E.written err.new) (where_named named (subject_said subject.entry judgement.now))) }
-    ensures quiet { named ≡ false → err.new ≡ err.old }
+    ensures told { OnOk result (Appends (E.written err.old) (E.written err.new) (said_by_name (subject_said subject.entry) (bad_said subject.entry) firsts.now judgement.now)) }
     ensures so { IfOk result (λ answer. IsSo answer judgement.now) }
     ensures no_input { IsOfNoInput result }
     ensures untold { ErrUntold result (err.new ≡ err.old) }
     ensures counted { (f s : ℕ) → Counts result f f s s (O.failures out.old) (O.failures out.new) (E.failures err.old) (E.failures err.new) }
 {
-    let answer = write_line(alloc, judgement, out)?;
-    match tell_subject(named, subject, judgement, err) {
+    let answer = write_judgement(alloc, judgement, out)?;
+    match tell_by_name(subject, judgement, firsts, err) {
         Ok(()) => Ok(answer),
         Err(_) => Err(Refusal::Failed(Device::Error)),
     }

@@ -1,16 +1,16 @@
 //! The commands on models.
 
-ghost use Rattle.std.specs.Prelude.{◌≡◌, ◌++◌, ℕ, false, List, Option, IfOk, IfErr, OnOk};
+ghost use Rattle.std.specs.Prelude.{◌≡◌, ◌++◌, ℕ, List, Option, IfOk, IfErr, OnOk};
 ghost use Rattle.std.specs.Io.KnownBytes.{Appends};
 ghost use Rattle.std.specs.String.{string_bytes};
 ghost use Rattle.btor2text.specs.Writing.{written};
 ghost use Rattle.blast.specs.Conversion.{Converts};
-ghost use Rattle.tasks.specs.Done.{IsJudgedWith, IsModelOf, Judged, Shows, TellsCost, counts_line, cost_lines};
+ghost use Rattle.tasks.specs.Done.{IsJudged, IsJudgedByName, IsModelOf, Judged, Shows, TellsCost, counts_line, cost_lines};
 ghost use Rattle.tasks.specs.Refusals.{IsNoModel, IsNotJudged, IsNotLowered};
 ghost use Rattle.tasks.specs.Statuses.{Counts, ErrUntold, IfInput, IsOfNoInput};
 
 use crate::answers::Answer;
-use crate::judgements::write_judgement;
+use crate::judgements::{write_judgement, write_judgement_by_name};
 use crate::refusals::{Device, Refusal};
 use crate::subjects::Subject;
 use crate::telling::write_result;
@@ -19,6 +19,8 @@ use base::{Sink, Source};
 use blast::{Watch, convert_watched, cost_and_bound};
 use btor2::Model;
 use btor2text::{read, write};
+use reached::laws::judged_claims_are_reached;
+use rises::judge_words_with_rises;
 use std::alloc::{AllocError, Global};
 use witness::judge_words;
 
@@ -54,24 +56,50 @@ pub fn lower_model<A: Source, O: Sink, W: Watch>(
     }
 }
 
-/// Judges a witness over a model, and with names says what the judgement is about.
-pub fn check_model<B: Source, O: Sink, E: Sink>(
+/// Judges a witness over a model.
+pub fn check_model<B: Source, O: Sink>(
     alloc: Global,
-    named: bool,
+    model: &Model,
+    second: &mut B,
+    out: &mut O,
+) -> Result<Answer, Refusal>
+    ensures done { (known : Option (List ℕ)) → IsModelOf known model.now → IfOk result (Judged (IsJudged known (B.to_come second.old) (O.written out.old) (O.written out.new))) }
+    ensures refused { (known : Option (List ℕ)) → IsModelOf known model.now → IfErr result (IfInput (IsNotJudged known)) }
+    ensures unwritten { IfErr result (IfInput (λ _. out.new ≡ out.old)) }
+    ensures counted { (f e : ℕ) → Counts result f f (B.failures second.old) (B.failures second.new) (O.failures out.old) (O.failures out.new) e e }
+{
+    judged_claims_are_reached();
+    match judge_words(alloc, model, second) {
+        Ok(judgement) => write_judgement(alloc, &judgement, out),
+        Err(fault) => Err(Refusal::from(fault)),
+    }
+}
+
+/// Judges a witness over a model, and says what the judgement is about, and of an acceptance in which frames the claims are
+/// reached first.
+pub fn check_model_by_name<B: Source, O: Sink, E: Sink>(
+    alloc: Global,
     model: &Model,
     second: &mut B,
     out: &mut O,
     err: &mut E,
 ) -> Result<Answer, Refusal>
-    ensures done { (known : Option (List ℕ)) → IsModelOf known model.now → IfOk result (Judged (IsJudgedWith named known (B.to_come second.old) (O.written out.old) (O.written out.new) (E.written err.old) (E.written err.new))) }
+    ensures done { (known : Option (List ℕ)) → IsModelOf known model.now → IfOk result (Judged (IsJudgedByName known (B.to_come second.old) (O.written out.old) (O.written out.new) (E.written err.old) (E.written err.new))) }
     ensures refused { (known : Option (List ℕ)) → IsModelOf known model.now → IfErr result (IfInput (IsNotJudged known)) }
     ensures unwritten { IfErr result (IfInput (λ _. out.new ≡ out.old)) }
     ensures untold { ErrUntold result (err.new ≡ err.old) }
-    ensures quiet { named ≡ false → err.new ≡ err.old }
     ensures counted { (f : ℕ) → Counts result f f (B.failures second.old) (B.failures second.new) (O.failures out.old) (O.failures out.new) (E.failures err.old) (E.failures err.new) }
 {
-    match judge_words(alloc, model, second) {
-        Ok(judgement) => write_judgement(alloc, named, Subject::Model(model), &judgement, out, err),
+    judged_claims_are_reached();
+    match judge_words_with_rises(alloc, model, second) {
+        Ok((judgement, firsts)) => write_judgement_by_name(
+            alloc,
+            Subject::Model(model),
+            &judgement,
+            &firsts,
+            out,
+            err,
+        ),
         Err(fault) => Err(Refusal::from(fault)),
     }
 }

@@ -5,8 +5,9 @@ ghost use Rattle.std.specs.String.{string_bytes};
 ghost use Rattle.tasks.specs.declared.refusals.Fault.TheVariants as fault_is;
 ghost use Rattle.tasks.specs.declared.refusals.Refusal.TheVariants as refusal;
 ghost use Rattle.tasks.specs.Refusals.{about, fault_line, item_line, numbered_name, status_of_fault};
-ghost use Rattle.tasks.specs.Conversions.{of_reading, of_circuit_reading, of_lowering, of_engine_form, of_conversion, of_judging, of_dumping, of_reading_all, of_lines, of_invariant_for, of_obligation, of_claim, of_certificate};
+ghost use Rattle.tasks.specs.Conversions.{of_reading, of_circuit_reading, of_lowering, of_outputs, of_engine_form, of_conversion, of_judging, of_dumping, of_reading_all, of_lines, of_invariant_for, of_obligation, of_claim, of_certificate};
 
+use aiger::CircuitFault;
 use base::ReadAllFault;
 use blast::{ConvertFault, LowerFault};
 use engine::EngineFault;
@@ -26,6 +27,8 @@ pub enum Fault {
     Circuit(aigertext::ReadFault),
     /// The model is not lowered.
     Lowering(LowerFault),
+    /// The circuit has more bad properties and outputs than a circuit may have bad properties.
+    Outputs(CircuitFault),
     /// The circuit has no such engine form.
     Engine(EngineFault),
     /// The text is no invariant of the engine form.
@@ -36,8 +39,17 @@ pub enum Fault {
     NoNext(u64),
     /// This line, from 1, writes no vector.
     Vector(u64),
-    /// The circuit has none or several bad properties, and the words do not say which is claimed.
-    Unchosen,
+    /// The circuit has several bad properties, and the words do not say which is claimed.
+    Unchosen(Claimed),
+}
+
+/// What claims a bad property.
+#[derive(Clone, Copy, PartialEq, Eq)]
+pub enum Claimed {
+    /// A counterexample, in which it rises.
+    Found,
+    /// A certificate, by which it holds.
+    Certified,
 }
 
 /// The files and streams of a command.
@@ -66,6 +78,14 @@ pub enum Refusal {
     Failed(Device),
     /// A growth was refused.
     NoMemory,
+}
+
+impl From<Fault> for Refusal {
+    ghost from_gives = { λ e r. r ≡ refusal.Input e };
+
+    fn from(fault: Fault) -> Refusal {
+        Refusal::Input(fault)
+    }
 }
 
 impl From<btor2text::ReadFault> for Refusal {
@@ -99,6 +119,17 @@ impl From<LowerFault> for Refusal {
         match fault {
             LowerFault::NoMemory => Refusal::NoMemory,
             _ => Refusal::Input(Fault::Lowering(fault)),
+        }
+    }
+}
+
+impl From<CircuitFault> for Refusal {
+    ghost from_gives = { λ e r. r ≡ of_outputs e };
+
+    fn from(fault: CircuitFault) -> Refusal {
+        match fault {
+            CircuitFault::NoMemory => Refusal::NoMemory,
+            _ => Refusal::Input(Fault::Outputs(fault)),
         }
     }
 }
@@ -228,9 +259,13 @@ impl From<AllocError> for Refusal {
     }
 }
 
-/// What is told behind the name of a file where words leave open which bad property is claimed.
-const UNCHOSEN: &str =
-    ": --bad K says which bad property is claimed: ABC prints its number as Output K of miter was asserted\n";
+/// What is told behind the name of a file where words leave open which bad property a counterexample claims.
+const UNCHOSEN_FOUND: &str =
+    ": --bad K says which bad property rises: the K that the engine form was made for, or of a form of all, that of ABC's Output K of miter\n";
+
+/// What is told where they leave open which one a certificate claims.
+const UNCHOSEN_CERTIFIED: &str =
+    ": --bad K says which bad property holds: the K that the engine form of the invariant was made for\n";
 
 impl Fault {
     /// The exit status of a command that it refuses.
@@ -238,7 +273,7 @@ impl Fault {
         ensures { result ≡ status_of_fault self.now }
     {
         match self {
-            Fault::Unchosen => WORDS_REFUSED,
+            Fault::Unchosen(_) => WORDS_REFUSED,
             _ => REFUSED,
         }
     }
@@ -261,6 +296,7 @@ impl Fault {
                 format!(in alloc; "{file}: byte {place}: {number} {name}\n")
             }
             Fault::Lowering(fault) => lowering_line(alloc, file, *fault),
+            Fault::Outputs(fault) => plain_line(alloc, file, fault.number(), fault.name()),
             Fault::Engine(fault) => plain_line(alloc, file, fault.number(), fault.name()),
             Fault::Invariant(fault) => {
                 let line = fault.line;
@@ -277,7 +313,10 @@ impl Fault {
                 let line = *line;
                 format!(in alloc; "{file}: line {line}: bad vector\n")
             }
-            Fault::Unchosen => format!(in alloc; "{file}{UNCHOSEN}"),
+            Fault::Unchosen(Claimed::Found) => format!(in alloc; "{file}{UNCHOSEN_FOUND}"),
+            Fault::Unchosen(Claimed::Certified) => {
+                format!(in alloc; "{file}{UNCHOSEN_CERTIFIED}")
+            }
         }
     }
 }

@@ -11,18 +11,19 @@ ghost use Rattle.tasks.specs.declared.refusals.Fault.TheVariants as fault_is;
 ghost use Rattle.restore.specs.Answers.{CountsRestore};
 ghost use Rattle.tasks.specs.Done.{IsCircuitText, IsClaim, Restores, TellsRestored, malformed_line};
 ghost use Rattle.tasks.specs.Restoring.{IsAnswerOf, IsWhole, TellsVerdict};
-ghost use Rattle.tasks.specs.Refusals.{IsNotClaimed, IsWithoutForm};
+ghost use Rattle.tasks.specs.Refusals.{IsNotClaimed, IsUnclaimed, IsWithoutForm};
+ghost use Rattle.tasks.specs.declared.refusals.Claimed.TheVariants as claimed_is;
 ghost use Rattle.tasks.specs.Statuses.{Counts, IfInput, IsOfNoInput, ErrUntold};
 ghost use Rattle.tasks.specs.Subjects.{subject_said, where_named};
 
 use crate::answers::Answer;
 use crate::circuits::read_circuit;
 use crate::judgements::tell_judgement;
-use crate::refusals::{Device, Fault, Refusal};
+use crate::refusals::{Claimed, Device, Fault, Refusal};
 use crate::subjects::Subject;
 use aiger::Circuit;
 use base::{Sink, Source, write_all};
-use engine::engine_form;
+use engine::why_no_form;
 use restore::{RestoreFault, RestoreWhy, restore};
 use std::alloc::{AllocError, Global};
 use witness::Judgement;
@@ -56,27 +57,40 @@ fn tell_malformed<E: Sink>(
     }
 }
 
+/// Why no bad property of a circuit is claimed, where none is chosen: there is none, or there are several.
+fn unclaimed(circuit: &Circuit, claimed: Claimed) -> Fault
+    requires { length circuit.now.bads ≢ 1 }
+    ensures { IsUnclaimed claimed circuit.now result }
+{
+    match why_no_form(circuit, None) {
+        Some(fault) if circuit.bads().is_empty() => Fault::Engine(fault),
+        _ => Fault::Unchosen(claimed),
+    }
+}
+
 /// The bad property of a circuit that is claimed: the chosen one, or the only one.
-pub fn claim_of(circuit: &Circuit, choice: Option<usize>) -> Result<usize, Refusal>
+pub fn claim_of(circuit: &Circuit, choice: Option<usize>, claimed: Claimed) -> Result<usize, Fault>
     ensures claim { IfOk result (λ claim. IsClaim choice circuit.now claim) }
-    ensures unchosen { IfErr result (λ r. (r ≡ refusal.Input fault_is.Unchosen) × ((choice ≡ None) × (length circuit.now.bads ≢ 1))) }
+    ensures unclaimed { IfErr result (λ f. (choice ≡ None) × IsUnclaimed claimed circuit.now f) }
 {
     match choice {
         Some(position) => Ok(position),
         None if circuit.bads().len() == 1 => Ok(0),
-        None => Err(Refusal::Input(Fault::Unchosen)),
+        None => Err(unclaimed(circuit, claimed)),
     }
 }
 
 /// Whether a circuit has an engine form with this bad property alone.
-pub fn has_form(alloc: Global, circuit: &Circuit, claim: usize) -> Result<(), Refusal>
+pub fn has_form(circuit: &Circuit, claim: usize) -> Result<(), Refusal>
     ensures accepted { OnOk result (engine_refusal circuit.now (Some claim) ≡ None) }
     ensures there { OnOk result (claim < length circuit.now.bads) }
     ensures refused { IfErr result (IfInput (IsWithoutForm circuit.now (Some claim))) }
     ensures counted { (f s o e : ℕ) → Counts result f f s s o o e e }
 {
-    let _ = engine_form(alloc, circuit, Some(claim))?;
-    Ok(())
+    match why_no_form(circuit, Some(claim)) {
+        Some(fault) => Err(Refusal::from(fault)),
+        None => Ok(()),
+    }
 }
 
 /// Tells on standard error what a restoring answers, with names behind a judgement what it is about.
@@ -119,15 +133,15 @@ pub fn restore_counterexample<B: Source, O: Sink, E: Sink>(
     err: &mut E,
 ) -> Result<Answer, Refusal>
     ensures done { (known : Option (List ℕ)) → IsCircuitText known circuit.now → IfOk result (Restores choice known (B.to_come second.old) (O.written out.old) (O.written out.new) (E.written err.old) (E.written err.new)) }
-    ensures refused { (known : Option (List ℕ)) → IsCircuitText known circuit.now → IfErr result (IfInput (IsNotClaimed given_is.Circuit choice known)) }
+    ensures refused { (known : Option (List ℕ)) → IsCircuitText known circuit.now → IfErr result (IfInput (IsNotClaimed claimed_is.Found given_is.Circuit choice known)) }
     ensures unwritten { IfErr result (IfInput (λ _. out.new ≡ out.old)) }
     ensures untold { ErrUntold result (err.new ≡ err.old) }
     ensures counted { (f : ℕ) → Counts result f f (B.failures second.old) (B.failures second.new) (O.failures out.old) (O.failures out.new) (E.failures err.old) (E.failures err.new) }
 {
     // the lists of a circuit are one
     let _ = circuit.inputs();
-    let claim = claim_of(circuit, choice)?;
-    has_form(alloc, circuit, claim)?;
+    let claim = claim_of(circuit, choice, Claimed::Found)?;
+    has_form(circuit, claim)?;
     let told = restore(alloc, circuit, claim, second, out);
     tell_restored(alloc, told, false, Subject::Circuit(circuit), err)
 }

@@ -5,12 +5,13 @@ ghost use Rattle.std.specs.Io.KnownBytes.{Appends};
 ghost use Rattle.base.specs.Device.{CountsFaults};
 ghost use Rattle.btor2.specs.declared.item.Body.{Body};
 ghost use Rattle.btor2.specs.Lists.{places};
-ghost use Rattle.tasks.specs.Subjects.{bad_item_said, bad_name_said, bad_said, item_said, lifted_said, line_said, name_said, numbered_item, says, says_item, says_name, subject_said, symbol_said, where_named};
+ghost use Rattle.tasks.specs.Subjects.{bad_item_said, bad_name_said, bad_said, first_said, firsts_said, frame_said, item_said, lifted_said, line_said, name_said, numbered_item, said_by_name, says, says_item, says_name, subject_said, symbol_said, where_named};
 
 use aiger::{Circuit, Section};
 use base::{DeviceFault, Sink, write_all};
 use btor2::{Item, Model, Symbol};
 use itoa::Buffer;
+use rises::FirstRises;
 use witness::Judgement;
 
 /// What a judgement is about.
@@ -232,6 +233,77 @@ fn tell_bad_said<E: Sink>(subject: Subject<'_>, number: u64, err: &mut E) -> Res
     match subject {
         Subject::Model(model) | Subject::Lowered(model, _) => tell_bad_item(model, number, err),
         Subject::Circuit(circuit) => tell_bad_name(circuit, number, err),
+    }
+}
+
+/// Writes in which frame something is reached.
+fn tell_frame<E: Sink>(frame: u64, err: &mut E) -> Result<(), DeviceFault>
+    ensures written { OnOk result (Appends (E.written err.old) (E.written err.new) (frame_said frame ++ codes "\n")) }
+    ensures counted { CountsFaults result (E.failures err.old) (E.failures err.new) }
+{
+    let mut buffer = Buffer::new();
+    write_all(err, b"reached in frame ")?;
+    write_all(err, buffer.format(frame).as_bytes())?;
+    write_all(err, b"\n")
+}
+
+/// Says of the bad property with a number in which frame it is reached.
+fn tell_reached<E: Sink>(number: u64, frame: u64, err: &mut E) -> Result<(), DeviceFault>
+    ensures written { OnOk result (Appends (E.written err.old) (E.written err.new) (says (codes "b") number (frame_said frame))) }
+    ensures counted { CountsFaults result (E.failures err.old) (E.failures err.new) }
+{
+    tell_number(b"b", number, err)?;
+    tell_frame(frame, err)
+}
+
+/// Says of a claim that is reached first in a frame that it is, and which bad property it is; nothing where there is no frame.
+fn tell_first<E: Sink>(
+    subject: Subject<'_>,
+    number: u64,
+    first: Option<u64>,
+    err: &mut E,
+) -> Result<(), DeviceFault>
+    ensures written { OnOk result (Appends (E.written err.old) (E.written err.new) (first_said (bad_said subject.entry) number first)) }
+    ensures counted { CountsFaults result (E.failures err.old) (E.failures err.new) }
+{
+    match first {
+        Some(frame) => {
+            tell_reached(number, frame, err)?;
+            tell_bad_said(subject, number, err)
+        }
+        None => Ok(()),
+    }
+}
+
+/// Says in which frames claims are reached first, and which bad properties they are.
+fn tell_firsts<E: Sink>(
+    subject: Subject<'_>,
+    firsts: &FirstRises,
+    err: &mut E,
+) -> Result<(), DeviceFault>
+    ensures written { OnOk result (Appends (E.written err.old) (E.written err.new) (firsts_said (bad_said subject.entry) 0 firsts.now)) }
+    ensures counted { CountsFaults result (E.failures err.old) (E.failures err.new) }
+{
+    for position in 0..firsts.len() {
+        tell_first(subject, position as u64, firsts.frame(position), err)?;
+    }
+    Ok(())
+}
+
+/// Says what a judgement is about, and of an acceptance in which frames the claims are reached first.
+pub fn tell_by_name<E: Sink>(
+    subject: Subject<'_>,
+    judgement: &Judgement,
+    firsts: &FirstRises,
+    err: &mut E,
+) -> Result<(), DeviceFault>
+    ensures written { OnOk result (Appends (E.written err.old) (E.written err.new) (said_by_name (subject_said subject.entry) (bad_said subject.entry) firsts.now judgement.now)) }
+    ensures counted { CountsFaults result (E.failures err.old) (E.failures err.new) }
+{
+    tell_said(subject, judgement, err)?;
+    match judgement {
+        Judgement::Accepted { .. } => tell_firsts(subject, firsts, err),
+        _ => Ok(()),
     }
 }
 

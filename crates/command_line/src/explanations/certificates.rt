@@ -106,7 +106,7 @@ const INVARIANTS: [Explanation; 19] = [
     Explanation {
         number: 187,
         name: "BadOutput",
-        when: "the line of the output's name is not `.ob` and a word",
+        when: "the line of the output's name is not `.ob`, a blank and a word, which may be empty",
         remedy: "as 180",
     },
     Explanation {
@@ -125,7 +125,7 @@ const INVARIANTS: [Explanation; 19] = [
         number: 190,
         name: "HoldsAtStart",
         when: "a cube has no `1`, so the state in which all latches are 0, the first one, is in it",
-        remedy: "it is no invariant: look for a counterexample",
+        remedy: "it is no invariant of an engine form: take what `pdr -d -I` writes where ABC says that the property is proved, over the form of this property",
     },
     Explanation {
         number: 191,

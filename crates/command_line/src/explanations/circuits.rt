@@ -22,7 +22,7 @@ const GATES: [Explanation; 2] = [
         number: 80,
         name: "TooBig",
         when: "a gate would have a variable above 2^30; from a builder only where the variables so far and its bound sum to more",
-        remedy: "split the circuit",
+        remedy: "make a circuit for each bad property, of what it and the constraints depend on",
     },
     Explanation {
         number: 81,
@@ -33,30 +33,36 @@ const GATES: [Explanation; 2] = [
 ];
 
 /// Of engine forms.
-const ENGINES: [Explanation; 5] = [
+const ENGINES: [Explanation; 6] = [
     Explanation {
         number: 140,
         name: "Justice",
         when: "the circuit has a justice property; the first, at position 0, is meant",
-        remedy: "take the justice properties out, or turn them into bad properties",
+        remedy: "take the justice properties out: bad properties do not depend on them; one of them becomes a bad property only by a translation of liveness into safety, which `hwtool` does not make",
     },
     Explanation {
         number: 141,
         name: "Fair",
         when: "the circuit has a fairness constraint; the first, at position 0, is meant",
-        remedy: "take the fairness constraints out",
+        remedy: "take the fairness constraints out: they matter to justice properties alone",
+    },
+    Explanation {
+        number: 145,
+        name: "NoBad",
+        when: "there is no bad property",
+        remedy: "a circuit of before AIGER 1.9, and one that ABC writes, has its properties as outputs: `aig-convert --outputs` makes each output a bad property; where a model or circuit is empty or cut, see that what wrote it did not fail, as a Yosys in a pipe may",
     },
     Explanation {
         number: 142,
         name: "NoSuchBad",
         when: "there is no bad property at the chosen position",
-        remedy: "count bad properties from 0",
+        remedy: "count bad properties from 0; the last line of `hwtool show` tells how many a model has, B in the header how many a circuit",
     },
     Explanation {
         number: 143,
         name: "TooBig",
         when: "the inputs and latches of the form and the bound on its gates sum to more than 2^30",
-        remedy: "split the circuit",
+        remedy: "as 80",
     },
     Explanation {
         number: 144,
@@ -84,7 +90,7 @@ const CIRCUITS: [Explanation; 9] = [
         number: 42,
         name: "TooBig",
         when: "a variable, a count or the sum of the sizes of the justice properties would be above 2^30",
-        remedy: "split the circuit",
+        remedy: "as 80",
     },
     Explanation {
         number: 44,
@@ -108,13 +114,13 @@ const CIRCUITS: [Explanation; 9] = [
         number: 63,
         name: "Undefined",
         when: "`Loose::number`: a line uses a variable that is neither 0 nor defined; the first such line is named, counted from 0 from the latches to the gates, without inputs and sizes of justice properties",
-        remedy: "define the variable, or take the line out",
+        remedy: "define the variable; a line that is taken out is missing in what the circuit says",
     },
     Explanation {
         number: 62,
         name: "Cycle",
         when: "`Loose::number`: a gate depends on itself through operands; the first gate that does or that depends on one that does is named, counted from 0",
-        remedy: "break the cycle by a latch",
+        remedy: "see what made it: gates in a cycle have no value, and a latch in it would make another circuit",
     },
     Explanation {
         number: 43,
@@ -154,13 +160,13 @@ const TEXTS: [Explanation; 14] = [
         number: 59,
         name: "TooBig",
         when: "a number of the header, or the sum of the sizes of the justice properties, is above 2^30",
-        remedy: "split the circuit",
+        remedy: "as 80; see that the header is right",
     },
     Explanation {
         number: 51,
         name: "CountsDisagree",
         when: "M is not I + L + A, in the ascii form is below it",
-        remedy: "correct the header",
+        remedy: "correct M in the header; see that no line was left out",
     },
     Explanation {
         number: 52,
@@ -172,7 +178,7 @@ const TEXTS: [Explanation; 14] = [
         number: 53,
         name: "BadLatch",
         when: "a latch's line is not two or three decimals (in the binary form one or two); its own literal defines no new variable; its next literal is above 2M + 1; or its reset is not 0, 1 or its own literal",
-        remedy: "write the latch as the format has it",
+        remedy: "write the latch as FORMATS has it; where its first bit is another literal, proceed as with 11, by a latch that is 1 in the first frame alone",
     },
     Explanation {
         number: 54,
@@ -196,19 +202,19 @@ const TEXTS: [Explanation; 14] = [
         number: 63,
         name: "Undefined",
         when: "a line of the ascii form uses a variable that is neither 0 nor defined",
-        remedy: "define the variable, or take the line out",
+        remedy: "define the variable; a line that is taken out is missing in what the circuit says",
     },
     Explanation {
         number: 62,
         name: "Cycle",
         when: "a gate of the ascii form depends on itself through operands, or on one that does",
-        remedy: "break the cycle by a latch",
+        remedy: "see what made it: gates in a cycle have no value, and a latch in it would make another circuit; in Yosys `check` tells where a design has one",
     },
     Explanation {
         number: 57,
         name: "BadSymbol",
-        when: "a line behind the gates is neither a name for a position that is there and has none nor the line `c`",
-        remedy: "name each position once, by `<letter><position> <name>`",
+        when: "a line behind the gates is neither a name for a position that is there and has none, of 1 to 300 bytes from 32 to 126, nor the line `c`",
+        remedy: "name each position once, by `<letter><position> <name>`; ABC's `&w` writes a comment on the line `c`: write by `&w -n`, or by `write_aiger` without `-u`; cut longer names, or leave all out (in Yosys, `write_aiger` without `-symbols`)",
     },
 ];
 
@@ -218,13 +224,13 @@ const COUNTEREXAMPLES: [Explanation; 7] = [
         number: 150,
         name: "NoFrame",
         when: "the text ends before a frame",
-        remedy: "see that the file is whole",
+        remedy: "see that the file is whole; ABC writes all bits on one line where `write_cex` lacks `-a`",
     },
     Explanation {
         number: 151,
         name: "InitialOne",
         when: "an initial bit is 1",
-        remedy: "let the engine begin the form's latches with 0",
+        remedy: "in ABC `write_cex -a`: without `-a` all bits stand on one line; an engine is to begin the form's latches with 0",
     },
     Explanation {
         number: 152,
@@ -236,7 +242,7 @@ const COUNTEREXAMPLES: [Explanation; 7] = [
         number: 153,
         name: "WrongLength",
         when: "a frame has another number of bits than the form has inputs",
-        remedy: "see that the text is of this form",
+        remedy: "see that the text is of this form: of the same circuit or model, with the same `--bad`",
     },
     Explanation {
         number: 154,

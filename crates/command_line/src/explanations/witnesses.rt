@@ -9,6 +9,8 @@ ghost use Rattle.witness.specs.Answers.{judge_name, judge_number};
 ghost use Rattle.witness.specs.Printed.{why_number, why_name};
 ghost use Rattle.witness.specs.declared.fault.JudgeFault.{JudgeFault};
 ghost use Rattle.witness.specs.declared.why.Why.{Why};
+ghost use Rattle.tidy.specs.Answers.{fault_name as tidy_name, fault_number as tidy_number};
+ghost use Rattle.tidy.specs.declared.fault.TidyFault.{TidyFault};
 ghost use Rattle.wave.specs.Answers.{fault_name as wave_name, fault_number as wave_number};
 ghost use Rattle.wave.specs.declared.fault.WaveFault.{WaveFault};
 
@@ -54,7 +56,7 @@ const WITNESSES: [Explanation; 13] = [
         number: 119,
         name: "Trailing",
         when: "the witness has ended with the line `.`, and something follows",
-        remedy: "one witness in a file, and nothing behind it",
+        remedy: "`hwtool tidy-witness FILE` keeps the first witness of a file, with `--pick N` the N-th",
     },
     Explanation {
         number: 118,
@@ -72,7 +74,7 @@ const WITNESSES: [Explanation; 13] = [
         number: 111,
         name: "BadClaim",
         when: "the claims line is no list of `b<i>` or `j<i>` with one space between",
-        remedy: "write `b0`, or `b0 b2`",
+        remedy: "write `b0`, or `b0 b2`; `hwtool tidy-witness FILE` drops blanks and carriage returns at a line's end",
     },
     Explanation {
         number: 112,
@@ -90,31 +92,31 @@ const WITNESSES: [Explanation; 13] = [
         number: 113,
         name: "FrameOrder",
         when: "behind the claims there is neither `#0` nor `@0`; later a line begins with `#`, `@` or `.` and is neither the next frame's line nor, behind a frame, the end, nor, behind a frame and over a model with a free state, `#` with the next frame's number",
-        remedy: "write `#0` at most once, then `@0`, `@1` and so on without a gap; words of free states stand behind `#1` and before `@1`, and so on",
+        remedy: "write `#0` at most once, then `@0`, `@1` and so on without a gap; words of free states stand behind `#1` and before `@1`, and so on; `hwtool tidy-witness FILE` drops comments, empty lines and carriage returns",
     },
     Explanation {
         number: 114,
         name: "BadIndex",
         when: "an assignment does not begin with a decimal that counts a state (behind `#0`), a state that is free (behind a later `#k`) or an input (behind `@k`)",
-        remedy: "count all states, or inputs, in file order, from 0",
+        remedy: "count all states, or inputs, in file order, from 0; `hwtool tidy-witness FILE` drops comments and empty lines, which are told so too",
     },
     Explanation {
         number: 115,
         name: "IndexTwice",
         when: "the index stands earlier in this part",
-        remedy: "leave one out",
+        remedy: "leave one out where both have the same value; else see which is meant",
     },
     Explanation {
         number: 116,
         name: "BadValue",
         when: "the value is missing, has not as many digits as the width, or another byte than `0`, `1` and `x`",
-        remedy: "write all binary digits, the highest first, with one space before them",
+        remedy: "write all binary digits, the highest first, with one space before them; `hwtool tidy-witness FILE` drops carriage returns",
     },
     Explanation {
         number: 117,
         name: "Undetermined",
         when: "the value has an `x`",
-        remedy: "choose 0 or 1",
+        remedy: "choose 0 or 1; of a first state with an init, the bit of its init; `hwtool tidy-witness FILE` puts 0",
     },
     Explanation {
         number: 121,
@@ -136,7 +138,7 @@ const BIT_WITNESSES: [Explanation; 6] = [
         number: 111,
         name: "BadClaim",
         when: "the second line is not `b<i>` of a bad property that is there",
-        remedy: "name one bad property, counted from 0",
+        remedy: "name one bad property, counted from 0; `hwtool tidy-witness FILE` drops blanks at the line's end",
     },
     Explanation {
         number: 112,
@@ -154,13 +156,13 @@ const BIT_WITNESSES: [Explanation; 6] = [
         number: 116,
         name: "BadValue",
         when: "a line of bits has another length than there are latches, or inputs, or another byte than `0`, `1` and `x`",
-        remedy: "write a bit for each, in their order and without spaces",
+        remedy: "write a bit for each, in their order and without spaces; `hwtool tidy-witness FILE` drops carriage returns, and empty lines that are no frames",
     },
     Explanation {
         number: 117,
         name: "Undetermined",
         when: "one of the bits of a line is `x`",
-        remedy: "choose 0 or 1",
+        remedy: "choose 0 or 1; of a latch with a reset, in the first line of bits, its reset; `hwtool tidy-witness FILE` puts 0",
     },
 ];
 
@@ -192,7 +194,7 @@ const DUMPS: [Explanation; 4] = [
         number: 70,
         name: "NoNext",
         when: "a state has an `init` and no `next`; the first such state in file order is named",
-        remedy: "give the state a next, or take its init out",
+        remedy: "as 92",
     },
     Explanation {
         number: 170,
@@ -211,6 +213,22 @@ const DUMPS: [Explanation; 4] = [
         name: "NoMemory",
         when: "a growth was refused; nothing was read or written",
         remedy: "give the program more memory",
+    },
+];
+
+/// The cases of tidied witnesses.
+const TIDYING: [Explanation; 2] = [
+    Explanation {
+        number: 200,
+        name: "Read",
+        when: "the source failed; a beginning of the tidied text was written",
+        remedy: "see that the file is there and can be read",
+    },
+    Explanation {
+        number: 201,
+        name: "Write",
+        when: "the sink failed; a beginning of the tidied text was written",
+        remedy: "see that there is room and that the output is open",
     },
 ];
 
@@ -246,4 +264,11 @@ pub(super) fn dumps() -> &'static [Explanation]
     ensures { (fault : WaveFault) → Has result.now (wave_number fault) (wave_name fault) }
 {
     &DUMPS
+}
+
+/// The cases of tidied witnesses.
+pub(super) fn tidying() -> &'static [Explanation]
+    ensures { (fault : TidyFault) → Has result.now (tidy_number fault) (tidy_name fault) }
+{
+    &TIDYING
 }

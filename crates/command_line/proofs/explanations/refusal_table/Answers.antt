@@ -5,6 +5,7 @@ use Rattle.aigertext.specs.Whys.{why_name, why_number}
 use Rattle.engine.specs.Faults.{name_of as engine_name, number_of as engine_number}
 use Rattle.lift.specs.Answers.{fault_name as lift_name, fault_number as lift_number}
 use Rattle.restore.specs.Faults.{why_name as restore_name, why_number as restore_number}
+use Rattle.tidy.specs.Answers.{fault_name as tidy_name, fault_number as tidy_number}
 use Rattle.wave.specs.Answers.{fault_name as wave_name, fault_number as wave_number}
 use Rattle.command_line.specs.Explanations.{has_row}
 use Rattle.command_line.specs.declared.explanations.Explanation.{Explanation}
@@ -88,3 +89,8 @@ returns-clause-certificates c (certificate.Judge e) =
 returns-clause-certificates c (certificate.Device) =
     let has : List Explanation → Bool = has_row (certificate_number (certificate.Device)) (certificate_name (certificate.Device)) in
     behind_nine has c.often.result.now c.texts.result.now c.items.result.now c.names.result.now c.lowering.result.now c.runs.result.now c.witness_texts.result.now c.bit_texts.result.now c.gates.result.now _ (behind_six has c.calls.result.now c.lifting.result.now c.texts-2.result.now c.engines.result.now c.counterexamples.result.now c.dumps.result.now _ (behind (has c.proofs.result.now) _ (here (has c.invariants.result.now) _ (c.invariants.ensures.device))))
+
+pub returns-clause-tidying : goal.returns-clause-tidying
+returns-clause-tidying c = λ fault.
+    let has : List Explanation → Bool = has_row (tidy_number fault) (tidy_name fault) in
+    behind_nine has c.often.result.now c.texts.result.now c.items.result.now c.names.result.now c.lowering.result.now c.runs.result.now c.witness_texts.result.now c.bit_texts.result.now c.gates.result.now _ (behind_six has c.calls.result.now c.lifting.result.now c.texts-2.result.now c.engines.result.now c.counterexamples.result.now c.dumps.result.now _ (behind (has c.proofs.result.now) _ (behind (has c.invariants.result.now) _ (here (has c.tidying.result.now) _ (c.tidying.ensures fault)))))

@@ -94,13 +94,13 @@ pub returns-in-Named-CheckBtor-clause-done : goal.returns-in-Named-CheckBtor-cla
 unfolding AnswersByName Answers
 returns-in-Named-CheckBtor-clause-done g c = λ known third text.
     let is : c.args.order.now.task ≡ (task.Named named.CheckBtor) = search rules in
-    rw is (c.check_model-in-Named-CheckBtor.ensures.done known text)
+    rw is (c.check_model_by_name.ensures.done known text)
 
 pub returns-in-Named-CheckBtor-clause-refused : goal.returns-in-Named-CheckBtor-clause-refused
 unfolding RefusesByName Refuses
 returns-in-Named-CheckBtor-clause-refused g c = λ known text.
     let is : c.args.order.now.task ≡ (task.Named named.CheckBtor) = search rules in
-    rw is (c.check_model-in-Named-CheckBtor.ensures.refused known text)
+    rw is (c.check_model_by_name.ensures.refused known text)
 
 pub returns-in-Named-Lift-clause-done : goal.returns-in-Named-Lift-clause-done
 unfolding AnswersByName Answers
