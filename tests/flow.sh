@@ -1,14 +1,14 @@
 #!/bin/sh
-# From a design in Verilog to a counterexample or a proof that is judged, where yosys, berkeley-abc and cadical are installed
-# (Debian: apt-get install yosys berkeley-abc cadical): each command of docs/FLOW.md is run, and says what stands there; and
+# From a design in Verilog to a counterexample or a proof that is judged, where yosys, berkeley-abc, cadical and z3 are installed
+# (Debian: apt-get install yosys berkeley-abc cadical z3): each command of docs/FLOW.md is run, and says what stands there; and
 # each bad property of each model of examples/ is looked for by ABC in its engine form. What is found is restored and lifted,
 # and judged anew; what is proved is proved by CaDiCaL from ABC's invariant, and judged, also with a cube less. What is kept
 # in examples/ is judged too, and where GTKWave is installed (gtkwave, xvfb) the dumps of witnesses are opened.
-# It is run by hand, beside the gate: tests/flow.sh [PROGRAM]. Where the three are not installed it says so and ends well.
+# It is run by hand, beside the gate: tests/flow.sh [PROGRAM]. Where one of the four is not installed it says so and ends well.
 set -u
 top=$(cd "$(dirname "$0")/.." && pwd)
 program=${1:-$top/crates/hwtool/out/hwtool}
-for tool in yosys berkeley-abc cadical; do
+for tool in yosys berkeley-abc cadical z3; do
     if ! command -v "$tool" >/dev/null; then
         echo "flow: $tool is not installed, so nothing was tried"
         exit 0
@@ -18,6 +18,7 @@ folder=$(mktemp -d)
 trap 'rm -rf "$folder"' EXIT
 mkdir "$folder/bin"
 ln -s "$program" "$folder/bin/hwtool"
+ln -s "$top/tools/yw-witness.py" "$folder/bin/yw-witness.py"
 PATH=$folder/bin:$PATH
 count=0
 failed=0
@@ -46,6 +47,27 @@ if ! diff "$folder/lines" "$folder/said" >"$folder/differ"; then
     cat "$folder/differ"
     tell "docs/FLOW.md says otherwise"
 fi
+
+# clocks WANTED NAME ITEMS: whether one-clock.ys stops Yosys at a design with these items, or lets it go on
+clocks() {
+    count=$((count + 1))
+    printf 'module top (input clk, other, input [1:0] clks, input d, output reg q, r);\n%s\nendmodule\n' "$3" >clocks.v
+    seen=stops
+    yosys -q -p "read_verilog -formal clocks.v; prep -flatten -top top; memory_map; script one-clock.ys" >log 2>&1 && seen=goes
+    [ "$seen" = "$1" ] || tell "one-clock.ys, $2: it $seen"
+}
+clocks goes "no register" 'always @* begin q = d; r = clk; end'
+clocks goes "one clock" 'always @(posedge clk) begin q <= d; r <= q; end'
+clocks goes "one clock and a reset" 'always @(posedge clk, posedge other) if (other) q <= 0; else q <= d; always @(posedge clk) r <= q;'
+clocks goes "falling edges alone" 'always @(negedge clk) begin q <= d; r <= q; end'
+clocks stops "two clocks" 'always @(posedge clk) q <= d; always @(posedge other) r <= q;'
+clocks stops "both edges" 'always @(posedge clk) q <= d; always @(negedge clk) r <= q;'
+clocks stops "bits of a signal" 'always @(posedge clks[0]) q <= d; always @(posedge clks[1]) r <= q;'
+clocks stops "a gated clock" 'wire gated = clk & d; always @(posedge clk) q <= d; always @(posedge gated) r <= q;'
+clocks stops "a divided clock" 'always @(posedge clk) q <= !q; always @(posedge q) r <= d;'
+clocks stops "the formal clock" '(* gclk *) reg each; always @(posedge each) q <= d; always @(posedge clk) r <= q;'
+clocks stops "a memory's clocks" 'reg m [0:1]; always @(posedge clk) m[d] <= d; always @(posedge other) q <= m[d];'
+clocks stops "an assertion's clock" 'always @(posedge clk) q <= d; always @(posedge other) assert (q);'
 
 # found ENGINE MODEL CIRCUIT K: what an engine of ABC finds for bad property K, judged over the circuit and over the model
 found() {
