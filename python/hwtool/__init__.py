@@ -24,7 +24,7 @@ from ._answers import Cost, Dump, Kind, Lifted, ProofKind, ProofVerdict, Verdict
 from ._calls import Text, check_aig, check_btor, check_proof, convert, cost, engine_form, lift, lower, obligation, version, wave
 from ._refusals import Case, Refused, explain, name
 
-__version__ = "0.1.0"
+__version__ = "0.2.0"
 
 # so is it told where nobody catches it
 Refused.__module__ = __name__

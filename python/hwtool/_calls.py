@@ -220,7 +220,5 @@ def check_proof(model: Text, bad: SupportsIndex, invariant: Text, proof: Text) -
 
 
 def version() -> str:
-    """The version of the library, where it tells one, and else of this package."""
-    from . import __version__
-
-    return library_version() or __version__
+    """The version of the library."""
+    return library_version()

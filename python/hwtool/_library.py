@@ -50,6 +50,7 @@ _CALLS = {
     "hwtool_obligation": [*_TEXT, ctypes.c_size_t, *_TEXT, *_BUFFER, *_REFUSAL],
     "hwtool_check_proof": [*_TEXT, ctypes.c_size_t, *_TEXT, *_TEXT, *_VERDICT, *_REFUSAL],
     "hwtool_name": [ctypes.c_uint32, *_BUFFER],
+    "hwtool_version": [*_BUFFER],
 }
 
 
@@ -92,17 +93,6 @@ def _load() -> Tuple[ctypes.CDLL, str]:
 LIBRARY, PLACE = _load()
 
 
-def library_version() -> Optional[str]:
-    """What the library tells of its version, where it tells one: `const char *hwtool_version(void)`."""
-    function = getattr(LIBRARY, "hwtool_version", None)
-    if function is None:
-        return None
-    function.argtypes = []
-    function.restype = ctypes.c_char_p
-    told = function()
-    return told.decode() if told else None
-
-
 def call(name: str, given: List[object], *answers: object) -> Tuple[int, RawRefusal]:
     """A call that answers no text: its status and its refusal."""
     refusal = RawRefusal()
@@ -136,15 +126,23 @@ def written(name: str, given: List[object], guess: int, *answers: object) -> Tup
         buffer = _room(needed.value)
 
 
-def name_of(number: int) -> Optional[str]:
-    """The name of the refusal with this number, where there is one."""
-    if not 0 <= number < 1 << 32:
-        return None
+def _told(name: str, *given: object) -> Optional[str]:
+    """What a call tells that has few bytes; nothing where it tells nothing."""
     buffer, needed = ctypes.create_string_buffer(64), ctypes.c_size_t()
     while True:
-        status = LIBRARY.hwtool_name(number, ctypes.addressof(buffer), len(buffer), ctypes.byref(needed))
+        status = getattr(LIBRARY, name)(*given, ctypes.addressof(buffer), len(buffer), ctypes.byref(needed))
         if status == DONE:
             return buffer.raw[: needed.value].decode()
         if status != TOO_SMALL:
             return None
         buffer = ctypes.create_string_buffer(needed.value)
+
+
+def name_of(number: int) -> Optional[str]:
+    """The name of the refusal with this number, where there is one."""
+    return _told("hwtool_name", number) if 0 <= number < 1 << 32 else None
+
+
+def library_version() -> str:
+    """The version of the library."""
+    return _told("hwtool_version") or ""

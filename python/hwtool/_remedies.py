@@ -9,7 +9,7 @@ CASES: Dict[int, Tuple[Tuple[str, str, str, str], ...]] = {
             'Items of a model',
             'IdTaken',
             'an earlier item has the id',
-            'number the lines anew',
+            'give one of the two lines another id, and the operands that mean it',
         ),
     ),
     2: (
@@ -17,7 +17,7 @@ CASES: Dict[int, Tuple[Tuple[str, str, str, str], ...]] = {
             'Items of a model',
             'IdOutOfRange',
             'the id is not 1 to 4,294,967,295',
-            'number the lines anew',
+            'number the lines anew, and the operands with them',
         ),
     ),
     3: (
@@ -41,13 +41,13 @@ CASES: Dict[int, Tuple[Tuple[str, str, str, str], ...]] = {
             'What is met most',
             'WidthOutOfRange',
             'the sort of a word of more than 64 bits, or of none: where line 4 is told, `sed -n 4p FILE` shows the width',
-            'cut the word into parts before the model is written',
+            'in Yosys, before `write_btor`: `setundef -undriven -anyseq; setattr -unset keep; opt_clean -purge` where the word is only a name that nothing needs, else `techmap; simplemap; splitnets -ports`, which make bits of words; and always by bits: `setundef -undriven -anyseq; techmap; aigmap; write_aiger -zinit FILE`, over which `aig-convert --engine`, `obligation --aiger` and `check-proof --aiger` go',
         ),
         (
             'Items of a model',
             'WidthOutOfRange',
             "a sort's width is not 1 to 64",
-            'cut wider words into parts',
+            'see above, under what is met most',
         ),
     ),
     6: (
@@ -55,7 +55,7 @@ CASES: Dict[int, Tuple[Tuple[str, str, str, str], ...]] = {
             'Items of a model',
             'SortMismatch',
             'the widths of the sort and the operands are not those of the form',
-            'widen by `uext` or `sext`, cut by `slice`, or name another sort',
+            'name the sort that the form asks for; an operand is widened by `uext`, where its word has no sign, or by `sext`, where it has one; `slice` keeps a part of a word, and so says something else',
         ),
     ),
     7: (
@@ -79,7 +79,7 @@ CASES: Dict[int, Tuple[Tuple[str, str, str, str], ...]] = {
             'Items of a model',
             'SecondInit',
             'the state has an `init` already',
-            'leave one out',
+            'leave one out where both have the same value; else see which is meant',
         ),
     ),
     10: (
@@ -87,7 +87,7 @@ CASES: Dict[int, Tuple[Tuple[str, str, str, str], ...]] = {
             'Items of a model',
             'SecondNext',
             'the state has a `next` already',
-            'leave one out',
+            'leave one out where both have the same value; else see which is meant',
         ),
     ),
     11: (
@@ -95,7 +95,7 @@ CASES: Dict[int, Tuple[Tuple[str, str, str, str], ...]] = {
             'Items of a model',
             'InitNotConstant',
             'the value of an `init` is no constant node (`zero`, `one`, `ones`, `const`, `constd`, `consth`)',
-            'give the state a constant, or leave its init out and constrain it',
+            "make a state of width 1 that is 1 in the first frame alone, its init `one` and its next `zero`; take the init out; and wherever the state is read name an `ite` of these three: that state, the init's value, the state. FORMATS shows the lines. A constraint says something else, since it is for every frame. Yosys writes such an init of a register of which only some bits have an initial value: `simplemap t:$dff t:$ff; splitnets` before `write_btor` makes states of its bits",
         ),
     ),
     12: (
@@ -103,7 +103,7 @@ CASES: Dict[int, Tuple[Tuple[str, str, str, str], ...]] = {
             'Items of a model',
             'TooManyItems',
             'the model has 1,048,576 items',
-            'split the model, or leave out what nothing depends on',
+            'leave out what no property and no constraint depends on (in Yosys `opt_clean -purge`), write a model for each bad property, or go by bits, as 5 says',
         ),
     ),
     13: (
@@ -111,7 +111,7 @@ CASES: Dict[int, Tuple[Tuple[str, str, str, str], ...]] = {
             'Items of a model',
             'JusticeEmpty',
             'a `justice` line names no node',
-            'leave it out',
+            'leave it out: bad properties do not depend on it',
         ),
     ),
     14: (
@@ -127,7 +127,7 @@ CASES: Dict[int, Tuple[Tuple[str, str, str, str], ...]] = {
             'Items of a model',
             'ConstantDoesNotFit',
             'not as many binary digits as the sort is wide; a decimal not from -2^(n-1) to 2^n - 1; not 1 to 16 hexadecimal digits; a value of 2^n or more. From a text it is told as 25',
-            "write the constant in the sort's width",
+            "write the constant in the sort's width, with all its digits",
         ),
     ),
     16: (
@@ -162,8 +162,8 @@ CASES: Dict[int, Tuple[Tuple[str, str, str, str], ...]] = {
         (
             'What is met most',
             'BadToken',
-            'at line 1: the file is no BTOR2 at all, but Verilog, a circuit in AIGER or a witness: `head -n 1 FILE` tells',
-            'for Verilog let Yosys write BTOR2 (`write_btor`); a circuit goes to `aig-convert` and `check-aig`; the model comes before the witness',
+            'at line 1: the file is no BTOR2 at all, but Verilog, a circuit in AIGER or a witness: `head -n 1 FILE` tells; or it is compressed: `head -c 6 FILE | od -An -tx1` prints `1f 8b` first of gzip, `fd 37 7a 58 5a 00` of xz, `28 b5 2f fd` of zstd',
+            'for Verilog let Yosys write BTOR2 (`write_btor`); a circuit goes to `aig-convert` and `check-aig`; the model comes before the witness; decompress first: `gzip -dc <FILE >NEW`, `xz -dc <FILE >NEW`, `zstd -dc <FILE >NEW`',
         ),
         (
             'Texts of models',
@@ -175,7 +175,7 @@ CASES: Dict[int, Tuple[Tuple[str, str, str, str], ...]] = {
             'Texts of models',
             'BadToken',
             'a token of the form is missing, or is no number where one must stand; a negative number stands where no operand does; a binary, decimal or hexadecimal constant has a byte that is no digit; the count of a justice line is 2^64 - 1 or more',
-            'write the form as the format has it',
+            'write the form as the format has it; of `z` in a constant, as in `const 1 1zzz`, `setundef -zero` in Yosys before `write_btor` makes 0, and the model is then of a design that has 0 there',
         ),
         (
             'Texts of models',
@@ -195,7 +195,7 @@ CASES: Dict[int, Tuple[Tuple[str, str, str, str], ...]] = {
             'Texts of models',
             'ArraySort',
             '`sort array`',
-            'arrays are not taken: lower them to words before',
+            'arrays are not taken: in Yosys, `memory_map` before `write_btor`; a memory with two write clocks stays one, and `clk2fflogic; memory_map -formal` makes registers of it',
         ),
     ),
     22: (
@@ -209,7 +209,7 @@ CASES: Dict[int, Tuple[Tuple[str, str, str, str], ...]] = {
             'Texts of models',
             'ArrayOperator',
             'the form is `read` or `write`',
-            'arrays are not taken: lower them to words before',
+            'arrays are not taken: in Yosys, `memory_map` before `write_btor`; a memory with two write clocks stays one, and `clk2fflogic; memory_map -formal` makes registers of it',
         ),
     ),
     23: (
@@ -217,7 +217,7 @@ CASES: Dict[int, Tuple[Tuple[str, str, str, str], ...]] = {
             'Texts of models',
             'UnknownOperator',
             'the form is no word of the format',
-            'see in the README what it does not take',
+            'see what wrote the line: FORMATS has all forms; in the place of `udivo` put `zero`, since an unsigned division never overflows',
         ),
     ),
     24: (
@@ -225,7 +225,7 @@ CASES: Dict[int, Tuple[Tuple[str, str, str, str], ...]] = {
             'Texts of models',
             'NegativeOperand',
             'an operand is `-` and a decimal',
-            'give the negation a line of its own, by `not`, and name that',
+            'it is the operand with all bits turned: give that a line of its own, by `not`, and name that; in an `init` name a constant with the bits turned',
         ),
     ),
     25: (
@@ -233,7 +233,7 @@ CASES: Dict[int, Tuple[Tuple[str, str, str, str], ...]] = {
             'Texts of models',
             'ConstantDoesNotFit',
             'the constant does not fit its sort; what a push tells as 15',
-            "write the constant in the sort's width",
+            "write the constant in the sort's width, with all its digits",
         ),
     ),
     26: (
@@ -247,7 +247,7 @@ CASES: Dict[int, Tuple[Tuple[str, str, str, str], ...]] = {
             'Texts of models',
             'BadSymbol',
             'the token behind the form has more than 255 bytes, or one outside 33 to 126',
-            'shorten the name, or write it in ASCII',
+            'shorten the name, or write it in ASCII: it means nothing to the model',
         ),
     ),
     27: (
@@ -262,8 +262,8 @@ CASES: Dict[int, Tuple[Tuple[str, str, str, str], ...]] = {
         (
             'What is met most',
             'Unfinished',
-            'the last line of a model has no line feed, or the file is cut: `tail -c 1 FILE | od -c` prints another byte than `\\n`',
-            '`echo >>FILE` where the file is whole, else fetch it again',
+            'the last line of a model has no line feed, or the file is cut: `tail -c 1 FILE | od -c` prints another byte than `\\n`; or it is compressed, as 20 says',
+            '`echo >>FILE` where the file is whole, else fetch it again; decompress it first, as 20 says',
         ),
         (
             'Texts of models',
@@ -309,7 +309,7 @@ CASES: Dict[int, Tuple[Tuple[str, str, str, str], ...]] = {
             'Circuits',
             'TooBig',
             'a variable, a count or the sum of the sizes of the justice properties would be above 2^30',
-            'split the circuit',
+            'make a circuit for each bad property, of what it and the constraints depend on',
         ),
     ),
     43: (
@@ -348,14 +348,14 @@ CASES: Dict[int, Tuple[Tuple[str, str, str, str], ...]] = {
         (
             'What is met most',
             'BadHeader',
-            'the file is no AIGER, whose first word is `aag` or `aig`; a model in BTOR2 is none',
-            '`lower` makes a circuit of a model',
+            'the file is no AIGER, whose first word is `aag` or `aig`; a model in BTOR2 is none, nor is a compressed file: `head -c 6 FILE | od -An -tx1` prints `1f 8b` first of gzip, `fd 37 7a 58 5a 00` of xz, `28 b5 2f fd` of zstd',
+            '`lower` makes a circuit of a model; decompress first: `gzip -dc <FILE >NEW`, `xz -dc <FILE >NEW`, `zstd -dc <FILE >NEW`',
         ),
         (
             'What is met most',
             'BadHeader',
             'the first line looks right: it ends with a carriage return, or begins with a byte order mark: `head -n 1 FILE | od -c` shows both',
-            "`tr -d '\\r' <FILE >NEW` drops the one, `tail -c +4 FILE >NEW` the other; a binary circuit must be fetched again without conversion",
+            '`hwtool tidy-witness FILE` drops the one, `tail -c +4 FILE >NEW` the other; a binary circuit must be fetched again without conversion',
         ),
         (
             'Texts of circuits',
@@ -369,7 +369,7 @@ CASES: Dict[int, Tuple[Tuple[str, str, str, str], ...]] = {
             'Texts of circuits',
             'CountsDisagree',
             'M is not I + L + A, in the ascii form is below it',
-            'correct the header',
+            'correct M in the header; see that no line was left out',
         ),
     ),
     52: (
@@ -385,7 +385,7 @@ CASES: Dict[int, Tuple[Tuple[str, str, str, str], ...]] = {
             'Texts of circuits',
             'BadLatch',
             "a latch's line is not two or three decimals (in the binary form one or two); its own literal defines no new variable; its next literal is above 2M + 1; or its reset is not 0, 1 or its own literal",
-            'write the latch as the format has it',
+            'write the latch as FORMATS has it; where its first bit is another literal, proceed as with 11, by a latch that is 1 in the first frame alone',
         ),
     ),
     54: (
@@ -416,16 +416,16 @@ CASES: Dict[int, Tuple[Tuple[str, str, str, str], ...]] = {
         (
             'Texts of circuits',
             'BadSymbol',
-            'a line behind the gates is neither a name for a position that is there and has none nor the line `c`',
-            'name each position once, by `<letter><position> <name>`',
+            'a line behind the gates is neither a name for a position that is there and has none, of 1 to 300 bytes from 32 to 126, nor the line `c`',
+            "name each position once, by `<letter><position> <name>`; ABC's `&w` writes a comment on the line `c`: write by `&w -n`, or by `write_aiger` without `-u`; cut longer names, or leave all out (in Yosys, `write_aiger` without `-symbols`)",
         ),
     ),
     58: (
         (
             'What is met most',
             'Truncated',
-            'the last line of a circuit has no line feed, or the file is cut: `tail -c 1 FILE | od -c` prints another byte than `\\n`',
-            '`echo >>FILE` where the file is whole, else fetch it again',
+            "the last line of a circuit has no line feed, or the file is cut: `tail -c 1 FILE | od -c` prints another byte than `\\n`; ABC's `write_aiger -u` ends so, with `c`",
+            '`echo >>FILE` where the file is whole, else fetch it again; decompress it first, as 20 says; in ABC `write_aiger` without `-u`',
         ),
         (
             'Texts of circuits',
@@ -439,7 +439,7 @@ CASES: Dict[int, Tuple[Tuple[str, str, str, str], ...]] = {
             'Texts of circuits',
             'TooBig',
             'a number of the header, or the sum of the sizes of the justice properties, is above 2^30',
-            'split the circuit',
+            'make a circuit for each bad property, of what it and the constraints depend on; see that the header is right',
         ),
     ),
     60: (
@@ -463,13 +463,13 @@ CASES: Dict[int, Tuple[Tuple[str, str, str, str], ...]] = {
             'Circuits',
             'Cycle',
             '`Loose::number`: a gate depends on itself through operands; the first gate that does or that depends on one that does is named, counted from 0',
-            'break the cycle by a latch',
+            'see what made it: gates in a cycle have no value, and a latch in it would make another circuit',
         ),
         (
             'Texts of circuits',
             'Cycle',
             'a gate of the ascii form depends on itself through operands, or on one that does',
-            'break the cycle by a latch',
+            'see what made it: gates in a cycle have no value, and a latch in it would make another circuit; in Yosys `check` tells where a design has one',
         ),
     ),
     63: (
@@ -477,13 +477,13 @@ CASES: Dict[int, Tuple[Tuple[str, str, str, str], ...]] = {
             'Circuits',
             'Undefined',
             '`Loose::number`: a line uses a variable that is neither 0 nor defined; the first such line is named, counted from 0 from the latches to the gates, without inputs and sizes of justice properties',
-            'define the variable, or take the line out',
+            'define the variable; a line that is taken out is missing in what the circuit says',
         ),
         (
             'Texts of circuits',
             'Undefined',
             'a line of the ascii form uses a variable that is neither 0 nor defined',
-            'define the variable, or take the line out',
+            'define the variable; a line that is taken out is missing in what the circuit says',
         ),
     ),
     70: (
@@ -491,13 +491,13 @@ CASES: Dict[int, Tuple[Tuple[str, str, str, str], ...]] = {
             'Runs and judges',
             'NoNext',
             'a state has an `init` and no `next`; the first such state in file order is named',
-            'give the state a next: itself, where it keeps its word; or take its init away, where it is to have any word in each frame',
+            'give the state an input of its own as its next: it then has any word from the second frame on, as a state without a next has; itself as its next is right only where it is to keep its word',
         ),
         (
             'Dumps',
             'NoNext',
             'a state has an `init` and no `next`; the first such state in file order is named',
-            'give the state a next, or take its init out',
+            'give the state an input of its own as its next: it then has any word from the second frame on, as a state without a next has; itself as its next is right only where it is to keep its word',
         ),
     ),
     71: (
@@ -513,7 +513,7 @@ CASES: Dict[int, Tuple[Tuple[str, str, str, str], ...]] = {
             'Gate makers',
             'TooBig',
             'a gate would have a variable above 2^30; from a builder only where the variables so far and its bound sum to more',
-            'split the circuit',
+            'make a circuit for each bad property, of what it and the constraints depend on',
         ),
     ),
     81: (
@@ -529,7 +529,7 @@ CASES: Dict[int, Tuple[Tuple[str, str, str, str], ...]] = {
             'Lowering',
             'Justice',
             'a justice line is the first item in file order for which a model is not lowered, of these and of those of 91 and 92',
-            'take the line out',
+            'take the line out: bad properties do not depend on it, and the justice property is not looked at then',
         ),
     ),
     91: (
@@ -537,7 +537,7 @@ CASES: Dict[int, Tuple[Tuple[str, str, str, str], ...]] = {
             'Lowering',
             'Fair',
             'a fairness line is the first such item',
-            'take the line out',
+            'take the line out: it matters to justice properties alone',
         ),
     ),
     92: (
@@ -545,7 +545,7 @@ CASES: Dict[int, Tuple[Tuple[str, str, str, str], ...]] = {
             'Lowering',
             'NoNext',
             'the line of a state that has an `init` and no `next` is the first such item',
-            'give the state a next: itself, where it keeps its word; or take its init away, where it is to have any word in each frame',
+            'give the state an input of its own as its next: it then has any word from the second frame on, as a state without a next has; itself as its next is right only where it is to keep its word',
         ),
     ),
     93: (
@@ -553,7 +553,7 @@ CASES: Dict[int, Tuple[Tuple[str, str, str, str], ...]] = {
             'Lowering',
             'TooBig',
             "none of these applies, and the bound on the circuit's variables is above 2^30 (1,073,741,824); `hwtool cost` tells it",
-            'split the model',
+            'write a model for each bad property, of what it and the constraints depend on',
         ),
     ),
     94: (
@@ -615,7 +615,7 @@ CASES: Dict[int, Tuple[Tuple[str, str, str, str], ...]] = {
             'What is met most',
             'BadHeader',
             'the first line looks right: it ends with a carriage return, or begins with a byte order mark: `head -n 1 FILE | od -c` shows both',
-            "`tr -d '\\r' <FILE >NEW` drops the one, `tail -c +4 FILE >NEW` the other",
+            '`hwtool tidy-witness FILE` drops the one, `tail -c +4 FILE >NEW` the other',
         ),
         (
             'Witnesses',
@@ -635,7 +635,7 @@ CASES: Dict[int, Tuple[Tuple[str, str, str, str], ...]] = {
             'Witnesses',
             'BadClaim',
             'the claims line is no list of `b<i>` or `j<i>` with one space between',
-            'write `b0`, or `b0 b2`',
+            "write `b0`, or `b0 b2`; `hwtool tidy-witness FILE` drops blanks and carriage returns at a line's end",
         ),
         (
             'Witnesses',
@@ -647,7 +647,7 @@ CASES: Dict[int, Tuple[Tuple[str, str, str, str], ...]] = {
             'Witnesses of circuits',
             'BadClaim',
             'the second line is not `b<i>` of a bad property that is there',
-            'name one bad property, counted from 0',
+            "name one bad property, counted from 0; `hwtool tidy-witness FILE` drops blanks at the line's end",
         ),
     ),
     112: (
@@ -675,7 +675,7 @@ CASES: Dict[int, Tuple[Tuple[str, str, str, str], ...]] = {
             'Witnesses',
             'FrameOrder',
             "behind the claims there is neither `#0` nor `@0`; later a line begins with `#`, `@` or `.` and is neither the next frame's line nor, behind a frame, the end, nor, behind a frame and over a model with a free state, `#` with the next frame's number",
-            'write `#0` at most once, then `@0`, `@1` and so on without a gap; words of free states stand behind `#1` and before `@1`, and so on',
+            'write `#0` at most once, then `@0`, `@1` and so on without a gap; words of free states stand behind `#1` and before `@1`, and so on; `hwtool tidy-witness FILE` drops comments, empty lines and carriage returns',
         ),
         (
             'Witnesses of circuits',
@@ -689,7 +689,7 @@ CASES: Dict[int, Tuple[Tuple[str, str, str, str], ...]] = {
             'Witnesses',
             'BadIndex',
             'an assignment does not begin with a decimal that counts a state (behind `#0`), a state that is free (behind a later `#k`) or an input (behind `@k`)',
-            'count all states, or inputs, in file order, from 0',
+            'count all states, or inputs, in file order, from 0; `hwtool tidy-witness FILE` drops comments and empty lines, which are told so too',
         ),
     ),
     115: (
@@ -697,7 +697,7 @@ CASES: Dict[int, Tuple[Tuple[str, str, str, str], ...]] = {
             'Witnesses',
             'IndexTwice',
             'the index stands earlier in this part',
-            'leave one out',
+            'leave one out where both have the same value; else see which is meant',
         ),
     ),
     116: (
@@ -705,13 +705,13 @@ CASES: Dict[int, Tuple[Tuple[str, str, str, str], ...]] = {
             'Witnesses',
             'BadValue',
             'the value is missing, has not as many digits as the width, or another byte than `0`, `1` and `x`',
-            'write all binary digits, the highest first, with one space before them',
+            'write all binary digits, the highest first, with one space before them; `hwtool tidy-witness FILE` drops carriage returns',
         ),
         (
             'Witnesses of circuits',
             'BadValue',
             'a line of bits has another length than there are latches, or inputs, or another byte than `0`, `1` and `x`',
-            'write a bit for each, in their order and without spaces',
+            'write a bit for each, in their order and without spaces; `hwtool tidy-witness FILE` drops carriage returns, and empty lines that are no frames',
         ),
     ),
     117: (
@@ -719,19 +719,19 @@ CASES: Dict[int, Tuple[Tuple[str, str, str, str], ...]] = {
             'What is met most',
             'Undetermined',
             'a value of the witness has an `x`, a bit left open',
-            'put `0` or `1` in its place, as the tool that wrote it meant; where any bit will do, `0`',
+            '`hwtool tidy-witness FILE` puts `0` in its place, and what is accepted then is a counterexample; of a first state with an initial value put the bit of that, where the tool meant another bit that one',
         ),
         (
             'Witnesses',
             'Undetermined',
             'the value has an `x`',
-            'choose 0 or 1',
+            'choose 0 or 1; of a first state with an init, the bit of its init; `hwtool tidy-witness FILE` puts 0',
         ),
         (
             'Witnesses of circuits',
             'Undetermined',
             'one of the bits of a line is `x`',
-            'choose 0 or 1',
+            'choose 0 or 1; of a latch with a reset, in the first line of bits, its reset; `hwtool tidy-witness FILE` puts 0',
         ),
     ),
     118: (
@@ -739,7 +739,7 @@ CASES: Dict[int, Tuple[Tuple[str, str, str, str], ...]] = {
             'What is met most',
             'Truncated',
             'the last line of a witness has no line feed, or the file is cut: `tail -c 1 FILE | od -c` prints another byte than `\\n`',
-            '`echo >>FILE` where the file is whole, else fetch it again',
+            '`echo >>FILE` where the file is whole, else fetch it again; decompress it first, as 20 says',
         ),
         (
             'Witnesses',
@@ -753,13 +753,13 @@ CASES: Dict[int, Tuple[Tuple[str, str, str, str], ...]] = {
             'What is met most',
             'Trailing',
             'at the line behind the first `.`: several witnesses in one file, or a note behind the first',
-            "cut the file: `sed '/^\\.$/q' FILE >NEW` keeps the first witness",
+            '`hwtool tidy-witness FILE` keeps the first witness, with `--pick N` the N-th',
         ),
         (
             'Witnesses',
             'Trailing',
             'the witness has ended with the line `.`, and something follows',
-            'one witness in a file, and nothing behind it',
+            '`hwtool tidy-witness FILE` keeps the first witness of a file, with `--pick N` the N-th',
         ),
     ),
     120: (
@@ -807,7 +807,7 @@ CASES: Dict[int, Tuple[Tuple[str, str, str, str], ...]] = {
             'Engine forms',
             'Justice',
             'the circuit has a justice property; the first, at position 0, is meant',
-            'take the justice properties out, or turn them into bad properties',
+            'take the justice properties out: bad properties do not depend on them; one of them becomes a bad property only by a translation of liveness into safety, which `hwtool` does not make',
         ),
     ),
     141: (
@@ -815,7 +815,7 @@ CASES: Dict[int, Tuple[Tuple[str, str, str, str], ...]] = {
             'Engine forms',
             'Fair',
             'the circuit has a fairness constraint; the first, at position 0, is meant',
-            'take the fairness constraints out',
+            'take the fairness constraints out: they matter to justice properties alone',
         ),
     ),
     142: (
@@ -823,7 +823,7 @@ CASES: Dict[int, Tuple[Tuple[str, str, str, str], ...]] = {
             'Engine forms',
             'NoSuchBad',
             'there is no bad property at the chosen position',
-            'count bad properties from 0',
+            'count bad properties from 0; the last line of `hwtool show` tells how many a model has, B in the header how many a circuit',
         ),
     ),
     143: (
@@ -831,7 +831,7 @@ CASES: Dict[int, Tuple[Tuple[str, str, str, str], ...]] = {
             'Engine forms',
             'TooBig',
             'the inputs and latches of the form and the bound on its gates sum to more than 2^30',
-            'split the circuit',
+            'make a circuit for each bad property, of what it and the constraints depend on',
         ),
     ),
     144: (
@@ -842,12 +842,20 @@ CASES: Dict[int, Tuple[Tuple[str, str, str, str], ...]] = {
             'give the program more memory',
         ),
     ),
+    145: (
+        (
+            'Engine forms',
+            'NoBad',
+            'there is no bad property',
+            'a circuit of before AIGER 1.9, and one that ABC writes, has its properties as outputs: `aig-convert --outputs` makes each output a bad property; where a model or circuit is empty or cut, see that what wrote it did not fail, as a Yosys in a pipe may',
+        ),
+    ),
     150: (
         (
             'Counterexamples over engine forms',
             'NoFrame',
             'the text ends before a frame',
-            'see that the file is whole',
+            'see that the file is whole; ABC writes all bits on one line where `write_cex` lacks `-a`',
         ),
     ),
     151: (
@@ -855,7 +863,7 @@ CASES: Dict[int, Tuple[Tuple[str, str, str, str], ...]] = {
             'Counterexamples over engine forms',
             'InitialOne',
             'an initial bit is 1',
-            "let the engine begin the form's latches with 0",
+            "in ABC `write_cex -a`: without `-a` all bits stand on one line; an engine is to begin the form's latches with 0",
         ),
     ),
     152: (
@@ -871,7 +879,7 @@ CASES: Dict[int, Tuple[Tuple[str, str, str, str], ...]] = {
             'Counterexamples over engine forms',
             'WrongLength',
             'a frame has another number of bits than the form has inputs',
-            'see that the text is of this form',
+            'see that the text is of this form: of the same circuit or model, with the same `--bad`',
         ),
     ),
     154: (
@@ -1038,7 +1046,7 @@ CASES: Dict[int, Tuple[Tuple[str, str, str, str], ...]] = {
         (
             'Invariants and certificates',
             'BadOutput',
-            "the line of the output's name is not `.ob` and a word",
+            "the line of the output's name is not `.ob`, a blank and a word, which may be empty",
             'take the file as ABC writes it by `pdr -d -I`',
         ),
     ),
@@ -1063,7 +1071,7 @@ CASES: Dict[int, Tuple[Tuple[str, str, str, str], ...]] = {
             'Invariants and certificates',
             'HoldsAtStart',
             'a cube has no `1`, so the state in which all latches are 0, the first one, is in it',
-            'it is no invariant: look for a counterexample',
+            'it is no invariant of an engine form: take what `pdr -d -I` writes where ABC says that the property is proved, over the form of this property',
         ),
     ),
     191: (
@@ -1128,6 +1136,22 @@ CASES: Dict[int, Tuple[Tuple[str, str, str, str], ...]] = {
             'Device',
             'the source of a proof failed',
             'see that the file is there and can be read',
+        ),
+    ),
+    200: (
+        (
+            'Tidied witnesses',
+            'Read',
+            'the source failed; a beginning of the tidied text was written',
+            'see that the file is there and can be read',
+        ),
+    ),
+    201: (
+        (
+            'Tidied witnesses',
+            'Write',
+            'the sink failed; a beginning of the tidied text was written',
+            'see that there is room and that the output is open',
         ),
     ),
 }
