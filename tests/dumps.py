@@ -7,8 +7,9 @@ PROGRAM is crates/hwtool/out/hwtool where none is given, which `rt run` builds. 
 random ones with all operators, states of each kind and names of each kind; the witnesses are those of examples/, also cut
 after each byte, and random ones, some of them cut behind a line. An evaluator of its own gives the frames by whole numbers,
 as SMT-LIB says what operators mean; a reader of its own takes a dump apart, and sees that the first frame has all words,
-that a later one has those that changed and no other, and that a moment stands behind the last frame. It says what was
-tried. The status is 0 where all is as it should be, else 1.
+that a later one has those that changed and no other, that a moment stands behind the last frame, and that no two signals
+of a scope have one name, for which further random models have names that are alike, and some that a dump might give. It
+says what was tried. The status is 0 where all is as it should be, else 1.
 """
 
 import os
@@ -20,8 +21,9 @@ import tempfile
 
 TOP = os.path.dirname(os.path.dirname(os.path.realpath(__file__)))
 PROGRAM = f"{TOP}/crates/hwtool/out/hwtool"
-# How many random models are tried, each with four witnesses.
+# How many random models are tried, each with four witnesses, and how many with names that are alike, each with one.
 MODELS = 150
+ALIKE = 400
 SCOPES = ["inputs", "states", "bad", "constraints", "outputs", "nodes"]
 CONSTANTS = {"zero", "one", "ones", "const", "constd", "consth"}
 LINES = {"sort", "init", "next", "bad", "constraint", "output", "fair", "justice"}
@@ -357,18 +359,31 @@ def read_dump(text):
     return signals, moments
 
 
-def named(line):
-    """The name of a signal in a dump."""
-    if line.symbol is None:
-        return f"n{line.id}"
-    plain = re.fullmatch(r"[A-Za-z_][A-Za-z0-9_.]*", line.symbol)
-    return line.symbol if plain else "\\" + line.symbol
+PREFIXES = {"bad": "bad:", "constraints": "constraint:"}
+
+
+def escaped(name):
+    """A name as it stands in a dump."""
+    return name if re.fullmatch(r"[A-Za-z_][A-Za-z0-9_.]*", name) else "\\" + name
+
+
+def named(scope, lines):
+    """The names of the signals of a scope, in their order. One whose name an earlier one has, or that ends in `#` and
+    digits or in `#`, has `#` and its id behind it."""
+    earlier = set()
+    for number, line in enumerate(lines):
+        own = str(number) if scope in PREFIXES else f"n{line.id}"
+        name = PREFIXES.get(scope, "") + (own if line.symbol is None else line.symbol)
+        apart = name in earlier or re.search(r"#[0-9]*\Z", name)
+        earlier.add(name)
+        yield escaped(f"{name}#{line.id}" if apart else name), line
 
 
 def wanted_signals(model, shows_all):
     """The signals that a dump is to have, in order, each with its line."""
     forms = {"inputs": "input", "states": "state", "bad": "bad", "constraints": "constraint", "outputs": "output"}
     for scope in SCOPES:
+        shown = []
         for line in model.lines:
             if scope == "nodes":
                 inner = line.has_value() and line.form not in {"input", "state"}
@@ -376,7 +391,9 @@ def wanted_signals(model, shows_all):
             else:
                 own = line.form == forms[scope]
             if own:
-                yield scope, model.width(line.shown()), f"n{line.id}", named(line), line
+                shown.append(line)
+        for name, line in named(scope, shown):
+            yield scope, model.width(line.shown()), f"n{line.id}", name, line
 
 
 def compare(model, traced, dump, shows_all):
@@ -384,6 +401,8 @@ def compare(model, traced, dump, shows_all):
     signals, moments = read_dump(dump)
     wanted = list(wanted_signals(model, shows_all))
     want(signals == [signal[:4] for signal in wanted], f"other signals: {signals}")
+    names = [(scope, name) for scope, _, _, name in signals]
+    want(len(set(names)) == len(names), f"two signals of one name: {signals}")
     want(len(moments) == (len(traced) + 1 if traced else 0), f"{len(moments)} moments of {len(traced)} frames")
     words = {}
     for k, frame in enumerate(traced):
@@ -420,9 +439,13 @@ class Maker:
     def add(self, words, named=True):
         """A line more; it has a name now and then."""
         self.last += self.chance.choice([1, 1, 1, 7])
-        symbol = self.chance.choice(NAMES) if named and self.chance.random() < 0.4 else ""
+        symbol = self.symbol() if named else ""
         self.lines.append(f"{self.last} {words} {symbol}".rstrip())
         return self.last
+
+    def symbol(self):
+        """A name, or none."""
+        return self.chance.choice(NAMES) if self.chance.random() < 0.4 else ""
 
     def sort(self, n):
         """The sort of n bits."""
@@ -503,6 +526,36 @@ class Maker:
             n = chance.choice(list(self.nodes))
             self.add(f"output {self.some(n)}")
         return "\n".join(self.lines) + "\n"
+
+
+class AlikeMaker(Maker):
+    """Makes a random model whose lines have names that are alike, and such as a dump might give to others."""
+
+    def symbol(self):
+        chance, others = self.chance, [line.split() for line in self.lines]
+        kind = chance.randrange(8)
+        if kind < 2:
+            return ""
+        if kind == 2:
+            return chance.choice("ab")
+        if kind == 3:
+            return f"n{chance.randrange(1, self.last + 3)}"
+        if kind == 4:
+            return str(chance.randrange(4))
+        if kind == 5:
+            return chance.choice(["bad:", "constraint:", "#", "a#", "n", "#1"]) + chance.choice(["", "0", "1", "a", "n5"])
+        # the name of another line, also with an id behind it, which may be its own
+        name = chance.choice([words[-1] for words in others] + ["a"])
+        while kind == 6 and chance.random() < 0.7 and len(name) < 240:
+            name += f"#{chance.randrange(1, self.last + 3)}"
+        return name
+
+    def model(self):
+        """The text of a model, with more properties and constraints than others have."""
+        text, chance = super().model(), self.chance
+        for _ in range(chance.randrange(12)):
+            self.add(f"{chance.choice(['bad', 'bad', 'constraint'])} {self.some(1)}")
+        return text + "".join(f"{line}\n" for line in self.lines[text.count("\n") :])
 
 
 def random_frames(chance, model):
@@ -615,6 +668,11 @@ def main():
                 lines = written(model, claims, frames)
                 trials.whole(f"random model {number}", text, claims, frames, lines)
             trials.cut(f"random model {number}, cut", text, frames, lines, chance.randrange(len(lines)))
+        for number in range(ALIKE):
+            text = AlikeMaker(chance).model()
+            model = Model(text)
+            frames = random_frames(chance, model)[:2]
+            trials.whole(f"model {number} of names that are alike", text, [0], frames, written(model, [0], frames))
     print(
         f"dumps: {trials.dumps} dumps of {trials.frames} frames and {trials.words} words read back, {trials.wrong} wrong"
     )

@@ -124,7 +124,7 @@ expect_line "help" out "The file - is standard input."
 expect_line "help" out "  2  the input is refused"
 "$program" --version >out 2>err; status=$?
 expect "version" 0 ""
-expect_line "version" out "hwtool 0.1.0"
+expect_line "version" out "hwtool 0.2.0"
 
 # certificates, kept in examples/: what holds, a file that is not there, and one file on standard input
 for name in wraps guarded followers; do
@@ -239,7 +239,7 @@ expect_nothing "a model that is too big" out
 
 # full and closed devices
 for words in "--help" "--version" "lower model.btor2" "lower --binary model.btor2" "show model.btor2" "cost model.btor2" \
-    "aig-convert circuit" "aig-convert --binary circuit" "check-btor model.btor2 witness" "check-aig circuit bits" \
+    "aig-convert circuit" "aig-convert --binary circuit" "aig-convert --outputs circuit" "tidy-witness witness" "check-btor model.btor2 witness" "check-aig circuit bits" \
     "lift model.btor2 bits" "wave model.btor2 witness" "restore --abc circuit cex" "vectors vectors" \
     "obligation wraps.btor2 wraps.invariant" "check-proof wraps.btor2 wraps.invariant wraps.proof"; do
     # shellcheck disable=SC2086
