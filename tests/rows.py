@@ -35,7 +35,7 @@ class Row(typing.NamedTuple):
         behind_value = False
         for word in self.words[1:]:
             if not behind_value and (not word.startswith(b"-") or word == b"-"):
-                yield word.decode()
+                yield os.fsdecode(word)
             behind_value = word in (b"-o", b"--output", b"--bad", b"--pick")
 
     @property
@@ -73,14 +73,17 @@ def read_rows(path=ROWS):
 
 def answer(program, row, folder):
     """What a program answers: status, standard output (or the file that stands in its place) and standard error."""
-    taken = b""
+    taken = {"input": b""}
     for name, text in zip(row.names if row.words else ["-"], row.files):
         if name == "-":
-            taken = text or b""
+            # a folder can't be read, as an input that is not there
+            taken = {"input": text} if text is not None else {"stdin": os.open(folder, os.O_RDONLY)}
         elif text is not None:
             with open(os.path.join(folder, name), "wb") as file:
                 file.write(text)
-    done = subprocess.run([program, *row.words], cwd=folder, input=taken, capture_output=True)
+    done = subprocess.run([program, *row.words], cwd=folder, capture_output=True, **taken)
+    if "stdin" in taken:
+        os.close(taken["stdin"])
     return done.returncode, done.stdout, done.stderr
 
 
