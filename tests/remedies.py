@@ -316,6 +316,11 @@ class Trials:
         new = self.folder / "NEW"
         return (new if new.exists() else self.folder / "FILE").read_bytes()
 
+    def tidied(self, text):
+        """What `tidy-witness` makes of a text, as remedies of witnesses say."""
+        self.said("hwtool tidy-witness FILE`")
+        return self.run(["tidy-witness"], text).stdout
+
     def case(self, number, title, words, before, after, same, renamed=(), frames=FRAMES, as_bad=(False, False), many=MANY):
         """One remedy: `before` is refused by the number, `after` is taken, and where `same` both do the same. A leaf of
         `after` may be another one of `before`, some frames later (`renamed`), and outputs of either be looked at (`as_bad`)."""
@@ -597,8 +602,9 @@ def witnesses(trials):
     good = (TOP / "examples/counter.witness").read_bytes()
     judge = ["check-btor", "@m"]
     case(118, "no last line feed", judge, good[:-1], trials.shell("echo >>FILE", good[:-1]), False)
-    case(119, "two witnesses", judge, good + good, trials.shell(r"sed '/^\.$/q' FILE >NEW", good + good), False)
-    case(110, "carriage returns", judge, good.split(b"\n", 1)[1].replace(b"\n", b"\r\n"), trials.shell(r"tr -d '\r' <FILE >NEW", good.split(b"\n", 1)[1].replace(b"\n", b"\r\n")), False)
+    case(119, "two witnesses", judge, good + good, trials.tidied(good + good), False)
+    carried = good.split(b"\n", 1)[1].replace(b"\n", b"\r\n")
+    case(110, "carriage returns", judge, carried, trials.tidied(carried), False)
     case(117, "an `x` at a state with an init", judge, good.replace(b"@0\n", b"#0\n0 0x\n@0\n"), good.replace(b"@0\n", b"#0\n0 00\n@0\n"), False)
     (trials.folder / "m").write_bytes((TOP / "examples/toggler.btor2").read_bytes())
     case(110, "a circuit's witness", judge, b"1\nb0\n0\n\n\n.\n", (TOP / "examples/toggler.witness").read_bytes(), False)
