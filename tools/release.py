@@ -45,12 +45,14 @@ def sum_of(path):
 def link_program(into, more=()):
     """Links the program as the toolchain's `rattle-link` does, with these words more."""
     library = TOOLS / "lib"
-    words = [TOOLS / "bin/ld.lld", "-m", "elf_x86_64", "-pie", "--dynamic-linker", "/lib64/ld-linux-x86-64.so.2"]
-    words += ["-z", "relro", "-z", "now", "-z", "noexecstack", "--eh-frame-hdr", "--gc-sections", "--no-dependent-libraries"]
-    words += ["--build-id=sha1", "--threads=1", *more, "-o", into, library / "Scrt1.o", library / "crti.o", library / "crtbeginS.o"]
     program = build.crates_of(TOP / "crates.txt")[build.PROGRAM]
-    words += [program.made, build.KIT / "c/libos_c.a", build.KIT / "c/liblibc_c.a", library / "libc.so.6", library / "libc_nonshared.a"]
-    words += [library / "libgcc.a", library / "libm.so.6", library / "crtendS.o", library / "crtn.o"]
+    words = [TOOLS / "bin/ld.lld", "-m", "elf_x86_64", "-pie", "--dynamic-linker", "/lib64/ld-linux-x86-64.so.2", "--as-needed"]
+    words += ["-z", "relro", "-z", "now", "-z", "noexecstack", "--eh-frame-hdr", "--gc-sections", "--no-dependent-libraries"]
+    words += ["--build-id=sha1", "--fatal-warnings", "--threads=1", *more, "-o", into]
+    words += [library / it for it in ["Scrt1.o", "crti.o", "crtbeginS.o"]]
+    words += [program.made, build.KIT / "c/libos_c.a", build.KIT / "c/liblibc_c.a"]
+    words += [library / it for it in ["libm.so.6", "libc.so.6", "libc_nonshared.a", "ld-linux-x86-64.so.2", "libgcc.a", "libgcc_s.so.1"]]
+    words += [library / it for it in ["crtendS.o", "crtn.o"]]
     run(words)
 
 
