@@ -71,7 +71,7 @@ def make_libraries(into):
         words = [TOOLS / "bin/ld.lld", "-m", "elf_x86_64", "-shared", "-soname", SONAME, "--version-script", names, "-z", "defs"]
         words += ["-z", "relro", "-z", "now", "-z", "noexecstack", "--eh-frame-hdr", "--gc-sections", "--strip-all", "--build-id=sha1"]
         words += ["--threads=1", "-o", into / "libhwtool.so", "--whole-archive", archive, "--no-whole-archive"]
-        run([*words, TOOLS / "lib/libc.so.6"])
+        run([*words, TOOLS / "lib/libc.so.6", TOOLS / "lib/libgcc.a"])
     link = into / SONAME
     link.unlink(missing_ok=True)
     link.symlink_to("libhwtool.so")
