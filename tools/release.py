@@ -128,7 +128,7 @@ def notices(used):
 def used_libraries(crates):
     """The libraries of the toolchain that some crates stand on, by their names."""
     found = {name for it in crates for name in re.findall(r"^statements (\w+):", it.said.read_text(errors="replace"), flags=re.M)}
-    return sorted(found | {name for it in crates for name in it.of_kit} - {it.name for it in crates})
+    return sorted((found | {name for it in crates for name in it.of_kit}) - {it.name for it in crates})
 
 
 def axioms(crate):
