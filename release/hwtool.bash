@@ -1,0 +1,34 @@
+# Completions of hwtool for bash, made from its table of commands.
+_hwtool() {
+    local word=${COMP_WORDS[COMP_CWORD]} before=${COMP_WORDS[COMP_CWORD - 1]} words=
+    COMPREPLY=()
+    if [ "$COMP_CWORD" = 1 ]; then
+        mapfile -t COMPREPLY < <(compgen -W 'lower check-btor show cost aig-convert check-aig lift restore wave obligation check-proof tidy-witness vectors explain help --help --version' -- "$word")
+        return
+    fi
+    case $before in
+        --bad|--pick) return ;;
+    esac
+    case ${COMP_WORDS[1]} in
+        lower) words='--quiet --output --ascii --binary --engine --bad --help' ;;
+        check-btor) words='--quiet --names --help' ;;
+        show) words='--quiet --output --help' ;;
+        cost) words='--quiet --help' ;;
+        aig-convert) words='--quiet --output --ascii --binary --outputs --engine --bad --help' ;;
+        check-aig) words='--quiet --names --help' ;;
+        lift) words='--quiet --output --names --engine --abc --bad --help' ;;
+        restore) words='--quiet --output --abc --bad --help' ;;
+        wave) words='--quiet --output --all --help' ;;
+        obligation) words='--quiet --output --aiger --bad --help' ;;
+        check-proof) words='--quiet --names --aiger --bad --help' ;;
+        tidy-witness) words='--quiet --output --pick --help' ;;
+        vectors) words='--quiet --help' ;;
+        explain) words='--help' ;;
+    esac
+    if [[ $word == -* ]]; then
+        mapfile -t COMPREPLY < <(compgen -W "$words" -- "$word")
+    else
+        mapfile -t COMPREPLY < <(compgen -f -- "$word")
+    fi
+}
+complete -o filenames -F _hwtool hwtool

@@ -1,0 +1,133 @@
+/* The library of hwtool for C programs: judgements of witnesses, lowering, lifting, dumps and certificates, over whole texts
+ * in memory. What each call answers is proved (docs/PROVED.md, "The library for C programs").
+ *
+ * What the caller owes, which nothing checks:
+ *   - no pointer is null, also that of an empty text or buffer; a text or buffer of n bytes is n bytes that can be read or
+ *     written, and n is below 2^63;
+ *   - a `bool` is 0 or 1;
+ *   - what a call writes (buffer, needed, verdict, refusal, gates, variables) overlaps neither what it reads nor each other;
+ *   - a stack of 256 KB at least;
+ *   - `malloc`, `realloc` and `free` are those of one allocator, and no call is made from a signal handler or from the forked
+ *     child of a process with threads. Calls of several threads are free of each other.
+ *
+ * Every call answers a status. A call that answers a text puts it at the front of the caller's buffer and tells its length in
+ * `needed`; where the buffer is too small nothing of it is promised but `needed`, so a call with a buffer of one byte asks for
+ * the length, as `snprintf` does.
+ */
+#ifndef HWTOOL_H
+#define HWTOOL_H
+
+#include <stdbool.h>
+#include <stddef.h>
+#include <stdint.h>
+
+#ifdef __cplusplus
+extern "C" {
+#endif
+
+/* The version of the library that this header goes with. */
+#define HWTOOL_VERSION "0.2.0"
+
+/* The statuses. */
+enum {
+    HWTOOL_DONE = 0,           /* the answer is there */
+    HWTOOL_TOO_SMALL = 1,      /* the buffer is too small; `needed` is the length of the text */
+    HWTOOL_TEXT_REFUSED = 2,   /* the first text is no model or no circuit; `refusal` says why and where */
+    HWTOOL_MODEL_REFUSED = 3,  /* what it says is not taken by this call; `refusal` says why and which item */
+    HWTOOL_NO_MEMORY = 4,      /* memory was wanting */
+    HWTOOL_SECOND_REFUSED = 5  /* the text of an invariant is faulty; `refusal` says why and where */
+};
+
+/* The kinds of verdicts. */
+enum {
+    HWTOOL_ACCEPTED = 0,      /* of a witness: `first` frames; of a proof: the property holds, shown with line `first` */
+    HWTOOL_NOT_REACHED = 1,   /* the claimed bad property at position `first` rises in no frame */
+    HWTOOL_VIOLATED = 2,      /* in frame `first` the constraint at position `second` does not hold */
+    HWTOOL_INIT_DIFFERS = 3,  /* the initial value of the state or latch at position `first` is another */
+    HWTOOL_MALFORMED = 4,     /* line `first`, from 1, is faulty; `why` is the number of why */
+    HWTOOL_NO_CLAIM = 5,      /* the witness claims nothing */
+    HWTOOL_NOT_IMPLIED = 6,   /* the step of a proof that ends in line `first` is not implied */
+    HWTOOL_NOT_DERIVED = 7    /* a proof ends before anything is shown */
+};
+
+/* What is said of a witness or of a proof. Fields that the kind does not name are 0. */
+struct hwtool_verdict {
+    uint32_t kind;
+    uint32_t why;
+    uint64_t first;
+    uint64_t second;
+};
+
+/* Why a text or its model is refused: the number of the refusal, and its place: the line of a model's or an invariant's text,
+ * from 1, the byte of a circuit's, from 0, the id of an item of the model, or 0 where it is about the whole. */
+struct hwtool_refusal {
+    uint32_t number;
+    uint64_t place;
+};
+
+/* Judges a witness of a BTOR2 model. Answers DONE with `verdict`, TEXT_REFUSED, MODEL_REFUSED (a state has an init and no
+ * next), NO_MEMORY. */
+uint32_t hwtool_check_btor(const uint8_t *model, size_t model_length, const uint8_t *witness, size_t witness_length,
+                           struct hwtool_verdict *verdict, struct hwtool_refusal *refusal);
+
+/* Judges a witness of an AIGER circuit of either form. Answers DONE with `verdict`, TEXT_REFUSED, NO_MEMORY. */
+uint32_t hwtool_check_aig(const uint8_t *circuit, size_t circuit_length, const uint8_t *witness, size_t witness_length,
+                          struct hwtool_verdict *verdict, struct hwtool_refusal *refusal);
+
+/* Lowers a BTOR2 model to an AIGER circuit, binary or ascii. Answers DONE and TOO_SMALL with `needed`, TEXT_REFUSED,
+ * MODEL_REFUSED, NO_MEMORY. */
+uint32_t hwtool_lower(const uint8_t *model, size_t model_length, bool binary, uint8_t *buffer, size_t buffer_length,
+                      size_t *needed, struct hwtool_refusal *refusal);
+
+/* How many AND gates and how many variables that circuit has at most. Answers DONE, TEXT_REFUSED, NO_MEMORY. */
+uint32_t hwtool_cost(const uint8_t *model, size_t model_length, uint64_t *gates, uint64_t *variables,
+                     struct hwtool_refusal *refusal);
+
+/* Writes an AIGER circuit of either form in one, its variables numbered as in the binary form. Answers DONE and TOO_SMALL with
+ * `needed`, TEXT_REFUSED, NO_MEMORY. */
+uint32_t hwtool_convert(const uint8_t *circuit, size_t circuit_length, bool binary, uint8_t *buffer, size_t buffer_length,
+                        size_t *needed, struct hwtool_refusal *refusal);
+
+/* Writes the engine form of an AIGER circuit, which every engine reads alike: with all its bad properties, or, where `chosen`,
+ * with the one at position `bad` alone. Answers DONE and TOO_SMALL with `needed`, TEXT_REFUSED, MODEL_REFUSED, NO_MEMORY. */
+uint32_t hwtool_engine_form(const uint8_t *circuit, size_t circuit_length, bool chosen, size_t bad, bool binary,
+                            uint8_t *buffer, size_t buffer_length, size_t *needed, struct hwtool_refusal *refusal);
+
+/* Judges a witness of the circuit that a BTOR2 model lowers to, and lifts it to the model's. Answers DONE and TOO_SMALL with
+ * `verdict` and `needed`, TEXT_REFUSED, MODEL_REFUSED, NO_MEMORY. */
+uint32_t hwtool_lift(const uint8_t *model, size_t model_length, const uint8_t *witness, size_t witness_length,
+                     struct hwtool_verdict *verdict, uint8_t *buffer, size_t buffer_length, size_t *needed,
+                     struct hwtool_refusal *refusal);
+
+/* Judges a witness of a BTOR2 model, and writes its frames as a value change dump with a title in its comment: of nodes that
+ * are no inputs, states, properties or outputs those that have a symbol, or `all`. Answers as hwtool_lift. */
+uint32_t hwtool_wave(const uint8_t *model, size_t model_length, bool all, const uint8_t *title, size_t title_length,
+                     const uint8_t *witness, size_t witness_length, struct hwtool_verdict *verdict, uint8_t *buffer,
+                     size_t buffer_length, size_t *needed, struct hwtool_refusal *refusal);
+
+/* Writes in DIMACS what an invariant, as ABC writes it over the engine form, owes for the bad property of a BTOR2 model at
+ * position `bad`. Answers DONE and TOO_SMALL with `needed`, TEXT_REFUSED, MODEL_REFUSED, SECOND_REFUSED, NO_MEMORY. */
+uint32_t hwtool_obligation(const uint8_t *model, size_t model_length, size_t bad, const uint8_t *invariant,
+                           size_t invariant_length, uint8_t *buffer, size_t buffer_length, size_t *needed,
+                           struct hwtool_refusal *refusal);
+
+/* Judges a proof in DRAT of what that invariant owes. With a verdict of kind 0 the bad property rises in no frame up to which
+ * the constraints hold, from any initial state under every input sequence. Answers DONE with `verdict`, TEXT_REFUSED,
+ * MODEL_REFUSED, SECOND_REFUSED, NO_MEMORY. */
+uint32_t hwtool_check_proof(const uint8_t *model, size_t model_length, size_t bad, const uint8_t *invariant,
+                            size_t invariant_length, const uint8_t *proof, size_t proof_length,
+                            struct hwtool_verdict *verdict, struct hwtool_refusal *refusal);
+
+/* The version, which is that of the program, as HWTOOL_VERSION has it for this header; not ended by a zero byte. Answers DONE and
+ * TOO_SMALL with `needed`. */
+uint32_t hwtool_version(uint8_t *buffer, size_t buffer_length, size_t *needed);
+
+/* The name of a refusal, by its number, as the program prints it; not ended by a zero byte. Answers DONE and TOO_SMALL with
+ * `needed`; TEXT_REFUSED where no refusal has this number. */
+uint32_t hwtool_name(uint32_t number, uint8_t *buffer, size_t buffer_length, size_t *needed);
+
+#ifdef __cplusplus
+}
+#endif
+
+#endif
