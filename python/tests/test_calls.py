@@ -68,7 +68,7 @@ class Witnesses(unittest.TestCase):
     def test_malformed(self):
         verdict = hwtool.check_btor(TOGGLER, b"sat\nb0\n#0\n0 0\n0 1\n@0\n.\n")
         self.judged(verdict, "malformed line 5: 115 IndexTwice", kind=Kind.MALFORMED, line=5, why=115, why_name="IndexTwice")
-        self.assertEqual(verdict.remedy, "leave one out")
+        self.assertEqual(verdict.remedy, "leave one out where both have the same value; else see which is meant")
         # a line without its end, which is met most
         verdict = hwtool.check_aig(TWICE, TWICE_WITNESS[:-1])
         self.judged(verdict, "malformed line 6: 118 Truncated", kind=Kind.MALFORMED, line=6, why=118, why_name="Truncated")
@@ -138,13 +138,13 @@ class Circuits(unittest.TestCase):
     def test_long_text(self):
         # products of words of 64 bits: more than room is first made for, and within the bound
         lines = [b"1 sort bitvec 64", b"2 input 1", b"3 input 1", b"4 mul 1 2 3", b"5 output 4"]
-        for line in range(6, 86, 2):
+        for line in range(6, 126, 2):
             lines += [b"%d mul 1 %d 3" % (line, line - 2), b"%d output %d" % (line + 1, line)]
         model = b"\n".join([*lines, b""])
         text = hwtool.lower(model)
         self.assertGreater(len(text), (1 << 24) + 32 * len(model))
         header = text.split(b"\n", 1)[0].split()
-        self.assertEqual(header[:5], [b"aag", b"%d" % (128 + int(header[5])), b"128", b"0", b"%d" % (64 * 41)])
+        self.assertEqual(header[:5], [b"aag", b"%d" % (128 + int(header[5])), b"128", b"0", b"%d" % (64 * 61)])
         self.assertLessEqual(int(header[5]), hwtool.cost(model).gates)
         self.assertEqual(text, hwtool.convert(hwtool.lower(model, binary=True)))
 
@@ -207,13 +207,13 @@ class Refusals(unittest.TestCase):
             with self.subTest(call.__name__):
                 self.refused(
                     call, b"1 sort bitvec 1\n2 frobnicate 1\n", *rest, line="model: line 2: 23 UnknownOperator", number=23,
-                    name="UnknownOperator", kind="model", unit="line", place=2, remedy="see in the README what it does not take",
+                    name="UnknownOperator", kind="model", unit="line", place=2, remedy="see what wrote the line: FORMATS has all forms",
                 )  # fmt: skip
 
     def test_item_of_a_line(self):
         self.refused(
             hwtool.lower, b"1 sort bitvec 65\n", line="model: line 1: 5 WidthOutOfRange", number=5, name="WidthOutOfRange",
-            kind="model", unit="line", place=1, remedy="cut wider words into parts",
+            kind="model", unit="line", place=1, remedy="the sort of a word of more than 64 bits, or of none",
         )  # fmt: skip
 
     def test_text_of_circuit(self):
@@ -229,7 +229,7 @@ class Refusals(unittest.TestCase):
         )  # fmt: skip
 
     def test_items(self):
-        remedy = "give the state a next"
+        remedy = "give the state an input of its own as its next"
         for call, number, rest in (
             (hwtool.lower, 92, ()), (hwtool.lift, 92, (b"1\n",)), (hwtool.check_btor, 70, (b"sat\n",)),
             (hwtool.wave, 70, (b"sat\n",)), (hwtool.obligation, 92, (0, NEVER_ONE)), (hwtool.check_proof, 92, (0, NEVER_ONE, b"")),
@@ -258,7 +258,7 @@ class Refusals(unittest.TestCase):
             with self.subTest(call.__name__):
                 self.refused(
                     call, KEPT, 0, NEVER_ONE.replace(b"1 1\n", b"0 1\n"), *rest, line="invariant: line 6: 190 HoldsAtStart",
-                    number=190, name="HoldsAtStart", kind="invariant", unit="line", place=6, remedy="look for a counterexample",
+                    number=190, name="HoldsAtStart", kind="invariant", unit="line", place=6, remedy="it is no invariant of an engine form",
                 )  # fmt: skip
 
     def test_pickled(self):

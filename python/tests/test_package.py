@@ -58,7 +58,12 @@ class Remedies(unittest.TestCase):
         # as `hwtool explain 23` tells, and 22, whose first remedy is that of 21
         self.assertEqual(
             hwtool.explain(23),
-            (("Texts of models", "UnknownOperator", "the form is no word of the format", "see in the README what it does not take"),),
+            (
+                (
+                    "Texts of models", "UnknownOperator", "the form is no word of the format",
+                    "see what wrote the line: FORMATS has all forms; in the place of `udivo` put `zero`, since an unsigned division never overflows",
+                ),
+            ),
         )
         self.assertEqual(hwtool.explain(22)[0].remedy, "in Yosys, `memory_map` before `write_btor` makes registers of them")
         self.assertEqual(hwtool.explain(7000), ())
@@ -126,9 +131,8 @@ class Library(unittest.TestCase):
     def test_version(self):
         self.assertRegex(hwtool.version(), r"^\d+\.\d+\.\d+")
         self.assertEqual(hwtool.version(), hwtool.__version__)
-        words = TOP / "crates" / "command_line" / "src" / "reading_words.rt"
-        told = re.search(r'const VERSION: &str = "(.*)";', words.read_text(encoding="utf-8"))
-        self.assertEqual(told[1], hwtool.__version__)
+        header = (TOP / "include" / "hwtool.h").read_text(encoding="utf-8")
+        self.assertEqual(re.search(r'#define HWTOOL_VERSION "(.*)"', header)[1], hwtool.__version__)
 
 
 class Wheel(unittest.TestCase):
