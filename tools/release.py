@@ -72,9 +72,6 @@ def make_libraries(into):
         words += ["-z", "relro", "-z", "now", "-z", "noexecstack", "--eh-frame-hdr", "--gc-sections", "--strip-all", "--build-id=sha1"]
         words += ["--threads=1", "-o", into / "libhwtool.so", "--whole-archive", archive, "--no-whole-archive"]
         run([*words, TOOLS / "lib/libc.so.6", TOOLS / "lib/libgcc.a"])
-    link = into / SONAME
-    link.unlink(missing_ok=True)
-    link.symlink_to("libhwtool.so")
 
 
 def least_glibc(files):
@@ -180,7 +177,7 @@ def make(folder):
     (folder / "hwtool.pc").write_text(PC.format(version=version))
     (folder / "NOTICES").write_text(notices(used_libraries(made)))
     manual.write(folder / "hwtool", folder)
-    files = sorted(it.name for it in folder.iterdir() if it.is_file() and not it.is_symlink() and it.name not in ("PROVED.txt", "SHA256SUMS", "README.md"))
+    files = sorted(it.name for it in folder.iterdir() if it.is_file() and it.name not in ("PROVED.txt", "SHA256SUMS", "README.md"))
     (folder / "PROVED.txt").write_text(proved_text(made, version, files, folder))
     files = sorted([*files, "PROVED.txt"])
     (folder / "SHA256SUMS").write_text("".join(f"{sum_of(folder / it)}  {it}\n" for it in files))
@@ -219,6 +216,9 @@ def main(words):
         if not build.make([LIBRARY]):
             return 1
         make_libraries(folder)
+        # by which programs find the shared one
+        (folder / SONAME).unlink(missing_ok=True)
+        (folder / SONAME).symlink_to("libhwtool.so")
     else:
         for it in make(folder):
             print(f"{(folder / it).stat().st_size:9,}  {it}")
