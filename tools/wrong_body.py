@@ -18,6 +18,8 @@ import build
 
 # The line that says of which function what is not proved.
 REFUSED = re.compile(r"note: (\S+): it is not proved that (.*?); |note: (\S+): it is not proved that (.*)")
+# The one that says of which clause the written proof no longer holds.
+UNPROVED = re.compile(r"^(\S+): error: `(returns\S*?)`", flags=re.M)
 
 
 def read_edit(path):
@@ -71,6 +73,9 @@ def tried(edit, crate):
     found = REFUSED.search(said)
     if ran.returncode == 1 and found:
         return True, f"{found[1] or found[3]} it is not proved that {found[2] or found[4]}"
+    found = UNPROVED.search(said)
+    if ran.returncode == 1 and found:
+        return True, f"{found[1]} the written proof of what the function ensures does not hold (`{found[2]}`)"
     refused = re.search(r"^fn .*: (?:not proved|no proof).*", said, flags=re.M)
     if ran.returncode == 1 and refused:
         return True, refused[0]
