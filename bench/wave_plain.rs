@@ -2,7 +2,7 @@
 //! as a value change dump, and its judgement goes to standard error. It takes what is well formed alone, and looks for no
 //! fault. `waves.py` times it beside ours.
 
-use std::collections::HashMap;
+use std::collections::{HashMap, HashSet};
 use std::fs::File;
 use std::io::{self, BufWriter, Read, Write};
 use std::{env, fs};
@@ -188,6 +188,7 @@ fn read_model(text: &str, all: bool) -> Machine {
     let mut places: HashMap<u64, usize> = HashMap::new();
     let mut widths: Vec<u32> = Vec::new();
     let mut state_at: HashMap<u64, usize> = HashMap::new();
+    let mut names: HashSet<(usize, String)> = HashSet::new();
     for line in text.lines() {
         let line = line.split(';').next().unwrap();
         let tokens: Vec<&str> = line.split_ascii_whitespace().collect();
@@ -316,11 +317,24 @@ fn read_model(text: &str, all: bool) -> Machine {
             continue;
         }
         let place = shown.unwrap();
-        let name = match symbol {
+        let own = match symbol {
+            Some(symbol) => symbol.to_string(),
+            None if scope == 2 => (machine.bads.len() - 1).to_string(),
+            None if scope == 3 => (machine.constraints.len() - 1).to_string(),
             None => format!("n{id}"),
-            Some(symbol) if is_plain(symbol) => symbol.to_string(),
-            Some(symbol) => format!("\\{symbol}"),
         };
+        let mut name = match scope {
+            2 => format!("bad:{own}"),
+            3 => format!("constraint:{own}"),
+            _ => own,
+        };
+        let ends_in_a_number = name.trim_end_matches(|end: char| end.is_ascii_digit()).ends_with('#');
+        if ends_in_a_number || !names.insert((scope, name.clone())) {
+            name = format!("{name}#{id}");
+        }
+        if !is_plain(&name) {
+            name.insert(0, '\\');
+        }
         machine.signals.push(Signal { scope, place, width: widths[place], code: format!("n{id}"), name });
     }
     machine.signals.sort_by_key(|signal| signal.scope);
