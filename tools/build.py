@@ -14,9 +14,9 @@ than one only where processors are free. What is made of a crate stands in its f
 was made from, and is made again where that is another: nothing else is kept, so a crate that changed is proved whole, and so is
 each above it.
 
-On standard error it tells how far it is: on a terminal in one line that changes, else in a line a minute at most. What the
-prover says goes into the log `crates/hwtool/out/build.log`, and of a crate that is not proved the last lines are told too. The
-status is 0 where all stands.
+On standard error it tells how far it is: on a terminal in one line that changes, else in a line a minute at most, and one a crate.
+What the prover says goes into the log `crates/hwtool/out/build.log`, and of a crate that is not proved the last lines are told
+too. The status is 0 where all stands.
 """
 import fcntl
 import functools
@@ -161,7 +161,7 @@ class Telling:
     """Tells how far a build is."""
 
     def __init__(self, wanted, standing):
-        self.wanted, self.begun, self.told = wanted, time.monotonic(), 0
+        self.wanted, self.begun, self.told, self.done = wanted, time.monotonic(), 0, -1
         self.to_do = sum(it.weight for it in wanted if it not in standing)
         self.is_terminal = sys.stderr.isatty()
 
@@ -178,8 +178,8 @@ class Telling:
         line = f"hwtool: crate {min(len(standing) + 1, len(self.wanted))} of {len(self.wanted)}, {int(self.minutes)} minutes so far{rest}"
         if self.is_terminal:
             print(f"\r{line}\x1b[K", end="", file=sys.stderr, flush=True)
-        elif self.minutes >= self.told + 1:
-            self.told = self.minutes
+        elif self.minutes >= self.told + 1 and len(standing) > self.done:
+            self.told, self.done = self.minutes, len(standing)
             print(line, file=sys.stderr, flush=True)
 
     def clear(self):
