@@ -8,5 +8,6 @@ pub mod Lines
 pub mod Held
 pub mod Decimals
 pub mod Pieces
+pub mod Reasons
 pub mod Trials
 pub mod Rows

@@ -4,7 +4,7 @@ use thiserror::Error;
 /// A source or a sink failed.
 #[derive(Clone, Copy, Debug, PartialEq, Eq, Error)]
 pub enum DeviceFault {
-    /// The one fault: what it was is not kept.
+    /// The one fault; why it came a source or a sink tells by itself.
     #[error("device")]
     Failed,
 }

@@ -5,6 +5,7 @@ ghost use Rattle.std.specs.Io.KnownBytes.{WriteAppends, Appends};
 ghost use Rattle.base.specs.Device.{CountsFaults, AppendsBeginning};
 
 use crate::device::DeviceFault;
+use crate::reasons::Reason;
 use std::alloc::Global;
 use std::io::Write;
 use std::marker::Model;
@@ -25,6 +26,11 @@ pub trait Sink {
         ensures some { 0 < length bytes.now → IfOk result (λ n. 0 < n) }
         ensures bytes { WriteAppends (written self.old) (written self.new) result bytes.now }
         ensures failures { CountsFaults result (failures self.old) (failures self.new) };
+
+    /// Why it failed last, where the system told it.
+    fn reason(&self) -> Option<Reason> {
+        None
+    }
 }
 
 /// A sink that keeps its bytes. A refused growth is its one failure.
@@ -76,6 +82,7 @@ impl Sink for VecSink {
 pub struct ToWriter<W: Write + Drop> {
     writer: W,
     failures: u128,
+    reason: Option<Reason>,
 }
 
 impl<W: Write + Drop> ToWriter<W> {
@@ -87,6 +94,7 @@ impl<W: Write + Drop> ToWriter<W> {
         ToWriter {
             writer,
             failures: 0,
+            reason: None,
         }
     }
 }
@@ -99,11 +107,19 @@ impl<W: Write + Drop> Sink for ToWriter<W> {
     fn write(&mut self, bytes: &[u8]) -> Result<usize, DeviceFault> {
         match self.writer.write(bytes) {
             Ok(count) if count > 0 || bytes.is_empty() => Ok(count),
-            _ => {
+            taken => {
                 self.failures = self.failures.saturating_add(1);
+                self.reason = match taken {
+                    Ok(_) => None,
+                    Err(error) => Reason::of(&error),
+                };
                 Err(DeviceFault::Failed)
             }
         }
+    }
+
+    fn reason(&self) -> Option<Reason> {
+        self.reason
     }
 }
 

@@ -5,6 +5,7 @@ ghost use Rattle.std.specs.Io.KnownBytes.{ReadConsumes, IsAtEnd, Keeps};
 ghost use Rattle.base.specs.Device.{HasRisen, CountsFaults};
 
 use crate::device::DeviceFault;
+use crate::reasons::Reason;
 use std::alloc::Global;
 use std::io::Read;
 use thiserror::Error;
@@ -30,6 +31,11 @@ pub trait Source {
         ensures bytes { ReadConsumes (to_come self.old) (to_come self.new) result buf.new }
         ensures ends { IfOk result (λ n. 0 < n → calls_left self.new < calls_left self.old) }
         ensures failures { CountsFaults result (failures self.old) (failures self.new) };
+
+    /// Why it failed last, where the system told it.
+    fn reason(&self) -> Option<Reason> {
+        None
+    }
 }
 
 /// A slice gives its bytes and never fails.
@@ -56,6 +62,7 @@ pub struct FromReader<R: Read + Drop> {
     reader: R,
     reads_left: u64,
     failures: u128,
+    reason: Option<Reason>,
 }
 
 impl<R: Read + Drop> FromReader<R> {
@@ -69,6 +76,7 @@ impl<R: Read + Drop> FromReader<R> {
             reader,
             reads_left: u64::MAX,
             failures: 0,
+            reason: None,
         }
     }
 }
@@ -95,11 +103,16 @@ impl<R: Read + Drop> Source for FromReader<R> {
         self.reads_left -= 1;
         match self.reader.read(buf) {
             Ok(count) => Ok(count),
-            Err(_) => {
+            Err(error) => {
                 self.failures = self.failures.saturating_add(1);
+                self.reason = Reason::of(&error);
                 Err(DeviceFault::Failed)
             }
         }
+    }
+
+    fn reason(&self) -> Option<Reason> {
+        self.reason
     }
 }
 
