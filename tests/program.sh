@@ -48,6 +48,12 @@ expect_nothing() {
     fi
 }
 
+# wrong TEXT: what was seen is not as it should be
+wrong() {
+    echo "$1"
+    failed=$((failed + 1))
+}
+
 [ -x "$program" ] || {
     echo "$program is not built: run rt run in crates/hwtool"
     exit 1
@@ -80,25 +86,25 @@ expect "refused input" 2 "-: line 1: 5 WidthOutOfRange"
 
 # files that are not there, or can't be read
 "$program" lower missing.btor2 >out 2>err; status=$?
-expect "a missing file" 3 "missing.btor2: device"
+expect "a missing file" 3 "missing.btor2: device: no such file"
 "$program" show "$folder" >out 2>err; status=$?
-expect "a folder" 3 "$folder: device"
+expect "a folder" 3 "$folder: device: is a folder"
 for words in "lower" "lower --binary" "show" "cost" "aig-convert" "vectors"; do
     # shellcheck disable=SC2086
     "$program" $words . >out 2>err; status=$?
-    expect "$words of a folder" 3 ".: device"
+    expect "$words of a folder" 3 ".: device: is a folder"
     expect_nothing "$words of a folder" out
 done
 for command in check-btor check-aig lift; do
     first=model.btor2
     [ "$command" = check-aig ] && first=circuit
     "$program" "$command" . bits >out 2>err; status=$?
-    expect "$command of a folder" 3 ".: device"
+    expect "$command of a folder" 3 ".: device: is a folder"
     "$program" "$command" "$first" . >out 2>err; status=$?
-    expect "$command with a folder in place of a witness" 3 ".: device"
+    expect "$command with a folder in place of a witness" 3 ".: device: is a folder"
     expect_nothing "$command with a folder in place of a witness" out
     "$program" "$command" "$first" missing >out 2>err; status=$?
-    expect "$command with no witness" 3 "missing: device"
+    expect "$command with no witness" 3 "missing: device: no such file"
     "$program" "$command" "$first" - <&- >out 2>err; status=$?
     expect "$command with closed standard input" 3 "-: device"
 done
@@ -143,7 +149,7 @@ expect "obligation -o" 0 ""
 expect_line "obligation -o" owed "p cnf 17 32"
 expect_nothing "obligation -o" out
 "$program" check-proof wraps.btor2 wraps.invariant nothere >out 2>err; status=$?
-expect "a proof that is not there" 3 "nothere: device"
+expect "a proof that is not there" 3 "nothere: device: no such file"
 
 # refusals are explained as the tables of docs/REFUSALS.md say, which may have `|` in a cell as `\|`
 "$program" explain >out 2>err; status=$?
@@ -175,23 +181,131 @@ echo "1 sort bitvec 65" | "$program" lower -o result - >out 2>err; status=$?
 expect "lower -o of a refused model" 2 "-: line 1: 5 WidthOutOfRange"
 expect_line "lower -o of a refused model" result "sat"
 "$program" show -o result missing.btor2 >out 2>err; status=$?
-expect "show -o of a missing file" 3 "missing.btor2: device"
+expect "show -o of a missing file" 3 "missing.btor2: device: no such file"
 expect_line "show -o of a missing file" result "sat"
 "$program" lift -o result model.btor2 - <&- >out 2>err; status=$?
 expect "lift -o that is cut off" 3 "-: device"
 expect_line "lift -o that is cut off" result "sat"
 "$program" show -o missing/result model.btor2 >out 2>err; status=$?
-expect "show -o in no folder" 3 "output: device"
+expect "show -o in no folder" 3 "missing/result: device: no such file"
 "$program" show -o "$folder" model.btor2 >out 2>err; status=$?
-expect "show -o onto a folder" 3 "output: device"
+expect "show -o onto a folder" 3 "$folder: device: is a folder"
 "$program" show -o /dev/full model.btor2 >out 2>err; status=$?
-expect "show -o onto a full device" 3 "output: device"
+expect "show -o onto a full device" 3 "/dev/full: device: no space left"
 [ -c /dev/full ] || echo "show -o onto a full device: it is none any more"
 "$program" show -o - model.btor2 >out 2>err; status=$?
 expect "show -o -" 0 ""
 expect_line "show -o -" out "7 bad 3"
 ls result.* ./-* >left 2>/dev/null
 expect_nothing "parts of results" left
+
+# what -o promises: the file has the whole result or is as it was
+ln -s result alias
+"$program" show -o alias model.btor2 >out 2>err; status=$?
+expect "show -o onto a link" 0 ""
+expect_line "show -o onto a link" result "7 bad 3"
+[ -L alias ] || wrong "show -o onto a link: it is none any more"
+cp model.btor2 read.btor2
+ln -sf read.btor2 alias
+for name in read.btor2 alias ./read.btor2; do
+    "$program" show -o "$name" read.btor2 >out 2>err; status=$?
+    expect "show -o $name of the same file" 0 ""
+    expect_line "show -o $name of the same file" read.btor2 "7 bad 3"
+done
+ln -s far/away lost
+"$program" show -o lost model.btor2 >out 2>err; status=$?
+expect "show -o onto a link into no folder" 3 "lost: device: no such file"
+mkdir far
+"$program" show -o lost model.btor2 >out 2>err; status=$?
+expect "show -o onto a link to no file" 0 ""
+expect_line "show -o onto a link to no file" far/away "7 bad 3"
+ln -sf lost lost
+"$program" show -o lost model.btor2 >out 2>err; status=$?
+expect "show -o onto a link to itself" 3 "lost: device: too many links"
+chmod 604 result
+"$program" show -o result model.btor2 >out 2>err; status=$?
+[ "$(stat -c %a result)" = 604 ] || wrong "show -o: a mode of $(stat -c %a result)"
+(umask 027; "$program" show -o fresh model.btor2)
+[ "$(stat -c %a fresh)" = 640 ] || wrong "show -o of a new file: a mode of $(stat -c %a fresh)"
+name=$(printf 'n%.0s' $(seq 250))
+"$program" show -o "$name" model.btor2 >out 2>err; status=$?
+expect "show -o with a name of 250 bytes" 0 ""
+expect_line "show -o with a name of 250 bytes" "$name" "7 bad 3"
+"$program" show -o "$name$name" model.btor2 >out 2>err; status=$?
+expect "show -o with a name of 500 bytes" 3 "$name$name: device: name too long"
+
+# files that may not be read or written, as a user who is not all-powerful
+if [ "$(id -u)" != 0 ]; then
+    as_user() { "$@"; }
+else
+    chmod 711 "$folder"
+    as_user() { setpriv --reuid=65534 --regid=65534 --clear-groups "$@"; }
+fi
+mkdir open closed
+chmod 777 open
+echo kept >open/fixed
+chmod 444 open/fixed
+as_user "$program" show -o open/fixed model.btor2 >out 2>err; status=$?
+expect "show -o onto a file that may not be written" 3 "open/fixed: device: permission denied"
+expect_line "show -o onto a file that may not be written" open/fixed "kept"
+echo kept >closed/file
+chmod 666 closed/file
+chmod 555 closed
+as_user "$program" show -o closed/file model.btor2 >out 2>err; status=$?
+expect "show -o in a folder that may not be written" 3 "closed/file: device: permission denied"
+expect_line "show -o in a folder that may not be written" closed/file "kept"
+chmod 700 closed
+: >secret
+chmod 000 secret
+as_user "$program" show secret >out 2>err; status=$?
+expect "a file that may not be read" 3 "secret: device: permission denied"
+"$program" show model.btor2/x >out 2>err; status=$?
+expect "a file below a file" 3 "model.btor2/x: device: a part of its name is no folder"
+"$program" show $'a\nb\e[31m\xc2\x9b' >out 2>err; status=$?
+expect "a name with what a terminal obeys" 3 $'a?b?[31m\xc2?: device: no such file'
+
+# a file system that is full, in one that may be mounted
+if mkdir small && mount -t tmpfs -o size=40k none small 2>/dev/null; then
+    echo kept >small/result
+    seq 3 9000 | sed 's/$/ input 1/' | cat <(printf '1 sort bitvec 1\n') - >wide.btor2
+    "$program" show -o small/result wide.btor2 >out 2>err; status=$?
+    expect "show -o in a full folder" 3 "small/result: device: no space left"
+    expect_line "show -o in a full folder" small/result "kept"
+    ls small >left
+    [ "$(cat left)" = result ] || wrong "show -o in a full folder: it has $(cat left)"
+    umount small
+fi
+
+# a file that nobody writes is not waited for where an earlier one is refused
+mkfifo unwritten
+echo "1 sort bitvec 65" >refused.btor2
+timeout 5 "$program" check-btor refused.btor2 unwritten >out 2>err; status=$?
+expect "a refused model in front of a pipe that nobody writes" 2 "refused.btor2: line 1: 5 WidthOutOfRange"
+
+# a pipe is written as it stands
+cat unwritten >read &
+"$program" show -o unwritten model.btor2 >out 2>err; status=$?
+wait $!
+expect "show -o onto a pipe" 0 ""
+expect_line "show -o onto a pipe" read "7 bad 3"
+[ -p unwritten ] || wrong "show -o onto a pipe: it is none any more"
+
+# two writers of one file, of which the slower one is last; and one that is killed
+(head -n 1 model.btor2; sleep 1; tail -n +2 model.btor2) | "$program" lower -o both - &
+"$program" show -o both model.btor2 >out 2>err; status=$?
+expect "show -o beside another writer" 0 ""
+expect_line "show -o beside another writer" both "7 bad 3"
+wait $!
+expect_line "the other writer" both "aag 1 0 1 0 0 1"
+(head -n 1 model.btor2; sleep 2) | "$program" lower -o both - &
+sleep 0.5
+pkill -KILL -f -- "$program lower -o both -"
+wait 2>/dev/null
+expect_line "a writer that is killed" both "aag 1 0 1 0 0 1"
+[ "$(ls both.*.part | wc -l)" = 1 ] || wrong "a writer that is killed: no part"
+"$program" show -o both model.btor2 >out 2>err; status=$?
+expect "show -o beside the part of a killed run" 0 ""
+rm both.*.part
 
 # terminals
 if command -v script >/dev/null; then
@@ -244,7 +358,7 @@ for words in "--help" "--version" "lower model.btor2" "lower --binary model.btor
     "obligation wraps.btor2 wraps.invariant" "check-proof wraps.btor2 wraps.invariant wraps.proof"; do
     # shellcheck disable=SC2086
     "$program" $words >/dev/full 2>err; status=$?
-    expect "$words onto a full device" 3 "output: device"
+    expect "$words onto a full device" 3 "output: device: no space left"
     # shellcheck disable=SC2086
     "$program" $words >&- 2>err; status=$?
     expect "$words onto closed standard output" 3 "output: device"
@@ -259,7 +373,7 @@ for words in "--help" "lower model.btor2" "lift model.btor2 bits" "wave model.bt
     # shellcheck disable=SC2086
     (trap '' PIPE; exec "$program" $words >&3 2>err); status=$?
     exec 3>&-
-    expect "$words onto a closed pipe" 3 "output: device"
+    expect "$words onto a closed pipe" 3 "output: device: closed by its reader"
 done
 : >err
 "$program" frobnicate >out 2>/dev/full; status=$?

@@ -144,7 +144,7 @@ const QUIET_FLAG: Word = Word {
 const OUTPUT_FILE: Word = Word {
     name: OUTPUT,
     kind: Kind::Letter('o', "FILE"),
-    help: "Write to this file, which is made or replaced only when all is written; - is standard output",
+    help: "Write to this file, or to what it leads to as a link, which is made or replaced only when all is written; a run that is killed may leave FILE.PROCESS.part beside it, which may be removed; - is standard output",
 };
 
 /// The forms of a circuit that is written.

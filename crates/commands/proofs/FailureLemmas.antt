@@ -2,6 +2,7 @@
 use Rattle.std.proofs.Common.{◌≡◌, ℕ, List, Option, Err, inl, inr, codes, refl, sym, subst, ◌∙◌}
 use Rattle.std.specs.Io.KnownBytes.{Appends}
 use Rattle.base.specs.Device.{HasRisen}
+use Rattle.base.specs.declared.reasons.Reason.{Reason}
 use Rattle.tasks.specs.declared.answers.Answer.{Answer}
 use Rattle.tasks.specs.declared.refusals.Device.TheVariants as device
 use Rattle.tasks.specs.declared.refusals.Fault.{Fault}
@@ -29,28 +30,28 @@ not_three (fault.Unchosen c) is = absurd (cc)
 not_three _ is = absurd (cc)
 
 -- the fault of a file was told, with status 3 where there was no memory for its line
-fault_told : {S : Type 0} (written : S → Option (List ℕ)) (old mid : S) (x : Fault) (about file : List ℕ) (second third : Option (List ℕ)) (status : ℕ) (after : Option (List ℕ)) (f f' s s' t t' o o' e m e' : ℕ)
-    → CountsAll {T = Unit {0}} (Err refusal.NoMemory) f f' s s' t t' o o' e m → e' ≡ m → mid ≡ old → TellsFault about x status (written mid) after → status ≡ 3 → TellsFailure file second third (written old) after f f' s s' t t' o o' e e'
-fault_told written old mid x about file second third status after f f' s s' t t' o o' e m e' c same untold (inl h) three = absurd (not_three x (sym h.0 ∙ three))
-fault_told written old mid x about file second third status after f f' s s' t t' o o' e m e' c same untold (inr h) three =
-    record { why = refusal.NoMemory; is_told = tt; counted = ((c.0.0, c.0.1, c.0.2, same ∙ c.0.3), c.1); line = subst (λ n. Appends (written n) after (codes "no memory\n")) untold h.1 }
+fault_told : {S : Type 0} (written : S → Option (List ℕ)) (old mid : S) (x : Fault) (about file : List ℕ) (second third output : Option (List ℕ)) (reason : Option Reason) (status : ℕ) (after : Option (List ℕ)) (f f' s s' t t' o o' e m e' : ℕ)
+    → CountsAll {T = Unit {0}} (Err refusal.NoMemory) f f' s s' t t' o o' e m → e' ≡ m → mid ≡ old → TellsFault about x status (written mid) after → status ≡ 3 → TellsFailure file second third output (written old) after f f' s s' t t' o o' e e'
+fault_told written old mid x about file second third output reason status after f f' s s' t t' o o' e m e' c same untold (inl h) three = absurd (not_three x (sym h.0 ∙ three))
+fault_told written old mid x about file second third output reason status after f f' s s' t t' o o' e m e' c same untold (inr h) three =
+    record { why = refusal.NoMemory; reason = reason; is_told = tt; counted = ((c.0.0, c.0.1, c.0.2, same ∙ c.0.3), c.1); line = subst (λ n. Appends (written n) after (codes "no memory\n")) untold h.1 }
 
 -- a refusal was told with status 3
-pub told_failed : {S : Type 0} (written : S → Option (List ℕ)) (old mid : S) (r : Refusal) (file : List ℕ) (second third : Option (List ℕ)) (status : ℕ) (after : Option (List ℕ)) (f f' s s' t t' o o' e m e' : ℕ)
-    → CountsAll {T = Answer} (Err r) f f' s s' t t' o o' e m → e' ≡ m → ErrUntold {T = Answer} (Err r) (mid ≡ old) → Tells file second third r status (written mid) after → status ≡ 3
-    → HasFailed file second third (written old) after f f' s s' t t' o o' e e'
-told_failed written old mid (refusal.Input x) file second third status after f f' s s' t t' o o' e m e' c same untold told three =
-    inr (fault_told written old mid x file file second third status after f f' s s' t t' o o' e m e' c same untold told three)
-told_failed written old mid (refusal.Second x) file second third status after f f' s s' t t' o o' e m e' c same untold told three =
-    inr (fault_told written old mid x (second_name second) file second third status after f f' s s' t t' o o' e m e' c same untold told three)
-told_failed written old mid (refusal.Failed device.First) file second third status after f f' s s' t t' o o' e m e' c same untold told three =
-    inr (record { why = refusal.Failed device.First; is_told = tt; counted = ((c.0.0, c.0.1, c.0.2, same ∙ c.0.3), c.1); line = subst (λ n. Appends (written n) after (refusal_line file second third (refusal.Failed device.First))) untold told.1 })
-told_failed written old mid (refusal.Failed device.Second) file second third status after f f' s s' t t' o o' e m e' c same untold told three =
-    inr (record { why = refusal.Failed device.Second; is_told = tt; counted = ((c.0.0, c.0.1, c.0.2, same ∙ c.0.3), c.1); line = subst (λ n. Appends (written n) after (refusal_line file second third (refusal.Failed device.Second))) untold told.1 })
-told_failed written old mid (refusal.Failed device.Third) file second third status after f f' s s' t t' o o' e m e' c same untold told three =
-    inr (record { why = refusal.Failed device.Third; is_told = tt; counted = (c.0, c.1, c.2, c.3, same ∙ c.4); line = subst (λ n. Appends (written n) after (refusal_line file second third (refusal.Failed device.Third))) untold told.1 })
-told_failed written old mid (refusal.Failed device.Output) file second third status after f f' s s' t t' o o' e m e' c same untold told three =
-    inr (record { why = refusal.Failed device.Output; is_told = tt; counted = ((c.0.0, c.0.1, c.0.2, same ∙ c.0.3), c.1); line = subst (λ n. Appends (written n) after (refusal_line file second third (refusal.Failed device.Output))) untold told.1 })
-told_failed written old mid (refusal.Failed device.Error) file second third status after f f' s s' t t' o o' e m e' c same untold told three = inl (subst (HasRisen e) (sym same) c.0.3)
-told_failed written old mid refusal.NoMemory file second third status after f f' s s' t t' o o' e m e' c same untold told three =
-    inr (record { why = refusal.NoMemory; is_told = tt; counted = ((c.0.0, c.0.1, c.0.2, same ∙ c.0.3), c.1); line = subst (λ n. Appends (written n) after (codes "no memory\n")) untold told.1 })
+pub told_failed : {S : Type 0} (written : S → Option (List ℕ)) (old mid : S) (r : Refusal) (file : List ℕ) (second third output : Option (List ℕ)) (reason : Option Reason) (status : ℕ) (after : Option (List ℕ)) (f f' s s' t t' o o' e m e' : ℕ)
+    → CountsAll {T = Answer} (Err r) f f' s s' t t' o o' e m → e' ≡ m → ErrUntold {T = Answer} (Err r) (mid ≡ old) → Tells file second third output reason r status (written mid) after → status ≡ 3
+    → HasFailed file second third output (written old) after f f' s s' t t' o o' e e'
+told_failed written old mid (refusal.Input x) file second third output reason status after f f' s s' t t' o o' e m e' c same untold told three =
+    inr (fault_told written old mid x file file second third output reason status after f f' s s' t t' o o' e m e' c same untold told three)
+told_failed written old mid (refusal.Second x) file second third output reason status after f f' s s' t t' o o' e m e' c same untold told three =
+    inr (fault_told written old mid x (second_name second) file second third output reason status after f f' s s' t t' o o' e m e' c same untold told three)
+told_failed written old mid (refusal.Failed device.First) file second third output reason status after f f' s s' t t' o o' e m e' c same untold told three =
+    inr (record { why = refusal.Failed device.First; reason = reason; is_told = tt; counted = ((c.0.0, c.0.1, c.0.2, same ∙ c.0.3), c.1); line = subst (λ n. Appends (written n) after (refusal_line file second third output reason (refusal.Failed device.First))) untold told.1 })
+told_failed written old mid (refusal.Failed device.Second) file second third output reason status after f f' s s' t t' o o' e m e' c same untold told three =
+    inr (record { why = refusal.Failed device.Second; reason = reason; is_told = tt; counted = ((c.0.0, c.0.1, c.0.2, same ∙ c.0.3), c.1); line = subst (λ n. Appends (written n) after (refusal_line file second third output reason (refusal.Failed device.Second))) untold told.1 })
+told_failed written old mid (refusal.Failed device.Third) file second third output reason status after f f' s s' t t' o o' e m e' c same untold told three =
+    inr (record { why = refusal.Failed device.Third; reason = reason; is_told = tt; counted = (c.0, c.1, c.2, c.3, same ∙ c.4); line = subst (λ n. Appends (written n) after (refusal_line file second third output reason (refusal.Failed device.Third))) untold told.1 })
+told_failed written old mid (refusal.Failed device.Output) file second third output reason status after f f' s s' t t' o o' e m e' c same untold told three =
+    inr (record { why = refusal.Failed device.Output; reason = reason; is_told = tt; counted = ((c.0.0, c.0.1, c.0.2, same ∙ c.0.3), c.1); line = subst (λ n. Appends (written n) after (refusal_line file second third output reason (refusal.Failed device.Output))) untold told.1 })
+told_failed written old mid (refusal.Failed device.Error) file second third output reason status after f f' s s' t t' o o' e m e' c same untold told three = inl (subst (HasRisen e) (sym same) c.0.3)
+told_failed written old mid refusal.NoMemory file second third output reason status after f f' s s' t t' o o' e m e' c same untold told three =
+    inr (record { why = refusal.NoMemory; reason = reason; is_told = tt; counted = ((c.0.0, c.0.1, c.0.2, same ∙ c.0.3), c.1); line = subst (λ n. Appends (written n) after (codes "no memory\n")) untold told.1 })

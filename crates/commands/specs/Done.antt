@@ -101,10 +101,6 @@ Answers (task.Obligation g choice) form answer.Done first second third before no
 Answers (task.CheckProof g choice) form a first second third before now told told' = Certifies g choice first second third before now a
 Answers _ form a first second third before now told told' = ⊥
 
--- what a command has done that answers so, on some output of which nothing is known
-abbrev pub AnswersSome : Task → Form → Answer → Option (List ℕ) → Option (List ℕ) → Option (List ℕ) → Option (List ℕ) → Option (List ℕ) → Type 0
-AnswersSome task form a first second third told told' = (before : Option (List ℕ)) × ((now : Option (List ℕ)) × Answers task form a first second third before now told told')
-
 -- a command has one file
 unfoldable pub has_one_file : Task → Bool
 has_one_file task.CheckBtor = false

@@ -2,6 +2,7 @@
 use Rattle.std.specs.Prelude.{◌≡◌, ℕ, List, Option, Err, ◌⊎◌}
 use Rattle.std.specs.Io.KnownBytes.{Appends}
 use Rattle.base.specs.Device.{HasRisen}
+use Rattle.base.specs.declared.reasons.Reason.{Reason}
 use Rattle.orders.specs.declared.tasks.Task.{Task}
 use Rattle.tasks.specs.declared.refusals.Claimed.{Claimed}
 use Rattle.tasks.specs.declared.refusals.Device.TheVariants as device
@@ -9,7 +10,8 @@ use Rattle.tasks.specs.declared.refusals.Fault.{Fault}
 use Rattle.tasks.specs.declared.refusals.Fault.TheVariants as fault
 use Rattle.tasks.specs.declared.refusals.Refusal.{Refusal}
 use Rattle.tasks.specs.declared.refusals.Refusal.TheVariants as refusal
-use Rattle.tasks.specs.Refusals.{fault_line, refusal_line, second_name, status_of_fault}
+use Rattle.tasks.specs.declared.answers.Answer.{Answer}
+use Rattle.tasks.specs.Refusals.{device_line, fault_line, output_name, refusal_line, second_name, status_of_fault}
 use Rattle.tasks.specs.Statuses.{CountsAll}
 use Rattle.commands.specs.Refusals.{Refuses, RefusesSecond}
 
@@ -44,13 +46,24 @@ IsTold (refusal.Second f) = ⊥
 IsTold (refusal.Failed device.Error) = ⊥
 IsTold _ = Unit {0}
 
--- a file or standard output failed, no other did, and the line that names it was written; or none failed, and `no memory` was written
-pub record TellsFailure (file : List ℕ) (second third : Option (List ℕ)) (told told' : Option (List ℕ)) (f f' s s' t t' o o' e e' : ℕ) : Type 0 where
+-- a file or the output failed, no other did, and the line that names it was written, with one of the reasons or none; or none failed, and `no memory` was written
+pub record TellsFailure (file : List ℕ) (second third output : Option (List ℕ)) (told told' : Option (List ℕ)) (f f' s s' t t' o o' e e' : ℕ) : Type 0 where
   pub why : Refusal
+  pub reason : Option Reason
   pub is_told : IsTold why
   pub counted : CountsAll {T = Unit {0}} (Err why) f f' s s' t t' o o' e e'
-  pub line : Appends told told' (refusal_line file second third why)
+  pub line : Appends told told' (refusal_line file second third output reason why)
 
 -- Status 3: standard error failed, or a failure was told.
-abbrev pub HasFailed : List ℕ → Option (List ℕ) → Option (List ℕ) → Option (List ℕ) → Option (List ℕ) → ℕ → ℕ → ℕ → ℕ → ℕ → ℕ → ℕ → ℕ → ℕ → ℕ → Type 0
-HasFailed file second third told told' f f' s s' t t' o o' e e' = HasRisen e e' ⊎ TellsFailure file second third told told' f f' s s' t t' o o' e e'
+abbrev pub HasFailed : List ℕ → Option (List ℕ) → Option (List ℕ) → Option (List ℕ) → Option (List ℕ) → Option (List ℕ) → ℕ → ℕ → ℕ → ℕ → ℕ → ℕ → ℕ → ℕ → ℕ → ℕ → Type 0
+HasFailed file second third output told told' f f' s s' t t' o o' e e' = HasRisen e e' ⊎ TellsFailure file second third output told told' f f' s s' t t' o o' e e'
+
+-- A result was written and could not be given its name, and nothing else failed; and behind what the command told of it stands the line that says so, or standard error failed. `Answered` says what was done by an answer, of the bytes of the files, of the result and of standard error.
+pub record IsUnnamed (Answered : Answer → Option (List ℕ) → Option (List ℕ) → Option (List ℕ) → Option (List ℕ) → Option (List ℕ) → Option (List ℕ) → Option (List ℕ) → Type 0) (first second third before now output told told' : Option (List ℕ)) (f f' s s' t t' o o' e e' n n' : ℕ) : Type 0 where
+  pub answer : Answer
+  pub judged : Option (List ℕ)
+  pub reason : Option Reason
+  pub answered : Answered answer first second third before now told judged
+  pub unfailed : (f' ≡ f) × (s' ≡ s) × (t' ≡ t) × (o' ≡ o)
+  pub counted : HasRisen n n'
+  pub line : HasRisen e e' ⊎ Appends judged told' (device_line (output_name output) reason)

@@ -14,13 +14,13 @@ use crate::engine_lifting::lift_counterexample;
 use crate::form_lifting::lift_form_witness;
 use crate::lifting::lift_witness;
 use aiger::Circuit;
-use base::{Sink, Source};
+use base::{Reason, Sink, Source};
 use blast::Watch;
 use btor2::Model;
 use orders::{DEVICE, Named, Order, Task};
 use std::alloc::Global;
 use tasks::{
-    Answer, Refusal, check_circuit, check_circuit_by_name, check_model, check_model_by_name,
+    Answer, Device, Refusal, check_circuit, check_circuit_by_name, check_model, check_model_by_name,
     check_proof, compare_vectors, convert_circuit, convert_for_engines, convert_outputs,
     convert_outputs_for_engines, dump_witness, lower_for_engines, lower_model, read_circuit,
     read_model, restore_counterexample, restore_witness, show, tell, tell_cost, tidy_witness,
@@ -70,7 +70,7 @@ pub fn run<A: Source, B: Source, T: Source, O: Sink, E: Sink, W: Watch>(
     // nothing is written of an input that is refused, and nothing where the words are
     ensures unwritten { result ≡ 2 → out.new ≡ out.old }
     ensures unwritten_words { result ≡ 4 → out.new ≡ out.old }
-    ensures failed { result ≡ 3 → HasFailed order.now.first.now (option_map (λ name. name.now) order.now.second) (option_map (λ name. name.now) order.now.third) (E.written err.old) (E.written err.new) (A.failures first.old) (A.failures first.new) (B.failures second.old) (B.failures second.new) (T.failures third.old) (T.failures third.new) (O.failures out.old) (O.failures out.new) (E.failures err.old) (E.failures err.new) }
+    ensures failed { result ≡ 3 → HasFailed order.now.first.now (option_map (λ name. name.now) order.now.second) (option_map (λ name. name.now) order.now.third) (option_map (λ name. name.now) order.now.output) (E.written err.old) (E.written err.new) (A.failures first.old) (A.failures first.new) (B.failures second.old) (B.failures second.new) (T.failures third.old) (T.failures third.new) (O.failures out.old) (O.failures out.new) (E.failures err.old) (E.failures err.new) }
     // with any other status nothing failed
     ensures unfailed { result ≢ 3 → (A.failures first.new ≡ A.failures first.old) × (B.failures second.new ≡ B.failures second.old) × (T.failures third.new ≡ T.failures third.old) × (O.failures out.new ≡ O.failures out.old) × (E.failures err.new ≡ E.failures err.old) }
     // a command that is done tells nothing, but for `lift`, `restore` and `wave`, and those with names
@@ -81,10 +81,30 @@ pub fn run<A: Source, B: Source, T: Source, O: Sink, E: Sink, W: Watch>(
 {
     match obey(alloc, order, first, second, third, out, err, watch) {
         Ok(answer) => answer.status(),
-        Err(refusal) => match tell(alloc, order, &refusal, err) {
-            Ok(status) => status,
-            Err(_) => DEVICE,
-        },
+        Err(refusal) => {
+            let reason = reason_of(&refusal, first, second, third, out);
+            match tell(alloc, order, &refusal, reason, err) {
+                Ok(status) => status,
+                Err(_) => DEVICE,
+            }
+        }
+    }
+}
+
+/// Why the file or the stream that a refusal is about failed, where that is told.
+fn reason_of<A: Source, B: Source, T: Source, O: Sink>(
+    refusal: &Refusal,
+    first: &A,
+    second: &B,
+    third: &T,
+    out: &O,
+) -> Option<Reason> {
+    match refusal {
+        Refusal::Failed(Device::First) => first.reason(),
+        Refusal::Failed(Device::Second) => second.reason(),
+        Refusal::Failed(Device::Third) => third.reason(),
+        Refusal::Failed(Device::Output) => out.reason(),
+        _ => None,
     }
 }
 

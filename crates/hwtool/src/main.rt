@@ -3,12 +3,12 @@
 
 use base::ToWriter;
 use command_line::{Terminals, given_words, order_at};
-use commands::{Output, run, run_to_file};
+use commands::{Surroundings, run_on_files};
 use orders::{Order, Stop};
 use std::fs;
 use std::io::IsTerminal;
 use std::process::{self, ExitCode};
-use tasks::{Counted, Progress, Watched, Work, end, open_input};
+use tasks::{Progress, Watched, end};
 
 /// Does what the words after the program's name ask for.
 fn main(rt: HostRuntime) -> ExitCode {
@@ -45,50 +45,13 @@ fn obey<'a>(rt: &'a HostRuntime, order: &Order<'a>, terminals: Terminals) -> u8 
     } else {
         None
     };
-    let mut progress = Progress::new(rt, terminal);
-    let first = open_input(rt, rt.stdin(), Some(order.first));
-    let second = open_input(rt, rt.stdin(), order.second);
-    let third = open_input(rt, rt.stdin(), order.third);
-    let written = if terminals.output {
-        None
-    } else {
-        Some(Work::Written)
+    let progress = Progress::new(rt, terminal);
+    let around = Surroundings {
+        input: rt.stdin(),
+        output: rt.stdout(),
+        is_shown: terminals.output,
+        process: process::id(rt.process()),
     };
-    let mut first = Watched::new(first, Some(Work::Read), progress);
-    let mut second = Watched::new(second, Some(Work::on_second(order.task)), progress);
-    let mut third = Watched::new(third, Some(Work::Judged(Counted::Steps)), progress);
-    let mut out = Watched::new(ToWriter::new(rt.stdout()), written, progress);
     let mut err = Watched::new(ToWriter::new(rt.stderr()), None, progress);
-    let status = match order.output {
-        None => run(
-            rt.alloc(),
-            order,
-            &mut first,
-            &mut second,
-            &mut third,
-            &mut out,
-            &mut err,
-            &mut progress,
-        ),
-        Some(name) => {
-            let output = Output {
-                name,
-                process: process::id(rt.process()),
-                progress,
-            };
-            run_to_file(
-                rt,
-                rt.alloc(),
-                order,
-                &mut first,
-                &mut second,
-                &mut third,
-                output,
-                &mut err,
-                &mut progress,
-            )
-        }
-    };
-    progress.clear();
-    status
+    run_on_files(rt, rt.alloc(), order, around, progress, &mut err)
 }

@@ -5,7 +5,7 @@ use blast::Unwatched;
 use commands::run;
 use orders::Order;
 use std::alloc::{AllocError, Global};
-use tasks::{Input, NoFile};
+use tasks::{NoFile, Stream};
 
 /// The status of a command, and what it writes to standard output and to standard error.
 #[derive(Clone, Copy)]
@@ -64,10 +64,10 @@ pub(crate) fn gives<A: Source, B: Source, T: Source>(
 }
 
 /// A file that may not be there.
-fn input(file: Option<&[u8]>) -> Input<&[u8], &[u8]> {
+fn input(file: Option<&[u8]>) -> Stream<&[u8], &[u8]> {
     match file {
-        Some(file) => Input::File(file),
-        None => Input::Missing(NoFile::new()),
+        Some(file) => Stream::File(file),
+        None => Stream::Missing(NoFile::new(None)),
     }
 }
 

@@ -20,15 +20,15 @@
 //! file without a line is not there; `1/` is an empty one. Where words ask for no command, what is written is only to have
 //! the texts of the row as a part.
 //!
-//! Each command is tried on its files as they stand and in pieces of each length, and with a failing device at each call:
-//! of a file that is read, of standard output, and of standard error. `~ model`, `~ circuit 4` and `~ witness` try the
+//! Each command is tried on its files as they stand, on files of their names that it opens, in pieces of each length, and with
+//! a failing device at each call: of a file that is read, of standard output, and of standard error. `~ model`, `~ circuit 4` and `~ witness` try the
 //! first or the second file also cut after each byte (`Cut` says what is to come of it).
 //!
 //! Each row that is not as it should be, and each that cannot be read, is told by the number of its first line; then a
 //! line tells how many rows there are, and how many of them are as they should be.
 //!
-//! Behind them comes what no row says: want of memory in place of a command, a model that is too big for a row, and how far
-//! long work is told to be. The last line tells whether all of that is as it should be, or what is not.
+//! Behind them comes what no row says: want of memory in place of a command, a model that is too big for a row, how far long
+//! work is told to be, and what becomes of files that results go to or that can't be opened. The last line tells whether all of that is as it should be, or what is not.
 #![tactic(auto)]
 
 mod answers;
@@ -36,6 +36,8 @@ mod blocks;
 mod command_lines;
 mod cuts;
 mod escapes;
+mod files;
+mod on_disk;
 mod progress;
 mod stops;
 mod too_big;
@@ -49,6 +51,8 @@ use blocks::Row;
 use command_line::{given_words, order};
 use command_lines::CommandLine;
 use cuts::tells_cuts;
+use files::fault_of_files;
+use on_disk::gives_on_disk;
 use orders::{Order, Stop};
 use progress::fault_of_progress;
 use std::alloc::{AllocError, Global};
@@ -72,14 +76,22 @@ fn main(rt: HostRuntime) -> io::Result<()> {
         Ok(text) => try_rows(&rt, text.as_slice())?,
         Err(fault) => println!(rt; "{fault}")?,
     }
-    match fault_beside_rows(rt.alloc())? {
+    match fault_beside_rows(&rt)? {
         None => println!(rt; "what no row says is as it should be"),
         Some(fault) => println!(rt; "not as it should be: {fault}"),
     }
 }
 
 /// What is not as it should be of what no row says.
-fn fault_beside_rows(alloc: Global) -> Result<Fault, AllocError> {
+fn fault_beside_rows(rt: &HostRuntime) -> io::Result<Fault> {
+    match fault_without_files(rt.alloc())? {
+        None => fault_of_files(rt),
+        Some(fault) => Ok(Some(fault)),
+    }
+}
+
+/// The same, but for what is tried on files.
+fn fault_without_files(alloc: Global) -> Result<Fault, AllocError> {
     if !stops::tells_no_memory(alloc) {
         return Ok(Some("want of memory in place of a command"));
     }
@@ -122,7 +134,7 @@ fn try_row(rt: &HostRuntime, row: &Row, begun: usize, count: Count) -> io::Resul
         return Ok(count);
     }
     let rows = count.rows.saturating_add(1);
-    match fault_of(rt.alloc(), row)? {
+    match fault_of(rt, row)? {
         None => Ok(Count {
             rows,
             right: count.right.saturating_add(1),
@@ -135,7 +147,8 @@ fn try_row(rt: &HostRuntime, row: &Row, begun: usize, count: Count) -> io::Resul
 }
 
 /// What of a row is not as it should be.
-fn fault_of(alloc: Global, row: &Row) -> Result<Fault, AllocError> {
+fn fault_of(rt: &HostRuntime, row: &Row) -> io::Result<Fault> {
+    let alloc = rt.alloc();
     let status = match row.status() {
         Some(status) => status,
         None => return Ok(Some("cannot be read")),
@@ -147,21 +160,21 @@ fn fault_of(alloc: Global, row: &Row) -> Result<Fault, AllocError> {
     };
     let words = row.words.as_slice();
     match given_words(&(CommandLine { words }, alloc)) {
-        Ok(words) => fault_of_words(alloc, words.as_slice(), row, wanted),
+        Ok(words) => fault_of_words(rt, words.as_slice(), row, wanted),
         Err(stop) => Ok(fault_of_stop(alloc, &stop, wanted)),
     }
 }
 
 /// What of a row with such words is not as it should be.
 fn fault_of_words(
-    alloc: Global,
+    rt: &HostRuntime,
     words: &[String],
     row: &Row,
     wanted: Answer<'_>,
-) -> Result<Fault, AllocError> {
-    match order(alloc, words) {
-        Ok(order) => fault_of_order(alloc, &order, row, wanted),
-        Err(stop) => Ok(fault_of_stop(alloc, &stop, wanted)),
+) -> io::Result<Fault> {
+    match order(rt.alloc(), words) {
+        Ok(order) => fault_of_order(rt, &order, row, wanted),
+        Err(stop) => Ok(fault_of_stop(rt.alloc(), &stop, wanted)),
     }
 }
 
@@ -195,16 +208,20 @@ fn files<'a>(order: &Order<'_>, row: &'a Row) -> Option<Files<'a>> {
 
 /// What of a row with a command is not as it should be.
 fn fault_of_order(
-    alloc: Global,
+    rt: &HostRuntime,
     order: &Order<'_>,
     row: &Row,
     wanted: Answer<'_>,
-) -> Result<Fault, AllocError> {
+) -> io::Result<Fault> {
+    let alloc = rt.alloc();
     if !gives_on(alloc, order, row.first(), row.second(), row.third(), wanted) {
         return Ok(Some("the answer"));
     }
     match files(order, row) {
-        Some(files) => fault_of_devices(alloc, order, files, row, wanted),
+        Some(files) if !gives_on_disk(rt, order, files, wanted)? => {
+            Ok(Some("the answer on files that are opened"))
+        }
+        Some(files) => Ok(fault_of_devices(alloc, order, files, row, wanted)?),
         None => Ok(None),
     }
 }

@@ -4,6 +4,7 @@ pub mod Conversions
 pub mod Done
 pub mod Outputs
 pub mod Files
+pub mod Names
 pub mod Refusals
 pub mod Restoring
 pub mod Statuses

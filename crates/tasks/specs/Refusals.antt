@@ -1,5 +1,7 @@
 -- What a task says that is not done: the fault that its input has, or which file or stream failed, and the line that tells it.
-use Rattle.std.specs.Prelude.{◌≡◌, ◌⊎◌, ℕ, ◌<◌, List, [], ◌++◌, length, Option, None, Some, Err, IfSome, unwrap_or, codes, decimal}
+use Rattle.std.specs.Prelude.{◌≡◌, ◌⊎◌, ℕ, ◌<◌, List, [], ◌++◌, length, Option, None, Some, Err, IfSome, unwrap_or, unsigned_abs, codes, decimal}
+use Rattle.base.specs.declared.reasons.Reason.{Reason}
+use Rattle.base.specs.declared.reasons.Reason.TheVariants as reason
 use Rattle.btor2.specs.declared.item.Item.{Item}
 use Rattle.btor2.specs.Check.{IsWellFormed}
 use Rattle.btor2.specs.Lists.{first_init_without_next}
@@ -34,6 +36,7 @@ use Rattle.tasks.specs.declared.refusals.Refusal.TheVariants as refusal
 use Rattle.orders.specs.declared.tasks.Given.{Given}
 use Rattle.orders.specs.declared.tasks.Given.TheVariants as given
 use Rattle.tasks.specs.Certificates.{Gives}
+use Rattle.tasks.specs.Names.{harmless}
 use Rattle.tasks.specs.Texts.{IsClaim, IsModelOf}
 
 -- ---- lines
@@ -50,9 +53,9 @@ at counted n says = counted ++ (decimal n ++ (codes ": " ++ says))
 abbrev pub numbered_name : ℕ → List ℕ → List ℕ
 numbered_name number name = decimal number ++ (codes " " ++ (name ++ codes "\n"))
 
--- the line that tells a number and a name of an item of a file
-abbrev pub item_line : List ℕ → ℕ → ℕ → List ℕ → List ℕ
-item_line file id number name = about file (at (codes "item ") id (numbered_name number name))
+-- what is said of an item of a file: a number and a name
+abbrev pub item_said : ℕ → ℕ → List ℕ → List ℕ
+item_said id number name = at (codes "item ") id (numbered_name number name)
 
 -- what is said of the item that a lowering is refused for, or of the model as a whole
 abbrev pub at_item : LowerFault → List ℕ → List ℕ
@@ -61,19 +64,23 @@ at_item (lower.Fair id) says = at (codes "item ") id says
 at_item (lower.NoNext id) says = at (codes "item ") id says
 at_item _ says = says
 
+-- what is said of a file that has a fault
+abbrev pub fault_said : Fault → List ℕ
+fault_said (fault.Model e) = at (codes "line ") e.line (numbered_name (printed_number e.why) (name_of e.why))
+fault_said (fault.Circuit e) = at (codes "byte ") e.place (numbered_name (why_number e.why) (why_name e.why))
+fault_said (fault.Lowering e) = at_item e (numbered_name (lower_number e) (lower_name e))
+fault_said (fault.Outputs e) = numbered_name (fault_number e) (fault_name e)
+fault_said (fault.Engine e) = numbered_name (engine_number e) (engine_name e)
+fault_said (fault.Invariant e) = at (codes "line ") e.line (numbered_name (invariant_number e.why) (invariant_name e.why))
+fault_said (fault.Obligation e) = numbered_name (obligation_number e) (obligation_name e)
+fault_said (fault.NoNext id) = item_said id (judge_number (judge.NoNext id)) (judge_name (judge.NoNext id))
+fault_said (fault.Vector n) = at (codes "line ") n (codes "bad vector\n")
+fault_said (fault.Unchosen claimed.Found) = codes "--bad K says which bad property rises: the K that the engine form was made for, or of a form of all, that of ABC's Output K of miter\n"
+fault_said (fault.Unchosen claimed.Certified) = codes "--bad K says which bad property holds: the K that the engine form of the invariant was made for\n"
+
 -- the line that tells a fault of a file
 abbrev pub fault_line : List ℕ → Fault → List ℕ
-fault_line file (fault.Model e) = about file (at (codes "line ") e.line (numbered_name (printed_number e.why) (name_of e.why)))
-fault_line file (fault.Circuit e) = about file (at (codes "byte ") e.place (numbered_name (why_number e.why) (why_name e.why)))
-fault_line file (fault.Lowering e) = about file (at_item e (numbered_name (lower_number e) (lower_name e)))
-fault_line file (fault.Outputs e) = about file (numbered_name (fault_number e) (fault_name e))
-fault_line file (fault.Engine e) = about file (numbered_name (engine_number e) (engine_name e))
-fault_line file (fault.Invariant e) = about file (at (codes "line ") e.line (numbered_name (invariant_number e.why) (invariant_name e.why)))
-fault_line file (fault.Obligation e) = about file (numbered_name (obligation_number e) (obligation_name e))
-fault_line file (fault.NoNext id) = item_line file id (judge_number (judge.NoNext id)) (judge_name (judge.NoNext id))
-fault_line file (fault.Vector n) = about file (at (codes "line ") n (codes "bad vector\n"))
-fault_line file (fault.Unchosen claimed.Found) = about file (codes "--bad K says which bad property rises: the K that the engine form was made for, or of a form of all, that of ABC's Output K of miter\n")
-fault_line file (fault.Unchosen claimed.Certified) = about file (codes "--bad K says which bad property holds: the K that the engine form of the invariant was made for\n")
+fault_line file f = about (harmless file) (fault_said f)
 
 -- the exit status of a fault: words that leave a choice open are refused, and else the input is
 abbrev pub status_of_fault : Fault → ℕ
@@ -84,20 +91,50 @@ status_of_fault _ = 2
 abbrev pub second_name : Option (List ℕ) → List ℕ
 second_name second = unwrap_or second (codes "-")
 
--- the name by which a file or a stream is told
-abbrev pub device_name : List ℕ → Option (List ℕ) → Option (List ℕ) → Device → List ℕ
-device_name first second third device.First = first
-device_name first second third device.Second = second_name second
-device_name first second third device.Third = unwrap_or third (codes "-")
-device_name first second third device.Output = codes "output"
-device_name first second third device.Error = []
+-- the name by which it is told that a result could not be written: that of its file, where it has one
+abbrev pub output_name : Option (List ℕ) → List ℕ
+output_name output = unwrap_or output (codes "output")
 
--- the line that tells a refusal, by the names of the files
-abbrev pub refusal_line : List ℕ → Option (List ℕ) → Option (List ℕ) → Refusal → List ℕ
-refusal_line first second third (refusal.Input f) = fault_line first f
-refusal_line first second third (refusal.Second f) = fault_line (second_name second) f
-refusal_line first second third (refusal.Failed d) = about (device_name first second third d) (codes "device\n")
-refusal_line first second third refusal.NoMemory = codes "no memory\n"
+-- the name by which a file or a stream is told
+abbrev pub device_name : List ℕ → Option (List ℕ) → Option (List ℕ) → Option (List ℕ) → Device → List ℕ
+device_name first second third output device.First = first
+device_name first second third output device.Second = second_name second
+device_name first second third output device.Third = unwrap_or third (codes "-")
+device_name first second third output device.Output = output_name output
+device_name first second third output device.Error = []
+
+-- the words of a reason
+abbrev pub reason_words : Reason → List ℕ
+reason_words reason.NoSuchFile = codes "no such file"
+reason_words reason.IsFolder = codes "is a folder"
+reason_words reason.NotUnderFolder = codes "a part of its name is no folder"
+reason_words reason.PermissionDenied = codes "permission denied"
+reason_words reason.ReadOnlyFileSystem = codes "read-only file system"
+reason_words reason.NoSpaceLeft = codes "no space left"
+reason_words reason.QuotaExceeded = codes "quota exceeded"
+reason_words reason.FileTooLarge = codes "file too large"
+reason_words reason.ClosedByReader = codes "closed by its reader"
+reason_words reason.NameTooLong = codes "name too long"
+reason_words reason.TooManyLinks = codes "too many links"
+reason_words reason.AlreadyThere = codes "is there already"
+reason_words reason.Interrupted = codes "interrupted"
+reason_words (reason.Number n) = codes "error " ++ decimal (unsigned_abs n)
+
+-- why a device failed, where that is told
+abbrev pub reason_said : Option Reason → List ℕ
+reason_said None = []
+reason_said (Some r) = codes ": " ++ reason_words r
+
+-- the line that tells that a file or a stream failed, and why, where that is told
+abbrev pub device_line : List ℕ → Option Reason → List ℕ
+device_line name why = about (harmless name) (codes "device" ++ (reason_said why ++ codes "\n"))
+
+-- the line that tells a refusal, by the names of the files and, where a device failed, the reason
+abbrev pub refusal_line : List ℕ → Option (List ℕ) → Option (List ℕ) → Option (List ℕ) → Option Reason → Refusal → List ℕ
+refusal_line first second third output why (refusal.Input f) = fault_line first f
+refusal_line first second third output why (refusal.Second f) = fault_line (second_name second) f
+refusal_line first second third output why (refusal.Failed d) = device_line (device_name first second third output d) why
+refusal_line first second third output why refusal.NoMemory = codes "no memory\n"
 
 -- ---- the fault of an input
 

@@ -2,7 +2,7 @@
 
 ghost use Rattle.std.specs.Prelude.{◌≡◌, None};
 
-use base::{DeviceFault, Sink, Source};
+use base::{DeviceFault, Reason, Sink, Source};
 use blast::Watch;
 use itoa::Buffer;
 use orders::{Named, Task};
@@ -254,6 +254,10 @@ impl<D: Source + Drop, C: Clock, W: Write + Copy> Source for Watched<'_, D, C, W
         self.count(&buf[..count]);
         Ok(count)
     }
+
+    fn reason(&self) -> Option<Reason> {
+        self.device.reason()
+    }
 }
 
 impl<D: Sink + Drop, C: Clock, W: Write + Copy> Sink for Watched<'_, D, C, W> {
@@ -268,5 +272,9 @@ impl<D: Sink + Drop, C: Clock, W: Write + Copy> Sink for Watched<'_, D, C, W> {
         let count = self.device.write(bytes)?;
         self.count(&bytes[..count]);
         Ok(count)
+    }
+
+    fn reason(&self) -> Option<Reason> {
+        self.device.reason()
     }
 }

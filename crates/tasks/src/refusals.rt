@@ -4,7 +4,7 @@ ghost use Rattle.std.specs.Prelude.{◌≡◌, IfOk};
 ghost use Rattle.std.specs.String.{string_bytes};
 ghost use Rattle.tasks.specs.declared.refusals.Fault.TheVariants as fault_is;
 ghost use Rattle.tasks.specs.declared.refusals.Refusal.TheVariants as refusal;
-ghost use Rattle.tasks.specs.Refusals.{about, fault_line, item_line, numbered_name, status_of_fault};
+ghost use Rattle.tasks.specs.Refusals.{about, fault_said, item_said, numbered_name, status_of_fault};
 ghost use Rattle.tasks.specs.Conversions.{of_reading, of_circuit_reading, of_lowering, of_outputs, of_engine_form, of_conversion, of_judging, of_dumping, of_reading_all, of_lines, of_invariant_for, of_obligation, of_claim, of_certificate};
 
 use aiger::CircuitFault;
@@ -278,9 +278,9 @@ impl Fault {
         }
     }
 
-    /// The line that tells it of a file.
+    /// The line that tells it of a file, by a name as it is.
     pub fn line(&self, alloc: Global, file: &str) -> Result<String, AllocError>
-        ensures { IfOk result (λ line. string_bytes line ≡ fault_line file.now self.now) }
+        ensures { IfOk result (λ line. string_bytes line ≡ about file.now (fault_said self.now)) }
     {
         match self {
             Fault::Model(fault) => {
@@ -329,7 +329,7 @@ fn item_line(
     number: u32,
     name: &str,
 ) -> Result<String, AllocError>
-    ensures { IfOk result (λ line. string_bytes line ≡ item_line file.now id number name.now) }
+    ensures { IfOk result (λ line. string_bytes line ≡ about file.now (item_said id number name.now)) }
 {
     format!(in alloc; "{file}: item {id}: {number} {name}\n")
 }
@@ -343,7 +343,7 @@ fn plain_line(alloc: Global, file: &str, number: u32, name: &str) -> Result<Stri
 
 /// The line that tells of a file why its model is not lowered.
 fn lowering_line(alloc: Global, file: &str, fault: LowerFault) -> Result<String, AllocError>
-    ensures { IfOk result (λ line. string_bytes line ≡ fault_line file.now (fault_is.Lowering fault)) }
+    ensures { IfOk result (λ line. string_bytes line ≡ about file.now (fault_said (fault_is.Lowering fault))) }
 {
     let number = fault.number();
     let name = fault.name();

@@ -1,0 +1,85 @@
+//! Commands on the files that they name.
+
+ghost use Rattle.std.specs.Prelude.{◌≤◌};
+
+use crate::destinations::open_output;
+use crate::outputs::run_to_file;
+use base::Sink;
+use orders::{DEVICE, Order};
+use std::alloc::Global;
+use std::io::{Read, Write};
+use std::rt::Files;
+use std::time::Clock;
+use tasks::{Counted, Progress, Watched, Work, open_input, tell_no_memory};
+
+/// The standard streams that a command reads and writes, and the process in which it runs.
+#[derive(Clone, Copy)]
+pub struct Surroundings<I, O> {
+    /// Standard input.
+    pub input: I,
+    /// Standard output.
+    pub output: O,
+    /// Whether standard output shows a line that tells how far work is, so that nothing is told of what is written there.
+    pub is_shown: bool,
+    /// The number of the process.
+    pub process: u32,
+}
+
+/// Does a command on the files that it names, and answers the exit status, as `run` does.
+///
+/// A file that is read is opened when it is first read. A result that goes to a file has that file's name once all of it is
+/// written; a command that is not done leaves what had the name as it was.
+pub fn run_on_files<
+    'a,
+    R: Files,
+    I: Read + Copy + Drop,
+    O: Write + Copy + Drop,
+    E: Sink,
+    C: Clock,
+    W: Write + Copy,
+>(
+    rt: &'a R,
+    alloc: Global,
+    order: &Order<'a>,
+    around: Surroundings<I, O>,
+    progress: Progress<'_, C, W>,
+    err: &mut E,
+) -> u8
+    ensures { result ≤ 4 }
+{
+    let Surroundings {
+        input,
+        output,
+        is_shown,
+        process,
+    } = around;
+    let (out, mut name) = match open_output(rt, alloc, output, order.output, process) {
+        Ok(opened) => opened,
+        Err(_) => return tell_no_memory(err).unwrap_or(DEVICE),
+    };
+    let written = if is_shown && order.output.is_none() {
+        None
+    } else {
+        Some(Work::Written)
+    };
+    let judged = Some(Work::on_second(order.task));
+    let steps = Some(Work::Judged(Counted::Steps));
+    let mut progress = progress;
+    let mut out = Watched::new(out, written, progress);
+    let first = open_input(rt, input, Some(order.first));
+    let second = open_input(rt, input, order.second);
+    let third = open_input(rt, input, order.third);
+    let status = run_to_file(
+        alloc,
+        order,
+        &mut Watched::new(first, Some(Work::Read), progress),
+        &mut Watched::new(second, judged, progress),
+        &mut Watched::new(third, steps, progress),
+        &mut out,
+        &mut name,
+        err,
+        &mut progress,
+    );
+    progress.clear();
+    status
+}
