@@ -6,6 +6,8 @@
     python3 tools/definitions.py --list     prints each definition that is rested on, and a call that names it
     python3 tools/definitions.py --between  prints each definition of specs/ that no public contract rests on
     python3 tools/definitions.py --crossing prints those of these that another crate speaks of, and which do
+    python3 tools/definitions.py --way CRATE.NAME ..
+                                            prints all that these definitions rest on, by file, with their numbers and lines
 
 A definition is what stands in crates/NAME/specs. A public contract is the clauses of a function that a crate offers, of
 a trait or of an impl, with the ghost members and the values that clauses see; functions whose names begin with `worked_`
@@ -377,8 +379,37 @@ def crossing(modules, left):
     return found
 
 
+def lines_of(text):
+    """How many lines a definition has, without comments and empty ones."""
+    return sum(bool(line.strip()) for line in text.split("\n"))
+
+
+def way(modules, names):
+    """Prints all that some definitions rest on, by file; 2 where a name is of none, or of several."""
+    roots = []
+    for asked in names:
+        crate, _, word = asked.partition(".")
+        found = [(crate, name, word) for (home_crate, name), module in modules.items() if home_crate == crate and word in module.texts]
+        if len(found) != 1:
+            print("definitions.py: %s is the name of %d definitions" % (asked, len(found)))
+            return 2
+        roots.append((found[0], asked))
+    files = {}
+    for crate, name, word in closure(modules, roots):
+        files.setdefault((crate, name), []).append(word)
+    total = 0
+    for (crate, name), words in sorted(files.items()):
+        lines = sum(lines_of(modules[crate, name].texts[word]) for word in words)
+        total += lines
+        print("%4d in %4d lines  crates/%s/specs/%s.antt: %s" % (len(words), lines, crate, name, ", ".join(sorted(words))))
+    print("%4d in %4d lines of %d files" % (sum(map(len, files.values())), total, len(files)))
+    return 0
+
+
 def main():
     asked = sys.argv[1:]
+    if asked[:1] == ["--way"] and len(asked) > 1:
+        return way(read_modules(), asked[1:])
     if any(a not in ("--calls", "--list", "--between", "--crossing") for a in asked) or len(asked) > 1:
         print(__doc__.strip())
         return 0 if asked[:1] in (["--help"], ["-h"]) else 2

@@ -5,10 +5,14 @@ use Rattle.std.specs.Prelude.{ℕ, Bool, not, ◌&&◌, ◌==◌, List, [], ◌�
 abbrev pub is_plain : ℕ → ℕ → Bool
 is_plain before b = (nat_le 32 b && not (b == 127)) && not (before == 194 && (nat_le 128 b && nat_le b 159))
 
--- bytes behind another, with `?` in place of each that is not plain
+-- a byte behind another as lines tell it: `?` where it is not plain
+abbrev pub told_byte : ℕ → ℕ → ℕ
+told_byte before b = if is_plain before b then b else 63
+
+-- bytes behind another as lines tell them
 abbrev pub harmless_behind : ℕ → List ℕ → List ℕ
 harmless_behind before [] = []
-harmless_behind before (b ∷ bs) = (if is_plain before b then b else 63) ∷ harmless_behind b bs
+harmless_behind before (b ∷ bs) = told_byte before b ∷ harmless_behind b bs
 
 -- a name as lines tell it
 abbrev pub harmless : List ℕ → List ℕ

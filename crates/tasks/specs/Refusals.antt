@@ -103,7 +103,7 @@ device_name first second third output device.Third = unwrap_or third (codes "-")
 device_name first second third output device.Output = output_name output
 device_name first second third output device.Error = []
 
--- the words of a reason
+-- the words of a reason, behind which its number stands where it has none of its own
 abbrev pub reason_words : Reason → List ℕ
 reason_words reason.NoSuchFile = codes "no such file"
 reason_words reason.IsFolder = codes "is a folder"
@@ -118,12 +118,22 @@ reason_words reason.NameTooLong = codes "name too long"
 reason_words reason.TooManyLinks = codes "too many links"
 reason_words reason.AlreadyThere = codes "is there already"
 reason_words reason.Interrupted = codes "interrupted"
-reason_words (reason.Number n) = codes "error " ++ decimal (unsigned_abs n)
+reason_words (reason.Number n) = codes "error "
+
+-- the number of a reason that has no words of its own
+abbrev pub reason_number : Reason → Option ℕ
+reason_number (reason.Number n) = Some (unsigned_abs n)
+reason_number _ = None
+
+-- a number, where there is one
+abbrev pub number_said : Option ℕ → List ℕ
+number_said None = []
+number_said (Some n) = decimal n
 
 -- why a device failed, where that is told
 abbrev pub reason_said : Option Reason → List ℕ
 reason_said None = []
-reason_said (Some r) = codes ": " ++ reason_words r
+reason_said (Some r) = codes ": " ++ (reason_words r ++ number_said (reason_number r))
 
 -- the line that tells that a file or a stream failed, and why, where that is told
 abbrev pub device_line : List ℕ → Option Reason → List ℕ

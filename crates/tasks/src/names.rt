@@ -3,7 +3,7 @@
 ghost use Rattle.std.specs.Prelude.{◌≡◌, true, OnOk};
 ghost use Rattle.std.specs.Io.KnownBytes.{Appends};
 ghost use Rattle.base.specs.Device.{CountsFaults};
-ghost use Rattle.tasks.specs.Names.{harmless, is_plain};
+ghost use Rattle.tasks.specs.Names.{harmless, is_plain, told_byte};
 
 use base::{DeviceFault, Sink, write_all};
 
@@ -20,16 +20,25 @@ fn is_plain(before: u8, byte: u8) -> bool
     (byte >= 32 && byte != 127) && !(before == BEFORE_CONTROL && (byte >= 128 && byte <= 159))
 }
 
+/// A byte behind another as lines tell it.
+fn told_byte(before: u8, byte: u8) -> u8
+    ensures { result ≡ told_byte before byte }
+{
+    if is_plain(before, byte) { byte } else { HIDDEN }
+}
+
 /// Whether a name is told as it is.
 pub(crate) fn is_harmless(name: &[u8]) -> bool
     ensures { result ≡ true → harmless name.now ≡ name.now }
 {
     let mut before = 0;
-    for byte in name {
+    let mut rest = name;
+    while let Some((byte, behind)) = rest.split_first() {
         if !is_plain(before, *byte) {
             return false;
         }
         before = *byte;
+        rest = behind;
     }
     true
 }
@@ -40,10 +49,11 @@ fn write_hidden<E: Sink>(name: &[u8], err: &mut E) -> Result<(), DeviceFault>
     ensures counted { CountsFaults result (E.failures err.old) (E.failures err.new) }
 {
     let mut before = 0;
-    for byte in name {
-        let shown = if is_plain(before, *byte) { *byte } else { HIDDEN };
-        write_all(err, &[shown])?;
+    let mut rest = name;
+    while let Some((byte, behind)) = rest.split_first() {
+        write_all(err, &[told_byte(before, *byte)])?;
         before = *byte;
+        rest = behind;
     }
     Ok(())
 }

@@ -3,28 +3,16 @@
 ghost use Rattle.std.specs.Prelude.{◌≡◌, OnOk};
 ghost use Rattle.std.specs.Io.KnownBytes.{Appends};
 ghost use Rattle.base.specs.Device.{CountsFaults};
-ghost use Rattle.base.specs.declared.reasons.Reason.TheVariants as reason_is;
-ghost use Rattle.tasks.specs.Refusals.{reason_said, reason_words};
+ghost use Rattle.tasks.specs.Refusals.{number_said, reason_number, reason_said, reason_words};
 
 use base::{DeviceFault, Reason, Sink, write_all};
 use itoa::Buffer;
 
-/// Writes the number of an error that has no words of its own.
-fn write_number<E: Sink>(number: i32, err: &mut E) -> Result<(), DeviceFault>
-    ensures written { OnOk result (Appends (E.written err.old) (E.written err.new) (reason_words (reason_is.Number number))) }
-    ensures counted { CountsFaults result (E.failures err.old) (E.failures err.new) }
+/// The words of a reason, behind which its number stands where it has none of its own.
+fn words_of(reason: Reason) -> &'static [u8]
+    ensures { result.now ≡ reason_words reason }
 {
-    let mut buffer = Buffer::new();
-    write_all(err, b"error ")?;
-    write_all(err, buffer.format(number.unsigned_abs()).as_bytes())
-}
-
-/// Writes the words of a reason.
-fn write_words<E: Sink>(reason: Reason, err: &mut E) -> Result<(), DeviceFault>
-    ensures written { OnOk result (Appends (E.written err.old) (E.written err.new) (reason_words reason)) }
-    ensures counted { CountsFaults result (E.failures err.old) (E.failures err.new) }
-{
-    let words: &[u8] = match reason {
+    match reason {
         Reason::NoSuchFile => b"no such file",
         Reason::IsFolder => b"is a folder",
         Reason::NotUnderFolder => b"a part of its name is no folder",
@@ -38,9 +26,30 @@ fn write_words<E: Sink>(reason: Reason, err: &mut E) -> Result<(), DeviceFault>
         Reason::TooManyLinks => b"too many links",
         Reason::AlreadyThere => b"is there already",
         Reason::Interrupted => b"interrupted",
-        Reason::Number(number) => return write_number(number, err),
-    };
-    write_all(err, words)
+        Reason::Number(_) => b"error ",
+    }
+}
+
+/// The number of a reason that has no words of its own.
+fn number_of(reason: Reason) -> Option<u32>
+    ensures { result ≡ reason_number reason }
+{
+    match reason {
+        Reason::Number(number) => Some(number.unsigned_abs()),
+        _ => None,
+    }
+}
+
+/// Writes a number, where there is one.
+fn write_number<E: Sink>(number: Option<u32>, err: &mut E) -> Result<(), DeviceFault>
+    ensures written { OnOk result (Appends (E.written err.old) (E.written err.new) (number_said number)) }
+    ensures counted { CountsFaults result (E.failures err.old) (E.failures err.new) }
+{
+    let mut buffer = Buffer::new();
+    match number {
+        Some(number) => write_all(err, buffer.format(number).as_bytes()),
+        None => Ok(()),
+    }
 }
 
 /// Writes why a device failed, where that is told.
@@ -54,7 +63,8 @@ pub(crate) fn write_reason<E: Sink>(
     match reason {
         Some(reason) => {
             write_all(err, b": ")?;
-            write_words(reason, err)
+            write_all(err, words_of(reason))?;
+            write_number(number_of(reason), err)
         }
         None => Ok(()),
     }
