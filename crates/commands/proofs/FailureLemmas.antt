@@ -1,9 +1,11 @@
 -- Failures that are told.
-use Rattle.std.proofs.Common.{◌≡◌, ℕ, List, Option, Err, inl, inr, codes, refl, sym, subst, ◌∙◌}
+use Rattle.std.proofs.Common.{◌≡◌, ◌<◌, ◌⊎◌, ℕ, zero, suc, List, Option, Result, Ok, Err, OnOk, inl, inr, codes, refl, sym, subst, ◌∙◌, arith}
 use Rattle.std.specs.Io.KnownBytes.{Appends}
-use Rattle.base.specs.Device.{HasRisen}
+use Rattle.base.specs.Device.{CountsFaults, HasRisen}
+use Rattle.base.specs.declared.device.DeviceFault.{DeviceFault}
 use Rattle.base.specs.declared.reasons.Reason.{Reason}
 use Rattle.tasks.specs.declared.answers.Answer.{Answer}
+use Rattle.tasks.specs.declared.answers.Answer.TheVariants as answer
 use Rattle.tasks.specs.declared.refusals.Device.TheVariants as device
 use Rattle.tasks.specs.declared.refusals.Fault.{Fault}
 use Rattle.tasks.specs.declared.refusals.Fault.TheVariants as fault
@@ -55,3 +57,14 @@ told_failed written old mid (refusal.Failed device.Output) file second third out
 told_failed written old mid (refusal.Failed device.Error) file second third output reason status after f f' s s' t t' o o' e m e' c same untold told three = inl (subst (HasRisen e) (sym same) c.0.3)
 told_failed written old mid refusal.NoMemory file second third output reason status after f f' s s' t t' o o' e m e' c same untold told three =
     inr (record { why = refusal.NoMemory; reason = reason; is_told = tt; counted = ((c.0.0, c.0.1, c.0.2, same ∙ c.0.3), c.1); line = subst (λ n. Appends (written n) after (codes "no memory\n")) untold told.1 })
+
+-- what was done where the status is 0 or 1
+pub answered_by : (Answered : Answer → Type 0) (status : ℕ) → status < 2 → (status ≡ 0 → Answered answer.Done) → (status ≡ 1 → Answered answer.NotAccepted) → (a : Answer) × Answered a
+answered_by Answered zero few done other = (answer.Done, done refl)
+answered_by Answered (suc zero) few done other = (answer.NotAccepted, other refl)
+answered_by Answered (suc (suc n)) few done other = absurd (omega (arith, few))
+
+-- a line was told, or standard error failed
+pub told_or_failed : (r : Result ℕ DeviceFault) (before after : Option (List ℕ)) (line : List ℕ) (e m e' : ℕ) → m ≡ e → OnOk r (Appends before after line) → CountsFaults r m e' → HasRisen e e' ⊎ Appends before after line
+told_or_failed (Ok x) before after line e m e' same told counted = inr told
+told_or_failed (Err x) before after line e m e' same told counted = inl (subst (λ (n : ℕ). HasRisen n e') same counted)

@@ -1,7 +1,8 @@
 //! Where results go: to standard output, to what stands at a name and is no file, or beside the file whose place they take.
 
-ghost use Rattle.std.specs.Prelude.{◌≡◌, None, false, true, IfOk, is_none, option_map};
+ghost use Rattle.std.specs.Prelude.{◌≡◌, false, true, IfOk, OnOk, is_none, option_map};
 ghost use Rattle.std.specs.String.{string_bytes};
+ghost use Rattle.base.specs.Device.{CountsFaults};
 ghost use Rattle.commands.specs.Files.{part_name};
 ghost use Rattle.tasks.specs.Files.{is_standard};
 
@@ -134,7 +135,12 @@ fn create_part<R: Files>(
 }
 
 /// Makes a file the part of a result; what was created is removed where that fails.
-fn part_of<R: Files>(rt: &R, path: PathBuf, target: PathBuf, file: &R::File) -> io::Result<Part<R::File>> {
+fn part_of<R: Files>(
+    rt: &R,
+    path: PathBuf,
+    target: PathBuf,
+    file: &R::File,
+) -> io::Result<Part<R::File>> {
     match file.try_clone() {
         Ok(file) => Ok(Part { path, target, file }),
         Err(error) => {

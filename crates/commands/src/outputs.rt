@@ -17,15 +17,7 @@ use tasks::tell_output;
 ///
 /// With status 0 and 1 the result was written to `out` and has its name, and with any other it has not. With status 3 also
 /// the name could not be given.
-pub fn run_to_file<
-    A: Source,
-    B: Source,
-    T: Source,
-    O: Sink,
-    N: ResultName,
-    E: Sink,
-    W: Watch,
->(
+pub fn run_to_file<A: Source, B: Source, T: Source, O: Sink, N: ResultName, E: Sink, W: Watch>(
     alloc: Global,
     order: &Order<'_>,
     first: &mut A,

@@ -20,11 +20,11 @@ use btor2::Model;
 use orders::{DEVICE, Named, Order, Task};
 use std::alloc::Global;
 use tasks::{
-    Answer, Device, Refusal, check_circuit, check_circuit_by_name, check_model, check_model_by_name,
-    check_proof, compare_vectors, convert_circuit, convert_for_engines, convert_outputs,
-    convert_outputs_for_engines, dump_witness, lower_for_engines, lower_model, read_circuit,
-    read_model, restore_counterexample, restore_witness, show, tell, tell_cost, tidy_witness,
-    write_obligation,
+    Answer, Device, Refusal, check_circuit, check_circuit_by_name, check_model,
+    check_model_by_name, check_proof, compare_vectors, convert_circuit, convert_for_engines,
+    convert_outputs, convert_outputs_for_engines, dump_witness, lower_for_engines, lower_model,
+    read_circuit, read_model, restore_counterexample, restore_witness, show, tell, tell_cost,
+    tidy_witness, write_obligation,
 };
 
 /// Does a command, and answers the exit status: 0 done or accepted, 1 not accepted, 2 input refused, 3 device or memory, 4

@@ -40,18 +40,19 @@ fn stand_in(rt: &HostRuntime, stop: &Stop) -> u8 {
 
 /// Does a command on the files that it names, and answers the status.
 fn obey<'a>(rt: &'a HostRuntime, order: &Order<'a>, terminals: Terminals) -> u8 {
-    let terminal = if order.tells_progress {
+    let around = Surroundings {
+        input: rt.stdin(),
+        output: rt.stdout(),
+        terminal: rt.stderr(),
+        is_shown: terminals.output,
+        process: process::id(rt.process()),
+    };
+    let hidden = if order.tells_progress {
         Some(rt.stderr())
     } else {
         None
     };
-    let progress = Progress::new(rt, terminal);
-    let around = Surroundings {
-        input: rt.stdin(),
-        output: rt.stdout(),
-        is_shown: terminals.output,
-        process: process::id(rt.process()),
-    };
-    let mut err = Watched::new(ToWriter::new(rt.stderr()), None, progress);
-    run_on_files(rt, rt.alloc(), order, around, progress, &mut err)
+    let err = ToWriter::new(rt.stderr());
+    let mut err = Watched::new(err, None, Progress::new(rt, hidden));
+    run_on_files(rt, rt.alloc(), order, around, &mut err)
 }

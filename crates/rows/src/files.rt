@@ -5,13 +5,14 @@ use crate::on_disk::{Kept, status_on_disk};
 use base::VecSink;
 use command_line::order;
 use std::cell::Cell;
-use std::fs;
-use std::io;
 use std::os::unix::fs::{PermissionsExt, symlink};
+use std::{fs, io};
 
 /// A model, and what `show` writes of it.
 const MODEL: &str = "1 sort bitvec 1\n2 input  1\n3 bad 2\n";
-const SHOWN: &str = "1 sort bitvec 1\n2 input 1\n3 bad 2\n; 3 items, 1 inputs, 0 states, 1 bad, 0 constraints\n";
+
+const SHOWN: &str =
+    "1 sort bitvec 1\n2 input 1\n3 bad 2\n; 3 items, 1 inputs, 0 states, 1 bad, 0 constraints\n";
 
 /// The bits of a mode that say who may read and write.
 const WHO_MAY: u32 = 0o777;
@@ -75,7 +76,11 @@ fn fault_of_results(rt: &HostRuntime) -> io::Result<Fault> {
     if !is_free(rt, "f.new.1.part") {
         return Ok(Some("a part is left of a result"));
     }
-    fs::write(rt, "f.old", "of before, and longer than what takes its place, whatever that is, as it is short")?;
+    fs::write(
+        rt,
+        "f.old",
+        "of before, and longer than what takes its place, whatever that is, as it is short",
+    )?;
     set_mode(rt, "f.old", 0o640)?;
     if !tells(rt, &["show", "-o", "f.old", "f.model"], 0, "") || !has(rt, "f.old", SHOWN) {
         return Ok(Some("a file that is replaced"));
@@ -106,7 +111,12 @@ fn fault_of_links(rt: &HostRuntime) -> io::Result<Fault> {
         return Ok(Some("a link that is replaced"));
     }
     symlink(rt, "f.turn", "f.turn")?;
-    if !tells(rt, &["show", "-o", "f.turn", "f.model"], 3, "f.turn: device: too many links\n") {
+    if !tells(
+        rt,
+        &["show", "-o", "f.turn", "f.model"],
+        3,
+        "f.turn: device: too many links\n",
+    ) {
         return Ok(Some("a link to itself"));
     }
     Ok(None)
@@ -139,7 +149,9 @@ fn fault_of_refusals(rt: &HostRuntime) -> io::Result<Fault> {
     fs::write(rt, "f.bad", "1 sort bitvec 0\n")?;
     fs::write(rt, "f.stays", "as it was")?;
     let told = "f.bad: line 1: 5 WidthOutOfRange\n";
-    if !tells(rt, &["show", "-o", "f.stays", "f.bad"], 2, told) || !has(rt, "f.stays", "as it was") {
+    if !tells(rt, &["show", "-o", "f.stays", "f.bad"], 2, told)
+        || !has(rt, "f.stays", "as it was")
+    {
         return Ok(Some("the result of an input that is refused"));
     }
     if !is_free(rt, "f.stays.1.part") {
@@ -157,7 +169,12 @@ fn fault_of_refusals(rt: &HostRuntime) -> io::Result<Fault> {
         return Ok(Some("an input that is a folder"));
     }
     fs::write(rt, "f.model", MODEL)?;
-    if !tells(rt, &["show", "-o", ".", "f.model"], 3, ".: device: is a folder\n") {
+    if !tells(
+        rt,
+        &["show", "-o", ".", "f.model"],
+        3,
+        ".: device: is a folder\n",
+    ) {
         return Ok(Some("a result that is to take the place of a folder"));
     }
     let told = "f.gone/x: device: no such file\n";
@@ -176,7 +193,11 @@ fn fault_of_refusals(rt: &HostRuntime) -> io::Result<Fault> {
 fn fault_of_modes(rt: &HostRuntime) -> io::Result<Fault> {
     fs::write(rt, "f.fixed", "fixed")?;
     set_mode(rt, "f.fixed", 0o444)?;
-    if fs::OpenOptions::new().write(true).open(rt, "f.fixed").is_ok() {
+    if fs::OpenOptions::new()
+        .write(true)
+        .open(rt, "f.fixed")
+        .is_ok()
+    {
         return Ok(None);
     }
     let told = "f.fixed: device: permission denied\n";

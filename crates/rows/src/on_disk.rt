@@ -7,8 +7,7 @@ use orders::Order;
 use std::alloc::Global;
 use std::cell::Cell;
 use std::fs;
-use std::io::{self, Stderr, Write};
-use tasks::Progress;
+use std::io::{self, Write};
 
 /// Standard output that keeps what it is given.
 #[derive(Clone, Copy)]
@@ -63,11 +62,11 @@ pub(crate) fn status_on_disk(
     let around = Surroundings {
         input,
         output,
+        terminal: rt.stderr(),
         is_shown: false,
         process: 1,
     };
-    let none: Option<Stderr> = None;
-    run_on_files(rt, alloc, order, around, Progress::new(rt, none), err)
+    run_on_files(rt, alloc, order, around, err)
 }
 
 /// What stands where the result of a command goes: in its file, or on standard output.

@@ -53,10 +53,7 @@ fn write_number<E: Sink>(number: Option<u32>, err: &mut E) -> Result<(), DeviceF
 }
 
 /// Writes why a device failed, where that is told.
-pub(crate) fn write_reason<E: Sink>(
-    reason: Option<Reason>,
-    err: &mut E,
-) -> Result<(), DeviceFault>
+pub(crate) fn write_reason<E: Sink>(reason: Option<Reason>, err: &mut E) -> Result<(), DeviceFault>
     ensures written { OnOk result (Appends (E.written err.old) (E.written err.new) (reason_said reason)) }
     ensures counted { CountsFaults result (E.failures err.old) (E.failures err.new) }
 {
