@@ -36,7 +36,7 @@ fn front_of(text: &[u8], count: usize) -> Front<'_> {
 /// Whether a command shows the beginning of a model, and then some line.
 fn shows(alloc: Global, order: &Order<'_>, front: Front<'_>) -> bool {
     let mut first = front.bytes;
-    let mut second = NoFile::new();
+    let mut second = NoFile::new(None);
     let mut out = VecSink::new(alloc);
     let mut err = VecSink::new(alloc);
     let status = status_on(
@@ -44,7 +44,7 @@ fn shows(alloc: Global, order: &Order<'_>, front: Front<'_>) -> bool {
         order,
         &mut first,
         &mut second,
-        &mut NoFile::new(),
+        &mut NoFile::new(None),
         &mut out,
         &mut err,
     );
@@ -62,8 +62,8 @@ fn refuses(alloc: Global, order: &Order<'_>, mut first: &[u8], line: &str) -> bo
         alloc,
         order,
         &mut first,
-        &mut NoFile::new(),
-        &mut NoFile::new(),
+        &mut NoFile::new(None),
+        &mut NoFile::new(None),
         wanted,
     )
 }
@@ -97,8 +97,8 @@ fn tells_cut_circuit(
             alloc,
             order,
             &mut first,
-            &mut NoFile::new(),
-            &mut NoFile::new(),
+            &mut NoFile::new(None),
+            &mut NoFile::new(None),
             wanted,
         ));
     }
@@ -128,7 +128,7 @@ fn tells_cut_witness(
         order,
         &mut first,
         &mut second,
-        &mut NoFile::new(),
+        &mut NoFile::new(None),
         wanted,
     ))
 }

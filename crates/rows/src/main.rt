@@ -36,9 +36,9 @@ mod blocks;
 mod command_lines;
 mod cuts;
 mod escapes;
-mod files;
 mod on_disk;
 mod progress;
+mod results;
 mod stops;
 mod too_big;
 
@@ -51,10 +51,10 @@ use blocks::Row;
 use command_line::{given_words, order};
 use command_lines::CommandLine;
 use cuts::tells_cuts;
-use files::fault_of_files;
 use on_disk::gives_on_disk;
 use orders::{Order, Stop};
 use progress::fault_of_progress;
+use results::fault_of_results;
 use std::alloc::{AllocError, Global};
 use std::io;
 use too_big::is_told_too_big;
@@ -85,7 +85,7 @@ fn main(rt: HostRuntime) -> io::Result<()> {
 /// What is not as it should be of what no row says.
 fn fault_beside_rows(rt: &HostRuntime) -> io::Result<Fault> {
     match fault_without_files(rt.alloc())? {
-        None => fault_of_files(rt),
+        None => fault_of_results(rt),
         Some(fault) => Ok(Some(fault)),
     }
 }

@@ -68,7 +68,7 @@ fn set_mode(rt: &HostRuntime, name: &str, mode: u32) -> io::Result<()> {
 }
 
 /// A new result, one in place of another, whose mode is kept, and one in place of the file that is read.
-fn fault_of_results(rt: &HostRuntime) -> io::Result<Fault> {
+fn fault_of_files(rt: &HostRuntime) -> io::Result<Fault> {
     fs::write(rt, "f.model", MODEL)?;
     if !tells(rt, &["show", "-o", "f.new", "f.model"], 0, "") || !has(rt, "f.new", SHOWN) {
         return Ok(Some("a new file"));
@@ -207,18 +207,20 @@ fn fault_of_modes(rt: &HostRuntime) -> io::Result<Fault> {
     Ok(None)
 }
 
-/// What is not as it should be of files. It makes files in the folder that it runs in, whose names begin with `f.`.
-pub(crate) fn fault_of_files(rt: &HostRuntime) -> io::Result<Fault> {
-    for tried in [
-        fault_of_results,
-        fault_of_links,
-        fault_of_parts,
-        fault_of_refusals,
-        fault_of_modes,
-    ] {
-        if let Some(fault) = tried(rt)? {
-            return Ok(Some(fault));
-        }
+/// What is not as it should be of the files of results. It makes files in the folder that it runs in, whose names begin with
+/// `f.`.
+pub(crate) fn fault_of_results(rt: &HostRuntime) -> io::Result<Fault> {
+    if let Some(fault) = fault_of_files(rt)? {
+        return Ok(Some(fault));
     }
-    Ok(None)
+    if let Some(fault) = fault_of_links(rt)? {
+        return Ok(Some(fault));
+    }
+    if let Some(fault) = fault_of_parts(rt)? {
+        return Ok(Some(fault));
+    }
+    if let Some(fault) = fault_of_refusals(rt)? {
+        return Ok(Some(fault));
+    }
+    fault_of_modes(rt)
 }
