@@ -38,8 +38,8 @@ IMPORT = re.compile(r"^(?:pub )?use\s+([\w.]+?)(?:\.\{([^}]*)\}|\s+as\s+(\w+))?\
 GHOST_IMPORT = re.compile(r"\bghost\s+use\s+([\w.]+?)(?:\.\{([^}]*)\}|\s+as\s+(\w+))?\s*;")
 HEAD = re.compile(r"^(?:(?:abbrev|unfoldable|opaque) pub|pub (?:record|data|abbrev|enum)) ([^\s:]+)", re.M)
 STEPS = "◌>>=◌"
-# the words that are carried: what a judge stands for, and the values of judges, which nothing else speaks of
-CARRIED = {("witness", "WordStands", "StandsFor"), ("witness", "BitStands", "StandsFor"), ("clauses", "ProofJudges", "StandsForText")}
+# the words that are carried: what a judge stands for, or what a noter notes, and the values of judges, which nothing else speaks of
+CARRIED = {("witness", "WordStands", "StandsFor"), ("witness", "BitStands", "StandsFor"), ("rises", "Notes", "NotesBits"), ("clauses", "ProofJudges", "StandsForText")}
 CARRIED_VALUES = {("witness", "WordStands", "WordJudge"), ("witness", "BitStands", "BitJudge"), ("clauses", "ProofJudges", "ProofJudge")}
 
 
@@ -125,9 +125,10 @@ def is_carried(word, clause):
     """Whether a clause names a word as one that is carried: of a value that is made, with nothing fed to it; as a premise on
     the value before; or as what such a premise gives of the value after."""
     term = r"(?:[\w.]+|\[\]|\([^()]*\))"
-    made = re.compile(r"\(λ (\w+)\. %s %s \1 \[\]\)" % (word, term))
-    premise = re.compile(r"\b%s %s self(?:\.(?:old|now|entry))? %s →" % (word, term, term))
-    kept = re.compile(r"\b%s %s self\.new %s" % (word, term, term))
+    over = r"%s(?: %s)?" % (term, term)
+    made = re.compile(r"\(λ (\w+)\. %s %s \1 \[\]\)" % (word, over))
+    premise = re.compile(r"\b%s %s self(?:\.(?:old|now|entry))? %s →" % (word, over, term))
+    kept = re.compile(r"\b%s %s self\.new %s" % (word, over, term))
     rest = made.sub("", clause)
     if premise.search(rest):
         rest = kept.sub("", premise.sub("", rest))

@@ -183,7 +183,7 @@ const CIRCUIT_NAMES: Word = Word {
 const LIFTED_NAMES: Word = Word {
     name: NAMES,
     kind: Kind::Flag,
-    help: "Write symbols behind words, and say on standard error which line of the model the judgement is about",
+    help: "Write symbols behind words, and say on standard error which line of the model the judgement is about; of an accepted witness, in which frame the claim is reached first",
 };
 
 const CERTIFIED_NAMES: Word = Word {

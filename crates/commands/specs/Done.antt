@@ -6,9 +6,12 @@ use Rattle.aiger.specs.Circuit.{Circuit}
 use Rattle.aigertext.specs.declared.forms.Form.{Form}
 use Rattle.blast.specs.Conversion.{Converts}
 use Rattle.blast.specs.Lowering.{Lowers}
-use Rattle.engine.specs.EngineForm.{IsEngineFormOf}
+use Rattle.engine.specs.EngineForm.{input_count, IsEngineFormOf}
 use Rattle.engine.specs.Refusal.{engine_refusal}
-use Rattle.restore.specs.FormWitness.{FormJudges}
+use Rattle.rises.specs.FirstRises.{AreBitFirstRises}
+use Rattle.restore.specs.FormWitness.{form_restored_text, FormJudges}
+use Rattle.restore.specs.Reading.{read_text}
+use Rattle.restore.specs.Restored.{restored_text}
 use Rattle.witness.specs.declared.judgement.Judgement.{Judgement}
 use Rattle.witness.specs.BitJudgements.{BitJudges}
 use Rattle.lift.specs.EngineLifting.{engine_lifted_text, form_lifted_text, FindsInModel, FindsWitnessInModel, KeepsFormVerdict}
@@ -19,7 +22,7 @@ use Rattle.tasks.specs.declared.answers.Answer.TheVariants as answer
 use Rattle.tasks.specs.Certificates.{Certifies, CertifiesByName, WritesOwed}
 use Rattle.tasks.specs.Done.{Compares, ConvertsForEngines, IsDumped, IsFormRestored, IsJudged, IsJudgedByName, IsJudgedOver, IsJudgedOverByName, Judged, LowersForEngines, Restores, Rewrites, Shows, TellsCost, TellsRestored, Tidies, judgement_line}
 use Rattle.tasks.specs.Outputs.{ConvertsOutputs, ConvertsOutputsForEngines}
-use Rattle.tasks.specs.Subjects.{lifted_said, where_named}
+use Rattle.tasks.specs.Subjects.{bad_item_said, lifted_said, said_by_name, where_named}
 use Rattle.tasks.specs.Texts.{IsModelOf, IsClaim}
 use Rattle.commands.specs.declared.running.First.{First}
 use Rattle.commands.specs.declared.running.First.TheVariants as first_is
@@ -28,7 +31,11 @@ use Rattle.orders.specs.declared.tasks.Named.TheVariants as named
 use Rattle.orders.specs.declared.tasks.Task.{Task}
 use Rattle.orders.specs.declared.tasks.Task.TheVariants as task
 
--- The first text is of a model, which a circuit lowers; the second is judged so over that circuit; what was written is what it is lifted to, with names or without, of which the same verdict is judged over the model; and what was told is the line of that judgement, and with names the one that says what it is about.
+-- what is said by name of a judgement over the circuit of a model: what it is about, and of an acceptance in which frames the claims are reached first; and nothing where names are not asked for
+abbrev pub lifting_said : Bool → List Item → Circuit → List (Option ℕ) → Judgement → List ℕ
+lifting_said named items c firsts j = where_named named (said_by_name (lifted_said items c) (bad_item_said items) firsts j)
+
+-- The first text is of a model, which a circuit lowers; the second is judged so over that circuit; what was written is what it is lifted to, with names or without, of which the same verdict is judged over the model; and what was told is the line of that judgement, and with names what it is about, and of an acceptance in which frame of the circuit's one trace the claim is reached first.
 pub record IsLifted (named : Bool) (model witness before now told told' : Option (List ℕ)) (verdict : Judgement) : Type 0 where
   pub items : List Item
   pub circuit : Circuit
@@ -37,9 +44,11 @@ pub record IsLifted (named : Bool) (model witness before now told told' : Option
   pub judged : IfSome witness (λ text. BitJudges circuit text verdict)
   pub lifted : IfSome witness (λ text. Appends before now (lifted_with named items circuit text))
   pub kept : IfSome witness (λ text. KeepsVerdictIn items circuit text (lifted_with named items circuit text) verdict)
-  pub lines : Appends told told' (judgement_line verdict ++ where_named named (lifted_said items circuit verdict))
+  pub firsts : List (Option ℕ)
+  pub rises : named ≡ true → IfSome witness (λ text. AreBitFirstRises circuit text firsts)
+  pub lines : Appends told told' (judgement_line verdict ++ lifting_said named items circuit firsts verdict)
 
--- The first text is of a model, which a circuit lowers that has an engine form for this bad property; what was written is what the second is lifted to, with names or without, a counterexample over that form, of which what is judged over the circuit is judged over the model; and it was told how that is, with names behind it what the judgement is about.
+-- The first text is of a model, which a circuit lowers that has an engine form for this bad property; what was written is what the second is lifted to, with names or without, a counterexample over that form, of which what is judged over the circuit is judged over the model; and it was told how that is, with names behind it what the judgement is about, and of an acceptance in which frame the claim is reached first in what the second is restored to.
 pub record LiftsFound (named : Bool) (choice : Option ℕ) (model found before now told told' : Option (List ℕ)) (a : Answer) : Type 0 where
   pub items : List Item
   pub lowered : Circuit
@@ -51,9 +60,11 @@ pub record LiftsFound (named : Bool) (choice : Option ℕ) (model found before n
   pub lifted : IfSome found (λ text. Appends before now (engine_lifted_text named items lowered claim text))
   pub kept : (text : List ℕ) (j : Judgement) → BitJudges lowered text j → KeepsVerdictIn items lowered text (lifted_with named items lowered text) j
   pub in_model : (text : List ℕ) → FindsInModel named items lowered claim text
-  pub tells : TellsRestored (λ verdict. where_named named (lifted_said items lowered verdict)) a lowered claim found told told'
+  pub firsts : List (Option ℕ)
+  pub rises : named ≡ true → IfSome found (λ text. (read_text (input_count lowered) text).fault ≡ None → AreBitFirstRises lowered (restored_text lowered claim text) firsts)
+  pub tells : TellsRestored (lifting_said named items lowered firsts) a lowered claim found told told'
 
--- The first text is of a model, which a circuit lowers that has an engine form, with all its bad properties or the chosen one; what was written is what the second, a witness of that form, is lifted to, with names or without; it was told how that is judged, with names behind it what the judgement is about: over the model what is written is judged so too, and accepted, where the second is so over the form.
+-- The first text is of a model, which a circuit lowers that has an engine form, with all its bad properties or the chosen one; what was written is what the second, a witness of that form, is lifted to, with names or without; it was told how that is judged, with names behind it what the judgement is about, and of an acceptance in which frame the claim is reached first in what the second is restored to: over the model what is written is judged so too, and accepted, where the second is so over the form.
 pub record IsFormLifted (named : Bool) (choice : Option ℕ) (model found before now told told' : Option (List ℕ)) (verdict : Judgement) : Type 0 where
   pub items : List Item
   pub lowered : Circuit
@@ -65,7 +76,9 @@ pub record IsFormLifted (named : Bool) (choice : Option ℕ) (model found before
   pub judged : IfSome found (λ text. FormJudges lowered choice form text verdict)
   pub kept : IfSome found (λ text. KeepsFormVerdict named items lowered choice form text verdict)
   pub in_model : IfSome found (FindsWitnessInModel named items lowered choice form)
-  pub lines : Appends told told' (judgement_line verdict ++ where_named named (lifted_said items lowered verdict))
+  pub firsts : List (Option ℕ)
+  pub rises : named ≡ true → IfSome found (λ text. AreBitFirstRises lowered (form_restored_text lowered choice form text) firsts)
+  pub lines : Appends told told' (judgement_line verdict ++ lifting_said named items lowered firsts verdict)
 
 -- what a command has done that says by name what its judgement is about
 unfoldable pub AnswersByName : Named → Option (List ℕ) → Option (List ℕ) → Option (List ℕ) → Option (List ℕ) → Option (List ℕ) → Option (List ℕ) → Option (List ℕ) → Answer → Type 0

@@ -14,12 +14,13 @@ use aiger::Circuit;
 use base::{Sink, Source};
 use blast::{Watch, lower_watched};
 use btor2::Model;
-use lift::lift_restored;
+use lift::lift_restored_with_rises;
 use std::alloc::Global;
-use tasks::{Answer, Claimed, Refusal, Subject, claim_of, has_form, read_model, tell_restored};
+use tasks::{Answer, Claimed, Refusal, Subject, claim_of, has_form, read_model, tell_lifted};
 
 /// Lowers a model, lifts a counterexample over the engine form of its circuit to standard output, with names or without, and
-/// tells on standard error how that is judged, with names behind it what the judgement is about.
+/// tells on standard error how that is judged, with names behind it what the judgement is about, and of an acceptance in which
+/// frame the claim is reached first.
 pub(crate) fn lift_counterexample<B: Source, O: Sink, E: Sink, W: Watch>(
     alloc: Global,
     named: bool,
@@ -66,6 +67,6 @@ fn lift_over_circuit<B: Source, O: Sink, E: Sink>(
     lift::engine_laws::found_over_the_form_is_found_in_the_model();
     let claim = claim_of(circuit, choice, Claimed::Found)?;
     has_form(circuit, claim)?;
-    let told = lift_restored(alloc, model, circuit, claim, named, second, out);
-    tell_restored(alloc, told, named, Subject::Lowered(model, circuit), err)
+    let told = lift_restored_with_rises(alloc, model, circuit, claim, named, second, out);
+    tell_lifted(alloc, told, named, Subject::Lowered(model, circuit), err)
 }

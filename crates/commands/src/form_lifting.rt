@@ -15,12 +15,13 @@ use base::{Sink, Source};
 use blast::{Watch, lower_watched};
 use btor2::Model;
 use engine::engine_form;
-use lift::lift_form;
+use lift::lift_form_with_rises;
 use std::alloc::Global;
-use tasks::{Answer, Refusal, Subject, read_model, tell_restored};
+use tasks::{Answer, Refusal, Subject, read_model, tell_lifted};
 
 /// Lowers a model, lifts a witness of the engine form of its circuit to standard output, with names or without, and tells on
-/// standard error how that is judged, with names behind it what the judgement is about.
+/// standard error how that is judged, with names behind it what the judgement is about, and of an acceptance in which frame the
+/// claim is reached first.
 pub(crate) fn lift_form_witness<B: Source, O: Sink, E: Sink, W: Watch>(
     alloc: Global,
     named: bool,
@@ -87,6 +88,6 @@ fn lift_through_form<B: Source, O: Sink, E: Sink>(
     ensures untold { ErrUntold result (err.new ≡ err.old) }
     ensures counted { (f : ℕ) → Counts result f f (B.failures second.old) (B.failures second.new) (O.failures out.old) (O.failures out.new) (E.failures err.old) (E.failures err.new) }
 {
-    let told = lift_form(alloc, model, circuit, form, choice, named, second, out);
-    tell_restored(alloc, told, named, Subject::Lowered(model, circuit), err)
+    let told = lift_form_with_rises(alloc, model, circuit, form, choice, named, second, out);
+    tell_lifted(alloc, told, named, Subject::Lowered(model, circuit), err)
 }

@@ -1,12 +1,7 @@
 //! The command that lifts witnesses.
 
-ghost use Rattle.std.specs.Prelude.{◌≡◌, ℕ, List, Option, IfOk, IfErr, IfSome, OnOk};
-ghost use Rattle.std.specs.Io.KnownBytes.{Appends};
+ghost use Rattle.std.specs.Prelude.{◌≡◌, ℕ, List, Option, IfOk, IfErr};
 ghost use Rattle.blast.specs.Lowering.{Lowers};
-ghost use Rattle.witness.specs.BitJudgements.{BitJudges};
-ghost use Rattle.lift.specs.Answers.{CountsLift};
-ghost use Rattle.lift.specs.Lifted.{lifted_with};
-ghost use Rattle.lift.specs.Verdicts.{KeepsVerdictIn};
 ghost use Rattle.tasks.specs.Done.{IsModelOf, Judged};
 ghost use Rattle.commands.specs.Done.{IsLifted};
 ghost use Rattle.commands.specs.Refusals.{of_lifting};
@@ -17,13 +12,13 @@ use aiger::Circuit;
 use base::{Sink, Source};
 use blast::{Watch, lower_watched};
 use btor2::Model;
-use lift::{LiftFault, lift, lift_named};
+use lift::{LiftFault, lift_with_rises};
 use std::alloc::Global;
 use tasks::{Answer, Device, Refusal, Subject, read_model, tell_judgement};
-use witness::Judgement;
 
 /// Lowers a model, lifts a witness of its circuit to standard output, with names or without, and tells its judgement on
-/// standard error, with names behind it what the judgement is about.
+/// standard error, with names behind it what the judgement is about, and of an acceptance in which frame the claim is reached
+/// first.
 pub(crate) fn lift_witness<B: Source, O: Sink, E: Sink, W: Watch>(
     alloc: Global,
     named: bool,
@@ -61,33 +56,12 @@ fn lift_over_circuit<B: Source, O: Sink, E: Sink>(
     ensures untold { ErrUntold result (err.new ≡ err.old) }
     ensures counted { (f : ℕ) → Counts result f f (B.failures second.old) (B.failures second.new) (O.failures out.old) (O.failures out.new) (E.failures err.old) (E.failures err.new) }
 {
-    let judgement = match lift_with(alloc, named, model, circuit, second, out) {
-        Ok(judgement) => judgement,
-        Err(fault) => return Err(refusal_of(fault)),
-    };
-    let subject = Subject::Lowered(model, circuit);
-    tell_judgement(alloc, named, subject, &judgement, err)
-}
-
-/// Lifts a witness of the circuit of a model, with names or without.
-fn lift_with<B: Source, O: Sink>(
-    alloc: Global,
-    named: bool,
-    model: &Model,
-    circuit: &Circuit,
-    second: &mut B,
-    out: &mut O,
-) -> Result<Judgement, LiftFault>
-    requires { Lowers model.now circuit.now }
-    ensures judged { IfOk result (λ judgement. IfSome (B.to_come second.old) (λ text. BitJudges circuit.now text judgement)) }
-    ensures kept { IfOk result (λ judgement. IfSome (B.to_come second.old) (λ text. KeepsVerdictIn model.now circuit.now text (lifted_with named model.now circuit.now text) judgement)) }
-    ensures written { OnOk result (IfSome (B.to_come second.old) (λ text. Appends (O.written out.old) (O.written out.new) (lifted_with named model.now circuit.now text))) }
-    ensures counted { CountsLift result (B.failures second.old) (B.failures second.new) (O.failures out.old) (O.failures out.new) }
-{
-    if named {
-        lift_named(alloc, model, circuit, second, out)
-    } else {
-        lift(alloc, model, circuit, second, out)
+    match lift_with_rises(alloc, model, circuit, named, second, out) {
+        Ok((judgement, firsts)) => {
+            let subject = Subject::Lowered(model, circuit);
+            tell_judgement(alloc, named, subject, &judgement, &firsts, err)
+        }
+        Err(fault) => Err(refusal_of(fault)),
     }
 }
 

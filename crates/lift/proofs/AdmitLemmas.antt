@@ -1,7 +1,6 @@
 -- A line that is admitted: its place, what it is by it, and that its piece is that of what is kept of it.
-use Rattle.std.proofs.Common.{◌≡◌, ℕ, zero, suc, ◌+◌, ◌<◌, ◌≤◌, ◌^◌, ◌==◌, nat_le, Bool, true, false, cond, List, [], ◌∷◌, ◌++◌, Option, Some, None, Result, Ok, Err, codes, decimal, length, get_or, refl, sym, ap, subst, ◌∙◌, arith, inl, inr}
+use Rattle.std.proofs.Common.{◌≡◌, ℕ, zero, suc, ◌<◌, ◌≤◌, ◌^◌, ◌==◌, Bool, true, false, cond, List, [], ◌∷◌, Some, None, Result, Ok, Err, codes, decimal, length, get_or, refl, sym, ap, subst, ◌∙◌, arith, inl, inr}
 use Rattle.std.specs.Str.{bytes_eq}
-use Rattle.std.proofs.lemmas.Bool.{cases_Bool}
 use Rattle.std.proofs.lemmas.List.{length-map}
 use Rattle.std.proofs.lemmas.Slice.Eq.{bytes_eq-Decides}
 use Rattle.base.specs.Decimals.{capped_value, is_decimal, number_of}
@@ -10,9 +9,9 @@ use Rattle.btor2.specs.declared.item.Item.{Item}
 use Rattle.aiger.specs.Circuit.{Circuit}
 use Rattle.witness.specs.declared.why.Why.{Why}
 use Rattle.witness.specs.declared.why.Why.TheVariants as why
-use Rattle.witness.specs.Texts.{digit, claim, most_lines}
+use Rattle.witness.specs.Texts.{digit, claim}
 use Rattle.witness.specs.BitTexts.{bit_line}
-use Rattle.witness.specs.Readings.{Reading, nothing_admitted, one_more_line, next_line, lines_behind, lines_read}
+use Rattle.witness.specs.Readings.{lines_read}
 use Rattle.witness.specs.BitAdmits.{claim_at, bits_at, BitPlace, AtHeader, AtClaim, AtInitial, AtFirst, AtLater, AtDone, BitRead, after_claim, after_initial, after_frame, bit_admit_at, bit_admit, bit_reader}
 use Rattle.witness.proofs.BitReadLemmas.{bits_are_line, claim_is_line}
 use Rattle.restore.proofs.BitPlaceLemmas.{PlaceAt, place_of_lines}

@@ -1,7 +1,6 @@
 -- What is lifted of counterexamples over engine forms.
-use Rattle.std.proofs.Common.{◌≡◌, ◌≤◌, ◌<◌, ◌+◌, ℕ, Bool, true, false, List, [], length, subst, Option, Some, None, Result, Ok, Err, IfSome, OnOk}
+use Rattle.std.proofs.Common.{◌≡◌, ◌≤◌, ℕ, Bool, true, false, List, [], length, subst, Option, Some, None, Result, Ok, Err, IfSome, OnOk}
 use Rattle.std.specs.Io.KnownBytes.{Appends}
-use Rattle.base.specs.Device.{AppendsBeginning}
 use Rattle.base.specs.Lines.{whole_lines}
 use Rattle.btor2.specs.declared.item.Item.{Item}
 use Rattle.aiger.specs.Circuit.{Circuit}
@@ -13,6 +12,7 @@ use Rattle.witness.specs.BitTexts.{BitWitness, BitSays}
 use Rattle.witness.specs.BitJudgements.{BitJudges}
 use Rattle.witness.proofs.FeedLemmas.{if_some_then}
 use Rattle.engine.specs.EngineForm.{input_count}
+use Rattle.rises.specs.FirstRises.{AreBitFirstRises}
 use Rattle.restore.specs.declared.fault.RestoreFault.{RestoreFault}
 use Rattle.restore.specs.Accepted.{FindsAgain}
 use Rattle.restore.specs.Answers.{WritesAllBut, WritesOwed, WritesAll}
@@ -58,9 +58,12 @@ TakesOver r named items c k after old new text = WritesOwed r (lifted_owed named
 abbrev WritesOver : Result (Unit {0}) RestoreFault → Restorer → Lifter → Lifter → Option (List ℕ) → Option (List ℕ) → List ℕ → Type 0
 WritesOver r first before after old new text = (o : Over) → IsPutInPieces lifted_over → LiftsOver o before [] → WritesAll LiftsOver lifted_over r (owed first text) o after old new
 
--- what a lifter answers of what it has taken
+-- what a lifter answers of what it has taken: how that is judged, and first rises where words are lifted with names
 abbrev Finishes : Lifter → Judgement → Type 0
 Finishes after j = (named : Bool) (items : List Item) (c : Circuit) (text : List ℕ) → LiftsWith named items c after text → BitJudges c text j
+
+abbrev Notes : Lifter → List (Option ℕ) → Type 0
+Notes after firsts = (named : Bool) (items : List Item) (c : Circuit) (text : List ℕ) → LiftsWith named items c after text → named ≡ true → AreBitFirstRises c text firsts
 
 module _ (source : Option (List ℕ)) (named : Bool) (items : List Item) (c : Circuit) (k : ℕ) (first : Restorer) (before after : Lifter) (old new : Option (List ℕ)) (is : Restores c k first) (lifts : LiftsWith named items c before []) where
   taken : (r : Result (Unit {0}) RestoreFault) → IfSome source (WritesOver r first before after old new) → IfSome source (TakesOver r named items c k after old new)
@@ -69,13 +72,14 @@ module _ (source : Option (List ℕ)) (named : Bool) (items : List Item) (c : Ci
       (λ text w. subst (λ (more : Owed). WritesAll LiftsOver lifted_over r more (record { named = named; items = items; circuit = c }) after old new) (is text) (w (record { named = named; items = items; circuit = c }) lifted_in_pieces lifts)) writes
 
   -- of all of it
-  pub lifts_all : (u : Unit {0}) (j : Judgement) → IfSome source (WritesOver (Ok u) first before after old new) → Finishes after j → Keeps items c named
-      → ((text : List ℕ) → BitJudges c (restored_text c k text) j → FindsAgain c k text j) → ((text : List ℕ) → FindsInModel named items c k text) → LiftsRestored (Ok j) named items c k source old new
-  lifts_all u j writes finish keeps finds in_model =
+  pub lifts_all : (u : Unit {0}) (j : Judgement) (firsts : List (Option ℕ)) → IfSome source (WritesOver (Ok u) first before after old new) → Finishes after j → Notes after firsts → Keeps items c named
+      → ((text : List ℕ) → BitJudges c (restored_text c k text) j → FindsAgain c k text j) → ((text : List ℕ) → FindsInModel named items c k text) → LiftsRestored (Ok (j, firsts)) named items c k source old new
+  lifts_all u j firsts writes finish notes keeps finds in_model =
       let all = taken (Ok u) writes in
       let judged : IfSome source (λ text. BitJudges c (restored_text c k text) j) = if_some_then source (TakesOver (Ok u) named items c k after old new) (λ text. BitJudges c (restored_text c k text) j) (λ text t. finish named items c (restored_text c k text) t.1) all in
       record {
         judged = judged;
+        rises = λ on. if_some_then source (TakesOver (Ok u) named items c k after old new) (λ text. AreBitFirstRises c (restored_text c k text) firsts) (λ text t. notes named items c (restored_text c k text) t.1 on) all;
         right = if_some_then source (TakesOver (Ok u) named items c k after old new) (λ text. (read_text (input_count c) text).fault ≡ None) (λ text t. t.0.0) all;
         kept = if_some_then source (λ text. BitJudges c (restored_text c k text) j) (λ text. KeepsVerdictIn items c (restored_text c k text) (engine_lifted_text named items c k text) j) (λ text h. keeps (restored_text c k text) j h) judged;
         written = if_some_then source (TakesOver (Ok u) named items c k after old new) (λ text. Appends old new (engine_lifted_text named items c k text)) (λ text t. t.0.1) all;
@@ -91,6 +95,7 @@ module _ (source : Option (List ℕ)) (named : Bool) (items : List Item) (c : Ci
   lifts_not e writes =
       record {
         judged = tt;
+        rises = λ on. tt;
         right = tt;
         kept = tt;
         written = tt;
@@ -119,13 +124,14 @@ module _ (source : Option (List ℕ)) (named : Bool) (items : List Item) (c : Ci
   form_taken : (r : Result Judgement RestoreFault) → TakesFormOver r c choice d before after source old new → IfSome source (FormTaken r)
   form_taken r takes = takes (record { named = named; items = items; circuit = c }) lifted_in_pieces lifts
 
-  pub form_lifts : (over lifted j : Judgement) → TakesFormOver (Ok over) c choice d before after source old new → Finishes after lifted
+  pub form_lifts : (over lifted j : Judgement) (firsts : List (Option ℕ)) → TakesFormOver (Ok over) c choice d before after source old new → Finishes after lifted → Notes after firsts
       → ((text : List ℕ) → BitJudges d text over → BitJudges c (form_restored_text c choice d text) lifted → FormJudges c choice d text j) → Keeps items c named
-      → ((text : List ℕ) → FindsWitnessInModel named items c choice d text) → LiftsForm (Ok j) named items c choice d source old new
-  form_lifts over lifted j takes finish told keeps finds =
+      → ((text : List ℕ) → FindsWitnessInModel named items c choice d text) → LiftsForm (Ok (j, firsts)) named items c choice d source old new
+  form_lifts over lifted j firsts takes finish notes told keeps finds =
       let all = form_taken (Ok over) takes in
       record {
         judged = if_some_then source (FormTaken (Ok over)) (λ text. FormJudges c choice d text j) (λ text t. told text t.0 (finish named items c (form_restored_text c choice d text) t.1.0)) all;
+        rises = λ on. if_some_then source (FormTaken (Ok over)) (λ text. AreBitFirstRises c (form_restored_text c choice d text) firsts) (λ text t. notes named items c (form_restored_text c choice d text) t.1.0 on) all;
         kept = if_some_then source (FormTaken (Ok over)) (λ text. KeepsFormVerdict named items c choice d text j) (λ text t h. keeps (form_restored_text c choice d text) j h) all;
         written = if_some_then source (FormTaken (Ok over)) (λ text. Appends old new (form_lifted_text named items c choice d text)) (λ text t. t.1.1) all;
         found = if_some_then source (FormTaken (Ok over)) (FindsWitnessInModel named items c choice d) (λ text t. finds text) all;
@@ -133,4 +139,4 @@ module _ (source : Option (List ℕ)) (named : Bool) (items : List Item) (c : Ci
       }
 
   pub form_fails : (e : RestoreFault) → TakesFormOver (Err e) c choice d before after source old new → LiftsForm (Err e) named items c choice d source old new
-  form_fails e takes = record { judged = tt; kept = tt; written = tt; found = tt; beginning = form_taken (Err e) takes }
+  form_fails e takes = record { judged = tt; rises = λ on. tt; kept = tt; written = tt; found = tt; beginning = form_taken (Err e) takes }

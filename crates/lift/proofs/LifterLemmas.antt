@@ -1,20 +1,18 @@
 -- What a lifter puts for the bytes that it takes.
 use Rattle.std.proofs.Common.{◌≡◌, ℕ, ◌+◌, ◌<◌, ◌≤◌, ◌^◌, ◌==◌, Bool, true, false, not, List, [], ◌∷◌, ◌++◌, Option, Result, Ok, Err, MatchResult, length, length-append, take, refl, sym, ap, ap₂, subst, ◌∙◌, append_assoc, append-nil, arith, inl, inr}
 use Rattle.std.proofs.Math.Seq.{take-append_seam}
-use Rattle.std.proofs.lemmas.Bool.{or_from, ne_eqb, eq-eqb}
+use Rattle.std.proofs.lemmas.Bool.{ne_eqb, eq-eqb}
 use Rattle.std.proofs.lemmas.List.Concat.{flat_map-append}
-use Rattle.std.proofs.lemmas.List.Folds.{list_any-append}
 use Rattle.base.specs.Device.{Sent, AppendsBeginning}
 use Rattle.base.specs.Lines.{IsLine, text_of_lines, whole_lines, unfinished}
 use Rattle.base.specs.Pieces.{Puts}
 use Rattle.base.proofs.DeviceLemmas.{sent_on, sent_then_beginning, beginning_longer}
-use Rattle.base.proofs.LineLemmas.{parts_of_text, unfinished-lines, unfinished-last, unfinished_is_line, whole_lines-last}
 use Rattle.btor2.specs.declared.item.Item.{Item}
 use Rattle.aiger.specs.Circuit.{Circuit, IsCircuit}
 use Rattle.witness.specs.Readings.{lines_read, reading}
 use Rattle.witness.specs.BitAdmits.{admitted_lines, bit_reader}
-use Rattle.witness.specs.BitStands.{StandsFor}
 use Rattle.witness.proofs.TextEndLemmas.{whole_lines-part, unfinished-part, whole_lines-end, unfinished-line_end}
+use Rattle.rises.specs.Notes.{NotesBits}
 use Rattle.lift.specs.Lifted.{piece, lifted_with}
 use Rattle.lift.specs.Kept.{Keeps, kept_piece}
 use Rattle.lift.specs.Stands.{Lifter, LiftsWith, admitted_piece}
@@ -28,13 +26,13 @@ same_lifted named items c text bytes is =
     lifted_by_lines named items c (text ++ bytes) ∙ ap (λ (ls : List (List ℕ)). text_of_lines (lifted_of named items c ls)) (whole_lines-part text bytes is) ∙ sym (lifted_by_lines named items c text)
 
 pub lifts_bytes : (named : Bool) (items : List Item) (c : Circuit) (text bytes : List ℕ) (before after : Lifter) → IsLine bytes → LiftsWith named items c before text → after.items ≡ before.items → after.named ≡ before.named
-    → StandsFor c after.judge (text ++ bytes) → ((line : List ℕ) → Keeps before.kept line → Keeps after.kept (line ++ bytes)) → length after.kept.bits ≡ length before.kept.bits → LiftsWith named items c after (text ++ bytes)
-lifts_bytes named items c text bytes before after is h same same_names stands keeps room =
+    → NotesBits named c after.noter (text ++ bytes) → ((line : List ℕ) → Keeps before.kept line → Keeps after.kept (line ++ bytes)) → length after.kept.bits ≡ length before.kept.bits → LiftsWith named items c after (text ++ bytes)
+lifts_bytes named items c text bytes before after is h same same_names notes keeps room =
     record {
       circuit = h.circuit;
       model = same ∙ h.model;
       naming = same_names ∙ h.naming;
-      judge = stands;
+      notes = notes;
       kept = subst (Keeps after.kept) (sym (unfinished-part text bytes is)) (keeps (unfinished text) h.kept);
       latches = omega (arith, h.latches, room);
       inputs = omega (arith, h.inputs, room);
@@ -129,14 +127,14 @@ module _ {T E : Type 0} (r : Result T E) (named : Bool) (items : List Item) (c :
 
   -- a line with its end
   pub line_takes : IsLine line → LiftsWith named items c before text → Sent start old (lifted_with named items c text) kept → mid.items ≡ before.items → mid.named ≡ before.named → Keeps mid.kept (unfinished text ++ line) → length mid.kept.bits ≡ length before.kept.bits
-      → number ≡ admitted_lines c text → now ≡ admitted_lines c whole → Puts r old new kept left put → after.items ≡ before.items → after.named ≡ before.named → StandsFor c after.judge whole → Keeps after.kept [] → length after.kept.bits ≡ length mid.kept.bits
+      → number ≡ admitted_lines c text → now ≡ admitted_lines c whole → Puts r old new kept left put → after.items ≡ before.items → after.named ≡ before.named → NotesBits named c after.noter whole → Keeps after.kept [] → length after.kept.bits ≡ length mid.kept.bits
       → MatchResult r (λ x. LiftsWith named items c after whole × Sent start new (lifted_with named items c whole) left) (λ e. AppendsBeginning start new (lifted_with named items c whole))
-  line_takes is h sent same same_names keeps room n m puts items_same names_same stands nothing after_room =
+  line_takes is h sent same same_names keeps room n m puts items_same names_same notes nothing after_room =
       let lifts : LiftsWith named items c after whole = record {
         circuit = h.circuit;
         model = items_same ∙ h.model;
         naming = names_same ∙ h.naming;
-        judge = stands;
+        notes = notes;
         kept = subst (Keeps after.kept) (sym (unfinished-line_end text line)) nothing;
         latches = omega (arith, h.latches, room, after_room);
         inputs = omega (arith, h.inputs, room, after_room);

@@ -1,17 +1,13 @@
 -- Lifted texts line by line: a line more of a source is lifted to nothing more, or to its own piece.
-use Rattle.std.proofs.Common.{◌≡◌, ◌⊎◌, ℕ, suc, ◌+◌, ◌≤◌, nat_le, Bool, false, List, [], ◌∷◌, ◌++◌, Option, Some, None, Result, Ok, Err, length, take, length-append, append_assoc, append-nil, refl, sym, ap, ap₂, subst, ◌∙◌, arith, inl, inr}
-use Rattle.std.proofs.lemmas.Bool.{cases_Bool}
+use Rattle.std.proofs.Common.{◌≡◌, ◌⊎◌, ℕ, suc, ◌+◌, Bool, List, [], ◌∷◌, ◌++◌, length, take, length-append, append_assoc, append-nil, refl, sym, ap, ap₂, ◌∙◌, arith, inl, inr}
 use Rattle.std.proofs.lemmas.List.Concat.{flat_map-append}
 use Rattle.std.proofs.Math.Seq.{take-length, take-append-le}
 use Rattle.base.specs.Device.{BeginsWith}
 use Rattle.base.specs.Lines.{text_of_lines, whole_lines, unfinished}
-use Rattle.base.proofs.LineLemmas.{parts_of_text, whole_lines-lines, lines_are_lines}
 use Rattle.btor2.specs.declared.item.Item.{Item}
 use Rattle.aiger.specs.Circuit.{Circuit}
-use Rattle.witness.specs.declared.why.Why.{Why}
-use Rattle.witness.specs.Texts.{most_lines}
-use Rattle.witness.specs.Readings.{Reading, nothing_admitted, one_more_line, next_line, lines_behind, lines_read, reading}
-use Rattle.witness.specs.BitAdmits.{BitRead, bit_admit, admitted_lines, bit_reader}
+use Rattle.witness.specs.Readings.{lines_read, reading}
+use Rattle.witness.specs.BitAdmits.{admitted_lines, bit_reader}
 use Rattle.witness.proofs.TextEndLemmas.{lines_behind_text}
 use Rattle.restore.proofs.BitPlaceLemmas as place
 use Rattle.lift.specs.Lifted.{piece, lifted_lines, lifted_with}

@@ -14,7 +14,6 @@ use Rattle.aiger.specs.Circuit.{Circuit}
 use Rattle.blast.specs.Leaves.{by_body, of_kind, observed}
 use Rattle.blast.specs.Lowering.{ShowsSame, ShowSame}
 use Rattle.witness.specs.declared.judgement.Judgement.{Judgement}
-use Rattle.witness.specs.declared.judgement.Judgement.TheVariants as judgement
 use Rattle.witness.specs.Judgements.{Words, nodes_of, first_different, first_violated, Violation, violated_at, violation_from, never_rises, unreached_from, first_of, verdict, initial_words}
 use Rattle.witness.specs.BitTexts.{BitWitness}
 use Rattle.witness.specs.BitJudgements.{first_reset_differing, first_bit_violated, bit_violation_from, bit_rises, bit_verdict}

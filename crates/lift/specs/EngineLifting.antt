@@ -13,6 +13,7 @@ use Rattle.witness.specs.declared.judgement.Judgement.TheVariants as judgement
 use Rattle.witness.specs.Texts.{most_lines}
 use Rattle.witness.specs.Judgements.{Judges}
 use Rattle.witness.specs.BitJudgements.{BitJudges}
+use Rattle.rises.specs.FirstRises.{AreBitFirstRises}
 use Rattle.restore.specs.declared.fault.RestoreFault.{RestoreFault}
 use Rattle.restore.specs.Accepted.{FindsAgain}
 use Rattle.restore.specs.Counterexample.{HasProperty, place_in, first_bad}
@@ -77,22 +78,24 @@ lifted_over o text = lifted_with o.named o.items o.circuit text
 abbrev pub Restores : Circuit → ℕ → Restorer → Type 0
 Restores c k r = (text : List ℕ) → owed r text ≡ record { bytes = restored_text c k text; fault = (read_text (input_count c) text).fault }
 
--- what is told of the text of a counterexample, of which these bytes are known, and what was written of it
-pub record LiftsRestored (r : Result Judgement RestoreFault) (named : Bool) (items : List Item) (c : Circuit) (k : ℕ) (source old new : Option (List ℕ)) : Type 0 where
-  pub judged : IfOk r (λ j. IfSome source (λ text. BitJudges c (restored_text c k text) j))
+-- what is told of the text of a counterexample, of which these bytes are known: a judgement, and first rises where words are lifted with names; and what was written of it
+pub record LiftsRestored (r : Result (Judgement × List (Option ℕ)) RestoreFault) (named : Bool) (items : List Item) (c : Circuit) (k : ℕ) (source old new : Option (List ℕ)) : Type 0 where
+  pub judged : IfOk r (λ told. IfSome source (λ text. BitJudges c (restored_text c k text) told.0))
+  pub rises : named ≡ true → IfOk r (λ told. IfSome source (λ text. AreBitFirstRises c (restored_text c k text) told.1))
   pub right : OnOk r (IfSome source (λ text. (read_text (input_count c) text).fault ≡ None))
-  pub kept : IfOk r (λ j. IfSome source (λ text. KeepsVerdictIn items c (restored_text c k text) (engine_lifted_text named items c k text) j))
+  pub kept : IfOk r (λ told. IfSome source (λ text. KeepsVerdictIn items c (restored_text c k text) (engine_lifted_text named items c k text) told.0))
   pub written : OnOk r (IfSome source (λ text. Appends old new (engine_lifted_text named items c k text)))
-  pub found : IfOk r (λ j. IfSome source (λ text. FindsAgain c k text j))
+  pub found : IfOk r (λ told. IfSome source (λ text. FindsAgain c k text told.0))
   pub in_model : OnOk r (IfSome source (λ text. FindsInModel named items c k text))
   pub faulty : IfErr r (λ e. is_of_text e.why ≡ true → IfSome source (λ text. (read_text (input_count c) text).fault ≡ Some e))
   pub before : IfErr r (λ e. is_of_text e.why ≡ true → IfSome source (λ text. Appends old new (engine_lifted_text named items c k text)))
   pub beginning : IfErr r (λ e. is_of_text e.why ≡ false → IfSome source (λ text. AppendsBeginning old new (engine_lifted_text named items c k text)))
 
 -- and of a witness of the engine form
-pub record LiftsForm (r : Result Judgement RestoreFault) (named : Bool) (items : List Item) (c : Circuit) (choice : Option ℕ) (d : Circuit) (source old new : Option (List ℕ)) : Type 0 where
-  pub judged : IfOk r (λ j. IfSome source (λ text. FormJudges c choice d text j))
-  pub kept : IfOk r (λ j. IfSome source (λ text. KeepsFormVerdict named items c choice d text j))
+pub record LiftsForm (r : Result (Judgement × List (Option ℕ)) RestoreFault) (named : Bool) (items : List Item) (c : Circuit) (choice : Option ℕ) (d : Circuit) (source old new : Option (List ℕ)) : Type 0 where
+  pub judged : IfOk r (λ told. IfSome source (λ text. FormJudges c choice d text told.0))
+  pub rises : named ≡ true → IfOk r (λ told. IfSome source (λ text. AreBitFirstRises c (form_restored_text c choice d text) told.1))
+  pub kept : IfOk r (λ told. IfSome source (λ text. KeepsFormVerdict named items c choice d text told.0))
   pub written : OnOk r (IfSome source (λ text. Appends old new (form_lifted_text named items c choice d text)))
   pub found : OnOk r (IfSome source (FindsWitnessInModel named items c choice d))
   pub beginning : OnErr r (IfSome source (λ text. AppendsBeginning old new (form_lifted_text named items c choice d text)))

@@ -5,16 +5,17 @@ use Rattle.base.specs.Device.{Sent, AppendsBeginning}
 use Rattle.base.specs.Lines.{unfinished}
 use Rattle.btor2.specs.declared.item.Item.{Item}
 use Rattle.aiger.specs.Circuit.{Circuit, IsCircuit}
-use Rattle.witness.specs.BitStands.{BitJudge, StandsFor}
+use Rattle.rises.specs.declared.bit_noter.BitNoter.{BitNoter}
+use Rattle.rises.specs.Notes.{NotesBits}
 use Rattle.lift.specs.Lifted.{lifted_with}
 use Rattle.lift.specs.Kept.{KeptLine, Keeps, kept_piece}
 
--- the model, whether words are lifted with names, whether the model has a free state, a judge, and what is kept of the line that has not ended
+-- the model, whether words are lifted with names, whether the model has a free state, a judge that notes first rises where words are lifted with names, and what is kept of the line that has not ended
 pub record Lifter : Type 0 where
   pub items : List Item
   pub named : Bool
   pub some_free : Bool
-  pub judge : BitJudge
+  pub noter : BitNoter
   pub kept : KeptLine
 
 -- it lifts with names or without over this model, and stands for this text of a witness of this circuit
@@ -22,7 +23,7 @@ pub record LiftsWith (named : Bool) (items : List Item) (c : Circuit) (l : Lifte
   pub circuit : IsCircuit c
   pub model : l.items ≡ items
   pub naming : l.named ≡ named
-  pub judge : StandsFor c l.judge text
+  pub notes : NotesBits named c l.noter text
   pub kept : Keeps l.kept (unfinished text)
   pub latches : length c.latches ≤ length l.kept.bits
   pub inputs : c.inputs ≤ length l.kept.bits

@@ -7,6 +7,7 @@ ghost use Rattle.aiger.specs.Circuit.{Circuit};
 ghost use Rattle.blast.specs.Lowering.{Lowers};
 ghost use Rattle.engine.specs.EngineForm.{input_count};
 ghost use Rattle.witness.specs.BitJudgements.{BitJudges};
+ghost use Rattle.rises.specs.FirstRises.{AreBitFirstRises};
 ghost use Rattle.restore.specs.Accepted.{FindsAgain};
 ghost use Rattle.restore.specs.Answers.{CountsRestore};
 ghost use Rattle.restore.specs.Faults.{is_of_text};
@@ -24,16 +25,17 @@ use aiger::Circuit;
 use base::{Sink, Source};
 use btor2::Model;
 use restore::{RestoreFault, Restorer, take_restored};
+use rises::FirstRises;
 use std::alloc::Global;
 use witness::Judgement;
 
-/// Lifts what a restorer makes of a source, and answers how that is judged over the circuit.
+/// Lifts what a restorer makes of a source, and answers how that is judged over the circuit, and with names its first rises.
 fn lift_pieces<S: Source, K: Sink>(
     restorer: &mut Restorer<'_>,
     lifter: Lifter<'_>,
     source: &mut S,
     sink: &mut K,
-) -> Result<Judgement, RestoreFault>
+) -> Result<(Judgement, FirstRises), RestoreFault>
     requires unread { restorer.old.reader.rest ≡ [] }
     requires begins { is_written restorer.old.stage ≡ false }
     ensures lifts { (named : Bool) (items : List Item) (c : Circuit) (k : ℕ) → Lowers items c → k < length c.bads → Restores c k restorer.old → LiftsWith named items c lifter.entry []
@@ -51,6 +53,49 @@ fn lift_pieces<S: Source, K: Sink>(
     let mut lifter = lifter;
     take_restored(restorer, &mut lifter, source, sink)?;
     Ok(lifter.finish())
+}
+
+/// Lifts as `lift_restored` does, and answers with the judgement the first frame in which the claimed bad property is 1, where
+/// names are asked for; without names it notes none.
+///
+/// Conditions: the circuit is a lowering of the model, and has the claimed property.
+///
+/// Errors: those of `lift_restored`.
+pub fn lift_restored_with_rises<S: Source, K: Sink>(
+    alloc: Global,
+    model: &Model,
+    circuit: &Circuit,
+    claim: usize,
+    named: bool,
+    source: &mut S,
+    sink: &mut K,
+) -> Result<(Judgement, FirstRises), RestoreFault>
+    requires lowers { Lowers model.now circuit.now }
+    requires claim { claim < length circuit.now.bads }
+    // the judgement is that over the circuit of what the text is restored to, with which nothing is wrong
+    ensures judged { IfOk result (λ told. IfSome (S.to_come source.old) (λ text. BitJudges circuit.now (restored_text circuit.now claim text) told.0)) }
+    // and what stands beside it, with names, are the first rises of that text
+    ensures rises { named ≡ true → IfOk result (λ told. IfSome (S.to_come source.old) (λ text. AreBitFirstRises circuit.now (restored_text circuit.now claim text) told.1)) }
+    ensures right { OnOk result (IfSome (S.to_come source.old) (λ text. (read_text (input_count circuit.now) text).fault ≡ None)) }
+    // what is judged of what is written over the model is the same verdict
+    ensures kept { IfOk result (λ told. IfSome (S.to_come source.old) (λ text. KeepsVerdictIn model.now circuit.now (restored_text circuit.now claim text) (engine_lifted_text named model.now circuit.now claim text) told.0)) }
+    ensures written { OnOk result (IfSome (S.to_come source.old) (λ text. Appends (K.written sink.old) (K.written sink.new) (engine_lifted_text named model.now circuit.now claim text))) }
+    // where the text's frames make the claimed property of an engine form 1, both are accepted, and end with the first such frame
+    ensures found { IfOk result (λ told. IfSome (S.to_come source.old) (λ text. FindsAgain circuit.now claim text told.0)) }
+    ensures in_model { OnOk result (IfSome (S.to_come source.old) (λ text. FindsInModel named model.now circuit.now claim text)) }
+    // a fault of the text is its own, and what the lines before it give was written; at any other a beginning was
+    ensures faulty { IfErr result (λ e. is_of_text e.why ≡ true → IfSome (S.to_come source.old) (λ text. (read_text (input_count circuit.now) text).fault ≡ Some e)) }
+    ensures before { IfErr result (λ e. is_of_text e.why ≡ true → IfSome (S.to_come source.old) (λ text. Appends (K.written sink.old) (K.written sink.new) (engine_lifted_text named model.now circuit.now claim text))) }
+    ensures beginning { IfErr result (λ e. is_of_text e.why ≡ false → IfSome (S.to_come source.old) (λ text. AppendsBeginning (K.written sink.old) (K.written sink.new) (engine_lifted_text named model.now circuit.now claim text))) }
+    ensures apart { IfErr result (λ e. is_of_text e.why ≡ false → e.line ≡ 0) }
+    ensures end { OnOk result (IsAtEnd (S.to_come source.new)) }
+    ensures read_on { IfErr result (λ e. is_of_text e.why ≡ true → IsAtEnd (S.to_come source.new)) }
+    // the source failed once where that is told, the sink where that is, and else neither
+    ensures counted { CountsRestore result (S.failures source.old) (S.failures source.new) (K.failures sink.old) (K.failures sink.new) }
+{
+    let mut restorer = Restorer::new(alloc, circuit, claim)?;
+    let lifter = Lifter::new(alloc, model, circuit, named)?;
+    lift_pieces(&mut restorer, lifter, source, sink)
 }
 
 /// Reads the text of a counterexample over the engine form of a circuit to its end, and writes what it is lifted to: the
@@ -94,7 +139,8 @@ pub fn lift_restored<S: Source, K: Sink>(
     // the source failed once where that is told, the sink where that is, and else neither
     ensures counted { CountsRestore result (S.failures source.old) (S.failures source.new) (K.failures sink.old) (K.failures sink.new) }
 {
-    let mut restorer = Restorer::new(alloc, circuit, claim)?;
-    let lifter = Lifter::new(alloc, model, circuit, named)?;
-    lift_pieces(&mut restorer, lifter, source, sink)
+    match lift_restored_with_rises(alloc, model, circuit, claim, named, source, sink) {
+        Ok((judgement, _)) => Ok(judgement),
+        Err(fault) => Err(fault),
+    }
 }

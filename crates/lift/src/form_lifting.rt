@@ -1,13 +1,14 @@
 //! Lifting witnesses of the engine forms of circuits.
-ghost use Rattle.std.specs.Prelude.{◌≡◌, Bool, List, [], false, IfErr, IfOk, IfSome, OnErr, OnOk};
+ghost use Rattle.std.specs.Prelude.{◌≡◌, Bool, List, [], true, false, IfErr, IfOk, IfSome, OnErr, OnOk};
 ghost use Rattle.std.specs.Io.KnownBytes.{Appends, IsAtEnd};
 ghost use Rattle.base.specs.Device.{AppendsBeginning};
 ghost use Rattle.btor2.specs.declared.item.Item.{Item};
 ghost use Rattle.blast.specs.Lowering.{Lowers};
 ghost use Rattle.engine.specs.EngineForm.{IsEngineFormOf};
+ghost use Rattle.rises.specs.FirstRises.{AreBitFirstRises};
 ghost use Rattle.restore.specs.Answers.{CountsRestore};
 ghost use Rattle.restore.specs.Faults.{is_of_text};
-ghost use Rattle.restore.specs.FormWitness.{FormJudges};
+ghost use Rattle.restore.specs.FormWitness.{form_restored_text, FormJudges};
 ghost use Rattle.lift.specs.EngineLifting.{form_lifted_text, FindsWitnessInModel, KeepsFormVerdict, LiftsForm};
 ghost use Rattle.lift.specs.Stands.{LiftsWith};
 
@@ -18,10 +19,12 @@ use aiger::Circuit;
 use base::{Sink, Source};
 use btor2::Model;
 use restore::{RestoreFault, take_form, told_of};
+use rises::FirstRises;
 use std::alloc::Global;
 use witness::Judgement;
 
-/// Lifts a witness of the engine form of a circuit by a lifter, and answers how it is judged.
+/// Lifts a witness of the engine form of a circuit by a lifter, and answers how it is judged, and with names the first rises of
+/// what it is restored to.
 fn lift_witness<S: Source, K: Sink>(
     alloc: Global,
     circuit: &Circuit,
@@ -30,7 +33,7 @@ fn lift_witness<S: Source, K: Sink>(
     lifter: Lifter<'_>,
     source: &mut S,
     sink: &mut K,
-) -> Result<Judgement, RestoreFault>
+) -> Result<(Judgement, FirstRises), RestoreFault>
     requires { IsEngineFormOf circuit.now choice form.now }
     ensures lifts { (named : Bool) (items : List Item) → Lowers items circuit.now → LiftsWith named items circuit.now lifter.entry []
         → LiftsForm result named items circuit.now choice form.now (S.to_come source.old) (K.written sink.old) (K.written sink.new) }
@@ -43,7 +46,46 @@ fn lift_witness<S: Source, K: Sink>(
     names_keep_the_verdict();
     let mut lifter = lifter;
     let over = take_form(alloc, circuit, form, choice, &mut lifter, source, sink)?;
-    Ok(told_of(over, lifter.finish()))
+    let (restored, firsts) = lifter.finish();
+    Ok((told_of(over, restored), firsts))
+}
+
+/// Lifts as `lift_form` does, and answers with the judgement the first frame in which the claimed bad property is 1, where
+/// names are asked for; without names it notes none.
+///
+/// Conditions: the circuit is a lowering of the model, and the form is its engine form.
+///
+/// Errors: those of `lift_form`.
+pub fn lift_form_with_rises<S: Source, K: Sink>(
+    alloc: Global,
+    model: &Model,
+    circuit: &Circuit,
+    form: &Circuit,
+    choice: Option<usize>,
+    named: bool,
+    source: &mut S,
+    sink: &mut K,
+) -> Result<(Judgement, FirstRises), RestoreFault>
+    requires lowers { Lowers model.now circuit.now }
+    requires is_form { IsEngineFormOf circuit.now choice form.now }
+    // the judgement is that of the text: over the form where it makes no claim or a line is faulty, else over the circuit
+    ensures judged { IfOk result (λ told. IfSome (S.to_come source.old) (λ text. FormJudges circuit.now choice form.now text told.0)) }
+    // and what stands beside it, with names, are the first rises of what the text is restored to
+    ensures rises { named ≡ true → IfOk result (λ told. IfSome (S.to_come source.old) (λ text. AreBitFirstRises circuit.now (form_restored_text circuit.now choice form.now text) told.1)) }
+    // what is judged of what is written over the model is the same verdict as over the circuit
+    ensures kept { IfOk result (λ told. IfSome (S.to_come source.old) (λ text. KeepsFormVerdict named model.now circuit.now choice form.now text told.0)) }
+    ensures written { OnOk result (IfSome (S.to_come source.old) (λ text. Appends (K.written sink.old) (K.written sink.new) (form_lifted_text named model.now circuit.now choice form.now text))) }
+    // what is accepted over the form is found again, over the circuit and over the model
+    ensures found { OnOk result (IfSome (S.to_come source.old) (FindsWitnessInModel named model.now circuit.now choice form.now)) }
+    // at a fault a beginning was written
+    ensures beginning { OnErr result (IfSome (S.to_come source.old) (λ text. AppendsBeginning (K.written sink.old) (K.written sink.new) (form_lifted_text named model.now circuit.now choice form.now text))) }
+    ensures apart { IfErr result (λ e. is_of_text e.why ≡ false × (e.line ≡ 0)) }
+    ensures end { OnOk result (IsAtEnd (S.to_come source.new)) }
+    // the source failed once where that is told, the sink where that is, and else neither
+    ensures counted { CountsRestore result (S.failures source.old) (S.failures source.new) (K.failures sink.old) (K.failures sink.new) }
+{
+    let lifter = Lifter::new(alloc, model, circuit, named)?;
+    lift_witness(alloc, circuit, form, choice, lifter, source, sink)
 }
 
 /// Reads a witness of the engine form of a circuit to its end, with all bad properties or the chosen one, and writes what it
@@ -83,6 +125,8 @@ pub fn lift_form<S: Source, K: Sink>(
     // the source failed once where that is told, the sink where that is, and else neither
     ensures counted { CountsRestore result (S.failures source.old) (S.failures source.new) (K.failures sink.old) (K.failures sink.new) }
 {
-    let lifter = Lifter::new(alloc, model, circuit, named)?;
-    lift_witness(alloc, circuit, form, choice, lifter, source, sink)
+    match lift_form_with_rises(alloc, model, circuit, form, choice, named, source, sink) {
+        Ok((judgement, _)) => Ok(judgement),
+        Err(fault) => Err(fault),
+    }
 }

@@ -12,7 +12,7 @@ mod lifting;
 mod pieces;
 mod taking;
 
-pub use engine_lifting::lift_restored;
+pub use engine_lifting::{lift_restored, lift_restored_with_rises};
 pub use fault::LiftFault;
-pub use form_lifting::lift_form;
-pub use lifting::{lift, lift_named};
+pub use form_lifting::{lift_form, lift_form_with_rises};
+pub use lifting::{lift, lift_named, lift_with_rises};

@@ -1,5 +1,5 @@
 //! A lifter of a witness that comes piece by piece.
-ghost use Rattle.std.specs.Prelude.{◌≡◌, ℕ, Bool, List, [], ◌∷◌, ◌++◌, IfOk, ◌≤◌, length};
+ghost use Rattle.std.specs.Prelude.{◌≡◌, ℕ, Bool, true, List, [], ◌∷◌, ◌++◌, IfOk, ◌≤◌, length};
 ghost use Rattle.base.specs.Device.{CountsFaults};
 ghost use Rattle.base.specs.Lines.{IsLine, text_of_lines};
 ghost use Rattle.base.specs.Pieces.{Puts};
@@ -7,18 +7,21 @@ ghost use Rattle.btor2.specs.declared.item.Item.{Item};
 ghost use Rattle.aiger.specs.Circuit.{Circuit};
 ghost use Rattle.witness.specs.BitJudgements.{BitJudges};
 ghost use Rattle.witness.specs.Texts.{shape_of, has_free};
+ghost use Rattle.rises.specs.FirstRises.{AreBitFirstRises};
 ghost use Rattle.lift.specs.Stands.{LiftsWith, Takes, admitted_piece};
 
 use crate::kept::KeptLine;
 use crate::pieces::{has_free, put_piece};
 use aiger::Circuit;
 use base::{DeviceFault, Outbox, Sink, next_line};
+use rises::{BitNoter, FirstRises};
 use std::alloc::{AllocError, Global};
 use std::marker::Model;
-use witness::BitJudge;
+use witness::Judgement;
 
 /// A lifter of witnesses of a circuit over the model that it was made of. It is fed a witness in pieces, and puts the piece
-/// of a line when the judge has admitted it. Beside the judge it holds the bits of one line and a few words.
+/// of a line when the judge has admitted it. Beside the judge it holds the bits of one line and a few words, and with names
+/// one frame for each bad property.
 #[derive(Drop)]
 pub(crate) struct Lifter<'a> {
     model: &'a btor2::Model,
@@ -26,7 +29,8 @@ pub(crate) struct Lifter<'a> {
     named: bool,
     // the model has a free state
     some_free: bool,
-    judge: BitJudge<'a>,
+    // judges the text, and with names notes when the claim is first reached
+    noter: BitNoter<'a>,
     // the bytes of the line that has not ended
     kept: KeptLine,
 }
@@ -38,7 +42,7 @@ impl<'a> Model for Lifter<'a> {
 
     ghost Value = { LifterValue };
 
-    ghost view = { λ l. record { items = l.model.now; named = l.named; some_free = l.some_free; judge = l.judge; kept = l.kept } };
+    ghost view = { λ l. record { items = l.model.now; named = l.named; some_free = l.some_free; noter = l.noter; kept = l.kept } };
 
     ghost invariant = { λ l. l.some_free ≡ has_free (shape_of l.model.now) };
 }
@@ -64,12 +68,12 @@ impl<'a> Lifter<'a> {
         ensures { IfOk result (λ l. LiftsWith named model.now circuit.now l []) }
     {
         let kept = KeptLine::new(alloc, most_bits(circuit))?;
-        match BitJudge::new(alloc, circuit) {
-            Ok(judge) => Ok(Lifter {
+        match BitNoter::new(alloc, circuit, named) {
+            Ok(noter) => Ok(Lifter {
                 model,
                 named,
                 some_free: has_free(model),
-                judge,
+                noter,
                 kept,
             }),
             Err(_) => Err(AllocError),
@@ -107,7 +111,7 @@ impl<'a> Lifter<'a> {
         ensures { (named : Bool) (items : List Item) (c : Circuit) (text : List ℕ) → IsLine bytes.now → LiftsWith named items c self.old text → LiftsWith named items c self.new (text ++ bytes.now) }
     {
         self.kept.take(bytes);
-        self.judge.feed(bytes);
+        self.noter.take_bytes(bytes);
     }
 
     /// Takes the rest of a line, which is given with its end and without.
@@ -124,9 +128,9 @@ impl<'a> Lifter<'a> {
         ensures failures { CountsFaults result (K.failures sink.old) (K.failures sink.new) }
     {
         self.kept.take(line);
-        let number = self.judge.admitted_lines();
-        self.judge.feed(whole);
-        let admitted = self.judge.admitted_lines() != number;
+        let number = self.noter.admitted_lines();
+        self.noter.take_line(whole);
+        let admitted = self.noter.admitted_lines() != number;
         let put = self.put_admitted(outbox, sink, admitted, number);
         self.kept.clear();
         put
@@ -152,10 +156,11 @@ impl<'a> Lifter<'a> {
         Ok(())
     }
 
-    /// The judgement of the text.
-    pub(crate) fn finish(self) -> witness::Judgement
-        ensures { (named : Bool) (items : List Item) (c : Circuit) (text : List ℕ) → LiftsWith named items c self.entry text → BitJudges c text result }
+    /// The judgement of the text, and with names its first rises.
+    pub(crate) fn finish(self) -> (Judgement, FirstRises)
+        ensures judged { (named : Bool) (items : List Item) (c : Circuit) (text : List ℕ) → LiftsWith named items c self.entry text → BitJudges c text result.0 }
+        ensures firsts { (named : Bool) (items : List Item) (c : Circuit) (text : List ℕ) → LiftsWith named items c self.entry text → named ≡ true → AreBitFirstRises c text result.1 }
     {
-        self.judge.finish()
+        self.noter.finish()
     }
 }

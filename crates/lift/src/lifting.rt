@@ -1,9 +1,10 @@
 //! Lifting whole sources.
-ghost use Rattle.std.specs.Prelude.{◌≡◌, IfErr, IfOk, IfSome, IsErrOf, OnErr, OnOk};
+ghost use Rattle.std.specs.Prelude.{◌≡◌, true, IfErr, IfOk, IfSome, IsErrOf, OnErr, OnOk};
 ghost use Rattle.std.specs.Io.KnownBytes.{Appends, IsAtEnd};
 ghost use Rattle.base.specs.Device.{AppendsBeginning, CountsFaults};
 ghost use Rattle.blast.specs.Lowering.{Lowers};
 ghost use Rattle.witness.specs.BitJudgements.{BitJudges};
+ghost use Rattle.rises.specs.FirstRises.{AreBitFirstRises};
 ghost use Rattle.lift.specs.Answers.{CountsLift};
 ghost use Rattle.lift.specs.Lifted.{lifted_text, lifted_with, named_text};
 ghost use Rattle.lift.specs.Stands.{Takes, LiftsAll};
@@ -15,6 +16,7 @@ use crate::lifter::Lifter;
 use aiger::Circuit;
 use base::{Outbox, Sink, Source};
 use btor2::Model;
+use rises::FirstRises;
 use std::alloc::Global;
 use witness::Judgement;
 
@@ -99,28 +101,38 @@ fn lift_through<S: Source, K: Sink>(
     }
 }
 
-/// Reads a witness of a circuit to its end, judges it over the circuit, and writes what it is lifted to, with names or
-/// without.
+/// Lifts as `lift_named` does where names are asked for, and answers with the judgement the first frame in which the claimed
+/// bad property is 1; without names it lifts as `lift` does, and notes no frame.
 ///
 /// Condition: the circuit is a lowering of the model.
 ///
 /// Errors: those of `lift`.
-fn lift_with<S: Source, K: Sink>(
+pub fn lift_with_rises<S: Source, K: Sink>(
     alloc: Global,
     model: &Model,
     circuit: &Circuit,
     named: bool,
     source: &mut S,
     sink: &mut K,
-) -> Result<Judgement, LiftFault>
-    ensures judged { IfOk result (λ judgement. IfSome (S.to_come source.old) (λ text. BitJudges circuit.now text judgement)) }
+) -> Result<(Judgement, FirstRises), LiftFault>
+    requires { Lowers model.now circuit.now }
+    // the judgement is that of the whole text over the circuit
+    ensures judged { IfOk result (λ told. IfSome (S.to_come source.old) (λ text. BitJudges circuit.now text told.0)) }
+    // and what stands beside it, with names, are the first rises of the text
+    ensures rises { named ≡ true → IfOk result (λ told. IfSome (S.to_come source.old) (λ text. AreBitFirstRises circuit.now text told.1)) }
+    // what is judged of what is written over the model is the same verdict
+    ensures kept { IfOk result (λ told. IfSome (S.to_come source.old) (λ text. KeepsVerdictIn model.now circuit.now text (lifted_with named model.now circuit.now text) told.0)) }
+    // what is written is the lifted text, with names or without, and after a fault a beginning of it
     ensures written { OnOk result (IfSome (S.to_come source.old) (λ text. Appends (K.written sink.old) (K.written sink.new) (lifted_with named model.now circuit.now text))) }
     ensures beginning { OnErr result (IfSome (S.to_come source.old) (λ text. AppendsBeginning (K.written sink.old) (K.written sink.new) (lifted_with named model.now circuit.now text))) }
     ensures unread { IsErrOf result LiftFault.NoMemory → source.new ≡ source.old }
     ensures unwritten { IsErrOf result LiftFault.NoMemory → sink.new ≡ sink.old }
     ensures end { OnOk result (IsAtEnd (S.to_come source.new)) }
+    // the source failed once where that is answered, the sink where that is, and else neither
     ensures counted { CountsLift result (S.failures source.old) (S.failures source.new) (K.failures sink.old) (K.failures sink.new) }
 {
+    lifting_keeps_the_verdict();
+    names_keep_the_verdict();
     let mut lifter = match Lifter::new(alloc, model, circuit, named) {
         Ok(lifter) => lifter,
         Err(_) => return Err(LiftFault::NoMemory),
@@ -161,8 +173,10 @@ pub fn lift<S: Source, K: Sink>(
     // the source failed once where that is answered, the sink where that is, and else neither
     ensures counted { CountsLift result (S.failures source.old) (S.failures source.new) (K.failures sink.old) (K.failures sink.new) }
 {
-    lifting_keeps_the_verdict();
-    lift_with(alloc, model, circuit, false, source, sink)
+    match lift_with_rises(alloc, model, circuit, false, source, sink) {
+        Ok((judgement, _)) => Ok(judgement),
+        Err(fault) => Err(fault),
+    }
 }
 
 /// Lifts as `lift` does, and writes names: behind the word of an input or a state with a symbol stands a space and
@@ -194,6 +208,8 @@ pub fn lift_named<S: Source, K: Sink>(
     // the source failed once where that is answered, the sink where that is, and else neither
     ensures counted { CountsLift result (S.failures source.old) (S.failures source.new) (K.failures sink.old) (K.failures sink.new) }
 {
-    names_keep_the_verdict();
-    lift_with(alloc, model, circuit, true, source, sink)
+    match lift_with_rises(alloc, model, circuit, true, source, sink) {
+        Ok((judgement, _)) => Ok(judgement),
+        Err(fault) => Err(fault),
+    }
 }

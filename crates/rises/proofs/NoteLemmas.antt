@@ -1,5 +1,5 @@
 -- What is noted of a text while it is judged, and of its beginnings.
-use Rattle.std.proofs.Common.{◌≡◌, ℕ, ◌+◌, ◌<◌, ◌≤◌, nat_eq, Bool, false, not, ◌&&◌, List, [], ◌∷◌, ◌++◌, Option, Some, None, option_map, length, length-append, append_assoc, take, slice_get, get_or, set, replicate, inl, inr, refl, sym, ap, ap₂, subst, ◌∙◌, arith}
+use Rattle.std.proofs.Common.{◌≡◌, ℕ, ◌+◌, ◌<◌, ◌≤◌, nat_eq, Bool, true, false, not, ◌&&◌, List, [], ◌∷◌, ◌++◌, Option, Some, None, option_map, length, length-append, append_assoc, take, slice_get, get_or, set, replicate, inl, inr, refl, sym, ap, ap₂, subst, ◌∙◌, arith}
 use Rattle.std.specs.List.{list_any}
 use Rattle.std.specs.Option.{option_map_or}
 use Rattle.std.proofs.Math.Seq.{take-append_seam}
@@ -134,30 +134,30 @@ unfolding reading
 no_bits_yet c [] t = refl
 no_bits_yet c (v ∷ vs) t = absurd t
 
-pub bits_none : (c : Circuit) (n : BitNoter) (count : ℕ) → count ≡ length c.bads → StandsForBits c n.judge [] → n.firsts ≡ replicate count None → NotesBits c n []
-bits_none c n count many stands is =
+pub bits_none : (noted : Bool) (c : Circuit) (n : BitNoter) (count : ℕ) → (noted ≡ true → count ≡ length c.bads) → StandsForBits c n.judge [] → n.firsts ≡ replicate count None → NotesBits noted c n []
+bits_none noted c n count many stands is =
     record {
       judge = stands;
-      firsts = λ vs t.
+      firsts = λ on vs t.
           is
-          ∙ (ap (λ (m : ℕ). replicate m None) many
+          ∙ (ap (λ (m : ℕ). replicate m None) (many on)
           ∙ (none_risen literal_is_one (bit_claimed c []) 0 c.bads ∙ ap (λ (ws : List Valuation). bit_first_rises c [] ws) (sym (no_bits_yet c vs t))));
     }
 
-pub bits_of_part : (c : Circuit) (text bytes : List ℕ) (before after : BitNoter) → IsLine bytes → NotesBits c before text → StandsForBits c after.judge (text ++ bytes) → after.firsts ≡ before.firsts → NotesBits c after (text ++ bytes)
-bits_of_part c text bytes before after line h stands same =
+pub bits_of_part : (noted : Bool) (c : Circuit) (text bytes : List ℕ) (before after : BitNoter) → IsLine bytes → NotesBits noted c before text → StandsForBits c after.judge (text ++ bytes) → after.firsts ≡ before.firsts → NotesBits noted c after (text ++ bytes)
+bits_of_part noted c text bytes before after line h stands same =
     let said : bits_said_in c (text ++ bytes) ≡ bits_said_in c text = bits_part c text bytes line in
     record {
       judge = stands;
-      firsts = λ vs t.
+      firsts = λ on vs t.
           let was : IsClosedBitTrace c text vs = subst (λ (r : BitRead). IsBitTrace c r.initial r.frames vs) said t in
-          same ∙ (h.firsts vs was ∙ ap (λ (r : BitRead). first_rises_from literal_is_one (λ k. nat_eq r.claim k) vs 0 c.bads) (sym said));
+          same ∙ (h.firsts on vs was ∙ ap (λ (r : BitRead). first_rises_from literal_is_one (λ k. nat_eq r.claim k) vs 0 c.bads) (sym said));
     }
 
 bit_reached_by : (c : Circuit) (text : List ℕ) (vs : List Valuation) (k a : ℕ) → slice_get c.bads k ≡ Some a → bit_reached c text vs k ≡ (bit_claimed c text k && list_any (literal_is_one a) vs)
 bit_reached_by c text vs k a e = ap (λ (l : ℕ). bit_claimed c text k && list_any (literal_is_one l) vs) (get_or_from_slice_get c.bads k a 0 e)
 
-module _ (c : Circuit) (text line : List ℕ) (before after : BitNoter) (one_line : IsLine line) (h : NotesBits c before text) (stands : StandsForBits c after.judge (text ++ (line ++ 10 ∷ []))) (number now : ℕ)
+module _ (noted : Bool) (c : Circuit) (text line : List ℕ) (before after : BitNoter) (one_line : IsLine line) (h : NotesBits noted c before text) (stands : StandsForBits c after.judge (text ++ (line ++ 10 ∷ []))) (number now : ℕ)
     (n : number ≡ closed_frames c text) (m : now ≡ closed_frames c (text ++ (line ++ 10 ∷ []))) where
   abbrev all : List ℕ
   all = text ++ (line ++ 10 ∷ [])
@@ -165,20 +165,20 @@ module _ (c : Circuit) (text line : List ℕ) (before after : BitNoter) (one_lin
   abbrev BitGrowth : List Valuation → Type 0
   BitGrowth vs = Grows (IsClosedBitTrace c text) (bit_claimed c text) (bit_claimed c all) (closed_frames c text) (closed_frames c all) vs
 
-  pub bits_same : now ≡ number → after.firsts ≡ before.firsts → NotesBits c after all
-  bits_same e same = record { judge = stands; firsts = λ vs t. by vs (bits_grow c text line vs one_line t) }
+  pub bits_same : now ≡ number → after.firsts ≡ before.firsts → NotesBits noted c after all
+  bits_same e same = record { judge = stands; firsts = λ on vs t. by on vs (bits_grow c text line vs one_line t) }
     where
-      by : (vs : List Valuation) → BitGrowth vs → after.firsts ≡ bit_first_rises c all vs
-      by vs (Same _ trace alike) = same ∙ (h.firsts vs trace ∙ alike_rises literal_is_one (bit_claimed c text) (bit_claimed c all) vs c.bads alike)
-      by vs (More front v is grown many trace alike) = absurd (omega (arith, e, n, m, grown))
+      by : noted ≡ true → (vs : List Valuation) → BitGrowth vs → after.firsts ≡ bit_first_rises c all vs
+      by on vs (Same _ trace alike) = same ∙ (h.firsts on vs trace ∙ alike_rises literal_is_one (bit_claimed c text) (bit_claimed c all) vs c.bads alike)
+      by on vs (More front v is grown many trace alike) = absurd (omega (arith, e, n, m, grown))
 
-  pub bits_more : (now ≡ number → ⊥) → ((vs : List Valuation) → IsClosedBitTrace c all vs → IsNoted (bit_reached c all vs) number before.firsts after.firsts) → NotesBits c after all
-  bits_more ne notes = record { judge = stands; firsts = λ vs t. by vs t (bits_grow c text line vs one_line t) }
+  pub bits_more : (now ≡ number → ⊥) → ((vs : List Valuation) → IsClosedBitTrace c all vs → IsNoted (bit_reached c all vs) number before.firsts after.firsts) → NotesBits noted c after all
+  bits_more ne notes = record { judge = stands; firsts = λ on vs t. by on vs t (bits_grow c text line vs one_line t) }
     where
-      by : (vs : List Valuation) → IsClosedBitTrace c all vs → BitGrowth vs → after.firsts ≡ bit_first_rises c all vs
-      by vs t (Same same trace alike) = absurd (ne (m ∙ (same ∙ sym n)))
-      by vs t (More front v is grown many trace alike) =
-          let was : before.firsts ≡ first_rises_from literal_is_one (bit_claimed c all) front 0 c.bads = h.firsts front trace ∙ alike_rises literal_is_one (bit_claimed c text) (bit_claimed c all) front c.bads alike in
+      by : noted ≡ true → (vs : List Valuation) → IsClosedBitTrace c all vs → BitGrowth vs → after.firsts ≡ bit_first_rises c all vs
+      by on vs t (Same same trace alike) = absurd (ne (m ∙ (same ∙ sym n)))
+      by on vs t (More front v is grown many trace alike) =
+          let was : before.firsts ≡ first_rises_from literal_is_one (bit_claimed c all) front 0 c.bads = h.firsts on front trace ∙ alike_rises literal_is_one (bit_claimed c text) (bit_claimed c all) front c.bads alike in
           noted_rises literal_is_one (bit_claimed c all) front v c.bads (bit_reached c all vs) number before.firsts after.firsts (n ∙ sym many) was
           (λ k a e. bit_reached_by c all vs k a e ∙ ap (λ (l : List Valuation). bit_claimed c all k && list_any (literal_is_one a) l) is) (notes vs t)
           ∙ ap (λ (l : List Valuation). bit_first_rises c all l) (sym is)

@@ -3,13 +3,11 @@ use Rattle.std.specs.Prelude.{◌≡◌, ℕ, Bool, true, false, List, ◌∷◌
 use Rattle.base.specs.Lines.{IsLine}
 use Rattle.btor2.specs.declared.item.Item.{Item}
 use Rattle.btor2.specs.Trace.{Frame}
-use Rattle.aiger.specs.Literal.{Valuation}
 use Rattle.aiger.specs.Circuit.{Circuit}
 use Rattle.witness.specs.ClosedWords.{IsClosedTrace}
 use Rattle.witness.specs.WordStands.{StandsFor}
-use Rattle.witness.specs.Reached.{IsClosedBitTrace}
 use Rattle.witness.specs.BitStands.{StandsFor as StandsForBits}
-use Rattle.rises.specs.FirstRises.{word_first_rises, bit_first_rises}
+use Rattle.rises.specs.FirstRises.{word_first_rises, AreBitFirstRises}
 use Rattle.rises.specs.declared.word_noter.WordNoter.{WordNoter}
 use Rattle.rises.specs.declared.bit_noter.BitNoter.{BitNoter}
 
@@ -34,7 +32,7 @@ pub record NotesWords (items : List Item) (n : WordNoter) (text : List ℕ) : Ty
   pub judge : StandsFor items n.judge text
   pub firsts : (fs : List Frame) → IsClosedTrace items text fs → n.firsts ≡ word_first_rises items text fs
 
--- the same over a circuit
-pub record NotesBits (c : Circuit) (n : BitNoter) (text : List ℕ) : Type 0 where
+-- the same over a circuit, where notes are taken; and where none are, the judge stands for it
+pub record NotesBits (noted : Bool) (c : Circuit) (n : BitNoter) (text : List ℕ) : Type 0 where
   pub judge : StandsForBits c n.judge text
-  pub firsts : (vs : List Valuation) → IsClosedBitTrace c text vs → n.firsts ≡ bit_first_rises c text vs
+  pub firsts : noted ≡ true → AreBitFirstRises c text n.firsts

@@ -1,12 +1,13 @@
 //! A judge of witnesses over a circuit that notes when claims are first reached.
-ghost use Rattle.std.specs.Prelude.{◌≡◌, ℕ, List, [], ◌++◌, MatchResult};
+ghost use Rattle.std.specs.Prelude.{◌≡◌, ℕ, Bool, true, List, [], ◌++◌, MatchResult, if◌then◌else◌, length};
 ghost use Rattle.base.specs.Lines.{IsLine};
 ghost use Rattle.aiger.specs.Literal.{Valuation};
 ghost use Rattle.aiger.specs.Circuit.{Circuit};
+ghost use Rattle.witness.specs.BitAdmits.{admitted_lines};
 ghost use Rattle.witness.specs.BitJudgements.{BitJudges};
 ghost use Rattle.witness.specs.Reached.{IsClosedBitTrace, bit_reached};
 ghost use Rattle.witness.specs.BitStands.{StandsFor};
-ghost use Rattle.rises.specs.FirstRises.{bit_first_rises};
+ghost use Rattle.rises.specs.FirstRises.{AreBitFirstRises};
 ghost use Rattle.rises.specs.Notes.{EndsLine, IsNoted, NotesBits};
 
 use crate::first_rises::FirstRises;
@@ -16,10 +17,12 @@ use runs::NewFault;
 use std::alloc::Global;
 use witness::{BitJudge, Judgement};
 
-/// A judge of witnesses over a circuit, and what is noted of the text so far. Beside what the judge holds it keeps one frame
-/// for each bad property.
+/// A judge of witnesses over a circuit, which notes of the text so far in which frame the claim is first reached, where notes
+/// are asked for. Beside what the judge holds it keeps one frame for each bad property then, and else none.
+///
+/// A caller feeds it pieces, or cuts the text itself, into bytes that end no line and the rests of lines with their ends.
 #[derive(Drop)]
-pub(crate) struct BitNoter<'a> {
+pub struct BitNoter<'a> {
     judge: BitJudge<'a>,
     firsts: FirstRises,
 }
@@ -33,31 +36,40 @@ fn note(judge: &BitJudge<'_>, firsts: &mut FirstRises, frame: u64)
     }
 }
 
+/// Of how many bad properties notes are taken: of all of a circuit, or of none.
+fn noted_count(circuit: &Circuit, noted: bool) -> usize
+    ensures { result ≡ if noted then length circuit.now.bads else 0 }
+{
+    if noted { circuit.bads().len() } else { 0 }
+}
+
 impl<'a> BitNoter<'a> {
-    /// Of the empty text.
+    /// Of the empty text, with notes or without.
     ///
     /// Error: `NoMemory`.
-    pub(crate) fn new(alloc: Global, circuit: &'a Circuit) -> Result<BitNoter<'a>, NewFault>
-        ensures { MatchResult result (λ n. NotesBits circuit.now n []) (λ fault. fault ≡ NewFault.NoMemory) }
+    pub fn new(alloc: Global, circuit: &'a Circuit, noted: bool) -> Result<BitNoter<'a>, NewFault>
+        ensures { MatchResult result (λ n. NotesBits noted circuit.now n []) (λ fault. fault ≡ NewFault.NoMemory) }
     {
         let judge = BitJudge::new(alloc, circuit)?;
-        match FirstRises::new(alloc, circuit.bads().len()) {
+        match FirstRises::new(alloc, noted_count(circuit, noted)) {
             Ok(firsts) => Ok(BitNoter { judge, firsts }),
             Err(_) => Err(NewFault::NoMemory),
         }
     }
 
     /// Takes bytes that end no line.
-    fn take_bytes(&mut self, bytes: &[u8])
-        ensures { (c : Circuit) (text : List ℕ) → IsLine bytes.now → NotesBits c self.old text → NotesBits c self.new (text ++ bytes.now) }
+    pub fn take_bytes(&mut self, bytes: &[u8])
+        ensures { (noted : Bool) (c : Circuit) (text : List ℕ) → IsLine bytes.now → NotesBits noted c self.old text → NotesBits noted c self.new (text ++ bytes.now) }
     {
         self.judge.feed(bytes);
     }
 
     /// Takes the rest of a line with its end, and notes the frame that it closes.
-    fn take_line(&mut self, bytes: &[u8])
+    ///
+    /// Condition: there is no end of a line but the last byte.
+    pub fn take_line(&mut self, bytes: &[u8])
         requires { EndsLine bytes.now }
-        ensures { (c : Circuit) (text : List ℕ) → NotesBits c self.old text → NotesBits c self.new (text ++ bytes.now) }
+        ensures { (noted : Bool) (c : Circuit) (text : List ℕ) → NotesBits noted c self.old text → NotesBits noted c self.new (text ++ bytes.now) }
     {
         let closed = self.judge.closed_frames();
         self.judge.feed(bytes);
@@ -68,8 +80,8 @@ impl<'a> BitNoter<'a> {
     }
 
     /// Takes a piece of the text behind those before.
-    pub(crate) fn feed(&mut self, bytes: &[u8])
-        ensures { (c : Circuit) (text : List ℕ) → NotesBits c self.old text → NotesBits c self.new (text ++ bytes.now) }
+    pub fn feed(&mut self, bytes: &[u8])
+        ensures { (noted : Bool) (c : Circuit) (text : List ℕ) → NotesBits noted c self.old text → NotesBits noted c self.new (text ++ bytes.now) }
     {
         let mut rest = bytes;
         while let Some((line, behind)) = next_line(rest) {
@@ -80,10 +92,17 @@ impl<'a> BitNoter<'a> {
         self.take_bytes(rest);
     }
 
+    /// How many whole lines stand before the first faulty line.
+    pub fn admitted_lines(&self) -> u64
+        ensures { (noted : Bool) (c : Circuit) (text : List ℕ) → NotesBits noted c self.now text → result ≡ admitted_lines c text }
+    {
+        self.judge.admitted_lines()
+    }
+
     /// The judgement of the text, and what was noted of it.
-    pub(crate) fn finish(self) -> (Judgement, FirstRises)
-        ensures judged { (c : Circuit) (text : List ℕ) → NotesBits c self.entry text → BitJudges c text result.0 }
-        ensures firsts { (c : Circuit) (text : List ℕ) (vs : List Valuation) → NotesBits c self.entry text → IsClosedBitTrace c text vs → result.1 ≡ bit_first_rises c text vs }
+    pub fn finish(self) -> (Judgement, FirstRises)
+        ensures judged { (noted : Bool) (c : Circuit) (text : List ℕ) → NotesBits noted c self.entry text → BitJudges c text result.0 }
+        ensures firsts { (noted : Bool) (c : Circuit) (text : List ℕ) → NotesBits noted c self.entry text → noted ≡ true → AreBitFirstRises c text result.1 }
     {
         let BitNoter { judge, firsts } = self;
         (judge.finish(), firsts)

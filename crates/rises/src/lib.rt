@@ -7,5 +7,6 @@ pub mod laws;
 mod noting;
 mod word_noter;
 
+pub use bit_noter::BitNoter;
 pub use first_rises::FirstRises;
 pub use noting::{judge_bits_with_rises, judge_words_with_rises};

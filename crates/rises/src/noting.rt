@@ -1,19 +1,17 @@
 //! Judging whole sources over a model, and over a circuit, with the frames in which claims are first reached.
-ghost use Rattle.std.specs.Prelude.{◌≡◌, ℕ, List, [], ◌++◌, IfErr, IfOk, IfSome, IsErrOf, OnOk};
+ghost use Rattle.std.specs.Prelude.{◌≡◌, ℕ, true, List, [], ◌++◌, IfErr, IfOk, IfSome, IsErrOf, OnOk};
 ghost use Rattle.std.specs.Io.KnownBytes.{IsAtEnd};
 ghost use Rattle.base.specs.Device.{CountsFaults};
 ghost use Rattle.btor2.specs.declared.item.Item.{Item};
 ghost use Rattle.btor2.specs.Check.{IsWellFormed};
 ghost use Rattle.btor2.specs.Lists.{first_init_without_next};
 ghost use Rattle.btor2.specs.Trace.{Frame};
-ghost use Rattle.aiger.specs.Literal.{Valuation};
 ghost use Rattle.aiger.specs.Circuit.{Circuit};
 ghost use Rattle.witness.specs.Answers.{AnswersJudge, CountsJudge, NamesState};
 ghost use Rattle.witness.specs.Judgements.{Judges};
 ghost use Rattle.witness.specs.ClosedWords.{IsClosedTrace};
 ghost use Rattle.witness.specs.BitJudgements.{BitJudges};
-ghost use Rattle.witness.specs.Reached.{IsClosedBitTrace};
-ghost use Rattle.rises.specs.FirstRises.{word_first_rises, bit_first_rises};
+ghost use Rattle.rises.specs.FirstRises.{word_first_rises, AreBitFirstRises};
 ghost use Rattle.rises.specs.Notes.{NotesWords, NotesBits};
 
 use crate::bit_noter::BitNoter;
@@ -39,10 +37,9 @@ fn feed_words<S: Source>(noter: &mut WordNoter<'_>, source: &mut S) -> Result<()
 {
     let mut chunk = [0u8; CHUNK];
     loop {
-        match source.read(&mut chunk) {
-            Ok(0) => return Ok(()),
-            Ok(count) => noter.feed(&chunk[..count]),
-            Err(fault) => return Err(fault),
+        match source.read(&mut chunk)? {
+            0 => return Ok(()),
+            count => noter.feed(&chunk[..count]),
         }
     }
 }
@@ -89,16 +86,15 @@ pub fn judge_words_with_rises<S: Source>(
 ///
 /// Error: the source's own, once.
 fn feed_bits<S: Source>(noter: &mut BitNoter<'_>, source: &mut S) -> Result<(), DeviceFault>
-    ensures fed { OnOk result ((c : Circuit) (text : List ℕ) → NotesBits c noter.old text → IfSome (S.to_come source.old) (λ all. NotesBits c noter.new (text ++ all))) }
+    ensures fed { OnOk result ((c : Circuit) (text : List ℕ) → NotesBits true c noter.old text → IfSome (S.to_come source.old) (λ all. NotesBits true c noter.new (text ++ all))) }
     ensures end { OnOk result (IsAtEnd (S.to_come source.new)) }
     ensures counted { CountsFaults result (S.failures source.old) (S.failures source.new) }
 {
     let mut chunk = [0u8; CHUNK];
     loop {
-        match source.read(&mut chunk) {
-            Ok(0) => return Ok(()),
-            Ok(count) => noter.feed(&chunk[..count]),
-            Err(fault) => return Err(fault),
+        match source.read(&mut chunk)? {
+            0 => return Ok(()),
+            count => noter.feed(&chunk[..count]),
         }
     }
 }
@@ -118,14 +114,14 @@ pub fn judge_bits_with_rises<S: Source>(
     // the judgement is that of the whole text
     ensures judged { IfOk result (λ told. IfSome (S.to_come source.old) (λ text. BitJudges circuit.now text told.0)) }
     // and what stands beside it are the first rises of the text's claim
-    ensures rises { IfOk result (λ told. IfSome (S.to_come source.old) (λ text. (vs : List Valuation) → IsClosedBitTrace circuit.now text vs → told.1 ≡ bit_first_rises circuit.now text vs)) }
+    ensures rises { IfOk result (λ told. IfSome (S.to_come source.old) (λ text. AreBitFirstRises circuit.now text told.1)) }
     ensures no_state { IfErr result (λ e. NamesState e → ⊥) }
     ensures unread { IsErrOf result JudgeFault.NoMemory → source.new ≡ source.old }
     ensures end { OnOk result (IsAtEnd (S.to_come source.new)) }
     // the source failed once where a device's fault is answered, and else not at all
     ensures counted { CountsJudge result (S.failures source.old) (S.failures source.new) }
 {
-    let mut noter = match BitNoter::new(alloc, circuit) {
+    let mut noter = match BitNoter::new(alloc, circuit, true) {
         Ok(noter) => noter,
         Err(_) => return Err(JudgeFault::NoMemory),
     };

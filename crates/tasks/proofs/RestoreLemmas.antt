@@ -1,5 +1,5 @@
 -- What a restoring answers, and what a command has done that tells it.
-use Rattle.std.proofs.Common.{false, ◌≡◌, ℕ, subst, List, [], Option, Some, None, IfSome, Result, Ok, Err, IfOk, IfErr, OnOk, true, sym, ◌∙◌}
+use Rattle.std.proofs.Common.{false, ◌≡◌, ℕ, inl, subst, List, [], Option, Some, None, IfSome, Result, Ok, Err, IfOk, IfErr, OnOk, true, sym, ◌∙◌}
 use Rattle.std.specs.Io.KnownBytes.{Appends}
 use Rattle.std.proofs.lemmas.List.{append-nil}
 use Rattle.aiger.specs.Circuit.{Circuit, IsCircuit}
@@ -15,7 +15,7 @@ use Rattle.restore.specs.FormWitness.{form_restored_text, FormJudges, FindsWitne
 use Rattle.restore.specs.Restored.{restored_text}
 use Rattle.tasks.specs.declared.answers.Answer.{Answer}
 use Rattle.tasks.specs.declared.refusals.Refusal.{Refusal}
-use Rattle.tasks.specs.Done.{IsCircuitText, IsClaim, Restores, TellsRestored, Judged, IsFormRestored, judgement_line}
+use Rattle.tasks.specs.Done.{IsCircuitText, IsClaim, IsSo, Restores, TellsRestored, Judged, IsFormRestored, judgement_line}
 use Rattle.tasks.specs.Restoring.{IsAnswerOf, IsWhole, TellsVerdict}
 
 -- what is known of an answer by its clauses
@@ -27,6 +27,16 @@ pub answer_of : (r : Result Judgement RestoreFault) (c : Circuit) (claim : ℕ) 
     → IsAnswerOf c claim found r
 answer_of (Ok j) c claim found judged again right first = (right, (judged, again))
 answer_of (Err e) c claim found judged again right first = first
+
+-- a judgement that was told is that of what was restored
+pub tells_restored : (r : Result Answer Refusal) (j : Judgement) (c : Circuit) (claim : ℕ) (found told told' : Option (List ℕ)) → IsAnswerOf c claim found (Ok j) → OnOk r (Appends told told' (judgement_line j)) → IfOk r (λ a. IsSo a j)
+    → IfOk r (λ a. TellsRestored (λ verdict. []) a c claim found told told')
+tells_restored (Ok a) j c claim found told told' is line so = inl (record {
+  verdict = j;
+  is_judged = record { right = is.0; judged = is.1.0; again = is.1.1; line = subst (Appends told told') (sym (append-nil (judgement_line j))) line };
+  so = so;
+})
+tells_restored (Err e) j c claim found told told' is line so = tt
 
 -- where all that the counterexample gives was written, this was
 pub written_of : (r : Result Judgement RestoreFault) (W : Type 0) → OnOk r W → IfErr r (λ e. is_of_text e.why ≡ true → W) → IsWhole r → W
@@ -47,10 +57,10 @@ restored (Err e) told_by known found before now told told' choice c claim valid 
 -- a command that told what is judged of a witness of the form
 pub form_restored : (r : Result Answer Refusal) (told_by : Result Judgement RestoreFault) (known found before now told told' : Option (List ℕ)) (choice : Option ℕ) (c d : Circuit)
     → IsCircuitText known c → IsEngineFormOf c choice d → OnOk told_by (IfSome found (λ text. Appends before now (form_restored_text c choice d text))) → IfOk told_by (λ j. IfSome found (λ text. FormJudges c choice d text j)) → OnOk told_by (IfSome found (FindsWitnessAgain c choice d))
-    → IfErr told_by (λ e. is_of_text e.why ≡ false × (e.line ≡ 0)) → IfOk r (λ a. TellsVerdict (λ verdict. []) told_by a told told') → IfOk r (Judged (IsFormRestored choice known found before now told told'))
+    → IfErr told_by (λ e. is_of_text e.why ≡ false × (e.line ≡ 0)) → IfOk r (λ a. TellsVerdict told_by a told told') → IfOk r (Judged (IsFormRestored choice known found before now told told'))
 form_restored (Ok a) (Ok j) known found before now told told' choice c d text form restored judged again apart tells = record {
   verdict = j;
-  is_judged = record { value = c; form = d; text = text; is_form = form; restored = restored; judged = judged; again = again; line = subst (Appends told told') (append-nil (judgement_line j)) tells.1 };
+  is_judged = record { value = c; form = d; text = text; is_form = form; restored = restored; judged = judged; again = again; line = tells.1 };
   so = tells.0;
 }
 form_restored (Ok a) (Err e) known found before now told told' choice c d text form restored judged again apart tells = let h : true ≡ false = sym tells ∙ apart.0 in absurd (cc)

@@ -8,14 +8,12 @@ use Rattle.btor2.specs.Check.{IsWellFormed}
 use Rattle.btor2.specs.Lists.{places, of_kind, first_init_without_next}
 use Rattle.btor2.specs.Trace.{Frame}
 use Rattle.btor2.proofs.LeafLemmas.{item_behind}
-use Rattle.aiger.specs.Literal.{Valuation}
 use Rattle.aiger.specs.Circuit.{Circuit, IsCircuit}
 use Rattle.witness.specs.declared.judgement.Judgement.{Judgement}
 use Rattle.witness.specs.Judgements.{Judges}
 use Rattle.witness.specs.BitJudgements.{BitJudges}
 use Rattle.witness.specs.ClosedWords.{IsClosedTrace}
-use Rattle.witness.specs.Reached.{IsClosedBitTrace}
-use Rattle.rises.specs.FirstRises.{word_first_rises, bit_first_rises}
+use Rattle.rises.specs.FirstRises.{word_first_rises, AreBitFirstRises}
 use Rattle.tasks.specs.declared.answers.Answer.{Answer}
 use Rattle.tasks.specs.declared.refusals.Refusal.{Refusal}
 use Rattle.reached.specs.Accepted.{Reaches, ReachesInCircuit}
@@ -161,7 +159,7 @@ judged_over (Err e) known witness before now c verdict text valid is reaches lin
 
 pub judged_over_by_name : (r : Result Answer Refusal) (known witness before now told told' : Option (List ℕ)) (c : Circuit) (verdict : Judgement) (firsts : List (Option ℕ))
     → IsCircuitText known c → IsCircuit c → IfSome witness (λ text. BitJudges c text verdict) → ((text : List ℕ) → BitJudges c text verdict → ReachesInCircuit c text verdict)
-    → IfSome witness (λ text. (vs : List Valuation) → IsClosedBitTrace c text vs → firsts ≡ bit_first_rises c text vs)
+    → IfSome witness (λ text. AreBitFirstRises c text firsts)
     → OnOk r (Appends before now (judgement_line verdict)) → OnOk r (Appends told told' (said_by_name (name_said c) (bad_name_said c) firsts verdict)) → IfOk r (λ a. IsSo a verdict)
     → IfOk r (Judged (IsJudgedOverByName known witness before now told told'))
 judged_over_by_name (Ok a) known witness before now told told' c verdict firsts text valid is reaches rises line subject so = record {

@@ -30,9 +30,7 @@ use Rattle.reached.specs.Accepted.{Reaches, ReachesInCircuit}
 use Rattle.blast.specs.Lowering.{Lowers}
 use Rattle.btor2.specs.Trace.{Frame}
 use Rattle.witness.specs.ClosedWords.{IsClosedTrace}
-use Rattle.witness.specs.Reached.{IsClosedBitTrace}
-use Rattle.rises.specs.FirstRises.{word_first_rises, bit_first_rises}
-use Rattle.aiger.specs.Literal.{Valuation}
+use Rattle.rises.specs.FirstRises.{word_first_rises, AreBitFirstRises}
 use Rattle.wave.specs.Dumps.{vcd_text}
 use Rattle.wave.specs.declared.scope.Shown.{Shown}
 use Rattle.witness.specs.Printed.{judgement_text}
@@ -249,5 +247,5 @@ pub record IsJudgedByName (model witness before now told told' : Option (List �
 pub record IsJudgedOverByName (circuit witness before now told told' : Option (List ℕ)) (verdict : Judgement) : Type 0 where
   pub judged : IsJudgedOver circuit witness before now verdict
   pub firsts : List (Option ℕ)
-  pub rises : IfSome witness (λ text. (vs : List Valuation) → IsClosedBitTrace judged.value text vs → firsts ≡ bit_first_rises judged.value text vs)
+  pub rises : IfSome witness (λ text. AreBitFirstRises judged.value text firsts)
   pub subject : Appends told told' (said_by_name (name_said judged.value) (bad_name_said judged.value) firsts verdict)

@@ -11,7 +11,6 @@ use crate::answers::Answer;
 use crate::circuits::read_circuit;
 use crate::refusals::Refusal;
 use crate::restoring::tell_restored;
-use crate::subjects::Subject;
 use aiger::Circuit;
 use base::{Sink, Source};
 use engine::engine_form;
@@ -60,5 +59,5 @@ fn restore_through_form<B: Source, O: Sink, E: Sink>(
     ensures counted { (f : ℕ) → Counts result f f (B.failures second.old) (B.failures second.new) (O.failures out.old) (O.failures out.new) (E.failures err.old) (E.failures err.new) }
 {
     let told = restore_form(alloc, circuit, form, choice, second, out);
-    tell_restored(alloc, told, false, Subject::Circuit(circuit), err)
+    tell_restored(alloc, told, err)
 }

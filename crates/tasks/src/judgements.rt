@@ -9,7 +9,7 @@ ghost use Rattle.tasks.specs.Subjects.{bad_said, said_by_name, subject_said, whe
 
 use crate::answers::Answer;
 use crate::refusals::{Device, Refusal};
-use crate::subjects::{Subject, tell_by_name, tell_subject};
+use crate::subjects::{Subject, tell_by_name, tell_where_named};
 use crate::telling::write_result;
 use base::{Sink, write_all};
 use rises::FirstRises;
@@ -82,23 +82,24 @@ pub fn tell_line<E: Sink>(
     }
 }
 
-/// Writes the line of a judgement to standard error, with names behind it what it is about, and answers whether the witness is
-/// accepted.
+/// Writes the line of a judgement to standard error, with names behind it what it is about, and of an acceptance in which
+/// frames the claims are reached first; and answers whether the witness is accepted.
 pub fn tell_judgement<E: Sink>(
     alloc: Global,
     named: bool,
     subject: Subject<'_>,
     judgement: &Judgement,
+    firsts: &FirstRises,
     err: &mut E,
 ) -> Result<Answer, Refusal>
-    ensures written { OnOk result (Appends (E.written err.old) (E.written err.new) (judgement_line judgement.now ++ where_named named (subject_said subject.entry judgement.now))) }
+    ensures written { OnOk result (Appends (E.written err.old) (E.written err.new) (judgement_line judgement.now ++ where_named named (said_by_name (subject_said subject.entry) (bad_said subject.entry) firsts.now judgement.now))) }
     ensures so { IfOk result (λ answer. IsSo answer judgement.now) }
     ensures no_input { IsOfNoInput result }
     ensures untold { ErrUntold result (err.new ≡ err.old) }
     ensures counted { (f s o : ℕ) → Counts result f f s s o o (E.failures err.old) (E.failures err.new) }
 {
     let answer = tell_line(alloc, judgement, err)?;
-    match tell_subject(named, subject, judgement, err) {
+    match tell_where_named(named, subject, judgement, firsts, err) {
         Ok(()) => Ok(answer),
         Err(_) => Err(Refusal::Failed(Device::Error)),
     }

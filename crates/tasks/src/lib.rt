@@ -32,7 +32,7 @@ pub use models::{check_model, check_model_by_name, lower_model, read_model, show
 pub use outputs::{convert_outputs, convert_outputs_for_engines};
 pub use progress::{Counted, Progress, Watched, Work};
 pub use refusals::{Claimed, Device, Fault, Refusal};
-pub use restoring::{claim_of, has_form, restore_counterexample, tell_restored};
+pub use restoring::{claim_of, has_form, restore_counterexample, tell_lifted};
 pub use subjects::Subject;
 pub use telling::{end, tell, tell_no_memory, tell_output};
 pub use tidying::tidy_witness;

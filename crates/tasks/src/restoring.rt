@@ -1,6 +1,6 @@
 //! The command that restores counterexamples over engine forms.
 
-ghost use Rattle.std.specs.Prelude.{◌≡◌, ◌≢◌, ◌<◌, ℕ, List, None, Option, Some, IfOk, IfErr, OnOk, length};
+ghost use Rattle.std.specs.Prelude.{◌≡◌, ◌≢◌, ◌<◌, ℕ, true, List, [], None, Option, Some, IfOk, IfErr, OnOk, length};
 ghost use Rattle.std.specs.Io.KnownBytes.{Appends};
 ghost use Rattle.std.specs.String.{string_bytes};
 ghost use Rattle.engine.specs.Refusal.{engine_refusal};
@@ -8,23 +8,25 @@ ghost use Rattle.tasks.specs.declared.answers.Answer.TheVariants as answer_is;
 ghost use Rattle.orders.specs.declared.tasks.Given.TheVariants as given_is;
 ghost use Rattle.tasks.specs.declared.refusals.Refusal.TheVariants as refusal;
 ghost use Rattle.tasks.specs.declared.refusals.Fault.TheVariants as fault_is;
-ghost use Rattle.restore.specs.Answers.{CountsRestore};
+ghost use Rattle.restore.specs.Answers.{CountsRestore, CountsWhy};
+ghost use Rattle.restore.specs.Faults.{is_of_text};
 ghost use Rattle.tasks.specs.Done.{IsCircuitText, IsClaim, Restores, TellsRestored, malformed_line};
-ghost use Rattle.tasks.specs.Restoring.{IsAnswerOf, IsWhole, TellsVerdict};
+ghost use Rattle.tasks.specs.Restoring.{IsAnswerOf, IsWhole, TellsLifted, TellsVerdict};
 ghost use Rattle.tasks.specs.Refusals.{IsNotClaimed, IsUnclaimed, IsWithoutForm};
 ghost use Rattle.tasks.specs.declared.refusals.Claimed.TheVariants as claimed_is;
 ghost use Rattle.tasks.specs.Statuses.{Counts, IfInput, IsOfNoInput, ErrUntold};
-ghost use Rattle.tasks.specs.Subjects.{subject_said, where_named};
+ghost use Rattle.tasks.specs.Subjects.{bad_said, said_by_name, subject_said, where_named};
 
 use crate::answers::Answer;
 use crate::circuits::read_circuit;
-use crate::judgements::tell_judgement;
+use crate::judgements::{tell_judgement, tell_line};
 use crate::refusals::{Claimed, Device, Fault, Refusal};
 use crate::subjects::Subject;
 use aiger::Circuit;
 use base::{Sink, Source, write_all};
 use engine::why_no_form;
 use restore::{RestoreFault, RestoreWhy, restore};
+use rises::FirstRises;
 use std::alloc::{AllocError, Global};
 use witness::Judgement;
 
@@ -93,29 +95,62 @@ pub fn has_form(circuit: &Circuit, claim: usize) -> Result<(), Refusal>
     }
 }
 
-/// Tells on standard error what a restoring answers, with names behind a judgement what it is about.
+/// Tells why a counterexample is not restored to its end: its first faulty line on standard error; else a device failed, or
+/// memory was wanting.
+fn tell_fault<E: Sink>(alloc: Global, fault: &RestoreFault, err: &mut E) -> Result<Answer, Refusal>
+    ensures of_text { OnOk result (is_of_text fault.now.why ≡ true) }
+    ensures written { OnOk result (Appends (E.written err.old) (E.written err.new) (malformed_line fault.now)) }
+    ensures answer { IfOk result (λ answer. answer ≡ answer_is.NotAccepted) }
+    ensures no_input { IsOfNoInput result }
+    ensures untold { ErrUntold result (err.new ≡ err.old) }
+    ensures counted { (f s s' o o' : ℕ) → CountsWhy fault.now.why s s' o o' → Counts result f f s s' o o' (E.failures err.old) (E.failures err.new) }
+{
+    match fault.why {
+        RestoreWhy::Device => Err(Refusal::Failed(Device::Second)),
+        RestoreWhy::Write => Err(Refusal::Failed(Device::Output)),
+        RestoreWhy::NoMemory => Err(Refusal::NoMemory),
+        _ => tell_malformed(alloc, fault, err),
+    }
+}
+
+/// Tells on standard error what a restoring answers.
 pub fn tell_restored<E: Sink>(
     alloc: Global,
     told: Result<Judgement, RestoreFault>,
-    named: bool,
-    subject: Subject<'_>,
     err: &mut E,
 ) -> Result<Answer, Refusal>
-    ensures done { (c : Circuit) (claim : ℕ) (found : Option (List ℕ)) → IsAnswerOf c claim found told → IfOk result (λ answer. TellsRestored (λ verdict. where_named named (subject_said subject.entry verdict)) answer c claim found (E.written err.old) (E.written err.new)) }
+    ensures done { (c : Circuit) (claim : ℕ) (found : Option (List ℕ)) → IsAnswerOf c claim found told → IfOk result (λ answer. TellsRestored (λ verdict. []) answer c claim found (E.written err.old) (E.written err.new)) }
     ensures whole { OnOk result (IsWhole told) }
-    ensures verdict { IfOk result (λ answer. TellsVerdict (λ verdict. where_named named (subject_said subject.entry verdict)) told answer (E.written err.old) (E.written err.new)) }
+    ensures verdict { IfOk result (λ answer. TellsVerdict told answer (E.written err.old) (E.written err.new)) }
     ensures no_input { IsOfNoInput result }
     ensures untold { ErrUntold result (err.new ≡ err.old) }
     ensures counted { (f s s' o o' : ℕ) → CountsRestore told s s' o o' → Counts result f f s s' o o' (E.failures err.old) (E.failures err.new) }
 {
     match told {
-        Ok(judgement) => tell_judgement(alloc, named, subject, &judgement, err),
-        Err(fault) => match fault.why {
-            RestoreWhy::Device => Err(Refusal::Failed(Device::Second)),
-            RestoreWhy::Write => Err(Refusal::Failed(Device::Output)),
-            RestoreWhy::NoMemory => Err(Refusal::NoMemory),
-            _ => tell_malformed(alloc, &fault, err),
-        },
+        Ok(judgement) => tell_line(alloc, &judgement, err),
+        Err(fault) => tell_fault(alloc, &fault, err),
+    }
+}
+
+/// Tells on standard error what a lifting answers of what was restored, with names behind a judgement what it is about, and of
+/// an acceptance in which frame the claim is reached first.
+pub fn tell_lifted<E: Sink>(
+    alloc: Global,
+    told: Result<(Judgement, FirstRises), RestoreFault>,
+    named: bool,
+    subject: Subject<'_>,
+    err: &mut E,
+) -> Result<Answer, Refusal>
+    ensures told { IfOk result (λ answer. TellsLifted (λ firsts verdict. where_named named (said_by_name (subject_said subject.entry) (bad_said subject.entry) firsts verdict)) told answer (E.written err.old) (E.written err.new)) }
+    ensures no_input { IsOfNoInput result }
+    ensures untold { ErrUntold result (err.new ≡ err.old) }
+    ensures counted { (f s s' o o' : ℕ) → CountsRestore told s s' o o' → Counts result f f s s' o o' (E.failures err.old) (E.failures err.new) }
+{
+    match told {
+        Ok((judgement, firsts)) => {
+            tell_judgement(alloc, named, subject, &judgement, &firsts, err)
+        }
+        Err(fault) => tell_fault(alloc, &fault, err),
     }
 }
 
@@ -143,5 +178,5 @@ pub fn restore_counterexample<B: Source, O: Sink, E: Sink>(
     let claim = claim_of(circuit, choice, Claimed::Found)?;
     has_form(circuit, claim)?;
     let told = restore(alloc, circuit, claim, second, out);
-    tell_restored(alloc, told, false, Subject::Circuit(circuit), err)
+    tell_restored(alloc, told, err)
 }

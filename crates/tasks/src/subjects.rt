@@ -307,21 +307,22 @@ pub fn tell_by_name<E: Sink>(
     }
 }
 
-/// Says what a judgement is about, where names are asked for.
-pub fn tell_subject<E: Sink>(
+/// Says the same, where names are asked for.
+pub fn tell_where_named<E: Sink>(
     named: bool,
     subject: Subject<'_>,
     judgement: &Judgement,
+    firsts: &FirstRises,
     err: &mut E,
 ) -> Result<(), DeviceFault>
-    ensures written { OnOk result (Appends (E.written err.old) (E.written err.new) (where_named named (subject_said subject.entry judgement.now))) }
+    ensures written { OnOk result (Appends (E.written err.old) (E.written err.new) (where_named named (said_by_name (subject_said subject.entry) (bad_said subject.entry) firsts.now judgement.now))) }
     ensures quiet { named ≡ false → err.new ≡ err.old }
     ensures counted { CountsFaults result (E.failures err.old) (E.failures err.new) }
 {
     if !named {
         return Ok(());
     }
-    tell_said(subject, judgement, err)
+    tell_by_name(subject, judgement, firsts, err)
 }
 
 /// Says which bad property of a subject has a number, where names are asked for.

@@ -11,9 +11,9 @@ returns-in_err-take_restored-clause-lifts g c named items circuit k lowers there
 
 pub returns-clause-lifts : goal.returns-clause-lifts
 returns-clause-lifts g c named items circuit k lowers there is lifts =
-    lifts_all (g.S.Source.to_come c.args.source.now) named items circuit k c.args.restorer.now c.args.lifter c.take_restored.new.taker (g.K.Sink.written c.args.sink.now) (g.K.Sink.written c.take_restored.new.sink) is lifts c.in_ok-take_restored.field-0 c.finish.result c.in_ok-take_restored.ensures.writes c.finish.ensures
+    lifts_all (g.S.Source.to_come c.args.source.now) named items circuit k c.args.restorer.now c.args.lifter c.take_restored.new.taker (g.K.Sink.written c.args.sink.now) (g.K.Sink.written c.take_restored.new.sink) is lifts c.in_ok-take_restored.field-0 c.finish.result.0 c.finish.result.1 c.in_ok-take_restored.ensures.writes c.finish.ensures.judged c.finish.ensures.firsts
     (keeps_either items circuit (λ t j. c.lifting_keeps_the_verdict.ensures items circuit t j lowers) (λ t j. c.names_keep_the_verdict.ensures items circuit t j lowers) named)
     (λ text h choice d given ws n form has read few trace at.
-    c.exactly_one_bit_judgement.ensures.unique circuit (restored_text circuit k text) c.finish.result (judgement.Accepted (n + 1)) form.original h
+    c.exactly_one_bit_judgement.ensures.unique circuit (restored_text circuit k text) c.finish.result.0 (judgement.Accepted (n + 1)) form.original h
     (c.restored_text_is_accepted.ensures circuit choice k d text given ws n form has there read few trace at))
     (λ text. c.found_over_the_form_is_found_in_the_model.ensures named items circuit k text lowers there)

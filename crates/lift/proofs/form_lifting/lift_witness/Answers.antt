@@ -9,7 +9,7 @@ returns-in_err-over-clause-lifts g c named items lowers lifts =
 
 pub returns-clause-lifts : goal.returns-clause-lifts
 returns-clause-lifts g c named items lowers lifts =
-    form_lifts (g.S.Source.to_come c.args.source.now) named items c.args.circuit.now c.args.choice c.args.form.now c.args.lifter c.take_form.new.taker (g.K.Sink.written c.args.sink.now) (g.K.Sink.written c.take_form.new.sink) lifts c.in_ok-over.over c.finish.result c.told_of.result c.in_ok-over.ensures.takes c.finish.ensures
+    form_lifts (g.S.Source.to_come c.args.source.now) named items c.args.circuit.now c.args.choice c.args.form.now c.args.lifter c.take_form.new.taker (g.K.Sink.written c.args.sink.now) (g.K.Sink.written c.take_form.new.sink) lifts c.in_ok-over.over c.finish-restored.result.0 c.told_of.result c.finish-restored.result.1 c.in_ok-over.ensures.takes c.finish-restored.ensures.judged c.finish-restored.ensures.firsts
     (λ text over restored. c.told_of.ensures.judged c.args.circuit.now c.args.choice c.args.form.now text c.requires.circuit over restored)
     (keeps_either items c.args.circuit.now (λ t j. c.lifting_keeps_the_verdict.ensures items c.args.circuit.now t j lowers) (λ t j. c.names_keep_the_verdict.ensures items c.args.circuit.now t j lowers) named)
     (λ text. c.accepted_over_the_form_is_found_in_the_model.ensures named items c.args.circuit.now c.args.choice c.args.form.now text lowers c.requires)

@@ -1,4 +1,4 @@
-use Rattle.std.proofs.Common.{◌≡◌}
+use Rattle.std.proofs.Common.{◌≡◌, true}
 use Rattle.witness.proofs.FeedLemmas.{Fed}
 use Rattle.rises.specs.Notes.{NotesBits}
 use Rattle.rises.proofs.noting.feed_bits.Given as goal
@@ -6,7 +6,7 @@ use Rattle.rises.proofs.noting.feed_bits.Given as goal
 -- what was read was fed
 abbrev pub invariant-loop-count : goal.invariant-loop-count
 invariant-loop-count g l = record {
-  fed : Fed NotesBits (g.S.Source.to_come l.fn.source) (g.S.Source.to_come l.source) l.fn.noter l.noter;
+  fed : Fed (NotesBits true) (g.S.Source.to_come l.fn.source) (g.S.Source.to_come l.source) l.fn.noter l.noter;
   counted : g.S.Source.failures l.source ≡ g.S.Source.failures l.fn.source;
 }
 

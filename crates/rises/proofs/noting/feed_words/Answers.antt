@@ -9,6 +9,6 @@ loop-count-init g c = record { fed = fed_nothing NotesWords _ _; counted = refl 
 pub loop-count-preserved : goal.loop-count-preserved
 loop-count-preserved g c =
     record {
-      fed = fed_more NotesWords (g.S.Source.to_come c.args.source.now) (g.S.Source.to_come c.loop-count.source) (g.S.Source.to_come c.read.new.self) c.args.noter.now c.loop-count.noter c.feed.new.self _ c.loop-count.invariant.fed c.in-Ok.ensures.bytes.0 c.feed.ensures;
-      counted = c.in-Ok.ensures.failures ∙ c.loop-count.invariant.counted;
+      fed = fed_more NotesWords (g.S.Source.to_come c.args.source.now) (g.S.Source.to_come c.loop-count.source) (g.S.Source.to_come c.read.new.self) c.args.noter.now c.loop-count.noter c.feed.new.self _ c.loop-count.invariant.fed c.in_ok-count.ensures.bytes.0 c.feed.ensures;
+      counted = c.in_ok-count.ensures.failures ∙ c.loop-count.invariant.counted;
     }

@@ -3,5 +3,5 @@ use Rattle.rises.proofs.NoteLemmas.{bits_of_part}
 use Rattle.rises.proofs.bit_noter.BitNoter.take_bytes.Goals as goal
 
 pub returns : goal.returns
-returns c circuit text line h =
-    bits_of_part circuit text c.args.bytes.now c.args.self.now (record { judge = c.feed.new.self; firsts = c.args.self.now.firsts }) line h (c.feed.ensures circuit text h.judge) refl
+returns c noted circuit text line h =
+    bits_of_part noted circuit text c.args.bytes.now c.args.self.now (record { judge = c.feed.new.self; firsts = c.args.self.now.firsts }) line h (c.feed.ensures circuit text h.judge) refl

@@ -6,18 +6,18 @@ use Rattle.rises.proofs.NoteLemmas.{bits_same, bits_more}
 use Rattle.rises.proofs.bit_noter.BitNoter.take_line.Goals as goal
 
 pub returns-then-closed_frames-closed : goal.returns-then-closed_frames-closed
-returns-then-closed_frames-closed c circuit text h =
+returns-then-closed_frames-closed c noted circuit text h =
     let line : List ℕ = c.requires.line in
     let after : BitNoter = record { judge = c.feed.new.self; firsts = c.args.self.now.firsts } in
     let stands = subst (λ (l : List ℕ). StandsFor circuit c.feed.new.self (text ++ l)) c.requires.is (c.feed.ensures circuit text h.judge) in
-    subst (λ (l : List ℕ). NotesBits circuit after (text ++ l)) (sym c.requires.is)
-    (bits_same circuit text line c.args.self.now after c.requires.whole h stands c.closed_frames-closed.result c.closed_frames.result (c.closed_frames-closed.ensures circuit text h.judge) (c.closed_frames.ensures circuit _ stands) c.if-closed_frames-closed.true refl)
+    subst (λ (l : List ℕ). NotesBits noted circuit after (text ++ l)) (sym c.requires.is)
+    (bits_same noted circuit text line c.args.self.now after c.requires.whole h stands c.closed_frames-closed.result c.closed_frames.result (c.closed_frames-closed.ensures circuit text h.judge) (c.closed_frames.ensures circuit _ stands) c.if-closed_frames-closed.true refl)
 
 pub returns : goal.returns
-returns c circuit text h =
+returns c noted circuit text h =
     let line : List ℕ = c.requires.line in
     let after : BitNoter = record { judge = c.feed.new.self; firsts = c.note.new.firsts } in
     let stands = subst (λ (l : List ℕ). StandsFor circuit c.feed.new.self (text ++ l)) c.requires.is (c.feed.ensures circuit text h.judge) in
-    subst (λ (l : List ℕ). NotesBits circuit after (text ++ l)) (sym c.requires.is)
-    (bits_more circuit text line c.args.self.now after c.requires.whole h stands c.closed_frames-closed.result c.closed_frames.result (c.closed_frames-closed.ensures circuit text h.judge) (c.closed_frames.ensures circuit _ stands) c.if-closed_frames-closed.false
+    subst (λ (l : List ℕ). NotesBits noted circuit after (text ++ l)) (sym c.requires.is)
+    (bits_more noted circuit text line c.args.self.now after c.requires.whole h stands c.closed_frames-closed.result c.closed_frames.result (c.closed_frames-closed.ensures circuit text h.judge) (c.closed_frames.ensures circuit _ stands) c.if-closed_frames-closed.false
     (λ vs trace. c.note.ensures circuit _ vs stands trace))

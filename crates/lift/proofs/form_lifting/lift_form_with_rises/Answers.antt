@@ -1,7 +1,10 @@
-use Rattle.lift.proofs.form_lifting.lift_form.Goals as goal
+use Rattle.lift.proofs.form_lifting.lift_form_with_rises.Goals as goal
 
 pub returns-clause-judged : goal.returns-clause-judged
 returns-clause-judged g c = (c.lift_witness.ensures.lifts c.args.named c.args.model.now c.requires.lowers c.in_ok-lifter.ensures).judged
+
+pub returns-clause-rises : goal.returns-clause-rises
+returns-clause-rises g c = (c.lift_witness.ensures.lifts c.args.named c.args.model.now c.requires.lowers c.in_ok-lifter.ensures).rises
 
 pub returns-clause-kept : goal.returns-clause-kept
 returns-clause-kept g c = (c.lift_witness.ensures.lifts c.args.named c.args.model.now c.requires.lowers c.in_ok-lifter.ensures).kept
