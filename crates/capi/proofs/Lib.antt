@@ -1,1 +1,2 @@
 pub mod HoldsLemmas
+pub mod NameLemmas
