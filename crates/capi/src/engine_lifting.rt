@@ -182,9 +182,7 @@ fn lift_witness(
     ensures refused { (known : List ℕ) → StandsFor known model.now → IfErr result (IsStop (λ _. ⊥) (IsNotForEngines known chosen bad)) }
 {
     match lower(alloc, model) {
-        Ok(circuit) => lift_by_form(
-            alloc, model, &circuit, chosen, bad, names, witness, text,
-        ),
+        Ok(circuit) => lift_by_form(alloc, model, &circuit, chosen, bad, names, witness, text),
         Err(fault) => Err(stop_of(fault)),
     }
 }
