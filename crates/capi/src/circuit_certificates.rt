@@ -76,9 +76,9 @@ pub extern "C" fn hwtool_check_proof_aig(
 /// circuit at this position, from 0: where nothing satisfies it, the property rises in no frame up to which the constraints
 /// hold.
 ///
-/// Answers 0 where that text stands at the front of the buffer, and 1 where it is longer than the buffer, which stays then:
-/// after both `needed` is its length. 2, 3, 4 and 5 as of `hwtool_check_proof_aig`. With 0, 1 and 4 the refusal stays, and
-/// without 0 and 1 buffer and `needed` do.
+/// Answers 0 where that text stands at the front of the buffer, whose bytes behind it stay, and 1 where it is longer than the
+/// buffer, which stays then: after both `needed` is its length. 2, 3, 4 and 5 as of `hwtool_check_proof_aig`. With 0, 1 and 4
+/// the refusal stays, and without 0 and 1 buffer and `needed` do.
 #[unsafe(no_mangle)]
 pub extern "C" fn hwtool_obligation_aig(
     alloc: Global,

@@ -211,11 +211,11 @@ fn witness_lifted(
 /// frames where it does not. The verdict is that it makes no claim or which line is faulty, before which what the lines give is
 /// lifted; else what is judged over the circuit of what it is restored to.
 ///
-/// Answers 0 where what it is lifted to stands at the front of the buffer, and 1 where that is longer than the buffer, which
-/// stays then: after both `needed` is its length, and the verdict is told. 2 where the first text is no model, with the number
-/// and the line of its first fault; 3 where the model is not lowered or its circuit has no such engine form, with the number of
-/// what speaks against it first and the id of an item, or 0; 4 where memory was wanting. With 0, 1 and 4 the refusal stays, and
-/// without 0 and 1 verdict, buffer and `needed` do.
+/// Answers 0 where what it is lifted to stands at the front of the buffer, whose bytes behind it stay, and 1 where that is
+/// longer than the buffer, which stays then: after both `needed` is its length, and the verdict is told. 2 where the first text
+/// is no model, with the number and the line of its first fault; 3 where the model is not lowered or its circuit has no such
+/// engine form, with the number of what speaks against it first and the id of an item, or 0; 4 where memory was wanting. With
+/// 0, 1 and 4 the refusal stays, and without 0 and 1 verdict, buffer and `needed` do.
 #[unsafe(no_mangle)]
 pub extern "C" fn hwtool_lift_engine(
     alloc: Global,

@@ -69,10 +69,10 @@ fn formed(
 /// Writes the engine form of the text of an AIGER circuit, which every engine reads alike, binary or ascii: with all its bad
 /// properties, or, where one is chosen, with the one at this position alone.
 ///
-/// Answers 0 where that text stands at the front of the buffer, and 1 where it is longer than the buffer, which stays then:
-/// after both `needed` is its length. 2 where the text is no circuit, with the number and the place of its first fault, in
-/// bytes from 0; 3 where the circuit has no such form, with the number of what speaks against it first; 4 where memory was
-/// wanting. With 0, 1 and 4 the refusal stays, and without 0 and 1 buffer and `needed` do.
+/// Answers 0 where that text stands at the front of the buffer, whose bytes behind it stay, and 1 where it is longer than the
+/// buffer, which stays then: after both `needed` is its length. 2 where the text is no circuit, with the number and the place
+/// of its first fault, in bytes from 0; 3 where the circuit has no such form, with the number of what speaks against it first;
+/// 4 where memory was wanting. With 0, 1 and 4 the refusal stays, and without 0 and 1 buffer and `needed` do.
 #[unsafe(no_mangle)]
 pub extern "C" fn hwtool_engine_form(
     alloc: Global,

@@ -90,10 +90,10 @@ fn rewritten(alloc: Global, circuit: &[u8], binary: bool) -> Result<VecSink, Sto
 
 /// Lowers the text of a BTOR2 model to that of an AIGER circuit, binary or ascii.
 ///
-/// Answers 0 where the circuit's text stands at the front of the buffer, and 1 where it is longer than the buffer, which stays
-/// then: after both `needed` is its length. 2 where the text is no model, with the number and the line of its first fault; 3
-/// where the model is not lowered, with the number of what speaks against it first and the id of its item, or 0; 4 where memory
-/// was wanting. With 0, 1 and 4 the refusal stays, and without 0 and 1 buffer and `needed` do.
+/// Answers 0 where the circuit's text stands at the front of the buffer, whose bytes behind it stay, and 1 where it is longer
+/// than the buffer, which stays then: after both `needed` is its length. 2 where the text is no model, with the number and the
+/// line of its first fault; 3 where the model is not lowered, with the number of what speaks against it first and the id of its
+/// item, or 0; 4 where memory was wanting. With 0, 1 and 4 the refusal stays, and without 0 and 1 buffer and `needed` do.
 #[unsafe(no_mangle)]
 pub extern "C" fn hwtool_lower(
     alloc: Global,
@@ -119,9 +119,10 @@ pub extern "C" fn hwtool_lower(
 
 /// Writes the text of an AIGER circuit of either form anew, binary or ascii, its variables numbered as in the binary form.
 ///
-/// Answers 0 where that text stands at the front of the buffer, and 1 where it is longer than the buffer, which stays then:
-/// after both `needed` is its length. 2 where the text is no circuit, with the number and the place of its first fault, in
-/// bytes from 0; 4 where memory was wanting. With 0, 1 and 4 the refusal stays, and without 0 and 1 buffer and `needed` do.
+/// Answers 0 where that text stands at the front of the buffer, whose bytes behind it stay, and 1 where it is longer than the
+/// buffer, which stays then: after both `needed` is its length. 2 where the text is no circuit, with the number and the place
+/// of its first fault, in bytes from 0; 4 where memory was wanting. With 0, 1 and 4 the refusal stays, and without 0 and 1
+/// buffer and `needed` do.
 #[unsafe(no_mangle)]
 pub extern "C" fn hwtool_convert(
     alloc: Global,

@@ -50,8 +50,9 @@ fn name_of(number: u32) -> Option<&'static str>
 
 /// Tells the name of the refusal, or of what is wrong with a line, that has this number; it does not end with a zero byte.
 ///
-/// Answers 0 where the name stands at the front of the buffer, and 1 where it is longer than the buffer, which stays then:
-/// after both `needed` is its length. 2 where no refusal has this number; buffer and `needed` stay then.
+/// Answers 0 where the name stands at the front of the buffer, whose bytes behind it stay, and 1 where it is longer than the
+/// buffer, which stays then: after both `needed` is its length. 2 where no refusal has this number; buffer and `needed` stay
+/// then.
 #[unsafe(no_mangle)]
 pub extern "C" fn hwtool_name(number: u32, buffer: &mut [u8], needed: &mut usize) -> u32
     ensures done { result ≡ 0 → Fills (IsName number) buffer.old buffer.new needed.new }
@@ -68,8 +69,8 @@ pub extern "C" fn hwtool_name(number: u32, buffer: &mut [u8], needed: &mut usize
 
 /// Tells the version of the library, which is that of the program; it does not end with a zero byte.
 ///
-/// Answers 0 where it stands at the front of the buffer, and 1 where it is longer than the buffer, which stays then: after both
-/// `needed` is its length.
+/// Answers 0 where it stands at the front of the buffer, whose bytes behind it stay, and 1 where it is longer than the buffer,
+/// which stays then: after both `needed` is its length.
 #[unsafe(no_mangle)]
 pub extern "C" fn hwtool_version(buffer: &mut [u8], needed: &mut usize) -> u32
     ensures done { result ≡ 0 → Fills (λ text. text ≡ version) buffer.old buffer.new needed.new }

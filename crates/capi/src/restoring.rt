@@ -152,11 +152,11 @@ fn witness_restored(
 /// makes no claim or which line is faulty, before which what the lines give is restored; else what is judged over the circuit
 /// of what it is restored to.
 ///
-/// Answers 0 where what it is restored to stands at the front of the buffer, and 1 where that is longer than the buffer, which
-/// stays then: after both `needed` is its length, and the verdict is told. 2 where the first text is no circuit, with the
-/// number and the place of its first fault, in bytes from 0; 3 where the circuit has no such form, with the number of what
-/// speaks against it first; 4 where memory was wanting. With 0, 1 and 4 the refusal stays, and without 0 and 1 verdict, buffer
-/// and `needed` do.
+/// Answers 0 where what it is restored to stands at the front of the buffer, whose bytes behind it stay, and 1 where that is
+/// longer than the buffer, which stays then: after both `needed` is its length, and the verdict is told. 2 where the first text
+/// is no circuit, with the number and the place of its first fault, in bytes from 0; 3 where the circuit has no such form, with
+/// the number of what speaks against it first; 4 where memory was wanting. With 0, 1 and 4 the refusal stays, and without 0 and
+/// 1 verdict, buffer and `needed` do.
 #[unsafe(no_mangle)]
 pub extern "C" fn hwtool_restore(
     alloc: Global,
