@@ -1,6 +1,3 @@
-use Rattle.std.proofs.Common.{List}
-use Rattle.command_line.specs.declared.explanations.Part.{Part}
-use Rattle.capi.specs.Named.{HasEach}
 use Rattle.capi.proofs.NameLemmas.{is_name, is_of_none}
 use Rattle.capi.proofs.names.name_of.Goals as goal
 
