@@ -43,7 +43,7 @@ def numbered(number):
 
 
 def judgement(verdict):
-    """The line that the program prints for a verdict."""
+    """The line that the program prints for a verdict on a witness."""
     return {
         0: f"accepted {verdict.first} frames",
         1: f"not reached: b{verdict.first}",
@@ -51,6 +51,14 @@ def judgement(verdict):
         3: f"initial value differs at {verdict.first}",
         4: f"malformed line {verdict.first}: {numbered(verdict.why) if verdict.kind == 4 else ''}",
         5: "no claim",
+    }[verdict.kind] + "\n"
+
+
+def proof_judgement(verdict, bad):
+    """The line that the program prints for a verdict on a proof of this bad property."""
+    return {
+        0: f"holds: b{bad}",
+        4: f"malformed line {verdict.first}: {numbered(verdict.why) if verdict.kind == 4 else ''}",
         6: f"not implied line {verdict.first}",
         7: "not derived",
     }[verdict.kind] + "\n"
@@ -63,30 +71,39 @@ def place_of(status, refusal, circuit):
     return f"item {refusal.place}: " if refusal.place else ""
 
 
-def called(call, given, verdict, text, circuit, file):
-    """What the program would answer, by a call: status, standard output, standard error. A call that answers a text is also
-    made with buffers that are too small."""
-    found, refusal, needed = Verdict(), Refusal(), size(0)
-    behind = ([ctypes.byref(found)] if verdict else [])
-    result = b""
+def filled(call, given, behind, room):
+    """A call with a buffer of so many bytes: its status, how many bytes it needs, its refusal and the text. What is to stay of
+    the buffer does: behind the text, and all of it where there is none."""
+    refusal, needed = Refusal(), size(0)
+    before = (b"\x00\xff\x5a\n" * (room // 4 + 3))[: room + 8]
+    buffer = ctypes.create_string_buffer(before, len(before))
+    status = call(*given, *behind, buffer, size(room), ctypes.byref(needed), ctypes.byref(refusal))
+    text = buffer.raw[: needed.value] if status == 0 else b""
+    assert len(text) <= room and buffer.raw[len(text) :] == before[len(text) :], "bytes that are to stay are written"
+    return status, needed.value, refusal, text
+
+
+def called(call, given, verdict, text, circuit, file, invariant=None, bad=None):
+    """What the program would answer, by a call: status, standard output, standard error. A call that answers a text is made with
+    buffers that are too small, that are as long as it, and that are longer."""
+    found, refusal, result = Verdict(), Refusal(), b""
+    behind = [ctypes.byref(found)] if verdict else []
     if text:
-        room = 0
-        while True:
-            buffer = ctypes.create_string_buffer(max(room, 1))
-            status = call(*given, *behind, buffer, size(room), ctypes.byref(needed), ctypes.byref(refusal))
-            if status != 1:
-                break
-            assert needed.value > room, "a text that fits is told as too long"
-            room = needed.value - 1 if room == 0 and needed.value > 1 else needed.value
-        if status == 0:
-            assert needed.value <= room
-            result = buffer.raw[: needed.value]
+        status, needed, refusal, result = filled(call, given, behind, 0)
+        for room in (needed - 1, needed + 7, needed) if status in (0, 1) else ():
+            if room >= 0:
+                status, again, refusal, result = filled(call, given, behind, room)
+                assert (status, again) == (1 if room < needed else 0, needed), "a text is told as too long, or as another one"
     else:
         status = call(*given, *behind, ctypes.byref(refusal))
     if status in (2, 3):
-        return 2, b"", f"{file}: {place_of(status, refusal, circuit)}{numbered(refusal.number)}\n".encode()
+        # a formula that is too big is told of the invariant
+        about = invariant if refusal.number == 196 else file
+        return 2, b"", f"{about}: {place_of(status, refusal, circuit)}{numbered(refusal.number)}\n".encode()
+    if status == 5:
+        return 2, b"", f"{invariant}: line {refusal.place}: {numbered(refusal.number)}\n".encode()
     assert status == 0, f"status {status}"
-    told = judgement(found).encode() if verdict else b""
+    told = b"" if not verdict else (judgement(found) if bad is None else proof_judgement(found, bad)).encode()
     code = 0 if not verdict or found.kind == 0 else 1
     return (code, result, told) if text else (code, told, b"")
 
@@ -99,41 +116,84 @@ def cost(first, file):
     return 0, f"gates {gates.value}\nvariables {variables.value}\n".encode(), b""
 
 
-def answer(words, first, second):
-    """What the library answers in place of the program; None where it has no such call."""
-    flags = [word for word in words[1:] if word.startswith("-")]
-    files = [word for word in words[1:] if not word.startswith("-")]
-    command = words[0]
-    if any(flag not in ("--ascii", "--binary", "--all") for flag in flags) or len(flags) > 1 or not files:
+# The flags that commands have in rows that the library has a call for, and how many files.
+FLAGS = {
+    "check-btor": ((), 2), "check-aig": ((), 2), "lower": (("--ascii", "--binary"), 1), "aig-convert": (("--ascii", "--binary"), 1),
+    "lift": (("--engine", "--abc", "--names"), 2), "restore": (("--abc",), 2), "wave": (("--all",), 2), "cost": ((), 1),
+    "obligation": (("--aiger",), 2), "check-proof": (("--aiger",), 3),
+}  # fmt: skip
+
+
+def asked(words):
+    """The command, its flags, the bad property that is chosen and the names of its files; None where no call does that."""
+    command, flags, names, bad, rest = words[0], [], [], None, iter(words[1:])
+    for word in rest:
+        if word == "--bad":
+            bad = int(next(rest))
+        elif word.startswith("-"):
+            flags.append(word)
+        else:
+            names.append(word)
+    known, files = FLAGS.get(command, ((), None))
+    if len(names) != files or len(set(flags)) != len(flags) or not set(known).issuperset(flags) or any("/" in name for name in names):
         return None
-    binary = ctypes.c_bool("--binary" in flags)
-    file = files[0]
-    if command == "check-btor" and len(files) == 2:
-        return called(library.hwtool_check_btor, (*of(first), *of(second)), True, False, False, file)
-    if command == "check-aig" and len(files) == 2:
-        return called(library.hwtool_check_aig, (*of(first), *of(second)), True, False, True, file)
-    if command == "lower" and len(files) == 1:
-        return called(library.hwtool_lower, (*of(first), binary), False, True, False, file)
-    if command == "aig-convert" and len(files) == 1:
-        return called(library.hwtool_convert, (*of(first), binary), False, True, True, file)
-    if command == "lift" and len(files) == 2:
-        return called(library.hwtool_lift, (*of(first), *of(second)), True, True, False, file)
-    if command == "wave" and len(files) == 2:
-        title = f"{files[0]} {files[1]}".encode()
+    # what is printed by name of a witness of the circuit itself has no call
+    if {"--ascii", "--binary"}.issubset(flags) or (command == "lift" and flags and "--engine" not in flags):
+        return None
+    return command, flags, bad, names
+
+
+def answer(command, flags, bad, names, texts):
+    """What the library answers in place of the program."""
+    first, second, third = ([*map(of, texts)] + [(), ()])[:3]
+    file, circuit = names[0], command in ("check-aig", "aig-convert", "restore") or "--aiger" in flags
+    binary, by_name = ctypes.c_bool("--binary" in flags), ctypes.c_bool("--names" in flags)
+    # without a choice the only one is meant
+    position, choice = size(bad or 0), (ctypes.c_bool(bad is not None), size(bad or 0))
+    if command == "check-btor":
+        return called(library.hwtool_check_btor, (*first, *second), True, False, circuit, file)
+    if command == "check-aig":
+        return called(library.hwtool_check_aig, (*first, *second), True, False, circuit, file)
+    if command == "lower":
+        return called(library.hwtool_lower, (*first, binary), False, True, circuit, file)
+    if command == "aig-convert":
+        return called(library.hwtool_convert, (*first, binary), False, True, circuit, file)
+    if command == "restore" and "--abc" in flags:
+        return called(library.hwtool_restore_abc, (*first, position, *second), True, True, circuit, file)
+    if command == "restore":
+        return called(library.hwtool_restore, (*first, *choice, *second), True, True, circuit, file)
+    if command == "lift" and "--abc" in flags:
+        return called(library.hwtool_lift_engine_abc, (*first, position, by_name, *second), True, True, circuit, file)
+    if command == "lift" and "--engine" in flags:
+        return called(library.hwtool_lift_engine, (*first, *choice, by_name, *second), True, True, circuit, file)
+    if command == "lift":
+        return called(library.hwtool_lift, (*first, *second), True, True, circuit, file)
+    if command == "wave":
+        title = f"{names[0]} {names[1]}".encode()
         every = ctypes.c_bool("--all" in flags)
-        return called(library.hwtool_wave, (*of(first), every, *of(title), *of(second)), True, True, False, file)
-    if command == "cost" and len(files) == 1:
-        return cost(first, file)
-    return None
+        return called(library.hwtool_wave, (*first, every, *of(title), *second), True, True, circuit, file)
+    if command == "obligation":
+        call = library.hwtool_obligation_aig if circuit else library.hwtool_obligation
+        return called(call, (*first, position, *second), False, True, circuit, file, names[1])
+    if command == "check-proof":
+        call = library.hwtool_check_proof_aig if circuit else library.hwtool_check_proof
+        return called(call, (*first, position, *second, *third), True, False, circuit, file, names[1], bad or 0)
+    return cost(texts[0], file)
 
 
-def printed(program, words, first, second, folder):
+def printed(program, words, names, texts, folder):
     """What the program answers and prints."""
-    for name_, text in zip([word for word in words[1:] if not word.startswith("-")], (first, second)):
+    for name_, text in zip(names, texts):
         with open(os.path.join(folder, name_), "wb") as file:
             file.write(text)
     done = subprocess.run([program, *words], cwd=folder, capture_output=True)
     return done.returncode, done.stdout, done.stderr
+
+
+def without_names(flags, told):
+    """What the program tells, without the lines behind a judgement that say what it is about, which no call does."""
+    status, out, err = told
+    return (status, out, err.split(b"\n")[0] + b"\n") if "--names" in flags else told
 
 
 def main():
@@ -149,21 +209,28 @@ def main():
 
     with tempfile.TemporaryDirectory() as folder:
         for row in rows.read_rows():
-            words, (first, second, _) = [word.decode(errors="replace") for word in row.words], row.files
-            expected = row.status, row.out, row.err
-            if not words or first is None or (second is None and words[0] in ("check-btor", "check-aig", "lift", "wave")):
+            words = [word.decode(errors="replace") for word in row.words]
+            # with status 4 the program refuses words
+            found = asked(words) if words and row.status != 4 else None
+            if found is None:
                 continue
-            got = answer(words, first, second or b"")
-            if got is None or any("/" in word for word in words):
+            command, flags, bad, names = found
+            texts = row.files[: len(names)]
+            if None in texts:
                 continue
-            compare(" ".join(words), expected, got)
-            if cut.setdefault(words[0], 0) == CUT_ROWS or len(first) > 600:
+            compare(" ".join(words), without_names(flags, (row.status, row.out, row.err)), answer(*found, texts))
+            kind = command, *sorted(set(flags) & {"--abc", "--engine", "--aiger"})
+            if cut.setdefault(kind, 0) == CUT_ROWS or max(map(len, texts)) > 600:
                 continue
-            cut[words[0]] += 1
-            for end in range(len(first)):
-                compare(f"{words}, first file cut after {end}", printed(program, words, first[:end], second or b"", folder), answer(words, first[:end], second or b""))
-            for end in range(len(second or b"")):
-                compare(f"{words}, second file cut after {end}", printed(program, words, first, second[:end], folder), answer(words, first, second[:end]))
+            cut[kind] += 1
+            for which in range(len(texts)):
+                for end in range(len(texts[which])):
+                    shorter = [*texts[:which], texts[which][:end], *texts[which + 1 :]]
+                    told = printed(program, words, names, shorter, folder)
+                    # a shorter text may have several bad properties, and then the words leave it open
+                    if told[0] == 4:
+                        continue
+                    compare(f"{words}, file {which + 1} cut after {end}", without_names(flags, told), answer(*found, shorter))
     print(f"rows and cuts: {tried} tried, {wrong} wrong")
     return wrong != 0
 

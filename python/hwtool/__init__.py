@@ -20,8 +20,27 @@ The library is the one that HWTOOL_LIBRARY names; without it the one that was in
 the repository that the package stands in, or the system's.
 """
 
-from ._answers import Cost, Dump, Kind, Lifted, ProofKind, ProofVerdict, Verdict
-from ._calls import Text, check_aig, check_btor, check_proof, convert, cost, engine_form, lift, lower, obligation, version, wave
+from ._answers import Cost, Dump, Kind, Lifted, ProofKind, ProofVerdict, Restored, Verdict
+from ._calls import (
+    Text,
+    check_aig,
+    check_btor,
+    check_proof,
+    check_proof_aig,
+    convert,
+    cost,
+    engine_form,
+    lift,
+    lift_engine,
+    lift_engine_abc,
+    lower,
+    obligation,
+    obligation_aig,
+    restore,
+    restore_abc,
+    version,
+    wave,
+)
 from ._refusals import Case, Refused, explain, name
 
 __version__ = "0.2.0"
@@ -38,19 +57,26 @@ __all__ = [
     "ProofKind",
     "ProofVerdict",
     "Refused",
+    "Restored",
     "Text",
     "Verdict",
     "check_aig",
     "check_btor",
     "check_proof",
+    "check_proof_aig",
     "convert",
     "cost",
     "engine_form",
     "explain",
     "lift",
+    "lift_engine",
+    "lift_engine_abc",
     "lower",
     "name",
     "obligation",
+    "obligation_aig",
+    "restore",
+    "restore_abc",
     "version",
     "wave",
 ]

@@ -145,12 +145,25 @@ class Cost:
 
 @dataclass(frozen=True)
 class Lifted:
-    """A witness of a circuit as one of the model. It is true where it is accepted."""
+    """A witness of a circuit, or of its engine form, as one of the model. It is true where it is accepted."""
 
     verdict: Verdict
     """What is said of the witness of the circuit."""
     text: bytes
     """The model's witness; of a malformed one what stands before the faulty line, and of one that claims nothing, nothing."""
+
+    def __bool__(self) -> bool:
+        return self.verdict.accepted
+
+
+@dataclass(frozen=True)
+class Restored:
+    """What an engine found over the engine form of a circuit, as a witness of the circuit. It is true where this is accepted."""
+
+    verdict: Verdict
+    """What is said of the circuit's witness; of a text with a faulty line, or that claims nothing, this."""
+    text: bytes
+    """The circuit's witness; of a text with a faulty line what stands before it, and of one that claims nothing, nothing."""
 
     def __bool__(self) -> bool:
         return self.verdict.accepted

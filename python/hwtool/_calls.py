@@ -7,7 +7,7 @@ import operator
 import os
 from typing import List, NoReturn, Optional, SupportsIndex, Tuple, Union
 
-from ._answers import Cost, Dump, Kind, Lifted, ProofKind, ProofVerdict, Verdict
+from ._answers import Cost, Dump, Kind, Lifted, ProofKind, ProofVerdict, Restored, Verdict
 from ._library import DONE, MODEL_REFUSED, NO_MEMORY, SECOND_REFUSED, TEXT_REFUSED, RawRefusal, RawVerdict, call, library_version, written
 from ._refusals import Refused, name
 
@@ -146,6 +146,11 @@ def convert(circuit: Text, *, binary: bool = False) -> bytes:
     return text
 
 
+def _choice(bad: Optional[SupportsIndex]) -> List[object]:
+    """A bad property that may be chosen."""
+    return [bad is not None, 0 if bad is None else _position(bad)]
+
+
 def engine_form(circuit: Text, *, bad: Optional[SupportsIndex] = None, binary: bool = False) -> bytes:
     """The engine form of an AIGER circuit, which every model checker reads alike: all latches begin with 0, and it has no
     constraints and no names. With all its bad properties, or with the one at position `bad`, from 0, alone.
@@ -154,19 +159,20 @@ def engine_form(circuit: Text, *, bad: Optional[SupportsIndex] = None, binary: b
     position, or is too big.
     """
     first = _Given(circuit)
-    chosen, position = bad is not None, 0 if bad is None else _position(bad)
-    status, refusal, text = written("hwtool_engine_form", [*first.words, chosen, position, bool(binary)], first.room)
+    status, refusal, text = written("hwtool_engine_form", [*first.words, *_choice(bad), bool(binary)], first.room)
     if status != DONE:
         _refuse(status, refusal, "circuit", first)
     return text
 
 
-def _with_verdict(call_name: str, given: List[object], model: _Given, witness: _Given, of_circuit: bool) -> Tuple[Verdict, bytes]:
+def _with_verdict(
+    call_name: str, given: List[object], kind: str, first: _Given, witness: _Given, of_circuit: bool
+) -> Tuple[Verdict, bytes]:
     """Judges a witness and writes what is made of it."""
     verdict = RawVerdict()
-    status, refusal, text = written(call_name, given, model.room + witness.room, ctypes.byref(verdict))
+    status, refusal, text = written(call_name, given, first.room + witness.room, ctypes.byref(verdict))
     if status != DONE:
-        _refuse(status, refusal, "model", model)
+        _refuse(status, refusal, kind, first)
     return _verdict(verdict, of_circuit), text
 
 
@@ -174,7 +180,48 @@ def lift(model: Text, witness: Text) -> Lifted:
     """Judges a witness of the circuit that `lower` makes of a BTOR2 model, and lifts it to one of the model, which has the same
     verdict. Raises Refused as `lower` does."""
     first, second = _Given(model), _Given(witness)
-    return Lifted(*_with_verdict("hwtool_lift", [*first.words, *second.words], first, second, True))
+    return Lifted(*_with_verdict("hwtool_lift", [*first.words, *second.words], "model", first, second, True))
+
+
+def lift_engine(model: Text, witness: Text, *, bad: Optional[SupportsIndex] = None, names: bool = False) -> Lifted:
+    """Judges a witness of the engine form of the circuit that `lower` makes of a BTOR2 model, as `restore` does, and lifts it to
+    one of the model: with names behind its words, or without. The form is that with all bad properties, or with the one at
+    position `bad`, from 0, alone.
+
+    Raises Refused where `lower` or `engine_form` does.
+    """
+    first, second = _Given(model), _Given(witness)
+    given = [*first.words, *_choice(bad), bool(names), *second.words]
+    return Lifted(*_with_verdict("hwtool_lift_engine", given, "model", first, second, True))
+
+
+def lift_engine_abc(model: Text, bad: SupportsIndex, found: Text, *, names: bool = False) -> Lifted:
+    """The same of a counterexample as `restore_abc` takes it, with the bad property of the model at position `bad`, from 0."""
+    first, second = _Given(model), _Given(found)
+    given = [*first.words, _position(bad), bool(names), *second.words]
+    return Lifted(*_with_verdict("hwtool_lift_engine_abc", given, "model", first, second, True))
+
+
+def restore(circuit: Text, witness: Text, *, bad: Optional[SupportsIndex] = None) -> Restored:
+    """Judges a witness of the engine form of an AIGER circuit, and restores it to one of the circuit: with the bad property that
+    it claims, up to and with the first frame in which this rises, or of all frames where it does not. The form is that with all
+    bad properties, or with the one at position `bad`, from 0, alone.
+
+    Raises Refused where `engine_form` does.
+    """
+    first, second = _Given(circuit), _Given(witness)
+    return Restored(*_with_verdict("hwtool_restore", [*first.words, *_choice(bad), *second.words], "circuit", first, second, True))
+
+
+def restore_abc(circuit: Text, bad: SupportsIndex, found: Text) -> Restored:
+    """The same of a counterexample as ABC writes it: a line of initial bits, which are 0, and a line of input bits for each
+    frame. It is one over the engine form of the circuit, and claims the bad property at position `bad`, from 0.
+
+    Raises Refused where `engine_form` does with this bad property; a faulty line is told by the verdict.
+    """
+    first, second = _Given(circuit), _Given(found)
+    given = [*first.words, _position(bad), *second.words]
+    return Restored(*_with_verdict("hwtool_restore_abc", given, "circuit", first, second, True))
 
 
 def wave(model: Text, witness: Text, *, all: bool = False, title: bytes = b"") -> Dump:
@@ -185,7 +232,16 @@ def wave(model: Text, witness: Text, *, all: bool = False, title: bytes = b"") -
     """
     first, second, about = _Given(model), _Given(witness), memoryview(title).tobytes()
     given = [*first.words, bool(all), about, len(about), *second.words]
-    return Dump(*_with_verdict("hwtool_wave", given, first, second, False))
+    return Dump(*_with_verdict("hwtool_wave", given, "model", first, second, False))
+
+
+def _owed(call_name: str, kind: str, text: Text, bad: SupportsIndex, invariant: Text) -> bytes:
+    """The formula that an invariant owes."""
+    first, second = _Given(text), _Given(invariant)
+    status, refusal, formula = written(call_name, [*first.words, _position(bad), *second.words], first.room + second.room)
+    if status != DONE:
+        _refuse(status, refusal, kind, first, second)
+    return formula
 
 
 def obligation(model: Text, bad: SupportsIndex, invariant: Text) -> bytes:
@@ -195,11 +251,26 @@ def obligation(model: Text, bad: SupportsIndex, invariant: Text) -> bytes:
     The invariant is a PLA as ABC writes it over the engine form with that property alone. Raises Refused where the model is
     none or is not lowered, has no such property, or the invariant is none.
     """
-    first, second = _Given(model), _Given(invariant)
-    status, refusal, text = written("hwtool_obligation", [*first.words, _position(bad), *second.words], first.room + second.room)
+    return _owed("hwtool_obligation", "model", model, bad, invariant)
+
+
+def obligation_aig(circuit: Text, bad: SupportsIndex, invariant: Text) -> bytes:
+    """The same for the bad property of an AIGER circuit of either form. Raises Refused where the circuit is none, has no engine
+    form with that property, or the invariant is none."""
+    return _owed("hwtool_obligation_aig", "circuit", circuit, bad, invariant)
+
+
+def _certified(call_name: str, kind: str, text: Text, bad: SupportsIndex, invariant: Text, proof: Text) -> ProofVerdict:
+    """Judges a proof of what an invariant owes."""
+    first, second, third, position = _Given(text), _Given(invariant), _Given(proof), _position(bad)
+    raw = RawVerdict()
+    status, refusal = call(call_name, [*first.words, position, *second.words, *third.words], ctypes.byref(raw))
     if status != DONE:
-        _refuse(status, refusal, "model", first, second)
-    return text
+        _refuse(status, refusal, kind, first, second)
+    found = ProofKind(raw.kind)
+    if found is ProofKind.MALFORMED:
+        return ProofVerdict(found, position, raw.first, raw.why, name(raw.why))
+    return ProofVerdict(found, position, None if found is ProofKind.NOT_DERIVED else raw.first)
 
 
 def check_proof(model: Text, bad: SupportsIndex, invariant: Text, proof: Text) -> ProofVerdict:
@@ -208,15 +279,13 @@ def check_proof(model: Text, bad: SupportsIndex, invariant: Text, proof: Text) -
 
     Raises Refused as `obligation` does; a proof that is none is judged as malformed.
     """
-    first, second, third, position = _Given(model), _Given(invariant), _Given(proof), _position(bad)
-    raw = RawVerdict()
-    status, refusal = call("hwtool_check_proof", [*first.words, position, *second.words, *third.words], ctypes.byref(raw))
-    if status != DONE:
-        _refuse(status, refusal, "model", first, second)
-    kind = ProofKind(raw.kind)
-    if kind is ProofKind.MALFORMED:
-        return ProofVerdict(kind, position, raw.first, raw.why, name(raw.why))
-    return ProofVerdict(kind, position, None if kind is ProofKind.NOT_DERIVED else raw.first)
+    return _certified("hwtool_check_proof", "model", model, bad, invariant, proof)
+
+
+def check_proof_aig(circuit: Text, bad: SupportsIndex, invariant: Text, proof: Text) -> ProofVerdict:
+    """The same of what `obligation_aig` writes, for an AIGER circuit of either form: from any initial bits that agree with its
+    resets. Raises Refused as `obligation_aig` does."""
+    return _certified("hwtool_check_proof_aig", "circuit", circuit, bad, invariant, proof)
 
 
 def version() -> str:

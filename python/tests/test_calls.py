@@ -30,6 +30,13 @@ TWICE_WITNESS = b"1\nb0\n0\n1\n1\n.\n"
 KEPT = b"1 sort bitvec 1\n2 zero 1\n3 state 1 s\n4 init 1 3 2\n5 next 1 3 3\n6 bad 3\n"
 NEVER_ONE = b".i 1\n.o 1\n.p 1\n.ilb lo0\n.ob inv\n1 1\n.e\n"
 NO_CUBE = b".i 0\n.o 1\n.p 0\n.ilb\n.ob inv\n.e\n"
+# A latch, and a state, that begins with any bit, is kept, and is bad where it is 1.
+FREE_LATCH = b"aag 1 0 1 0 0 1\n2 2 2\n2\n"
+KEPT_STATE = b"1 sort bitvec 1\n2 state 1 kept\n3 next 1 2 2\n4 bad 2\n"
+# An input that is bad where it is 1, and where it is 0.
+EITHER = b"aag 1 1 0 0 0 2\n2\n2\n3\n"
+# The circuit of the state that begins with 0 and is kept.
+KEPT_LATCH = b"aag 1 0 1 0 0 1\n2 2\n2\n"
 # An input that is seen and bad where it is 1, and that is constrained to be 0.
 CONSTRAINED = b"1 sort bitvec 1\n2 input 1\n3 bad 2\n4 not 1 2\n5 constraint 4\n"
 NO_NEXT = b"1 sort bitvec 1\n2 zero 1\n3 state 1 s\n4 init 1 3 2\n"
@@ -149,12 +156,59 @@ class Circuits(unittest.TestCase):
         self.assertEqual(text, hwtool.convert(hwtool.lower(model, binary=True)))
 
 
+class Engines(unittest.TestCase):
+    def told(self, found, line, text):
+        """What is restored or lifted, and the line that is told of it."""
+        self.assertEqual((str(found.verdict), found.text, bool(found)), (line, text, line.startswith("accepted")))
+
+    def test_restore(self):
+        # the latch begins with the bit that the form's input has in frame 0; what is behind the rise is left out
+        self.told(hwtool.restore(FREE_LATCH, b"1\nb0\n00\n1\n0\n.\n"), "accepted 1 frames", b"1\nb0\n1\n\n.\n")
+        self.told(hwtool.restore(FREE_LATCH, b"1\nb0\n00\n0\n.\n", bad=0), "not reached: b0", b"1\nb0\n0\n\n.\n")
+        self.told(hwtool.restore(FREE_LATCH, b"2\n"), "no claim", b"")
+        # the form with the second property alone has it as its first
+        self.told(hwtool.restore(EITHER, b"1\nb0\n0\n0\n.\n", bad=1), "accepted 1 frames", b"1\nb1\n\n0\n.\n")
+        self.told(hwtool.restore(EITHER, b"1\nb1\n0\n0\n.\n"), "accepted 1 frames", b"1\nb1\n\n0\n.\n")
+
+    def test_restore_abc(self):
+        self.told(hwtool.restore_abc(FREE_LATCH, 0, b"00\n1# DONE\n"), "accepted 1 frames", b"1\nb0\n1\n\n.\n")
+        self.told(hwtool.restore_abc(EITHER, 0, b"0\n0\n1\n1\n"), "accepted 2 frames", b"1\nb0\n\n0\n1\n.\n")
+        self.told(hwtool.restore_abc(EITHER, 1, b"0\n0\n"), "accepted 1 frames", b"1\nb1\n\n0\n.\n")
+
+    def test_lift_engine(self):
+        lifted = b"sat\nb0\n#0\n0 1\n@0\n.\n"
+        self.told(hwtool.lift_engine(KEPT_STATE, b"1\nb0\n00\n1\n.\n"), "accepted 1 frames", lifted)
+        self.told(hwtool.lift_engine(KEPT_STATE, b"1\nb0\n00\n1\n.\n", bad=0, names=True), "accepted 1 frames", lifted.replace(b"0 1", b"0 1 kept@0"))
+        self.told(hwtool.lift_engine_abc(KEPT_STATE, 0, b"00\n1\n"), "accepted 1 frames", lifted)
+        self.told(hwtool.lift_engine_abc(KEPT_STATE, 0, b"00\n1\n", names=True), "accepted 1 frames", lifted.replace(b"0 1", b"0 1 kept@0"))
+
+    def test_faulty_line(self):
+        found = hwtool.restore_abc(FREE_LATCH, 0, b"00\n0\nx\n")
+        self.told(found, "malformed line 3: 152 NoBit", b"1\nb0\n0\n\n")
+        self.assertEqual(found.verdict, Verdict(Kind.MALFORMED, line=3, why=152, why_name="NoBit"))
+        self.assertIn("write `0` and `1` alone", found.verdict.remedy)
+        self.told(hwtool.lift_engine_abc(KEPT_STATE, 0, b"1\n"), "malformed line 1: 151 InitialOne", b"")
+        self.told(hwtool.restore(FREE_LATCH, b"1\nb0\n00\n0\nx\n"), "malformed line 5: 117 Undetermined", b"1\nb0\n0\n\n")
+
+
 class Certificates(unittest.TestCase):
     def test_obligation(self):
         self.assertEqual(hwtool.obligation(KEPT, 0, NEVER_ONE), b"p cnf 5 5\n3 0\n-2 0\n-4 2 0\n-5 2 0\n4 5 0\n")
         # as docs/FORMATS.md has it
         guarded = hwtool.obligation(EXAMPLES / "guarded.btor2", 0, EXAMPLES / "guarded.invariant")
         self.assertEqual(guarded.split(b"\n")[:4], [b"p cnf 9 15", b"7 0", b"-4 -2 0", b"-4 -1 0"])
+
+    def test_over_circuits(self):
+        # as over the model of the circuit
+        self.assertEqual(hwtool.obligation_aig(KEPT_LATCH, 0, NEVER_ONE), b"p cnf 5 5\n3 0\n-2 0\n-4 2 0\n-5 2 0\n4 5 0\n")
+        self.assertEqual(hwtool.check_proof_aig(KEPT_LATCH, 0, NEVER_ONE, b""), ProofVerdict(ProofKind.HOLDS, 0, line=0))
+        self.assertEqual(hwtool.check_proof_aig(KEPT_LATCH, 0, NO_CUBE, b""), ProofVerdict(ProofKind.NOT_DERIVED, 0))
+        self.assertFalse(hwtool.check_proof_aig(FREE_LATCH, 0, NEVER_ONE.replace(b"lo0", b"lo1"), b""))
+        for model, bad in (("wraps", 0), ("guarded", 0), ("followers", 0), ("two-counters", 1)):
+            with self.subTest(model):
+                circuit = hwtool.lower(EXAMPLES / f"{model}.btor2")
+                verdict = hwtool.check_proof_aig(circuit, bad, EXAMPLES / f"{model}.invariant", EXAMPLES / f"{model}.proof")
+                self.assertEqual(str(verdict), f"holds: b{bad}")
 
     def test_holds(self):
         for model, bad in (("wraps", 0), ("guarded", 0), ("followers", 0), ("two-counters", 1)):
@@ -203,6 +257,7 @@ class Refusals(unittest.TestCase):
         for call, rest in (
             (hwtool.lower, ()), (hwtool.cost, ()), (hwtool.check_btor, (b"sat\n",)), (hwtool.lift, (b"1\n",)),
             (hwtool.wave, (b"sat\n",)), (hwtool.obligation, (0, NEVER_ONE)), (hwtool.check_proof, (0, NEVER_ONE, b"")),
+            (hwtool.lift_engine, (b"1\n",)), (hwtool.lift_engine_abc, (0, b"0\n0\n")),
         ):  # fmt: skip
             with self.subTest(call.__name__):
                 self.refused(
@@ -217,7 +272,10 @@ class Refusals(unittest.TestCase):
         )  # fmt: skip
 
     def test_text_of_circuit(self):
-        for call, rest in ((hwtool.convert, ()), (hwtool.engine_form, ()), (hwtool.check_aig, (b"1\n",))):
+        for call, rest in (
+            (hwtool.convert, ()), (hwtool.engine_form, ()), (hwtool.check_aig, (b"1\n",)), (hwtool.restore, (b"1\n",)),
+            (hwtool.restore_abc, (0, b"0\n0\n")), (hwtool.obligation_aig, (0, NEVER_ONE)), (hwtool.check_proof_aig, (0, NEVER_ONE, b"")),
+        ):  # fmt: skip
             with self.subTest(call.__name__):
                 self.refused(
                     call, TOGGLER, *rest, line="circuit: byte 0: 50 BadHeader", number=50, name="BadHeader", kind="circuit",
@@ -233,6 +291,7 @@ class Refusals(unittest.TestCase):
         for call, number, rest in (
             (hwtool.lower, 92, ()), (hwtool.lift, 92, (b"1\n",)), (hwtool.check_btor, 70, (b"sat\n",)),
             (hwtool.wave, 70, (b"sat\n",)), (hwtool.obligation, 92, (0, NEVER_ONE)), (hwtool.check_proof, 92, (0, NEVER_ONE, b"")),
+            (hwtool.lift_engine, 92, (b"1\n",)), (hwtool.lift_engine_abc, 92, (0, b"0\n0\n")),
         ):  # fmt: skip
             with self.subTest(call.__name__):
                 self.refused(
@@ -246,6 +305,12 @@ class Refusals(unittest.TestCase):
             (hwtool.engine_form, {"circuit": TWICE, "bad": 2**64 - 1}, "circuit"),
             (hwtool.obligation, {"model": KEPT, "bad": 1, "invariant": NEVER_ONE}, "model"),
             (hwtool.check_proof, {"model": KEPT, "bad": 1, "invariant": NEVER_ONE, "proof": b""}, "model"),
+            (hwtool.restore, {"circuit": TWICE, "bad": 1, "witness": b""}, "circuit"),
+            (hwtool.restore_abc, {"circuit": TWICE, "bad": 1, "found": b""}, "circuit"),
+            (hwtool.lift_engine, {"model": KEPT, "bad": 1, "witness": b""}, "model"),
+            (hwtool.lift_engine_abc, {"model": KEPT, "bad": 1, "found": b""}, "model"),
+            (hwtool.obligation_aig, {"circuit": TWICE, "bad": 1, "invariant": NEVER_ONE}, "circuit"),
+            (hwtool.check_proof_aig, {"circuit": TWICE, "bad": 1, "invariant": NEVER_ONE, "proof": b""}, "circuit"),
         ):
             with self.subTest(call.__name__):
                 self.refused(
@@ -254,10 +319,13 @@ class Refusals(unittest.TestCase):
                 )  # fmt: skip
 
     def test_invariants(self):
-        for call, rest in ((hwtool.obligation, ()), (hwtool.check_proof, (b"",))):
+        for call, first, rest in (
+            (hwtool.obligation, KEPT, ()), (hwtool.check_proof, KEPT, (b"",)), (hwtool.obligation_aig, KEPT_LATCH, ()),
+            (hwtool.check_proof_aig, KEPT_LATCH, (b"",)),
+        ):  # fmt: skip
             with self.subTest(call.__name__):
                 self.refused(
-                    call, KEPT, 0, NEVER_ONE.replace(b"1 1\n", b"0 1\n"), *rest, line="invariant: line 6: 190 HoldsAtStart",
+                    call, first, 0, NEVER_ONE.replace(b"1 1\n", b"0 1\n"), *rest, line="invariant: line 6: 190 HoldsAtStart",
                     number=190, name="HoldsAtStart", kind="invariant", unit="line", place=6, remedy="it is no invariant of an engine form",
                 )  # fmt: skip
 
@@ -334,6 +402,12 @@ class Texts(unittest.TestCase):
                 lambda: hwtool.engine_form(TWICE, bad=bad),
                 lambda: hwtool.obligation(KEPT, bad, NEVER_ONE),
                 lambda: hwtool.check_proof(KEPT, bad, NEVER_ONE, b""),
+                lambda: hwtool.restore(TWICE, b"", bad=bad),
+                lambda: hwtool.restore_abc(TWICE, bad, b""),
+                lambda: hwtool.lift_engine(KEPT, b"", bad=bad),
+                lambda: hwtool.lift_engine_abc(KEPT, bad, b""),
+                lambda: hwtool.obligation_aig(KEPT_LATCH, bad, NEVER_ONE),
+                lambda: hwtool.check_proof_aig(KEPT_LATCH, bad, NEVER_ONE, b""),
             ):
                 with self.assertRaises(ValueError):
                     call()

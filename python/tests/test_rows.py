@@ -16,7 +16,17 @@ from rows import read_rows  # noqa: E402
 
 FILES = {
     "check-btor": 2, "check-aig": 2, "lower": 1, "cost": 1, "aig-convert": 1, "lift": 2, "wave": 2, "obligation": 2,
-    "check-proof": 3,
+    "check-proof": 3, "restore": 2,
+}  # fmt: skip
+# the flags of commands, beside the two forms of circuits, that a call answers to
+FLAGS = {
+    "wave": {"--all"}, "aig-convert": {"--engine"}, "lift": {"--engine", "--abc", "--names"}, "restore": {"--abc"},
+    "obligation": {"--aiger"}, "check-proof": {"--aiger"},
+}  # fmt: skip
+# the forms of commands that calls of their own answer to
+FORMS = {
+    ("lift",), ("lift", "--engine"), ("lift", "--abc", "--engine"), ("restore",), ("restore", "--abc"), ("obligation",),
+    ("obligation", "--aiger"), ("check-proof",), ("check-proof", "--aiger"),
 }  # fmt: skip
 
 
@@ -27,18 +37,27 @@ def answer(command, flags, bad, files, names):
         if command in ("check-btor", "check-aig"):
             verdict = (hwtool.check_btor if command == "check-btor" else hwtool.check_aig)(*files)
             return 0 if verdict.accepted else 1, f"{verdict}\n".encode(), b""
+        # without a choice the only bad property is meant
         if command == "check-proof":
-            verdict = hwtool.check_proof(files[0], bad or 0, files[1], files[2])
+            call = hwtool.check_proof_aig if "--aiger" in flags else hwtool.check_proof
+            verdict = call(files[0], bad or 0, files[1], files[2])
             return 0 if verdict.holds else 1, f"{verdict}\n".encode(), b""
         if command == "obligation":
-            return 0, hwtool.obligation(files[0], bad or 0, files[1]), b""
+            call = hwtool.obligation_aig if "--aiger" in flags else hwtool.obligation
+            return 0, call(files[0], bad or 0, files[1]), b""
         if command == "cost":
             return 0, f"{hwtool.cost(files[0])}\n".encode(), b""
-        if command in ("lift", "wave"):
-            if command == "lift":
-                told = hwtool.lift(*files)
-            else:
+        if command in ("lift", "restore", "wave"):
+            if command == "wave":
                 told = hwtool.wave(*files, all="--all" in flags, title=" ".join(names).encode())
+            elif command == "restore":
+                told = hwtool.restore_abc(files[0], bad or 0, files[1]) if "--abc" in flags else hwtool.restore(*files, bad=bad)
+            elif "--abc" in flags:
+                told = hwtool.lift_engine_abc(files[0], bad or 0, files[1], names="--names" in flags)
+            elif "--engine" in flags:
+                told = hwtool.lift_engine(*files, bad=bad, names="--names" in flags)
+            else:
+                told = hwtool.lift(*files)
             return 0 if told else 1, told.text, f"{told.verdict}\n".encode()
         if command == "aig-convert" and "--engine" in flags:
             return 0, hwtool.engine_form(files[0], bad=bad, binary=binary), b""
@@ -59,8 +78,11 @@ def asked(words):
             flags.append(word)
         else:
             names.append(word)
-    known = {"--binary", "--ascii"} | ({"--all"} if command == "wave" else set()) | ({"--engine"} if command == "aig-convert" else set())
+    known = {"--binary", "--ascii"} | FLAGS.get(command, set())
     if command not in FILES or not known.issuperset(flags) or len(names) != FILES[command] or any("/" in name for name in names):
+        return None
+    # of a witness of the circuit itself no call lifts the names
+    if command == "lift" and "--names" in flags and "--engine" not in flags:
         return None
     return command, flags, bad, names
 
@@ -73,7 +95,7 @@ class Rows(unittest.TestCase):
         os.chdir(folder.name)
 
     def test_rows(self):
-        tried = {}
+        tried, forms = {}, set()
         for row in read_rows():
             # with status 4 the program refuses words
             words = [word.decode(errors="replace") for word in row.words]
@@ -91,7 +113,9 @@ class Rows(unittest.TestCase):
                     with self.assertRaises(FileNotFoundError):
                         answer(command, flags, bad, names, names)
                     continue
-                expected = row.status, row.out, row.err
+                # what is said behind a judgement by name, no call says
+                err = row.err.split(b"\n")[0] + b"\n" if "--names" in flags else row.err
+                expected = row.status, row.out, err
                 self.assertEqual(answer(command, flags, bad, names, names), expected)
                 of_bytes = answer(command, flags, bad, texts, names)
                 if row.status == 2:
@@ -99,8 +123,10 @@ class Rows(unittest.TestCase):
                     of_bytes = (*of_bytes[:2], names[of_bytes[2].startswith(b"invariant: ")].encode() + of_bytes[2][of_bytes[2].index(b":") :])
                 self.assertEqual(of_bytes, expected)
                 tried[command] = tried.get(command, 0) + 1
+                forms.add((command, *sorted(set(flags) & {"--abc", "--aiger", "--engine"})))
         # rows that were not read would be no test
         self.assertGreater(min(tried.get(command, 0) for command in FILES), 4, tried)
+        self.assertEqual(FORMS - forms, set())
 
 
 if __name__ == "__main__":

@@ -35,7 +35,13 @@ struct answer {
     uint8_t buffer[1 << 16];
 };
 
+/* A witness and a counterexample over the engine form of the circuit of the model, and an invariant over that of the circuit. */
+#define FORM_WITNESS "1\nb0\n0000\n0\n0\n.\n"
+#define FOUND "0000\n0\n0\n"
+#define NEVER_ONE ".i 1\n.o 1\n.p 1\n.ilb lo0\n.ob inv\n1 1\n.e\n"
+
 #define OF(text) texts[text].bytes, texts[text].length
+#define LITERAL(text) (const uint8_t *)text, sizeof text - 1
 #define INTO a->buffer, sizeof a->buffer, &a->needed, &a->refusal
 
 static void check_btor(struct answer *a) { a->status = hwtool_check_btor(OF(MODEL), OF(WITNESS), &a->verdict, &a->refusal); }
@@ -47,12 +53,31 @@ static void cost(struct answer *a) { a->status = hwtool_cost(OF(MODEL), &a->gate
 static void convert(struct answer *a) { a->status = hwtool_convert(OF(CIRCUIT), true, INTO); }
 static void engine_form(struct answer *a) { a->status = hwtool_engine_form(OF(CIRCUIT), true, 0, true, INTO); }
 static void lift(struct answer *a) { a->status = hwtool_lift(OF(MODEL), OF(CIRCUIT_WITNESS), &a->verdict, INTO); }
+static void restore(struct answer *a) {
+    a->status = hwtool_restore(OF(CIRCUIT), true, 0, OF(CIRCUIT_WITNESS), &a->verdict, INTO);
+}
+static void restore_abc(struct answer *a) {
+    a->status = hwtool_restore_abc(OF(CIRCUIT), 0, LITERAL("0\n1\n1\n"), &a->verdict, INTO);
+}
+static void lift_engine(struct answer *a) {
+    a->status = hwtool_lift_engine(OF(MODEL), false, 0, true, LITERAL(FORM_WITNESS), &a->verdict, INTO);
+}
+static void lift_engine_abc(struct answer *a) {
+    a->status = hwtool_lift_engine_abc(OF(MODEL), 0, false, LITERAL(FOUND), &a->verdict, INTO);
+}
 static void wave(struct answer *a) {
-    a->status = hwtool_wave(OF(MODEL), true, (const uint8_t *)"title", 5, OF(WITNESS), &a->verdict, INTO);
+    a->status = hwtool_wave(OF(MODEL), true, LITERAL("title"), OF(WITNESS), &a->verdict, INTO);
 }
 static void obligation(struct answer *a) { a->status = hwtool_obligation(OF(MODEL), 0, OF(INVARIANT), INTO); }
 static void check_proof(struct answer *a) {
     a->status = hwtool_check_proof(OF(MODEL), 0, OF(INVARIANT), OF(PROOF), &a->verdict, &a->refusal);
+}
+
+static void obligation_aig(struct answer *a) {
+    a->status = hwtool_obligation_aig(OF(CIRCUIT), 0, LITERAL(NEVER_ONE), INTO);
+}
+static void check_proof_aig(struct answer *a) {
+    a->status = hwtool_check_proof_aig(OF(CIRCUIT), 0, LITERAL(NEVER_ONE), LITERAL("2 0\n"), &a->verdict, &a->refusal);
 }
 
 static const struct {
@@ -61,7 +86,9 @@ static const struct {
 } calls[] = {
     {"check_btor", check_btor}, {"check_aig", check_aig}, {"lower", lower}, {"cost", cost},
     {"convert", convert}, {"engine_form", engine_form}, {"lift", lift}, {"wave", wave},
-    {"obligation", obligation}, {"check_proof", check_proof},
+    {"obligation", obligation}, {"check_proof", check_proof}, {"restore", restore}, {"restore_abc", restore_abc},
+    {"lift_engine", lift_engine}, {"lift_engine_abc", lift_engine_abc}, {"obligation_aig", obligation_aig},
+    {"check_proof_aig", check_proof_aig},
 };
 
 static struct answer ample, before, now;

@@ -1,1 +1,3 @@
 pub mod HoldsLemmas
+pub mod LiftedLemmas
+pub mod NameLemmas

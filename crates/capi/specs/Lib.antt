@@ -3,3 +3,7 @@ pub mod Judged
 pub mod Written
 pub mod Lifted
 pub mod Certified
+pub mod CircuitCertified
+pub mod Restored
+pub mod EngineLifted
+pub mod Named

@@ -13,6 +13,7 @@ use Rattle.engine.specs.EngineForm.{IsEngineFormOf}
 use Rattle.engine.specs.Faults.{number_of as engine_number}
 use Rattle.engine.specs.Refusal.{engine_refusal}
 use Rattle.engine.specs.declared.fault.EngineFault.{EngineFault}
+use Rattle.engine.specs.declared.fault.EngineFault.TheVariants as engine
 use Rattle.lift.specs.Lifted.{lifted_text}
 use Rattle.lift.specs.Verdicts.{KeepsVerdict}
 use Rattle.wave.specs.Dumps.{vcd_text}
@@ -25,6 +26,8 @@ use Rattle.witness.specs.declared.judgement.Judgement.{Judgement}
 use Rattle.capi.specs.Judged.{verdict_of}
 use Rattle.capi.specs.Written.{form_of}
 use Rattle.capi.specs.declared.answers.Refusal.{Refusal}
+use Rattle.capi.specs.declared.answers.Stop.{Stop}
+use Rattle.capi.specs.declared.answers.Stop.TheVariants as stop
 use Rattle.capi.specs.declared.answers.Verdict.{Verdict}
 
 -- the second text is judged so over a circuit that lowers the model of the first, and some bytes are what it is lifted to, of which the same verdict is judged over the model
@@ -67,6 +70,11 @@ pub record IsForm (circuit : List ℕ) (chosen : Bool) (bad : ℕ) (binary : Boo
   pub form : Circuit
   pub is_form : IsEngineFormOf value (choice_of chosen bad) form
   pub is : bytes ≡ circuit_text (form_of binary) form
+
+-- why a call stops where a circuit has no engine form
+abbrev pub form_stop : EngineFault → Stop
+form_stop engine.NoMemory = stop.NoMemory
+form_stop fault = stop.Model (record { number = engine_number fault; place = 0 })
 
 -- a text is of a circuit without such an engine form, and this is the number of what speaks against it first
 pub record IsFormless (text : List ℕ) (chosen : Bool) (bad : ℕ) (refusal : Refusal) : Type 0 where

@@ -1,5 +1,5 @@
 -- What the exported calls write, said of the bytes that they are given.
-use Rattle.std.specs.Prelude.{◌≡◌, ◌<◌, ℕ, Bool, true, false, List, Some, length, take}
+use Rattle.std.specs.Prelude.{◌≡◌, ◌<◌, ◌≤◌, ◌++◌, ℕ, Bool, true, false, List, Some, length, drop}
 use Rattle.btor2.specs.declared.item.Item.{Item}
 use Rattle.btor2.specs.Check.{IsWellFormed}
 use Rattle.btor2text.specs.Spelling.{StandsFor}
@@ -20,19 +20,21 @@ use Rattle.capi.specs.declared.answers.Stop.TheVariants as stop
 
 -- ---- into the caller's buffer
 
--- some bytes that are so stand at the front of a buffer, and their number is told
-pub record Fills (IsSo : List ℕ → Type 0) (buffer : List ℕ) (needed : ℕ) : Type 0 where
+-- some bytes that are so stand at the front of a buffer, behind them it is as it was, and their number is told
+pub record Fills (IsSo : List ℕ → Type 0) (old new : List ℕ) (needed : ℕ) : Type 0 where
   pub bytes : List ℕ
   pub is_so : IsSo bytes
   pub number : needed ≡ length bytes
-  pub front : take (length bytes) buffer ≡ bytes
+  pub room : length bytes ≤ length old
+  pub filled : new ≡ bytes ++ drop (length bytes) old
 
--- some bytes that are so are more than a buffer has room for, and their number is told
-pub record Needs (IsSo : List ℕ → Type 0) (room needed : ℕ) : Type 0 where
+-- some bytes that are so are more than a buffer has room for, which stays as it was, and their number is told
+pub record Needs (IsSo : List ℕ → Type 0) (old new : List ℕ) (needed : ℕ) : Type 0 where
   pub bytes : List ℕ
   pub is_so : IsSo bytes
   pub number : needed ≡ length bytes
-  pub small : room < length bytes
+  pub small : length old < length bytes
+  pub stays : new ≡ old
 
 -- ---- circuits
 

@@ -2,7 +2,9 @@
 ghost use Rattle.std.specs.Prelude.{◌≡◌};
 ghost use Rattle.capi.specs.Certified.{proof_verdict_of};
 ghost use Rattle.capi.specs.Judged.{Tells, verdict_of};
+ghost use Rattle.capi.specs.Restored.{fault_verdict_of};
 
+use restore::RestoreFault;
 use witness::Judgement;
 
 /// What is said of a witness: `kind` is 0 accepted, 1 not reached, 2 violated, 3 an initial value differs, 4 malformed, 5 no
@@ -59,6 +61,20 @@ impl Verdict {
             kind,
             why,
             first,
+            second: 0,
+        }
+    }
+}
+
+impl Verdict {
+    /// What the first faulty line of a counterexample over an engine form is told as.
+    pub(crate) fn of_fault(fault: &RestoreFault) -> Verdict
+        ensures { result ≡ fault_verdict_of fault.now }
+    {
+        Verdict {
+            kind: 4,
+            why: fault.why.number(),
+            first: fault.line,
             second: 0,
         }
     }

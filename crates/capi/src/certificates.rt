@@ -1,9 +1,12 @@
 //! The calls that judge proofs.
 ghost use Rattle.std.specs.Prelude.{◌≡◌, ◌≢◌, ◌⊎◌, ℕ, List, Some, IfOk, IfErr, IfSome, length};
+ghost use Rattle.btor2.specs.declared.item.Item.{Item};
 ghost use Rattle.btor2text.specs.Spelling.{StandsFor};
+ghost use Rattle.aigertext.specs.Spelling.{Spells};
 ghost use Rattle.blast.specs.Lowering.{Lowers};
 ghost use Rattle.capi.specs.declared.answers.Stop.TheVariants as stop;
 ghost use Rattle.capi.specs.Certified.{IsClaimStop, IsObligation, IsProofVerdict, OwesNothing, claim_stop};
+ghost use Rattle.capi.specs.CircuitCertified.{IsClaimStopOver, IsObligationOver, IsProofVerdictOver, OwesNothingOver};
 ghost use Rattle.capi.specs.Judged.{IsNoModel, IsStop};
 ghost use Rattle.clauses.specs.FormulaTexts.{formula_text};
 ghost use Rattle.capi.specs.Written.{Fills, IsUnlowered, Needs};
@@ -28,6 +31,7 @@ use std::alloc::Global;
 fn invariant_stop(fault: InvariantFault) -> Stop
     ensures stop { result ≡ claim_stop (ClaimFault.Invariant fault) }
     ensures owes { (model : List ℕ) (bad : ℕ) (invariant : List ℕ) → OwesNothing model bad invariant result → IsClaimStop model bad invariant result }
+    ensures owes_over { (circuit : List ℕ) (bad : ℕ) (invariant : List ℕ) → OwesNothingOver circuit bad invariant result → IsClaimStopOver circuit bad invariant result }
 {
     match fault.why {
         InvariantWhy::NoMemory => Stop::NoMemory,
@@ -43,6 +47,7 @@ fn invariant_stop(fault: InvariantFault) -> Stop
 fn claim_stop(fault: ClaimFault) -> Stop
     ensures stop { result ≡ claim_stop fault }
     ensures owes { (model : List ℕ) (bad : ℕ) (invariant : List ℕ) → OwesNothing model bad invariant result → IsClaimStop model bad invariant result }
+    ensures owes_over { (circuit : List ℕ) (bad : ℕ) (invariant : List ℕ) → OwesNothingOver circuit bad invariant result → IsClaimStopOver circuit bad invariant result }
 {
     match fault {
         ClaimFault::Form(EngineFault::NoMemory) => Stop::NoMemory,
@@ -59,20 +64,22 @@ fn claim_stop(fault: ClaimFault) -> Stop
     }
 }
 
-/// Judges a certificate of a bad property over the circuit of a model.
-fn certify_over(
+/// Judges a certificate of a bad property of a circuit: of one that lowers the model of a text, or that of a text.
+pub(crate) fn certify_over(
     alloc: Global,
-    model: &Model,
     circuit: &Circuit,
     bad: usize,
     invariant: &[u8],
     proof: &[u8],
 ) -> Result<Verdict, Stop>
-    requires { Lowers model.now circuit.now }
-    ensures done { (text : List ℕ) → StandsFor text model.now → IfOk result (IsProofVerdict text bad invariant.now proof.now) }
-    ensures refused { (text : List ℕ) → StandsFor text model.now → IfErr result (IsClaimStop text bad invariant.now) }
+    ensures done { (text : List ℕ) (items : List Item) → StandsFor text items → Lowers items circuit.now → IfOk result (IsProofVerdict text bad invariant.now proof.now) }
+    ensures refused { (text : List ℕ) (items : List Item) → StandsFor text items → Lowers items circuit.now → IfErr result (IsClaimStop text bad invariant.now) }
+    ensures done_over { (text : List ℕ) → Spells text circuit.now → IfOk result (IsProofVerdictOver text bad invariant.now proof.now) }
+    ensures refused_over { (text : List ℕ) → Spells text circuit.now → IfErr result (IsClaimStopOver text bad invariant.now) }
 {
     blast::laws::bad_properties_rise_alike();
+    // the lists of a circuit are one
+    let _ = circuit.inputs();
     let mut first = invariant;
     let mut second = proof;
     match judge_certificate(alloc, circuit, bad, &mut first, &mut second) {
@@ -94,7 +101,7 @@ fn certify_model(
     ensures refused { (text : List ℕ) → StandsFor text model.now → IfErr result (IsClaimStop text bad invariant.now) }
 {
     match lower(alloc, model) {
-        Ok(circuit) => certify_over(alloc, model, &circuit, bad, invariant, proof),
+        Ok(circuit) => certify_over(alloc, &circuit, bad, invariant, proof),
         Err(fault) => Err(stop_of(fault)),
     }
 }
@@ -162,18 +169,20 @@ fn formula_text(alloc: Global, formula: &Formula) -> Result<VecSink, Stop>
     }
 }
 
-/// Writes what an invariant owes for a bad property of the circuit of a model.
-fn owe_over(
+/// Writes what an invariant owes for a bad property of a circuit: of one that lowers the model of a text, or that of a text.
+pub(crate) fn owe_over(
     alloc: Global,
-    model: &Model,
     circuit: &Circuit,
     bad: usize,
     invariant: &[u8],
 ) -> Result<VecSink, Stop>
-    requires { Lowers model.now circuit.now }
-    ensures done { (text : List ℕ) → StandsFor text model.now → IfOk result (λ sink. IfSome (⟦<VecSink as Sink>⟧.written sink) (IsObligation text bad invariant.now)) }
-    ensures refused { (text : List ℕ) → StandsFor text model.now → IfErr result (IsClaimStop text bad invariant.now) }
+    ensures done { (text : List ℕ) (items : List Item) → StandsFor text items → Lowers items circuit.now → IfOk result (λ sink. IfSome (⟦<VecSink as Sink>⟧.written sink) (IsObligation text bad invariant.now)) }
+    ensures refused { (text : List ℕ) (items : List Item) → StandsFor text items → Lowers items circuit.now → IfErr result (IsClaimStop text bad invariant.now) }
+    ensures done_over { (text : List ℕ) → Spells text circuit.now → IfOk result (λ sink. IfSome (⟦<VecSink as Sink>⟧.written sink) (IsObligationOver text bad invariant.now)) }
+    ensures refused_over { (text : List ℕ) → Spells text circuit.now → IfErr result (IsClaimStopOver text bad invariant.now) }
 {
+    // the lists of a circuit are one
+    let _ = circuit.inputs();
     let mut source = invariant;
     match owed_formula(alloc, circuit, bad, &mut source) {
         Ok(formula) => formula_text(alloc, &formula),
@@ -192,7 +201,7 @@ fn owe_for_model(
     ensures refused { (text : List ℕ) → StandsFor text model.now → IfErr result (IsClaimStop text bad invariant.now) }
 {
     match lower(alloc, model) {
-        Ok(circuit) => owe_over(alloc, model, &circuit, bad, invariant),
+        Ok(circuit) => owe_over(alloc, &circuit, bad, invariant),
         Err(fault) => Err(stop_of(fault)),
     }
 }
@@ -209,9 +218,9 @@ fn owed(alloc: Global, model: &[u8], bad: usize, invariant: &[u8]) -> Result<Vec
 /// Writes the formula, as a text in DIMACS, that the text of an invariant owes for the bad property of the text of a BTOR2
 /// model at this position, from 0: where nothing satisfies it, the property rises in no frame up to which the constraints hold.
 ///
-/// Answers 0 where that text stands at the front of the buffer, and 1 where it is longer than the buffer, of which nothing is
-/// promised then: after both `needed` is its length. 2, 3, 4 and 5 as of `hwtool_check_proof`. With 0, 1 and 4 the refusal
-/// stays, and without 0 and 1 buffer and `needed` do.
+/// Answers 0 where that text stands at the front of the buffer, whose bytes behind it stay, and 1 where it is longer than the
+/// buffer, which stays then: after both `needed` is its length. 2, 3, 4 and 5 as of `hwtool_check_proof`. With 0, 1 and 4 the
+/// refusal stays, and without 0 and 1 buffer and `needed` do.
 #[unsafe(no_mangle)]
 pub extern "C" fn hwtool_obligation(
     alloc: Global,
@@ -222,8 +231,8 @@ pub extern "C" fn hwtool_obligation(
     needed: &mut usize,
     refusal: &mut Refusal,
 ) -> u32
-    ensures done { result ≡ 0 → Fills (IsObligation model.now bad invariant.now) buffer.new needed.new }
-    ensures small { result ≡ 1 → Needs (IsObligation model.now bad invariant.now) (length buffer.old) needed.new }
+    ensures done { result ≡ 0 → Fills (IsObligation model.now bad invariant.now) buffer.old buffer.new needed.new }
+    ensures small { result ≡ 1 → Needs (IsObligation model.now bad invariant.now) buffer.old buffer.new needed.new }
     ensures refused { result ≡ 2 → IsNoModel model.now refusal.new }
     ensures unlowered { result ≡ 3 → IsUnlowered model.now refusal.new ⊎ OwesNothing model.now bad invariant.now (stop.Model refusal.new) }
     ensures second { result ≡ 5 → OwesNothing model.now bad invariant.now (stop.Second refusal.new) }

@@ -2,7 +2,7 @@
 ghost use Rattle.std.specs.Prelude.{◌≡◌, ◌⊎◌, ℕ, List, IfOk, IfErr, IfSome, length};
 ghost use Rattle.aigertext.specs.Spelling.{Spells};
 ghost use Rattle.capi.specs.Judged.{IsNoCircuit, IsStop};
-ghost use Rattle.capi.specs.Lifted.{IsForm, IsFormless, choice_of};
+ghost use Rattle.capi.specs.Lifted.{IsForm, IsFormless, choice_of, form_stop};
 ghost use Rattle.capi.specs.Written.{Fills, Needs};
 
 use crate::answers::{Refusal, Stop, tell};
@@ -15,10 +15,23 @@ use engine::{EngineFault, engine_form};
 use std::alloc::Global;
 
 /// The bad property that is chosen, where one is.
-fn choice_of(chosen: bool, bad: usize) -> Option<usize>
+pub(crate) fn choice_of(chosen: bool, bad: usize) -> Option<usize>
     ensures { result ≡ choice_of chosen bad }
 {
     if chosen { Some(bad) } else { None }
+}
+
+/// Why a call stops where a circuit has no engine form.
+pub(crate) fn form_stop(fault: EngineFault) -> Stop
+    ensures { result ≡ form_stop fault }
+{
+    match fault {
+        EngineFault::NoMemory => Stop::NoMemory,
+        against => Stop::Model(Refusal {
+            number: against.number(),
+            place: 0,
+        }),
+    }
 }
 
 /// Writes the engine form of a circuit that was read.
@@ -34,11 +47,7 @@ fn form_text(
 {
     match engine_form(alloc, circuit, choice_of(chosen, bad)) {
         Ok(form) => text_of(alloc, &form, form_of(binary)),
-        Err(EngineFault::NoMemory) => Err(Stop::NoMemory),
-        Err(fault) => Err(Stop::Model(Refusal {
-            number: fault.number(),
-            place: 0,
-        })),
+        Err(fault) => Err(form_stop(fault)),
     }
 }
 
@@ -60,10 +69,10 @@ fn formed(
 /// Writes the engine form of the text of an AIGER circuit, which every engine reads alike, binary or ascii: with all its bad
 /// properties, or, where one is chosen, with the one at this position alone.
 ///
-/// Answers 0 where that text stands at the front of the buffer, and 1 where it is longer than the buffer, of which nothing is
-/// promised then: after both `needed` is its length. 2 where the text is no circuit, with the number and the place of its
-/// first fault, in bytes from 0; 3 where the circuit has no such form, with the number of what speaks against it first; 4 where
-/// memory was wanting. With 0, 1 and 4 the refusal stays, and without 0 and 1 buffer and `needed` do.
+/// Answers 0 where that text stands at the front of the buffer, whose bytes behind it stay, and 1 where it is longer than the
+/// buffer, which stays then: after both `needed` is its length. 2 where the text is no circuit, with the number and the place
+/// of its first fault, in bytes from 0; 3 where the circuit has no such form, with the number of what speaks against it first;
+/// 4 where memory was wanting. With 0, 1 and 4 the refusal stays, and without 0 and 1 buffer and `needed` do.
 #[unsafe(no_mangle)]
 pub extern "C" fn hwtool_engine_form(
     alloc: Global,
@@ -75,8 +84,8 @@ pub extern "C" fn hwtool_engine_form(
     needed: &mut usize,
     refusal: &mut Refusal,
 ) -> u32
-    ensures done { result ≡ 0 → Fills (IsForm circuit.now chosen bad binary) buffer.new needed.new }
-    ensures small { result ≡ 1 → Needs (IsForm circuit.now chosen bad binary) (length buffer.old) needed.new }
+    ensures done { result ≡ 0 → Fills (IsForm circuit.now chosen bad binary) buffer.old buffer.new needed.new }
+    ensures small { result ≡ 1 → Needs (IsForm circuit.now chosen bad binary) buffer.old buffer.new needed.new }
     ensures refused { result ≡ 2 → IsNoCircuit circuit.now refusal.new }
     ensures formless { result ≡ 3 → IsFormless circuit.now chosen bad refusal.new }
     ensures statuses { (result ≡ 0) ⊎ ((result ≡ 1) ⊎ ((result ≡ 2) ⊎ ((result ≡ 3) ⊎ (result ≡ 4)))) }

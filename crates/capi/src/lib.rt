@@ -5,11 +5,14 @@
 mod answers;
 mod buffers;
 mod certificates;
+mod circuit_certificates;
+mod engine_lifting;
 mod engines;
 mod judging;
 mod lifting;
 mod lowering;
 mod names;
 mod reading;
+mod restoring;
 
 pub use answers::{Refusal, Verdict};

@@ -116,11 +116,11 @@ fn dumped(
 /// Judges the text of a witness over the circuit that the text of a BTOR2 model lowers to, and lifts it to the witness of the
 /// model that says the same.
 ///
-/// Answers 0 where what it is lifted to stands at the front of the buffer, and 1 where that is longer than the buffer, of which
-/// nothing is promised then: after both `needed` is its length, and the verdict is told. 2 where the first text is no model,
-/// with the number and the line of its first fault; 3 where the model is not lowered, with the number of what speaks against
-/// it first and the id of its item, or 0; 4 where memory was wanting. With 0, 1 and 4 the refusal stays, and without 0 and 1
-/// verdict, buffer and `needed` do.
+/// Answers 0 where what it is lifted to stands at the front of the buffer, whose bytes behind it stay, and 1 where that is
+/// longer than the buffer, which stays then: after both `needed` is its length, and the verdict is told. 2 where the first text
+/// is no model, with the number and the line of its first fault; 3 where the model is not lowered, with the number of what
+/// speaks against it first and the id of its item, or 0; 4 where memory was wanting. With 0, 1 and 4 the refusal stays, and
+/// without 0 and 1 verdict, buffer and `needed` do.
 #[unsafe(no_mangle)]
 pub extern "C" fn hwtool_lift(
     alloc: Global,
@@ -131,8 +131,8 @@ pub extern "C" fn hwtool_lift(
     needed: &mut usize,
     refusal: &mut Refusal,
 ) -> u32
-    ensures done { result ≡ 0 → Fills (IsLift model.now witness.now verdict.new) buffer.new needed.new }
-    ensures small { result ≡ 1 → Needs (IsLift model.now witness.now verdict.new) (length buffer.old) needed.new }
+    ensures done { result ≡ 0 → Fills (IsLift model.now witness.now verdict.new) buffer.old buffer.new needed.new }
+    ensures small { result ≡ 1 → Needs (IsLift model.now witness.now verdict.new) buffer.old buffer.new needed.new }
     ensures refused { result ≡ 2 → IsNoModel model.now refusal.new }
     ensures unlowered { result ≡ 3 → IsUnlowered model.now refusal.new }
     ensures statuses { (result ≡ 0) ⊎ ((result ≡ 1) ⊎ ((result ≡ 2) ⊎ ((result ≡ 3) ⊎ (result ≡ 4)))) }
@@ -152,11 +152,11 @@ pub extern "C" fn hwtool_lift(
 /// Judges the text of a witness over the text of a BTOR2 model, and writes its frames as a value change dump (IEEE 1364), with
 /// a title in its comment: of nodes that are no inputs, states, properties or outputs those that have a symbol, or all.
 ///
-/// Answers 0 where the dump stands at the front of the buffer, and 1 where it is longer than the buffer, of which nothing is
-/// promised then: after both `needed` is its length, and the verdict is told. 2 where the first text is no model, with the
-/// number and the line of its first fault; 3 where a state has an init and no next, with the number of that and the id of the
-/// first such state; 4 where memory was wanting. With 0, 1 and 4 the refusal stays, and without 0 and 1 verdict, buffer and
-/// `needed` do.
+/// Answers 0 where the dump stands at the front of the buffer, whose bytes behind it stay, and 1 where it is longer than the
+/// buffer, which stays then: after both `needed` is its length, and the verdict is told. 2 where the first text is no model,
+/// with the number and the line of its first fault; 3 where a state has an init and no next, with the number of that and the id
+/// of the first such state; 4 where memory was wanting. With 0, 1 and 4 the refusal stays, and without 0 and 1 verdict, buffer
+/// and `needed` do.
 #[unsafe(no_mangle)]
 pub extern "C" fn hwtool_wave(
     alloc: Global,
@@ -169,8 +169,8 @@ pub extern "C" fn hwtool_wave(
     needed: &mut usize,
     refusal: &mut Refusal,
 ) -> u32
-    ensures done { result ≡ 0 → Fills (IsDump model.now all title.now witness.now verdict.new) buffer.new needed.new }
-    ensures small { result ≡ 1 → Needs (IsDump model.now all title.now witness.now verdict.new) (length buffer.old) needed.new }
+    ensures done { result ≡ 0 → Fills (IsDump model.now all title.now witness.now verdict.new) buffer.old buffer.new needed.new }
+    ensures small { result ≡ 1 → Needs (IsDump model.now all title.now witness.now verdict.new) buffer.old buffer.new needed.new }
     ensures refused { result ≡ 2 → IsNoModel model.now refusal.new }
     ensures unjudged { result ≡ 3 → IsUnjudged model.now refusal.new }
     ensures statuses { (result ≡ 0) ⊎ ((result ≡ 1) ⊎ ((result ≡ 2) ⊎ ((result ≡ 3) ⊎ (result ≡ 4)))) }

@@ -90,10 +90,10 @@ fn rewritten(alloc: Global, circuit: &[u8], binary: bool) -> Result<VecSink, Sto
 
 /// Lowers the text of a BTOR2 model to that of an AIGER circuit, binary or ascii.
 ///
-/// Answers 0 where the circuit's text stands at the front of the buffer, and 1 where it is longer than the buffer, of which
-/// nothing is promised then: after both `needed` is its length. 2 where the text is no model, with the number and the line of
-/// its first fault; 3 where the model is not lowered, with the number of what speaks against it first and the id of its item,
-/// or 0; 4 where memory was wanting. With 0, 1 and 4 the refusal stays, and without 0 and 1 buffer and `needed` do.
+/// Answers 0 where the circuit's text stands at the front of the buffer, whose bytes behind it stay, and 1 where it is longer
+/// than the buffer, which stays then: after both `needed` is its length. 2 where the text is no model, with the number and the
+/// line of its first fault; 3 where the model is not lowered, with the number of what speaks against it first and the id of its
+/// item, or 0; 4 where memory was wanting. With 0, 1 and 4 the refusal stays, and without 0 and 1 buffer and `needed` do.
 #[unsafe(no_mangle)]
 pub extern "C" fn hwtool_lower(
     alloc: Global,
@@ -103,8 +103,8 @@ pub extern "C" fn hwtool_lower(
     needed: &mut usize,
     refusal: &mut Refusal,
 ) -> u32
-    ensures done { result ≡ 0 → Fills (IsLowering model.now binary) buffer.new needed.new }
-    ensures small { result ≡ 1 → Needs (IsLowering model.now binary) (length buffer.old) needed.new }
+    ensures done { result ≡ 0 → Fills (IsLowering model.now binary) buffer.old buffer.new needed.new }
+    ensures small { result ≡ 1 → Needs (IsLowering model.now binary) buffer.old buffer.new needed.new }
     ensures refused { result ≡ 2 → IsNoModel model.now refusal.new }
     ensures unlowered { result ≡ 3 → IsUnlowered model.now refusal.new }
     ensures statuses { (result ≡ 0) ⊎ ((result ≡ 1) ⊎ ((result ≡ 2) ⊎ ((result ≡ 3) ⊎ (result ≡ 4)))) }
@@ -119,10 +119,10 @@ pub extern "C" fn hwtool_lower(
 
 /// Writes the text of an AIGER circuit of either form anew, binary or ascii, its variables numbered as in the binary form.
 ///
-/// Answers 0 where that text stands at the front of the buffer, and 1 where it is longer than the buffer, of which nothing is
-/// promised then: after both `needed` is its length. 2 where the text is no circuit, with the number and the place of its
-/// first fault, in bytes from 0; 4 where memory was wanting. With 0, 1 and 4 the refusal stays, and without 0 and 1 buffer and
-/// `needed` do.
+/// Answers 0 where that text stands at the front of the buffer, whose bytes behind it stay, and 1 where it is longer than the
+/// buffer, which stays then: after both `needed` is its length. 2 where the text is no circuit, with the number and the place
+/// of its first fault, in bytes from 0; 4 where memory was wanting. With 0, 1 and 4 the refusal stays, and without 0 and 1
+/// buffer and `needed` do.
 #[unsafe(no_mangle)]
 pub extern "C" fn hwtool_convert(
     alloc: Global,
@@ -132,8 +132,8 @@ pub extern "C" fn hwtool_convert(
     needed: &mut usize,
     refusal: &mut Refusal,
 ) -> u32
-    ensures done { result ≡ 0 → Fills (IsRewriting circuit.now binary) buffer.new needed.new }
-    ensures small { result ≡ 1 → Needs (IsRewriting circuit.now binary) (length buffer.old) needed.new }
+    ensures done { result ≡ 0 → Fills (IsRewriting circuit.now binary) buffer.old buffer.new needed.new }
+    ensures small { result ≡ 1 → Needs (IsRewriting circuit.now binary) buffer.old buffer.new needed.new }
     ensures refused { result ≡ 2 → IsNoCircuit circuit.now refusal.new }
     ensures statuses { (result ≡ 0) ⊎ ((result ≡ 1) ⊎ ((result ≡ 2) ⊎ (result ≡ 4))) }
     ensures unwritten { (result ≡ 2) ⊎ (result ≡ 4) → (buffer.new ≡ buffer.old) × (needed.new ≡ needed.old) }

@@ -1,35 +1,63 @@
 //! The calls that name refusals and the version.
-ghost use Rattle.std.specs.Prelude.{◌≡◌, ◌⊎◌, ◌<◌, ⊤, length};
+ghost use Rattle.std.specs.Prelude.{◌≡◌, ◌⊎◌, None, IfSome, option_map};
 ghost use Rattle.orders.specs.Version.{version};
+ghost use Rattle.capi.specs.Named.{IsName, IsOfNone, name_among, name_in};
 ghost use Rattle.capi.specs.Written.{Fills, Needs};
 
 use crate::buffers::hand_over;
-use command_line::refusal_table;
+use command_line::{Explanation, Part, refusal_table};
 use orders::version;
 
 /// The status where no refusal has a number.
 const UNKNOWN: u32 = 2;
 
-/// The name of a refusal, as the program prints it.
-fn name_of(number: u32) -> Option<&'static str> {
-    for part in &refusal_table() {
-        for row in part.rows {
-            if row.number == number {
-                return Some(row.name);
-            }
+/// The name of the first of some rows that has a number.
+fn name_in(rows: &[Explanation], number: u32) -> Option<&'static str>
+    ensures { option_map (λ name. name.now) result ≡ name_in number rows.now }
+{
+    let mut rest = rows;
+    while let [row, behind @ ..] = rest {
+        if row.number == number {
+            return Some(row.name);
         }
+        rest = behind;
     }
     None
 }
 
+/// The name of the first row of some parts that has a number.
+fn name_among(parts: &[Part], number: u32) -> Option<&'static str>
+    ensures { option_map (λ name. name.now) result ≡ name_among number parts.now }
+{
+    let mut rest = parts;
+    while let [part, behind @ ..] = rest {
+        let name = name_in(part.rows, number);
+        if name.is_some() {
+            return name;
+        }
+        rest = behind;
+    }
+    None
+}
+
+/// The name of a refusal, as the program prints it.
+fn name_of(number: u32) -> Option<&'static str>
+    ensures named { IfSome result (λ name. IsName number name.now) }
+    ensures unnamed { result ≡ None → IsOfNone number }
+{
+    name_among(&refusal_table(), number)
+}
+
 /// Tells the name of the refusal, or of what is wrong with a line, that has this number; it does not end with a zero byte.
 ///
-/// Answers 0 where the name stands at the front of the buffer, and 1 where it is longer than the buffer, of which nothing is
-/// promised then: after both `needed` is its length. 2 where no refusal has this number; buffer and `needed` stay then.
+/// Answers 0 where the name stands at the front of the buffer, whose bytes behind it stay, and 1 where it is longer than the
+/// buffer, which stays then: after both `needed` is its length. 2 where no refusal has this number; buffer and `needed` stay
+/// then.
 #[unsafe(no_mangle)]
 pub extern "C" fn hwtool_name(number: u32, buffer: &mut [u8], needed: &mut usize) -> u32
-    ensures done { result ≡ 0 → Fills (λ _. ⊤) buffer.new needed.new }
-    ensures small { result ≡ 1 → length buffer.old < needed.new }
+    ensures done { result ≡ 0 → Fills (IsName number) buffer.old buffer.new needed.new }
+    ensures small { result ≡ 1 → Needs (IsName number) buffer.old buffer.new needed.new }
+    ensures unknown { result ≡ 2 → IsOfNone number }
     ensures statuses { (result ≡ 0) ⊎ ((result ≡ 1) ⊎ (result ≡ 2)) }
     ensures unwritten { result ≡ 2 → (buffer.new ≡ buffer.old) × (needed.new ≡ needed.old) }
 {
@@ -41,12 +69,12 @@ pub extern "C" fn hwtool_name(number: u32, buffer: &mut [u8], needed: &mut usize
 
 /// Tells the version of the library, which is that of the program; it does not end with a zero byte.
 ///
-/// Answers 0 where it stands at the front of the buffer, and 1 where it is longer than the buffer, of which nothing is promised
-/// then: after both `needed` is its length.
+/// Answers 0 where it stands at the front of the buffer, whose bytes behind it stay, and 1 where it is longer than the buffer,
+/// which stays then: after both `needed` is its length.
 #[unsafe(no_mangle)]
 pub extern "C" fn hwtool_version(buffer: &mut [u8], needed: &mut usize) -> u32
-    ensures done { result ≡ 0 → Fills (λ text. text ≡ version) buffer.new needed.new }
-    ensures small { result ≡ 1 → Needs (λ text. text ≡ version) (length buffer.old) needed.new }
+    ensures done { result ≡ 0 → Fills (λ text. text ≡ version) buffer.old buffer.new needed.new }
+    ensures small { result ≡ 1 → Needs (λ text. text ≡ version) buffer.old buffer.new needed.new }
     ensures statuses { (result ≡ 0) ⊎ (result ≡ 1) }
 {
     hand_over(version().as_bytes(), buffer, needed)
