@@ -27,8 +27,9 @@
 //! Each row that is not as it should be, and each that cannot be read, is told by the number of its first line; then a
 //! line tells how many rows there are, and how many of them are as they should be.
 //!
-//! Behind them comes what no row says: want of memory in place of a command, a model that is too big for a row, and how far
-//! long work is told to be. The last line tells whether all of that is as it should be, or what is not.
+//! Behind them comes what no row says: what commands hold while a long text streams past, want of memory in place of a
+//! command, a model that is too big for a row, and how far long work is told to be. The last line tells whether all of that
+//! is as it should be, or what is not.
 #![tactic(auto)]
 
 mod answers;
@@ -36,6 +37,7 @@ mod blocks;
 mod command_lines;
 mod cuts;
 mod escapes;
+mod held;
 mod progress;
 mod stops;
 mod too_big;
@@ -49,6 +51,7 @@ use blocks::Row;
 use command_line::{given_words, order};
 use command_lines::CommandLine;
 use cuts::tells_cuts;
+use held::fault_of_held;
 use orders::{Order, Stop};
 use progress::fault_of_progress;
 use std::alloc::{AllocError, Global};
@@ -72,14 +75,22 @@ fn main(rt: HostRuntime) -> io::Result<()> {
         Ok(text) => try_rows(&rt, text.as_slice())?,
         Err(fault) => println!(rt; "{fault}")?,
     }
-    match fault_beside_rows(rt.alloc())? {
+    match fault_beside_rows(&rt)? {
         None => println!(rt; "what no row says is as it should be"),
         Some(fault) => println!(rt; "not as it should be: {fault}"),
     }
 }
 
 /// What is not as it should be of what no row says.
-fn fault_beside_rows(alloc: Global) -> Result<Fault, AllocError> {
+fn fault_beside_rows(rt: &HostRuntime) -> Result<Fault, AllocError> {
+    match fault_of_held(rt.alloc(), rt)? {
+        None => fault_beside_streams(rt.alloc()),
+        fault => Ok(fault),
+    }
+}
+
+/// The same without what commands hold. Behind it the system may leave memory with the process that was given back.
+fn fault_beside_streams(alloc: Global) -> Result<Fault, AllocError> {
     if !stops::tells_no_memory(alloc) {
         return Ok(Some("want of memory in place of a command"));
     }
