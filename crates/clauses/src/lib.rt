@@ -14,6 +14,7 @@ mod passes;
 mod places;
 mod proof_judge;
 mod propagator;
+mod room;
 mod step_judge;
 mod step_reader;
 mod sweep;

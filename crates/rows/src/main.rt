@@ -27,8 +27,9 @@
 //! Each row that is not as it should be, and each that cannot be read, is told by the number of its first line; then a
 //! line tells how many rows there are, and how many of them are as they should be.
 //!
-//! Behind them comes what no row says: want of memory in place of a command, a model that is too big for a row, how far long
-//! work is told to be, and what becomes of files that results go to or that can't be opened. The last line tells whether all of that is as it should be, or what is not.
+//! Behind them comes what no row says: what commands hold while a long text streams past, want of memory in place of a
+//! command, a model that is too big for a row, how far long work is told to be, and what becomes of files that results go to
+//! or that can't be opened. The last line tells whether all of that is as it should be, or what is not.
 #![tactic(auto)]
 
 mod answers;
@@ -36,6 +37,7 @@ mod blocks;
 mod command_lines;
 mod cuts;
 mod escapes;
+mod held;
 mod on_disk;
 mod progress;
 mod results;
@@ -51,6 +53,7 @@ use blocks::Row;
 use command_line::{given_words, order};
 use command_lines::CommandLine;
 use cuts::tells_cuts;
+use held::fault_of_held;
 use on_disk::gives_on_disk;
 use orders::{Order, Stop};
 use progress::fault_of_progress;
@@ -84,14 +87,18 @@ fn main(rt: HostRuntime) -> io::Result<()> {
 
 /// What is not as it should be of what no row says.
 fn fault_beside_rows(rt: &HostRuntime) -> io::Result<Fault> {
-    match fault_without_files(rt.alloc())? {
-        None => fault_of_results(rt),
-        Some(fault) => Ok(Some(fault)),
+    if let Some(fault) = fault_of_held(rt.alloc(), rt)? {
+        return Ok(Some(fault));
     }
+    if let Some(fault) = fault_beside_streams(rt.alloc())? {
+        return Ok(Some(fault));
+    }
+    fault_of_results(rt)
 }
 
-/// The same, but for what is tried on files.
-fn fault_without_files(alloc: Global) -> Result<Fault, AllocError> {
+/// The same without what commands hold, behind which the system may leave memory with the process that was given back, and
+/// without files.
+fn fault_beside_streams(alloc: Global) -> Result<Fault, AllocError> {
     if !stops::tells_no_memory(alloc) {
         return Ok(Some("want of memory in place of a command"));
     }

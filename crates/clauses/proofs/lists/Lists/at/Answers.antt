@@ -1,0 +1,22 @@
+use Rattle.std.proofs.Common.{◌<◌, ◌/◌, ◌∙◌, ℕ, List, length, sym, ap, subst, arith, Vec, Global}
+use Rattle.std.proofs.lemmas.List.{get_or_read}
+use Rattle.std.specs.Prelude.{slice_index}
+use Rattle.clauses.specs.Lists.{place_at}
+use Rattle.clauses.proofs.PageLemmas.{has_page, list_now}
+use Rattle.clauses.proofs.lists.Lists.at.Goals as goal
+
+pub place_of-requires-clause-inside : goal.place_of-requires-clause-inside
+place_of-requires-clause-inside c = subst (λ (starts : List ℕ). c.args.literal / 64 < length starts) (sym c.deref.ensures.value) (has_page _ _ _ _ c.args.literal c.self.invariant c.self.view_is c.requires.inside)
+
+pub index-requires-2 : goal.index-requires-2
+index-requires-2 c =
+    let place = c.place_of.ensures.place ∙ ap (λ (starts : List ℕ). place_at starts c.args.literal) c.deref.ensures.value in
+    let list = list_now (λ (v : Vec ℕ Global). v.items) _ _ _ _ c.args.literal c.place_of.result c.index.result.now c.self.invariant c.self.view_is c.requires.inside place c.index.ensures in
+    omega (arith, c.requires.there, ap length list)
+
+pub returns : goal.returns
+returns c =
+    let place = c.place_of.ensures.place ∙ ap (λ (starts : List ℕ). place_at starts c.args.literal) c.deref.ensures.value in
+    let list = list_now (λ (v : Vec ℕ Global). v.items) _ _ _ _ c.args.literal c.place_of.result c.index.result.now c.self.invariant c.self.view_is c.requires.inside place c.index.ensures in
+    let room : c.args.place < length c.index.result.now.items = omega (arith, c.requires.there, ap length list) in
+    get_or_read c.index.result.now.items c.args.place c.index-2.result.now room c.index-2.ensures 0 ∙ sym (ap (λ (xs : List ℕ). slice_index xs c.args.place) list)
