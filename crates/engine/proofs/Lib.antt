@@ -1,6 +1,7 @@
 mod AssemblyLemmas
 mod CopyLemmas
 mod FormLemmas
+mod KeptTableLemmas
 mod LatchLemmas
 mod MadeLemmas
 mod MoveLemmas

@@ -81,7 +81,7 @@ pub chosen_all : (P : ℕ → Type 0) (choice : Option ℕ) (bads : List ℕ) �
 chosen_all P None bads all = all
 chosen_all P (Some k) bads all = All-take P 1 (drop k bads) (All-drop P k bads all)
 
-chosen_few : (choice : Option ℕ) (bads : List ℕ) → length (chosen choice bads) ≤ length bads
+pub chosen_few : (choice : Option ℕ) (bads : List ℕ) → length (chosen choice bads) ≤ length bads
 chosen_few None bads = omega arith
 chosen_few (Some k) bads = omega (arith, length-take 1 (drop k bads), length-drop k bads)
 

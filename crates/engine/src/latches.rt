@@ -9,11 +9,12 @@ ghost use Rattle.engine.specs.Reads.{literal_of, kept_literal, kept_latch, sizes
 
 use crate::copies::set_latch;
 use crate::sizes::Sizes;
+use crate::table::Table;
 use crate::variables::literal_of;
 use aiger::{Circuit, Latch, Lit, Reset};
 
 /// The literal that a latch takes: the negation of its next where it is kept as its negation.
-fn kept_next(table: &[Lit], latch: Latch) -> Lit
+fn kept_next(table: &Table, latch: Latch) -> Lit
     requires { variable latch.next < length table.now }
     ensures { result ≡ kept_literal latch.reset (literal_of table.now latch.next) }
 {
@@ -35,7 +36,7 @@ fn set(circuit: &mut Circuit, k: usize, next: Lit)
 }
 
 /// Sets the latches that stand for those of a circuit.
-pub(crate) fn set_kept(table: &[Lit], latches: &[Latch], circuit: &mut Circuit)
+pub(crate) fn set_kept(table: &Table, latches: &[Latch], circuit: &mut Circuit)
     requires room { length latches.now ≤ length circuit.old.latches }
     requires inside { All (λ latch. variable latch.next < length table.now) latches.now }
     requires defined { All (IsDefined (net circuit.old)) table.now }
@@ -72,7 +73,7 @@ fn broken(met: Lit) -> Lit
 pub(crate) fn set_latches(
     circuit: &Circuit,
     sizes: Sizes,
-    table: &[Lit],
+    table: &Table,
     met: Lit,
     form: &mut Circuit,
 )

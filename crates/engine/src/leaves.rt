@@ -1,6 +1,5 @@
-//! The literals that stand for false, and for the inputs and latches of a circuit.
+//! The literals that stand for the latches of a circuit.
 ghost use Rattle.std.specs.Prelude.{◌≡◌, ℕ, ◌+◌, ◌*◌, ◌<◌, ◌≤◌, ◌++◌, List, length, map, All, IfOk, IfErr, OnOk};
-ghost use Rattle.std.specs.List.{range_with_len};
 ghost use Rattle.aiger.specs.Literal.{literal_value};
 ghost use Rattle.aiger.specs.Limits.{greatest_count};
 ghost use Rattle.aiger.specs.Net.{IsDefined, variables};
@@ -9,9 +8,9 @@ ghost use Rattle.engine.specs.EngineForm.{taken_bits, free_count};
 ghost use Rattle.engine.specs.Reads.{latch_value, LatchesRead};
 
 use crate::sizes::taken_bits;
+use crate::table::Table;
 use aiger::{Latch, Lit, Reset};
 use gates::{GateFault, Gates, mux};
-use std::alloc::Global;
 
 /// The literal of a variable.
 pub(crate) fn variable_literal(variable: u32) -> Lit
@@ -19,23 +18,6 @@ pub(crate) fn variable_literal(variable: u32) -> Lit
     ensures { result ≡ 2 * variable }
 {
     Lit::new(2 * variable)
-}
-
-/// The literals that stand for false and the inputs: their own.
-///
-/// Error: `NoMemory`.
-pub(crate) fn input_literals(alloc: Global, inputs: u32) -> Result<Vec<Lit>, GateFault>
-    requires { inputs ≤ greatest_count }
-    ensures ok { IfOk result (λ table. table.items ≡ map (λ k. 2 * k) (range_with_len 0 (inputs + 1))) }
-    ensures memory { IfErr result (λ e. e ≡ GateFault.NoMemory) }
-{
-    let mut table = Vec::new(alloc);
-    for k in 0..inputs + 1 {
-        if table.push(variable_literal(k)).is_err() {
-            return Err(GateFault::NoMemory);
-        }
-    }
-    Ok(table)
 }
 
 /// The literal that stands for a latch: what is kept of it, or its negation; where it has no initial value the input in the
@@ -67,14 +49,14 @@ pub(crate) fn push_latches<G: Gates>(
     own: u32,
     input: u32,
     started: Lit,
-    table: &mut Vec<Lit>,
+    table: &mut Table,
 ) -> Result<(), GateFault>
     requires some { 0 < input }
     requires inputs { input + free_count latches.now ≤ own }
     requires own { own + length latches.now ≤ variables (G.made g.old) + 1 }
     requires small { variables (G.made g.old) ≤ greatest_count }
     requires started { IsDefined (G.made g.old) started }
-    ensures ok { OnOk result ((more : List ℕ) × (table.new.items ≡ table.old.items ++ more) × LatchesRead (G.made g.old) (G.made g.new) (3 * free_count latches.now) latches.now own input started more) }
+    ensures ok { OnOk result ((more : List ℕ) × (table.new ≡ table.old ++ more) × LatchesRead (G.made g.old) (G.made g.new) (3 * free_count latches.now) latches.now own input started more) }
     ensures refused { IfErr result (Refuses (G.made g.old) (G.made g.new) (3 * free_count latches.now)) }
 {
     let mut input = input;
@@ -86,8 +68,9 @@ pub(crate) fn push_latches<G: Gates>(
             variable_literal(input),
             started,
         )?;
-        if table.push(lit).is_err() {
-            return Err(GateFault::NoMemory);
+        match table.push(lit) {
+            Ok(()) => {}
+            Err(fault) => return Err(fault),
         }
         input += taken_bits(latch.reset);
     }

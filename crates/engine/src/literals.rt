@@ -12,7 +12,7 @@ use crate::choice::chosen;
 use crate::leaves::variable_literal;
 use crate::properties::{all_hold, bad_literals};
 use crate::sizes::Sizes;
-use crate::table::variable_literals;
+use crate::table::{Table, variable_literals};
 use aiger::{Circuit, Lit};
 use gates::{GateFault, Gates};
 use std::alloc::Global;
@@ -21,7 +21,7 @@ use std::alloc::Global;
 #[derive(Drop)]
 pub(crate) struct Literals {
     /// What stands for false and for each variable of the circuit.
-    pub table: Vec<Lit>,
+    pub table: Table,
     /// All constraints held so far, in this frame too.
     pub met: Lit,
     /// The bad properties.
@@ -62,13 +62,13 @@ fn make_properties<G: Gates>(
     circuit: &Circuit,
     choice: Option<usize>,
     before: Lit,
-    table: Vec<Lit>,
+    table: Table,
 ) -> Result<Literals, GateFault>
     requires has_bad { has_chosen choice circuit.now.bads ≡ true }
     requires before { IsDefined (G.made g.old) before }
-    requires many { length table.items ≡ suc (variables (net circuit.now)) }
-    requires table { All (IsDefined (G.made g.old)) table.items }
-    ensures ok { IfOk result (λ l. (l.table.items ≡ table.items) × PropertiesRead circuit.now choice before (G.made g.old) (G.made g.new) table.items l.met l.bads.items) }
+    requires many { length table ≡ suc (variables (net circuit.now)) }
+    requires table { All (IsDefined (G.made g.old)) table }
+    ensures ok { IfOk result (λ l. (l.table ≡ table) × PropertiesRead circuit.now choice before (G.made g.old) (G.made g.new) table l.met l.bads.items) }
     ensures refused { IfErr result (Refuses (G.made g.old) (G.made g.new) (length circuit.now.constraints + length circuit.now.bads)) }
 {
     let met = all_hold(g, &table, circuit.constraints(), before)?;
@@ -90,7 +90,7 @@ pub(crate) fn make<G: Gates>(
     requires bare { G.made g.old ≡ bare_net circuit.now }
     requires small { engine_bound circuit.now ≤ greatest_count }
     requires has_bad { has_chosen choice circuit.now.bads ≡ true }
-    ensures ok { IfOk result (λ l. FormMade circuit.now choice (G.made g.new) l.table.items l.met l.bads.items) }
+    ensures ok { IfOk result (λ l. FormMade circuit.now choice (G.made g.new) l.table l.met l.bads.items) }
     ensures refused { IfErr result (Refuses (bare_net circuit.now) (G.made g.new) (engine_cost circuit.now)) }
 {
     let table = variable_literals(alloc, g, sizes.inputs, started(circuit, sizes), circuit)?;

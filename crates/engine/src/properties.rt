@@ -6,13 +6,14 @@ ghost use Rattle.aiger.specs.Net.{IsDefined};
 ghost use Rattle.gates.specs.Made.{MakesAnd, MakesLiteral, Refuses};
 ghost use Rattle.engine.specs.Reads.{literal_of, BadsRead};
 
+use crate::table::Table;
 use crate::variables::literal_of;
 use aiger::Lit;
 use gates::{GateFault, Gates};
 use std::alloc::Global;
 
 /// The literal that is true where another one is and a constraint holds.
-fn held<G: Gates>(g: &mut G, table: &[Lit], constraint: Lit, met: Lit) -> Result<Lit, GateFault>
+fn held<G: Gates>(g: &mut G, table: &Table, constraint: Lit, met: Lit) -> Result<Lit, GateFault>
     requires inside { variable constraint < length table.now }
     requires defined { All (IsDefined (G.made g.old)) table.now }
     requires met { IsDefined (G.made g.old) met }
@@ -25,7 +26,7 @@ fn held<G: Gates>(g: &mut G, table: &[Lit], constraint: Lit, met: Lit) -> Result
 /// The literal that is true where another one is and all constraints hold.
 pub(crate) fn all_hold<G: Gates>(
     g: &mut G,
-    table: &[Lit],
+    table: &Table,
     constraints: &[Lit],
     met: Lit,
 ) -> Result<Lit, GateFault>
@@ -46,7 +47,7 @@ pub(crate) fn all_hold<G: Gates>(
 pub(crate) fn bad_literals<G: Gates>(
     alloc: Global,
     g: &mut G,
-    table: &[Lit],
+    table: &Table,
     bads: &[Lit],
     met: Lit,
 ) -> Result<Vec<Lit>, GateFault>

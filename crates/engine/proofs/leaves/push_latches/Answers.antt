@@ -1,11 +1,10 @@
 use Rattle.std.proofs.Common.{◌≡◌, ◌+◌, ◌*◌, ◌++◌, ◌∷◌, [], List, ℕ, rules, arith, take, append_assoc, ap, ap₂, ◌∙◌}
 use Rattle.std.proofs.lemmas.List.Sums.{sum_by-take-le}
 use Rattle.aiger.specs.declared.circuit.Latch.{Latch}
-use Rattle.gates.specs.declared.fault.GateFault.TheVariants.{NoMemory}
 use Rattle.gates.specs.Made.{Refuses}
 use Rattle.gates.proofs.LiteralLemmas.{Refuses-behind}
 use Rattle.engine.specs.EngineForm.{taken_bits, free_count}
-use Rattle.engine.proofs.TableLemmas.{latch-more, free-taken, pushed}
+use Rattle.engine.proofs.TableLemmas.{latch-more, free-taken}
 use Rattle.engine.proofs.leaves.push_latches.Goals as goal
 
 pub returns-in_err-lit-clause-refused : goal.returns-in_err-lit-clause-refused
@@ -17,12 +16,12 @@ returns-in_err-lit-clause-refused g c =
     Refuses-behind _ _ _ (3 * free_count (take c.loop-j.j ls)) (3 * taken_bits c.index-latches-j.result.reset) (3 * free_count ls) _ (omega arith) c.loop-j.invariant.more.2.grows c.in_err-lit.ensures.refused
     in search rules
 
-pub returns-then-is_err-clause-refused : goal.returns-then-is_err-clause-refused
-returns-then-is_err-clause-refused g c =
+pub returns-in-Err-clause-refused : goal.returns-in-Err-clause-refused
+returns-in-Err-clause-refused g c =
     let ls = c.args.latches.now in
     let more = free-taken ls c.loop-j.j c.index-latches-j.result c.loop-j-test.true c.index-latches-j.is in
     let most = sum_by-take-le (λ (l : Latch). taken_bits l.reset) ls (c.loop-j.j + 1) in
-    let own : Refuses (g.G.Gates.made c.loop-j.g) (g.G.Gates.made c.latch_literal.new.g) (3 * taken_bits c.index-latches-j.result.reset) NoMemory = record { grows = c.in_ok-lit.ensures.ok.grows; too_big = λ is. absurd (cc) } in
+    let own : Refuses (g.G.Gates.made c.loop-j.g) (g.G.Gates.made c.latch_literal.new.g) (3 * taken_bits c.index-latches-j.result.reset) c.in-Err.fault = (let memory = c.in-Err.ensures.memory in record { grows = c.in_ok-lit.ensures.ok.grows; too_big = λ is. absurd (cc) }) in
     Refuses-behind _ _ _ (3 * free_count (take c.loop-j.j ls)) (3 * taken_bits c.index-latches-j.result.reset) (3 * free_count ls) _ (omega arith) c.loop-j.invariant.more.2.grows own
 
 pub loop-j-preserved : goal.loop-j-preserved
@@ -31,13 +30,12 @@ loop-j-preserved g c =
     let l = c.index-latches-j.result in
     let k = c.loop-j.invariant.more in
     let more = free-taken ls c.loop-j.j l c.loop-j-test.true c.index-latches-j.is in
-    let longer = pushed _ _ c.loop-j.table.items c.push.new.self.items c.in_ok-lit.lit c.push.ensures.items c.is_err.ensures.negation c.if-is_err.false in
     let given : c.variable_literal-in-loop-j.result ≡ 2 * (c.args.input + free_count (take c.loop-j.j ls)) = c.variable_literal-in-loop-j.ensures ∙ ap (λ (n : ℕ). 2 * n) c.loop-j.invariant.input in
     record {
       input = ap₂ ◌+◌ c.loop-j.invariant.input c.taken_bits-input.ensures ∙ omega arith;
       more = (
         k.0 ++ c.in_ok-lit.lit ∷ [],
-        longer ∙ ap (λ (xs : List ℕ). xs ++ c.in_ok-lit.lit ∷ []) k.1 ∙ append_assoc c.args.table.now.items k.0 (c.in_ok-lit.lit ∷ []),
+        c.in-Ok.ensures.ok ∙ ap (λ (xs : List ℕ). xs ++ c.in_ok-lit.lit ∷ []) k.1 ∙ append_assoc c.args.table.now k.0 (c.in_ok-lit.lit ∷ []),
         latch-more _ _ _ ls k.0 c.loop-j.j l c.args.own c.args.input c.variable_literal.result c.variable_literal-in-loop-j.result c.args.started c.in_ok-lit.lit c.loop-j-test.true c.index-latches-j.is (omega (arith, c.requires.inputs, c.requires.some)) c.requires.some c.variable_literal.ensures given k.2 c.in_ok-lit.ensures.ok,
       );
     }

@@ -3,31 +3,31 @@ use Rattle.std.proofs.lemmas.List.{length-take-le}
 use Rattle.gates.specs.Made.{Refuses}
 use Rattle.gates.proofs.LiteralLemmas.{Refuses-behind}
 use Rattle.engine.specs.Reads.{literal_of}
-use Rattle.engine.proofs.TableLemmas.{gates-more, gates-inside, both_defined, pushed, IsDefined-literal_of}
+use Rattle.engine.proofs.TableLemmas.{gates-more, gates-inside, both_defined, IsDefined-literal_of}
 use Rattle.engine.proofs.variables.push_gates.Goals as goal
 
 pub literal_of-requires : goal.literal_of-requires
 literal_of-requires g c =
     let k = c.loop-gate.invariant in
-    (gates-inside _ _ c.args.gates.now c.args.table.now.items k.0 c.deref.result.now c.loop-gate.gate-index c.gate-item.result c.requires.ordered c.loop-gate-test.true c.gate-item.is (c.deref.ensures.value ∙ k.1) k.2).0
+    (gates-inside _ _ c.args.gates.now c.args.table.now k.0 c.loop-gate.table c.loop-gate.gate-index c.gate-item.result c.requires.ordered c.loop-gate-test.true c.gate-item.is k.1 k.2).0
 
 pub literal_of-requires-in-loop-gate : goal.literal_of-requires-in-loop-gate
 literal_of-requires-in-loop-gate g c =
     let k = c.loop-gate.invariant in
-    (gates-inside _ _ c.args.gates.now c.args.table.now.items k.0 c.deref-in-loop-gate.result.now c.loop-gate.gate-index c.gate-item.result c.requires.ordered c.loop-gate-test.true c.gate-item.is (c.deref-in-loop-gate.ensures.value ∙ k.1) k.2).1
+    (gates-inside _ _ c.args.gates.now c.args.table.now k.0 c.loop-gate.table c.loop-gate.gate-index c.gate-item.result c.requires.ordered c.loop-gate-test.true c.gate-item.is k.1 k.2).1
 
 pub and-requires-clause-left : goal.and-requires-clause-left
 and-requires-clause-left g c =
     let k = c.loop-gate.invariant in
-    let inside = gates-inside _ _ c.args.gates.now c.args.table.now.items k.0 c.deref.result.now c.loop-gate.gate-index c.gate-item.result c.requires.ordered c.loop-gate-test.true c.gate-item.is (c.deref.ensures.value ∙ k.1) k.2 in
-    rw c.literal_of.ensures (IsDefined-literal_of _ c.deref.result.now c.gate-item.result.rhs0 inside.0 (both_defined _ _ _ c.args.table.now.items k.0 c.deref.result.now k.2.grows c.requires.defined k.2.defined (c.deref.ensures.value ∙ k.1)))
+    let inside = gates-inside _ _ c.args.gates.now c.args.table.now k.0 c.loop-gate.table c.loop-gate.gate-index c.gate-item.result c.requires.ordered c.loop-gate-test.true c.gate-item.is k.1 k.2 in
+    rw c.literal_of.ensures (IsDefined-literal_of _ c.loop-gate.table c.gate-item.result.rhs0 inside.0 (both_defined _ _ _ c.args.table.now k.0 c.loop-gate.table k.2.grows c.requires.defined k.2.defined k.1))
 
 pub and-requires-clause-right : goal.and-requires-clause-right
 and-requires-clause-right g c =
     let k = c.loop-gate.invariant in
-    let table = c.deref-in-loop-gate.result.now in
-    let inside = gates-inside _ _ c.args.gates.now c.args.table.now.items k.0 table c.loop-gate.gate-index c.gate-item.result c.requires.ordered c.loop-gate-test.true c.gate-item.is (c.deref-in-loop-gate.ensures.value ∙ k.1) k.2 in
-    rw c.literal_of-in-loop-gate.ensures (IsDefined-literal_of _ table c.gate-item.result.rhs1 inside.1 (both_defined _ _ _ c.args.table.now.items k.0 table k.2.grows c.requires.defined k.2.defined (c.deref-in-loop-gate.ensures.value ∙ k.1)))
+    let table = c.loop-gate.table in
+    let inside = gates-inside _ _ c.args.gates.now c.args.table.now k.0 table c.loop-gate.gate-index c.gate-item.result c.requires.ordered c.loop-gate-test.true c.gate-item.is k.1 k.2 in
+    rw c.literal_of-in-loop-gate.ensures (IsDefined-literal_of _ table c.gate-item.result.rhs1 inside.1 (both_defined _ _ _ c.args.table.now k.0 table k.2.grows c.requires.defined k.2.defined k.1))
 
 pub returns-in_err-lit-clause-refused : goal.returns-in_err-lit-clause-refused
 returns-in_err-lit-clause-refused g c =
@@ -42,9 +42,8 @@ pub loop-gate-preserved : goal.loop-gate-preserved
 loop-gate-preserved g c =
     let k = c.loop-gate.invariant in
     let gs = c.args.gates.now in
-    let before = c.args.table.now.items in
-    let left : c.literal_of.result ≡ literal_of (before ++ k.0) c.gate-item.result.rhs0 = c.literal_of.ensures ∙ ap (λ (xs : List ℕ). literal_of xs c.gate-item.result.rhs0) (c.deref.ensures.value ∙ k.1) in
-    let right : c.literal_of-in-loop-gate.result ≡ literal_of (before ++ k.0) c.gate-item.result.rhs1 = c.literal_of-in-loop-gate.ensures ∙ ap (λ (xs : List ℕ). literal_of xs c.gate-item.result.rhs1) (c.deref-in-loop-gate.ensures.value ∙ k.1) in
+    let before = c.args.table.now in
+    let left : c.literal_of.result ≡ literal_of (before ++ k.0) c.gate-item.result.rhs0 = c.literal_of.ensures ∙ ap (λ (xs : List ℕ). literal_of xs c.gate-item.result.rhs0) k.1 in
+    let right : c.literal_of-in-loop-gate.result ≡ literal_of (before ++ k.0) c.gate-item.result.rhs1 = c.literal_of-in-loop-gate.ensures ∙ ap (λ (xs : List ℕ). literal_of xs c.gate-item.result.rhs1) k.1 in
     let more = gates-more _ _ _ gs before k.0 c.loop-gate.gate-index c.gate-item.result c.literal_of.result c.literal_of-in-loop-gate.result c.in_ok-lit.lit c.requires.ordered c.requires.some c.requires.zero c.loop-gate-test.true c.gate-item.is left right k.2 c.in_ok-lit.ensures.ok in
-    let longer = pushed _ _ c.loop-gate.table.items c.push.new.self.items c.in_ok-lit.lit c.push.ensures.items c.is_err.ensures.negation c.if-is_err.false in
-    (k.0 ++ c.in_ok-lit.lit ∷ [], longer ∙ ap (λ (xs : List ℕ). xs ++ c.in_ok-lit.lit ∷ []) k.1 ∙ append_assoc before k.0 (c.in_ok-lit.lit ∷ []), more)
+    (k.0 ++ c.in_ok-lit.lit ∷ [], c.in-Ok.ensures.ok ∙ ap (λ (xs : List ℕ). xs ++ c.in_ok-lit.lit ∷ []) k.1 ∙ append_assoc before k.0 (c.in_ok-lit.lit ∷ []), more)
