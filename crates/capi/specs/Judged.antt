@@ -19,6 +19,7 @@ use Rattle.witness.specs.Printed.{why_number}
 use Rattle.witness.specs.declared.fault.JudgeFault.TheVariants as judge
 use Rattle.witness.specs.declared.judgement.Judgement.{Judgement}
 use Rattle.witness.specs.declared.judgement.Judgement.TheVariants as judgement
+use Rattle.reached.specs.Accepted.{Reaches, ReachesInCircuit}
 use Rattle.capi.specs.declared.answers.Refusal.{Refusal}
 use Rattle.capi.specs.declared.answers.Stop.{Stop}
 use Rattle.capi.specs.declared.answers.Stop.TheVariants as stop
@@ -33,7 +34,7 @@ verdict_of (judgement.InitDiffers index) = record { kind = 3; why = 0; first = i
 verdict_of (judgement.Malformed line why) = record { kind = 4; why = why_number why; first = line; second = 0 }
 verdict_of judgement.NoClaim = record { kind = 5; why = 0; first = 0; second = 0 }
 
--- the first text is of a model each of whose states has a next or is free, and this is what is judged of the second over it
+-- The first text is of a model each of whose states has a next or is free, and this is what is judged of the second over it; where that is accepted, it says a witness whose claims all can rise.
 pub record IsWordVerdict (model witness : List ℕ) (verdict : Verdict) : Type 0 where
   pub items : List Item
   pub text : StandsFor model items
@@ -41,15 +42,17 @@ pub record IsWordVerdict (model witness : List ℕ) (verdict : Verdict) : Type 0
   pub each_has_next_or_is_free : first_init_without_next items items ≡ None
   pub judgement : Judgement
   pub judged : Judges items witness judgement
+  pub reached : Reaches items witness judgement
   pub told : verdict ≡ verdict_of judgement
 
--- the first text is of a circuit, and this is what is judged of the second over it
+-- The first text is of a circuit, and this is what is judged of the second over it; where that is accepted, it says a witness whose claim can rise.
 pub record IsBitVerdict (circuit witness : List ℕ) (verdict : Verdict) : Type 0 where
   pub value : Circuit
   pub is_circuit : IsCircuit value
   pub text : Spells circuit value
   pub judgement : Judgement
   pub judged : BitJudges value witness judgement
+  pub reached : ReachesInCircuit value witness judgement
   pub told : verdict ≡ verdict_of judgement
 
 -- a text is no model, and this is the number and the line of its first fault

@@ -8,6 +8,7 @@ use crate::answers::{DONE, Refusal, Stop, Verdict, tell};
 use crate::reading::{read_circuit, read_model};
 use aiger::Circuit;
 use btor2::Model;
+use reached::laws::judged_claims_are_reached;
 use std::alloc::Global;
 use witness::{JudgeFault, judge_bits, judge_words};
 
@@ -25,6 +26,7 @@ fn judge_over_model(alloc: Global, model: &Model, witness: &[u8]) -> Result<Verd
     ensures done { (text : List ℕ) → StandsFor text model.now → IfOk result (IsWordVerdict text witness.now) }
     ensures refused { (text : List ℕ) → StandsFor text model.now → IfErr result (IsStop (λ _. ⊥) (IsUnjudged text)) }
 {
+    judged_claims_are_reached();
     let mut source = witness;
     match judge_words(alloc, model, &mut source) {
         Ok(judgement) => Ok(Verdict::of(&judgement)),
@@ -52,6 +54,7 @@ fn judge_over_circuit(alloc: Global, circuit: &Circuit, witness: &[u8]) -> Resul
 {
     // the lists of a circuit are one
     let _ = circuit.inputs();
+    judged_claims_are_reached();
     let mut source = witness;
     match judge_bits(alloc, circuit, &mut source) {
         Ok(judgement) => Ok(Verdict::of(&judgement)),
