@@ -106,12 +106,12 @@ for command in check-btor check-aig lift; do
     "$program" "$command" "$first" missing >out 2>err; status=$?
     expect "$command with no witness" 3 "missing: device: no such file"
     "$program" "$command" "$first" - <&- >out 2>err; status=$?
-    expect "$command with closed standard input" 3 "-: device"
+    expect "$command with closed standard input" 3 "-: device: error 9"
 done
 "$program" show - <&- >out 2>err; status=$?
-expect "closed standard input" 3 "-: device"
+expect "closed standard input" 3 "-: device: error 9"
 "$program" check-btor - witness <&- >out 2>err; status=$?
-expect "closed standard input in place of a model" 3 "-: device"
+expect "closed standard input in place of a model" 3 "-: device: error 9"
 
 # words
 "$program" lower $'model\xff.btor2' >out 2>err; status=$?
@@ -184,7 +184,7 @@ expect_line "lower -o of a refused model" result "sat"
 expect "show -o of a missing file" 3 "missing.btor2: device: no such file"
 expect_line "show -o of a missing file" result "sat"
 "$program" lift -o result model.btor2 - <&- >out 2>err; status=$?
-expect "lift -o that is cut off" 3 "-: device"
+expect "lift -o that is cut off" 3 "-: device: error 9"
 expect_line "lift -o that is cut off" result "sat"
 "$program" show -o missing/result model.btor2 >out 2>err; status=$?
 expect "show -o in no folder" 3 "missing/result: device: no such file"
@@ -361,7 +361,7 @@ for words in "--help" "--version" "lower model.btor2" "lower --binary model.btor
     expect "$words onto a full device" 3 "output: device: no space left"
     # shellcheck disable=SC2086
     "$program" $words >&- 2>err; status=$?
-    expect "$words onto closed standard output" 3 "output: device"
+    expect "$words onto closed standard output" 3 "output: device: error 9"
 done
 
 # a pipe that nothing reads any more, whose signal is ignored: the write fails

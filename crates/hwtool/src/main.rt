@@ -6,17 +6,44 @@ use command_line::{Terminals, given_words, order_at};
 use commands::{Surroundings, run_on_files};
 use orders::{Order, Stop};
 use std::fs;
-use std::io::IsTerminal;
+use std::io::{self, IsTerminal, Read, Stdin};
+use std::os::fd::AsRawFd;
 use std::process::{self, ExitCode};
 use tasks::{Progress, Watched, end};
+
+/// The error of the system that a stream is closed.
+const CLOSED: i32 = 9;
+
+/// Standard input, or none where it is closed.
+#[derive(Clone, Copy)]
+struct Input {
+    stream: Stdin,
+    is_closed: bool,
+}
+
+impl Read for Input {
+    fn read(&mut self, buf: &mut [u8]) -> io::Result<usize> {
+        if self.is_closed {
+            return Err(io::Error::from_raw_os_error(CLOSED));
+        }
+        self.stream.read(buf)
+    }
+}
 
 /// Does what the words after the program's name ask for.
 fn main(rt: HostRuntime) -> ExitCode {
     // The next file that is opened takes the place of a standard stream that is closed, and would be taken for it. So
     // folders stand there first, which can't be read nor written.
-    let _first = fs::open(&rt, "/");
+    let first = fs::open(&rt, "/");
     let _second = fs::open(&rt, "/");
     let _third = fs::open(&rt, "/");
+    let input = Input {
+        stream: rt.stdin(),
+        is_closed: match &first {
+            Ok(folder) => folder.as_raw_fd() == 0,
+            Err(_) => false,
+        },
+    };
     let terminals = Terminals {
         input: rt.stdin().is_terminal(),
         output: rt.stdout().is_terminal(),
@@ -24,7 +51,7 @@ fn main(rt: HostRuntime) -> ExitCode {
     };
     let status = match given_words(&rt) {
         Ok(words) => match order_at(rt.alloc(), words.as_slice(), terminals) {
-            Ok(order) => obey(&rt, &order, terminals),
+            Ok(order) => obey(&rt, &order, terminals, input),
             Err(stop) => stand_in(&rt, &stop),
         },
         Err(stop) => stand_in(&rt, &stop),
@@ -39,9 +66,9 @@ fn stand_in(rt: &HostRuntime, stop: &Stop) -> u8 {
 }
 
 /// Does a command on the files that it names, and answers the status.
-fn obey<'a>(rt: &'a HostRuntime, order: &Order<'a>, terminals: Terminals) -> u8 {
+fn obey<'a>(rt: &'a HostRuntime, order: &Order<'a>, terminals: Terminals, input: Input) -> u8 {
     let around = Surroundings {
-        input: rt.stdin(),
+        input,
         output: rt.stdout(),
         terminal: rt.stderr(),
         is_shown: terminals.output,

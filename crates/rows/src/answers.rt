@@ -194,12 +194,13 @@ pub(crate) fn tells_failing_third(
     Ok(true)
 }
 
-/// Whether a command tells that a call of standard output fails, and has written a beginning of a text.
+/// Whether a command tells by this line that a call of its output fails, and has written a beginning of a text.
 fn tells_failing_write(
     alloc: Global,
     order: &Order<'_>,
     files: Files<'_>,
     text: &[u8],
+    line: &[u8],
     call: u64,
 ) -> bool {
     let (mut first, mut second, mut third) = (files.first, files.second, files.third);
@@ -214,24 +215,24 @@ fn tells_failing_write(
         &mut out,
         &mut err,
     );
-    status == 3
-        && err.bytes() == b"output: device\n".as_slice()
-        && text.starts_with(out.inner().inner().bytes())
+    status == 3 && err.bytes() == line && text.starts_with(out.inner().inner().bytes())
 }
 
-/// Whether a command tells each call of standard output that fails.
+/// Whether a command tells each call of its output that fails, by the name of the file that it was to go to, if it has one.
 pub(crate) fn tells_failing_writes(
     alloc: Global,
     order: &Order<'_>,
     files: Files<'_>,
     text: &[u8],
-) -> bool {
+) -> Result<bool, AllocError> {
+    let name = order.output.unwrap_or("output");
+    let line = format!(in alloc; "{name}: device\n")?;
     for call in 0..calls(text) {
-        if !tells_failing_write(alloc, order, files, text, call) {
-            return false;
+        if !tells_failing_write(alloc, order, files, text, line.as_bytes(), call) {
+            return Ok(false);
         }
     }
-    true
+    Ok(true)
 }
 
 /// The status of a command where standard error fails.

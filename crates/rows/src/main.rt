@@ -255,7 +255,7 @@ fn fault_of_devices(
     if reads_third && !tells_failing_third(alloc, order, files, wanted.out)? {
         return Ok(Some("a third file that fails"));
     }
-    if !tells_failing_writes(alloc, order, files, wanted.out) {
+    if !tells_failing_writes(alloc, order, files, wanted.out)? {
         return Ok(Some("standard output that fails"));
     }
     if !wanted.err.is_empty() && status_untold(alloc, order, files) != 3 {

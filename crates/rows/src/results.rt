@@ -158,7 +158,7 @@ fn fault_of_refusals(rt: &HostRuntime) -> io::Result<Fault> {
         return Ok(Some("a part is left of no result"));
     }
     let told = "f.gone: device: no such file\n";
-    if !tells(rt, &["--quiet", "show", "f.gone"], 3, told) {
+    if !tells(rt, &["show", "--quiet", "f.gone"], 3, told) {
         return Ok(Some("an input that is not there"));
     }
     let told = "f.?gone: device: no such file\n";
