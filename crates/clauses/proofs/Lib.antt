@@ -5,7 +5,6 @@ pub mod StandingLemmas
 pub mod ConflictLemmas
 pub mod SoundLemmas
 pub mod ListsLemmas
-pub mod PageLemmas
 pub mod WatchLemmas
 pub mod WalkLemmas
 pub mod AddLemmas

@@ -57,11 +57,11 @@ removed_default xs place d h =
     let inside : length xs - 1 < length xs = omega arith in
     ap (λ (x : ℕ). take (length xs - 1) (set xs place x)) (get_or_default_zero xs (length xs - 1) d inside)
 
-pub push_empty : {V : Type 0} (f : V → List ℕ) (xs : List V) (v : V) → f v ≡ [] → (j : ℕ) → list_at (map f (xs ++ v ∷ [])) j ≡ list_at (map f xs) j
-push_empty f [] v e zero = e
-push_empty f [] v e (suc j) = refl
-push_empty f (x ∷ xs) v e zero = refl
-push_empty f (x ∷ xs) v e (suc j) = push_empty f xs v e j
+pub empty_push : {V : Type 0} (f : V → List ℕ) (xs : List V) (v : V) → ((j : ℕ) → list_at (map f xs) j ≡ []) → f v ≡ [] → (j : ℕ) → list_at (map f (xs ++ v ∷ [])) j ≡ []
+empty_push f [] v h e zero = e
+empty_push f [] v h e (suc j) = refl
+empty_push f (x ∷ xs) v h e zero = h 0
+empty_push f (x ∷ xs) v h e (suc j) = empty_push f xs v (λ (i : ℕ). h (suc i)) e j
 
 pub IsListed-push : (lists : List (List ℕ)) (l n : ℕ) → l < length lists → IsListed lists (set lists l (list_at lists l ++ n ∷ []))
 IsListed-push lists l n h = record {

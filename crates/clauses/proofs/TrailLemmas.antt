@@ -1,9 +1,7 @@
 -- The marks and the places of a trail.
-use Rattle.std.proofs.Common.{◌≡◌, ◌≢◌, ℕ, ◌+◌, ◌-◌, ◌<◌, ◌≤◌, Bool, true, false, List, [], ◌∷◌, ◌++◌, length, get_or, set, take, ⊎_elim, refl, sym, ap, ap₂, ◌∙◌, arith, length-append, length-take-le, get_or-take}
-use Rattle.std.proofs.Math.ListN.{get_or-append}
-use Rattle.std.proofs.Math.Seq.{get_or-append_seam}
+use Rattle.std.proofs.Common.{◌≡◌, ◌≢◌, ℕ, suc, ◌+◌, ◌-◌, ◌<◌, ◌≤◌, Bool, true, false, List, [], ◌∷◌, ◌++◌, length, get_or, set, take, ⊎_elim, refl, sym, ap, ap₂, ◌∙◌, arith, take-suc-set, length-take-le, get_or-take}
 use Rattle.std.proofs.lemmas.Bool.{cases_eq, cases_lt}
-use Rattle.std.proofs.lemmas.List.{length-set, get_or-set_same, get_or-set_other, get_or_past, ext_get_or, take-take}
+use Rattle.std.proofs.lemmas.List.{length-set, get_or-set_same, get_or-set_other, get_or_past, get_or_read, ext_get_or}
 use Rattle.std.proofs.lemmas.List.Sums.{sum_by-set, count_by-le-length}
 use Rattle.std.specs.List.{count_by}
 use Rattle.std.specs.Prelude.{if◌then◌else◌}
@@ -21,44 +19,44 @@ counted_more marks l inside off =
     let none : one_if (get_or marks l false) ≡ 0 = ap one_if off in
     omega (arith, step, none)
 
-pub has_room : (marks : List Bool) (order : List ℕ) (l : ℕ) → IsOrder marks order → l < length marks → get_or marks l false ≡ false → length order < length marks
-has_room marks order l o inside off = omega (arith, counted_more marks l inside off, count_by-le-length (λ b. b) (set marks l true), length-set marks l true, o.counted)
+pub has_room : (marks : List Bool) (literals : List ℕ) (count l : ℕ) → IsOrder marks literals count → l < length marks → get_or marks l false ≡ false → count < length literals
+has_room marks literals count l o inside off =
+    omega (arith, counted_more marks l inside off, count_by-le-length (λ b. b) (set marks l true), length-set marks l true, o.as_many, o.counted)
 
-pub IsOrder-push : (marks : List Bool) (order : List ℕ) (l : ℕ) → IsOrder marks order → l < length marks → get_or marks l false ≡ false → IsOrder (set marks l true) (order ++ l ∷ [])
-IsOrder-push marks order l o inside off =
-    let longer : length (order ++ l ∷ []) ≡ length order + 1 = length-append order (l ∷ []) in
-    let last : get_or (order ++ l ∷ []) (length order) 0 ≡ l = get_or-append_seam order l [] 0 in
-    let front : (j : ℕ) → j < length order → get_or (order ++ l ∷ []) j 0 ≡ get_or order j 0 = λ j h. get_or-append order (l ∷ []) 0 j h in
+pub IsOrder-push : (marks : List Bool) (literals : List ℕ) (count l : ℕ) → IsOrder marks literals count → l < length marks → get_or marks l false ≡ false → IsOrder (set marks l true) (set literals count l) (count + 1)
+IsOrder-push marks literals count l o inside off =
+    let room : count < length literals = has_room marks literals count l o inside off in
     record {
-      counted = counted_more marks l inside off ∙ ap (λ (n : ℕ). n + 1) o.counted ∙ sym longer;
+      as_many = length-set literals count l ∙ o.as_many ∙ sym (length-set marks l true);
+      counted = counted_more marks l inside off ∙ ap (λ (n : ℕ). n + 1) o.counted;
       placed = λ m on.
           ⊎_elim
-          (λ (e : m ≡ l). (length order, omega (arith, longer), last ∙ sym e))
+          (λ (e : m ≡ l). (count, omega arith, get_or-set_same literals count l 0 room ∙ sym e))
           (λ (ne : m ≢ l).
           let old = o.placed m (sym (get_or-set_other marks l m true false ne) ∙ on) in
-          (old.0, omega (arith, old.1, longer), front old.0 old.1 ∙ old.2))
+          let other : old.0 ≢ count = omega (arith, old.1) in
+          (old.0, omega (arith, old.1), get_or-set_other literals count old.0 l 0 other ∙ old.2))
           (cases_eq m l);
       marked = λ j h.
           ⊎_elim
-          (λ (e : j ≡ length order). ap (λ (m : ℕ). get_or (set marks l true) m false) (ap (λ (i : ℕ). get_or (order ++ l ∷ []) i 0) e ∙ last) ∙ get_or-set_same marks l true false inside)
-          (λ (ne : j ≢ length order).
-          let below : j < length order = omega (arith, h, longer, ne) in
-          let old : get_or marks (get_or order j 0) false ≡ true = o.marked j below in
-          let other : get_or order j 0 ≢ l = λ e. let off' : get_or marks (get_or order j 0) false ≡ false = ap (λ (m : ℕ). get_or marks m false) e ∙ off in cc in
-          ap (λ (m : ℕ). get_or (set marks l true) m false) (front j below) ∙ get_or-set_other marks l (get_or order j 0) true false other ∙ old)
-          (cases_eq j (length order));
+          (λ (e : j ≡ count).
+          ap (λ (m : ℕ). get_or (set marks l true) m false) (ap (λ (i : ℕ). get_or (set literals count l) i 0) e ∙ get_or-set_same literals count l 0 room) ∙ get_or-set_same marks l true false inside)
+          (λ (ne : j ≢ count).
+          let old : get_or marks (get_or literals j 0) false ≡ true = o.marked j (omega arith) in
+          let other : get_or literals j 0 ≢ l = λ e. let off' : get_or marks (get_or literals j 0) false ≡ false = ap (λ (m : ℕ). get_or marks m false) e ∙ off in cc in
+          ap (λ (m : ℕ). get_or (set marks l true) m false) (get_or-set_other literals count j l 0 ne) ∙ get_or-set_other marks l (get_or literals j 0) true false other ∙ old)
+          (cases_eq j count);
       distinct = λ i j h k.
-          let before : i < length order = omega (arith, h, k, longer) in
+          let before : i ≢ count = omega arith in
           ⊎_elim
-          (λ (e : j ≡ length order).
-          λ f. let on : get_or marks (get_or order i 0) false ≡ true = o.marked i before in
-          let same : get_or order i 0 ≡ l = sym (front i before) ∙ f ∙ ap (λ (n : ℕ). get_or (order ++ l ∷ []) n 0) e ∙ last in
-          let off' : get_or marks (get_or order i 0) false ≡ false = ap (λ (m : ℕ). get_or marks m false) same ∙ off in
+          (λ (e : j ≡ count).
+          λ f. let on : get_or marks (get_or literals i 0) false ≡ true = o.marked i (omega arith) in
+          let same : get_or literals i 0 ≡ l = sym (get_or-set_other literals count i l 0 before) ∙ f ∙ ap (λ (n : ℕ). get_or (set literals count l) n 0) e ∙ get_or-set_same literals count l 0 room in
+          let off' : get_or marks (get_or literals i 0) false ≡ false = ap (λ (m : ℕ). get_or marks m false) same ∙ off in
           cc)
-          (λ (ne : j ≢ length order).
-          let below : j < length order = omega (arith, k, longer, ne) in
-          λ f. o.distinct i j h below (sym (front i before) ∙ f ∙ front j below))
-          (cases_eq j (length order));
+          (λ (ne : j ≢ count).
+          λ f. o.distinct i j h (omega arith) (sym (get_or-set_other literals count i l 0 before) ∙ f ∙ get_or-set_other literals count j l 0 ne))
+          (cases_eq j count);
     }
 
 pub off_by : (b : Bool) → (b ≡ true → ⊥) → b ≡ false
@@ -67,43 +65,49 @@ off_by false h = refl
 
 -- The last literal is taken back.
 
-pub IsOrder-pop : (marks : List Bool) (before : List ℕ) (l : ℕ) → IsOrder marks (before ++ l ∷ []) → (l < length marks) × IsOrder (set marks l false) before
-IsOrder-pop marks before l o =
-    let longer : length (before ++ l ∷ []) ≡ length before + 1 = length-append before (l ∷ []) in
-    let last : get_or (before ++ l ∷ []) (length before) 0 ≡ l = get_or-append_seam before l [] 0 in
-    let front : (j : ℕ) → j < length before → get_or (before ++ l ∷ []) j 0 ≡ get_or before j 0 = λ j h. get_or-append before (l ∷ []) 0 j h in
-    let on : get_or marks l false ≡ true = ap (λ (m : ℕ). get_or marks m false) (sym last) ∙ o.marked (length before) (omega (arith, longer)) in
+pub IsOrder-pop : (marks : List Bool) (literals : List ℕ) (count before l : ℕ) → IsOrder marks literals count → count ≡ before + 1 → l ≡ get_or literals before 0 → (l < length marks) × IsOrder (set marks l false) literals before
+IsOrder-pop marks literals count before l o one is =
+    let on : get_or marks l false ≡ true = ap (λ (m : ℕ). get_or marks m false) is ∙ o.marked before (omega arith) in
     let inside : l < length marks = is_inside marks l on in
     let step = sum_by-set one_if marks l false false inside in
     let own : one_if (get_or marks l false) ≡ 1 = ap one_if on in (
       inside,
       record {
-        counted = omega (arith, step, own, o.counted, longer);
+        as_many = o.as_many ∙ sym (length-set marks l false);
+        counted = omega (arith, step, own, o.counted);
         placed = λ m on'.
             ⊎_elim
             (λ (e : m ≡ l). let off : get_or (set marks l false) m false ≡ false = ap (λ (i : ℕ). get_or (set marks l false) i false) e ∙ get_or-set_same marks l false false inside in absurd (cc))
             (λ (ne : m ≢ l).
             let old = o.placed m (sym (get_or-set_other marks l m false false ne) ∙ on') in
-            let other : old.0 ≢ length before = λ e. ne (sym old.2 ∙ ap (λ (j : ℕ). get_or (before ++ l ∷ []) j 0) e ∙ last) in
-            let below : old.0 < length before = omega (arith, old.1, other, longer) in
-            (old.0, below, sym (front old.0 below) ∙ old.2))
+            let other : old.0 ≢ before = λ e. ne (sym old.2 ∙ ap (λ (j : ℕ). get_or literals j 0) e ∙ sym is) in
+            (old.0, omega (arith, old.1, other), old.2))
             (cases_eq m l);
         marked = λ j h.
-            let other : get_or before j 0 ≢ l = λ e. o.distinct j (length before) h (omega (arith, longer)) (front j h ∙ e ∙ sym last) in
-            get_or-set_other marks l (get_or before j 0) false false other ∙ (ap (λ (m : ℕ). get_or marks m false) (sym (front j h)) ∙ o.marked j (omega (arith, h, longer)));
-        distinct = λ i j h k. λ f. let first : i < length before = omega (arith, h, k) in o.distinct i j h (omega (arith, k, longer)) (front i first ∙ f ∙ sym (front j k));
+            let other : get_or literals j 0 ≢ l = λ e. o.distinct j before h (omega arith) (e ∙ is) in
+            get_or-set_other marks l (get_or literals j 0) false false other ∙ o.marked j (omega arith);
+        distinct = λ i j h k. o.distinct i j h (omega arith);
       },
     )
 
-pub front_pop : (initial old new : List ℕ) (n : ℕ) → old ≡ take (length old) initial → n ≡ length old → new ≡ take (n - 1) old → new ≡ take (length new) initial
-front_pop initial old new n is many rest =
-    let short : n - 1 ≤ length old = omega (arith, many) in
-    let size : length new ≡ n - 1 = ap length rest ∙ length-take-le (n - 1) old short in
-    let less : length new ≤ length old = omega (arith, size, short) in
-    rest ∙ ap (λ (m : ℕ). take m old) (sym size) ∙ ap (take (length new)) is ∙ take-take (length new) (length old) initial less
-
 abbrev pub marked_at : List Bool → List ℕ → Marked
 marked_at marks order = record { marks = marks; order = order }
+
+pub pushed_is : (marks : List Bool) (literals : List ℕ) (count l : ℕ) → count < length literals
+    → marked_at (set marks l true) (take (count + 1) (set literals count l)) ≡ marked_at (set marks l true) (take count literals ++ l ∷ [])
+pushed_is marks literals count l room = ap (marked_at (set marks l true)) (let one : count + 1 ≡ suc count = omega arith in ap (λ (n : ℕ). take n (set literals count l)) one ∙ take-suc-set literals count l room)
+
+pub placed_in : (marks : List Bool) (literals : List ℕ) (count : ℕ) → IsOrder marks literals count → ArePlaced (marked_at marks (take count literals))
+placed_in marks literals count o l on =
+    let old = o.placed l on in
+    let room : count ≤ length literals = omega (arith, o.as_many, o.counted, count_by-le-length (λ b. b) marks) in
+    (old.0, omega (arith, old.1, length-take-le count literals room), get_or-take count literals old.0 0 old.1 ∙ old.2)
+
+pub marked_in : (marks : List Bool) (literals : List ℕ) (count : ℕ) → IsOrder marks literals count → AreMarked (marked_at marks (take count literals))
+marked_in marks literals count o j h =
+    let room : count ≤ length literals = omega (arith, o.as_many, o.counted, count_by-le-length (λ b. b) marks) in
+    let below : j < count = omega (arith, length-take-le count literals room) in
+    ap (λ (l : ℕ). get_or marks l false) (get_or-take count literals j 0 below) ∙ o.marked j below
 
 -- Trails with the same order are the same.
 
@@ -126,3 +130,8 @@ pub prefix_take : (old new : Marked) → length old.order ≤ length new.order �
 prefix_take old new longer prefix =
     ext_get_or 0 (take (length old.order) new.order) old.order (length-take-le (length old.order) new.order longer)
     (λ i h. let below : i < length old.order = omega (arith, length-take-le (length old.order) new.order longer) in get_or-take (length old.order) new.order i 0 below ∙ prefix i below)
+
+pub pop_step : (marks : List Bool) (literals : List ℕ) (count l : ℕ) → IsOrder marks literals count → 0 < count → l ≡ get_or literals (count - 1) l → (l < length marks) × IsOrder (set marks l false) literals (count - 1)
+pop_step marks literals count l o some read =
+    let room : count ≤ length literals = omega (arith, o.as_many, o.counted, count_by-le-length (λ b. b) marks) in
+    IsOrder-pop marks literals count (count - 1) l o (omega arith) (get_or_read literals (count - 1) l (omega arith) read 0)

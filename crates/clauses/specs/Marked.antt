@@ -1,6 +1,5 @@
 -- A set of literals below a limit, with the order in which they came.
-use Rattle.std.specs.Prelude.{◌≡◌, ◌≢◌, ℕ, ◌%◌, ◌<◌, ◌≤◌, Bool, true, false, List, length, slice_index, slice_index_or}
-use Rattle.std.specs.Vec.{vec_capacity}
+use Rattle.std.specs.Prelude.{◌≡◌, ◌≢◌, ℕ, ◌%◌, ◌<◌, Bool, true, false, List, length, take, slice_index, slice_index_or}
 use Rattle.std.specs.List.{count_by}
 use Rattle.clauses.specs.Literal.{negation}
 use Rattle.clauses.specs.Propagation.{Literals, AllNegated, IsClosedUnder, IsClosed}
@@ -15,22 +14,18 @@ set_of m l = slice_index_or m.marks l false
 
 -- what contracts see of a trail
 abbrev pub marked_of : Inside → Marked
-marked_of t = record { marks = t.marks.items; order = t.literals.items }
+marked_of t = record { marks = t.marks.items; order = take t.count t.literals.items }
 
--- the marked literals are those in the order
-pub record IsOrder (marks : List Bool) (order : List ℕ) : Type 0 where
-  pub counted : count_by (λ b. b) marks ≡ length order
-  pub placed : (l : ℕ) → slice_index_or marks l false ≡ true → (j : ℕ) × (j < length order) × (slice_index order j ≡ l)
-  pub marked : (j : ℕ) → j < length order → slice_index_or marks (slice_index order j) false ≡ true
-  pub distinct : (i j : ℕ) → i < j → j < length order → slice_index order i ≢ slice_index order j
-
--- there is room for all literals
-pub record KeepsOrder (marks : List Bool) (order : List ℕ) (room : ℕ) : Type 0 where
-  pub order_is : IsOrder marks order
-  pub room_is : length marks ≤ room
+-- the marked literals are those in the first places
+pub record IsOrder (marks : List Bool) (literals : List ℕ) (count : ℕ) : Type 0 where
+  pub as_many : length literals ≡ length marks
+  pub counted : count_by (λ b. b) marks ≡ count
+  pub placed : (l : ℕ) → slice_index_or marks l false ≡ true → (j : ℕ) × (j < count) × (slice_index literals j ≡ l)
+  pub marked : (j : ℕ) → j < count → slice_index_or marks (slice_index literals j) false ≡ true
+  pub distinct : (i j : ℕ) → i < j → j < count → slice_index literals i ≢ slice_index literals j
 
 abbrev pub IsTrail : Inside → Type 0
-IsTrail t = KeepsOrder t.marks.items t.literals.items (vec_capacity t.literals)
+IsTrail t = IsOrder t.marks.items t.literals.items t.count
 
 -- every marked literal is in the set
 abbrev pub IsWithin : Marked → Literals → Type 0

@@ -14,7 +14,6 @@ mod passes;
 mod places;
 mod proof_judge;
 mod propagator;
-mod room;
 mod step_judge;
 mod step_reader;
 mod sweep;

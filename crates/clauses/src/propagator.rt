@@ -6,6 +6,7 @@ ghost use Rattle.clauses.specs.Growth.{AssumedOne, Assumed, Extends, Grows};
 ghost use Rattle.clauses.specs.Watched.{IsWatched, Stays, AreMet, UnitsMet, Brought};
 ghost use Rattle.clauses.specs.Propagator.{AddedTo, in_list};
 ghost use Rattle.clauses.specs.Lists.{list_at, IsListed};
+ghost use Rattle.std.specs.Vec.{vec_len, vec_capacity};
 ghost use Rattle.clauses.specs.Without.{IsWithout};
 ghost use Rattle.clauses.specs.Added.{Added, Unchanged};
 ghost use Rattle.clauses.specs.Flat.{cut, standing, AreEnds};
@@ -16,7 +17,6 @@ use crate::lists::Lists;
 use crate::literal::negation;
 use crate::passes::{open_literal, open_other};
 use crate::places::{Places, clause_sum, last_alike};
-use crate::room::push_in_room;
 use crate::sweep::without_dead;
 use crate::trail::Trail;
 use crate::watches::propagate;
@@ -163,6 +163,18 @@ fn list_watches(lists: &mut Lists, first: u32, second: u32, watch: u32) -> Resul
         Err(error) => return Err(error),
     }
     lists.push(second, watch + 1)
+}
+
+/// Pushes a number where there is room.
+fn push_in_room(numbers: &mut Vec<u32>, number: u32)
+    requires { vec_len numbers.old < vec_capacity numbers.old }
+    ensures items { numbers.new.items ≡ numbers.old.items ++ number ∷ [] }
+    ensures capacity { vec_capacity numbers.old ≤ vec_capacity numbers.new }
+{
+    match numbers.push(number) {
+        Ok(_) => {}
+        Err(_) => unreachable!(),
+    }
 }
 
 /// Puts a clause behind the others.

@@ -3,15 +3,15 @@ ghost use Rattle.std.specs.Prelude.{◌≡◌, ℕ, ◌<◌, ◌≤◌, ◌++◌
 ghost use Rattle.clauses.specs.Marked.{set_of, AreMarked, ArePlaced};
 
 use crate::fault::ClauseFault;
-use crate::room::push_in_room;
 use std::alloc::Global;
 
 /// A set of literals below a limit, in the order in which they came.
 #[derive(Drop)]
 pub struct Trail {
     marks: Vec<bool>,
-    // the marked literals, with room for all: pages of it that none reached are the system's still
+    // the marked literals stand in the first places
     literals: Vec<u32>,
+    count: usize,
 }
 
 impl std::marker::Model for Trail {
@@ -30,8 +30,12 @@ impl Trail {
         ensures { IfOk result (λ t. (length t.marks ≡ limit) × (t.order ≡ []) × ((l : ℕ) → set_of t l ≡ false)) }
     {
         let marks = vec![in alloc; false; limit]?;
-        let literals = Vec::with_capacity(alloc, limit)?;
-        Ok(Trail { marks, literals })
+        let literals = vec![in alloc; 0; limit]?;
+        Ok(Trail {
+            marks,
+            literals,
+            count: 0,
+        })
     }
 
     /// Whether a literal is marked.
@@ -49,7 +53,7 @@ impl Trail {
         ensures marked { AreMarked self.now }
         ensures placed { ArePlaced self.now }
     {
-        self.literals.len()
+        self.count
     }
 
     /// The literal that came at a place, from 0.
@@ -69,7 +73,8 @@ impl Trail {
         ensures { self.new ≡ record { marks = slice_set self.old.marks literal true; order = self.old.order ++ literal ∷ [] } }
     {
         self.marks[literal as usize] = true;
-        push_in_room(&mut self.literals, literal);
+        self.literals[self.count] = literal;
+        self.count += 1;
     }
 
     /// Takes back all marks but those that came first.
@@ -80,11 +85,9 @@ impl Trail {
         ensures marked { AreMarked self.new }
         ensures placed { ArePlaced self.new }
     {
-        while self.literals.len() > kept {
-            match self.literals.pop() {
-                Some(literal) => self.marks[literal as usize] = false,
-                None => unreachable!(),
-            }
+        while self.count > kept {
+            self.count -= 1;
+            self.marks[self.literals[self.count] as usize] = false;
         }
     }
 }
