@@ -1,5 +1,5 @@
-/* The library of hwtool for C programs: judgements of witnesses, lowering, lifting, dumps and certificates, over whole texts
- * in memory. What each call answers is proved (docs/PROVED.md, "The library for C programs").
+/* The library of hwtool for C programs: judgements of witnesses, lowering, lifting, restoring, dumps and certificates, over
+ * whole texts in memory. What each call answers is proved (docs/PROVED.md, "The library for C programs").
  *
  * What the caller owes, which nothing checks:
  *   - no pointer is null, also that of an empty text or buffer; a text or buffer of n bytes is n bytes that can be read or
@@ -11,8 +11,8 @@
  *     child of a process with threads. Calls of several threads are free of each other.
  *
  * Every call answers a status. A call that answers a text puts it at the front of the caller's buffer and tells its length in
- * `needed`; where the buffer is too small nothing of it is promised but `needed`, so a call with a buffer of one byte asks for
- * the length, as `snprintf` does.
+ * `needed`; the bytes of the buffer behind it stay as they were. Where the buffer is too small all of it stays, and `needed` is
+ * told, so a call with a buffer of one byte asks for the length, as `snprintf` does. With any other status both stay.
  */
 #ifndef HWTOOL_H
 #define HWTOOL_H
@@ -26,12 +26,12 @@ extern "C" {
 #endif
 
 /* The version of the library that this header goes with. */
-#define HWTOOL_VERSION "0.2.0"
+#define HWTOOL_VERSION "0.3.0"
 
 /* The statuses. */
 enum {
     HWTOOL_DONE = 0,           /* the answer is there */
-    HWTOOL_TOO_SMALL = 1,      /* the buffer is too small; `needed` is the length of the text */
+    HWTOOL_TOO_SMALL = 1,      /* the buffer is too small and stays; `needed` is the length of the text */
     HWTOOL_TEXT_REFUSED = 2,   /* the first text is no model or no circuit; `refusal` says why and where */
     HWTOOL_MODEL_REFUSED = 3,  /* what it says is not taken by this call; `refusal` says why and which item */
     HWTOOL_NO_MEMORY = 4,      /* memory was wanting */
@@ -99,6 +99,35 @@ uint32_t hwtool_lift(const uint8_t *model, size_t model_length, const uint8_t *w
                      struct hwtool_verdict *verdict, uint8_t *buffer, size_t buffer_length, size_t *needed,
                      struct hwtool_refusal *refusal);
 
+/* Judges a witness of the engine form of an AIGER circuit, with all its bad properties, or, where `chosen`, with the one at
+ * position `bad` alone, and restores it to the circuit's: with the property that it claims, up to and with the first frame in
+ * which this rises. The verdict is what is judged over the circuit of what it is restored to, where it claims one and no line
+ * is faulty. Answers DONE and TOO_SMALL with `verdict` and `needed`, TEXT_REFUSED, MODEL_REFUSED (there is no such form),
+ * NO_MEMORY. */
+uint32_t hwtool_restore(const uint8_t *circuit, size_t circuit_length, bool chosen, size_t bad, const uint8_t *witness,
+                        size_t witness_length, struct hwtool_verdict *verdict, uint8_t *buffer, size_t buffer_length,
+                        size_t *needed, struct hwtool_refusal *refusal);
+
+/* The same of a counterexample over the engine form of an AIGER circuit with the bad property at position `bad`, as ABC writes
+ * it: a line of initial bits, which are 0, and a line of input bits for each frame. Answers as hwtool_restore. A verdict of
+ * kind MALFORMED whose `why` is from 150 to 153 is about a line of the counterexample; what the lines before it give is
+ * restored then, without a last line. */
+uint32_t hwtool_restore_abc(const uint8_t *circuit, size_t circuit_length, size_t bad, const uint8_t *found,
+                            size_t found_length, struct hwtool_verdict *verdict, uint8_t *buffer, size_t buffer_length,
+                            size_t *needed, struct hwtool_refusal *refusal);
+
+/* Judges a witness of the engine form of the circuit that a BTOR2 model lowers to, as hwtool_restore does, and lifts it to the
+ * model's, with `names` or without. Answers DONE and TOO_SMALL with `verdict` and `needed`, TEXT_REFUSED, MODEL_REFUSED (the
+ * model is not lowered, or there is no such form), NO_MEMORY. */
+uint32_t hwtool_lift_engine(const uint8_t *model, size_t model_length, bool chosen, size_t bad, bool names,
+                            const uint8_t *witness, size_t witness_length, struct hwtool_verdict *verdict, uint8_t *buffer,
+                            size_t buffer_length, size_t *needed, struct hwtool_refusal *refusal);
+
+/* The same of a counterexample as hwtool_restore_abc takes it. Answers as hwtool_lift_engine. */
+uint32_t hwtool_lift_engine_abc(const uint8_t *model, size_t model_length, size_t bad, bool names, const uint8_t *found,
+                                size_t found_length, struct hwtool_verdict *verdict, uint8_t *buffer, size_t buffer_length,
+                                size_t *needed, struct hwtool_refusal *refusal);
+
 /* Judges a witness of a BTOR2 model, and writes its frames as a value change dump with a title in its comment: of nodes that
  * are no inputs, states, properties or outputs those that have a symbol, or `all`. Answers as hwtool_lift. */
 uint32_t hwtool_wave(const uint8_t *model, size_t model_length, bool all, const uint8_t *title, size_t title_length,
@@ -117,6 +146,19 @@ uint32_t hwtool_obligation(const uint8_t *model, size_t model_length, size_t bad
 uint32_t hwtool_check_proof(const uint8_t *model, size_t model_length, size_t bad, const uint8_t *invariant,
                             size_t invariant_length, const uint8_t *proof, size_t proof_length,
                             struct hwtool_verdict *verdict, struct hwtool_refusal *refusal);
+
+/* Writes in DIMACS what an invariant, as ABC writes it over the engine form, owes for the bad property of an AIGER circuit at
+ * position `bad`. Answers DONE and TOO_SMALL with `needed`, TEXT_REFUSED, MODEL_REFUSED, SECOND_REFUSED, NO_MEMORY. */
+uint32_t hwtool_obligation_aig(const uint8_t *circuit, size_t circuit_length, size_t bad, const uint8_t *invariant,
+                               size_t invariant_length, uint8_t *buffer, size_t buffer_length, size_t *needed,
+                               struct hwtool_refusal *refusal);
+
+/* Judges a proof in DRAT of what that invariant owes. With a verdict of kind 0 the bad property rises in no frame up to which
+ * the constraints hold, from any initial bits that agree with the resets, under every input sequence. Answers DONE with
+ * `verdict`, TEXT_REFUSED, MODEL_REFUSED, SECOND_REFUSED, NO_MEMORY. */
+uint32_t hwtool_check_proof_aig(const uint8_t *circuit, size_t circuit_length, size_t bad, const uint8_t *invariant,
+                                size_t invariant_length, const uint8_t *proof, size_t proof_length,
+                                struct hwtool_verdict *verdict, struct hwtool_refusal *refusal);
 
 /* The version, which is that of the program, as HWTOOL_VERSION has it for this header; not ended by a zero byte. Answers DONE and
  * TOO_SMALL with `needed`. */
