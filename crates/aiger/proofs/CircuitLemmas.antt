@@ -12,7 +12,7 @@ use Rattle.aiger.specs.declared.circuit.Section.{Section}
 use Rattle.aiger.specs.declared.circuit.Section.TheVariants as section
 use Rattle.aiger.specs.declared.fault.CircuitFault.{CircuitFault}
 use Rattle.aiger.specs.Limits.{greatest_count}
-use Rattle.aiger.specs.Literal.{variable}
+use Rattle.base.specs.Literal.{variable}
 use Rattle.aiger.specs.Net.{Net, variables, IsDefined, AreOrdered}
 use Rattle.aiger.specs.Circuit.{Circuit, IsCircuit, AllLiterals, HasDefined, HasFew, HasNames, IsNamed, Place, NameMap, place_cmp, rank, with_name_in, section_count, are_defined, net, IsName, count_refusal, size_refusal}
 use Rattle.aiger.specs.Refusal.{RefusesBy}

@@ -6,7 +6,7 @@ use Rattle.std.proofs.lemmas.List.Folds.{list_any-append}
 use Rattle.std.specs.List.{list_any, range_with_len}
 use Rattle.aiger.specs.declared.circuit.Gate.{Gate}
 use Rattle.aiger.specs.Circuit.{IsCircuit}
-use Rattle.aiger.specs.Literal.{variable}
+use Rattle.base.specs.Literal.{variable}
 use Rattle.aiger.specs.Loose.{Loose, IsLoose, latch_variable, gate_variable, defined_variables}
 use Rattle.aiger.specs.Numbering.{WaitForEarlier, slot_of}
 use Rattle.aiger.specs.Readiness.{IsFirst}

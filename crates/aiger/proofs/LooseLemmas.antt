@@ -12,7 +12,7 @@ use Rattle.aiger.specs.declared.circuit.Latch.{Latch}
 use Rattle.aiger.specs.declared.circuit.Section.TheVariants as section
 use Rattle.aiger.specs.declared.fault.CircuitFault.{CircuitFault}
 use Rattle.aiger.specs.Limits.{greatest_count}
-use Rattle.aiger.specs.Literal.{variable}
+use Rattle.base.specs.Literal.{variable}
 use Rattle.aiger.specs.Loose.{Loose, IsLoose, HasDefinitions, IsDefining, IsSmall, sections_of, latch_of, defined_variables, defined_count, is_defined, is_defining, is_small, latch_variable, gate_variable}
 use Rattle.aiger.proofs.CircuitLemmas.{AreKept, names_kept}
 

@@ -8,7 +8,7 @@ use Rattle.aiger.specs.declared.circuit.Gate.{Gate}
 use Rattle.aiger.specs.declared.circuit.Latch.{Latch}
 use Rattle.aiger.specs.declared.loose.GateLine.{GateLine}
 use Rattle.aiger.specs.declared.loose.LatchLine.{LatchLine}
-use Rattle.aiger.specs.Literal.{Valuation, variable, literal_value}
+use Rattle.base.specs.Literal.{Valuation, variable, literal_value}
 use Rattle.aiger.specs.Net.{SatisfiesFrom, bits_from, variables, IsDefined}
 use Rattle.aiger.specs.Circuit.{Circuit, IsCircuit, net}
 use Rattle.aiger.specs.Trace.{IsFrame, IsTrace, next_state, SameFrame, SameTrace}

@@ -2,7 +2,8 @@
 use Rattle.std.proofs.Common.{◌≡◌, ℕ, zero, suc, ◌+◌, ◌*◌, ◌/◌, ◌%◌, ◌<◌, ◌≤◌, not, ◌&&◌, List, [], ◌∷◌, ◌++◌, map, length, refl, ap, sym, ◌∙◌, subst, arith, length-append}
 use Rattle.std.proofs.lemmas.Bool.Decides.{nat_tests}
 use Rattle.std.specs.List.{range_with_len}
-use Rattle.aiger.specs.Literal.{Valuation, variable, negation, literal_value}
+use Rattle.base.specs.Literal.{Valuation, negation, literal_value}
+use Rattle.base.proofs.LiteralLemmas.{variable-negation, literal_value-even}
 use Rattle.aiger.specs.Net.{Net, variables, IsDefined, SatisfiesFrom, Satisfies, AreOrderedFrom, AreOrdered, bits_from}
 use Rattle.aiger.specs.declared.circuit.Gate.{Gate}
 
@@ -44,31 +45,9 @@ IsDefined-append n gs l d = omega (arith, length-append n.gates gs)
 pub IsDefined-false : (n : Net) → IsDefined n 0
 IsDefined-false n = omega arith
 
--- a literal and its negation are of one variable
-pub variable-negation : (l : ℕ) → variable (negation l) ≡ variable l
-variable-negation l = grind (arith, nat_tests)
-
 -- a negation is defined where its literal is
 pub IsDefined-negation : (n : Net) (l : ℕ) → IsDefined n l → IsDefined n (negation l)
 IsDefined-negation n l d = rw variable-negation d
-
--- a negation says the opposite
-pub literal_value-negation : (v : Valuation) (l : ℕ) → literal_value v (negation l) ≡ not (literal_value v l)
-literal_value-negation v l = grind (arith, nat_tests)
-
--- an even literal says what its variable says
-pub literal_value-even : (v : Valuation) (k : ℕ) → 0 < k → literal_value v (2 * k) ≡ v k
-literal_value-even v k h =
-    let e : 2 * k / 2 ≡ k = omega arith in
-    let f : 2 * k % 2 ≡ 0 = omega arith in
-    grind (arith, nat_tests)
-
--- an odd literal says the opposite of its variable
-pub literal_value-odd : (v : Valuation) (k : ℕ) → 0 < k → literal_value v (2 * k + 1) ≡ not (v k)
-literal_value-odd v k h =
-    let e : (2 * k + 1) / 2 ≡ k = omega arith in
-    let f : (2 * k + 1) % 2 ≡ 1 = omega arith in
-    grind (arith, nat_tests)
 
 -- in what satisfies a net with one more gate, the gate's literal is true exactly when both its operands are
 pub literal_value-new : (n : Net) (g : Gate) (v : Valuation) → Satisfies (record n { gates = n.gates ++ g ∷ [] }) v → literal_value v (2 * (variables n + 1)) ≡ (literal_value v g.rhs0 && literal_value v g.rhs1)

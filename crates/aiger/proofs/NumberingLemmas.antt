@@ -12,7 +12,7 @@ use Rattle.aiger.specs.declared.circuit.Latch.{Latch}
 use Rattle.aiger.specs.declared.circuit.Section.{Section}
 use Rattle.aiger.specs.declared.circuit.Section.TheVariants as section
 use Rattle.aiger.specs.declared.loose.LatchLine.{LatchLine}
-use Rattle.aiger.specs.Literal.{variable}
+use Rattle.base.specs.Literal.{variable}
 use Rattle.aiger.specs.Net.{IsDefined, AreOrderedFrom, variables}
 use Rattle.aiger.specs.Circuit.{Circuit, IsCircuit, net, section_count, NameMap}
 use Rattle.aiger.specs.Loose.{Loose, IsLoose, sections_of, latch_of, latch_variable}

@@ -7,7 +7,7 @@ use Rattle.std.proofs.lemmas.List.Folds.{list_any-append, list_any_at}
 use Rattle.std.proofs.lemmas.List.Sums.{sum_by-append, sum_by-cons}
 use Rattle.std.specs.List.{list_any, position_or_len, count_by}
 use Rattle.aiger.specs.declared.loose.GateLine.{GateLine}
-use Rattle.aiger.specs.Literal.{variable}
+use Rattle.base.specs.Literal.{variable}
 use Rattle.aiger.specs.Loose.{Loose, IsLoose, IsDefining, defined_variables, latch_variable, gate_variable}
 use Rattle.aiger.specs.Renumbering.{is_known, gate_line, gate_name, numbered, has_number, is_ready, AreInTurn, Uses, LeadsAlong, DependsOn, LeadsToCycle}
 use Rattle.aiger.proofs.LooseLemmas.{count_join}

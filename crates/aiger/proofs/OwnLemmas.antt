@@ -13,7 +13,7 @@ use Rattle.aiger.specs.declared.circuit.Section.TheVariants as section
 use Rattle.aiger.specs.declared.loose.GateLine.{GateLine}
 use Rattle.aiger.specs.declared.loose.LatchLine.{LatchLine}
 use Rattle.aiger.specs.Limits.{greatest_count}
-use Rattle.aiger.specs.Literal.{variable}
+use Rattle.base.specs.Literal.{variable}
 use Rattle.aiger.specs.Net.{Net, variables, IsDefined, AreOrderedFrom}
 use Rattle.aiger.specs.Circuit.{Circuit, IsCircuit, net, section_count}
 use Rattle.aiger.specs.Loose.{IsLoose, IsDefining, IsSmall, sections_of, latch_of, latch_variable, gate_variable, defined_count, defined_variables}

@@ -7,7 +7,7 @@ use Rattle.std.proofs.lemmas.List.Folds.{list_any_at}
 use Rattle.std.proofs.lemmas.List.Sums.{sum_by-append, sum_by_push, fails_before_first, prefix_len_stops}
 use Rattle.std.specs.List.{list_any, position, position_or_len, count_by}
 use Rattle.aiger.specs.declared.loose.GateLine.{GateLine}
-use Rattle.aiger.specs.Literal.{variable}
+use Rattle.base.specs.Literal.{variable}
 use Rattle.aiger.specs.Loose.{Loose, IsLoose, defined_variables, defined_count, latch_variable, gate_variable}
 use Rattle.aiger.specs.Renumbering.{is_known, gate_line, gate_name, numbered, has_number, is_ready, AreInTurn, IsOrder, IsFirstCyclic, new_literal, ordered_gate, new_gate}
 use Rattle.aiger.specs.Readiness.{slot_at, AreSlots, IsWholeOrder}

@@ -3,10 +3,10 @@ use Rattle.std.proofs.Common.{◌≡◌, ℕ, zero, suc, ◌+◌, ◌-◌, ◌*�
 use Rattle.std.proofs.lemmas.Bool.Decides.{nat_tests}
 use Rattle.std.proofs.lemmas.Bool.{cases_lt}
 use Rattle.std.specs.List.{list_any, position_or_len}
-use Rattle.aiger.specs.Literal.{Valuation, variable, literal_value}
+use Rattle.base.specs.Literal.{Valuation, variable, literal_value}
 use Rattle.aiger.specs.Net.{bits_from}
 use Rattle.aiger.specs.Renumbering.{new_literal, has_number}
-use Rattle.aiger.proofs.NetLemmas.{literal_value-even, literal_value-odd}
+use Rattle.base.proofs.LiteralLemmas.{literal_value-even, literal_value-odd}
 
 -- the place in a list with one more in front
 place_here : (v x : ℕ) (xs : List ℕ) → nat_eq v x ≡ true → position_or_len (nat_eq v) (x ∷ xs) ≡ 0

@@ -1,15 +1,16 @@
 -- There is exactly one trace from initial bits under input frames.
-use Rattle.std.proofs.Common.{◌≡◌, ℕ, zero, suc, ◌+◌, ◌*◌, ◌/◌, ◌<◌, ◌≤◌, Bool, false, ◌&&◌, List, [], ◌∷◌, map, length, All, if◌then◌else◌, ◌==◌, refl, ap, sym, ◌∙◌, subst, arith, ⊎_elim}
+use Rattle.std.proofs.Common.{◌≡◌, ℕ, zero, suc, ◌+◌, ◌*◌, ◌/◌, ◌<◌, ◌≤◌, Bool, false, ◌&&◌, List, [], ◌∷◌, map, length, All, if◌then◌else◌, ◌==◌, refl, ap, sym, ◌∙◌, subst, arith, ⊎_elim, take}
 use Rattle.std.proofs.lemmas.Bool.Decides.{nat_tests}
 use Rattle.std.proofs.lemmas.Bool.{cases_lt}
 use Rattle.std.proofs.lemmas.List.{length-map}
-use Rattle.std.proofs.lemmas.List.Elements.{All-head, All-tail}
+use Rattle.std.proofs.lemmas.List.Elements.{All-head, All-tail, All-nil, All-cons}
 use Rattle.aiger.specs.declared.circuit.Gate.{Gate}
 use Rattle.aiger.specs.declared.circuit.Latch.{Latch}
-use Rattle.aiger.specs.Literal.{Valuation, literal_value}
+use Rattle.base.specs.Literal.{Valuation, literal_value}
 use Rattle.aiger.specs.Net.{variables, SatisfiesFrom, AreOrderedFrom, bits_from}
 use Rattle.aiger.specs.Circuit.{Circuit, IsCircuit, net}
 use Rattle.aiger.specs.Trace.{IsFrame, IsTrace, next_state, SameFrame, SameTrace}
+use Rattle.aiger.proofs.NetLemmas.{length-bits_from}
 
 -- a valuation with another bit at one variable
 abbrev put : Valuation → ℕ → Bool → Valuation
@@ -175,3 +176,28 @@ trace_unique c state (input ∷ inputs) (v ∷ vs) (w ∷ ws) valid s t =
     let e : next_state c v ≡ next_state c w = next_state-agree c v w valid same in
     let rest : IsTrace c (next_state c v) inputs ws = subst (λ (st : List Bool). IsTrace c st inputs ws) (sym e) t.1 in
     (same, trace_unique c (next_state c v) inputs vs ws valid s.1 rest)
+
+-- ---- how long traces are
+
+-- a trace has as many frames as there are input frames
+pub trace_length : (c : Circuit) (state : List Bool) (inputs : List (List Bool)) (vs : List Valuation) → IsTrace c state inputs vs → length vs ≡ length inputs
+trace_length c state [] [] t = refl
+trace_length c state [] (v ∷ vs) t = absurd t
+trace_length c state (input ∷ inputs) [] t = absurd t
+trace_length c state (input ∷ inputs) (v ∷ vs) t = ap suc (trace_length c (next_state c v) inputs vs t.1)
+
+-- each of which has a bit for each input
+pub trace_inputs : (c : Circuit) (state : List Bool) (inputs : List (List Bool)) (vs : List Valuation) → IsTrace c state inputs vs → All (λ input. length input ≡ c.inputs) inputs
+trace_inputs c state [] vs t = All-nil (λ input. length input ≡ c.inputs)
+trace_inputs c state (input ∷ inputs) [] t = absurd t
+trace_inputs c state (input ∷ inputs) (v ∷ vs) t =
+    All-cons (λ input. length input ≡ c.inputs) input inputs (ap length (sym t.0.inputs) ∙ length-bits_from 1 c.inputs v) (trace_inputs c (next_state c v) inputs vs t.1)
+
+-- and of so many of the first
+pub trace_taken : (c : Circuit) (state : List Bool) (inputs : List (List Bool)) (vs : List Valuation) (n : ℕ) → IsTrace c state inputs vs → IsTrace c state (take n inputs) (take n vs)
+trace_taken c state [] [] zero t = tt
+trace_taken c state [] [] (suc n) t = tt
+trace_taken c state [] (v ∷ vs) n t = absurd t
+trace_taken c state (input ∷ inputs) [] n t = absurd t
+trace_taken c state (input ∷ inputs) (v ∷ vs) zero t = tt
+trace_taken c state (input ∷ inputs) (v ∷ vs) (suc n) t = (t.0, trace_taken c (next_state c v) inputs vs n t.1)

@@ -9,7 +9,7 @@ use Rattle.std.proofs.lemmas.Bool.{or_parts, or_from, and_parts, leb-true}
 use Rattle.std.proofs.lemmas.List.Elements.{All-head, All-tail, All-from_get_or}
 use Rattle.aiger.specs.declared.loose.GateLine.{GateLine}
 use Rattle.aiger.specs.declared.loose.LatchLine.{LatchLine}
-use Rattle.aiger.specs.Literal.{variable}
+use Rattle.base.specs.Literal.{variable}
 use Rattle.aiger.specs.Loose.{Loose, IsLoose, defined_variables, is_defined}
 use Rattle.aiger.specs.Renumbering.{alone, is_known, first_undefined, lines_with}
 use Rattle.aiger.specs.Numbering.{WaitForEarlier, is_unknown, line_in, slot_of, slots_of}

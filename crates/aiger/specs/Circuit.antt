@@ -11,7 +11,7 @@ use Rattle.aiger.specs.declared.circuit.Section.TheVariants as section
 use Rattle.aiger.specs.declared.fault.CircuitFault.{CircuitFault}
 use Rattle.aiger.specs.declared.fault.CircuitFault.TheVariants.{LiteralOutOfRange, OrderBroken, TooBig, NoSuchPosition, NameTaken, BadName}
 use Rattle.aiger.specs.Limits.{greatest_count}
-use Rattle.aiger.specs.Literal.{variable}
+use Rattle.base.specs.Literal.{variable}
 use Rattle.aiger.specs.Net.{Net, variables, IsDefined, AreOrdered}
 pub use Rattle.aiger.specs.Names.{Place, NameMap, rank, letter, all_sections, place_cmp, name_in, with_name_in, Names, given_name, name_at, IsName, is_name}
 pub use Rattle.aiger.specs.Refusal.{RefusesBy, RefusesOnlyBy}

@@ -1,5 +1,4 @@
 pub mod Limits
-pub mod Literal
 pub mod Net
 pub mod Refusal
 pub mod Names

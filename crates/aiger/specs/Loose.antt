@@ -8,7 +8,7 @@ use Rattle.aiger.specs.declared.circuit.Section.{Section}
 use Rattle.aiger.specs.declared.fault.CircuitFault.{CircuitFault}
 use Rattle.aiger.specs.declared.fault.CircuitFault.TheVariants.{LiteralOutOfRange, TooBig}
 use Rattle.aiger.specs.Limits.{greatest_count}
-use Rattle.aiger.specs.Literal.{variable}
+use Rattle.base.specs.Literal.{variable}
 use Rattle.aiger.specs.Names.{NameMap, name_in, with_name_in}
 use Rattle.aiger.specs.Circuit.{Circuit, AllLiterals, HasFew, HasNames, count_refusal, size_refusal, name_refusal}
 

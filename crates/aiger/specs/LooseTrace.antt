@@ -2,7 +2,7 @@
 use Rattle.std.specs.Prelude.{◌≡◌, Bool, ◌&&◌, List, [], ◌∷◌, map, All}
 use Rattle.std.specs.List.{AllZip}
 use Rattle.aiger.specs.declared.loose.GateLine.{GateLine}
-use Rattle.aiger.specs.Literal.{Valuation, variable, literal_value}
+use Rattle.base.specs.Literal.{Valuation, variable, literal_value}
 use Rattle.aiger.specs.Net.{latch_bits}
 use Rattle.aiger.specs.Circuit.{Circuit, net}
 use Rattle.aiger.specs.Loose.{Loose, latch_variable, gate_variable}

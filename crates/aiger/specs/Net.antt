@@ -1,6 +1,6 @@
 -- Gates over inputs and latches, and what satisfies them ("AIGER 1.9 and Beyond", and-inverter graphs).
 use Rattle.std.specs.Prelude.{◌≡◌, ℕ, zero, suc, ◌+◌, ◌*◌, ◌<◌, ◌≤◌, Bool, ◌&&◌, List, [], ◌∷◌, length}
-use Rattle.aiger.specs.Literal.{Valuation, variable, literal_value}
+use Rattle.base.specs.Literal.{Valuation, variable, literal_value}
 use Rattle.aiger.specs.declared.circuit.Gate.{Gate}
 
 -- the gates over so many inputs and latches: variables are numbered inputs first, then latches, then gates

@@ -2,7 +2,7 @@
 use Rattle.std.specs.Prelude.{◌≡◌, ℕ, suc, ◌-◌, ◌<◌, ◌≤◌, slice_index_or, count_by, Bool, not, false, true, List, [], ◌∷◌, ◌++◌, map, take, length, nat_eq, if◌then◌else◌, ◌==◌}
 use Rattle.std.specs.List.{position_or_len, flat_map, list_all, list_any}
 use Rattle.aiger.specs.declared.loose.GateLine.{GateLine}
-use Rattle.aiger.specs.Literal.{variable}
+use Rattle.base.specs.Literal.{variable}
 use Rattle.aiger.specs.Loose.{Loose, gate_variable}
 use Rattle.aiger.specs.Renumbering.{AreInTurn, has_number, is_ready, is_known}
 use Rattle.aiger.specs.Readiness.{AreDone}

@@ -5,7 +5,7 @@ use Rattle.aiger.specs.declared.circuit.Gate.{Gate}
 use Rattle.aiger.specs.declared.loose.GateLine.{GateLine}
 use Rattle.aiger.specs.declared.fault.LooseFault.{LooseFault}
 use Rattle.aiger.specs.declared.fault.LooseFault.TheVariants.{Undefined, Cycle, NoMemory}
-use Rattle.aiger.specs.Literal.{variable}
+use Rattle.base.specs.Literal.{variable}
 use Rattle.aiger.specs.Circuit.{Circuit}
 use Rattle.aiger.specs.Readiness.{AreFirst}
 use Rattle.aiger.specs.Loose.{Loose, latch_variable, gate_variable, is_defined}

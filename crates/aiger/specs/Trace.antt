@@ -4,7 +4,7 @@ use Rattle.std.specs.List.{AllZip}
 use Rattle.aiger.specs.declared.circuit.Latch.{Latch}
 use Rattle.aiger.specs.declared.circuit.Reset.{Reset}
 use Rattle.aiger.specs.declared.circuit.Reset.TheVariants.{Zero, One, Free}
-use Rattle.aiger.specs.Literal.{Valuation, literal_value}
+use Rattle.base.specs.Literal.{Valuation, literal_value}
 use Rattle.aiger.specs.Net.{variables, Satisfies, input_bits, latch_bits}
 use Rattle.aiger.specs.Circuit.{Circuit, net}
 

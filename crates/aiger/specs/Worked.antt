@@ -1,7 +1,7 @@
 -- Worked circuits and files: a latch that toggles, one gate, two gates in each order, and a cycle.
 use Rattle.std.specs.Prelude.{ℕ, [], ◌∷◌, false, ◌==◌}
 use Rattle.aiger.specs.declared.circuit.Reset.TheVariants.{Zero, Free}
-use Rattle.aiger.specs.Literal.{Valuation}
+use Rattle.base.specs.Literal.{Valuation}
 use Rattle.aiger.specs.Net.{Net}
 use Rattle.aiger.specs.Circuit.{Circuit, fresh_circuit}
 use Rattle.aiger.specs.Loose.{Loose, empty_loose}

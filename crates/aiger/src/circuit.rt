@@ -130,7 +130,7 @@ impl Model for Circuit {
 }
 
 impl Circuit {
-    ghost use Rattle.aiger.specs.Literal.{variable};
+    ghost use Rattle.base.specs.Literal.{variable};
     ghost use Rattle.aiger.specs.Net.{variables};
     ghost use Rattle.aiger.specs.Circuit.{IsCircuit, net, fresh_circuit, with_gate, with_latch, with_output, with_bad, with_constraint, with_justice, with_fair, with_name, name_of, section_count, are_defined, circuit_refusal, gate_refusal, literal_refusal, property_refusal, justice_refusal, name_refusal, RefusesBy, RefusesOnlyBy};
 

@@ -1,6 +1,6 @@
 //! Laws of circuits and their traces, and worked rows: functions that do nothing, whose contracts are the laws.
 ghost use Rattle.std.specs.Prelude.{◌≡◌, ℕ, ◌+◌, ◌*◌, ◌<◌, ◌↔◌, ◌⊎◌, List, [], ◌∷◌, Bool, true, false, not, ◌&&◌, All, length, map, None, Some, codes};
-ghost use Rattle.aiger.specs.Literal.{Valuation, literal_value, negation};
+ghost use Rattle.base.specs.Literal.{Valuation, literal_value, negation};
 ghost use Rattle.aiger.specs.Net.{Satisfies, AreOrdered};
 ghost use Rattle.aiger.specs.Circuit.{Circuit, IsCircuit, NameMap, rank, letter, all_sections, name_in, name_of, with_name, name_refusal};
 ghost use Rattle.aiger.specs.declared.circuit.Section.{Section};

@@ -1,6 +1,6 @@
 //! Literals: variables, their negations, and the two constants.
 ghost use Rattle.std.specs.Prelude.{◌≡◌, ℕ};
-ghost use Rattle.aiger.specs.Literal.{variable, negation};
+ghost use Rattle.base.specs.Literal.{variable, negation};
 
 use std::marker::Model;
 

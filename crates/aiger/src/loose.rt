@@ -3,7 +3,7 @@ ghost use Rattle.std.specs.Prelude.{◌≡◌, ℕ, ◌<◌, true, [], ◌∷◌
 ghost use Rattle.std.specs.List.{list_all, concat};
 ghost use Rattle.aiger.specs.Definitions.{has_variable};
 ghost use Rattle.aiger.specs.Circuit.{section_count};
-ghost use Rattle.aiger.specs.Literal.{variable};
+ghost use Rattle.base.specs.Literal.{variable};
 ghost use Rattle.aiger.specs.Refusal.{RefusesBy};
 ghost use Rattle.aiger.specs.Limits.{greatest_count};
 ghost use Rattle.aiger.specs.Loose.{is_defining, is_small};

@@ -11,7 +11,7 @@ use Rattle.aiger.specs.declared.loose.GateLine.{GateLine}
 use Rattle.aiger.specs.declared.circuit.Latch.{Latch}
 use Rattle.aiger.specs.declared.loose.LatchLine.{LatchLine}
 use Rattle.aiger.specs.Limits.{greatest_count}
-use Rattle.aiger.specs.Literal.{variable}
+use Rattle.base.specs.Literal.{variable}
 use Rattle.aiger.specs.Circuit.{IsNamed}
 use Rattle.aiger.specs.Loose.{Loose, IsLoose, HasDefinitions, HasSmall, HasFewLines, IsDefining, IsSmall, sections_of, latch_of as latch_section, empty_loose, latch_variable, gate_variable, defined_variables, is_defining, is_defined, with_input_line, with_latch_line, with_gate_line}
 use Rattle.aiger.specs.Numbering.{IsOnce}

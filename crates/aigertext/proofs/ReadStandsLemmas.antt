@@ -9,7 +9,7 @@ use Rattle.aiger.specs.declared.circuit.Gate.{Gate}
 use Rattle.aiger.specs.declared.circuit.Section.{Section}
 use Rattle.aiger.specs.declared.circuit.Section.TheVariants as section
 use Rattle.aiger.specs.Limits.{greatest_count}
-use Rattle.aiger.specs.Literal.{variable}
+use Rattle.base.specs.Literal.{variable}
 use Rattle.aiger.specs.Net.{AreOrderedFrom}
 use Rattle.aiger.specs.Circuit.{Circuit, IsCircuit, IsNamed, with_name, name_refusal}
 use Rattle.base.specs.Decimals.{number_of}

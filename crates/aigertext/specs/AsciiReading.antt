@@ -4,7 +4,7 @@ use Rattle.base.specs.Decimals.{number_of}
 use Rattle.aiger.specs.declared.loose.GateLine.{GateLine}
 use Rattle.aiger.specs.declared.loose.LatchLine.{LatchLine}
 use Rattle.aiger.specs.Circuit.{Circuit}
-use Rattle.aiger.specs.Literal.{variable}
+use Rattle.base.specs.Literal.{variable}
 use Rattle.aiger.specs.Loose.{Loose, empty_loose, is_defined, is_defining, with_input_line, with_latch_line, with_gate_line}
 use Rattle.aiger.specs.Renumbering.{IsRenumbered, used_lines, first_undefined, IsFirstCyclic}
 use Rattle.aigertext.specs.declared.reading.counts.Counts.{Counts}

@@ -1,5 +1,5 @@
 -- Which texts stand for which circuits ("AIGER 1.9 and Beyond", the binary and the ascii format): all spellings that the format allows.
-use Rattle.std.specs.Prelude.{◌≡◌, ℕ, suc, ◌+◌, ◌*◌, ◌≤◌, List, [], ◌∷◌, ◌++◌, length, replicate, None, flat_map, decimal, ◌⊎◌, All}
+use Rattle.std.specs.Prelude.{◌≡◌, ℕ, suc, ◌+◌, ◌*◌, ◌≤◌, List, [], ◌∷◌, ◌++◌, length, replicate, Option, None, IfSome, flat_map, decimal, ◌⊎◌, All}
 use Rattle.std.specs.List.{concat}
 use Rattle.aiger.specs.declared.circuit.Latch.{Latch}
 use Rattle.aiger.specs.declared.circuit.Reset.{Reset}
@@ -147,3 +147,7 @@ pub record IsAsciiText (text : List ℕ) (c : Circuit) : Type 0 where
 -- a text spells a circuit: it stands for it in the ascii form or in the binary form
 abbrev pub Spells : List ℕ → Circuit → Type 0
 Spells text c = IsAsciiText text c ⊎ IsBinaryText text c
+
+-- the bytes of a source, where it knows them, are a text of a circuit, of either form
+abbrev pub IsCircuitText : Option (List ℕ) → Circuit → Type 0
+IsCircuitText known circuit = IfSome known (λ text. Spells text circuit)

@@ -19,3 +19,4 @@ pub mod HeldLemmas
 pub mod DecimalLemmas
 pub mod StepLemmas
 pub mod RowLemmas
+pub mod LiteralLemmas

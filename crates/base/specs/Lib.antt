@@ -3,6 +3,7 @@ pub mod Signed
 pub mod Operator
 pub mod Widths
 pub mod Steps
+pub mod Literal
 pub mod Device
 pub mod Lines
 pub mod Held
@@ -11,3 +12,4 @@ pub mod Pieces
 pub mod Reasons
 pub mod Trials
 pub mod Rows
+pub mod Shown

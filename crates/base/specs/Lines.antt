@@ -1,5 +1,5 @@
 -- Lines of a text: a byte 10 ends each, and what follows the last byte 10 is unfinished.
-use Rattle.std.specs.Prelude.{◌≡◌, ℕ, false, List, [], ◌∷◌, ◌++◌, ◌==◌, if◌then◌else◌, flat_map}
+use Rattle.std.specs.Prelude.{◌≡◌, ℕ, ◌+◌, ◌-◌, ◌^◌, min, false, List, [], ◌∷◌, ◌++◌, ◌==◌, if◌then◌else◌, flat_map}
 use Rattle.std.specs.List.{list_any}
 
 -- the text of lines: behind each a byte 10
@@ -28,3 +28,16 @@ whole_lines (b ∷ bs) = if b == 10 then [] ∷ whole_lines bs else onto_first b
 abbrev pub unfinished : List ℕ → List ℕ
 unfinished [] = []
 unfinished (b ∷ bs) = if list_any (λ c. c == 10) (b ∷ bs) then unfinished bs else b ∷ bs
+
+-- a line where there is a byte of it
+abbrev pub line_of : List ℕ → List (List ℕ)
+line_of [] = []
+line_of (b ∷ bs) = (b ∷ bs) ∷ []
+
+-- all lines of a text, of which the last may have no end
+abbrev pub all_lines : List ℕ → List (List ℕ)
+all_lines text = whole_lines text ++ line_of (unfinished text)
+
+-- the number of the line behind line n, told up to 2 ^ 64 - 1
+abbrev pub line_after : ℕ → ℕ
+line_after n = min (n + 1) (2 ^ 64 - 1)

@@ -16,7 +16,7 @@ use Rattle.btor2.proofs.ModelLemmas.{IsNextOf-from_value, node_width-range}
 use Rattle.aiger.specs.declared.circuit.Latch.{Latch}
 use Rattle.aiger.specs.declared.circuit.Reset.{Reset}
 use Rattle.aiger.specs.declared.circuit.Reset.TheVariants as reset
-use Rattle.aiger.specs.Literal.{literal_value}
+use Rattle.base.specs.Literal.{literal_value}
 use Rattle.aiger.specs.Net.{Net, IsDefined}
 use Rattle.aiger.specs.Circuit.{Circuit, net, with_latch, fresh_latch}
 use Rattle.blast.specs.Blocks.{block, blocks, written}

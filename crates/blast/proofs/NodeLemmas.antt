@@ -18,7 +18,7 @@ use Rattle.btor2.specs.Trace.{Frame, bits_of, LineHolds, LinesHold, IsFrame}
 use Rattle.btor2.specs.Leaves.{kind_width}
 use Rattle.btor2.proofs.AppendLemmas.{is_some_from, then_parts, node_width-append}
 use Rattle.btor2.proofs.ModelLemmas.{IsIn-from_find, node_width-at, node_width-range, position_of-at}
-use Rattle.aiger.specs.Literal.{Valuation, literal_value}
+use Rattle.base.specs.Literal.{Valuation, literal_value}
 use Rattle.aiger.specs.Net.{Net, variables, IsDefined, bits_from}
 use Rattle.aiger.proofs.NetLemmas.{length-bits_from, bits_from-append, bits_from-literals}
 use Rattle.gates.specs.Bound.{unary_bound, binary_bound, ite_bound}

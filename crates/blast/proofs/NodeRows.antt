@@ -22,7 +22,7 @@ use Rattle.btor2.proofs.AppendLemmas.{sort_width-append, node_width-append}
 use Rattle.btor2.proofs.AcceptedLemmas.{BodyIsAccepted}
 use Rattle.btor2.proofs.ModelLemmas.{IsIn-from_place, IsAccepted-at, IsIn}
 use Rattle.btor2.proofs.LeafLemmas.{bits_of-at, free_at}
-use Rattle.aiger.specs.Literal.{Valuation}
+use Rattle.base.specs.Literal.{Valuation}
 use Rattle.aiger.specs.Net.{Net, variables, bits_from}
 use Rattle.aiger.proofs.NetLemmas.{length-bits_from, bits_from-append}
 use Rattle.gates.specs.Bound.{unary_bound, binary_bound}

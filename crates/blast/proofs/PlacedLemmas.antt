@@ -15,7 +15,7 @@ use Rattle.base.proofs.WrapLemmas.{wrapped_is}
 use Rattle.btor2.specs.declared.item.Item.{Item}
 use Rattle.btor2.specs.Check.{IsWellFormed}
 use Rattle.btor2.specs.Trace.{Frame, bits_of}
-use Rattle.aiger.specs.Literal.{Valuation, literal_value}
+use Rattle.base.specs.Literal.{Valuation, literal_value}
 use Rattle.aiger.specs.Net.{Net, IsDefined}
 use Rattle.gates.specs.Made.{word_value}
 use Rattle.gates.proofs.BitListLemmas.{word_value-below}

@@ -19,16 +19,16 @@ use Rattle.btor2.proofs.LeafLemmas.{bits_of-most}
 use Rattle.aiger.specs.declared.circuit.Section.{Section}
 use Rattle.aiger.specs.declared.circuit.Section.TheVariants as section
 use Rattle.aiger.specs.Limits.{greatest_count}
-use Rattle.aiger.specs.Literal.{Valuation, literal_value}
+use Rattle.base.specs.Literal.{Valuation, literal_value}
 use Rattle.aiger.specs.Names.{NameMap, Names}
 use Rattle.aiger.specs.Net.{Net, IsDefined}
 use Rattle.aiger.specs.Circuit.{Circuit, IsCircuit, net, name_of, section_count, section_names}
 use Rattle.aiger.proofs.SectionNameLemmas.{length-section_names, section_names-same, section_names-push}
 use Rattle.blast.specs.declared.properties.Property.{Property}
 use Rattle.blast.specs.declared.properties.Property.TheVariants as property
-use Rattle.blast.specs.Leaves.{by_body, of_kind, observed, shown_width, shown_bits, bit_names}
+use Rattle.blast.specs.Leaves.{by_body, of_kind, shown_width, shown_bits, bit_names}
 use Rattle.blast.specs.Properties.{property_kind, property_section, literals_of, with_more, name_by, property_operand, property_literals, names_by, property_names, Adds, TakesProperties}
-use Rattle.blast.specs.Reads.{Together, RowsRead}
+use Rattle.blast.specs.Reads.{Together, RowsRead, observed}
 use Rattle.blast.specs.Rows.{row_at}
 use Rattle.blast.specs.Sections.{Renames}
 use Rattle.blast.specs.Table.{row_of}

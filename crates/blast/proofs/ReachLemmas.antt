@@ -1,6 +1,7 @@
 -- From initial words to initial bits and back, and what rises in a model and in a circuit that lowers it.
 use Rattle.std.proofs.Common.{◌≡◌, ℕ, zero, suc, ◌+◌, ◌/◌, ◌^◌, ◌<◌, Bool, true, false, List, [], ◌∷◌, ◌++◌, length, map, drop, replicate, All, Option, Some, None, ◌&&◌, not, option_and_then, unwrap_or, refl, sym, ap, ap₂, subst, ◌∙◌, length-append, arith}
 use Rattle.std.specs.Prelude.{if◌then◌else◌}
+use Rattle.std.specs.List.{AllZip}
 use Rattle.std.proofs.lemmas.List.{length-map}
 use Rattle.std.proofs.lemmas.List.Elements.{All-nil, All-cons, All-head, All-tail}
 use Rattle.base.specs.Word.{word, bits}
@@ -15,18 +16,19 @@ use Rattle.btor2.proofs.InitLemmas.{fitting_inputs, fitting_states, init_word_be
 use Rattle.aiger.specs.declared.circuit.Latch.{Latch}
 use Rattle.aiger.specs.declared.circuit.Reset.{Reset}
 use Rattle.aiger.specs.declared.circuit.Reset.TheVariants as reset
-use Rattle.aiger.specs.Literal.{Valuation}
+use Rattle.base.specs.Literal.{Valuation}
 use Rattle.aiger.specs.Circuit.{Circuit}
-use Rattle.aiger.specs.Trace.{AgreesWithReset, AreInitial, IsTrace as IsCircuitTrace, next_state as next_bits}
+use Rattle.aiger.specs.Trace.{AgreesWithReset, AreInitial, IsTrace as IsCircuitTrace}
 use Rattle.blast.specs.Cost.{input_width, given_width, carried_width}
 use Rattle.blast.specs.Leaves.{by_body, of_kind, leaf_bits, leaf_resets, resets_of_word, reset_of_bit, input_bits, state_bits, state_resets}
-use Rattle.blast.specs.Lowering.{Lowers, ShowSame}
+use Rattle.blast.specs.Lowering.{Lowers, ShowsSame}
 use Rattle.blast.proofs.NodeLemmas.{length-leaves}
 use Rattle.blast.proofs.LowerAssembly.{length-resets, length-state_resets}
 use Rattle.blast.proofs.LeafWords.{word_for, word_fits, input_named, free_named, state_bits_are, input_bits_are, below_or_0}
-use Rattle.aiger.specs.Reachability.{Shown, circuit_shows, rises_within, CanRiseInCircuit}
-use Rattle.aiger.proofs.NetLemmas.{length-bits_from}
-use Rattle.blast.specs.Reachability.{model_shows, CanRise}
+use Rattle.base.specs.Shown.{Shown, rises_within}
+use Rattle.aiger.specs.Reachability.{circuit_shows, CanRiseInCircuit}
+use Rattle.aiger.proofs.TraceLemmas.{trace_inputs}
+use Rattle.btor2.specs.Reachability.{model_shows, CanRise}
 
 -- ---- bits that agree with resets
 
@@ -214,39 +216,35 @@ init_agrees items state w fits agree t v e =
 
 -- ---- what rises
 
-shows_equal : (items : List Item) (c : Circuit) (fs : List Frame) (vs : List Valuation) → ShowSame items c fs vs → map (model_shows items) fs ≡ map (circuit_shows c) vs
+pub shows_equal : (items : List Item) (c : Circuit) (fs : List Frame) (vs : List Valuation) → AllZip (ShowsSame items c) fs vs → map (model_shows items) fs ≡ map (circuit_shows c) vs
 shows_equal items c [] [] h = refl
 shows_equal items c [] (v ∷ vs) h = absurd h
 shows_equal items c (f ∷ fs) [] h = absurd h
-shows_equal items c (f ∷ fs) (v ∷ vs) h = ap₂ ◌∷◌ (same (sym h.0.bads) (sym h.0.constraints)) (shows_equal items c fs vs h.1)
-  where
-    same : {a b d e : List Bool} → a ≡ b → d ≡ e → (let s : Shown = record { bads = a; constraints = d } in s) ≡ record { bads = b; constraints = e }
-    same p q = rw (p, q) refl
+shows_equal items c (f ∷ fs) (v ∷ vs) h = ap₂ ◌∷◌ (sym h.0.properties) (shows_equal items c fs vs h.1)
 
-trace_inputs : (c : Circuit) (state : List Bool) (inputs : List (List Bool)) (vs : List Valuation) → IsCircuitTrace c state inputs vs → All (λ input. length input ≡ c.inputs) inputs
-trace_inputs c state [] vs t = All-nil (λ input. length input ≡ c.inputs)
-trace_inputs c state (input ∷ inputs) [] t = absurd t
-trace_inputs c state (input ∷ inputs) (v ∷ vs) t =
-    All-cons (λ input. length input ≡ c.inputs) input inputs (ap length (sym t.0.inputs) ∙ length-bits_from 1 c.inputs v) (trace_inputs c (next_bits c v) inputs vs t.1)
+shown_length : (items : List Item) (c : Circuit) (fs : List Frame) (vs : List Valuation) → map (model_shows items) fs ≡ map (circuit_shows c) vs → length fs ≡ length vs
+shown_length items c fs vs same = sym (length-map fs (model_shows items)) ∙ (ap length same ∙ length-map vs (circuit_shows c))
 
 pub rises_in_circuit : (items : List Item) (c : Circuit) (b : ℕ) → Lowers items c
     → ((state : List Bool) (inputs : List (List Bool)) → length state ≡ length c.latches → All (λ input. length input ≡ c.inputs) inputs → (vs : List Valuation) × IsCircuitTrace c state inputs vs)
-    → CanRise items b → CanRiseInCircuit c b
+    → (h : CanRise items b) → (g : CanRiseInCircuit c b) × (length g.frames ≡ length h.frames)
 rises_in_circuit items c b l exists h =
     let there = exists (state_bits items h.state) (map (input_bits items) h.inputs) (state_count items c l h.state h.initial) (input_counts items c l h.inputs) in
-    let same = shows_equal items c h.frames there.0 (l.frames h.state h.inputs h.initial h.given h.frames h.trace there.0 there.1) in
-    record {
-      state = state_bits items h.state;
-      inputs = map (input_bits items) h.inputs;
-      frames = there.0;
-      initial = initial_bits items c l h.state h.initial;
-      trace = there.1;
-      rises = subst (λ (shown : List Shown). rises_within b shown ≡ true) same h.rises;
-    }
+    let same = shows_equal items c h.frames there.0 (l.frames h.state h.inputs h.initial h.given h.frames h.trace there.0 there.1) in (
+      record {
+        state = state_bits items h.state;
+        inputs = map (input_bits items) h.inputs;
+        frames = there.0;
+        initial = initial_bits items c l h.state h.initial;
+        trace = there.1;
+        rises = subst (λ (shown : List Shown). rises_within b shown ≡ true) same h.rises;
+      },
+      sym (shown_length items c h.frames there.0 same),
+    )
 
 pub rises_in_model : (items : List Item) (c : Circuit) (b : ℕ) → Lowers items c
     → ((state : Frame) (inputs : List Frame) → (fs : List Frame) × IsTrace items state inputs fs)
-    → CanRiseInCircuit c b → CanRise items b
+    → (g : CanRiseInCircuit c b) → (h : CanRise items b) × (length h.frames ≡ length g.frames)
 rises_in_model items c b l exists h =
     let w = l.well_formed in
     let state = states_from items h.state in
@@ -263,13 +261,15 @@ rises_in_model items c b l exists h =
     let trace : IsCircuitTrace c (state_bits items state) (map (input_bits items) inputs) h.frames =
     subst (λ (s : List Bool). IsCircuitTrace c s (map (input_bits items) inputs) h.frames) (sym bits_are) (subst (λ (i : List (List Bool)). IsCircuitTrace c h.state i h.frames) (sym lists_are) h.trace) in
     let given = inputs_fit items h.inputs in
-    let same = shows_equal items c there.0 h.frames (l.frames state inputs initial given there.0 there.1 h.frames trace) in
-    record {
-      state = state;
-      inputs = inputs;
-      frames = there.0;
-      initial = initial;
-      given = given;
-      trace = there.1;
-      rises = subst (λ (shown : List Shown). rises_within b shown ≡ true) (sym same) h.rises;
-    }
+    let same = shows_equal items c there.0 h.frames (l.frames state inputs initial given there.0 there.1 h.frames trace) in (
+      record {
+        state = state;
+        inputs = inputs;
+        frames = there.0;
+        initial = initial;
+        given = given;
+        trace = there.1;
+        rises = subst (λ (shown : List Shown). rises_within b shown ≡ true) (sym same) h.rises;
+      },
+      shown_length items c there.0 h.frames same,
+    )

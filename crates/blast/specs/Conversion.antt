@@ -1,14 +1,13 @@
 -- What a conversion from a model's text to a circuit's text answers, and what it has written then.
-use Rattle.std.specs.Prelude.{◌≡◌, ℕ, List, Option, Some, None, IfSome, Result, Ok, Err, ◌⊎◌}
+use Rattle.std.specs.Prelude.{◌≡◌, ℕ, List, Option, None, IfSome, Result, Ok, Err, ◌⊎◌}
 use Rattle.std.specs.Io.KnownBytes.{Appends, IsAtEnd}
 use Rattle.base.specs.Device.{AppendsBeginning, HasRisen}
 use Rattle.btor2.specs.declared.item.Item.{Item}
 use Rattle.btor2.specs.Check.{IsWellFormed}
-use Rattle.btor2text.specs.declared.fault.ReadFault.{ReadFault}
 use Rattle.btor2text.specs.declared.fault.Why.{Why}
 use Rattle.btor2text.specs.declared.fault.Why.TheVariants as why
 use Rattle.btor2text.specs.FirstFault.{IsFaultOf}
-use Rattle.btor2text.specs.Spelling.{StandsFor}
+use Rattle.btor2text.specs.Spelling.{IsModelOf}
 use Rattle.aiger.specs.Circuit.{Circuit}
 use Rattle.aigertext.specs.declared.forms.Form.{Form}
 use Rattle.aigertext.specs.Binary.{circuit_text}
@@ -18,15 +17,11 @@ use Rattle.blast.specs.declared.fault.ConvertFault.TheVariants as fault
 use Rattle.blast.specs.Lowering.{Lowers}
 use Rattle.blast.specs.Refusal.{AnswersLowering, lowering_refusal}
 
--- the bytes of a source, where it knows them, are a text of some items
-abbrev pub IsTextOf : Option (List ℕ) → List Item → Type 0
-IsTextOf known items = IfSome known (λ text. StandsFor text items)
-
 -- all that was to come is a text of some model that nothing speaks against, and what was written is the text of a circuit that lowers it
 pub record Converts (known written now : Option (List ℕ)) (form : Form) : Type 0 where
   pub items : List Item
   pub circuit : Circuit
-  pub text : IsTextOf known items
+  pub text : IsModelOf known items
   pub accepted : lowering_refusal items ≡ None
   pub lowers : Lowers items circuit
   pub appends : Appends written now (circuit_text form circuit)
@@ -35,7 +30,7 @@ pub record Converts (known written now : Option (List ℕ)) (form : Form) : Type
 pub record BeginsToConvert (known written now : Option (List ℕ)) (form : Form) : Type 0 where
   pub items : List Item
   pub circuit : Circuit
-  pub text : IsTextOf known items
+  pub text : IsModelOf known items
   pub accepted : lowering_refusal items ≡ None
   pub lowers : Lowers items circuit
   pub appends : AppendsBeginning written now (circuit_text form circuit)
@@ -44,17 +39,13 @@ pub record BeginsToConvert (known written now : Option (List ℕ)) (form : Form)
 pub record RefusesModel (known : Option (List ℕ)) (e : LowerFault) : Type 0 where
   pub items : List Item
   pub well_formed : IsWellFormed items
-  pub text : IsTextOf known items
+  pub text : IsModelOf known items
   pub answer : AnswersLowering {T = Circuit} (Err e) (lowering_refusal items)
 
--- a text that stands for a model is refused only for the device or for memory
-abbrev pub RefusesText : Option (List ℕ) → ReadFault → Type 0
-RefusesText known e = (text : List ℕ) (items : List Item) → known ≡ Some text → StandsFor text items → (e.why ≡ why.Device) ⊎ (e.why ≡ why.NoMemory)
-
--- what a conversion's answer says: done, the text refused, the model refused, or the write failed. `known` is the bytes to come; `written` and `now` are what the sink held before and holds after
+-- what a conversion's answer says: done, the model refused, or the write failed; why a text is refused says TellsFirstFault. `known` is the bytes to come; `written` and `now` are what the sink held before and holds after
 abbrev pub AnswersConversion : Option (List ℕ) → Option (List ℕ) → Option (List ℕ) → Form → Result (Unit {0}) ConvertFault → Type 0
 AnswersConversion known written now form (Ok u) = Converts known written now form
-AnswersConversion known written now form (Err (fault.Read e)) = RefusesText known e
+AnswersConversion known written now form (Err (fault.Read e)) = Unit {0}
 AnswersConversion known written now form (Err (fault.Lower e)) = RefusesModel known e
 AnswersConversion known written now form (Err (fault.Write e)) = BeginsToConvert known written now form
 

@@ -1,5 +1,5 @@
 -- What a lowering makes of the leaves and the observed lines of a model, in file order ("Btor2, BtorMC and Boolector 3.0" on one side, "AIGER 1.9 and Beyond" on the other; how the one becomes the other is this project's profile).
-use Rattle.std.specs.Prelude.{ℕ, zero, suc, Bool, true, false, List, [], ◌∷◌, ◌++◌, ◌==◌, Option, Some, None, if◌then◌else◌, map, replicate, decimal}
+use Rattle.std.specs.Prelude.{ℕ, zero, suc, Bool, true, false, List, [], ◌∷◌, ◌++◌, Option, Some, None, if◌then◌else◌, map, replicate, decimal}
 use Rattle.base.specs.Word.{bits}
 use Rattle.btor2.specs.declared.item.Item.{Item}
 use Rattle.btor2.specs.declared.item.Body.{Body}
@@ -83,12 +83,6 @@ leaf_resets items x = resets_of_word (bits_of items x.id) (init_word items x.id)
 abbrev pub state_resets : List Item → List Reset
 state_resets items = of_kind (is_carried_state items) (leaf_resets items) items
 
--- whether a bad property rises, or a constraint holds, in a frame: its operand is 1
-abbrev pub observed : Frame → Body → List Bool
-observed f (body.Bad a) = (f a == 1) ∷ []
-observed f (body.Constraint a) = (f a == 1) ∷ []
-observed f _ = []
-
 -- whether a line is an output
 abbrev pub is_output : Body → Bool
 is_output (body.Output a) = true
@@ -114,11 +108,3 @@ shown_names items x = bit_names x.symbol 0 (shown_width items x.body)
 -- the names of the bits that are shown
 abbrev pub output_names : List Item → Names
 output_names items = of_kind (by_body is_output) (shown_names items) items
-
--- which bad properties rise in a frame
-abbrev pub bad_values : List Item → Frame → List Bool
-bad_values items f = of_kind (by_body is_bad) (λ x. observed f x.body) items
-
--- which constraints hold in a frame
-abbrev pub constraint_values : List Item → Frame → List Bool
-constraint_values items f = of_kind (by_body is_constraint) (λ x. observed f x.body) items

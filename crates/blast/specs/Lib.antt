@@ -2,7 +2,6 @@ pub mod Faults
 pub mod Leaves
 pub mod Cost
 pub mod Lowering
-pub mod Reachability
 pub mod Refusal
 pub mod Conversion
 pub mod Reads

@@ -1,28 +1,23 @@
 -- A circuit lowers a model (the profile of this project, over the traces of both formats).
-use Rattle.std.specs.Prelude.{◌≡◌, ◌≤◌, List, [], ◌∷◌, length, map}
+use Rattle.std.specs.Prelude.{◌≡◌, ◌≤◌, List, [], length, map}
+use Rattle.std.specs.List.{AllZip}
 use Rattle.btor2.specs.declared.item.Item.{Item}
 use Rattle.btor2.specs.Check.{IsWellFormed}
 use Rattle.btor2.specs.Trace.{Frame, IsInitial, AreInputs, IsTrace}
-use Rattle.aiger.specs.Literal.{Valuation, literal_value}
+use Rattle.btor2.specs.Reachability.{model_shows}
+use Rattle.base.specs.Literal.{Valuation, literal_value}
 use Rattle.aiger.specs.declared.circuit.Section.TheVariants as section
 use Rattle.aiger.specs.Circuit.{Circuit, IsCircuit, section_names}
 use Rattle.aiger.specs.Trace.{IsTrace as IsCircuitTrace}
-use Rattle.blast.specs.Leaves.{input_bits, state_bits, input_names, state_names, output_names, bad_names, constraint_names, state_resets, output_bits, bad_values, constraint_values}
+use Rattle.aiger.specs.Reachability.{circuit_shows}
+use Rattle.blast.specs.Leaves.{input_bits, state_bits, input_names, state_names, output_names, bad_names, constraint_names, state_resets, output_bits}
 use Rattle.blast.specs.Cost.{cost, given_width}
 use Rattle.blast.specs.Refusal.{IsOfProfile}
 
 -- a frame of the model and a valuation of the circuit show the same output bits, bad properties and constraints
 pub record ShowsSame (items : List Item) (c : Circuit) (f : Frame) (v : Valuation) : Type 0 where
   pub outputs : map (literal_value v) c.outputs ≡ output_bits items f
-  pub bads : map (literal_value v) c.bads ≡ bad_values items f
-  pub constraints : map (literal_value v) c.constraints ≡ constraint_values items f
-
--- two traces are as long, and show the same in each frame
-abbrev pub ShowSame : List Item → Circuit → List Frame → List Valuation → Type 0
-ShowSame items c [] [] = Unit {0}
-ShowSame items c [] (v ∷ vs) = ⊥
-ShowSame items c (f ∷ fs) [] = ⊥
-ShowSame items c (f ∷ fs) (v ∷ vs) = ShowsSame items c f v × ShowSame items c fs vs
+  pub properties : circuit_shows c v ≡ model_shows items f
 
 -- a circuit lowers a model: its inputs are the bits of the words that are given in each frame and its latches the bits of those that are carried, and under the same words both show the same output bits, bad properties and constraints in every frame
 pub record Lowers (items : List Item) (c : Circuit) : Type 0 where
@@ -48,4 +43,4 @@ pub record Lowers (items : List Item) (c : Circuit) : Type 0 where
   pub frames : (state : Frame) (inputs : List Frame) → IsInitial items state → AreInputs items inputs
       → (fs : List Frame) → IsTrace items state inputs fs
       → (vs : List Valuation) → IsCircuitTrace c (state_bits items state) (map (input_bits items) inputs) vs
-      → ShowSame items c fs vs
+      → AllZip (ShowsSame items c) fs vs

@@ -5,7 +5,7 @@ use Rattle.btor2.specs.declared.item.Item.{Item}
 use Rattle.btor2.specs.Items.{is_bad, is_constraint, is_carried_state, width_of_body}
 use Rattle.btor2.specs.Trace.{Frame, IsFrame, IsState, IsInput, next_state}
 use Rattle.aiger.specs.declared.circuit.Latch.{Latch}
-use Rattle.aiger.specs.Literal.{Valuation, literal_value}
+use Rattle.base.specs.Literal.{Valuation, literal_value}
 use Rattle.aiger.specs.Net.{Net, IsDefined, Satisfies, input_bits as net_input_bits, latch_bits as net_latch_bits}
 use Rattle.gates.specs.Made.{Grows}
 use Rattle.blast.specs.Cost.{cost, given_width, carried_width}
@@ -53,6 +53,12 @@ pub record LatchesRead (items : List Item) (n : Net) (some : List Item) (latches
 -- in every frame, literals have the values of the bits of the outputs among some items
 pub record OutputsRead (items : List Item) (n : Net) (some : List Item) (outputs : List ℕ) : Type 0 where
   pub values : (state input f : Frame) (v : Valuation) → Together items n state input f v → map (literal_value v) outputs ≡ of_kind (by_body is_output) (λ x. shown_bits items f x.body) some
+
+-- what the line of a bad property or of a constraint shows in a frame: whether its operand is 1
+abbrev pub observed : Frame → Body → List Bool
+observed f (body.Bad a) = (f a == 1) ∷ []
+observed f (body.Constraint a) = (f a == 1) ∷ []
+observed f _ = []
 
 -- in every frame, literals have the values of the bad properties among some items
 pub record BadsRead (items : List Item) (n : Net) (some : List Item) (bads : List ℕ) : Type 0 where

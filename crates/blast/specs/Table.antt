@@ -6,7 +6,7 @@ use Rattle.btor2.specs.Items.{is_input, is_state, is_free, is_free_state, is_car
 use Rattle.btor2.specs.Lists.{places}
 use Rattle.btor2.specs.Trace.{Frame, bits_of}
 use Rattle.btor2.specs.Leaves.{kind_width}
-use Rattle.aiger.specs.Literal.{Valuation, literal_value}
+use Rattle.base.specs.Literal.{Valuation, literal_value}
 use Rattle.aiger.specs.Net.{Net, IsDefined}
 use Rattle.gates.specs.Made.{Grows}
 use Rattle.blast.specs.Cost.{line_cost, input_width, given_width}

@@ -3,7 +3,8 @@ ghost use Rattle.std.specs.Prelude.{◌≡◌, ℕ, List, Option, IfErr};
 ghost use Rattle.base.specs.Device.{HasRisen};
 ghost use Rattle.btor2text.specs.declared.fault.Why.TheVariants as why;
 ghost use Rattle.blast.specs.declared.fault.ConvertFault.TheVariants as fault;
-ghost use Rattle.blast.specs.Conversion.{IsTextOf, AnswersConversion, IsBehindReading, ReadsToEnd, TellsFirstFault, HasNoLine, IsBeforeWriting, RaisesFailures};
+ghost use Rattle.btor2text.specs.Spelling.{IsModelOf};
+ghost use Rattle.blast.specs.Conversion.{AnswersConversion, IsBehindReading, ReadsToEnd, TellsFirstFault, HasNoLine, IsBeforeWriting, RaisesFailures};
 
 use crate::fault::ConvertFault;
 use crate::lowering::lower_watched;
@@ -63,7 +64,7 @@ fn convert_model<K: Sink, W: Watch>(
     form: Form,
     watch: &mut W,
 ) -> Result<(), ConvertFault>
-    ensures answer { (known : Option (List ℕ)) → IsTextOf known model.now → AnswersConversion known (K.written sink.old) (K.written sink.new) form result }
+    ensures answer { (known : Option (List ℕ)) → IsModelOf known model.now → AnswersConversion known (K.written sink.old) (K.written sink.new) form result }
     ensures behind { IfErr result IsBehindReading }
     ensures unwritten { IfErr result (λ e. IsBeforeWriting e → sink.new ≡ sink.old) }
     ensures device { (failures : ℕ) → RaisesFailures result failures failures (K.failures sink.old) (K.failures sink.new) }

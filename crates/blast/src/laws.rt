@@ -1,6 +1,6 @@
 //! Theorems on the definitions of lowerings, costs, leaves and refusals, as functions with no code.
-ghost use Rattle.std.specs.Prelude.{◌≡◌, ◌↔◌, ℕ, ◌+◌, ◌==◌, if◌then◌else◌, List, [], ◌∷◌, true, false, map, None, Some, codes};
-ghost use Rattle.aiger.specs.Literal.{Valuation};
+ghost use Rattle.std.specs.Prelude.{◌≡◌, ◌↔◌, ℕ, ◌+◌, ◌==◌, if◌then◌else◌, List, [], ◌∷◌, true, false, map, None, Some, codes, length};
+ghost use Rattle.base.specs.Literal.{Valuation};
 ghost use Rattle.aiger.specs.Circuit.{Circuit, IsCircuit};
 ghost use Rattle.aiger.specs.Trace.{AreInitial, IsTrace as IsCircuitTrace};
 ghost use Rattle.aiger.specs.Worked.{toggler as toggler_circuit};
@@ -16,10 +16,11 @@ ghost use Rattle.blast.specs.declared.fault.LowerFault.TheVariants as fault;
 ghost use Rattle.blast.specs.Cost.{line_cost, cost, input_width, state_width, free_width, given_width, carried_width, bound};
 ghost use Rattle.btor2.specs.Items.{is_input, is_state};
 ghost use Rattle.btor2.specs.Lists.{HaveNexts};
-ghost use Rattle.blast.specs.Leaves.{by_body, of_kind, leaf_bits, leaf_names, leaf_resets, bit_name, input_bits, state_bits, input_names, state_names, output_names, bad_names, constraint_names, resets_of_word, state_resets, output_bits, bad_values, constraint_values};
+ghost use Rattle.blast.specs.Leaves.{by_body, of_kind, leaf_bits, leaf_names, leaf_resets, bit_name, input_bits, state_bits, input_names, state_names, output_names, bad_names, constraint_names, resets_of_word, state_resets, output_bits};
 ghost use Rattle.blast.specs.Lowering.{Lowers};
-ghost use Rattle.aiger.specs.Reachability.{CanRiseInCircuit, rises_within};
-ghost use Rattle.blast.specs.Reachability.{CanRise};
+ghost use Rattle.base.specs.Shown.{rises_within};
+ghost use Rattle.aiger.specs.Reachability.{CanRiseInCircuit};
+ghost use Rattle.btor2.specs.Reachability.{CanRise, model_shows};
 ghost use Rattle.blast.specs.Refusal.{form_refusal, lowering_refusal};
 ghost use Rattle.blast.specs.Worked.{masked, named_toggler, named_follower, follower_circuit, free_alone, one_input, one_latch, init_alone, gated, unsatisfied, named_inverter, inverter_circuit, without_outputs, named_keeper, keeper_circuit, fair_first, justice_first};
 
@@ -39,6 +40,15 @@ pub fn a_lowered_circuit_runs()
 /// in the model; from the initial words that the init lines allow, and the initial bits that the resets allow.
 pub fn bad_properties_rise_alike()
     ensures { (items : List Item) (c : Circuit) (b : ℕ) → Lowers items c → CanRise items b ↔ CanRiseInCircuit c b }
+{
+    aiger::laws::exactly_one_trace();
+    btor2::laws::exactly_one_trace();
+}
+
+/// A law: and where it can, it does so in a trace of as many frames.
+pub fn rises_in_as_many_frames()
+    ensures circuit { (items : List Item) (c : Circuit) (b : ℕ) → Lowers items c → (h : CanRise items b) → (g : CanRiseInCircuit c b) × (length g.frames ≡ length h.frames) }
+    ensures model { (items : List Item) (c : Circuit) (b : ℕ) → Lowers items c → (g : CanRiseInCircuit c b) → (h : CanRise items b) × (length h.frames ≡ length g.frames) }
 {
     aiger::laws::exactly_one_trace();
     btor2::laws::exactly_one_trace();
@@ -149,10 +159,8 @@ pub fn worked_leaves()
     ensures begins_with_0 { state_resets toggler ≡ reset.Zero ∷ [] }
     ensures begins_freely { state_resets masked ≡ reset.Free ∷ reset.Free ∷ [] }
     ensures of_carried { state_resets named_follower ≡ reset.Free ∷ [] }
-    ensures is_bad { bad_values named_toggler (λ id. 1) ≡ true ∷ [] }
-    ensures is_not_bad { bad_values named_toggler (λ id. 0) ≡ false ∷ [] }
-    ensures is_met { constraint_values named_toggler (λ id. 1) ≡ true ∷ [] }
-    ensures is_not_met { constraint_values named_toggler (λ id. 0) ≡ false ∷ [] }
+    ensures is_shown { model_shows named_toggler (λ id. 1) ≡ record { bads = true ∷ []; constraints = true ∷ [] } }
+    ensures is_not_shown { model_shows named_toggler (λ id. 0) ≡ record { bads = false ∷ []; constraints = false ∷ [] } }
 {}
 
 /// Worked rows: the names of a circuit's inputs, latches, bad properties and constraints.

@@ -1,5 +1,5 @@
 -- Frames and traces of well-formed lists: there is one, and its words fit.
-use Rattle.std.proofs.Common.{◌≡◌, ℕ, zero, suc, ◌+◌, ◌-◌, ◌^◌, ◌<◌, ◌≤◌, Bool, true, false, cond, ◌==◌, nat_lt, nat_le, ◌&&◌, nat_eq, eq-eqb, eqb-true, List, [], ◌∷◌, ◌++◌, Option, Some, None, is_some, IfSome, unwrap_or, option_and_then, option_map, ⊎_elim, refl, sym, ap, ap₂, subst, ◌∙◌, append_assoc, append-nil, pow_pos, arith}
+use Rattle.std.proofs.Common.{◌≡◌, ℕ, zero, suc, ◌+◌, ◌-◌, ◌^◌, ◌<◌, ◌≤◌, Bool, true, false, cond, ◌==◌, nat_lt, nat_le, ◌&&◌, nat_eq, eq-eqb, eqb-true, List, [], ◌∷◌, ◌++◌, Option, Some, None, is_some, IfSome, unwrap_or, option_and_then, option_map, ⊎_elim, refl, sym, ap, ap₂, subst, ◌∙◌, append_assoc, append-nil, pow_pos, arith, take, length}
 use Rattle.std.proofs.lemmas.Option.{none-some}
 use Rattle.std.proofs.lemmas.Bool.{cases_eq, ne_eqb, true≢false, and_parts, ltb-true}
 use Rattle.std.proofs.Math.Nat.{pow-suc}
@@ -391,3 +391,21 @@ pub next_state_fits : (items : List Item) (state input f : Frame) → IsWellForm
     → HasNexts items → IsState items (next_state items f)
 next_state_fits items state input f w states inputs h nexts =
     states_after items f [] items w refl nexts (words_fit_frame items state input f w states inputs h)
+
+-- ---- how long traces are
+
+-- a trace has as many frames as words are given for
+pub trace_length : (items : List Item) (state : Frame) (inputs fs : List Frame) → IsTrace items state inputs fs → length fs ≡ length inputs
+trace_length items state [] [] h = refl
+trace_length items state [] (f ∷ fs) h = absurd h
+trace_length items state (i ∷ is) [] h = absurd h
+trace_length items state (i ∷ is) (f ∷ fs) h = ap suc (trace_length items (next_state items f) is fs h.1)
+
+-- and so it is of so many of the first
+pub trace_taken : (items : List Item) (s : Frame) (is fs : List Frame) (n : ℕ) → IsTrace items s is fs → IsTrace items s (take n is) (take n fs)
+trace_taken items s [] [] zero t = tt
+trace_taken items s [] [] (suc n) t = tt
+trace_taken items s [] (f ∷ fs) n t = absurd t
+trace_taken items s (i ∷ is) [] n t = absurd t
+trace_taken items s (i ∷ is) (f ∷ fs) zero t = tt
+trace_taken items s (i ∷ is) (f ∷ fs) (suc n) t = (t.0, trace_taken items (next_state items f) is fs n t.1)

@@ -9,5 +9,6 @@ pub mod Lists
 pub mod Entries
 pub mod Index
 pub mod Trace
+pub mod Reachability
 pub mod Leaves
 pub mod Worked

@@ -3,7 +3,7 @@ use Rattle.std.proofs.Common.{◌≡◌, ◌≢◌, ℕ, ◌+◌, ◌-◌, ◌^�
 use Rattle.std.proofs.lemmas.List.{append-nil}
 use Rattle.std.proofs.lemmas.List.Concat.{flat_map-append}
 use Rattle.std.proofs.lemmas.List.Elements.{All-from_recursion}
-use Rattle.base.specs.Lines.{IsLine, text_of_lines, whole_lines, unfinished}
+use Rattle.base.specs.Lines.{IsLine, text_of_lines, whole_lines, unfinished, line_after}
 use Rattle.base.proofs.LineLemmas.{EachLine, each_front, each_back, lines_are_lines, unfinished_is_line, parts_of_text}
 use Rattle.btor2.specs.declared.item.Item.{Item}
 use Rattle.btor2.specs.Check.{IsWellFormed, IsWellFormedAfter}
@@ -12,7 +12,7 @@ use Rattle.btor2text.specs.declared.fault.Why.TheVariants as why
 use Rattle.btor2text.specs.declared.fault.ReadFault.{ReadFault}
 use Rattle.btor2text.specs.Tokens.{tokens}
 use Rattle.btor2text.specs.Spelling.{SpellsAll}
-use Rattle.btor2text.specs.Reading.{line_after, fault_at, then_lines, line_on, lines_on, text_on}
+use Rattle.btor2text.specs.Reading.{fault_at, then_lines, line_on, lines_on, text_on}
 use Rattle.btor2text.specs.FirstFault.{IsUnfinished, BeginsFaulty, IsFaultOf}
 use Rattle.btor2text.proofs.StandsLemmas.{AddsLine, line_takes, well_after, spells_line}
 

@@ -2,7 +2,7 @@
 use Rattle.std.proofs.Common.{◌≡◌, ℕ, List, [], ◌∷◌, ◌++◌, map, Option, Some, None, Result, Ok, Err, refl, sym, ap, ◌∙◌, inl, inr, ◌⊎◌, append_assoc}
 use Rattle.std.proofs.lemmas.List.{append-nil}
 use Rattle.std.proofs.lemmas.List.Elements.{All-from_recursion, recursion_from_All}
-use Rattle.base.specs.Lines.{IsLine, text_of_lines, whole_lines, unfinished}
+use Rattle.base.specs.Lines.{IsLine, text_of_lines, whole_lines, unfinished, line_after}
 use Rattle.base.proofs.LineLemmas.{lines_are_lines, parts_of_text, lines_of_text, unfinished_of_text}
 use Rattle.btor2.specs.declared.item.Item.{Item}
 use Rattle.btor2.specs.declared.fault.PushFault.{PushFault}
@@ -12,7 +12,7 @@ use Rattle.btor2text.specs.declared.fault.Why.{Why}
 use Rattle.btor2text.specs.declared.fault.ReadFault.{ReadFault}
 use Rattle.btor2text.specs.Tokens.{tokens}
 use Rattle.btor2text.specs.Spelling.{Spells, SpellsAll, StandsFor}
-use Rattle.btor2text.specs.Reading.{Tokens, item_at, accepted, line_after, then_lines, line_on, lines_on, text_on}
+use Rattle.btor2text.specs.Reading.{Tokens, item_at, accepted, then_lines, line_on, lines_on, text_on}
 use Rattle.btor2text.proofs.BoundLemmas.{accepted_fits}
 use Rattle.btor2text.proofs.PlaceLemmas.{bind_ok}
 use Rattle.btor2text.proofs.ItemLemmas.{item_takes, item_again}

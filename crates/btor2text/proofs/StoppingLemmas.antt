@@ -3,14 +3,14 @@ use Rattle.std.proofs.Common.{◌≡◌, ◌≢◌, ℕ, List, [], ◌∷◌, �
 use Rattle.std.specs.Prelude.{IfSome}
 use Rattle.std.specs.Io.KnownBytes.{prepend_known, Keeps, Consumes, IsAtEnd}
 use Rattle.base.specs.Device.{HasRisen}
-use Rattle.base.specs.Lines.{IsLine, whole_lines, unfinished}
+use Rattle.base.specs.Lines.{IsLine, whole_lines, unfinished, line_after}
 use Rattle.std.proofs.lemmas.List.{append-nil}
 use Rattle.btor2.specs.declared.item.Item.{Item}
 use Rattle.btor2text.specs.declared.fault.Why.{Why}
 use Rattle.btor2text.specs.declared.fault.Why.TheVariants as why
 use Rattle.btor2text.specs.declared.fault.ReadFault.{ReadFault}
 use Rattle.btor2text.specs.Tokens.{tokens}
-use Rattle.btor2text.specs.Reading.{line_after, fault_at, line_on, lines_on, ReadsLine}
+use Rattle.btor2text.specs.Reading.{fault_at, line_on, lines_on, ReadsLine}
 use Rattle.btor2text.specs.Stopping.{Stops, IsOfLine, TextFails, Ends, ReadsLines}
 use Rattle.btor2text.proofs.TextLemmas.{goes_on, ends_at, is_done, is_unfinished}
 use Rattle.btor2text.proofs.WhyLemmas.{not_device, line_on_told, Told}

@@ -1,13 +1,13 @@
 -- Reading a text line by line.
 use Rattle.std.proofs.Common.{◌≡◌, ◌≢◌, ℕ, List, [], ◌∷◌, ◌++◌, Result, Ok, Err, refl, sym, ◌∙◌}
-use Rattle.base.specs.Lines.{IsLine, whole_lines, unfinished}
+use Rattle.base.specs.Lines.{IsLine, whole_lines, unfinished, line_after}
 use Rattle.base.proofs.LineLemmas.{whole_lines-line, unfinished-line, whole_lines-last, unfinished-last}
 use Rattle.btor2.specs.declared.item.Item.{Item}
 use Rattle.btor2text.specs.declared.fault.Why.{Why}
 use Rattle.btor2text.specs.declared.fault.Why.TheVariants as why
 use Rattle.btor2text.specs.declared.fault.ReadFault.{ReadFault}
 use Rattle.btor2text.specs.Tokens.{tokens}
-use Rattle.btor2text.specs.Reading.{line_after, fault_at, then_lines, line_on, lines_on}
+use Rattle.btor2text.specs.Reading.{fault_at, then_lines, line_on, lines_on}
 
 -- one line more
 pub lines_on-line : (n : ℕ) (before : List Item) (text line rest : List ℕ) → text ≡ line ++ 10 ∷ rest → IsLine line

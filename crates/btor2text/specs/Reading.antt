@@ -1,7 +1,7 @@
 -- Reading a model's text from left to right, with the first fault that is met.
 use Rattle.std.specs.Prelude.{◌≡◌, ℕ, zero, suc, ℤ, ◌+◌, ◌-◌, ◌^◌, min, Bool, false, List, [], ◌∷◌, ◌++◌, length, Option, Some, None, Result, Ok, Err, ◌==◌, nat_le, if◌then◌else◌, codes, ◌⊎◌}
 use Rattle.std.specs.Str.{bytes_eq}
-use Rattle.base.specs.Lines.{whole_lines, unfinished}
+use Rattle.base.specs.Lines.{whole_lines, unfinished, line_after}
 use Rattle.base.specs.Decimals.{is_decimal, number_of}
 use Rattle.btor2.specs.declared.item.Item.{Item}
 use Rattle.btor2.specs.declared.item.Body.{Body}
@@ -289,10 +289,6 @@ line_on before (first ∷ rest) = do
   accepted before x (refusal before x)
 
 -- ---- texts
-
--- the number of the line after line n, told up to 2 ^ 64 - 1
-abbrev pub line_after : ℕ → ℕ
-line_after n = min (n + 1) (2 ^ 64 - 1)
 
 -- a why at a line
 abbrev pub fault_at : ℕ → Why → ReadFault

@@ -73,3 +73,7 @@ pub record StandsFor (text : List ℕ) (items : List Item) : Type 0 where
   pub each : All IsLine lines
   pub spelled : SpellsAll (map tokens lines) items
   pub well_formed : IsWellFormed items
+
+-- the bytes of a source, where it knows them, are a text of some items
+abbrev pub IsModelOf : Option (List ℕ) → List Item → Type 0
+IsModelOf known items = IfSome known (λ text. StandsFor text items)

@@ -2,14 +2,14 @@
 use Rattle.std.specs.Prelude.{◌≡◌, ◌≢◌, ℕ, List, [], Option, Result, Ok, Err, IfSome, ◌⊎◌}
 use Rattle.std.specs.Io.KnownBytes.{IsAtEnd}
 use Rattle.base.specs.Device.{HasRisen}
-use Rattle.base.specs.Lines.{whole_lines, unfinished}
+use Rattle.base.specs.Lines.{whole_lines, unfinished, line_after}
 use Rattle.base.specs.declared.sources.ReadAllFault.{ReadAllFault}
 use Rattle.base.specs.declared.sources.ReadAllFault.TheVariants as all
 use Rattle.btor2.specs.declared.item.Item.{Item}
 use Rattle.btor2text.specs.declared.fault.ReadFault.{ReadFault}
 use Rattle.btor2text.specs.declared.fault.Why.{Why}
 use Rattle.btor2text.specs.declared.fault.Why.TheVariants as why
-use Rattle.btor2text.specs.Reading.{fault_at, line_after, lines_on}
+use Rattle.btor2text.specs.Reading.{fault_at, lines_on}
 
 -- the fault of a source that could not be read to its end
 abbrev pub unread_fault : ReadAllFault → ReadFault

@@ -4,7 +4,7 @@ use Rattle.btor2.specs.declared.item.Item.{Item}
 use Rattle.btor2text.specs.Spelling.{StandsFor}
 use Rattle.aiger.specs.Circuit.{Circuit}
 use Rattle.blast.specs.Lowering.{Lowers}
-use Rattle.blast.specs.Reachability.{CanRise}
+use Rattle.btor2.specs.Reachability.{CanRise}
 use Rattle.clauses.specs.Formula.{Formula}
 use Rattle.clauses.specs.Printed.{why_number}
 use Rattle.clauses.specs.FormulaTexts.{formula_text}

@@ -16,11 +16,11 @@ use Rattle.clauses.specs.Propagation.Conflict.{opposite, falsified}
 use Rattle.clauses.specs.Propagator.{State, KeepsPropagator, Extended}
 use Rattle.clauses.specs.Added.{Added, Unchanged}
 use Rattle.clauses.proofs.WatchLemmas.{place_of, on_off}
-use Rattle.clauses.specs.Literal.{negation}
+use Rattle.base.specs.Literal.{negation}
 use Rattle.clauses.specs.Flat.{cut, standing, AreEnds}
 use Rattle.clauses.specs.Lists.{list_at, IsListed}
 use Rattle.clauses.specs.Watched.{clause_at, IsWatched, IsUnit, Stays, AreMet, UnitsMet, IsMet, Chosen, CanWatch}
-use Rattle.clauses.proofs.LiteralLemmas.{negation-inside, negation-even, negation-odd}
+use Rattle.base.proofs.LiteralLemmas.{negation-inside, negation-even, negation-odd}
 use Rattle.clauses.proofs.PassLemmas.{length-cut, cut_equal, Grows-by}
 
 drop_behind : (xs ys : List ℕ) → drop (length xs) (xs ++ ys) ≡ ys

@@ -4,10 +4,10 @@ use Rattle.std.proofs.lemmas.Bool.{cases_eq}
 use Rattle.std.proofs.lemmas.List.{length-set, get_or_append_left}
 use Rattle.clauses.specs.Flat.{standing}
 use Rattle.clauses.proofs.StandingLemmas.{stands, stood, closed_standing, closed_places}
-use Rattle.clauses.proofs.LiteralLemmas.{negation-negation}
+use Rattle.base.proofs.LiteralLemmas.{negation-negation}
 use Rattle.clauses.proofs.PassLemmas.{with_literal, with_literal-within, with_literal-consistent, with_literal-kept, with_literal-on}
 use Rattle.std.specs.Prelude.{IsTrue, ◌↔◌}
-use Rattle.clauses.specs.Literal.{negation}
+use Rattle.base.specs.Literal.{negation}
 use Rattle.clauses.specs.Propagation.{Literals, AllNegated, IsClosed, Conflict, Implied}
 use Rattle.clauses.specs.Propagation.Conflict.{opposite, falsified}
 use Rattle.clauses.specs.Marked.{Marked, set_of, IsConsistent}

@@ -5,7 +5,7 @@ use Rattle.std.proofs.lemmas.Bool.{cases_lt}
 use Rattle.std.specs.List.{remove}
 use Rattle.clauses.specs.declared.judgement.Judgement.{Judgement}
 use Rattle.clauses.specs.declared.judgement.Judgement.TheVariants as judgement
-use Rattle.clauses.specs.Literal.{Assignment, literal_bit}
+use Rattle.base.specs.Literal.{Valuation, literal_value}
 use Rattle.clauses.specs.Formula.{Formula, SatisfiesClause, Satisfies, IsUnsatisfiable}
 use Rattle.clauses.specs.Propagation.{Literals, nothing, Holds, IsClosure, MeetsConflict, Implied, IsModel}
 use Rattle.clauses.specs.Proofs.{addition, deletion, Ended, ended, Fault, Reading, read_proof}
@@ -22,13 +22,13 @@ remove_at (x ∷ xs) zero i h below = (suc i, omega (arith, below), refl)
 remove_at (x ∷ xs) (suc k) zero h below = (0, omega arith, refl)
 remove_at (x ∷ xs) (suc k) (suc i) h below = let own = remove_at xs k i (omega (arith, h)) (omega (arith, below)) in (suc own.0, omega (arith, own.1), own.2)
 
-satisfies_without : (a : Assignment) (clauses : List (List ℕ)) (clause : List ℕ) (left : List (List ℕ)) → IsWithout clauses clause left → Satisfies a clauses → Satisfies a left
+satisfies_without : (a : Valuation) (clauses : List (List ℕ)) (clause : List ℕ) (left : List (List ℕ)) → IsWithout clauses clause left → Satisfies a clauses → Satisfies a left
 satisfies_without a clauses clause left (last k own e) sat =
     subst (λ (cs : List (List ℕ)). Satisfies a cs) (sym e)
     (λ i below. let at = remove_at clauses k i own.inside below in subst (SatisfiesClause a) (sym at.2) (sat at.0 at.1))
 satisfies_without a clauses clause left (none not_there e) sat = subst (λ (cs : List (List ℕ)). Satisfies a cs) (sym e) sat
 
-model_without : (a : Assignment) (clauses : List (List ℕ)) (clause : List ℕ) (left : List (List ℕ)) (s : Literals) → IsWithout clauses clause left → IsModel a clauses s → IsModel a left s
+model_without : (a : Valuation) (clauses : List (List ℕ)) (clause : List ℕ) (left : List (List ℕ)) (s : Literals) → IsWithout clauses clause left → IsModel a clauses s → IsModel a left s
 model_without a clauses clause left s w m = record { satisfies = satisfies_without a clauses clause left w m.satisfies; holds = m.holds }
 
 not_before : (clauses : List (List ℕ)) (clause : List ℕ) (k l : ℕ) → IsLastAlike clauses clause k → IsLastAlike clauses clause l → k ≤ l
@@ -99,7 +99,7 @@ no_end : (fault : Option Fault) (n : ℕ) → judgement.Derived n ≡ at_end fau
 no_end None n e = cc
 no_end (Some f) n e = cc
 
-steps_sound : (fault : Option Fault) (steps : List Ended) (clauses : List (List ℕ)) (s : Literals) (n : ℕ) → JudgesSteps fault steps clauses s (judgement.Derived n) → (a : Assignment) → IsModel a clauses s → ⊥
+steps_sound : (fault : Option Fault) (steps : List Ended) (clauses : List (List ℕ)) (s : Literals) (n : ℕ) → JudgesSteps fault steps clauses s (judgement.Derived n) → (a : Valuation) → IsModel a clauses s → ⊥
 steps_sound fault [] clauses s n j a m = no_end fault n j
 steps_sound fault (ended k (addition clause) ∷ steps) clauses s n (inl j) a m = let no = j.1 in cc
 steps_sound fault (ended k (addition clause) ∷ steps) clauses s n (inr j) a m =
@@ -107,7 +107,7 @@ steps_sound fault (ended k (addition clause) ∷ steps) clauses s n (inr j) a m 
     ⊎_elim
     (λ (met : MeetsConflict (clauses ++ clause ∷ []) s × (judgement.Derived n ≡ judgement.Derived k)). is_unsatisfied (clauses ++ clause ∷ []) s met.0 a (record { satisfies = sat; holds = m.holds }))
     (λ (on : (MeetsConflict (clauses ++ clause ∷ []) s → ⊥) × ((u : Literals) × (IsClosure (clauses ++ clause ∷ []) s u × JudgesSteps fault steps (clauses ++ clause ∷ []) u (judgement.Derived n)))).
-    steps_sound fault steps (clauses ++ clause ∷ []) on.1.0 n on.1.1.1 a (record { satisfies = sat; holds = on.1.1.0.least (literal_bit a) (true_closed_all a (clauses ++ clause ∷ []) sat) m.holds }))
+    steps_sound fault steps (clauses ++ clause ∷ []) on.1.0 n on.1.1.1 a (record { satisfies = sat; holds = on.1.1.0.least (literal_value a) (true_closed_all a (clauses ++ clause ∷ []) sat) m.holds }))
     j.1
 steps_sound fault (ended k (deletion clause) ∷ steps) clauses s n j a m = steps_sound fault steps j.0 s n j.1.1 a (model_without a clauses clause j.0 s j.1.0 m)
 
@@ -115,8 +115,8 @@ nothing_holds : (s : Literals) → Holds nothing s
 nothing_holds s l on = absurd (cc)
 
 pub derived_sound : (f : Formula) (text : List ℕ) (n : ℕ) → Judges f text (judgement.Derived n) → IsUnsatisfiable f
-derived_sound f text n (inl j) a sat = is_unsatisfied f.clauses nothing j.0 a (record { satisfies = sat; holds = nothing_holds (literal_bit a) })
+derived_sound f text n (inl j) a sat = is_unsatisfied f.clauses nothing j.0 a (record { satisfies = sat; holds = nothing_holds (literal_value a) })
 derived_sound f text n (inr j) a sat =
     let reading : Reading = read_proof f.variables text in
     steps_sound reading.fault reading.steps f.clauses j.1.0 n j.1.1.1 a
-    (record { satisfies = sat; holds = j.1.1.0.least (literal_bit a) (true_closed_all a f.clauses sat) (nothing_holds (literal_bit a)) })
+    (record { satisfies = sat; holds = j.1.1.0.least (literal_value a) (true_closed_all a f.clauses sat) (nothing_holds (literal_value a)) })

@@ -1,5 +1,4 @@
 pub mod TrailLemmas
-pub mod LiteralLemmas
 pub mod PassLemmas
 pub mod StandingLemmas
 pub mod ConflictLemmas

@@ -5,12 +5,12 @@ use Rattle.std.proofs.lemmas.List.{length-set, get_or-set_same, get_or-set_other
 use Rattle.std.proofs.lemmas.List.Elements.{All-take, All-drop, All-contains}
 use Rattle.std.proofs.lemmas.Grind.{get_or_default_zero}
 use Rattle.std.specs.Prelude.{slice_range, Contains, All}
-use Rattle.clauses.specs.Literal.{negation}
+use Rattle.base.specs.Literal.{negation}
 use Rattle.clauses.specs.Propagation.{Literals, OthersNegated, IsClosedUnder}
 use Rattle.clauses.specs.Marked.{Marked, set_of, IsConsistent, IsWithin, IsKept}
 use Rattle.clauses.specs.Growth.{IsOpen, GrowsBy, Grows}
 use Rattle.clauses.specs.Flat.{cut}
-use Rattle.clauses.proofs.LiteralLemmas.{negation-negation, negation-other}
+use Rattle.base.proofs.LiteralLemmas.{negation-negation, negation-other}
 
 -- A literal more.
 

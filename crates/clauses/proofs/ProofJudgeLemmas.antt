@@ -4,13 +4,13 @@ use Rattle.std.specs.Prelude.{nat_lt}
 use Rattle.std.specs.List.{list_any}
 use Rattle.std.proofs.lemmas.Bool.{eqb-true, ltb-false, or_parts, or_from}
 use Rattle.base.specs.Decimals.{is_nothing}
-use Rattle.base.specs.Lines.{whole_lines}
+use Rattle.base.specs.Lines.{whole_lines, all_lines}
 use Rattle.clauses.specs.declared.why.Why.TheVariants as why
 use Rattle.clauses.specs.declared.word.Word.{Word}
 use Rattle.clauses.specs.declared.proof_judge.Place.{Place}
 use Rattle.clauses.specs.declared.proof_judge.Place.TheVariants as place
 use Rattle.clauses.specs.Formula.{Formula}
-use Rattle.clauses.specs.Proofs.{is_blank, token_of, Token, faulty, Mark, mark, most_lines, lines_marks, all_lines, reading_from, read_proof}
+use Rattle.clauses.specs.Proofs.{is_blank, token_of, Token, faulty, Mark, mark, most_lines, lines_marks, reading_from, read_proof}
 use Rattle.clauses.specs.Words.{Spells}
 use Rattle.clauses.specs.StepReaders.{StepReader, StandsAt, StandsForWords}
 use Rattle.clauses.specs.ProofJudges.{ProofJudge, next_lines, word_marks, marks_behind, IsWordAt, IsFew, Scanned, ScannedAt, StandsBefore, StandsThrough, BeginsText, StandsForText, AreMarksAt, EndsText}

@@ -4,7 +4,7 @@ use Rattle.std.proofs.lemmas.List.{take_more}
 use Rattle.std.specs.Prelude.{All, Contains}
 use Rattle.std.proofs.lemmas.List.Elements.{All-take, All-drop}
 use Rattle.clauses.specs.declared.places.Places.{Places}
-use Rattle.clauses.specs.Literal.{negation}
+use Rattle.base.specs.Literal.{negation}
 use Rattle.clauses.specs.Marked.{Marked}
 use Rattle.clauses.specs.Propagator.{KeepsPropagator}
 use Rattle.clauses.specs.Flat.{cut, standing, AreEnds}
@@ -12,7 +12,7 @@ use Rattle.clauses.specs.Added.{Added}
 use Rattle.clauses.specs.Places.{clause_sum, last_at, AreLinked, IsLinkedBehind}
 use Rattle.clauses.specs.Watched.{clause_at, IsWatched, IsMet, AreMet, UnitsMet, CanWatch}
 use Rattle.clauses.proofs.AddLemmas.{KeepsPropagator-add, cut_is}
-use Rattle.clauses.proofs.LiteralLemmas.{negation-even}
+use Rattle.base.proofs.LiteralLemmas.{negation-even}
 use Rattle.clauses.proofs.PassLemmas.{length-cut, cut_at}
 use Rattle.clauses.proofs.PlacesLemmas.{AreLinked-behind}
 use Rattle.clauses.proofs.StandingLemmas.{standing-append, standing-push}

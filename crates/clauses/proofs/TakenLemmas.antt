@@ -6,11 +6,11 @@ use Rattle.std.specs.Prelude.{Contains, slice_range}
 use Rattle.clauses.specs.Marked.{Marked, set_of}
 use Rattle.clauses.proofs.TrailLemmas.{is_inside}
 use Rattle.clauses.specs.Propagator.{KeepsPropagator}
-use Rattle.clauses.specs.Literal.{negation}
+use Rattle.base.specs.Literal.{negation}
 use Rattle.clauses.specs.Flat.{cut, AreEnds}
 use Rattle.clauses.specs.Lists.{list_at}
 use Rattle.clauses.specs.Watched.{clause_at, IsWatched, IsUnit, AreMet, UnitsMet, IsMet}
-use Rattle.clauses.proofs.LiteralLemmas.{negation-inside, half-negation, negation-negation}
+use Rattle.base.proofs.LiteralLemmas.{negation-inside, half-negation, negation-negation}
 
 -- a clause taken away: its stretch ends where it starts
 pub cut-delete : (literals starts ends : List ℕ) (k : ℕ) → cut literals starts (set ends k (get_or starts k 0)) ≡ set (cut literals starts ends) k []

@@ -5,11 +5,11 @@ use Rattle.std.specs.List.{list_any}
 use Rattle.std.proofs.lemmas.List.{map-append}
 use Rattle.std.proofs.lemmas.Bool.{cases_Bool, eqb-true, or_parts, or_from}
 use Rattle.base.specs.Decimals.{is_nothing}
-use Rattle.base.specs.Lines.{IsLine, onto_first, whole_lines}
+use Rattle.base.specs.Lines.{IsLine, onto_first, whole_lines, all_lines, line_of}
 use Rattle.base.proofs.LineLemmas.{whole_lines-line, unfinished-line, whole_lines-last, unfinished-last}
 use Rattle.clauses.specs.declared.why.Why.TheVariants as why
 use Rattle.clauses.specs.declared.proof_judge.Place.TheVariants as place
-use Rattle.clauses.specs.Proofs.{is_blank, ends_word, words_of, token_of, faulty, Mark, mark, is_comment, most_lines, line_marks, lines_marks, all_lines}
+use Rattle.clauses.specs.Proofs.{is_blank, ends_word, words_of, token_of, faulty, Mark, mark, is_comment, most_lines, line_marks, lines_marks}
 use Rattle.clauses.specs.ProofJudges.{this_line, next_lines, word_marks, marks_behind}
 
 -- ---- lines
@@ -40,7 +40,7 @@ this_is_all (b ∷ bs) h =
     rw parts.0 (ap (λ (t : List ℕ). b ∷ t) own.0, own.1)
 
 abbrev lines_with : List (List ℕ) → List ℕ → List (List ℕ)
-lines_with lines rest = lines ++ (if is_nothing rest then [] else rest ∷ [])
+lines_with lines rest = lines ++ line_of rest
 
 all_lines-line : (line rest : List ℕ) → IsLine line → all_lines (line ++ 10 ∷ rest) ≡ line ∷ all_lines rest
 all_lines-line line rest is = ap₂ lines_with (whole_lines-line line rest is) (unfinished-line line rest)

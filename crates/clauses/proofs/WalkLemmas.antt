@@ -1,14 +1,14 @@
 -- Going through the list of a literal, and through a trail.
 use Rattle.std.proofs.Common.{◌≡◌, ◌≢◌, ℕ, ◌+◌, ◌*◌, ◌/◌, ◌<◌, ◌≤◌, Bool, true, false, List, [], inl, inr, length, get_or, ⊎_elim, refl, sym, ap, subst, ◌∙◌, arith}
 use Rattle.std.proofs.lemmas.Bool.{cases_eq, cases_Bool}
-use Rattle.clauses.specs.Literal.{negation}
+use Rattle.base.specs.Literal.{negation}
 use Rattle.clauses.specs.Marked.{Marked, set_of, IsConsistent, IsSettled, IsKept, IsPrefix, AreMarked, ArePlaced}
 use Rattle.clauses.specs.Growth.{Grows, AreSettled, AssumesAll, Extends, Finished}
 use Rattle.clauses.specs.Lists.{list_at}
 use Rattle.clauses.specs.Watched.{clause_at, IsWatched, IsMet, Processed, Walks, Advances, Walked, AreMet, Propagated, Stays, UnitsMet}
 use Rattle.clauses.specs.Flat.{standing}
 use Rattle.clauses.proofs.StandingLemmas.{place_inside}
-use Rattle.clauses.proofs.LiteralLemmas.{negation-negation, half-negation}
+use Rattle.base.proofs.LiteralLemmas.{negation-negation, half-negation}
 use Rattle.clauses.proofs.PassLemmas.{Grows-begin, Grows-more}
 use Rattle.clauses.proofs.WatchLemmas.{place_of, settled_by_met, settled_by_two, other_inside, on_off}
 use Rattle.std.specs.Prelude.{Contains, IsTrue, ◌↔◌, Result, Ok, Err, IfOk}

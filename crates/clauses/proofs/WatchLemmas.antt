@@ -6,12 +6,12 @@ use Rattle.std.proofs.lemmas.List.Elements.{Contains-push, Contains-append_left}
 use Rattle.std.proofs.lemmas.Grind.{get_or_default_zero}
 use Rattle.std.specs.Prelude.{Contains}
 use Rattle.std.specs.List.{swap_remove}
-use Rattle.clauses.specs.Literal.{negation}
+use Rattle.base.specs.Literal.{negation}
 use Rattle.clauses.specs.Marked.{Marked, set_of, IsConsistent, IsSettled, IsKept, IsPrefix, AreMarked}
 use Rattle.clauses.specs.Growth.{IsOpen, Grows}
 use Rattle.clauses.specs.Lists.{list_at}
 use Rattle.clauses.specs.Watched.{clause_at, IsWatched, IsMet, Moved, Advances, Stays}
-use Rattle.clauses.proofs.LiteralLemmas.{negation-negation, negation-other, negation-inside, half-negation}
+use Rattle.base.proofs.LiteralLemmas.{negation-negation, negation-other, negation-inside, half-negation}
 use Rattle.clauses.proofs.PassLemmas.{Grows-begin}
 use Rattle.clauses.proofs.ListsLemmas.{stays, length-swap_remove}
 

@@ -3,7 +3,7 @@ use Rattle.std.proofs.Common.{◌≡◌, ◌≢◌, ℕ, zero, suc, ◌<◌, Boo
 use Rattle.std.specs.Prelude.{◌&&◌, ◌||◌, ◌==◌}
 use Rattle.std.proofs.lemmas.Bool.{cases_eq}
 use Rattle.std.proofs.lemmas.Bool.Decides.{nat_tests}
-use Rattle.clauses.specs.Literal.{negation, Assignment, literal_bit}
+use Rattle.base.specs.Literal.{negation, Valuation, literal_value}
 use Rattle.clauses.specs.Formula.{IsUnsatisfiable}
 use Rattle.clauses.specs.Propagation.{Literals, nothing, AllNegated, OthersNegated, IsClosedUnder, IsClosed, Conflict, IsClosure, MeetsConflict, Implied}
 use Rattle.clauses.specs.Propagation.Conflict.{opposite, falsified}
@@ -155,10 +155,10 @@ all_eight-not_implied implied =
 pub all_eight-free : MeetsConflict all_eight nothing → ⊥
 all_eight-free met = no_conflict all_eight nothing nothing_consistent refl (met nothing (closed all_eight nothing refl) (λ l on. on))
 
-some_true : (a : Assignment) (x y z i : ℕ) → i < 3 → literal_bit a (get_or (x ∷ y ∷ z ∷ []) i 0) ≡ true → (literal_bit a x || (literal_bit a y || literal_bit a z)) ≡ true
-some_true a x y z zero h on = left_true (literal_bit a x) (literal_bit a y || literal_bit a z) on
-some_true a x y z (suc zero) h on = right_true (literal_bit a x) (literal_bit a y || literal_bit a z) (left_true (literal_bit a y) (literal_bit a z) on)
-some_true a x y z (suc (suc zero)) h on = right_true (literal_bit a x) (literal_bit a y || literal_bit a z) (right_true (literal_bit a y) (literal_bit a z) on)
+some_true : (a : Valuation) (x y z i : ℕ) → i < 3 → literal_value a (get_or (x ∷ y ∷ z ∷ []) i 0) ≡ true → (literal_value a x || (literal_value a y || literal_value a z)) ≡ true
+some_true a x y z zero h on = left_true (literal_value a x) (literal_value a y || literal_value a z) on
+some_true a x y z (suc zero) h on = right_true (literal_value a x) (literal_value a y || literal_value a z) (left_true (literal_value a y) (literal_value a z) on)
+some_true a x y z (suc (suc zero)) h on = right_true (literal_value a x) (literal_value a y || literal_value a z) (right_true (literal_value a y) (literal_value a z) on)
 some_true a x y z (suc (suc (suc i))) h on = absurd (omega (arith, h))
 
 not_all : (p q r : Bool) → (p || (q || r)) ≡ true → (p || (q || not r)) ≡ true → (p || (not q || r)) ≡ true → (p || (not q || not r)) ≡ true → (not p || (q || r)) ≡ true → (not p || (q || not r)) ≡ true → (not p || (not q || r)) ≡ true → (not p || (not q || not r)) ≡ true → ⊥

@@ -1,14 +1,14 @@
 -- Formulas in conjunctive normal form: a clause is a list of literals, one of which is to be true, and each clause of a formula is to be satisfied (the
 -- form of DIMACS CNF). A clause without literals is never satisfied.
 use Rattle.std.specs.Prelude.{◌≡◌, ℕ, ◌+◌, ◌*◌, ◌<◌, ◌≤◌, true, List, [], length, All, slice_index, slice_index_or}
-use Rattle.clauses.specs.Literal.{Assignment, literal_bit}
+use Rattle.base.specs.Literal.{Valuation, literal_value}
 
 -- some literal of the clause is true
-abbrev pub SatisfiesClause : Assignment → List ℕ → Type 0
-SatisfiesClause a clause = (i : ℕ) × (i < length clause) × (literal_bit a (slice_index clause i) ≡ true)
+abbrev pub SatisfiesClause : Valuation → List ℕ → Type 0
+SatisfiesClause a clause = (i : ℕ) × (i < length clause) × (literal_value a (slice_index clause i) ≡ true)
 
 -- every clause is satisfied
-abbrev pub Satisfies : Assignment → List (List ℕ) → Type 0
+abbrev pub Satisfies : Valuation → List (List ℕ) → Type 0
 Satisfies a clauses = (k : ℕ) → k < length clauses → SatisfiesClause a (slice_index_or clauses k [])
 
 -- A count of variables, and clauses.
@@ -25,4 +25,4 @@ IsFormula f = All (λ clause. All (IsLiteral f.variables) clause) f.clauses
 
 -- no assignment satisfies the formula
 abbrev pub IsUnsatisfiable : Formula → Type 0
-IsUnsatisfiable f = (a : Assignment) → Satisfies a f.clauses → ⊥
+IsUnsatisfiable f = (a : Valuation) → Satisfies a f.clauses → ⊥

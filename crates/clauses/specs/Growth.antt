@@ -1,6 +1,6 @@
 -- What a step of unit propagation does to a set of marked literals.
 use Rattle.std.specs.Prelude.{◌≡◌, ℕ, ◌<◌, ◌≤◌, Bool, true, false, List, [], length, Contains, slice_index, slice_index_or}
-use Rattle.clauses.specs.Literal.{negation}
+use Rattle.base.specs.Literal.{negation}
 use Rattle.clauses.specs.Propagation.{Literals, AllNegated}
 use Rattle.clauses.specs.Marked.{Marked, set_of, IsConsistent, IsSettled, IsWithin, IsKept, IsPrefix, FollowsBy, Follows}
 

@@ -1,4 +1,3 @@
-pub mod Literal
 pub mod Formula
 pub mod FormulaTexts
 pub mod Propagation

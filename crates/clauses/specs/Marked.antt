@@ -1,7 +1,7 @@
 -- A set of literals below a limit, with the order in which they came.
 use Rattle.std.specs.Prelude.{◌≡◌, ◌≢◌, ℕ, ◌%◌, ◌<◌, Bool, true, false, List, length, take, slice_index, slice_index_or}
 use Rattle.std.specs.List.{count_by}
-use Rattle.clauses.specs.Literal.{negation}
+use Rattle.base.specs.Literal.{negation}
 use Rattle.clauses.specs.Propagation.{Literals, AllNegated, IsClosedUnder, IsClosed}
 use Rattle.clauses.specs.declared.trail.Trail.TheInside.{Inside}
 

@@ -1,13 +1,13 @@
 -- What a judge of proofs holds, and which texts it stands for.
 use Rattle.std.specs.Prelude.{◌≡◌, ℕ, suc, ◌+◌, ◌*◌, ◌<◌, ◌≤◌, Bool, true, false, List, [], ◌∷◌, ◌++◌, ◌==◌, if◌then◌else◌, length, map}
 use Rattle.std.specs.List.{list_any}
-use Rattle.base.specs.Lines.{whole_lines}
+use Rattle.base.specs.Lines.{whole_lines, all_lines}
 use Rattle.clauses.specs.declared.proof_judge.Place.{Place}
 use Rattle.clauses.specs.declared.proof_judge.Place.TheVariants as place
 use Rattle.clauses.specs.declared.proof_judge.ProofJudge.TheInside.{Inside}
 use Rattle.clauses.specs.declared.word.Word.{Word}
 use Rattle.clauses.specs.Formula.{Formula}
-use Rattle.clauses.specs.Proofs.{is_blank, words_of, token_of, Mark, mark, most_lines, lines_marks, all_lines}
+use Rattle.clauses.specs.Proofs.{is_blank, words_of, token_of, Mark, mark, most_lines, lines_marks}
 use Rattle.clauses.specs.Words.{Spells}
 use Rattle.clauses.specs.StepReaders.{StepReader, StandsForWords, BeginsReader}
 

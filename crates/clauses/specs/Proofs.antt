@@ -5,7 +5,7 @@
 use Rattle.std.specs.Prelude.{ℕ, suc, ◌+◌, ◌*◌, ◌^◌, Bool, true, false, not, ◌||◌, ◌==◌, nat_lt, if◌then◌else◌, List, [], ◌∷◌, ◌++◌, length, map, Option, Some, None, codes}
 use Rattle.std.specs.Str.{bytes_eq}
 use Rattle.base.specs.Decimals.{is_nothing, number_of}
-use Rattle.base.specs.Lines.{whole_lines, unfinished, onto_first}
+use Rattle.base.specs.Lines.{whole_lines, unfinished, onto_first, all_lines}
 use Rattle.clauses.specs.declared.why.Why.{Why}
 use Rattle.clauses.specs.declared.why.Why.TheVariants as why
 
@@ -72,10 +72,6 @@ line_marks variables n line =
 abbrev pub lines_marks : ℕ → ℕ → List (List ℕ) → List Mark
 lines_marks variables n [] = []
 lines_marks variables n (line ∷ lines) = line_marks variables n line ++ lines_marks variables (suc n) lines
-
--- the lines of a text, and the rest behind them where there is one
-abbrev pub all_lines : List ℕ → List (List ℕ)
-all_lines text = whole_lines text ++ (if is_nothing (unfinished text) then [] else unfinished text ∷ [])
 
 -- ---- steps
 

@@ -1,7 +1,7 @@
 -- Unit propagation: a clause all of whose literals but one are negated gives that one (the steps that proofs of solvers consist of are checked by it: N.
 -- Wetzler, M. Heule, W. Hunt, "DRAT-trim: Efficient checking and trimming using expressive clausal proofs", SAT 2014).
 use Rattle.std.specs.Prelude.{◌≡◌, ◌≢◌, ℕ, ◌<◌, Bool, true, false, List, [], length, slice_index, slice_index_or}
-use Rattle.clauses.specs.Literal.{negation, Assignment, literal_bit}
+use Rattle.base.specs.Literal.{negation, Valuation, literal_value}
 use Rattle.clauses.specs.Formula.{Satisfies}
 
 -- a set of literals
@@ -51,6 +51,6 @@ abbrev pub Implied : List (List ℕ) → Literals → List ℕ → Type 0
 Implied clauses given clause = (s : Literals) → IsClosed clauses s → Holds given s → AllNegated clause s → Conflict clauses s
 
 -- an assignment satisfies the clauses, and the given literals are true in it
-pub record IsModel (a : Assignment) (clauses : List (List ℕ)) (given : Literals) : Type 0 where
+pub record IsModel (a : Valuation) (clauses : List (List ℕ)) (given : Literals) : Type 0 where
   pub satisfies : Satisfies a clauses
-  pub holds : Holds given (literal_bit a)
+  pub holds : Holds given (literal_value a)

@@ -1,7 +1,7 @@
 -- Two watched literals of each clause: watch 2k and watch 2k + 1 are those of clause k.
 use Rattle.std.specs.Prelude.{◌≡◌, ◌≢◌, ℕ, ◌+◌, ◌*◌, ◌/◌, ◌<◌, ◌≤◌, ◌++◌, ◌∷◌, ◌⊎◌, Bool, true, false, List, [], Option, Some, None, Contains, length, slice_set, slice_index, slice_index_or}
 use Rattle.std.specs.List.{swap_remove}
-use Rattle.clauses.specs.Literal.{negation}
+use Rattle.base.specs.Literal.{negation}
 use Rattle.clauses.specs.Propagation.{AllNegated}
 use Rattle.clauses.specs.Marked.{Marked, set_of}
 use Rattle.clauses.specs.Growth.{IsOpen, GrowsBy, Falsifies}

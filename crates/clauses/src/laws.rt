@@ -1,6 +1,6 @@
 //! Laws of unit propagation, and worked rows, as functions with no code.
 ghost use Rattle.std.specs.Prelude.{◌≡◌, ℕ, true, List, [], ◌∷◌, None, Some, codes};
-ghost use Rattle.clauses.specs.Literal.{Assignment};
+ghost use Rattle.base.specs.Literal.{Valuation};
 ghost use Rattle.clauses.specs.Formula.{Formula, SatisfiesClause, IsUnsatisfiable};
 ghost use Rattle.clauses.specs.Propagation.{Literals, nothing, IsModel, IsClosedUnder, IsClosure, Implied, MeetsConflict};
 ghost use Rattle.clauses.specs.Worked.{two, all_eight, twice, with_negation, chain, eight, three_steps};
@@ -16,18 +16,18 @@ ghost use Rattle.clauses.specs.Propagator.{State, Extended, in_list};
 
 /// A law: an implied clause is satisfied by whatever satisfies the clauses and what is given.
 pub fn implied_is_satisfied()
-    ensures { (clauses : List (List ℕ)) (given : Literals) (clause : List ℕ) → Implied clauses given clause → (a : Assignment) → IsModel a clauses given → SatisfiesClause a clause }
+    ensures { (clauses : List (List ℕ)) (given : Literals) (clause : List ℕ) → Implied clauses given clause → (a : Valuation) → IsModel a clauses given → SatisfiesClause a clause }
 {}
 
 /// A law: where propagation meets a conflict, nothing satisfies the clauses and what is given.
 pub fn conflict_is_unsatisfied()
-    ensures { (clauses : List (List ℕ)) (given : Literals) → MeetsConflict clauses given → (a : Assignment) → ¬ IsModel a clauses given }
+    ensures { (clauses : List (List ℕ)) (given : Literals) → MeetsConflict clauses given → (a : Valuation) → ¬ IsModel a clauses given }
 {}
 
 /// A law: whatever satisfies clauses and what followed, and another clause, satisfies these once the clause is added with
 /// all that follows.
 pub fn models_stay()
-    ensures { (old : State) (clause : List ℕ) (new : State) → Extended old clause new → (a : Assignment) → IsModel a old.clauses (in_list old.followed) → SatisfiesClause a clause → IsModel a new.clauses (in_list new.followed) }
+    ensures { (old : State) (clause : List ℕ) (new : State) → Extended old clause new → (a : Valuation) → IsModel a old.clauses (in_list old.followed) → SatisfiesClause a clause → IsModel a new.clauses (in_list new.followed) }
 {}
 
 /// A law: where a text is judged as a proof, nothing satisfies the formula.

@@ -1,6 +1,6 @@
 //! Literals: 2v is variable v, and 2v + 1 its negation.
 ghost use Rattle.std.specs.Prelude.{◌≡◌};
-ghost use Rattle.clauses.specs.Literal.{negation};
+ghost use Rattle.base.specs.Literal.{negation};
 
 /// The negation of a literal: 2v and 2v + 1 are exchanged.
 pub(crate) fn negation(literal: u32) -> u32

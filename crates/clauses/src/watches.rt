@@ -1,7 +1,7 @@
 //! Unit propagation by two watched literals: a clause is looked at only when a literal that it watches is negated. Watch
 //! 2k and watch 2k + 1 are those of clause k.
 ghost use Rattle.std.specs.Prelude.{◌≡◌, true, ◌≢◌, ◌+◌, ◌-◌, ◌<◌, ◌≤◌, All, length, Contains, IfOk, MatchResult, MatchOption, slice_index, slice_index_or, []};
-ghost use Rattle.clauses.specs.Literal.{negation};
+ghost use Rattle.base.specs.Literal.{negation};
 ghost use Rattle.clauses.specs.Marked.{IsConsistent, IsEven, set_of};
 ghost use Rattle.clauses.specs.Growth.{Grows};
 ghost use Rattle.clauses.specs.Flat.{cut, AreEnds};

@@ -23,7 +23,8 @@ use Rattle.tasks.specs.declared.answers.Answer.{Answer}
 use Rattle.tasks.specs.declared.refusals.Refusal.{Refusal}
 use Rattle.tasks.specs.Done.{Judged}
 use Rattle.tasks.specs.Restoring.{TellsLifted}
-use Rattle.tasks.specs.Texts.{IsClaim, IsModelOf}
+use Rattle.btor2text.specs.Spelling.{IsModelOf}
+use Rattle.tasks.specs.Claims.{IsClaim}
 use Rattle.commands.specs.Done.{LiftsFound, IsFormLifted, lifting_said}
 
 -- lifting keeps the verdict, with names or without

@@ -23,7 +23,8 @@ use Rattle.tasks.specs.Certificates.{Certifies, CertifiesByName, WritesOwed}
 use Rattle.tasks.specs.Done.{Compares, ConvertsForEngines, IsDumped, IsFormRestored, IsJudged, IsJudgedByName, IsJudgedOver, IsJudgedOverByName, Judged, LowersForEngines, Restores, Rewrites, Shows, TellsCost, TellsRestored, Tidies, judgement_line}
 use Rattle.tasks.specs.Outputs.{ConvertsOutputs, ConvertsOutputsForEngines}
 use Rattle.tasks.specs.Subjects.{bad_item_said, lifted_said, said_by_name, where_named}
-use Rattle.tasks.specs.Texts.{IsModelOf, IsClaim}
+use Rattle.btor2text.specs.Spelling.{IsModelOf}
+use Rattle.tasks.specs.Claims.{IsClaim}
 use Rattle.commands.specs.declared.running.First.{First}
 use Rattle.commands.specs.declared.running.First.TheVariants as first_is
 use Rattle.orders.specs.declared.tasks.Named.{Named}

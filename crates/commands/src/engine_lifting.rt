@@ -4,7 +4,7 @@ ghost use Rattle.std.specs.Prelude.{◌≡◌, ℕ, List, None, Option, IfOk, If
 ghost use Rattle.blast.specs.Lowering.{Lowers};
 ghost use Rattle.blast.specs.Refusal.{lowering_refusal};
 ghost use Rattle.orders.specs.declared.tasks.Given.TheVariants as given_is;
-ghost use Rattle.tasks.specs.Done.{IsModelOf};
+ghost use Rattle.btor2text.specs.Spelling.{IsModelOf};
 ghost use Rattle.commands.specs.Done.{LiftsFound};
 ghost use Rattle.tasks.specs.Refusals.{IsNotClaimed};
 ghost use Rattle.tasks.specs.declared.refusals.Claimed.TheVariants as claimed_is;

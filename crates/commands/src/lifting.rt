@@ -2,7 +2,8 @@
 
 ghost use Rattle.std.specs.Prelude.{◌≡◌, ℕ, List, Option, IfOk, IfErr};
 ghost use Rattle.blast.specs.Lowering.{Lowers};
-ghost use Rattle.tasks.specs.Done.{IsModelOf, Judged};
+ghost use Rattle.btor2text.specs.Spelling.{IsModelOf};
+ghost use Rattle.tasks.specs.Done.{Judged};
 ghost use Rattle.commands.specs.Done.{IsLifted};
 ghost use Rattle.commands.specs.Refusals.{of_lifting};
 ghost use Rattle.tasks.specs.Refusals.{IsNotLowered};

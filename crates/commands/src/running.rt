@@ -3,7 +3,8 @@
 ghost use Rattle.std.specs.Prelude.{◌≡◌, ◌≢◌, ◌≤◌, ◌⊎◌, ℕ, List, Option, true, false, IfOk, IfErr, option_map};
 ghost use Rattle.aigertext.specs.declared.forms.Form.{Form};
 ghost use Rattle.tasks.specs.declared.answers.Answer.TheVariants as answer;
-ghost use Rattle.tasks.specs.Texts.{IsCircuitText, IsModelOf};
+ghost use Rattle.btor2text.specs.Spelling.{IsModelOf};
+ghost use Rattle.aigertext.specs.Spelling.{IsCircuitText};
 ghost use Rattle.commands.specs.declared.running.First.TheVariants as first_is;
 ghost use Rattle.commands.specs.Done.{Answers, first_of, has_one_file, has_three_files, is_quiet};
 ghost use Rattle.commands.specs.Refusals.{Refuses, RefusesSecond};

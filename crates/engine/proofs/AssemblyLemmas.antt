@@ -7,7 +7,7 @@ use Rattle.aiger.specs.declared.circuit.Latch.{Latch}
 use Rattle.aiger.specs.declared.circuit.Reset.{Reset}
 use Rattle.aiger.specs.declared.circuit.Reset.TheVariants.{Zero}
 use Rattle.aiger.specs.Limits.{greatest_count}
-use Rattle.aiger.specs.Literal.{negation}
+use Rattle.base.specs.Literal.{negation}
 use Rattle.aiger.specs.Net.{Net}
 use Rattle.aiger.specs.Circuit.{Circuit, IsCircuit, net, fresh_latch, with_latch}
 use Rattle.gates.specs.Made.{gates_only}

@@ -9,11 +9,12 @@ use Rattle.std.proofs.Math.Seq.{take-append_seam, get_or-append_seam}
 use Rattle.aiger.specs.declared.circuit.Latch.{Latch}
 use Rattle.aiger.specs.declared.circuit.Reset.{Reset}
 use Rattle.aiger.specs.declared.circuit.Reset.TheVariants as reset
-use Rattle.aiger.specs.Literal.{Valuation, negation, literal_value}
+use Rattle.base.specs.Literal.{Valuation, negation, literal_value}
 use Rattle.aiger.specs.Net.{variables, IsDefined, bits_from}
 use Rattle.aiger.specs.Circuit.{Circuit, IsCircuit, net, fresh_latch}
 use Rattle.aiger.specs.Trace.{IsFrame, IsTrace, next_state, SameFrame}
-use Rattle.aiger.proofs.NetLemmas.{literal_value-negation, literal_value-even, length-bits_from}
+use Rattle.base.proofs.LiteralLemmas.{literal_value-negation, literal_value-even}
+use Rattle.aiger.proofs.NetLemmas.{length-bits_from}
 use Rattle.aiger.proofs.TraceLemmas.{literal_value-agree, SameFrame-from_bits}
 use Rattle.engine.specs.EngineForm.{taken_bits, free_count, first_bit, first_bits, begins, kept_bit, kept_bits, where_some, or_one, with_own, engine_bits, input_count, latch_count, chosen, all_hold, ShowsSame, ShowSame}
 use Rattle.engine.specs.Reads.{read, literal_of, latch_value, read_latches, kept_literal, kept_latch, form_latches, literal_where, started_literal, before_literal, FormMade}

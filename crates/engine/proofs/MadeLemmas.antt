@@ -7,10 +7,10 @@ use Rattle.std.proofs.lemmas.List.Elements.{All-nil, All-cons, All-append, All-t
 use Rattle.std.proofs.Math.Seq.{get_or-append_seam}
 use Rattle.aiger.specs.declared.circuit.Latch.{Latch}
 use Rattle.aiger.specs.declared.circuit.Gate.{Gate}
-use Rattle.aiger.specs.Literal.{Valuation, variable, literal_value}
+use Rattle.base.specs.Literal.{Valuation, variable, literal_value}
 use Rattle.aiger.specs.Net.{Net, variables, IsDefined, SatisfiesFrom, bits_from}
 use Rattle.aiger.specs.Circuit.{Circuit, IsCircuit, net}
-use Rattle.aiger.proofs.NetLemmas.{literal_value-even}
+use Rattle.base.proofs.LiteralLemmas.{literal_value-even}
 use Rattle.aiger.proofs.TraceLemmas.{bits_from-agree}
 use Rattle.gates.specs.Made.{MakesLiteral}
 use Rattle.gates.proofs.GrowthLemmas.{Grows-trans, Grows-weaker, Satisfies-earlier, IsDefined-grown, All-defined-grown}

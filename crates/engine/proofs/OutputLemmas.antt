@@ -7,7 +7,7 @@ use Rattle.std.proofs.lemmas.Bool.{cases_lt}
 use Rattle.std.proofs.lemmas.List.Folds.{list_all-map}
 use Rattle.aiger.specs.declared.circuit.Latch.{Latch}
 use Rattle.aiger.specs.declared.circuit.Gate.{Gate}
-use Rattle.aiger.specs.Literal.{Valuation, literal_value}
+use Rattle.base.specs.Literal.{Valuation, literal_value}
 use Rattle.aiger.specs.Net.{Net, Satisfies, input_bits, latch_bits}
 use Rattle.aiger.specs.declared.circuit.Section.{Section}
 use Rattle.aiger.specs.declared.circuit.Section.TheVariants as section
@@ -15,7 +15,8 @@ use Rattle.aiger.specs.Circuit.{Circuit, IsCircuit, NameMap, net, section_count,
 use Rattle.aiger.proofs.SectionNameLemmas.{name_of-outside, same_names}
 use Rattle.engine.specs.Moves.{unnamed}
 use Rattle.aiger.specs.Trace.{AreInitial, IsTrace, next_state}
-use Rattle.aiger.specs.Reachability.{Shown, circuit_shows, rises_within, CanRiseInCircuit}
+use Rattle.base.specs.Shown.{Shown, rises_within}
+use Rattle.aiger.specs.Reachability.{circuit_shows, CanRiseInCircuit}
 use Rattle.engine.specs.Outputs.{HasOutputsAsBads, is_one_within, OutputCanBeOne}
 
 -- both have the same gates over the same inputs and latches

@@ -12,11 +12,13 @@ use Rattle.std.proofs.lemmas.List.Elements.{All-nil, All-cons, All-head, All-tai
 use Rattle.aiger.specs.declared.circuit.Latch.{Latch}
 use Rattle.aiger.specs.declared.circuit.Reset.{Reset}
 use Rattle.aiger.specs.declared.circuit.Reset.TheVariants as reset
-use Rattle.aiger.specs.Literal.{Valuation, literal_value}
+use Rattle.base.specs.Literal.{Valuation, literal_value}
 use Rattle.aiger.specs.Circuit.{Circuit}
 use Rattle.aiger.specs.Trace.{AgreesWithReset, AreInitial, IsTrace, next_state}
-use Rattle.aiger.specs.Reachability.{circuit_shows, rises_within, CanRiseInCircuit}
+use Rattle.base.specs.Shown.{rises_within}
+use Rattle.aiger.specs.Reachability.{circuit_shows, CanRiseInCircuit}
 use Rattle.aiger.proofs.NetLemmas.{length-bits_from}
+use Rattle.aiger.proofs.TraceLemmas.{trace_inputs}
 use Rattle.engine.specs.EngineForm.{taken_bits, free_count, first_bit, first_bits, begins, input_count, chosen, all_hold, ShowSame, IsEngineFormOf}
 
 -- ---- initial bits
@@ -89,12 +91,6 @@ initial_zeros (l ∷ ls) (suc n) (b ∷ bs) e h =
     ap₂ ◌∷◌ (subst (λ (r : Reset). AgreesWithReset r b) own h.0) (initial_zeros ls n bs rest h.1)
 
 -- ---- inputs
-
-trace_inputs : (c : Circuit) (state : List Bool) (inputs : List (List Bool)) (vs : List Valuation) → IsTrace c state inputs vs → All (λ input. length input ≡ c.inputs) inputs
-trace_inputs c state [] vs t = All-nil (λ input. length input ≡ c.inputs)
-trace_inputs c state (input ∷ inputs) [] t = absurd t
-trace_inputs c state (input ∷ inputs) (v ∷ vs) t =
-    All-cons (λ input. length input ≡ c.inputs) input inputs (ap length (sym t.0.inputs) ∙ length-bits_from 1 c.inputs v) (trace_inputs c (next_state c v) inputs vs t.1)
 
 -- input frames with bits behind, and without
 abbrev with_more : List Bool → List (List Bool) → List (List Bool)
@@ -205,22 +201,30 @@ form_trace c choice d form exists state input inputs vs initial t =
     subst (λ (s : List Bool). IsTrace c s (map (take c.inputs) given) vs) (sym begin) (subst (λ (i : List (List Bool)). IsTrace c state i vs) (sym own) t) in
     (given, there.0, begin, own, there.1, form.frames given vs there.0 trace there.1)
 
-pub rises_in_form : (c : Circuit) (choice : Option ℕ) (d : Circuit) (k j : ℕ) → IsEngineFormOf c choice d → slice_get (chosen choice c.bads) j ≡ slice_get c.bads k → Exists d → CanRiseInCircuit c k → CanRiseInCircuit d j
+go_on_as_long : (c : Circuit) (choice : Option ℕ) (d : Circuit) (first met : Bool) (vs ws : List Valuation) → ShowSame c choice d first met vs ws → length ws ≡ length vs
+go_on_as_long c choice d first met [] [] h = refl
+go_on_as_long c choice d first met [] (w ∷ ws) h = absurd h
+go_on_as_long c choice d first met (v ∷ vs) [] h = absurd h
+go_on_as_long c choice d first met (v ∷ vs) (w ∷ ws) h = ap suc (go_on_as_long c choice d false (met && all_hold c v) vs ws h.1)
+
+pub rises_in_form : (c : Circuit) (choice : Option ℕ) (d : Circuit) (k j : ℕ) → IsEngineFormOf c choice d → slice_get (chosen choice c.bads) j ≡ slice_get c.bads k → Exists d → (h : CanRiseInCircuit c k) → (g : CanRiseInCircuit d j) × (length g.frames ≡ length h.frames)
 rises_in_form c choice d k j form same exists h = by h.inputs h.frames h.trace h.rises
   where
-    by : (inputs : List (List Bool)) (vs : List Valuation) → IsTrace c h.state inputs vs → rises_within k (map (circuit_shows c) vs) ≡ true → CanRiseInCircuit d j
+    by : (inputs : List (List Bool)) (vs : List Valuation) → IsTrace c h.state inputs vs → rises_within k (map (circuit_shows c) vs) ≡ true → (g : CanRiseInCircuit d j) × (length g.frames ≡ length vs)
     by [] [] t r = absurd (cc)
     by [] (v ∷ vs) t r = absurd t
     by (input ∷ inputs) vs t r =
-        let f = form_trace c choice d form exists h.state input inputs vs h.initial t in
-        record {
-          state = replicate (length d.latches) false;
-          inputs = f.0;
-          frames = f.1;
-          initial = zeros_initial d.latches _ form.resets;
-          trace = f.4;
-          rises = rises_alike c choice d true true k j vs f.1 form.no_constraints same f.5 ∙ r;
-        }
+        let f = form_trace c choice d form exists h.state input inputs vs h.initial t in (
+          record {
+            state = replicate (length d.latches) false;
+            inputs = f.0;
+            frames = f.1;
+            initial = zeros_initial d.latches _ form.resets;
+            trace = f.4;
+            rises = rises_alike c choice d true true k j vs f.1 form.no_constraints same f.5 ∙ r;
+          },
+          go_on_as_long c choice d true true vs f.1 f.5,
+        )
 
 begins_length : (c : Circuit) (given : List (List Bool)) → length (begins c given) ≡ length c.latches
 begins_length c [] = first_length c.latches []
@@ -243,18 +247,20 @@ circuit_trace c choice d form exists given ws t =
     let there = exists (begins c given) (map (take c.inputs) given) (begins_length c given) (take_lengths c.inputs d.inputs given le wide) in
     (begins_initial c given, there.0, there.1, form.frames given there.0 ws there.1 t)
 
-pub rises_in_circuit : (c : Circuit) (choice : Option ℕ) (d : Circuit) (k j : ℕ) → IsEngineFormOf c choice d → slice_get (chosen choice c.bads) j ≡ slice_get c.bads k → Exists c → CanRiseInCircuit d j → CanRiseInCircuit c k
+pub rises_in_circuit : (c : Circuit) (choice : Option ℕ) (d : Circuit) (k j : ℕ) → IsEngineFormOf c choice d → slice_get (chosen choice c.bads) j ≡ slice_get c.bads k → Exists c → (h : CanRiseInCircuit d j) → (g : CanRiseInCircuit c k) × (length g.frames ≡ length h.frames)
 rises_in_circuit c choice d k j form same exists h =
     let zeros : h.state ≡ replicate (length d.latches) false = initial_zeros d.latches _ h.state form.resets h.initial in
-    let f = circuit_trace c choice d form exists h.inputs h.frames (subst (λ (s : List Bool). IsTrace d s h.inputs h.frames) zeros h.trace) in
-    record {
-      state = begins c h.inputs;
-      inputs = map (take c.inputs) h.inputs;
-      frames = f.1;
-      initial = f.0;
-      trace = f.2;
-      rises = sym (rises_alike c choice d true true k j f.1 h.frames form.no_constraints same f.3) ∙ h.rises;
-    }
+    let f = circuit_trace c choice d form exists h.inputs h.frames (subst (λ (s : List Bool). IsTrace d s h.inputs h.frames) zeros h.trace) in (
+      record {
+        state = begins c h.inputs;
+        inputs = map (take c.inputs) h.inputs;
+        frames = f.1;
+        initial = f.0;
+        trace = f.2;
+        rises = sym (rises_alike c choice d true true k j f.1 h.frames form.no_constraints same f.3) ∙ h.rises;
+      },
+      sym (go_on_as_long c choice d true true f.1 h.frames f.3),
+    )
 
 -- the chosen property is the first one
 pub chosen_first : (k : ℕ) (bads : List ℕ) → slice_get (chosen (Some k) bads) 0 ≡ slice_get bads k

@@ -3,7 +3,7 @@ use Rattle.std.proofs.Common.{◌≡◌, ℕ, ◌≤◌, All, subst, Bool, true,
 use Rattle.std.specs.Map.{keys_of}
 use Rattle.std.specs.List.Sorted.{IsStrictlySortedBy}
 use Rattle.std.proofs.lemmas.List.Elements.{All-nil}
-use Rattle.aiger.specs.Literal.{Valuation}
+use Rattle.base.specs.Literal.{Valuation}
 use Rattle.aiger.specs.Limits.{greatest_count}
 use Rattle.aiger.specs.Net.{variables, Satisfies, AreOrdered}
 use Rattle.aiger.specs.Circuit.{Circuit, IsCircuit, HasFew, HasDefined, IsNamed, NameMap, place_cmp, net}

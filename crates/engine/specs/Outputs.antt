@@ -6,7 +6,7 @@ use Rattle.aiger.specs.declared.circuit.Section.TheVariants.{Output, Bad}
 use Rattle.aiger.specs.declared.fault.CircuitFault.{CircuitFault}
 use Rattle.aiger.specs.declared.fault.CircuitFault.TheVariants.{TooBig}
 use Rattle.aiger.specs.Limits.{greatest_count}
-use Rattle.aiger.specs.Literal.{Valuation, literal_value}
+use Rattle.base.specs.Literal.{Valuation, literal_value}
 use Rattle.aiger.specs.Circuit.{Circuit, IsCircuit, section_count, name_of}
 use Rattle.aiger.specs.Trace.{AreInitial, IsTrace}
 

@@ -5,7 +5,7 @@ use Rattle.aiger.specs.declared.circuit.Latch.{Latch}
 use Rattle.aiger.specs.declared.circuit.Gate.{Gate}
 use Rattle.aiger.specs.declared.circuit.Reset.{Reset}
 use Rattle.aiger.specs.declared.circuit.Reset.TheVariants.{Zero, One, Free}
-use Rattle.aiger.specs.Literal.{Valuation, variable, negation, literal_value}
+use Rattle.base.specs.Literal.{Valuation, variable, negation, literal_value}
 use Rattle.aiger.specs.Net.{Net, variables, IsDefined, Satisfies, SatisfiesFrom, bits_from}
 use Rattle.aiger.specs.Circuit.{Circuit, net, fresh_latch}
 use Rattle.gates.specs.Made.{Grows}

@@ -1,7 +1,7 @@
 //! The latches of an engine form.
 ghost use Rattle.std.specs.Prelude.{◌≡◌, ◌<◌, ◌≤◌, ◌++◌, suc, true, length, map, drop, replicate, All, if◌then◌else◌};
 ghost use Rattle.aiger.specs.declared.circuit.Reset.TheVariants.{Zero};
-ghost use Rattle.aiger.specs.Literal.{variable, negation};
+ghost use Rattle.base.specs.Literal.{variable, negation};
 ghost use Rattle.aiger.specs.Net.{IsDefined, variables};
 ghost use Rattle.aiger.specs.Circuit.{IsCircuit, net, with_latch, fresh_latch};
 ghost use Rattle.engine.specs.EngineForm.{latch_count};

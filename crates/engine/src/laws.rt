@@ -2,11 +2,11 @@
 ghost use Rattle.std.specs.Prelude.{◌≡◌, ◌↔◌, ◌+◌, ◌<◌, ℕ, None, Some, Option, List, [], ◌∷◌, Bool, true, false, length, map, take, replicate, slice_get, codes};
 ghost use Rattle.aiger.specs.declared.circuit.Reset.TheVariants.{Zero};
 ghost use Rattle.aiger.specs.declared.fault.CircuitFault.TheVariants.{TooBig};
-ghost use Rattle.aiger.specs.Literal.{Valuation, literal_value};
+ghost use Rattle.base.specs.Literal.{Valuation, literal_value};
 ghost use Rattle.aiger.specs.Circuit.{Circuit, IsCircuit};
 ghost use Rattle.aiger.specs.Trace.{IsTrace, AreInitial};
 ghost use Rattle.aiger.specs.Reachability.{circuit_shows, CanRiseInCircuit};
-ghost use Rattle.engine.specs.EngineForm.{IsEngineFormOf, ShowSame, begins};
+ghost use Rattle.engine.specs.EngineForm.{IsEngineFormOf, ShowSame, begins, chosen};
 ghost use Rattle.engine.specs.Outputs.{HasOutputsAsBads, OutputCanBeOne, outputs_refusal};
 ghost use Rattle.engine.specs.Refusal.{engine_bound, engine_refusal};
 ghost use Rattle.engine.specs.Worked.{toggler, toggler_form, stays_negated, keeper, keeper_form, begins_with_0, guarded, guarded_form, guarded_alone, either, second_form, outputs_alone, conjunction, conjunction_bad, named, named_bad};
@@ -19,6 +19,16 @@ pub fn bad_properties_rise_alike()
     ensures all { (c d : Circuit) (b : ℕ) → IsEngineFormOf c None d → CanRiseInCircuit c b ↔ CanRiseInCircuit d b }
     // With a chosen one.
     ensures one { (c d : Circuit) (b : ℕ) → IsEngineFormOf c (Some b) d → CanRiseInCircuit c b ↔ CanRiseInCircuit d 0 }
+{
+    aiger::laws::exactly_one_trace();
+}
+
+/// A law: and where it can, it does so in a trace of as many frames; `j` is the place of the property among those of the form.
+pub fn rises_in_as_many_frames()
+    ensures form { (c : Circuit) (choice : Option ℕ) (d : Circuit) (k j : ℕ) → IsEngineFormOf c choice d → slice_get (chosen choice c.bads) j ≡ slice_get c.bads k
+        → (h : CanRiseInCircuit c k) → (g : CanRiseInCircuit d j) × (length g.frames ≡ length h.frames) }
+    ensures circuit { (c : Circuit) (choice : Option ℕ) (d : Circuit) (k j : ℕ) → IsEngineFormOf c choice d → slice_get (chosen choice c.bads) j ≡ slice_get c.bads k
+        → (h : CanRiseInCircuit d j) → (g : CanRiseInCircuit c k) × (length g.frames ≡ length h.frames) }
 {
     aiger::laws::exactly_one_trace();
 }

@@ -1,6 +1,6 @@
 //! The literals that stand for the latches of a circuit.
 ghost use Rattle.std.specs.Prelude.{◌≡◌, ℕ, ◌+◌, ◌*◌, ◌<◌, ◌≤◌, ◌++◌, List, length, map, All, IfOk, IfErr, OnOk};
-ghost use Rattle.aiger.specs.Literal.{literal_value};
+ghost use Rattle.base.specs.Literal.{literal_value};
 ghost use Rattle.aiger.specs.Limits.{greatest_count};
 ghost use Rattle.aiger.specs.Net.{IsDefined, variables};
 ghost use Rattle.gates.specs.Made.{MakesLiteral, Refuses};

@@ -1,7 +1,7 @@
 //! The literals of constraints and bad properties.
 ghost use Rattle.std.specs.Prelude.{◌≡◌, ℕ, ◌+◌, ◌<◌, ◌&&◌, List, length, map, All, IfOk, IfErr};
 ghost use Rattle.std.specs.List.{list_all};
-ghost use Rattle.aiger.specs.Literal.{variable, literal_value};
+ghost use Rattle.base.specs.Literal.{variable, literal_value};
 ghost use Rattle.aiger.specs.Net.{IsDefined};
 ghost use Rattle.gates.specs.Made.{MakesAnd, MakesLiteral, Refuses};
 ghost use Rattle.engine.specs.Reads.{literal_of, BadsRead};

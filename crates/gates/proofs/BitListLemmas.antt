@@ -4,9 +4,8 @@ use Rattle.std.proofs.lemmas.List.{length-map, length_push, take_all, take_more,
 use Rattle.std.proofs.lemmas.List.Elements.{All-nil, All-cons, All-push}
 use Rattle.base.specs.Word.{word, bit_number}
 use Rattle.base.proofs.BitLemmas.{word_below}
-use Rattle.aiger.specs.Literal.{Valuation, literal_value}
+use Rattle.base.specs.Literal.{Valuation, literal_value}
 use Rattle.aiger.specs.Net.{Net, IsDefined, Satisfies}
-use Rattle.base.proofs.BitLemmas.{word_below}
 use Rattle.gates.specs.Made.{Grows, MakesLiteral, MakesWord, word_value}
 use Rattle.gates.proofs.GrowthLemmas.{Grows-weaker, Grows-trans, Satisfies-earlier, All-defined-grown}
 use Rattle.gates.proofs.WordLemmas.{zip_with, zip_with-push, word-push}

@@ -6,9 +6,9 @@ use Rattle.base.specs.Word.{bit_number}
 use Rattle.base.specs.Signed.{signed, overflows}
 use Rattle.base.proofs.SignedLaws.{half}
 use Rattle.base.proofs.BitLemmas.{bit_number_small}
-use Rattle.aiger.specs.Literal.{literal_value, negation}
+use Rattle.base.specs.Literal.{literal_value, negation}
 use Rattle.aiger.specs.Net.{Net, IsDefined}
-use Rattle.aiger.proofs.NetLemmas.{literal_value-negation}
+use Rattle.base.proofs.LiteralLemmas.{literal_value-negation}
 use Rattle.gates.specs.Connect.{differ}
 use Rattle.gates.specs.Made.{MakesLiteral, word_value}
 use Rattle.gates.specs.Sums.{literal_number}

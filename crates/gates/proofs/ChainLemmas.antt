@@ -9,7 +9,7 @@ use Rattle.std.proofs.lemmas.List.Sums.{position_or_len_is}
 use Rattle.std.proofs.lemmas.List.Elements.{All-replicate, All-push, All-set, All-weaker}
 use Rattle.aiger.specs.declared.circuit.Gate.{Gate}
 use Rattle.aiger.specs.Net.{Net, variables}
-use Rattle.aiger.specs.Literal.{variable}
+use Rattle.base.specs.Literal.{variable}
 use Rattle.gates.specs.declared.chains.Walk.{Walk}
 use Rattle.gates.specs.declared.chains.Walk.TheVariants.{Met, End, Full}
 use Rattle.gates.specs.declared.chains.Look.{Look}

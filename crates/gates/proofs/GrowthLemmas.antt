@@ -1,23 +1,19 @@
 -- How nets grow, and what stays true of literals.
-use Rattle.std.proofs.Common.{◌≡◌, ℕ, suc, ◌+◌, ◌*◌, ◌≤◌, ◌<◌, Bool, true, false, ◌&&◌, List, [], ◌∷◌, ◌++◌, length, map, not, ◌-◌, ◌^◌, All, refl, sym, ap, ◌∙◌, arith, append_assoc, append-nil, length-append, inl, inr}
+use Rattle.std.proofs.Common.{◌≡◌, ℕ, suc, ◌+◌, ◌*◌, ◌≤◌, ◌<◌, Bool, true, false, ◌&&◌, List, [], ◌∷◌, ◌++◌, length, map, not, ◌-◌, ◌^◌, All, refl, sym, ap, ◌∙◌, arith, append_assoc, append-nil, length-append, inl, inr, cond, nat_le, nat_lt, Option, Some, None}
 use Rattle.std.proofs.lemmas.List.{length-map}
 use Rattle.std.proofs.lemmas.List.Elements.{All-weaker, All-map}
 use Rattle.base.proofs.BitLemmas.{word-map_not}
-use Rattle.aiger.specs.Literal.{negation}
-use Rattle.aiger.proofs.NetLemmas.{IsDefined-negation, literal_value-negation}
-use Rattle.gates.specs.Made.{MakesWord, word_value}
+use Rattle.base.specs.Literal.{negation, Valuation, literal_value, variable}
+use Rattle.base.proofs.LiteralLemmas.{literal_value-negation}
+use Rattle.aiger.proofs.NetLemmas.{IsDefined-negation, SatisfiesFrom-split, literal_value-new}
+use Rattle.gates.specs.Made.{MakesWord, word_value, AreSame, Grows, MakesAnd}
 use Rattle.base.specs.Word.{word}
-use Rattle.aiger.specs.Literal.{Valuation, literal_value}
 use Rattle.aiger.specs.Net.{Net, variables, IsDefined, Satisfies, SatisfiesFrom}
-use Rattle.aiger.specs.Literal.{variable}
-use Rattle.std.proofs.Common.{cond, nat_le, nat_lt, Option, Some, None}
 use Rattle.std.proofs.lemmas.Bool.Decides.{nat_tests}
 use Rattle.aiger.specs.declared.fault.CircuitFault.{CircuitFault}
 use Rattle.aiger.specs.declared.fault.CircuitFault.TheVariants.{TooBig, OrderBroken, LiteralOutOfRange}
 use Rattle.aiger.specs.Limits.{greatest_count}
 use Rattle.aiger.specs.Circuit.{Circuit, net, with_gate, gate_refusal}
-use Rattle.aiger.proofs.NetLemmas.{SatisfiesFrom-split, literal_value-new}
-use Rattle.gates.specs.Made.{AreSame, Grows, MakesAnd}
 
 pub Grows-refl : (n : Net) (most : ℕ) → Grows n n most
 Grows-refl n most = record { inputs = refl; latches = refl; gates = ([], sym (append-nil n.gates), omega arith) }

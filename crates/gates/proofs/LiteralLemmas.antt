@@ -1,8 +1,9 @@
 -- Literals that are made one after the other.
 use Rattle.std.proofs.Common.{◌≡◌, ℕ, ◌+◌, ◌≤◌, Bool, not, ◌&&◌, ◌∙◌, ap, ap₂, arith}
-use Rattle.aiger.specs.Literal.{Valuation, negation, literal_value}
+use Rattle.base.specs.Literal.{Valuation, negation, literal_value}
 use Rattle.aiger.specs.Net.{Net}
-use Rattle.aiger.proofs.NetLemmas.{IsDefined-negation, literal_value-negation}
+use Rattle.base.proofs.LiteralLemmas.{literal_value-negation}
+use Rattle.aiger.proofs.NetLemmas.{IsDefined-negation}
 use Rattle.gates.specs.declared.fault.GateFault.{GateFault}
 use Rattle.gates.specs.Made.{Grows, MakesAnd, MakesLiteral, Refuses}
 use Rattle.gates.proofs.GrowthLemmas.{Grows-weaker, Grows-trans, Satisfies-earlier, variables-grown, IsDefined-grown}

@@ -7,7 +7,7 @@ use Rattle.std.proofs.lemmas.List.{length-take-le}
 use Rattle.base.specs.Word.{bit_number}
 use Rattle.base.specs.declared.operators.Binary.TheVariants as binary
 use Rattle.base.specs.Operator.{binary_value}
-use Rattle.aiger.specs.Literal.{Valuation, literal_value}
+use Rattle.base.specs.Literal.{Valuation, literal_value}
 use Rattle.aiger.specs.Net.{Net}
 use Rattle.aiger.proofs.NetLemmas.{IsDefined-false}
 use Rattle.gates.specs.Made.{Grows, MakesAnd, MakesLiteral, MakesWord, word_value}

@@ -7,9 +7,10 @@ use Rattle.std.proofs.lemmas.List.Elements.{All-push, All-take, All-get_or}
 use Rattle.base.specs.Word.{bit_number}
 use Rattle.base.specs.Signed.{signed}
 use Rattle.base.proofs.SignedLaws.{half, signed_low, signed_high}
-use Rattle.aiger.specs.Literal.{Valuation, literal_value, negation}
+use Rattle.base.specs.Literal.{Valuation, literal_value, negation}
 use Rattle.aiger.specs.Net.{Net, IsDefined}
-use Rattle.aiger.proofs.NetLemmas.{IsDefined-negation, IsDefined-false, literal_value-negation}
+use Rattle.base.proofs.LiteralLemmas.{literal_value-negation}
+use Rattle.aiger.proofs.NetLemmas.{IsDefined-negation, IsDefined-false}
 use Rattle.gates.specs.Made.{MakesAnd, MakesLiteral, MakesWord, word_value}
 use Rattle.gates.specs.Sums.{literal_number}
 use Rattle.gates.specs.Tests.{with_top_negated}

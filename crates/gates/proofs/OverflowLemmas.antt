@@ -9,7 +9,7 @@ use Rattle.base.specs.Word.{bit_number}
 use Rattle.base.specs.Operator.{ones, binary_value}
 use Rattle.base.specs.Signed.{signed, overflows}
 use Rattle.base.proofs.SignedLaws.{half, signed_is, overflows_in, overflows_out}
-use Rattle.aiger.specs.Literal.{Valuation, literal_value, negation}
+use Rattle.base.specs.Literal.{Valuation, literal_value, negation}
 use Rattle.aiger.specs.Net.{Net}
 use Rattle.gates.specs.Connect.{differ}
 use Rattle.gates.specs.Made.{MakesAnd, MakesLiteral, MakesWord, word_value}

@@ -4,7 +4,7 @@ use Rattle.std.proofs.Math.Nat.{pow-suc, mul_assoc, mod-add-mod, add-mod-mod, mo
 use Rattle.std.proofs.lemmas.Nat.{pow_pos, pow-add, mul-le, mul-mod_first, mod-mul-add}
 use Rattle.std.proofs.lemmas.List.{length-take-le, take_all}
 use Rattle.base.specs.Word.{word, bit_number}
-use Rattle.aiger.specs.Literal.{Valuation, literal_value}
+use Rattle.base.specs.Literal.{Valuation, literal_value}
 use Rattle.aiger.specs.Net.{Net}
 use Rattle.gates.specs.Made.{MakesWord, word_value}
 use Rattle.gates.specs.Sums.{literal_number}

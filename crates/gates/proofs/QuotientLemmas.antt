@@ -8,15 +8,15 @@ use Rattle.std.proofs.lemmas.List.{length-take-le}
 use Rattle.std.proofs.lemmas.List.Elements.{All-nil, All-cons}
 use Rattle.base.specs.Word.{bit_number}
 use Rattle.base.specs.Operator.{udiv, urem}
-use Rattle.base.proofs.BitLemmas.{bit_number_small}
-use Rattle.aiger.specs.Literal.{Valuation, literal_value, negation}
+use Rattle.base.proofs.BitLemmas.{bit_number_small, two_more}
+use Rattle.base.specs.Literal.{Valuation, literal_value, negation}
 use Rattle.aiger.specs.Net.{Net, IsDefined, Satisfies}
-use Rattle.aiger.proofs.NetLemmas.{IsDefined-false, literal_value-negation}
+use Rattle.base.proofs.LiteralLemmas.{literal_value-negation}
+use Rattle.aiger.proofs.NetLemmas.{IsDefined-false}
 use Rattle.gates.specs.Made.{MakesAnd, MakesLiteral, MakesWord, word_value}
 use Rattle.gates.specs.Sums.{literal_number, MakesSum}
 use Rattle.gates.specs.Division.{reduced, MakesQuotientRow, MakesDivision}
 use Rattle.gates.proofs.GrowthLemmas.{Grows-refl, Grows-weaker, Grows-trans, Satisfies-earlier, IsDefined-grown, All-defined-grown, word_value-negation}
-use Rattle.base.proofs.BitLemmas.{two_more}
 use Rattle.gates.proofs.BitListLemmas.{word_value-below}
 use Rattle.gates.proofs.WindowLemmas.{word_value-split}
 

@@ -8,9 +8,9 @@ use Rattle.std.proofs.lemmas.Result.{IfOk-weaker}
 use Rattle.std.proofs.lemmas.List.Sums.{fails_before_first}
 use Rattle.aiger.specs.declared.circuit.Gate.{Gate}
 use Rattle.aiger.specs.Circuit.{Circuit, net}
-use Rattle.aiger.specs.Literal.{Valuation, negation, literal_value}
+use Rattle.base.specs.Literal.{Valuation, negation, literal_value}
 use Rattle.aiger.specs.Net.{Net, variables, IsDefined, SatisfiesFrom}
-use Rattle.aiger.proofs.NetLemmas.{literal_value-even, literal_value-negation}
+use Rattle.base.proofs.LiteralLemmas.{literal_value-even, literal_value-negation}
 use Rattle.gates.specs.Made.{AreSame, MakesAnd, gates_only}
 use Rattle.gates.proofs.GrowthLemmas.{Grows-refl, and-same, MakesAnd-gate}
 use Rattle.gates.specs.Shared.{folded_and, gate_of, is_gate_of, gate_literal, IsNeeded, AreShared}

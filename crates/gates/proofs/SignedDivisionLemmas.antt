@@ -10,7 +10,7 @@ use Rattle.base.specs.Operator.{ones, unary_value, udiv, urem, sdiv, srem}
 use Rattle.base.specs.Signed.{signed, wrapped}
 use Rattle.base.proofs.DivisionLemmas.{truncated_rest}
 use Rattle.base.proofs.SignedLaws.{half, signed_low, signed_is}
-use Rattle.aiger.specs.Literal.{Valuation, literal_value}
+use Rattle.base.specs.Literal.{Valuation, literal_value}
 use Rattle.aiger.specs.Net.{Net}
 use Rattle.gates.specs.Connect.{differ}
 use Rattle.gates.specs.Division.{MakesDivision}

@@ -12,7 +12,7 @@ use Rattle.base.specs.Signed.{signed, wrapped, truncated, floored}
 use Rattle.base.proofs.DivisionLemmas.{truncated_rest, floored_same, floored_other_sign}
 use Rattle.base.proofs.DivisionLaws.{truncated_whole}
 use Rattle.base.proofs.SignedLaws.{signed_low, same_signed, same_sum, same_word, wrapped_below, wrapped-signed}
-use Rattle.aiger.specs.Literal.{literal_value}
+use Rattle.base.specs.Literal.{literal_value}
 use Rattle.aiger.specs.Net.{Net}
 use Rattle.gates.specs.Connect.{differ}
 use Rattle.gates.specs.Made.{MakesAnd, MakesLiteral, MakesWord, word_value}

@@ -14,9 +14,9 @@ use Rattle.base.specs.Signed.{signed, overflows}
 use Rattle.base.proofs.BitLemmas.{two_more}
 use Rattle.base.proofs.SignedLaws.{half, signed_low, signed_high, signed_is, overflows_in}
 use Rattle.base.proofs.WrapLemmas.{wrapped_is}
-use Rattle.aiger.specs.Literal.{Valuation, literal_value, negation}
+use Rattle.base.specs.Literal.{Valuation, literal_value, negation}
 use Rattle.aiger.specs.Net.{Net, IsDefined}
-use Rattle.aiger.proofs.NetLemmas.{literal_value-negation}
+use Rattle.base.proofs.LiteralLemmas.{literal_value-negation}
 use Rattle.gates.specs.Connect.{differ}
 use Rattle.gates.specs.Made.{Grows, MakesAnd, MakesLiteral, MakesWord, word_value}
 use Rattle.gates.specs.Sums.{literal_number}

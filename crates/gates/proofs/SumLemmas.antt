@@ -12,9 +12,10 @@ use Rattle.base.specs.Signed.{wrapped}
 use Rattle.base.proofs.BitLemmas.{two_more, bit_number_small}
 use Rattle.base.proofs.WrapLemmas.{wrapped_is}
 use Rattle.base.specs.Word.{bit_number, word}
-use Rattle.aiger.specs.Literal.{Valuation, literal_value, negation}
+use Rattle.base.specs.Literal.{Valuation, literal_value, negation}
 use Rattle.aiger.specs.Net.{Net, IsDefined}
-use Rattle.aiger.proofs.NetLemmas.{IsDefined-negation, literal_value-negation}
+use Rattle.base.proofs.LiteralLemmas.{literal_value-negation}
+use Rattle.aiger.proofs.NetLemmas.{IsDefined-negation}
 use Rattle.gates.specs.Connect.{differ}
 use Rattle.gates.specs.Made.{MakesAnd, MakesLiteral, MakesWord, word_value}
 use Rattle.gates.specs.Sums.{literal_number, MakesColumn, MakesSum}

@@ -4,7 +4,7 @@ use Rattle.std.proofs.lemmas.List.{length-take-le}
 use Rattle.std.proofs.lemmas.List.Elements.{All-push}
 use Rattle.base.specs.Word.{bit_number}
 use Rattle.base.proofs.BitLemmas.{two_more}
-use Rattle.aiger.specs.Literal.{literal_value}
+use Rattle.base.specs.Literal.{literal_value}
 use Rattle.aiger.specs.Net.{Net, IsDefined}
 use Rattle.gates.specs.Connect.{differ}
 use Rattle.gates.specs.Made.{MakesLiteral, MakesWord, word_value}

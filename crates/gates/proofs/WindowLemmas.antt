@@ -9,7 +9,7 @@ use Rattle.base.specs.declared.operators.Binary.{Binary}
 use Rattle.base.specs.declared.operators.Binary.TheVariants.{Sll, Srl, Sra}
 use Rattle.base.specs.Word.{word, bit_number}
 use Rattle.base.specs.Operator.{ones, binary_value}
-use Rattle.aiger.specs.Literal.{Valuation, literal_value}
+use Rattle.base.specs.Literal.{Valuation, literal_value}
 use Rattle.gates.specs.Made.{word_value}
 use Rattle.gates.specs.Tests.{is_shift}
 use Rattle.gates.proofs.BitListLemmas.{word_value-below, word_value-more}

@@ -1,7 +1,7 @@
 -- Where a sharing maker finds its gates: each variable has a chain of some gates that have an operand of it, and the gates that neither of the chains of their two variables took stand in a map. No contract of the maker says anything of it but that each gate is found.
 use Rattle.std.specs.Prelude.{false, ◌≡◌, ℕ, zero, suc, ◌+◌, ◌<◌, ◌≤◌, Bool, ◌&&◌, ◌==◌, List, All, length, get_or, slice_set, Option, None, Some, if◌then◌else◌}
 use Rattle.aiger.specs.declared.circuit.Gate.{Gate}
-use Rattle.aiger.specs.Literal.{variable}
+use Rattle.base.specs.Literal.{variable}
 use Rattle.aiger.specs.Net.{Net, variables}
 use Rattle.gates.specs.declared.chains.Walk.{Walk}
 use Rattle.gates.specs.declared.chains.Walk.TheVariants.{Met, End, Full}

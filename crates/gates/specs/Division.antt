@@ -1,7 +1,7 @@
 -- Division of words in gates: what a row gives, and what all rows do.
 use Rattle.std.specs.Prelude.{◌≡◌, ℕ, ◌-◌, nat_le, List, length, All, if◌then◌else◌}
 use Rattle.base.specs.Operator.{udiv, urem}
-use Rattle.aiger.specs.Literal.{Valuation, literal_value}
+use Rattle.base.specs.Literal.{Valuation, literal_value}
 use Rattle.aiger.specs.Net.{Net, IsDefined, Satisfies}
 use Rattle.gates.specs.Made.{Grows, word_value}
 

@@ -3,7 +3,7 @@ use Rattle.std.specs.Prelude.{◌≡◌, ℕ, ◌+◌, ◌*◌, ◌<◌, Bool, �
 use Rattle.std.specs.List.{AllPairs}
 use Rattle.std.specs.Option.{option_map, option_or}
 use Rattle.aiger.specs.declared.circuit.Gate.{Gate}
-use Rattle.aiger.specs.Literal.{Valuation, variable, negation}
+use Rattle.base.specs.Literal.{Valuation, variable, negation}
 use Rattle.aiger.specs.Net.{Net, Satisfies, input_bits, latch_bits}
 use Rattle.gates.specs.Made.{AreSame}
 

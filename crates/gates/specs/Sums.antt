@@ -1,7 +1,7 @@
 -- Sums of words in gates: what a column of an adder gives, and what an adder does.
 use Rattle.std.specs.Prelude.{◌≡◌, ℕ, ◌+◌, ◌-◌, ◌*◌, ◌/◌, ◌%◌, ◌^◌, List, length, All}
 use Rattle.base.specs.Word.{bit_number}
-use Rattle.aiger.specs.Literal.{Valuation, literal_value}
+use Rattle.base.specs.Literal.{Valuation, literal_value}
 use Rattle.aiger.specs.Net.{Net, IsDefined, Satisfies}
 use Rattle.gates.specs.Made.{Grows, word_value}
 

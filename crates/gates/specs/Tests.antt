@@ -1,6 +1,6 @@
 -- The operators by the builder that makes them: those whose answer is one bit, and those that move the bits of a word by an amount.
 use Rattle.std.specs.Prelude.{ℕ, ◌-◌, Bool, true, false, ◌||◌, List, [], ◌∷◌, ◌++◌, length, take, slice_index}
-use Rattle.aiger.specs.Literal.{negation}
+use Rattle.base.specs.Literal.{negation}
 use Rattle.base.specs.declared.operators.Binary.{Binary}
 use Rattle.base.specs.declared.operators.Binary.TheVariants as binary
 

@@ -2,7 +2,7 @@
 ghost use Rattle.std.specs.Prelude.{◌≡◌, ◌+◌, ◌*◌, ◌%◌, ◌^◌, ◌≤◌, length, map, take, All, IfOk, IfErr};
 ghost use Rattle.base.specs.Operator.{unary_value, binary_value};
 ghost use Rattle.aiger.specs.Net.{IsDefined};
-ghost use Rattle.aiger.specs.Literal.{negation};
+ghost use Rattle.base.specs.Literal.{negation};
 ghost use Rattle.gates.specs.Operands.{AreOperands};
 ghost use Rattle.gates.specs.Made.{MakesWord, Refuses, word_value};
 ghost use Rattle.gates.specs.Sums.{literal_number, MakesColumn, MakesSum};

@@ -1,6 +1,6 @@
 //! Lists of literals that take no gate: negated, of one literal, of one literal many times, and longer.
 ghost use Rattle.std.specs.Prelude.{◌≡◌, ◌+◌, ◌≤◌, [], ◌∷◌, ◌++◌, length, map, take, replicate};
-ghost use Rattle.aiger.specs.Literal.{negation};
+ghost use Rattle.base.specs.Literal.{negation};
 
 use crate::maker::Bits;
 use aiger::Lit;

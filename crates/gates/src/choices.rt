@@ -2,7 +2,7 @@
 ghost use Rattle.std.specs.Prelude.{◌≡◌, ◌≤◌, ◌*◌, length, All, IfOk, IfErr, if◌then◌else◌};
 ghost use Rattle.base.specs.Operator.{ite_value};
 ghost use Rattle.aiger.specs.Net.{IsDefined};
-ghost use Rattle.aiger.specs.Literal.{literal_value};
+ghost use Rattle.base.specs.Literal.{literal_value};
 ghost use Rattle.gates.specs.Operands.{AreOperands};
 ghost use Rattle.gates.specs.Made.{MakesWord, Refuses, word_value};
 ghost use Rattle.gates.specs.Bound.{ite_bound};

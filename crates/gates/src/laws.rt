@@ -4,7 +4,7 @@ ghost use Rattle.base.specs.Operator.{unary_value};
 ghost use Rattle.base.specs.declared.operators.Unary.TheVariants as unary;
 ghost use Rattle.base.specs.declared.operators.Binary.TheVariants as binary;
 ghost use Rattle.aiger.specs.Circuit.{net};
-ghost use Rattle.aiger.specs.Literal.{literal_value};
+ghost use Rattle.base.specs.Literal.{literal_value};
 ghost use Rattle.aiger.specs.Worked.{one_gate};
 ghost use Rattle.gates.specs.declared.bitwise.Connective.TheVariants as by;
 ghost use Rattle.gates.specs.declared.bound.Op.TheVariants as op;

@@ -1,7 +1,7 @@
 //! Literals of two and three others, made of ands.
 ghost use Rattle.std.specs.Prelude.{IfOk, IfErr, ◌||◌, if◌then◌else◌};
 ghost use Rattle.aiger.specs.Net.{IsDefined};
-ghost use Rattle.aiger.specs.Literal.{literal_value};
+ghost use Rattle.base.specs.Literal.{literal_value};
 ghost use Rattle.gates.specs.Connect.{differ};
 ghost use Rattle.gates.specs.Made.{MakesLiteral, Refuses};
 

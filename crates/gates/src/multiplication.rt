@@ -1,7 +1,7 @@
 //! Products of words: a row for each bit of the second operand, added up.
 ghost use Rattle.std.specs.Prelude.{◌≡◌, ◌+◌, ◌*◌, ◌%◌, ◌^◌, ◌<◌, ◌≤◌, ◌||◌, nat_le, length, All, IfOk, IfErr};
 ghost use Rattle.base.specs.Operator.{binary_value};
-ghost use Rattle.aiger.specs.Literal.{Valuation, literal_value};
+ghost use Rattle.base.specs.Literal.{Valuation, literal_value};
 ghost use Rattle.aiger.specs.Net.{Net, IsDefined};
 ghost use Rattle.gates.specs.Operands.{AreOperands};
 ghost use Rattle.gates.specs.Made.{MakesLiteral, MakesWord, Refuses, word_value};

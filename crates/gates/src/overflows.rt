@@ -3,7 +3,7 @@ ghost use Rattle.std.specs.Prelude.{◌≡◌, ◌+◌, ◌*◌, ◌%◌, ◌^�
 ghost use Rattle.base.specs.Operator.{binary_value};
 ghost use Rattle.base.specs.Signed.{signed, overflows};
 ghost use Rattle.base.specs.Widths.{binary_width};
-ghost use Rattle.aiger.specs.Literal.{literal_value};
+ghost use Rattle.base.specs.Literal.{literal_value};
 ghost use Rattle.aiger.specs.Net.{IsDefined};
 ghost use Rattle.gates.specs.Bound.{binary_bound};
 ghost use Rattle.gates.specs.Operands.{AreOperands};

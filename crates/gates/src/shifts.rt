@@ -1,7 +1,7 @@
 //! Shifts and rotations: a row of choices for each bit of the amount.
 ghost use Rattle.std.specs.Prelude.{◌≡◌, ℕ, ◌+◌, ◌*◌, ◌^◌, ◌<◌, ◌≤◌, ◌++◌, length, take, drop, All, IfOk, IfErr, true, false};
 ghost use Rattle.base.specs.Operator.{binary_value};
-ghost use Rattle.aiger.specs.Literal.{Valuation};
+ghost use Rattle.base.specs.Literal.{Valuation};
 ghost use Rattle.aiger.specs.Net.{Net, IsDefined};
 ghost use Rattle.gates.specs.Bound.{binary_bound};
 ghost use Rattle.gates.specs.Operands.{AreOperands};

@@ -3,14 +3,14 @@ use Rattle.std.proofs.Common.{◌≡◌, ℕ, zero, suc, Bool, true, false, not,
 use Rattle.std.specs.List.{list_all, list_any}
 use Rattle.std.proofs.lemmas.Bool.{cases_Bool, and_parts}
 use Rattle.std.proofs.lemmas.List.Folds.{list_any_at}
-use Rattle.clauses.specs.Literal.{Assignment, literal_bit}
+use Rattle.base.specs.Literal.{Valuation, literal_value}
 use Rattle.clauses.specs.Formula.{SatisfiesClause, Satisfies}
 
 -- whether a clause, and each of some clauses, is satisfied
-abbrev pub clause_bit : Assignment → List ℕ → Bool
-clause_bit a clause = list_any (literal_bit a) clause
+abbrev pub clause_bit : Valuation → List ℕ → Bool
+clause_bit a clause = list_any (literal_value a) clause
 
-abbrev pub formula_bit : Assignment → List (List ℕ) → Bool
+abbrev pub formula_bit : Valuation → List (List ℕ) → Bool
 formula_bit a clauses = list_all (clause_bit a) clauses
 
 -- ---- bits
@@ -47,24 +47,24 @@ one_is false = refl
 
 -- ---- what satisfies a formula
 
-clause_true : (a : Assignment) (clause : List ℕ) → SatisfiesClause a clause → clause_bit a clause ≡ true
-clause_true a clause sat = list_any_at (literal_bit a) clause sat.0 0 sat.1 sat.2
+clause_true : (a : Valuation) (clause : List ℕ) → SatisfiesClause a clause → clause_bit a clause ≡ true
+clause_true a clause sat = list_any_at (literal_value a) clause sat.0 0 sat.1 sat.2
 
-pub formula_true : (a : Assignment) (clauses : List (List ℕ)) → Satisfies a clauses → formula_bit a clauses ≡ true
+pub formula_true : (a : Valuation) (clauses : List (List ℕ)) → Satisfies a clauses → formula_bit a clauses ≡ true
 formula_true a [] sat = refl
 formula_true a (clause ∷ clauses) sat = ap₂ ◌&&◌ (clause_true a clause (sat 0 (omega arith))) (formula_true a clauses (λ k below. sat (suc k) (omega arith)))
 
-clause_satisfied : (a : Assignment) (clause : List ℕ) → clause_bit a clause ≡ true → SatisfiesClause a clause
+clause_satisfied : (a : Valuation) (clause : List ℕ) → clause_bit a clause ≡ true → SatisfiesClause a clause
 clause_satisfied a [] h = absurd (cc)
 clause_satisfied a (l ∷ ls) h =
     ⊎_elim
-    (λ (on : literal_bit a l ≡ true). (0, omega arith, on))
-    (λ (off : literal_bit a l ≡ false).
-    let rest = clause_satisfied a ls (or_right (literal_bit a l) (clause_bit a ls) h off) in
+    (λ (on : literal_value a l ≡ true). (0, omega arith, on))
+    (λ (off : literal_value a l ≡ false).
+    let rest = clause_satisfied a ls (or_right (literal_value a l) (clause_bit a ls) h off) in
     (suc rest.0, omega (arith, rest.1), rest.2))
-    (cases_Bool (literal_bit a l))
+    (cases_Bool (literal_value a l))
 
-pub formula_satisfied : (a : Assignment) (clauses : List (List ℕ)) → formula_bit a clauses ≡ true → Satisfies a clauses
+pub formula_satisfied : (a : Valuation) (clauses : List (List ℕ)) → formula_bit a clauses ≡ true → Satisfies a clauses
 formula_satisfied a [] h k below = absurd (omega arith)
 formula_satisfied a (clause ∷ clauses) h zero below = clause_satisfied a clause (and_parts (clause_bit a clause) (formula_bit a clauses) h).0
 formula_satisfied a (clause ∷ clauses) h (suc k) below = formula_satisfied a clauses (and_parts (clause_bit a clause) (formula_bit a clauses) h).1 k (omega arith)

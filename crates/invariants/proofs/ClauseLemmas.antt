@@ -7,12 +7,11 @@ use Rattle.std.proofs.lemmas.List.Folds.{list_all-append}
 use Rattle.std.proofs.lemmas.List.Elements.{All-head, All-tail}
 use Rattle.aiger.specs.declared.circuit.Gate.{Gate}
 use Rattle.aiger.specs.declared.circuit.Latch.{Latch}
-use Rattle.aiger.specs.Literal.{Valuation, literal_value}
+use Rattle.base.specs.Literal.{Valuation, literal_value, negation}
 use Rattle.aiger.specs.Net.{SatisfiesFrom, bits_from, latch_bits}
 use Rattle.aiger.specs.Circuit.{Circuit, net}
 use Rattle.aiger.specs.Trace.{next_state}
-use Rattle.aiger.proofs.NetLemmas.{literal_value-negation, literal_value-even, literal_value-odd}
-use Rattle.clauses.specs.Literal.{Assignment, negation, literal_bit}
+use Rattle.base.proofs.LiteralLemmas.{literal_value-negation, literal_value-even, literal_value-odd}
 use Rattle.clauses.specs.Formula.{IsLiteral}
 use Rattle.invariants.specs.Invariants.{AreOver, state_bit, is_in, is_outside}
 use Rattle.invariants.specs.Obligation.{over, gate_clauses, gates_clauses, now_literal, outside_clause, taken_literal, truth_variable, next_literal, next_clauses, nexts_clauses}
@@ -21,12 +20,12 @@ use Rattle.invariants.proofs.BitLemmas.{formula_bit, clause_bit, or_not, not_or,
 -- ---- literals
 
 -- a literal of the circuit keeps its value, where the one variable is true
-pub over-value : (a : Assignment) (truth l : ℕ) → 0 < truth → a truth ≡ true → literal_bit a (over truth l) ≡ literal_value a l
+pub over-value : (a : Valuation) (truth l : ℕ) → 0 < truth → a truth ≡ true → literal_value a (over truth l) ≡ literal_value a l
 over-value a truth zero h on = literal_value-odd a truth h ∙ ap not on
 over-value a truth (suc zero) h on = literal_value-even a truth h ∙ on
-over-value a truth (suc (suc l)) h on = let is : over truth (suc (suc l)) ≡ suc (suc l) = grind (arith, nat_tests) in ap (literal_bit a) is
+over-value a truth (suc (suc l)) h on = let is : over truth (suc (suc l)) ≡ suc (suc l) = grind (arith, nat_tests) in ap (literal_value a) is
 
-not-over : (a : Assignment) (truth l : ℕ) → 0 < truth → a truth ≡ true → literal_bit a (negation (over truth l)) ≡ not (literal_value a l)
+not-over : (a : Valuation) (truth l : ℕ) → 0 < truth → a truth ≡ true → literal_value a (negation (over truth l)) ≡ not (literal_value a l)
 not-over a truth l h on = literal_value-negation a (over truth l) ∙ ap not (over-value a truth l h on)
 
 -- ---- gates
@@ -48,23 +47,23 @@ gate_passes true true = refl
 gate_passes true false = refl
 gate_passes false y = refl
 
-gate_bits : (a : Assignment) (truth v : ℕ) (g : Gate) → 0 < truth → 0 < v → a truth ≡ true
+gate_bits : (a : Valuation) (truth v : ℕ) (g : Gate) → 0 < truth → 0 < v → a truth ≡ true
     → formula_bit a (gate_clauses truth v g) ≡ gate_test (a v) (literal_value a g.rhs0) (literal_value a g.rhs1)
 gate_bits a truth v g t h on =
-    let off : literal_bit a (2 * v + 1) ≡ not (a v) = literal_value-odd a v h in
-    let is : literal_bit a (2 * v) ≡ a v = literal_value-even a v h in
+    let off : literal_value a (2 * v + 1) ≡ not (a v) = literal_value-odd a v h in
+    let is : literal_value a (2 * v) ≡ a v = literal_value-even a v h in
     ap₂ ◌&&◌ (ap₂ two off (over-value a truth g.rhs0 t on))
     (ap₂ ◌&&◌ (ap₂ two off (over-value a truth g.rhs1 t on))
     (ap₂ ◌&&◌ (ap₂ ◌||◌ is (ap₂ two (not-over a truth g.rhs0 t on) (not-over a truth g.rhs1 t on))) refl))
 
-pub gates_hold : (a : Assignment) (truth v : ℕ) (gs : List Gate) → 0 < truth → 0 < v → a truth ≡ true → formula_bit a (gates_clauses truth v gs) ≡ true → SatisfiesFrom v gs a
+pub gates_hold : (a : Valuation) (truth v : ℕ) (gs : List Gate) → 0 < truth → 0 < v → a truth ≡ true → formula_bit a (gates_clauses truth v gs) ≡ true → SatisfiesFrom v gs a
 gates_hold a truth v [] t h on all = tt
 gates_hold a truth v (g ∷ gs) t h on all =
     let parts = and_parts (formula_bit a (gate_clauses truth v g)) (formula_bit a (gates_clauses truth (suc v) gs))
     (sym (list_all-append (clause_bit a) (gate_clauses truth v g) (gates_clauses truth (suc v) gs)) ∙ all) in
     (gate_holds (a v) (literal_value a g.rhs0) (literal_value a g.rhs1) (sym (gate_bits a truth v g t h on) ∙ parts.0), gates_hold a truth (suc v) gs t (omega arith) on parts.1)
 
-pub gates_pass : (a : Assignment) (truth v : ℕ) (gs : List Gate) → 0 < truth → 0 < v → a truth ≡ true → SatisfiesFrom v gs a → formula_bit a (gates_clauses truth v gs) ≡ true
+pub gates_pass : (a : Valuation) (truth v : ℕ) (gs : List Gate) → 0 < truth → 0 < v → a truth ≡ true → SatisfiesFrom v gs a → formula_bit a (gates_clauses truth v gs) ≡ true
 gates_pass a truth v [] t h on all = refl
 gates_pass a truth v (g ∷ gs) t h on all =
     let own : formula_bit a (gate_clauses truth v g) ≡ true =
@@ -86,7 +85,7 @@ state_odd : (state : List Bool) (l : ℕ) → l % 2 ≢ 0 → state_bit state l 
 state_odd state l e = grind (arith, nat_tests)
 
 -- a literal over latches says of a state what its literal of the circuit says
-pub now_bit : (d : Circuit) (a : Assignment) (l : ℕ) → IsLiteral (length d.latches) l → literal_value a (now_literal d l) ≡ state_bit (latch_bits (net d) a) l
+pub now_bit : (d : Circuit) (a : Valuation) (l : ℕ) → IsLiteral (length d.latches) l → literal_value a (now_literal d l) ≡ state_bit (latch_bits (net d) a) l
 now_bit d a l h =
     let at : get_or (latch_bits (net d) a) (l / 2 - 1) false ≡ a (suc d.inputs + (l / 2 - 1)) = get_or-bits_from (suc d.inputs) (length d.latches) a (l / 2 - 1) (omega (arith, h.0, h.1)) in
     ⊎_elim
@@ -98,16 +97,16 @@ now_bit d a l h =
     ap (literal_value a) is ∙ (literal_value-odd a (suc d.inputs + (l / 2 - 1)) (omega arith) ∙ (ap not (sym at) ∙ sym (state_odd (latch_bits (net d) a) l ne))))
     (cases_eq (l % 2) 0)
 
-outside_bit : (d : Circuit) (a : Assignment) (cube : List ℕ) → All (IsLiteral (length d.latches)) cube → clause_bit a (outside_clause d cube) ≡ not (is_in (latch_bits (net d) a) cube)
+outside_bit : (d : Circuit) (a : Valuation) (cube : List ℕ) → All (IsLiteral (length d.latches)) cube → clause_bit a (outside_clause d cube) ≡ not (is_in (latch_bits (net d) a) cube)
 outside_bit d a [] all = refl
 outside_bit d a (l ∷ ls) all =
-    let own : literal_bit a (negation (now_literal d l)) ≡ not (state_bit (latch_bits (net d) a) l) =
+    let own : literal_value a (negation (now_literal d l)) ≡ not (state_bit (latch_bits (net d) a) l) =
     literal_value-negation a (now_literal d l) ∙ ap not (now_bit d a l (All-head (IsLiteral (length d.latches)) l ls all)) in
     ap₂ ◌||◌ own (outside_bit d a ls (All-tail (IsLiteral (length d.latches)) l ls all))
     ∙ or_not (state_bit (latch_bits (net d) a) l) (is_in (latch_bits (net d) a) ls)
 
 -- the state is in no cube
-pub outside_bits : (d : Circuit) (a : Assignment) (cubes : List (List ℕ)) → AreOver (length d.latches) cubes → formula_bit a (map (outside_clause d) cubes) ≡ is_outside (latch_bits (net d) a) cubes
+pub outside_bits : (d : Circuit) (a : Valuation) (cubes : List (List ℕ)) → AreOver (length d.latches) cubes → formula_bit a (map (outside_clause d) cubes) ≡ is_outside (latch_bits (net d) a) cubes
 outside_bits d a [] all = refl
 outside_bits d a (cube ∷ cubes) all =
     ap₂ ◌&&◌ (outside_bit d a cube (All-head (All (IsLiteral (length d.latches))) cube cubes all))
@@ -115,7 +114,7 @@ outside_bits d a (cube ∷ cubes) all =
 
 -- ---- the next state
 
-taken_bit : (a : Assignment) (ls : List Latch) (k : ℕ) → literal_value a (get_or (map (λ latch. latch.next) ls) k 0) ≡ get_or (map (λ latch. literal_value a latch.next) ls) k false
+taken_bit : (a : Valuation) (ls : List Latch) (k : ℕ) → literal_value a (get_or (map (λ latch. latch.next) ls) k 0) ≡ get_or (map (λ latch. literal_value a latch.next) ls) k false
 taken_bit a [] k = refl
 taken_bit a (l ∷ ls) zero = refl
 taken_bit a (l ∷ ls) (suc k) = taken_bit a ls k
@@ -126,25 +125,25 @@ next_even d l e = grind (arith, nat_tests)
 pub next_odd : (d : Circuit) (l : ℕ) → l % 2 ≢ 0 → next_literal d l ≡ negation (over (truth_variable d) (taken_literal d (l / 2 - 1)))
 next_odd d l e = grind (arith, nat_tests)
 
-next_bit : (d : Circuit) (a : Assignment) (l : ℕ) → a (truth_variable d) ≡ true → literal_bit a (next_literal d l) ≡ state_bit (next_state d a) l
+next_bit : (d : Circuit) (a : Valuation) (l : ℕ) → a (truth_variable d) ≡ true → literal_value a (next_literal d l) ≡ state_bit (next_state d a) l
 next_bit d a l on =
     let taken : literal_value a (taken_literal d (l / 2 - 1)) ≡ get_or (next_state d a) (l / 2 - 1) false = taken_bit a d.latches (l / 2 - 1) in
     ⊎_elim
     (λ (e : l % 2 ≡ 0).
-    ap (literal_bit a) (next_even d l e) ∙ (over-value a (truth_variable d) (taken_literal d (l / 2 - 1)) (omega arith) on ∙ (taken ∙ sym (state_even (next_state d a) l e))))
+    ap (literal_value a) (next_even d l e) ∙ (over-value a (truth_variable d) (taken_literal d (l / 2 - 1)) (omega arith) on ∙ (taken ∙ sym (state_even (next_state d a) l e))))
     (λ (ne : l % 2 ≢ 0).
-    ap (literal_bit a) (next_odd d l ne) ∙ (not-over a (truth_variable d) (taken_literal d (l / 2 - 1)) (omega arith) on ∙ (ap not taken ∙ sym (state_odd (next_state d a) l ne))))
+    ap (literal_value a) (next_odd d l ne) ∙ (not-over a (truth_variable d) (taken_literal d (l / 2 - 1)) (omega arith) on ∙ (ap not taken ∙ sym (state_odd (next_state d a) l ne))))
     (cases_eq (l % 2) 0)
 
 -- where the variable is true, the next state is in the cube
-next_bits : (d : Circuit) (a : Assignment) (v : ℕ) (cube : List ℕ) → 0 < v → a (truth_variable d) ≡ true → formula_bit a (next_clauses d v cube) ≡ (not (a v) || is_in (next_state d a) cube)
+next_bits : (d : Circuit) (a : Valuation) (v : ℕ) (cube : List ℕ) → 0 < v → a (truth_variable d) ≡ true → formula_bit a (next_clauses d v cube) ≡ (not (a v) || is_in (next_state d a) cube)
 next_bits d a v cube h on = by cube ∙ two_all (not (a v)) (state_bit (next_state d a)) cube
   where
     by : (ls : List ℕ) → formula_bit a (next_clauses d v ls) ≡ list_all (λ l. two (not (a v)) (state_bit (next_state d a) l)) ls
     by [] = refl
     by (l ∷ ls) = ap₂ ◌&&◌ (ap₂ two (literal_value-odd a v h) (next_bit d a l on)) (by ls)
 
-nexts_split : (d : Circuit) (a : Assignment) (v : ℕ) (cube : List ℕ) (cubes : List (List ℕ)) → 0 < v → a (truth_variable d) ≡ true
+nexts_split : (d : Circuit) (a : Valuation) (v : ℕ) (cube : List ℕ) (cubes : List (List ℕ)) → 0 < v → a (truth_variable d) ≡ true
     → formula_bit a (nexts_clauses d v (cube ∷ cubes)) ≡ ((not (a v) || is_in (next_state d a) cube) && formula_bit a (nexts_clauses d (suc v) cubes))
 nexts_split d a v cube cubes h on =
     list_all-append (clause_bit a) (next_clauses d v cube) (nexts_clauses d (suc v) cubes)
@@ -158,7 +157,7 @@ pub from_more : (v count : ℕ) → literals_from v (suc count) ≡ (2 * v) ∷ 
 from_more v count = let e : v + 1 ≡ suc v = omega arith in ap (λ (k : ℕ). (2 * v) ∷ literals_from k count) e
 
 -- where the next state is in no cube, none of the variables is true
-pub nexts_hold : (d : Circuit) (a : Assignment) (v : ℕ) (cubes : List (List ℕ)) → 0 < v → a (truth_variable d) ≡ true → formula_bit a (nexts_clauses d v cubes) ≡ true
+pub nexts_hold : (d : Circuit) (a : Valuation) (v : ℕ) (cubes : List (List ℕ)) → 0 < v → a (truth_variable d) ≡ true → formula_bit a (nexts_clauses d v cubes) ≡ true
     → is_outside (next_state d a) cubes ≡ true → clause_bit a (literals_from v (length cubes)) ≡ false
 nexts_hold d a v [] h on all out = refl
 nexts_hold d a v (cube ∷ cubes) h on all out =
@@ -173,23 +172,23 @@ nexts_hold d a v (cube ∷ cubes) h on all out =
     none_of false c h out = refl
 
 -- each variable says whether the next state is in its cube
-abbrev pub TellNext : Circuit → Assignment → ℕ → List (List ℕ) → Type 0
+abbrev pub TellNext : Circuit → Valuation → ℕ → List (List ℕ) → Type 0
 TellNext d a v cubes = (i : ℕ) → i < length cubes → a (v + i) ≡ is_in (next_state d a) (get_or cubes i [])
 
-tell_first : (d : Circuit) (a : Assignment) (v : ℕ) (cube : List ℕ) (cubes : List (List ℕ)) → TellNext d a v (cube ∷ cubes) → a v ≡ is_in (next_state d a) cube
+tell_first : (d : Circuit) (a : Valuation) (v : ℕ) (cube : List ℕ) (cubes : List (List ℕ)) → TellNext d a v (cube ∷ cubes) → a v ≡ is_in (next_state d a) cube
 tell_first d a v cube cubes tell = let e : v ≡ v + 0 = omega arith in ap a e ∙ tell 0 (omega arith)
 
-tell_rest : (d : Circuit) (a : Assignment) (v : ℕ) (cube : List ℕ) (cubes : List (List ℕ)) → TellNext d a v (cube ∷ cubes) → TellNext d a (suc v) cubes
+tell_rest : (d : Circuit) (a : Valuation) (v : ℕ) (cube : List ℕ) (cubes : List (List ℕ)) → TellNext d a v (cube ∷ cubes) → TellNext d a (suc v) cubes
 tell_rest d a v cube cubes tell i h = let e : suc v + i ≡ v + suc i = omega arith in ap a e ∙ tell (suc i) (omega arith)
 
-pub nexts_pass : (d : Circuit) (a : Assignment) (v : ℕ) (cubes : List (List ℕ)) → 0 < v → a (truth_variable d) ≡ true → TellNext d a v cubes → formula_bit a (nexts_clauses d v cubes) ≡ true
+pub nexts_pass : (d : Circuit) (a : Valuation) (v : ℕ) (cubes : List (List ℕ)) → 0 < v → a (truth_variable d) ≡ true → TellNext d a v cubes → formula_bit a (nexts_clauses d v cubes) ≡ true
 nexts_pass d a v [] h on tell = refl
 nexts_pass d a v (cube ∷ cubes) h on tell =
     let own : (not (a v) || is_in (next_state d a) cube) ≡ true =
     ap (λ (b : Bool). not b || is_in (next_state d a) cube) (tell_first d a v cube cubes tell) ∙ not_or_self (is_in (next_state d a) cube) in
     nexts_split d a v cube cubes h on ∙ ap₂ ◌&&◌ own (nexts_pass d a (suc v) cubes (omega arith) on (tell_rest d a v cube cubes tell))
 
-pub some_next : (d : Circuit) (a : Assignment) (v : ℕ) (cubes : List (List ℕ)) → 0 < v → TellNext d a v cubes → clause_bit a (literals_from v (length cubes)) ≡ not (is_outside (next_state d a) cubes)
+pub some_next : (d : Circuit) (a : Valuation) (v : ℕ) (cubes : List (List ℕ)) → 0 < v → TellNext d a v cubes → clause_bit a (literals_from v (length cubes)) ≡ not (is_outside (next_state d a) cubes)
 some_next d a v [] h tell = refl
 some_next d a v (cube ∷ cubes) h tell =
     ap (clause_bit a) (from_more v (length cubes))

@@ -6,13 +6,12 @@ use Rattle.std.proofs.lemmas.List.Folds.{list_all-append}
 use Rattle.std.proofs.lemmas.List.Elements.{All-nil, All-cons, All-head, All-tail}
 use Rattle.aiger.specs.declared.circuit.Gate.{Gate}
 use Rattle.aiger.specs.declared.circuit.Latch.{Latch}
-use Rattle.aiger.specs.Literal.{Valuation, literal_value}
+use Rattle.base.specs.Literal.{Valuation, literal_value}
 use Rattle.aiger.specs.Net.{Satisfies, SatisfiesFrom, AreOrderedFrom, IsDefined, input_bits, latch_bits}
 use Rattle.aiger.specs.Circuit.{Circuit, IsCircuit, net}
 use Rattle.aiger.specs.Trace.{IsFrame, next_state}
-use Rattle.aiger.proofs.NetLemmas.{literal_value-even, literal_value-odd}
+use Rattle.base.proofs.LiteralLemmas.{literal_value-even, literal_value-odd}
 use Rattle.aiger.proofs.TraceLemmas.{AgreeBelow, literal_value-agree, bits_from-agree}
-use Rattle.clauses.specs.Literal.{Assignment, literal_bit}
 use Rattle.clauses.specs.Formula.{IsUnsatisfiable}
 use Rattle.invariants.specs.Invariants.{AreOver, is_in, is_outside, bad_literal, Keeps, IsInductive}
 use Rattle.invariants.specs.Obligation.{truth_variable, rise_variable, cube_variable, over, gates_clauses, outside_clause, nexts_clauses, rise_clause, fails_clause, now_clauses, failing_clauses, obligation_clauses, obligation}
@@ -20,7 +19,7 @@ use Rattle.invariants.proofs.BitLemmas.{formula_bit, clause_bit, formula_true, f
 use Rattle.invariants.proofs.ClauseLemmas.{over-value, gates_hold, gates_pass, outside_bits, literals_from, nexts_hold, TellNext, nexts_pass, some_next}
 
 -- the parts of an obligation
-record Parts (d : Circuit) (cubes : List (List ℕ)) (a : Assignment) : Type 0 where
+record Parts (d : Circuit) (cubes : List (List ℕ)) (a : Valuation) : Type 0 where
   truth : a (truth_variable d) ≡ true
   gates : formula_bit a (gates_clauses (truth_variable d) (suc (d.inputs + length d.latches)) d.gates) ≡ true
   outside : formula_bit a (map (outside_clause d) cubes) ≡ true
@@ -28,10 +27,10 @@ record Parts (d : Circuit) (cubes : List (List ℕ)) (a : Assignment) : Type 0 w
   nexts : formula_bit a (nexts_clauses d (cube_variable d) cubes) ≡ true
   fails : clause_bit a (fails_clause d (length cubes)) ≡ true
 
-truth_bit : (d : Circuit) (a : Assignment) → clause_bit a ((2 * truth_variable d) ∷ []) ≡ a (truth_variable d)
-truth_bit d a = one_is (literal_bit a (2 * truth_variable d)) ∙ literal_value-even a (truth_variable d) (omega arith)
+truth_bit : (d : Circuit) (a : Valuation) → clause_bit a ((2 * truth_variable d) ∷ []) ≡ a (truth_variable d)
+truth_bit d a = one_is (literal_value a (2 * truth_variable d)) ∙ literal_value-even a (truth_variable d) (omega arith)
 
-parted : (d : Circuit) (cubes : List (List ℕ)) (a : Assignment) → formula_bit a (obligation_clauses d cubes) ≡ true → Parts d cubes a
+parted : (d : Circuit) (cubes : List (List ℕ)) (a : Valuation) → formula_bit a (obligation_clauses d cubes) ≡ true → Parts d cubes a
 parted d cubes a all =
     let gates : List (List ℕ) = gates_clauses (truth_variable d) (suc (d.inputs + length d.latches)) d.gates in
     let outs : List (List ℕ) = map (outside_clause d) cubes in
@@ -51,7 +50,7 @@ parted d cubes a all =
       fails = (and_parts (clause_bit a (fails_clause d (length cubes))) true fourth.1).0;
     }
 
-joined : (d : Circuit) (cubes : List (List ℕ)) (a : Assignment) → Parts d cubes a → formula_bit a (obligation_clauses d cubes) ≡ true
+joined : (d : Circuit) (cubes : List (List ℕ)) (a : Valuation) → Parts d cubes a → formula_bit a (obligation_clauses d cubes) ≡ true
 joined d cubes a p =
     let gates : List (List ℕ) = gates_clauses (truth_variable d) (suc (d.inputs + length d.latches)) d.gates in
     let outs : List (List ℕ) = map (outside_clause d) cubes in
@@ -62,12 +61,12 @@ joined d cubes a p =
     list_all-append (clause_bit a) (now_clauses d cubes) (failing_clauses d cubes) ∙ ap₂ ◌&&◌ now failing
 
 -- what the clause of the bad property says
-rise_bit : (d : Circuit) (a : Assignment) → a (truth_variable d) ≡ true → clause_bit a (rise_clause d) ≡ (not (a (rise_variable d)) || literal_value a (bad_literal d))
+rise_bit : (d : Circuit) (a : Valuation) → a (truth_variable d) ≡ true → clause_bit a (rise_clause d) ≡ (not (a (rise_variable d)) || literal_value a (bad_literal d))
 rise_bit d a on =
     ap₂ two (literal_value-odd a (rise_variable d) (omega arith)) (over-value a (truth_variable d) (bad_literal d) (omega arith) on)
     ∙ ap (λ (b : Bool). not (a (rise_variable d)) || b) (one_is (literal_value a (bad_literal d)))
 
-fails_bit : (d : Circuit) (count : ℕ) (a : Assignment) → clause_bit a (fails_clause d count) ≡ (a (rise_variable d) || clause_bit a (literals_from (cube_variable d) count))
+fails_bit : (d : Circuit) (count : ℕ) (a : Valuation) → clause_bit a (fails_clause d count) ≡ (a (rise_variable d) || clause_bit a (literals_from (cube_variable d) count))
 fails_bit d count a = ap (λ (b : Bool). b || clause_bit a (literals_from (cube_variable d) count)) (literal_value-even a (rise_variable d) (omega arith))
 
 -- ---- what satisfies it is a step that leaves the invariant
@@ -99,7 +98,7 @@ satisfied_agree first (g ∷ gs) v w low o a s =
     (sym h ∙ (s.0 ∙ ap₂ ◌&&◌ l r), satisfied_agree (suc first) gs v w (omega arith) o.2 (λ k one high. a k one (omega arith)) s.1)
 
 -- the assignment of a frame: its valuation, then true, whether the bad property rises, and for each cube whether the next state is in it
-abbrev assigned : Circuit → List (List ℕ) → Valuation → Assignment
+abbrev assigned : Circuit → List (List ℕ) → Valuation → Valuation
 assigned d cubes v k =
     if nat_lt k (truth_variable d) then v k
     else (if k == truth_variable d then true
@@ -143,7 +142,7 @@ bad_below d (b ∷ bads) all = let h : IsDefined (net d) b = All-head (IsDefined
 framed : (d : Circuit) (cubes : List (List ℕ)) (state input : List Bool) (v : Valuation) → IsCircuit d → AreOver (length d.latches) cubes → IsFrame d state input v → is_outside state cubes ≡ true
     → (literal_value v (bad_literal d) || not (is_outside (next_state d v) cubes)) ≡ true → formula_bit (assigned d cubes v) (obligation_clauses d cubes) ≡ true
 framed d cubes state input v valid over frame out leaves =
-    let a : Assignment = assigned d cubes v in
+    let a : Valuation = assigned d cubes v in
     let agree : AgreeBelow (truth_variable d) v a = λ k low high. assigned-below d cubes v k high in
     let on : a (truth_variable d) ≡ true = assigned-truth d cubes v in
     let gates : Satisfies (net d) a = satisfied_agree (suc (d.inputs + length d.latches)) d.gates v a (omega arith) valid.ordered (λ k low high. agree k low (omega arith)) frame.gates in

@@ -5,7 +5,7 @@ use Rattle.std.specs.Io.KnownBytes.{prepend_known, Keeps, Consumes, IsAtEnd}
 use Rattle.std.proofs.lemmas.List.{append_assoc, append-nil}
 use Rattle.std.proofs.lemmas.List.Elements.{All-nil, All-cons, All-head, All-tail, All-append}
 use Rattle.std.proofs.lemmas.Bool.{cases_Bool}
-use Rattle.base.specs.Lines.{IsLine, whole_lines, unfinished}
+use Rattle.base.specs.Lines.{IsLine, whole_lines, unfinished, line_after}
 use Rattle.std.specs.Prelude.{IfOk, IfErr}
 use Rattle.base.specs.Held.{Held, Advances}
 use Rattle.base.proofs.LineLemmas.{whole_lines-line, unfinished-line, whole_lines-last, unfinished-last}
@@ -14,7 +14,7 @@ use Rattle.invariants.specs.declared.why.InvariantWhy.{InvariantWhy}
 use Rattle.invariants.specs.declared.why.InvariantWhy.TheVariants as why
 use Rattle.invariants.specs.declared.why.InvariantFault.{InvariantFault}
 use Rattle.invariants.specs.Invariants.{asks_one}
-use Rattle.invariants.specs.Reading.{Reading, is_part, part_of, cube_of, plain_cube, asking, cube_or_why, with_cube, admit, line_after, ended, read_lines}
+use Rattle.invariants.specs.Reading.{Reading, is_part, part_of, cube_of, plain_cube, asking, cube_or_why, with_cube, admit, ended, read_lines}
 use Rattle.invariants.specs.Reader.{Lines, left, Gives, Agree}
 
 -- ---- cubes

@@ -8,10 +8,11 @@ use Rattle.std.proofs.lemmas.List.Elements.{All-nil, All-cons, All-head, All-tai
 use Rattle.aiger.specs.declared.circuit.Latch.{Latch}
 use Rattle.aiger.specs.declared.circuit.Reset.{Reset}
 use Rattle.aiger.specs.declared.circuit.Reset.TheVariants.{Zero}
-use Rattle.aiger.specs.Literal.{Valuation, literal_value}
+use Rattle.base.specs.Literal.{Valuation, literal_value}
 use Rattle.aiger.specs.Circuit.{Circuit, IsCircuit}
 use Rattle.aiger.specs.Trace.{AgreesWithReset, AreInitial, IsTrace, next_state}
-use Rattle.aiger.specs.Reachability.{circuit_shows, rises_within, CanRiseInCircuit}
+use Rattle.base.specs.Shown.{rises_within}
+use Rattle.aiger.specs.Reachability.{circuit_shows, CanRiseInCircuit}
 use Rattle.clauses.specs.Formula.{IsUnsatisfiable}
 use Rattle.invariants.specs.Invariants.{AreOver, state_bit, is_in, is_outside, asks_one, bad_literal, IsInductive}
 use Rattle.invariants.specs.Obligation.{obligation}

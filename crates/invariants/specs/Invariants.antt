@@ -3,7 +3,7 @@
 -- cubes is reached.
 use Rattle.std.specs.Prelude.{◌≡◌, ℕ, ◌-◌, ◌/◌, ◌%◌, Bool, true, false, not, ◌==◌, List, All, slice_index_or, if◌then◌else◌}
 use Rattle.std.specs.List.{list_all, list_any}
-use Rattle.aiger.specs.Literal.{Valuation, literal_value}
+use Rattle.base.specs.Literal.{Valuation, literal_value}
 use Rattle.aiger.specs.Circuit.{Circuit}
 use Rattle.aiger.specs.Trace.{IsFrame, next_state}
 use Rattle.clauses.specs.Formula.{IsLiteral}

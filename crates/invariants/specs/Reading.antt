@@ -4,7 +4,7 @@
 use Rattle.std.specs.Prelude.{◌≡◌, ℕ, suc, pred, ◌+◌, ◌-◌, ◌*◌, ◌^◌, min, Bool, true, false, not, ◌&&◌, ◌||◌, ◌==◌, nat_eq, nat_lt, List, [], ◌∷◌, ◌++◌, length, Option, None, Some, Result, Ok, Err, codes, if◌then◌else◌}
 use Rattle.std.specs.List.{list_all, list_any}
 use Rattle.std.specs.Str.{bytes_eq}
-use Rattle.base.specs.Lines.{whole_lines, unfinished, onto_first}
+use Rattle.base.specs.Lines.{whole_lines, unfinished, onto_first, line_after}
 use Rattle.base.specs.Decimals.{number_of}
 use Rattle.invariants.specs.declared.expected.Expected.{Expected}
 use Rattle.invariants.specs.declared.expected.Expected.TheVariants as expect
@@ -185,10 +185,6 @@ abbrev pub admit : ℕ → Reading → List ℕ → Result Reading InvariantWhy
 admit latches r line = if is_passed line then Ok r else with_line r.expected latches r line
 
 -- ---- texts
-
--- the number of the line behind line n, told up to 2 ^ 64 - 1
-abbrev pub line_after : ℕ → ℕ
-line_after n = min (n + 1) (2 ^ 64 - 1)
 
 -- whether the end was told
 abbrev pub is_ended : Expected → Bool

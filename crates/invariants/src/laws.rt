@@ -2,7 +2,7 @@
 ghost use Rattle.std.specs.Prelude.{◌≡◌, ℕ, Bool, true, false, List, [], ◌∷◌, Option, Some, Ok, Err, length, replicate, All, codes};
 ghost use Rattle.std.specs.List.{list_all};
 ghost use Rattle.aiger.specs.declared.circuit.Reset.TheVariants.{Zero};
-ghost use Rattle.aiger.specs.Literal.{Valuation, literal_value};
+ghost use Rattle.base.specs.Literal.{Valuation, literal_value};
 ghost use Rattle.aiger.specs.Circuit.{Circuit, IsCircuit};
 ghost use Rattle.aiger.specs.Trace.{IsTrace};
 ghost use Rattle.aiger.specs.Reachability.{CanRiseInCircuit};

@@ -2,7 +2,7 @@
 ghost use Rattle.std.specs.Prelude.{◌≡◌, ℕ, suc, ◌+◌, ◌*◌, ◌<◌, ◌≤◌, [], ◌∷◌, length, map, All, IfOk, OnOk, slice_index_or};
 ghost use Rattle.std.specs.List.{range_with_len};
 ghost use Rattle.aiger.specs.Circuit.{IsCircuit};
-ghost use Rattle.clauses.specs.Literal.{negation};
+ghost use Rattle.base.specs.Literal.{negation};
 ghost use Rattle.clauses.specs.Formula.{IsLiteral};
 ghost use Rattle.invariants.specs.Invariants.{AreOver, bad_literal};
 ghost use Rattle.invariants.specs.Obligation.{over, gate_clauses, gates_clauses, now_literal, outside_clause, truth_variable, rise_variable, cube_variable, next_literal, next_clauses, nexts_clauses, fails_clause, now_clauses, failing_clauses, obligation_clauses, obligation};

@@ -10,26 +10,29 @@ use Rattle.base.proofs.LineLemmas.{EachLine, lines_of_text}
 use Rattle.btor2.specs.declared.item.Item.{Item}
 use Rattle.btor2.specs.Items.{is_bad}
 use Rattle.btor2.specs.Trace.{Frame, IsTrace, IsInitial}
+use Rattle.btor2.specs.Reachability.{nodes_of, model_shows}
 use Rattle.btor2.proofs.InitLemmas.{init_word_below, inits_hold}
-use Rattle.aiger.specs.Literal.{Valuation}
+use Rattle.base.specs.Literal.{Valuation}
 use Rattle.aiger.specs.declared.circuit.Section.TheVariants as section
 use Rattle.aiger.specs.Circuit.{Circuit}
 use Rattle.aiger.specs.Trace.{IsTrace as IsCircuitTrace}
+use Rattle.aiger.specs.Reachability.{circuit_shows}
 use Rattle.aiger.proofs.SectionNameLemmas.{length-section_names}
 use Rattle.blast.specs.Cost.{carried_width}
 use Rattle.blast.specs.Leaves.{by_body, of_kind, own_name, input_bits, state_bits}
-use Rattle.blast.specs.Lowering.{Lowers, ShowSame}
+use Rattle.blast.specs.Lowering.{Lowers}
 use Rattle.blast.proofs.LowerAssembly.{length-state_resets}
+use Rattle.blast.proofs.ReachLemmas.{shows_equal}
 use Rattle.base.proofs.DecimalLemmas.{decimal_without}
 use Rattle.witness.specs.declared.why.Why.{Why}
 use Rattle.witness.specs.declared.judgement.Judgement.{Judgement}
 use Rattle.witness.specs.Texts.{Witness, shape_of, is_comment, most_lines, witness_lines, Says}
 use Rattle.witness.specs.Admits.{Read, read_text, witness_of}
-use Rattle.witness.specs.Judgements.{words_of, initial_words, given_frames, nodes_of, first_different, verdict, makes_no_claim, JudgesWords, Judges}
+use Rattle.witness.specs.Judgements.{words_of, initial_words, given_frames, first_different, verdict, makes_no_claim, JudgesWords, Judges}
 use Rattle.witness.specs.BitTexts.{BitWitness, bit_line, bit_witness_lines, BitSays}
 use Rattle.witness.specs.Readings.{Reading, lines_read, reading, read_or_fault}
 use Rattle.witness.specs.BitAdmits.{BitRead, is_done, bit_reader, read_bit_text, bit_witness_of, admitted_lines}
-use Rattle.witness.specs.BitJudgements.{makes_no_bit_claim, bit_verdict, JudgesBits, BitJudges}
+use Rattle.witness.specs.BitJudgements.{first_reset_differing, makes_no_bit_claim, JudgesBits, BitJudges}
 use Rattle.witness.proofs.JudgedLemmas.{judged_says, read_judged}
 use Rattle.witness.proofs.BitReadLemmas.{bits_are_a_line}
 use Rattle.witness.proofs.FrameLemmas.{bad_names, length-nodes}
@@ -159,16 +162,22 @@ module _ (named : Bool) (items : List Item) (c : Circuit) (text : List ℕ) (b :
       (subst (λ (i : List (List Bool)). IsCircuitTrace c b.initial i vs) (sym (given_again named items b l.well_formed frames_wide)) trace)
 
   shown_same : (fs : List Frame) (vs : List Valuation) → IsTrace items (initial_words items (words_lifted named items b)) (given_frames items (words_lifted named items b)) fs → IsCircuitTrace c b.initial b.frames vs
-      → first_different items (initial_words items (words_lifted named items b)) ≡ None → ShowSame items c fs vs
+      → first_different items (initial_words items (words_lifted named items b)) ≡ None → map (model_shows items) fs ≡ map (circuit_shows c) vs
   shown_same fs vs trace bits none =
       let initial : IsInitial items (initial_words items (words_lifted named items b)) =
       record { fits = initial_fits named items b l.well_formed says.valid.some_frame; inits = inits_hold items (initial_words items (words_lifted named items b)) l.well_formed (init_agrees items (initial_words items (words_lifted named items b)) l.well_formed none) } in
-      l.frames (initial_words items (words_lifted named items b)) (given_frames items (words_lifted named items b)) initial (given_fit named items b) fs trace vs (lowered_trace vs bits)
+      shows_equal items c fs vs (l.frames (initial_words items (words_lifted named items b)) (given_frames items (words_lifted named items b)) initial (given_fit named items b) fs trace vs (lowered_trace vs bits))
+
+  abbrev bits_verdict : List Valuation → Judgement
+  bits_verdict vs = verdict (first_reset_differing 0 c.latches b.initial) (b.claim ∷ []) (length c.bads) (map (circuit_shows c) vs)
+
+  abbrev words_verdict : List Frame → Judgement
+  words_verdict fs = verdict (first_different items (initial_words items (words_lifted named items b))) (b.claim ∷ []) (length (nodes_of is_bad items)) (map (model_shows items) fs)
 
   verdicts_same : (fs : List Frame) (vs : List Valuation) → IsTrace items (initial_words items (words_lifted named items b)) (given_frames items (words_lifted named items b)) fs → IsCircuitTrace c b.initial b.frames vs
-      → IsSameVerdict items (bit_verdict c b vs) (verdict items (words_lifted named items b) fs)
+      → IsSameVerdict items (bits_verdict vs) (words_verdict fs)
   verdicts_same fs vs trace bits =
-      same_verdict items c b (words_lifted named items b) fs vs refl says.valid.claim (omega (arith, says.valid.claim, bads_count items c l, bad_nodes items))
+      same_verdict items b.claim (length c.bads) (length (nodes_of is_bad items)) _ _ (map (circuit_shows c) vs) (map (model_shows items) fs) says.valid.claim (omega (arith, says.valid.claim, bads_count items c l, bad_nodes items))
       (latch_belongs items c.latches (initial_words items (words_lifted named items b)) b.initial (λ id k e. init_word_below items id k l.well_formed e) (λ id. initial_below named items b id l.well_formed says.valid.some_frame) l.resets
       (initial_again named items b l.well_formed says.valid.some_frame initial_wide))
       (shown_same fs vs trace bits)
@@ -200,9 +209,9 @@ module _ (named : Bool) (items : List Item) (c : Circuit) (text : List ℕ) (b :
       → IsTrace items (initial_words items (words_lifted named items b)) (given_frames items (words_lifted named items b)) fs → IsCircuitTrace c b.initial b.frames vs
       → BitJudges c text j → Judges items (lifted_with named items c text) k → IsSameVerdict items j k
   kept_verdict j k r q fs vs bits is read own trace bit_trace h g =
-      let first : j ≡ bit_verdict c b vs = judged_bits j r bits is h vs bit_trace in
-      let second : k ≡ verdict items (words_lifted named items b) fs = judged_words k r q bits read own g fs trace in
-      subst (λ (x : Judgement). IsSameVerdict items x k) (sym first) (subst (IsSameVerdict items (bit_verdict c b vs)) (sym second) (verdicts_same fs vs trace bit_trace))
+      let first : j ≡ bits_verdict vs = judged_bits j r bits is h vs bit_trace in
+      let second : k ≡ words_verdict fs = judged_words k r q bits read own g fs trace in
+      subst (λ (x : Judgement). IsSameVerdict items x k) (sym first) (subst (IsSameVerdict items (bits_verdict vs)) (sym second) (verdicts_same fs vs trace bit_trace))
 
 -- by the laws on texts that are read and on traces
 pub keeps_verdict : (named : Bool) (items : List Item) (c : Circuit) (text : List ℕ) (j : Judgement) → Lowers items c → BitJudges c text j

@@ -6,7 +6,7 @@ use Rattle.std.proofs.lemmas.List.Concat.{flat_map-append}
 use Rattle.base.specs.Device.{BeginsWith}
 use Rattle.base.specs.Lines.{text_of_lines, whole_lines, unfinished}
 use Rattle.base.proofs.LineLemmas.{whole_lines-lines, lines_are_lines}
-use Rattle.aiger.specs.Literal.{Valuation}
+use Rattle.base.specs.Literal.{Valuation}
 use Rattle.aiger.specs.Circuit.{Circuit}
 use Rattle.aiger.specs.Trace.{next_state}
 use Rattle.engine.specs.EngineForm.{begins, all_hold}

@@ -6,33 +6,35 @@ use Rattle.std.proofs.lemmas.Bool.Decides.{nat_tests}
 use Rattle.std.proofs.lemmas.List.{length-map, length-replicate}
 use Rattle.std.proofs.lemmas.List.Elements.{All-nil, All-cons}
 use Rattle.base.specs.Lines.{text_of_lines, whole_lines, unfinished}
+use Rattle.base.specs.Shown.{Shown}
+use Rattle.aiger.specs.Reachability.{circuit_shows}
 use Rattle.aiger.specs.declared.circuit.Latch.{Latch}
 use Rattle.aiger.specs.declared.circuit.Reset.TheVariants as reset
-use Rattle.aiger.specs.Literal.{Valuation, literal_value}
+use Rattle.base.specs.Literal.{Valuation, literal_value}
 use Rattle.aiger.specs.Circuit.{Circuit, IsCircuit}
 use Rattle.aiger.specs.Trace.{IsTrace}
 use Rattle.engine.specs.EngineForm.{begins, input_count, chosen, has_chosen, ShowSame, IsEngineFormOf}
 use Rattle.witness.specs.declared.judgement.Judgement.{Judgement}
 use Rattle.witness.specs.declared.judgement.Judgement.TheVariants as judgement
 use Rattle.witness.specs.declared.why.Why.{Why}
-use Rattle.witness.specs.Judgements.{Violation, first_of, JudgesAs}
+use Rattle.witness.specs.Judgements.{Violation, first_of, JudgesAs, violation_from, unreached_from, verdict}
 use Rattle.witness.specs.Texts.{most_lines}
 use Rattle.witness.specs.Readings.{Reading, Fault, refused_for, read_or_fault, last_refusal, is_nothing, reading}
 use Rattle.witness.specs.BitTexts.{BitWitness, bit_line, bit_witness_lines, BitSays}
 use Rattle.witness.specs.BitAdmits.{BitRead, bit_reader, is_done, read_bit_text, bit_witness_of}
-use Rattle.witness.specs.BitJudgements.{first_reset_differing, bit_violation_from, bit_rises, bit_verdict, makes_no_bit_claim, JudgesBits, BitJudges}
+use Rattle.witness.specs.Fits.{breach_from}
+use Rattle.witness.specs.BitPlays.{first_bit_violated, bit_rises}
+use Rattle.witness.specs.BitJudgements.{first_reset_differing, makes_no_bit_claim, JudgesBits, BitJudges}
+use Rattle.witness.proofs.JudgedLemmas.{accepted_reads}
+use Rattle.witness.proofs.ShownLemmas.{bits_verdict}
 use Rattle.restore.specs.Counterexample.{HasProperty, place_in, first_bad}
 use Rattle.restore.specs.Restored.{opening, written_frames, restored_witness}
 use Rattle.restore.specs.FormWitness.{property_of, frame_lines, last_line, read_restored, form_restored_text, told_of, FormJudges, IsFoundAgain}
-use Rattle.restore.proofs.RiseLemmas.{Reads, says_of, accepted_of, many_lines}
+use Rattle.witness.proofs.BitReadLemmas.{many_lines}
+use Rattle.restore.proofs.RiseLemmas.{says_of, accepted_of}
 use Rattle.restore.proofs.RestoredLemmas as frames
 
 -- ---- what an accepted text reads as
-
-accepted_reads : (Says : BitRead → Judgement → Type 0) (none : Bool) (read : Result BitRead Fault) (m : ℕ) → JudgesAs Says none read (judgement.Accepted m) → (r : BitRead) × ((read ≡ Ok r) × Says r (judgement.Accepted m))
-accepted_reads Says true read m h = absurd cc
-accepted_reads Says false (Err e) m h = absurd cc
-accepted_reads Says false (Ok r) m h = (r, (refl, h))
 
 -- a text that is read ends with the last line
 read_last : (ended : Bool) (n : ℕ) (empty : Bool) (g : Reading BitRead) (r : BitRead) → refused_for g (last_refusal ended n empty) ≡ Ok r → (g.read ≡ r) × (ended ≡ true)
@@ -129,17 +131,18 @@ restored_as c choice d text r is some =
     ∙ ap (λ (b : Bool). text_of_lines (frame_lines c (property_of choice r.claim) r.frames ++ last_line b)) whole.1
     ∙ ap text_of_lines (lines_of c (property_of choice r.claim) r.frames some)
 
-pub found_again : (c : Circuit) (choice : Option ℕ) (d : Circuit) (text : List ℕ) (m : ℕ) → Reads → ((c : Circuit) (text : List ℕ) (r : BitRead) → IsCircuit c → read_bit_text c text ≡ Ok r → BitSays c text (bit_witness_of r)) → HasTraces
+pub found_again : (c : Circuit) (choice : Option ℕ) (d : Circuit) (text : List ℕ) (m : ℕ) → ((c : Circuit) (text : List ℕ) (r : BitRead) → IsCircuit c → read_bit_text c text ≡ Ok r → BitSays c text (bit_witness_of r)) → HasTraces
     → IsEngineFormOf c choice d → BitJudges d text (judgement.Accepted m) → IsFoundAgain c choice d text
-found_again c choice d text m reads said traces form accepted =
+found_again c choice d text m said traces form accepted =
     let read = accepted_reads (λ (r : BitRead). JudgesBits d (bit_witness_of r)) (makes_no_bit_claim (whole_lines text)) (read_bit_text d text) m accepted in
-    let r : BitRead = read.0 in
+    let r : BitRead = read.what in
     let w : BitWitness = bit_witness_of r in
-    let says : BitSays d text w = said d text r form.circuit read.1.0 in
+    let says : BitSays d text w = said d text r form.circuit read.is in
     let some : r.frames ≢ [] = says.valid.some_frame in
     let trace = traces d w.initial w.frames form.circuit says.valid.initial says.valid.frames in
     let ws : List Valuation = trace.0 in
-    let verdict = reset_of (first_reset_differing 0 d.latches w.initial) (bit_violation_from d 0 ws) (bit_rises d w.claim ws) w.claim (length ws) m (read.1.1 ws trace.1) in
+    let verdict = reset_of (first_reset_differing 0 d.latches w.initial) (breach_from (first_bit_violated d) 0 ws) (bit_rises d w.claim ws) w.claim (length ws) m
+        (read.judged ws trace.1 ∙ sym (bits_verdict d (first_reset_differing 0 d.latches w.initial) w.claim ws says.valid.claim)) in
     let zeros : w.initial ≡ replicate (length d.latches) false = all_zero 0 _ d.latches w.initial form.resets says.valid.initial verdict.0 in
     let begun : IsTrace d (replicate (length d.latches) false) w.frames ws = subst (λ (s : List Bool). IsTrace d s w.frames ws) zeros trace.1 in
     let wide : All (λ bits. length bits ≡ input_count c) w.frames = subst (λ (n : ℕ). All (λ bits. length bits ≡ n) w.frames) form.inputs says.valid.frames in
@@ -150,7 +153,7 @@ found_again c choice d text m reads said traces form accepted =
     let first = some_position (λ v. literal_value v (get_or d.bads w.claim 0)) 0 ws verdict.1 in
     let lines = many_lines w in
     let few : length w.frames + 4 ≤ most_lines = let f = says.few in omega (arith, lines, f) in
-    let spelled = restored_as c choice d text r read.1.0 some in
+    let spelled = restored_as c choice d text r read.is some in
     let at : first_bad d (place_in choice k) ws ≡ Some first.0 = ap (λ (p : ℕ). first_bad d p ws) of.place ∙ first.1 in
     record {
       witness = w;
@@ -160,19 +163,19 @@ found_again c choice d text m reads said traces form accepted =
       last = first.0;
       first = first.1;
       restored = says_of c k (form_restored_text c choice d text) w.frames of.below some wide few spelled;
-      accepted = accepted_of c choice k d (form_restored_text c choice d text) w.frames ws first.0 reads form of.has of.below some wide few spelled begun at;
+      accepted = accepted_of c choice k d (form_restored_text c choice d text) w.frames ws first.0 form of.has of.below some wide few spelled begun at;
     }
 
 -- ---- what is told
 
-verdict_told : (d : Circuit) (w : BitWitness) (vs : List Valuation) (restored : Judgement) → told_of (bit_verdict d w vs) restored ≡ restored
-verdict_told d w vs restored = by (first_reset_differing 0 d.latches w.initial) (bit_violation_from d 0 vs) (bit_rises d w.claim vs)
+verdict_told : (different : Option ℕ) (claims : List ℕ) (bads : ℕ) (shown : List Shown) (restored : Judgement) → told_of (verdict different claims bads shown) restored ≡ restored
+verdict_told different claims bads shown restored = by different (violation_from 0 shown) (unreached_from claims shown 0 bads)
   where
-    by : (o : Option ℕ) (breach : Option Violation) (risen : Bool) → told_of (first_of o breach (cond risen None (Some w.claim)) (length vs)) restored ≡ restored
-    by (Some k) breach risen = refl
-    by None (Some v) risen = refl
-    by None None true = refl
-    by None None false = refl
+    by : (o : Option ℕ) (breach : Option Violation) (unreached : Option ℕ) → told_of (first_of o breach unreached (length shown)) restored ≡ restored
+    by (Some k) breach unreached = refl
+    by None (Some v) unreached = refl
+    by None None (Some i) = refl
+    by None None None = refl
 
 judged_by : (P Q : BitRead → Judgement → Type 0) (none : Bool) (read : Result BitRead Fault) (over restored : Judgement) → ((r : BitRead) → read ≡ Ok r → P r over → told_of over restored ≡ restored) → ((r : BitRead) → Q r restored) → JudgesAs P none read over → JudgesAs Q none read (told_of over restored)
 judged_by P Q true read over restored kind is h = ap (λ (j : Judgement). told_of j restored) h
@@ -188,5 +191,5 @@ form_judged c choice d text over restored said traces valid judged again =
     (λ r is h.
     let says = said d text r valid is in
     let trace = traces d r.initial r.frames valid says.valid.initial says.valid.frames in
-    ap (λ (j : Judgement). told_of j restored) (h trace.0 trace.1) ∙ verdict_told d (bit_witness_of r) trace.0 restored)
+    ap (λ (j : Judgement). told_of j restored) (h trace.0 trace.1) ∙ verdict_told (first_reset_differing 0 d.latches r.initial) (r.claim ∷ []) (length d.bads) (map (circuit_shows d) trace.0) restored)
     (λ r. again) judged

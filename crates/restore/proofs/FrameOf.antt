@@ -5,7 +5,7 @@ use Rattle.std.proofs.lemmas.List.{length-map}
 use Rattle.std.proofs.lemmas.List.Elements.{All-head, All-tail}
 use Rattle.aiger.specs.declared.circuit.Gate.{Gate}
 use Rattle.aiger.specs.declared.circuit.Latch.{Latch}
-use Rattle.aiger.specs.Literal.{Valuation, literal_value}
+use Rattle.base.specs.Literal.{Valuation, literal_value}
 use Rattle.aiger.specs.Net.{SatisfiesFrom, AreOrderedFrom, bits_from}
 use Rattle.aiger.specs.Circuit.{Circuit, IsCircuit}
 use Rattle.aiger.specs.Trace.{IsFrame, IsTrace, next_state}

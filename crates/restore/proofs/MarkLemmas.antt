@@ -4,10 +4,10 @@ use Rattle.std.specs.List.{list_any}
 use Rattle.std.specs.Io.KnownBytes.{prepend_known, Consumes, Keeps, IsAtEnd}
 use Rattle.std.proofs.lemmas.Bool.{or_parts}
 use Rattle.std.proofs.lemmas.List.Folds.{list_any-append}
-use Rattle.base.specs.Lines.{HasNone, IsLine}
+use Rattle.base.specs.Lines.{HasNone, IsLine, line_of, all_lines}
 use Rattle.base.specs.Held.{Held, Advances}
 use Rattle.base.proofs.LineLemmas.{whole_lines-line, unfinished-line, whole_lines-last, unfinished-last}
-use Rattle.restore.specs.Reading.{before_mark, line_of, all_lines}
+use Rattle.restore.specs.Reading.{before_mark}
 use Rattle.restore.specs.Marks.{CutsAtMark, FindsLine}
 use Rattle.restore.specs.Steps.{Takes}
 use Rattle.restore.proofs.ReadingLemmas.{before_front}

@@ -5,7 +5,7 @@ use Rattle.std.proofs.lemmas.Bool.{cases_Bool, eqb-true, eq-eqb, and_parts, or_p
 use Rattle.std.proofs.lemmas.List.{length-map}
 use Rattle.std.proofs.lemmas.List.Folds.{list_any-append}
 use Rattle.std.proofs.lemmas.List.Elements.{All-nil, All-cons, All-head, All-tail}
-use Rattle.base.specs.Lines.{text_of_lines, HasNone, whole_lines, unfinished}
+use Rattle.base.specs.Lines.{text_of_lines, HasNone, whole_lines, unfinished, line_of, all_lines, line_after}
 use Rattle.base.proofs.LineLemmas.{EachLine, whole_lines-line, unfinished-line, whole_lines-last, unfinished-last, parts_of_text, lines_of_text, unfinished_of_text}
 use Rattle.witness.specs.Texts.{digit}
 use Rattle.witness.specs.BitTexts.{bit_line}
@@ -13,7 +13,7 @@ use Rattle.restore.specs.declared.fault.RestoreFault.{RestoreFault}
 use Rattle.restore.specs.declared.fault.RestoreWhy.{RestoreWhy}
 use Rattle.restore.specs.declared.fault.RestoreWhy.TheVariants.{NoFrame, NoBit, WrongLength}
 use Rattle.restore.specs.Counterexample.{IsClosed, IsEnd, joined, SaysFrames}
-use Rattle.restore.specs.Reading.{before_mark, line_of, all_lines, initial_why, frame_why, line_bits, Found, whole, faulty, read_before, unless_wrong, line_after, read_frames, read_lines, read_text}
+use Rattle.restore.specs.Reading.{before_mark, initial_why, frame_why, line_bits, Found, whole, faulty, read_before, unless_wrong, read_frames, read_lines, read_text}
 
 -- ---- lines of bits
 

@@ -9,14 +9,18 @@ use Rattle.std.proofs.lemmas.List.Elements.{All-nil, All-cons, All-head, All-tai
 use Rattle.aiger.specs.declared.circuit.Latch.{Latch}
 use Rattle.aiger.specs.declared.circuit.Reset.{Reset}
 use Rattle.aiger.specs.declared.circuit.Reset.TheVariants as reset
-use Rattle.aiger.specs.Literal.{Valuation, literal_value}
+use Rattle.base.specs.Literal.{Valuation, literal_value}
 use Rattle.aiger.specs.Circuit.{Circuit}
-use Rattle.aiger.specs.Trace.{IsTrace, next_state}
+use Rattle.aiger.specs.Trace.{IsTrace}
+use Rattle.aiger.proofs.TraceLemmas.{trace_length}
 use Rattle.engine.specs.EngineForm.{taken_bits, first_bit, first_bits, begins, chosen, has_chosen, all_hold, ShowSame, IsEngineFormOf}
 use Rattle.witness.specs.declared.judgement.Judgement.TheVariants as judgement
 use Rattle.witness.specs.Judgements.{violated_at}
 use Rattle.witness.specs.BitTexts.{IsBitWitness}
-use Rattle.witness.specs.BitJudgements.{differs_from_reset, first_reset_differing, bit_violation_from, bit_rises, JudgesBits}
+use Rattle.witness.specs.BitPlays.{first_bit_violated, bit_rises}
+use Rattle.witness.specs.Fits.{breach_from}
+use Rattle.witness.specs.BitJudgements.{differs_from_reset, first_reset_differing, JudgesBits}
+use Rattle.witness.proofs.ShownLemmas.{bits_verdict}
 use Rattle.restore.specs.Counterexample.{restored, ends_bad}
 
 -- ---- initial bits
@@ -61,7 +65,7 @@ none_violated v n (l ∷ ls) h =
     let holds : not (literal_value v l) ≡ false = ap not parts.0 in
     rw holds (none_violated v (n + 1) ls parts.1)
 
-pub unbroken_more : (c : Circuit) (n : ℕ) (v : Valuation) (vs : List Valuation) → all_hold c v ≡ true → bit_violation_from c (suc n) vs ≡ None → bit_violation_from c n (v ∷ vs) ≡ None
+pub unbroken_more : (c : Circuit) (n : ℕ) (v : Valuation) (vs : List Valuation) → all_hold c v ≡ true → breach_from (first_bit_violated c) (suc n) vs ≡ None → breach_from (first_bit_violated c) n (v ∷ vs) ≡ None
 unbroken_more c n v vs holds rest = ap₂ (violated_at n) (none_violated v 0 c.constraints holds) rest
 
 -- ---- all frames
@@ -69,7 +73,7 @@ unbroken_more c n v vs holds rest = ap₂ (violated_at n) (none_violated v 0 c.c
 -- what the frames of the circuit show where the last one of the form is bad
 pub record Shows (c : Circuit) (k : ℕ) (met : Bool) (n : ℕ) (vs : List Valuation) : Type 0 where
   pub before : met ≡ true
-  pub unbroken : bit_violation_from c n vs ≡ None
+  pub unbroken : breach_from (first_bit_violated c) n vs ≡ None
   pub rises : bit_rises c k vs ≡ true
 
 shows_last : (c : Circuit) (k : ℕ) (d : Circuit) (first met : Bool) (n : ℕ) (vs ws : List Valuation) → k < length c.bads → ShowSame c (Some k) d first met vs ws → ends_bad d ws ≡ true → Shows c k met n vs
@@ -89,18 +93,13 @@ shows_last c k d first met n (v ∷ u ∷ vs) (w ∷ x ∷ ws) there same bad =
     let more = and_parts met (all_hold c v) rest.before in
     record { before = more.0; unbroken = unbroken_more c n v (u ∷ vs) more.1 rest.unbroken; rises = or_right (literal_value v (slice_index c.bads k)) (bit_rises c k (u ∷ vs)) rest.rises }
 
-pub trace_length : (c : Circuit) (state : List Bool) (inputs : List (List Bool)) (vs : List Valuation) → IsTrace c state inputs vs → length vs ≡ length inputs
-trace_length c state [] [] t = refl
-trace_length c state [] (v ∷ vs) t = absurd t
-trace_length c state (input ∷ inputs) [] t = absurd t
-trace_length c state (input ∷ inputs) (v ∷ vs) t = ap suc (trace_length c (next_state c v) inputs vs t.1)
-
 pub accepted : (c : Circuit) (k : ℕ) (d : Circuit) (given : List (List Bool)) (ws : List Valuation) → IsEngineFormOf c (Some k) d
     → IsTrace d (replicate (length d.latches) false) given ws → ends_bad d ws ≡ true → JudgesBits c (restored c k given) (judgement.Accepted (length given))
 accepted c k d given ws form t bad vs own =
     let shows = shows_last c k d true true 0 vs ws (is_there k c.bads form.has_bad) (form.frames given vs ws own t) bad in
     let many : length vs ≡ length given = trace_length c (begins c given) (map (take c.inputs) given) vs own ∙ length-map given (take c.inputs) in
-    sym (rw (begins_as_reset c given, shows.unbroken, shows.rises) (ap judgement.Accepted many))
+    let there = is_there k c.bads form.has_bad in
+    sym (rw (begins_as_reset c given, shows.unbroken, shows.rises) (ap judgement.Accepted many)) ∙ bits_verdict c (first_reset_differing 0 c.latches (begins c given)) k vs there
 
 -- ---- a witness
 

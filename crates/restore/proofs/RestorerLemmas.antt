@@ -1,6 +1,6 @@
 -- Steps of a restorer.
 use Rattle.std.proofs.Common.{◌≡◌, ℕ, true, List, [], length, Option, None, Some, Err, IfSome, inl, inr, refl, sym, ap, ap₂, subst, ◌∙◌, Result, IfOk, Ok}
-use Rattle.base.specs.Lines.{text_of_lines}
+use Rattle.base.specs.Lines.{text_of_lines, all_lines}
 use Rattle.aiger.specs.Circuit.{Circuit}
 use Rattle.engine.specs.EngineForm.{input_count}
 use Rattle.restore.specs.declared.fault.RestoreFault.{RestoreFault}
@@ -8,7 +8,7 @@ use Rattle.restore.specs.declared.place.Place.{Place}
 use Rattle.restore.specs.declared.place.Place.TheVariants as place
 use Rattle.restore.specs.declared.stage.Stage.{Stage}
 use Rattle.restore.specs.declared.stage.Stage.TheVariants as stage
-use Rattle.restore.specs.Reading.{before_mark, all_lines, Found, faulty, read_text}
+use Rattle.restore.specs.Reading.{before_mark, Found, faulty, read_text}
 use Rattle.restore.specs.Restored.{restored_lines, restored_text}
 use Rattle.restore.specs.Steps.{Reader, read_at, left, Agree, Gives, LosesNothing, StepsOn}
 use Rattle.restore.specs.Pieces.{Play, Restorer, Owed, owed_at, owed, Owes, HandsOn, is_reading}

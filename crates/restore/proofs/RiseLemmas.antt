@@ -1,20 +1,22 @@
 -- What a text is restored to is a witness, and is accepted where a bad property of the engine form is 1.
-use Rattle.std.proofs.Common.{◌≡◌, ◌≢◌, ℕ, zero, suc, ◌+◌, ◌-◌, ◌<◌, ◌≤◌, Bool, true, false, ◌&&◌, if◌then◌else◌, List, [], ◌∷◌, ◌++◌, length, map, take, replicate, get_or, All, Option, None, Some, Ok, codes, length-append, refl, sym, ap, ap₂, subst, ◌∙◌, inl, inr, arith}
+use Rattle.std.proofs.Common.{◌≡◌, ◌≢◌, ℕ, zero, suc, ◌+◌, ◌-◌, ◌<◌, ◌≤◌, Bool, true, false, ◌&&◌, if◌then◌else◌, List, [], ◌∷◌, length, map, take, replicate, get_or, All, Option, None, Some, refl, sym, ap, ap₂, subst, ◌∙◌, inl, inr, arith}
 use Rattle.std.specs.List.{position_from}
 use Rattle.std.proofs.lemmas.Bool.{cases_Bool, and_parts, or_right}
 use Rattle.std.proofs.lemmas.List.{length-map, length-take-le}
 use Rattle.std.proofs.lemmas.List.Elements.{All-nil, All-cons, All-head, All-tail}
-use Rattle.base.specs.Lines.{text_of_lines, whole_lines}
-use Rattle.base.proofs.LineLemmas.{whole_lines-line}
-use Rattle.aiger.specs.Literal.{Valuation, literal_value}
-use Rattle.aiger.specs.Circuit.{Circuit, IsCircuit}
-use Rattle.aiger.specs.Trace.{IsTrace, next_state}
+use Rattle.base.specs.Lines.{text_of_lines}
+use Rattle.base.specs.Literal.{Valuation, literal_value}
+use Rattle.aiger.specs.Circuit.{Circuit}
+use Rattle.aiger.specs.Trace.{IsTrace}
+use Rattle.aiger.proofs.TraceLemmas.{trace_length, trace_taken}
 use Rattle.engine.specs.EngineForm.{begins, input_count, all_hold, chosen, ShowsSame, ShowSame, IsEngineFormOf}
 use Rattle.witness.specs.declared.judgement.Judgement.TheVariants as judgement
 use Rattle.witness.specs.Texts.{claim, most_lines}
-use Rattle.witness.specs.BitTexts.{BitWitness, bit_line, bit_witness_lines, BitSays}
-use Rattle.witness.specs.BitAdmits.{BitRead, read_bit_text, bit_witness_of}
-use Rattle.witness.specs.BitJudgements.{makes_no_bit_claim, JudgesBits, BitJudges}
+use Rattle.witness.specs.BitTexts.{bit_witness_lines, BitSays}
+use Rattle.witness.specs.BitJudgements.{first_reset_differing, JudgesBits, BitJudges}
+use Rattle.witness.proofs.AcceptLemmas.{judged_bits}
+use Rattle.witness.proofs.ShownLemmas.{bits_verdict}
+use Rattle.witness.proofs.BitReadLemmas.{many_lines}
 use Rattle.restore.specs.Counterexample.{HasProperty, place_in, first_bad}
 use Rattle.restore.specs.Reading.{Found, whole, read_text}
 use Rattle.restore.specs.Frames.{trace_from}
@@ -56,12 +58,6 @@ some_written c k (bits ∷ given) some e = absurd (cc)
 lines_of : (c : Circuit) (k : ℕ) (given : List (List Bool)) → given ≢ [] → restored_lines c k (whole given) ≡ bit_witness_lines (restored_witness c k given)
 lines_of c k [] some = absurd (some refl)
 lines_of c k (bits ∷ given) some = refl
-
-pub many_lines : (w : BitWitness) → length (bit_witness_lines w) ≡ length w.frames + 4
-many_lines w =
-    let behind = length-append (map bit_line w.frames) (codes "." ∷ []) in
-    let many = length-map w.frames bit_line in
-    omega (arith, behind, many)
 
 pub says_of : (c : Circuit) (k : ℕ) (text : List ℕ) (given : List (List Bool)) → k < length c.bads → given ≢ [] → All (λ bits. length bits ≡ input_count c) given → length given + 4 ≤ most_lines
     → text ≡ text_of_lines (bit_witness_lines (restored_witness c k given)) → BitSays c text (restored_witness c k given)
@@ -197,14 +193,6 @@ module _ (c : Circuit) (choice : Option ℕ) (k : ℕ) (d : Circuit) (has : HasP
         | inr other ↦ let later : position_from is_bad (m + 1) ws ≡ Some n = rw other at at in let rest = position_above (m + 1) n ws later in omega (arith, rest)
       ]
 
-trace_taken : (c : Circuit) (state : List Bool) (inputs : List (List Bool)) (vs : List Valuation) (n : ℕ) → IsTrace c state inputs vs → IsTrace c state (take n inputs) (take n vs)
-trace_taken c state [] [] zero t = tt
-trace_taken c state [] [] (suc n) t = tt
-trace_taken c state [] (v ∷ vs) n t = absurd t
-trace_taken c state (input ∷ inputs) [] n t = absurd t
-trace_taken c state (input ∷ inputs) (v ∷ vs) zero t = tt
-trace_taken c state (input ∷ inputs) (v ∷ vs) (suc n) t = (t.0, trace_taken c (next_state c v) inputs vs n t.1)
-
 take_own : (c : Circuit) (n : ℕ) (given : List (List Bool)) → take n (own_inputs c given) ≡ own_inputs c (take n given)
 take_own c zero given = refl
 take_own c (suc n) [] = refl
@@ -214,24 +202,17 @@ begins_taken : (c : Circuit) (n : ℕ) (given : List (List Bool)) → begins c g
 begins_taken c n [] = refl
 begins_taken c n (bits ∷ given) = refl
 
-claims : (c : Circuit) (k : ℕ) (text : List ℕ) (given : List (List Bool)) → text ≡ text_of_lines (bit_witness_lines (restored_witness c k given)) → makes_no_bit_claim (whole_lines text) ≡ false
-claims c k text given spelled =
-    ap (λ (t : List ℕ). makes_no_bit_claim (whole_lines t)) spelled ∙ ap makes_no_bit_claim (whole_lines-line (codes "1") (text_of_lines (claim k ∷ (bit_line (begins c given) ∷ (map bit_line (written_frames c k given) ++ codes "." ∷ [])))) refl)
-
-abbrev pub Reads : Type 0
-Reads = (c : Circuit) (text : List ℕ) (w : BitWitness) → IsCircuit c → BitSays c text w → (r : BitRead) × ((read_bit_text c text ≡ Ok r) × (bit_witness_of r ≡ w))
-
 pub accepted_of : (c : Circuit) (choice : Option ℕ) (k : ℕ) (d : Circuit) (text : List ℕ) (given : List (List Bool)) (ws : List Valuation) (n : ℕ)
-    → Reads → IsEngineFormOf c choice d → HasProperty choice k → k < length c.bads → given ≢ [] → All (λ bits. length bits ≡ input_count c) given → length given + 4 ≤ most_lines
+    → IsEngineFormOf c choice d → HasProperty choice k → k < length c.bads → given ≢ [] → All (λ bits. length bits ≡ input_count c) given → length given + 4 ≤ most_lines
     → text ≡ text_of_lines (bit_witness_lines (restored_witness c k given))
     → IsTrace d (replicate (length d.latches) false) given ws → first_bad d (place_in choice k) ws ≡ Some n
     → BitJudges c text (judgement.Accepted (n + 1))
-accepted_of c choice k d text given ws n reads form has below some wide_all few spelled trace at =
+accepted_of c choice k d text given ws n form has below some wide_all few spelled trace at =
     let inputs : List (List Bool) = own_inputs c given in
     let vs : List Valuation = trace_from c (begins c given) inputs in
     let all = wide c given wide_all in
     let own : IsTrace c (begins c given) inputs vs = trace_is c (begins c given) inputs form.original (frames.begins_length c given) all in
-    let many : length inputs ≡ length vs = sym (frames.trace_length c (begins c given) inputs vs own) in
+    let many : length inputs ≡ length vs = sym (trace_length c (begins c given) inputs vs own) in
     let ends = cut_at c choice k d has below true true 0 n vs ws inputs (form.frames given vs ws own trace) many at in
     let inside = ends.inside in
     let cut : List (List Bool) = take (suc n) given in
@@ -243,16 +224,16 @@ accepted_of c choice k d text given ws n reads form has below some wide_all few 
     let t' : IsTrace c (begins c cut) (own_inputs c cut) us = subst (λ (l : List (List Bool)). IsTrace c (begins c cut) l us) written (subst (λ (s : List Bool). IsTrace c s (written_frames c k given) us) (begins_taken c n given) t) in
     let last = trace_taken d (replicate (length d.latches) false) given ws (suc n) trace in
     let shown = shows c choice k d has below true true 0 n 0 us (take (suc n) ws) (form.frames cut us (take (suc n) ws) t' last) at_end (long ∙ ap suc (sym zero_less)) in
-    let as_many : length us ≡ suc n = frames.trace_length c (begins c cut) (own_inputs c cut) us t' ∙ length-map cut (take c.inputs) ∙ sym (frames.trace_length d (replicate (length d.latches) false) cut (take (suc n) ws) last) ∙ long in
-    sym (rw (frames.begins_as_reset c given, shown.unbroken, shown.rises) (ap judgement.Accepted as_many)) in
-    let r = reads c text (restored_witness c k given) form.original (says_of c k text given below some wide_all few spelled) in
+    let as_many : length us ≡ suc n = trace_length c (begins c cut) (own_inputs c cut) us t' ∙ length-map cut (take c.inputs) ∙ sym (trace_length d (replicate (length d.latches) false) cut (take (suc n) ws) last) ∙ long in
+    sym (rw (frames.begins_as_reset c given, shown.unbroken, shown.rises) (ap judgement.Accepted as_many)) ∙ bits_verdict c (first_reset_differing 0 c.latches (begins c given)) k us below in
     let one : suc n ≡ n + 1 = omega arith in
-    rw (claims c k text given spelled, r.1.0) (subst (λ (w : BitWitness). JudgesBits c w (judgement.Accepted (n + 1))) (sym r.1.1) (subst (λ (m : ℕ). JudgesBits c (restored_witness c k given) (judgement.Accepted m)) one judged))
+    judged_bits c text (restored_witness c k given) (judgement.Accepted (n + 1)) form.original (says_of c k text given below some wide_all few spelled)
+    (subst (λ (m : ℕ). JudgesBits c (restored_witness c k given) (judgement.Accepted m)) one judged)
 
 pub accepted : (c : Circuit) (choice : Option ℕ) (k : ℕ) (d : Circuit) (text : List ℕ) (given : List (List Bool)) (ws : List Valuation) (n : ℕ)
-    → Reads → IsEngineFormOf c choice d → HasProperty choice k → k < length c.bads → read_text (input_count c) text ≡ whole given → length given + 4 ≤ most_lines
+    → IsEngineFormOf c choice d → HasProperty choice k → k < length c.bads → read_text (input_count c) text ≡ whole given → length given + 4 ≤ most_lines
     → IsTrace d (replicate (length d.latches) false) given ws → first_bad d (place_in choice k) ws ≡ Some n
     → BitJudges c (restored_text c k text) (judgement.Accepted (n + 1))
-accepted c choice k d text given ws n reads form has below is few trace at =
+accepted c choice k d text given ws n form has below is few trace at =
     let said = read (input_count c) text given is in
-    accepted_of c choice k d (restored_text c k text) given ws n reads form has below said.some_frame said.frames few (spells c k text given said.some_frame is) trace at
+    accepted_of c choice k d (restored_text c k text) given ws n form has below said.some_frame said.frames few (spells c k text given said.some_frame is) trace at

@@ -7,7 +7,8 @@ use Rattle.restore.specs.declared.fault.RestoreWhy.{RestoreWhy}
 use Rattle.restore.specs.declared.fault.RestoreFault.{RestoreFault}
 use Rattle.restore.specs.declared.place.Place.{Place}
 use Rattle.restore.specs.declared.place.Place.TheVariants as place
-use Rattle.restore.specs.Reading.{before_mark, all_lines, initial_why, whole}
+use Rattle.base.specs.Lines.{all_lines}
+use Rattle.restore.specs.Reading.{before_mark, initial_why, whole}
 use Rattle.restore.specs.Steps.{Reader, is_open, IsOfText, read_at, left, Agree, Gives, StepsOn, Tells, lines_from, given_by, Takes}
 
 pub initial_of_text : (line : List ℕ) (n : ℕ) (w : RestoreWhy) → initial_why line ≡ Some w → IsOfText (record { line = n; why = w })

@@ -1,6 +1,6 @@
 -- When what a text is restored to is a counterexample of the circuit again (the theorem of the way back).
 use Rattle.std.specs.Prelude.{◌≡◌, ℕ, ◌+◌, ◌≤◌, Bool, false, List, length, replicate, Option, Some}
-use Rattle.aiger.specs.Literal.{Valuation}
+use Rattle.base.specs.Literal.{Valuation}
 use Rattle.aiger.specs.Circuit.{Circuit}
 use Rattle.aiger.specs.Trace.{IsTrace}
 use Rattle.engine.specs.EngineForm.{input_count, IsEngineFormOf}

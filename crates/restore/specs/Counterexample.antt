@@ -1,7 +1,7 @@
 -- Counterexamples over an engine form as texts (those that ABC writes by `write_cex -a`: a line of initial bits, then one of input bits for each frame), and what they are of the circuit.
 use Rattle.std.specs.Prelude.{◌≡◌, ◌≢◌, ℕ, Bool, false, Option, None, Some, slice_get, slice_index, unwrap_or, List, [], ◌∷◌, ◌++◌, length, map, take, replicate, All, ◌⊎◌}
 use Rattle.std.specs.List.{position_from}
-use Rattle.aiger.specs.Literal.{Valuation, literal_value}
+use Rattle.base.specs.Literal.{Valuation, literal_value}
 use Rattle.aiger.specs.Circuit.{Circuit}
 use Rattle.witness.specs.BitTexts.{BitWitness, bit_line}
 use Rattle.engine.specs.EngineForm.{begins}

@@ -3,7 +3,7 @@ use Rattle.std.specs.Prelude.{◌≡◌, ℕ, ◌+◌, Bool, true, false, List, 
 use Rattle.std.specs.Io.KnownBytes.{Appends}
 use Rattle.base.specs.Device.{AppendsBeginning}
 use Rattle.base.specs.Lines.{text_of_lines, whole_lines}
-use Rattle.aiger.specs.Literal.{Valuation}
+use Rattle.base.specs.Literal.{Valuation}
 use Rattle.aiger.specs.Circuit.{Circuit}
 use Rattle.aiger.specs.Trace.{IsTrace}
 use Rattle.witness.specs.declared.judgement.Judgement.{Judgement}

@@ -1,7 +1,7 @@
 -- The one trace of a circuit from initial bits under input frames, computed ("AIGER 1.9 and Beyond", semantics: each gate is the AND of its operands, and latches take their next literals' bits).
 use Rattle.std.specs.Prelude.{ℕ, suc, ◌+◌, Bool, false, ◌&&◌, ◌==◌, List, [], ◌∷◌, length, if◌then◌else◌}
 use Rattle.aiger.specs.declared.circuit.Gate.{Gate}
-use Rattle.aiger.specs.Literal.{Valuation, literal_value}
+use Rattle.base.specs.Literal.{Valuation, literal_value}
 use Rattle.aiger.specs.Circuit.{Circuit}
 use Rattle.aiger.specs.Trace.{next_state}
 

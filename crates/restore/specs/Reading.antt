@@ -1,7 +1,7 @@
 -- What a text of a counterexample over an engine form reads as: its input frames up to its first faulty line, and why that is refused.
 use Rattle.std.specs.Prelude.{ℕ, ◌+◌, ◌-◌, ◌^◌, min, Bool, not, ◌||◌, ◌==◌, List, [], ◌∷◌, ◌++◌, length, map, Option, None, Some, if◌then◌else◌}
 use Rattle.std.specs.List.{list_all}
-use Rattle.base.specs.Lines.{whole_lines, unfinished}
+use Rattle.base.specs.Lines.{whole_lines, unfinished, all_lines, line_after}
 use Rattle.restore.specs.declared.fault.RestoreFault.{RestoreFault}
 use Rattle.restore.specs.declared.fault.RestoreWhy.{RestoreWhy}
 use Rattle.restore.specs.declared.fault.RestoreWhy.TheVariants.{NoFrame, InitialOne, NoBit, WrongLength}
@@ -10,15 +10,6 @@ use Rattle.restore.specs.declared.fault.RestoreWhy.TheVariants.{NoFrame, Initial
 abbrev pub before_mark : List ℕ → List ℕ
 before_mark [] = []
 before_mark (b ∷ bs) = if b == 35 then [] else b ∷ before_mark bs
-
--- a line where there is a byte of it
-abbrev pub line_of : List ℕ → List (List ℕ)
-line_of [] = []
-line_of (b ∷ bs) = (b ∷ bs) ∷ []
-
--- all lines of a text, of which the last may have no end
-abbrev pub all_lines : List ℕ → List (List ℕ)
-all_lines text = whole_lines text ++ line_of (unfinished text)
 
 -- what is wrong with a line of initial bits: the first byte that is no 0
 abbrev pub initial_why : List ℕ → Option RestoreWhy
@@ -55,10 +46,6 @@ read_before bits more = record { frames = bits ∷ more.frames; fault = more.fau
 abbrev pub unless_wrong : ℕ → Option RestoreWhy → Found → Found
 unless_wrong number None found = found
 unless_wrong number (Some why) found = faulty [] (record { line = number; why = why })
-
--- the number of the line behind line n, told up to 2 ^ 64 - 1
-abbrev pub line_after : ℕ → ℕ
-line_after n = min (n + 1) (2 ^ 64 - 1)
 
 -- the frames of lines, of which the first has this number
 abbrev pub read_frames : ℕ → ℕ → List (List ℕ) → Found

@@ -1,7 +1,7 @@
 -- What a text over the engine form of a circuit is restored to: the witness of the circuit that its frames say, up to and with the first in which the claimed property rises (the AIGER format's witnesses; where the frames end is this project's).
 use Rattle.std.specs.Prelude.{ℕ, Bool, true, ◌&&◌, List, [], ◌∷◌, ◌++◌, Option, None, Some, codes, map, take, slice_index, if◌then◌else◌}
 use Rattle.base.specs.Lines.{text_of_lines}
-use Rattle.aiger.specs.Literal.{Valuation, literal_value}
+use Rattle.base.specs.Literal.{Valuation, literal_value}
 use Rattle.aiger.specs.Circuit.{Circuit}
 use Rattle.engine.specs.EngineForm.{begins, all_hold, input_count}
 use Rattle.witness.specs.Texts.{claim}

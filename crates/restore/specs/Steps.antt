@@ -10,7 +10,8 @@ use Rattle.restore.specs.declared.fault.RestoreWhy.{RestoreWhy}
 use Rattle.restore.specs.declared.fault.RestoreWhy.TheVariants as why
 use Rattle.restore.specs.declared.place.Place.{Place}
 use Rattle.restore.specs.declared.place.Place.TheVariants as place
-use Rattle.restore.specs.Reading.{before_mark, line_of, all_lines, line_bits, Found, whole, faulty, read_before, read_frames, read_some, read_lines}
+use Rattle.base.specs.Lines.{line_of, all_lines}
+use Rattle.restore.specs.Reading.{before_mark, line_bits, Found, whole, faulty, read_before, read_frames, read_some, read_lines}
 
 -- a reader of frames: the frame that was found last, which has as many bits as each frame; where it is; and the bytes that were read of what follows
 pub record Reader : Type 0 where

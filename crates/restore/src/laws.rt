@@ -1,7 +1,7 @@
 //! Laws of the texts of counterexamples over an engine form, and worked rows: functions that do nothing, whose contracts are
 //! the laws.
 ghost use Rattle.std.specs.Prelude.{◌≡◌, ◌≢◌, ◌<◌, ◌≤◌, ◌+◌, ℕ, ◌==◌, Option, List, [], ◌∷◌, Bool, true, false, Some, All, codes, length, replicate};
-ghost use Rattle.aiger.specs.Literal.{Valuation};
+ghost use Rattle.base.specs.Literal.{Valuation};
 ghost use Rattle.aiger.specs.Circuit.{Circuit};
 ghost use Rattle.aiger.specs.Trace.{IsTrace};
 ghost use Rattle.engine.specs.EngineForm.{input_count, IsEngineFormOf};
@@ -55,9 +55,7 @@ pub fn restored_text_is_accepted()
         → IsEngineFormOf c choice d → HasProperty choice k → k < length c.bads → read_text (input_count c) text ≡ whole given → length given + 4 ≤ most_lines
         → IsTrace d (replicate (length d.latches) false) given ws → first_bad d (place_in choice k) ws ≡ Some n
         → BitJudges c (restored_text c k text) (judgement.Accepted (n + 1)) }
-{
-    witness::bit_laws::bit_texts_read();
-}
+{}
 
 /// Worked rows: texts over forms of one, two and four inputs, and what they read as.
 pub fn worked_texts()

@@ -1,6 +1,6 @@
 //! A circuit in the frames that a counterexample gives, one after the other.
 ghost use Rattle.std.specs.Prelude.{◌≡◌, ◌<◌, ◌≤◌, ◌&&◌, true, IfOk, length, take};
-ghost use Rattle.aiger.specs.Literal.{Valuation};
+ghost use Rattle.base.specs.Literal.{Valuation};
 ghost use Rattle.runs.specs.CircuitRun.{IsFrameNow};
 ghost use Rattle.engine.specs.EngineForm.{all_hold};
 ghost use Rattle.restore.specs.Pieces.{begun, played, rises_with};

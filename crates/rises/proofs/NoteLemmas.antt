@@ -1,21 +1,24 @@
 -- What is noted of a text while it is judged, and of its beginnings.
-use Rattle.std.proofs.Common.{◌≡◌, ℕ, ◌+◌, ◌<◌, ◌≤◌, nat_eq, Bool, true, false, not, ◌&&◌, List, [], ◌∷◌, ◌++◌, Option, Some, None, option_map, length, length-append, append_assoc, take, slice_get, get_or, set, replicate, inl, inr, refl, sym, ap, ap₂, subst, ◌∙◌, arith}
+use Rattle.std.proofs.Common.{◌≡◌, ℕ, ◌+◌, ◌<◌, ◌≤◌, nat_eq, Bool, true, ◌&&◌, List, [], ◌∷◌, ◌++◌, Option, Some, None, option_map, map, length, length-append, append_assoc, take, slice_get, get_or, set, replicate, inl, inr, refl, sym, ap, ap₂, subst, ◌∙◌, arith}
 use Rattle.std.specs.List.{list_any}
-use Rattle.std.specs.Option.{option_map_or}
 use Rattle.std.proofs.Math.Seq.{take-append_seam}
 use Rattle.std.proofs.lemmas.Bool.{cases_eq, cases_lt}
-use Rattle.std.proofs.lemmas.Option.{slice_get-get_or, slice_get_past, get_or_from_slice_get}
+use Rattle.std.proofs.lemmas.List.{length-map, map-append}
+use Rattle.std.proofs.lemmas.Option.{slice_get-get_or, slice_get_past}
 use Rattle.base.specs.Lines.{IsLine}
+use Rattle.base.specs.Shown.{Shown, rises_in}
 use Rattle.btor2.specs.declared.item.Item.{Item}
 use Rattle.btor2.specs.Items.{is_bad}
 use Rattle.btor2.specs.Trace.{Frame, IsTrace}
-use Rattle.aiger.specs.Literal.{Valuation}
+use Rattle.btor2.specs.Reachability.{nodes_of, model_shows}
+use Rattle.base.specs.Literal.{Valuation}
 use Rattle.aiger.specs.Circuit.{Circuit}
 use Rattle.aiger.specs.Trace.{IsTrace as IsBitTrace}
+use Rattle.aiger.specs.Reachability.{circuit_shows}
 use Rattle.witness.specs.Texts.{shape_of}
 use Rattle.witness.specs.Readings.{reading}
 use Rattle.witness.specs.Admits.{Read, witness_of}
-use Rattle.witness.specs.Judgements.{nodes_of, never_rises, initial_words, given_frames, words_of}
+use Rattle.witness.specs.Judgements.{initial_words, given_frames, words_of}
 use Rattle.witness.specs.ClosedWords.{IsClosedTrace, said_in, closed_word_frames}
 use Rattle.witness.specs.WordStands.{StandsFor}
 use Rattle.witness.specs.BitAdmits.{BitRead, closed_frames}
@@ -25,9 +28,9 @@ use Rattle.witness.proofs.ClosedLemmas.{part_closes_none}
 use Rattle.witness.proofs.GrowthLemmas.{Grows, Same, More, words_grow, bits_grow, bits_part}
 use Rattle.rises.specs.declared.word_noter.WordNoter.{WordNoter}
 use Rattle.rises.specs.declared.bit_noter.BitNoter.{BitNoter}
-use Rattle.rises.specs.FirstRises.{first_rises_from, node_is_one, literal_is_one, word_first_rises, bit_first_rises}
+use Rattle.rises.specs.FirstRises.{first_rises_from, word_first_rises, bit_first_rises}
 use Rattle.rises.specs.Notes.{noted, IsNoted, NotesWords, NotesBits}
-use Rattle.rises.proofs.RiseLemmas.{other_position, same_position, none_risen, alike_rises, some_are, noted_rises}
+use Rattle.rises.proofs.RiseLemmas.{other_position, same_position, none_risen, alike_rises, noted_rises}
 
 -- the first line of a text, with its end
 pub line_with_end : (rest line behind : List ℕ) → rest ≡ line ++ 10 ∷ behind → take (length line + 1) rest ≡ line ++ 10 ∷ []
@@ -73,7 +76,7 @@ words_none items n count many stands is =
       firsts = λ fs t.
           is
           ∙ (ap (λ (m : ℕ). replicate m None) many
-          ∙ (none_risen node_is_one (word_claimed items []) 0 (nodes_of is_bad items) ∙ ap (λ (gs : List Frame). word_first_rises items [] gs) (sym (none_yet items fs t))));
+          ∙ (none_risen (word_claimed items []) 0 (length (nodes_of is_bad items)) ∙ ap (λ (gs : List Frame). word_first_rises items [] gs) (sym (none_yet items fs t))));
     }
 
 -- a trace of what lines say
@@ -88,20 +91,20 @@ words_part items text bytes before after line h stands same =
       judge = stands;
       firsts = λ fs t.
           let was : IsClosedTrace items text fs = subst (λ (r : Read). IsTraceOfRead items r fs) said t in
-          same ∙ (h.firsts fs was ∙ ap (λ (r : Read). first_rises_from node_is_one (λ k. list_any (λ c. nat_eq c k) r.claims) fs 0 (nodes_of is_bad items)) (sym said));
+          same ∙ (h.firsts fs was ∙ ap (λ (r : Read). first_rises_from (λ k. list_any (λ c. nat_eq c k) r.claims) (map (model_shows items) fs) 0 (length (nodes_of is_bad items))) (sym said));
     }
 
-reached_by : (items : List Item) (text : List ℕ) (fs : List Frame) (k a : ℕ) → slice_get (nodes_of is_bad items) k ≡ Some a → word_reached items text fs k ≡ (word_claimed items text k && list_any (node_is_one a) fs)
-reached_by items text fs k a e =
-    ap (λ (o : Option ℕ). word_claimed items text k && option_map_or (λ b. not (never_rises fs b)) o false) e ∙ ap (λ (b : Bool). word_claimed items text k && b) (some_are (node_is_one a) fs)
+-- what the frames of a trace and one more show
+shown_more : {F : Type 0} (shows : F → Shown) (fs front : List F) (f : F) → fs ≡ front ++ f ∷ [] → map shows fs ≡ map shows front ++ shows f ∷ []
+shown_more shows fs front f is = ap (map shows) is ∙ map-append shows front (f ∷ [])
 
 module _ (items : List Item) (text line : List ℕ) (before after : WordNoter) (one_line : IsLine line) (h : NotesWords items before text) (stands : StandsFor items after.judge (text ++ (line ++ 10 ∷ [])))
     (number now : ℕ) (n : number ≡ closed_word_frames (shape_of items) text) (m : now ≡ closed_word_frames (shape_of items) (text ++ (line ++ 10 ∷ []))) where
   abbrev whole : List ℕ
   whole = text ++ (line ++ 10 ∷ [])
 
-  abbrev bads : List ℕ
-  bads = nodes_of is_bad items
+  abbrev bads : ℕ
+  bads = length (nodes_of is_bad items)
 
   abbrev Growth : List Frame → Type 0
   Growth fs = Grows (IsClosedTrace items text) (word_claimed items text) (word_claimed items whole) (closed_word_frames (shape_of items) text) (closed_word_frames (shape_of items) whole) fs
@@ -111,7 +114,7 @@ module _ (items : List Item) (text line : List ℕ) (before after : WordNoter) (
   words_same e same = record { judge = stands; firsts = λ fs t. by fs (words_grow items text line fs one_line t) }
     where
       by : (fs : List Frame) → Growth fs → after.firsts ≡ word_first_rises items whole fs
-      by fs (Same _ trace alike) = same ∙ (h.firsts fs trace ∙ alike_rises node_is_one (word_claimed items text) (word_claimed items whole) fs bads alike)
+      by fs (Same _ trace alike) = same ∙ (h.firsts fs trace ∙ alike_rises (model_shows items) (word_claimed items text) (word_claimed items whole) fs bads alike)
       by fs (More front f is grown many trace alike) = absurd (omega (arith, e, n, m, grown))
 
   -- a line that closes one
@@ -121,11 +124,12 @@ module _ (items : List Item) (text line : List ℕ) (before after : WordNoter) (
       by : (fs : List Frame) → IsClosedTrace items whole fs → Growth fs → after.firsts ≡ word_first_rises items whole fs
       by fs t (Same same trace alike) = absurd (ne (m ∙ (same ∙ sym n)))
       by fs t (More front f is grown many trace alike) =
-          let was : before.firsts ≡ first_rises_from node_is_one (word_claimed items whole) front 0 bads =
-          h.firsts front trace ∙ alike_rises node_is_one (word_claimed items text) (word_claimed items whole) front bads alike in
-          noted_rises node_is_one (word_claimed items whole) front f bads (word_reached items whole fs) number before.firsts after.firsts (n ∙ sym many) was
-          (λ k a e. reached_by items whole fs k a e ∙ ap (λ (l : List Frame). word_claimed items whole k && list_any (node_is_one a) l) is) (notes fs t)
-          ∙ ap (λ (l : List Frame). word_first_rises items whole l) (sym is)
+          let was : before.firsts ≡ first_rises_from (word_claimed items whole) (map (model_shows items) front) 0 bads =
+          h.firsts front trace ∙ alike_rises (model_shows items) (word_claimed items text) (word_claimed items whole) front bads alike in
+          let shown = shown_more (model_shows items) fs front f is in
+          noted_rises (word_claimed items whole) (map (model_shows items) front) (model_shows items f) bads (word_reached items whole fs) number before.firsts after.firsts (n ∙ (sym many ∙ sym (length-map front (model_shows items)))) was
+          (λ k. ap (λ (l : List Shown). word_claimed items whole k && rises_in k l) shown) (notes fs t)
+          ∙ ap (λ (l : List Shown). first_rises_from (word_claimed items whole) l 0 bads) (sym shown)
 
 -- ---- over a circuit
 
@@ -141,7 +145,7 @@ bits_none noted c n count many stands is =
       firsts = λ on vs t.
           is
           ∙ (ap (λ (m : ℕ). replicate m None) (many on)
-          ∙ (none_risen literal_is_one (bit_claimed c []) 0 c.bads ∙ ap (λ (ws : List Valuation). bit_first_rises c [] ws) (sym (no_bits_yet c vs t))));
+          ∙ (none_risen (bit_claimed c []) 0 (length c.bads) ∙ ap (λ (ws : List Valuation). bit_first_rises c [] ws) (sym (no_bits_yet c vs t))));
     }
 
 pub bits_of_part : (noted : Bool) (c : Circuit) (text bytes : List ℕ) (before after : BitNoter) → IsLine bytes → NotesBits noted c before text → StandsForBits c after.judge (text ++ bytes) → after.firsts ≡ before.firsts → NotesBits noted c after (text ++ bytes)
@@ -151,11 +155,8 @@ bits_of_part noted c text bytes before after line h stands same =
       judge = stands;
       firsts = λ on vs t.
           let was : IsClosedBitTrace c text vs = subst (λ (r : BitRead). IsBitTrace c r.initial r.frames vs) said t in
-          same ∙ (h.firsts on vs was ∙ ap (λ (r : BitRead). first_rises_from literal_is_one (λ k. nat_eq r.claim k) vs 0 c.bads) (sym said));
+          same ∙ (h.firsts on vs was ∙ ap (λ (r : BitRead). first_rises_from (λ k. nat_eq r.claim k) (map (circuit_shows c) vs) 0 (length c.bads)) (sym said));
     }
-
-bit_reached_by : (c : Circuit) (text : List ℕ) (vs : List Valuation) (k a : ℕ) → slice_get c.bads k ≡ Some a → bit_reached c text vs k ≡ (bit_claimed c text k && list_any (literal_is_one a) vs)
-bit_reached_by c text vs k a e = ap (λ (l : ℕ). bit_claimed c text k && list_any (literal_is_one l) vs) (get_or_from_slice_get c.bads k a 0 e)
 
 module _ (noted : Bool) (c : Circuit) (text line : List ℕ) (before after : BitNoter) (one_line : IsLine line) (h : NotesBits noted c before text) (stands : StandsForBits c after.judge (text ++ (line ++ 10 ∷ []))) (number now : ℕ)
     (n : number ≡ closed_frames c text) (m : now ≡ closed_frames c (text ++ (line ++ 10 ∷ []))) where
@@ -169,7 +170,7 @@ module _ (noted : Bool) (c : Circuit) (text line : List ℕ) (before after : Bit
   bits_same e same = record { judge = stands; firsts = λ on vs t. by on vs (bits_grow c text line vs one_line t) }
     where
       by : noted ≡ true → (vs : List Valuation) → BitGrowth vs → after.firsts ≡ bit_first_rises c all vs
-      by on vs (Same _ trace alike) = same ∙ (h.firsts on vs trace ∙ alike_rises literal_is_one (bit_claimed c text) (bit_claimed c all) vs c.bads alike)
+      by on vs (Same _ trace alike) = same ∙ (h.firsts on vs trace ∙ alike_rises (circuit_shows c) (bit_claimed c text) (bit_claimed c all) vs (length c.bads) alike)
       by on vs (More front v is grown many trace alike) = absurd (omega (arith, e, n, m, grown))
 
   pub bits_more : (now ≡ number → ⊥) → ((vs : List Valuation) → IsClosedBitTrace c all vs → IsNoted (bit_reached c all vs) number before.firsts after.firsts) → NotesBits noted c after all
@@ -178,7 +179,9 @@ module _ (noted : Bool) (c : Circuit) (text line : List ℕ) (before after : Bit
       by : noted ≡ true → (vs : List Valuation) → IsClosedBitTrace c all vs → BitGrowth vs → after.firsts ≡ bit_first_rises c all vs
       by on vs t (Same same trace alike) = absurd (ne (m ∙ (same ∙ sym n)))
       by on vs t (More front v is grown many trace alike) =
-          let was : before.firsts ≡ first_rises_from literal_is_one (bit_claimed c all) front 0 c.bads = h.firsts on front trace ∙ alike_rises literal_is_one (bit_claimed c text) (bit_claimed c all) front c.bads alike in
-          noted_rises literal_is_one (bit_claimed c all) front v c.bads (bit_reached c all vs) number before.firsts after.firsts (n ∙ sym many) was
-          (λ k a e. bit_reached_by c all vs k a e ∙ ap (λ (l : List Valuation). bit_claimed c all k && list_any (literal_is_one a) l) is) (notes vs t)
-          ∙ ap (λ (l : List Valuation). bit_first_rises c all l) (sym is)
+          let was : before.firsts ≡ first_rises_from (bit_claimed c all) (map (circuit_shows c) front) 0 (length c.bads) =
+          h.firsts on front trace ∙ alike_rises (circuit_shows c) (bit_claimed c text) (bit_claimed c all) front (length c.bads) alike in
+          let shown = shown_more (circuit_shows c) vs front v is in
+          noted_rises (bit_claimed c all) (map (circuit_shows c) front) (circuit_shows c v) (length c.bads) (bit_reached c all vs) number before.firsts after.firsts (n ∙ (sym many ∙ sym (length-map front (circuit_shows c)))) was
+          (λ k. ap (λ (l : List Shown). bit_claimed c all k && rises_in k l) shown) (notes vs t)
+          ∙ ap (λ (l : List Shown). first_rises_from (bit_claimed c all) l 0 (length c.bads)) (sym shown)

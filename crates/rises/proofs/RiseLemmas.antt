@@ -1,6 +1,9 @@
 -- First rises, position by position, and those of one frame more.
-use Rattle.std.proofs.Common.{◌≡◌, ℕ, zero, suc, ◌+◌, ◌<◌, Bool, true, false, cond, not, ◌&&◌, ◌||◌, List, [], ◌∷◌, ◌++◌, Option, Some, None, option_map, length, slice_get, set, replicate, inl, inr, refl, sym, ap, ap₂, ◌∙◌, arith}
-use Rattle.std.specs.List.{list_any, list_all, position_from}
+use Rattle.std.proofs.Common.{◌≡◌, ℕ, zero, suc, ◌+◌, ◌<◌, ◌≤◌, Bool, true, false, cond, ◌&&◌, ◌||◌, List, [], ◌∷◌, ◌++◌, Option, Some, None, option_map, map, length, slice_get, set, replicate, inl, inr, refl, sym, ap, ap₂, ◌∙◌, arith}
+use Rattle.std.specs.List.{list_any, position_from}
+use Rattle.std.proofs.lemmas.Bool.{cases_lt}
+use Rattle.std.proofs.lemmas.Option.{slice_get_past}
+use Rattle.base.specs.Shown.{Shown, is_bad_in, rises_in}
 use Rattle.witness.proofs.GrowthLemmas.{Alike}
 use Rattle.rises.specs.FirstRises.{first_rise, first_rises_from}
 use Rattle.rises.specs.Notes.{noted, IsNoted}
@@ -32,40 +35,46 @@ same_position (x ∷ xs) (suc i) v h = same_position xs i v (omega (arith, h))
 
 -- ---- first rises by positions
 
-module _ {N F : Type 0} (is_one : N → F → Bool) where
-  abbrev pub at : (ℕ → Bool) → List F → ℕ → N → Option ℕ
-  at claimed fs k a = cond (claimed k) (first_rise is_one fs a) None
+-- the first rise of a bad property, where it is claimed
+abbrev pub at : (ℕ → Bool) → List Shown → ℕ → Option ℕ
+at claimed shown k = cond (claimed k) (first_rise shown k) None
 
-  pub rises_at : (claimed : ℕ → Bool) (fs : List F) (i : ℕ) (nodes : List N) (k : ℕ) → slice_get (first_rises_from is_one claimed fs i nodes) k ≡ option_map (at claimed fs (i + k)) (slice_get nodes k)
-  rises_at claimed fs i [] k = refl
-  rises_at claimed fs i (a ∷ more) zero = let e : i ≡ i + 0 = omega arith in ap (λ (n : ℕ). Some (at claimed fs n a)) e
-  rises_at claimed fs i (a ∷ more) (suc k) =
-      let e : suc i + k ≡ i + suc k = omega arith in
-      rises_at claimed fs (suc i) more k ∙ ap (λ (n : ℕ). option_map (at claimed fs n) (slice_get more k)) e
+rises_at : (claimed : ℕ → Bool) (shown : List Shown) (i n k : ℕ) → k < n → slice_get (first_rises_from claimed shown i n) k ≡ Some (at claimed shown (i + k))
+rises_at claimed shown i zero k h = absurd (omega (arith, h))
+rises_at claimed shown i (suc n) zero h = let e : i ≡ i + 0 = omega arith in ap (λ (m : ℕ). Some (at claimed shown m)) e
+rises_at claimed shown i (suc n) (suc k) h =
+    let e : suc i + k ≡ i + suc k = omega arith in
+    rises_at claimed shown (suc i) n k (omega (arith, h)) ∙ ap (λ (m : ℕ). Some (at claimed shown m)) e
 
-  pub rises_from_0 : (claimed : ℕ → Bool) (fs : List F) (nodes : List N) (k : ℕ) → slice_get (first_rises_from is_one claimed fs 0 nodes) k ≡ option_map (at claimed fs k) (slice_get nodes k)
-  rises_from_0 claimed fs nodes k = let e : 0 + k ≡ k = omega arith in rises_at claimed fs 0 nodes k ∙ ap (λ (n : ℕ). option_map (at claimed fs n) (slice_get nodes k)) e
+pub rises_there : (claimed : ℕ → Bool) (shown : List Shown) (n k : ℕ) → k < n → slice_get (first_rises_from claimed shown 0 n) k ≡ Some (at claimed shown k)
+rises_there claimed shown n k h = let e : 0 + k ≡ k = omega arith in rises_at claimed shown 0 n k h ∙ ap (λ (m : ℕ). Some (at claimed shown m)) e
 
-  pub length-rises : (claimed : ℕ → Bool) (fs : List F) (i : ℕ) (nodes : List N) → length (first_rises_from is_one claimed fs i nodes) ≡ length nodes
-  length-rises claimed fs i [] = refl
-  length-rises claimed fs i (a ∷ more) = ap suc (length-rises claimed fs (suc i) more)
+pub length-rises : (claimed : ℕ → Bool) (shown : List Shown) (i n : ℕ) → length (first_rises_from claimed shown i n) ≡ n
+length-rises claimed shown i zero = refl
+length-rises claimed shown i (suc n) = ap suc (length-rises claimed shown (suc i) n)
 
-  none_at : (b : Bool) → let none : Option ℕ = None in cond b none none ≡ none
-  none_at true = refl
-  none_at false = refl
+rises_past : (claimed : ℕ → Bool) (shown : List Shown) (n k : ℕ) → n ≤ k → slice_get (first_rises_from claimed shown 0 n) k ≡ None
+rises_past claimed shown n k h = slice_get_past (first_rises_from claimed shown 0 n) k (omega (arith, h, length-rises claimed shown 0 n))
 
-  -- there are none in no frame
-  pub none_risen : (claimed : ℕ → Bool) (i : ℕ) (nodes : List N) → replicate (length nodes) None ≡ first_rises_from is_one claimed [] i nodes
-  none_risen claimed i [] = refl
-  none_risen claimed i (a ∷ more) = ap₂ (λ (o : Option ℕ) (l : List (Option ℕ)). o ∷ l) (sym (none_at (claimed i))) (none_risen claimed (suc i) more)
+none_at : (b : Bool) → let none : Option ℕ = None in cond b none none ≡ none
+none_at true = refl
+none_at false = refl
 
-  -- where the same is claimed, or there is no frame
-  pub alike_rises : (was now : ℕ → Bool) (fs : List F) (nodes : List N) → Alike fs was now → first_rises_from is_one was fs 0 nodes ≡ first_rises_from is_one now fs 0 nodes
-  alike_rises was now fs nodes (inl none) =
-      ap (λ (l : List F). first_rises_from is_one was l 0 nodes) none ∙ (sym (none_risen was 0 nodes) ∙ (none_risen now 0 nodes ∙ sym (ap (λ (l : List F). first_rises_from is_one now l 0 nodes) none)))
-  alike_rises was now fs nodes (inr same) =
-      same_lists (first_rises_from is_one was fs 0 nodes) (first_rises_from is_one now fs 0 nodes)
-      (λ k. rises_from_0 was fs nodes k ∙ (ap (λ (b : Bool). option_map (λ (a : N). cond b (first_rise is_one fs a) None) (slice_get nodes k)) (sym (same k)) ∙ sym (rises_from_0 now fs nodes k)))
+-- there are none in no frame
+pub none_risen : (claimed : ℕ → Bool) (i n : ℕ) → replicate n None ≡ first_rises_from claimed [] i n
+none_risen claimed i zero = refl
+none_risen claimed i (suc n) = ap₂ (λ (o : Option ℕ) (l : List (Option ℕ)). o ∷ l) (sym (none_at (claimed i))) (none_risen claimed (suc i) n)
+
+claimed_alike : (was now : ℕ → Bool) (shown : List Shown) (i n : ℕ) → ((k : ℕ) → now k ≡ was k) → first_rises_from was shown i n ≡ first_rises_from now shown i n
+claimed_alike was now shown i zero same = refl
+claimed_alike was now shown i (suc n) same =
+    ap₂ (λ (b : Bool) (l : List (Option ℕ)). cond b (first_rise shown i) None ∷ l) (sym (same i)) (claimed_alike was now shown (suc i) n same)
+
+-- where the same is claimed, or there is no frame
+pub alike_rises : {F : Type 0} (shows : F → Shown) (was now : ℕ → Bool) (fs : List F) (n : ℕ) → Alike fs was now → first_rises_from was (map shows fs) 0 n ≡ first_rises_from now (map shows fs) 0 n
+alike_rises shows was now fs n (inl none) =
+    ap (λ l. first_rises_from was (map shows l) 0 n) none ∙ (sym (none_risen was 0 n) ∙ (none_risen now 0 n ∙ sym (ap (λ l. first_rises_from now (map shows l) 0 n) none)))
+alike_rises shows was now fs n (inr same) = claimed_alike was now (map shows fs) 0 n same
 
 -- ---- a frame more
 
@@ -82,33 +91,31 @@ module _ {F : Type 0} (test : F → Bool) where
         | false ↦ ap (λ (m : ℕ). noted (list_any test (fs ++ f ∷ [])) m (position_from test (n + 1) fs)) e ∙ first_more (n + 1) fs f
       ]
 
-  -- some are where not none are
-  pub some_are : (fs : List F) → not (list_all (λ f. not (test f)) fs) ≡ list_any test fs
-  some_are [] = refl
-  some_are (f ∷ fs) = elim (test f) as (λ b. not (not b && list_all (λ g. not (test g)) fs) ≡ (b || list_any test fs)) [ true ↦ refl | false ↦ some_are fs ]
+module _ (claimed : ℕ → Bool) (shown : List Shown) (s : Shown) (n : ℕ) where
+  abbrev all : List Shown
+  all = shown ++ s ∷ []
 
-module _ {N F : Type 0} (is_one : N → F → Bool) (claimed : ℕ → Bool) (fs : List F) (f : F) (nodes : List N) where
-  abbrev all : List F
-  all = fs ++ f ∷ []
-
-  more_at : (k : ℕ) (a : N) → noted (claimed k && list_any (is_one a) all) (length fs) (at is_one claimed fs k a) ≡ at is_one claimed all k a
-  more_at k a =
-      let e : 0 + length fs ≡ length fs = omega arith in
-      elim (claimed k) as (λ b. noted (b && list_any (is_one a) all) (length fs) (cond b (first_rise is_one fs a) None) ≡ cond b (first_rise is_one all a) None) [
-        | true ↦ ap (λ (m : ℕ). noted (list_any (is_one a) all) m (position_from (is_one a) 0 fs)) (sym e) ∙ first_more (is_one a) 0 fs f
+  more_at : (k : ℕ) → noted (claimed k && rises_in k all) (length shown) (at claimed shown k) ≡ at claimed all k
+  more_at k =
+      let e : 0 + length shown ≡ length shown = omega arith in
+      elim (claimed k) as (λ b. noted (b && rises_in k all) (length shown) (cond b (first_rise shown k) None) ≡ cond b (first_rise all k) None) [
+        | true ↦ ap (λ (m : ℕ). noted (rises_in k all) m (first_rise shown k)) (sym e) ∙ first_more (is_bad_in k) 0 shown s
         | false ↦ refl
       ]
 
   -- what is noted behind a frame more are the first rises with it
-  pub noted_rises : (reached : ℕ → Bool) (frame : ℕ) (before after : List (Option ℕ)) → frame ≡ length fs → before ≡ first_rises_from is_one claimed fs 0 nodes
-      → ((k : ℕ) (a : N) → slice_get nodes k ≡ Some a → reached k ≡ (claimed k && list_any (is_one a) all)) → IsNoted reached frame before after → after ≡ first_rises_from is_one claimed all 0 nodes
-  noted_rises reached frame before after number was reaches notes = same_lists after (first_rises_from is_one claimed all 0 nodes) (λ k. at_position k ∙ sym (rises_from_0 is_one claimed all nodes k))
+  pub noted_rises : (reached : ℕ → Bool) (frame : ℕ) (before after : List (Option ℕ)) → frame ≡ length shown → before ≡ first_rises_from claimed shown 0 n
+      → ((k : ℕ) → reached k ≡ (claimed k && rises_in k all)) → IsNoted reached frame before after → after ≡ first_rises_from claimed all 0 n
+  noted_rises reached frame before after number was reaches notes = same_lists after (first_rises_from claimed all 0 n) at_position
     where
-      by : (k : ℕ) (o : Option N) → slice_get nodes k ≡ o → option_map (noted (reached k) frame) (option_map (at is_one claimed fs k) o) ≡ option_map (at is_one claimed all k) o
-      by k None e = refl
-      by k (Some a) e = ap Some (ap₂ (λ (b : Bool) (n : ℕ). noted b n (at is_one claimed fs k a)) (reaches k a e) number ∙ more_at k a)
+      from : (k : ℕ) (o : Option (Option ℕ)) → slice_get (first_rises_from claimed shown 0 n) k ≡ o → slice_get after k ≡ option_map (noted (reached k) frame) o
+      from k o e = notes k ∙ ap (option_map (noted (reached k) frame)) (ap (λ (l : List (Option ℕ)). slice_get l k) was ∙ e)
 
-      at_position : (k : ℕ) → slice_get after k ≡ option_map (at is_one claimed all k) (slice_get nodes k)
+      at_position : (k : ℕ) → slice_get after k ≡ slice_get (first_rises_from claimed all 0 n) k
       at_position k =
-          notes k
-          ∙ (ap (λ (o : Option (Option ℕ)). option_map (noted (reached k) frame) o) (ap (λ (l : List (Option ℕ)). slice_get l k) was ∙ rises_from_0 is_one claimed fs nodes k) ∙ by k (slice_get nodes k) refl)
+          elim (cases_lt k n) [
+            | inl h ↦
+                from k (Some (at claimed shown k)) (rises_there claimed shown n k h)
+                ∙ (ap Some (ap₂ (λ (b : Bool) (m : ℕ). noted b m (at claimed shown k)) (reaches k) number ∙ more_at k) ∙ sym (rises_there claimed all n k h))
+            | inr h ↦ from k None (rises_past claimed shown n k h) ∙ sym (rises_past claimed all n k h)
+          ]

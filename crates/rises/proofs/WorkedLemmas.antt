@@ -1,14 +1,16 @@
 -- First rises of worked traces.
-use Rattle.std.proofs.Common.{◌≡◌, ℕ, true, false, List, [], ◌∷◌, Some, None, refl, ap, ap₂, ◌∙◌}
+use Rattle.std.proofs.Common.{◌≡◌, ℕ, true, false, List, [], ◌∷◌, map, Some, None, refl, ap, ap₂, ◌∙◌}
 use Rattle.base.specs.Operator.{unary_value, binary_value}
 use Rattle.base.specs.declared.operators.Unary.TheVariants as unary
 use Rattle.base.specs.declared.operators.Binary.TheVariants as binary
 use Rattle.btor2.specs.Trace.{Frame, IsFrame, IsTrace, next_state}
+use Rattle.btor2.specs.Reachability.{model_shows}
 use Rattle.btor2.specs.Worked.{counter, toggler}
-use Rattle.aiger.specs.Literal.{Valuation}
+use Rattle.base.specs.Literal.{Valuation}
 use Rattle.aiger.specs.Trace.{IsTrace as IsBitTrace}
+use Rattle.aiger.specs.Reachability.{circuit_shows}
 use Rattle.witness.specs.Judgements.{FrameWords, Words, initial_words, given_words, given_frames}
-use Rattle.rises.specs.FirstRises.{first_rise, node_is_one, literal_is_one}
+use Rattle.rises.specs.FirstRises.{first_rise}
 use Rattle.rises.specs.Worked.{either, either_input}
 
 abbrev no_words : FrameWords
@@ -30,7 +32,7 @@ counts_on s i f x h carried =
     let state : f 4 ≡ x = h.1.1.1.0 ∙ carried in
     (h.1.1.1.1.1.0 ∙ ap (unary_value unary.Inc 2) state, h.1.1.1.1.1.1.1.1.0 ∙ ap₂ (binary_value binary.Eq 2) state h.1.1.1.1.1.1.1.0)
 
-pub counter_rises : (fs : List Frame) → IsTrace counter (initial_words counter eight_frames) (given_frames counter eight_frames) fs → first_rise node_is_one fs 9 ≡ Some 3
+pub counter_rises : (fs : List Frame) → IsTrace counter (initial_words counter eight_frames) (given_frames counter eight_frames) fs → first_rise (map (model_shows counter) fs) 0 ≡ Some 3
 counter_rises [] t = absurd t
 counter_rises (a ∷ []) t = absurd t.1
 counter_rises (a ∷ b ∷ []) t = absurd t.1.1
@@ -47,7 +49,7 @@ counter_rises (a ∷ b ∷ c ∷ d ∷ more) t =
     let one : d 9 ≡ 1 = at_3.1 in
     rw (zero_0, zero_1, zero_2, one) refl
 
-pub toggler_rises : (fs : List Frame) → IsTrace toggler (initial_words toggler two_frames) (given_frames toggler two_frames) fs → first_rise node_is_one fs 3 ≡ Some 1
+pub toggler_rises : (fs : List Frame) → IsTrace toggler (initial_words toggler two_frames) (given_frames toggler two_frames) fs → first_rise (map (model_shows toggler) fs) 0 ≡ Some 1
 toggler_rises [] t = absurd t
 toggler_rises (f ∷ []) t = absurd t.1
 toggler_rises (f ∷ g ∷ more) t =
@@ -56,7 +58,7 @@ toggler_rises (f ∷ g ∷ more) t =
     let second : g 3 ≡ 1 = t.1.0.1.1.0 ∙ negated in
     rw (first, second) refl
 
-pub toggler_cut : (fs : List Frame) → IsTrace toggler (initial_words toggler one_frame) (given_frames toggler one_frame) fs → first_rise node_is_one fs 3 ≡ None
+pub toggler_cut : (fs : List Frame) → IsTrace toggler (initial_words toggler one_frame) (given_frames toggler one_frame) fs → first_rise (map (model_shows toggler) fs) 0 ≡ None
 toggler_cut [] t = refl
 toggler_cut (f ∷ []) t = let first : f 3 ≡ 0 = t.0.1.1.0 in rw first refl
 toggler_cut (f ∷ g ∷ more) t = absurd t.1
@@ -66,9 +68,9 @@ abbrev pub low_then_high : List ℕ → Words
 low_then_high claims = record { claims = claims; frames = record { states = []; inputs = (0, 0) ∷ [] } ∷ record { states = []; inputs = (0, 1) ∷ [] } ∷ [] }
 
 pub record EitherRises (fs : List Frame) : Type 0 where
-  pub first : first_rise node_is_one fs 2 ≡ Some 1
-  pub second : first_rise node_is_one fs 3 ≡ Some 0
-  pub third : first_rise node_is_one fs 4 ≡ None
+  pub first : first_rise (map (model_shows either) fs) 0 ≡ Some 1
+  pub second : first_rise (map (model_shows either) fs) 1 ≡ Some 0
+  pub third : first_rise (map (model_shows either) fs) 2 ≡ None
 
 pub either_rises : (claims : List ℕ) (fs : List Frame) → IsTrace either (initial_words either (low_then_high claims)) (given_frames either (low_then_high claims)) fs → EitherRises fs
 either_rises claims [] t = absurd t
@@ -85,7 +87,7 @@ either_rises claims (f ∷ g ∷ h ∷ fs) t = absurd t.1.1
 pub three : {X : Type 0} (a b c x y z : X) → a ≡ x → b ≡ y → c ≡ z → a ∷ b ∷ c ∷ [] ≡ x ∷ y ∷ z ∷ []
 three a b c x y z d e f = ap₂ (λ v w. v ∷ w) d (ap₂ (λ v w. v ∷ w ∷ []) e f)
 
-pub input_rises : (vs : List Valuation) → IsBitTrace either_input [] ((true ∷ []) ∷ (false ∷ []) ∷ (false ∷ []) ∷ []) vs → first_rise literal_is_one vs 3 ≡ Some 1
+pub input_rises : (vs : List Valuation) → IsBitTrace either_input [] ((true ∷ []) ∷ (false ∷ []) ∷ (false ∷ []) ∷ []) vs → first_rise (map (circuit_shows either_input) vs) 1 ≡ Some 1
 input_rises [] t = absurd t
 input_rises (v ∷ []) t = absurd t.1
 input_rises (v ∷ w ∷ more) t =
@@ -93,7 +95,7 @@ input_rises (v ∷ w ∷ more) t =
     let low : w 1 ≡ false = cc (t.1.0.inputs) in
     rw (high, low) refl
 
-pub input_never : (vs : List Valuation) → IsBitTrace either_input [] ((false ∷ []) ∷ (false ∷ []) ∷ []) vs → first_rise literal_is_one vs 2 ≡ None
+pub input_never : (vs : List Valuation) → IsBitTrace either_input [] ((false ∷ []) ∷ (false ∷ []) ∷ []) vs → first_rise (map (circuit_shows either_input) vs) 0 ≡ None
 input_never [] t = absurd t
 input_never (v ∷ []) t = absurd t.1
 input_never (v ∷ w ∷ []) t =

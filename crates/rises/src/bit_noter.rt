@@ -1,7 +1,7 @@
 //! A judge of witnesses over a circuit that notes when claims are first reached.
 ghost use Rattle.std.specs.Prelude.{◌≡◌, ℕ, Bool, true, List, [], ◌++◌, MatchResult, if◌then◌else◌, length};
 ghost use Rattle.base.specs.Lines.{IsLine};
-ghost use Rattle.aiger.specs.Literal.{Valuation};
+ghost use Rattle.base.specs.Literal.{Valuation};
 ghost use Rattle.aiger.specs.Circuit.{Circuit};
 ghost use Rattle.witness.specs.BitAdmits.{admitted_lines};
 ghost use Rattle.witness.specs.BitJudgements.{BitJudges};

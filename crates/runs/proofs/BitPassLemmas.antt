@@ -2,13 +2,12 @@
 use Rattle.std.proofs.Common.{◌≡◌, ◌≢◌, ℕ, zero, suc, ◌+◌, ◌*◌, ◌<◌, ◌≤◌, Bool, false, ◌&&◌, List, [], ◌∷◌, length, get_or, set, ⊎_elim, refl, sym, ap, ap₂, ◌∙◌, arith}
 use Rattle.std.proofs.lemmas.Bool.{cases_eq}
 use Rattle.std.proofs.lemmas.List.{length-set, get_or-set_same, get_or-set_other, get_or_read, ext_get_or}
-use Rattle.base.specs.Steps.{one_more}
+use Rattle.base.specs.Steps.{one_more, more_steps}
 use Rattle.aiger.specs.declared.circuit.Gate.{Gate}
-use Rattle.aiger.specs.Literal.{Valuation, literal_value}
+use Rattle.base.specs.Literal.{Valuation, literal_value}
 use Rattle.aiger.specs.Net.{SatisfiesFrom, AreOrderedFrom, bits_from}
 use Rattle.aiger.proofs.NetLemmas.{length-bits_from}
 use Rattle.aiger.proofs.TraceLemmas.{AgreeBelow, literal_value-agree}
-use Rattle.base.specs.Steps.{more_steps}
 use Rattle.runs.specs.CircuitHolds.{valuation_of}
 
 -- Bits one after another.

@@ -3,7 +3,7 @@ use Rattle.std.proofs.Common.{◌≡◌, ℕ, suc, ◌+◌, ◌<◌, ◌≤◌, 
 use Rattle.std.proofs.lemmas.List.{length-map, length-set, length-replicate, get_or-map, get_or-replicate, get_or-set_other}
 use Rattle.aiger.specs.declared.circuit.Latch.{Latch}
 use Rattle.aiger.specs.declared.circuit.Reset.TheVariants.{Zero}
-use Rattle.aiger.specs.Literal.{Valuation, variable, literal_value}
+use Rattle.base.specs.Literal.{Valuation, variable, literal_value}
 use Rattle.aiger.specs.Net.{variables, IsDefined, SatisfiesFrom, input_bits, latch_bits}
 use Rattle.aiger.specs.Circuit.{Circuit, IsCircuit, net}
 use Rattle.aiger.specs.Trace.{IsFrame, SameFrame, next_state}

@@ -1,6 +1,6 @@
 -- What a run of a circuit keeps.
 use Rattle.std.specs.Prelude.{◌≡◌, ◌+◌, Bool, true, false, List, length, slice_index_or}
-use Rattle.aiger.specs.Literal.{Valuation}
+use Rattle.base.specs.Literal.{Valuation}
 use Rattle.aiger.specs.Net.{variables, Satisfies, input_bits, latch_bits}
 use Rattle.aiger.specs.Circuit.{Circuit, IsCircuit, net}
 use Rattle.runs.specs.declared.bit_run.BitRun.TheInside.{Inside}

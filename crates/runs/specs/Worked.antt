@@ -1,7 +1,7 @@
 -- Worked circuits: an AND gate of two inputs, and two latches that exchange their bits.
 use Rattle.std.specs.Prelude.{[], ◌∷◌, true}
 use Rattle.aiger.specs.declared.circuit.Reset.TheVariants.{One, Free}
-use Rattle.aiger.specs.Literal.{Valuation}
+use Rattle.base.specs.Literal.{Valuation}
 use Rattle.aiger.specs.Circuit.{Circuit}
 
 -- two inputs, their AND gate, and it as an output

@@ -1,7 +1,7 @@
 //! The passes over the lists of bits of a run.
 ghost use Rattle.std.specs.Prelude.{◌≡◌, ℕ, ◌+◌, ◌<◌, ◌≤◌, false, length, All, slice_index_or, slice_set};
 ghost use Rattle.base.specs.Steps.{one_more, more_steps};
-ghost use Rattle.aiger.specs.Literal.{variable, literal_value};
+ghost use Rattle.base.specs.Literal.{variable, literal_value};
 ghost use Rattle.aiger.specs.Net.{AreOrderedFrom, SatisfiesFrom};
 ghost use Rattle.runs.specs.CircuitRun.{first_bit};
 ghost use Rattle.runs.specs.CircuitHolds.{valuation_of};

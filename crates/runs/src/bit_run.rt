@@ -1,7 +1,7 @@
 //! The run of a circuit, and its calls.
 ghost use Rattle.std.specs.Prelude.{◌≡◌, ◌<◌, ℕ, true, false, length, IfOk, OnErr, IfErr, slice_index, slice_set};
 ghost use Rattle.base.specs.Steps.{more_steps};
-ghost use Rattle.aiger.specs.Literal.{Valuation, literal_value};
+ghost use Rattle.base.specs.Literal.{Valuation, literal_value};
 ghost use Rattle.aiger.specs.Net.{IsDefined};
 ghost use Rattle.aiger.specs.Circuit.{net};
 ghost use Rattle.aiger.specs.Trace.{next_state};

@@ -8,7 +8,7 @@ ghost use Rattle.btor2.specs.Trace.{Frame, IsFrame, state_word, next_state as ne
 ghost use Rattle.btor2.specs.Worked.{counter, follower};
 ghost use Rattle.runs.specs.Frames.{ids_of, given, given_leaves};
 ghost use Rattle.runs.specs.Run.{IsNow, node_count, state_count, start};
-ghost use Rattle.aiger.specs.Literal.{Valuation, literal_value};
+ghost use Rattle.base.specs.Literal.{Valuation, literal_value};
 ghost use Rattle.aiger.specs.Circuit.{IsCircuit};
 ghost use Rattle.aiger.specs.Trace.{SameFrame, next_state};
 ghost use Rattle.aiger.specs.Worked.{toggler};

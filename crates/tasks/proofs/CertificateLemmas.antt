@@ -5,7 +5,7 @@ use Rattle.btor2.specs.declared.item.Item.{Item}
 use Rattle.aiger.specs.Circuit.{Circuit}
 use Rattle.aiger.specs.Reachability.{CanRiseInCircuit}
 use Rattle.blast.specs.Lowering.{Lowers}
-use Rattle.blast.specs.Reachability.{CanRise}
+use Rattle.btor2.specs.Reachability.{CanRise}
 use Rattle.blast.specs.Refusal.{lowering_refusal}
 use Rattle.engine.specs.declared.fault.EngineFault.{EngineFault}
 use Rattle.engine.specs.declared.fault.EngineFault.TheVariants as engine
@@ -33,7 +33,8 @@ use Rattle.tasks.specs.Conversions.{of_certificate, of_claim, of_engine_form, of
 use Rattle.tasks.specs.Refusals.{IsFaultyFor, IsFaultyOver}
 use Rattle.tasks.specs.Statuses.{IfSecond}
 use Rattle.tasks.specs.Subjects.{holds_said, where_named}
-use Rattle.tasks.specs.Texts.{IsClaim, IsModelOf}
+use Rattle.btor2text.specs.Spelling.{IsModelOf}
+use Rattle.tasks.specs.Claims.{IsClaim}
 
 -- ---- what is refused
 

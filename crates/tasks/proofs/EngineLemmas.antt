@@ -7,13 +7,15 @@ use Rattle.aiger.specs.Reachability.{CanRiseInCircuit}
 use Rattle.aigertext.specs.declared.forms.Form.{Form}
 use Rattle.aigertext.specs.Binary.{circuit_text}
 use Rattle.blast.specs.Lowering.{Lowers}
-use Rattle.blast.specs.Reachability.{CanRise}
+use Rattle.btor2.specs.Reachability.{CanRise}
 use Rattle.blast.specs.Refusal.{lowering_refusal}
 use Rattle.engine.specs.EngineForm.{IsEngineFormOf}
 use Rattle.engine.specs.Outputs.{HasOutputsAsBads, OutputCanBeOne}
 use Rattle.tasks.specs.declared.answers.Answer.{Answer}
 use Rattle.tasks.specs.declared.refusals.Refusal.{Refusal}
-use Rattle.tasks.specs.Done.{ConvertsForEngines, IsCircuitText, IsModelOf, LowersForEngines, RiseAlike, WritesEngineForm}
+use Rattle.btor2text.specs.Spelling.{IsModelOf}
+use Rattle.aigertext.specs.Spelling.{IsCircuitText}
+use Rattle.tasks.specs.Done.{ConvertsForEngines, LowersForEngines, RiseAlike, WritesEngineForm}
 use Rattle.tasks.specs.Outputs.{ConvertsOutputs, ConvertsOutputsForEngines}
 
 -- the laws of engine forms: with all bad properties, and with a chosen one

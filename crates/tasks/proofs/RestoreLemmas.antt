@@ -15,7 +15,9 @@ use Rattle.restore.specs.FormWitness.{form_restored_text, FormJudges, FindsWitne
 use Rattle.restore.specs.Restored.{restored_text}
 use Rattle.tasks.specs.declared.answers.Answer.{Answer}
 use Rattle.tasks.specs.declared.refusals.Refusal.{Refusal}
-use Rattle.tasks.specs.Done.{IsCircuitText, IsClaim, IsSo, Restores, TellsRestored, Judged, IsFormRestored, judgement_line}
+use Rattle.aigertext.specs.Spelling.{IsCircuitText}
+use Rattle.tasks.specs.Claims.{IsClaim}
+use Rattle.tasks.specs.Done.{IsSo, Restores, TellsRestored, Judged, IsFormRestored, judgement_line}
 use Rattle.tasks.specs.Restoring.{IsAnswerOf, IsWhole, TellsVerdict}
 
 -- what is known of an answer by its clauses

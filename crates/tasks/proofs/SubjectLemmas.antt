@@ -17,7 +17,9 @@ use Rattle.rises.specs.FirstRises.{word_first_rises, AreBitFirstRises}
 use Rattle.tasks.specs.declared.answers.Answer.{Answer}
 use Rattle.tasks.specs.declared.refusals.Refusal.{Refusal}
 use Rattle.reached.specs.Accepted.{Reaches, ReachesInCircuit}
-use Rattle.tasks.specs.Done.{IsCircuitText, IsModelOf, IsJudged, IsJudgedByName, IsJudgedOver, IsJudgedOverByName, IsSo, Judged, judgement_line}
+use Rattle.btor2text.specs.Spelling.{IsModelOf}
+use Rattle.aigertext.specs.Spelling.{IsCircuitText}
+use Rattle.tasks.specs.Done.{IsJudged, IsJudgedByName, IsJudgedOver, IsJudgedOverByName, IsSo, Judged, judgement_line}
 use Rattle.tasks.specs.Subjects.{bad_item_said, bad_name_said, first_said, firsts_said, item_said, name_said, numbered_item, said_by_name, says_item}
 
 -- ---- the item with a number

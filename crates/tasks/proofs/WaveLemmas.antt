@@ -12,7 +12,8 @@ use Rattle.wave.specs.Dumps.{vcd_text}
 use Rattle.wave.specs.declared.scope.Shown.{Shown}
 use Rattle.tasks.specs.declared.answers.Answer.{Answer}
 use Rattle.tasks.specs.declared.refusals.Refusal.{Refusal}
-use Rattle.tasks.specs.Done.{IsDumped, IsModelOf, IsSo, Judged, judgement_line}
+use Rattle.btor2text.specs.Spelling.{IsModelOf}
+use Rattle.tasks.specs.Done.{IsDumped, IsSo, Judged, judgement_line}
 
 pub dumped : (r : Result Answer Refusal) (shown : Shown) (known witness before now told told' : Option (List ℕ)) (items : List Item) (title : List ℕ) (verdict : Judgement)
     → IsModelOf known items → IsWellFormed items → first_init_without_next items items ≡ None

@@ -5,7 +5,7 @@ use Rattle.btor2.specs.declared.item.Item.{Item}
 use Rattle.aiger.specs.Circuit.{Circuit, IsCircuit}
 use Rattle.aiger.specs.Reachability.{CanRiseInCircuit}
 use Rattle.blast.specs.Lowering.{Lowers}
-use Rattle.blast.specs.Reachability.{CanRise}
+use Rattle.btor2.specs.Reachability.{CanRise}
 use Rattle.blast.specs.Refusal.{lowering_refusal}
 use Rattle.clauses.specs.declared.judgement.Judgement.{Judgement}
 use Rattle.clauses.specs.declared.judgement.Judgement.TheVariants as verdict
@@ -19,7 +19,9 @@ use Rattle.tasks.specs.declared.certificates.Read.{Read}
 use Rattle.orders.specs.declared.tasks.Given.{Given}
 use Rattle.orders.specs.declared.tasks.Given.TheVariants as given
 use Rattle.tasks.specs.Subjects.{bad_item_said, bad_name_said, holds_said}
-use Rattle.tasks.specs.Texts.{IsCircuitText, IsClaim, IsModelOf}
+use Rattle.btor2text.specs.Spelling.{IsModelOf}
+use Rattle.aigertext.specs.Spelling.{IsCircuitText}
+use Rattle.tasks.specs.Claims.{IsClaim}
 
 -- the first text is of a model against which nothing speaks, and a circuit lowers it
 pub record LowersFirst (first : Option (List ℕ)) (c : Circuit) : Type 0 where

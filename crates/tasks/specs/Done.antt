@@ -12,7 +12,7 @@ use Rattle.aiger.specs.Reachability.{CanRiseInCircuit}
 use Rattle.aigertext.specs.declared.forms.Form.{Form}
 use Rattle.aigertext.specs.Binary.{circuit_text}
 use Rattle.blast.specs.Cost.{cost, bound}
-use Rattle.blast.specs.Reachability.{CanRise}
+use Rattle.btor2.specs.Reachability.{CanRise}
 use Rattle.blast.specs.Refusal.{lowering_refusal}
 use Rattle.engine.specs.EngineForm.{IsEngineFormOf, input_count}
 use Rattle.engine.specs.Refusal.{engine_refusal}
@@ -37,7 +37,9 @@ use Rattle.witness.specs.Printed.{judgement_text}
 use Rattle.tidy.specs.Tidied.{tidied}
 use Rattle.vectors.specs.declared.lines.Vector.{Vector}
 use Rattle.vectors.specs.Vectors.{AreVectorsOf, IsRight, numbered, differing, report}
-pub use Rattle.tasks.specs.Texts.{IsModelOf, IsCircuitText, IsClaim}
+use Rattle.btor2text.specs.Spelling.{IsModelOf}
+use Rattle.aigertext.specs.Spelling.{IsCircuitText}
+use Rattle.tasks.specs.Claims.{IsClaim}
 use Rattle.tasks.specs.declared.answers.Answer.{Answer}
 use Rattle.tasks.specs.declared.answers.Answer.TheVariants as answer
 use Rattle.tasks.specs.Subjects.{bad_item_said, bad_name_said, item_said, name_said, said_by_name}

@@ -9,4 +9,4 @@ pub mod Refusals
 pub mod Restoring
 pub mod Statuses
 pub mod Subjects
-pub mod Texts
+pub mod Claims

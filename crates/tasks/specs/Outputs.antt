@@ -12,7 +12,8 @@ use Rattle.engine.specs.Refusal.{engine_refusal}
 use Rattle.engine.specs.declared.fault.EngineFault.{EngineFault}
 use Rattle.tasks.specs.declared.refusals.Fault.{Fault}
 use Rattle.tasks.specs.declared.refusals.Fault.TheVariants as fault
-use Rattle.tasks.specs.Done.{IsCircuitText, RiseAlike}
+use Rattle.aigertext.specs.Spelling.{IsCircuitText}
+use Rattle.tasks.specs.Done.{RiseAlike}
 use Rattle.tasks.specs.Refusals.{IsNoCircuit}
 
 -- ---- what is done

@@ -37,7 +37,8 @@ use Rattle.orders.specs.declared.tasks.Given.{Given}
 use Rattle.orders.specs.declared.tasks.Given.TheVariants as given
 use Rattle.tasks.specs.Certificates.{Gives}
 use Rattle.tasks.specs.Names.{harmless}
-use Rattle.tasks.specs.Texts.{IsClaim, IsModelOf}
+use Rattle.btor2text.specs.Spelling.{IsModelOf}
+use Rattle.tasks.specs.Claims.{IsClaim}
 
 -- ---- lines
 

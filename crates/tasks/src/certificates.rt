@@ -10,7 +10,7 @@ ghost use Rattle.clauses.specs.FormulaTexts.{formula_text};
 ghost use Rattle.invariants.specs.Certificates.{IsCertified, IsOwed};
 ghost use Rattle.orders.specs.declared.tasks.Given.TheVariants as given_is;
 ghost use Rattle.tasks.specs.Certificates.{CertifiesWith, Gives, IsRead, IsSoDerived, WritesOwed, given_said, read_said, verdict_line};
-ghost use Rattle.tasks.specs.Done.{IsModelOf};
+ghost use Rattle.btor2text.specs.Spelling.{IsModelOf};
 ghost use Rattle.tasks.specs.declared.refusals.Claimed.TheVariants as claimed_is;
 ghost use Rattle.tasks.specs.Refusals.{IsFaultyFor, IsFaultyInvariant, IsNoCircuit, IsNotClaimed, IsNotGiven, IsNotLowered, IsWithoutForm};
 ghost use Rattle.tasks.specs.Statuses.{Counts, CountsAll, ErrUntold, IfInput, IfSecond, IsOfNoInput};

@@ -4,7 +4,8 @@ ghost use Rattle.std.specs.Prelude.{◌≡◌, ℕ, List, Option, IfOk, IfErr, O
 ghost use Rattle.std.specs.Io.KnownBytes.{Appends};
 ghost use Rattle.aiger.specs.Circuit.{IsCircuit};
 ghost use Rattle.aigertext.specs.Binary.{circuit_text};
-ghost use Rattle.tasks.specs.Done.{IsCircuitText, IsJudgedOver, IsJudgedOverByName, Judged, Rewrites};
+ghost use Rattle.aigertext.specs.Spelling.{IsCircuitText};
+ghost use Rattle.tasks.specs.Done.{IsJudgedOver, IsJudgedOverByName, Judged, Rewrites};
 ghost use Rattle.tasks.specs.Refusals.{IsNoCircuit};
 ghost use Rattle.tasks.specs.Statuses.{Counts, ErrUntold, IfInput, IsOfNoInput};
 

@@ -2,7 +2,9 @@
 
 ghost use Rattle.std.specs.Prelude.{◌≡◌, ℕ, List, Option, IfOk, IfErr, OnOk};
 ghost use Rattle.orders.specs.declared.tasks.Given.TheVariants as given_is;
-ghost use Rattle.tasks.specs.Done.{ConvertsForEngines, IsCircuitText, IsModelOf, LowersForEngines, WritesEngineForm};
+ghost use Rattle.btor2text.specs.Spelling.{IsModelOf};
+ghost use Rattle.aigertext.specs.Spelling.{IsCircuitText};
+ghost use Rattle.tasks.specs.Done.{ConvertsForEngines, LowersForEngines, WritesEngineForm};
 ghost use Rattle.tasks.specs.Refusals.{IsNotForEngines, IsWithoutForm};
 ghost use Rattle.tasks.specs.Statuses.{Counts, IfInput};
 

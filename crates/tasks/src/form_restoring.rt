@@ -3,7 +3,8 @@
 ghost use Rattle.std.specs.Prelude.{◌≡◌, ℕ, List, Option, IfOk, IfErr};
 ghost use Rattle.engine.specs.EngineForm.{IsEngineFormOf};
 ghost use Rattle.orders.specs.declared.tasks.Given.TheVariants as given_is;
-ghost use Rattle.tasks.specs.Done.{IsCircuitText, IsFormRestored, Judged};
+ghost use Rattle.aigertext.specs.Spelling.{IsCircuitText};
+ghost use Rattle.tasks.specs.Done.{IsFormRestored, Judged};
 ghost use Rattle.tasks.specs.Refusals.{IsNotForEngines};
 ghost use Rattle.tasks.specs.Statuses.{Counts, IfInput, IsOfNoInput, ErrUntold};
 

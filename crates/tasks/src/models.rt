@@ -5,7 +5,8 @@ ghost use Rattle.std.specs.Io.KnownBytes.{Appends};
 ghost use Rattle.std.specs.String.{string_bytes};
 ghost use Rattle.btor2text.specs.Writing.{written};
 ghost use Rattle.blast.specs.Conversion.{Converts};
-ghost use Rattle.tasks.specs.Done.{IsJudged, IsJudgedByName, IsModelOf, Judged, Shows, TellsCost, counts_line, cost_lines};
+ghost use Rattle.btor2text.specs.Spelling.{IsModelOf};
+ghost use Rattle.tasks.specs.Done.{IsJudged, IsJudgedByName, Judged, Shows, TellsCost, counts_line, cost_lines};
 ghost use Rattle.tasks.specs.Refusals.{IsNoModel, IsNotJudged, IsNotLowered};
 ghost use Rattle.tasks.specs.Statuses.{Counts, ErrUntold, IfInput, IsOfNoInput};
 

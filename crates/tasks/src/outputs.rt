@@ -2,7 +2,7 @@
 
 ghost use Rattle.std.specs.Prelude.{◌≡◌, ℕ, List, Option, IfOk, IfErr, OnOk};
 ghost use Rattle.engine.specs.Outputs.{HasOutputsAsBads};
-ghost use Rattle.tasks.specs.Done.{IsCircuitText};
+ghost use Rattle.aigertext.specs.Spelling.{IsCircuitText};
 ghost use Rattle.tasks.specs.Outputs.{ConvertsOutputs, ConvertsOutputsForEngines, HasTooManyOutputs, IsNotWithOutputs, IsNotWithOutputsForEngines};
 ghost use Rattle.tasks.specs.Statuses.{Counts, IfInput};
 

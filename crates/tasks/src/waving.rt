@@ -1,7 +1,8 @@
 //! The command that dumps the frames of witnesses.
 
 ghost use Rattle.std.specs.Prelude.{◌≡◌, ℕ, List, Option, IfOk, IfErr};
-ghost use Rattle.tasks.specs.Done.{IsDumped, IsModelOf, Judged};
+ghost use Rattle.btor2text.specs.Spelling.{IsModelOf};
+ghost use Rattle.tasks.specs.Done.{IsDumped, Judged};
 ghost use Rattle.tasks.specs.Refusals.{IsNotJudged};
 ghost use Rattle.tasks.specs.Statuses.{Counts, IfInput, ErrUntold};
 

@@ -10,7 +10,7 @@ use Rattle.base.specs.Widths.{unary_width, binary_width, is_reduction, is_test}
 use Rattle.base.specs.Operator.{unary_value, binary_value}
 use Rattle.base.proofs.BitLemmas.{length-bits, word-bits}
 use Rattle.base.proofs.ValueLaws.{unary_below, binary_below}
-use Rattle.aiger.specs.Literal.{Valuation, literal_value}
+use Rattle.base.specs.Literal.{Valuation, literal_value}
 use Rattle.aiger.specs.Circuit.{Circuit}
 use Rattle.aiger.specs.Trace.{IsFrame, IsTrace}
 use Rattle.aiger.proofs.TraceLemmas.{trace_exists}

@@ -6,7 +6,7 @@ use Rattle.std.proofs.lemmas.Grind.{take-set_at}
 use Rattle.std.proofs.lemmas.List.{length-map, length-set, get_or-map}
 use Rattle.base.specs.Word.{word, bits, bit_number}
 use Rattle.base.proofs.BitLemmas.{two_more, bit_number_small}
-use Rattle.aiger.specs.Literal.{Valuation, literal_value}
+use Rattle.base.specs.Literal.{Valuation, literal_value}
 use Rattle.aiger.specs.Circuit.{Circuit}
 use Rattle.runs.specs.CircuitRun.{CircuitRun, IsFrameNow}
 use Rattle.vectors.specs.CircuitRuns.{IsRunOf}

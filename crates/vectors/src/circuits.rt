@@ -4,7 +4,7 @@ ghost use Rattle.std.specs.Prelude.{◌≡◌, ◌≤◌, ◌+◌, ◌++◌, ◌
 ghost use Rattle.base.specs.Word.{word, bits};
 ghost use Rattle.base.specs.Widths.{unary_width, binary_width};
 ghost use Rattle.btor2.specs.declared.item.Body.TheVariants as body;
-ghost use Rattle.aiger.specs.Literal.{Valuation, literal_value};
+ghost use Rattle.base.specs.Literal.{Valuation, literal_value};
 ghost use Rattle.blast.specs.Lowering.{Lowers};
 ghost use Rattle.runs.specs.CircuitRun.{IsFrameNow};
 ghost use Rattle.vectors.specs.Vectors.{IsVector, value_of};

@@ -3,6 +3,7 @@ use Rattle.std.proofs.Common.{◌≡◌, suc, List, [], ◌∷◌, ◌++◌, len
 use Rattle.std.proofs.lemmas.List.{map-append, length-map}
 use Rattle.btor2.specs.declared.item.Item.{Item}
 use Rattle.btor2.specs.Trace.{Frame, IsTrace, next_state}
+use Rattle.btor2.proofs.TraceLemmas.{trace_length}
 use Rattle.witness.specs.Texts.{Parts}
 use Rattle.witness.specs.Judgements.{Words, frame_words, initial_words, given_words, given_frames}
 
@@ -20,12 +21,6 @@ record Split (items : List Item) (carried : Frame) (inputs more : List Frame) (f
   trace : IsTrace items carried inputs front
   many : length front ≡ length inputs
   as_many : length rest ≡ length more
-
-trace_length : (items : List Item) (carried : Frame) (inputs fs : List Frame) → IsTrace items carried inputs fs → length fs ≡ length inputs
-trace_length items carried [] [] t = refl
-trace_length items carried [] (f ∷ fs) t = absurd t
-trace_length items carried (i ∷ is) [] t = absurd t
-trace_length items carried (i ∷ is) (f ∷ fs) t = ap suc (trace_length items (next_state items f) is fs t.1)
 
 split : (items : List Item) (carried : Frame) (inputs more fs : List Frame) → IsTrace items carried (inputs ++ more) fs → Split items carried inputs more fs
 split items carried [] more fs t = record { front = []; rest = fs; is = refl; trace = tt; many = refl; as_many = trace_length items carried more fs t }

@@ -1,5 +1,5 @@
 -- What a judge of witnesses of a circuit holds, line by line, and what it judges of a text.
-use Rattle.std.proofs.Common.{◌≡◌, ℕ, ◌+◌, ◌<◌, ◌≤◌, ◌^◌, Bool, true, false, ◌||◌, List, [], ◌∷◌, ◌++◌, Result, IfOk, Ok, Err, codes, length, length-append, refl, sym, ap, subst, ◌∙◌, arith, suc, cond, Option, Some, None}
+use Rattle.std.proofs.Common.{◌≡◌, ℕ, ◌+◌, ◌<◌, ◌≤◌, ◌^◌, Bool, true, false, ◌||◌, List, [], ◌∷◌, ◌++◌, Result, IfOk, Ok, Err, codes, length, length-append, refl, sym, ap, subst, ◌∙◌, arith, cond, Option, Some, None, map}
 use Rattle.std.specs.Str.{bytes_eq}
 use Rattle.std.proofs.lemmas.Bool.{false_from_ne_true}
 use Rattle.base.specs.Lines.{IsLine, whole_lines, unfinished}
@@ -16,14 +16,17 @@ use Rattle.witness.proofs.TextEndLemmas.{whole_lines-line_end, unfinished-line_e
 use Rattle.witness.proofs.ReadingLemmas.{by_test, Goes, On, Until, goes, holds_behind}
 use Rattle.witness.proofs.StandsLemmas.{awaits, none_awaited, ClaimsMore, line_ended}
 use Rattle.std.proofs.Math.Bool.{or-false}
-use Rattle.aiger.specs.Literal.{Valuation}
-use Rattle.aiger.specs.Trace.{IsTrace, next_state}
+use Rattle.base.specs.Literal.{Valuation}
+use Rattle.aiger.specs.Trace.{IsTrace}
+use Rattle.aiger.proofs.TraceLemmas.{trace_length}
 use Rattle.witness.specs.declared.judgement.Judgement.{Judgement}
 use Rattle.witness.specs.BitTexts.{BitWitness}
-use Rattle.witness.specs.BitJudgements.{bit_verdict, JudgesBits}
+use Rattle.aiger.specs.Reachability.{circuit_shows}
+use Rattle.witness.specs.BitJudgements.{first_reset_differing, JudgesBits}
 use Rattle.witness.specs.BitPlays.{BitPlay, Plays, Traced}
-use Rattle.witness.specs.Judgements.{first_of}
+use Rattle.witness.specs.Judgements.{first_of, verdict}
 use Rattle.witness.proofs.BitReadLemmas.{done}
+use Rattle.witness.proofs.ShownLemmas.{bits_verdict}
 
 -- what an admitted line changes
 record Moves (r next : BitRead) : Type 0 where
@@ -94,19 +97,14 @@ whole_line c text bytes j new is stands empty same lines =
 
 -- ---- the verdict
 
-trace_length : (c : Circuit) (state : List Bool) (frames : List (List Bool)) (vs : List Valuation) → IsTrace c state frames vs → length vs ≡ length frames
-trace_length c state [] [] t = refl
-trace_length c state [] (v ∷ vs) t = absurd t
-trace_length c state (f ∷ frames) [] t = absurd t
-trace_length c state (f ∷ frames) (v ∷ vs) t = ap suc (trace_length c (next_state c v) frames vs t.1)
-
-module _ (c : Circuit) (w : BitWitness) (p : BitPlay) (vs : List Valuation) (plays : Plays c w.claim w.initial w.frames p []) (trace : IsTrace c w.initial w.frames vs) where
+module _ (c : Circuit) (w : BitWitness) (p : BitPlay) (vs : List Valuation) (within : w.claim < length c.bads) (plays : Plays c w.claim w.initial w.frames p []) (trace : IsTrace c w.initial w.frames vs) where
   traced : Traced c w.claim w.initial p vs
   traced = plays.traced vs trace
 
   -- the claim, where it is not reached
-  pub judged_whole : (o : Option ℕ) → o ≡ cond p.rose None (Some w.claim) → first_of p.differs p.breach o p.frames ≡ bit_verdict c w vs
-  judged_whole o e = rw (plays.differs, traced.breach, e, traced.rose, plays.count ∙ sym (trace_length c w.initial w.frames vs trace)) refl
+  pub judged_whole : (o : Option ℕ) → o ≡ cond p.rose None (Some w.claim) → first_of p.differs p.breach o p.frames ≡ verdict (first_reset_differing 0 c.latches w.initial) (w.claim ∷ []) (length c.bads) (map (circuit_shows c) vs)
+  judged_whole o e =
+      rw (plays.differs, traced.breach, e, traced.rose, plays.count ∙ sym (trace_length c w.initial w.frames vs trace)) (bits_verdict c (first_reset_differing 0 c.latches w.initial) w.claim vs within)
 
 -- ---- the judgement
 
@@ -125,4 +123,4 @@ whole_witness c text j old same o was none unreached at_end vs t =
     let r : BitRead = (lines_read (bit_reader c) (whole_lines text)).read in
     let reads = stands.lines.reads none in
     let plays : PlaysAt c r j.reader.play (unfinished text) AtDone = subst (PlaysAt c r j.reader.play (unfinished text)) (done r.place at_end) reads.play in
-    judged_whole c (bit_witness_of r) j.reader.play vs plays t o (unreached ∙ ap (λ (i : ℕ). cond j.reader.play.rose None (Some i)) reads.claim)
+    judged_whole c (bit_witness_of r) j.reader.play vs plays.1 plays.0 t o (unreached ∙ ap (λ (i : ℕ). cond j.reader.play.rose None (Some i)) reads.claim)

@@ -5,16 +5,17 @@ use Rattle.std.proofs.lemmas.List.{take_more_set, length-map, length-set, length
 use Rattle.std.proofs.lemmas.List.Folds.{list_any-append}
 use Rattle.std.proofs.Math.Seq.{take-length}
 use Rattle.aiger.specs.declared.circuit.Latch.{Latch}
-use Rattle.aiger.specs.Literal.{Valuation, literal_value}
+use Rattle.base.specs.Literal.{Valuation, literal_value}
 use Rattle.aiger.specs.Circuit.{Circuit}
 use Rattle.aiger.specs.Trace.{IsFrame, IsTrace, next_state}
 use Rattle.runs.specs.Run.{more_steps}
 use Rattle.runs.specs.CircuitRun.{CircuitRun, IsFrameNow, no_inputs, settle_steps}
 use Rattle.base.proofs.StepLemmas.{more_steps-sum}
 use Rattle.witness.specs.Judgements.{Violation, violated_at}
-use Rattle.witness.specs.BitJudgements.{differs_from_reset, first_reset_differing, first_bit_violated, bit_violation_from, bit_rises}
+use Rattle.witness.specs.BitPlays.{first_bit_violated, BitPlay, frame_steps, steps_of, state_behind, Begins, Traced, Plays, differing, latch_given, bit_rises}
+use Rattle.witness.specs.Fits.{breach_from}
+use Rattle.witness.specs.BitJudgements.{differs_from_reset, first_reset_differing}
 use Rattle.witness.specs.BitScans.{is_one_bit}
-use Rattle.witness.specs.BitPlays.{BitPlay, frame_steps, steps_of, state_behind, Begins, Traced, Plays, differing, latch_given}
 use Rattle.std.proofs.Math.Bool.{or-false}
 use Rattle.witness.proofs.JudgedLemmas.{breach_more}
 
@@ -134,7 +135,7 @@ module _ (c : Circuit) (claim : ℕ) (initial : List Bool) (frames : List (List 
         breach =
             closes.breach s.v now
             ∙ (ap₂ (λ (o : Option Violation) (n : ℕ). option_or o (violated_at n (first_bit_violated c s.v) None)) was.breach number
-            ∙ (sym (breach_more (first_bit_violated c) 0 s.front s.v) ∙ ap (bit_violation_from c 0) (sym s.is)));
+            ∙ (sym (breach_more (first_bit_violated c) 0 s.front s.v) ∙ ap (breach_from (first_bit_violated c) 0) (sym s.is)));
         rose =
             closes.rose s.v now
             ∙ (ap (λ (b : Bool). b || literal_value s.v (get_or c.bads claim 0)) was.rose

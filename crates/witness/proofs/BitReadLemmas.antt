@@ -388,3 +388,10 @@ pub no_beginning_with : (c : Circuit) (text : List ℕ) (before : List (List ℕ
     → whole_lines text ≡ before ++ line ∷ behind → admitted_lines c text ≡ length before → BitSays c (text_of_lines (before ++ line ∷ []) ++ further) w → ⊥
 no_beginning_with c text before line behind further w circuit split count says =
     none_begins (bit_reader c) text before line behind further (all_bits_read w) split count (bit_says_read c (text_of_lines (before ++ line ∷ []) ++ further) w circuit says)
+
+-- how many lines a witness has
+pub many_lines : (w : BitWitness) → length (bit_witness_lines w) ≡ length w.frames + 4
+many_lines w =
+    let behind = length-append (map bit_line w.frames) (codes "." ∷ []) in
+    let many = length-map w.frames bit_line in
+    omega (arith, behind, many)

@@ -12,7 +12,7 @@ use Rattle.witness.proofs.WordValueLemmas.{known_not_x, known_are_values}
 use Rattle.std.proofs.lemmas.List.{length-map, length-replicate}
 use Rattle.std.proofs.Math.Seq.{take-length}
 use Rattle.aiger.specs.Circuit.{Circuit}
-use Rattle.aiger.specs.Literal.{Valuation}
+use Rattle.base.specs.Literal.{Valuation}
 use Rattle.aiger.specs.Trace.{IsTrace}
 use Rattle.runs.specs.Run.{more_steps}
 use Rattle.runs.specs.CircuitRun.{first_bit}
@@ -150,17 +150,19 @@ module _ (c : Circuit) (r : BitRead) (line : List ℕ) (q : BitReader) (reads : 
             counts = record { circuit = reads.counts.circuit; frames = reads.counts.frames; steps = reads.counts.steps };
             place = refl;
             claim = reads.claim;
-            play =
-                record {
-                  circuit = plays.0.circuit;
-                  run = plays.0.run;
-                  differs = plays.0.differs;
-                  many = plays.0.many;
-                  bits = λ few. refl;
-                  count = plays.0.count;
-                  steps = plays.0.steps;
-                  traced = plays.0.traced;
-                };
+            play = (
+              record {
+                circuit = plays.0.circuit;
+                run = plays.0.run;
+                differs = plays.0.differs;
+                many = plays.0.many;
+                bits = λ few. refl;
+                count = plays.0.count;
+                steps = plays.0.steps;
+                traced = plays.0.traced;
+              },
+              plays.1,
+            );
           },
         ),
       )

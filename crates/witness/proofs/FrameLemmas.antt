@@ -8,21 +8,23 @@ use Rattle.btor2.specs.declared.item.Body.{Body}
 use Rattle.btor2.specs.Items.{operands, is_input, is_state, is_bad, is_constraint, constant_of, init_value, next_value, init_word, find_item, position_of, is_free}
 use Rattle.btor2.specs.Check.{IsWellFormed}
 use Rattle.btor2.specs.Lists.{places, of_kind, init_place, constant_at}
-use Rattle.btor2.specs.Trace.{Frame, state_word, LineHolds, LinesHold, IsFrame, IsTrace, next_state}
+use Rattle.btor2.specs.Trace.{Frame, state_word, LineHolds, LinesHold, IsFrame, IsTrace}
 use Rattle.btor2.proofs.ModelLemmas.{find_item-in}
 use Rattle.runs.specs.Run.{property_id, is_one, Run, IsNow, zeros}
 use Rattle.runs.proofs.RankLemmas.{nth, length-places, IsNth, length-ids, state_leaf, input_leaf, either_word}
 use Rattle.runs.proofs.PlaceLemmas.{map_read}
 use Rattle.runs.proofs.StateLemmas.{nth-get, init_at}
-use Rattle.witness.specs.Judgements.{nodes_of, differs, first_different, FrameWords, initial_words, given_words, given_frames, Words, never_rises, unreached_from}
+use Rattle.btor2.specs.Reachability.{nodes_of}
+use Rattle.witness.specs.Fits.{never_1, first_unreached, is_set, FirstFits, StandsAt, RisesAmong, NoneIsSet, words_put}
+use Rattle.witness.specs.Judgements.{differs, first_different, FrameWords, initial_words, given_words, given_frames, Words}
 use Rattle.witness.proofs.GivenWordLemmas.{SameAt, put_given, named_state, inputs_given}
 use Rattle.std.proofs.lemmas.Bool.{cases_eq}
 use Rattle.std.proofs.lemmas.Option.{get_or_from_slice_get}
 use Rattle.btor2.proofs.LookUps.{found, init_some, init_none}
 use Rattle.runs.specs.Frames.{ids_of, given_leaves, given as given_at}
 use Rattle.witness.specs.Texts.{shape_of}
-use Rattle.witness.specs.Fits.{is_set, FirstFits, StandsAt, RisesAmong, NoneIsSet, words_put}
 use Rattle.btor2.specs.declared.item.Body.TheVariants as body
+use Rattle.btor2.proofs.TraceLemmas.{trace_length}
 
 -- ---- frames from words that agree
 
@@ -122,12 +124,6 @@ property_at kind items i f b names h says =
     own ∙ ap (λ (a : ℕ). nat_eq (f a) 1) (sym node)
 
 -- ---- the frames of a trace
-
-pub trace_length : (items : List Item) (state : Frame) (inputs fs : List Frame) → IsTrace items state inputs fs → length fs ≡ length inputs
-trace_length items state [] [] h = refl
-trace_length items state [] (f ∷ fs) h = absurd h
-trace_length items state (i ∷ is) [] h = absurd h
-trace_length items state (i ∷ is) (f ∷ fs) h = ap suc (trace_length items (next_state items f) is fs h.1)
 
 -- A run that stood before a frame, with these words of its states, that was given the words of the frame's two parts, and that was settled then, is in the frame.
 module _ (items : List Item) (settled : Run) (base : List ℕ) (frame : FrameWords) (w : IsWellFormed items) (many : length base ≡ length (ids_of is_state items)) (fits : FirstFits (shape_of items) frame)
@@ -247,20 +243,20 @@ twice_not b true e = ap not e
 twice_not b false e = ap not e
 
 module _ (claims : List ℕ) (nodes : List ℕ) (fs : List Frame) (none rose : List Bool) (i : ℕ) (whole : Option ℕ) (h : i < length nodes) (clear : NoneIsSet none) (rises : RisesAmong nodes fs none rose)
-    (e : unreached_from claims fs i (drop i nodes) ≡ whole) where
-  unreached_step : cond (list_any (λ c. nat_eq c i) claims && not (is_set rose i)) (Some i) (unreached_from claims fs (i + 1) (drop (i + 1) nodes)) ≡ whole
+    (e : first_unreached claims fs i (drop i nodes) ≡ whole) where
+  unreached_step : cond (list_any (λ c. nat_eq c i) claims && not (is_set rose i)) (Some i) (first_unreached claims fs (i + 1) (drop (i + 1) nodes)) ≡ whole
   unreached_step =
       let one : i + 1 ≡ suc i = omega arith in
-      let own : is_set rose i ≡ (false || not (never_rises fs (get_or nodes i 0))) = rises i h ∙ ap (λ (b : Bool). b || not (never_rises fs (get_or nodes i 0))) (clear i) in
-      ap (λ (b : Bool). cond (list_any (λ c. nat_eq c i) claims && b) (Some i) (unreached_from claims fs (i + 1) (drop (i + 1) nodes))) (twice_not (is_set rose i) (never_rises fs (get_or nodes i 0)) own)
-      ∙ ap (λ (k : ℕ). cond (list_any (λ c. nat_eq c i) claims && never_rises fs (get_or nodes i 0)) (Some i) (unreached_from claims fs k (drop k nodes))) one
-      ∙ sym (ap (unreached_from claims fs i) (drop-cons nodes i 0 h)) ∙ e
+      let own : is_set rose i ≡ (false || not (never_1 fs (get_or nodes i 0))) = rises i h ∙ ap (λ (b : Bool). b || not (never_1 fs (get_or nodes i 0))) (clear i) in
+      ap (λ (b : Bool). cond (list_any (λ c. nat_eq c i) claims && b) (Some i) (first_unreached claims fs (i + 1) (drop (i + 1) nodes))) (twice_not (is_set rose i) (never_1 fs (get_or nodes i 0)) own)
+      ∙ ap (λ (k : ℕ). cond (list_any (λ c. nat_eq c i) claims && never_1 fs (get_or nodes i 0)) (Some i) (first_unreached claims fs k (drop k nodes))) one
+      ∙ sym (ap (first_unreached claims fs i) (drop-cons nodes i 0 h)) ∙ e
 
-  pub unreached_by : (b : Bool) → (list_any (λ c. nat_eq c i) claims && not (is_set rose i)) ≡ b → cond b (Some i) (unreached_from claims fs (i + 1) (drop (i + 1) nodes)) ≡ whole
-  unreached_by b is = sym (ap (λ (b : Bool). cond b (Some i) (unreached_from claims fs (i + 1) (drop (i + 1) nodes))) is) ∙ unreached_step
+  pub unreached_by : (b : Bool) → (list_any (λ c. nat_eq c i) claims && not (is_set rose i)) ≡ b → cond b (Some i) (first_unreached claims fs (i + 1) (drop (i + 1) nodes)) ≡ whole
+  unreached_by b is = sym (ap (λ (b : Bool). cond b (Some i) (first_unreached claims fs (i + 1) (drop (i + 1) nodes))) is) ∙ unreached_step
 
-pub unreached_end : (claims nodes : List ℕ) (fs : List Frame) (i : ℕ) (whole : Option ℕ) → length nodes ≤ i → unreached_from claims fs i (drop i nodes) ≡ whole → None ≡ whole
-unreached_end claims nodes fs i whole h e = sym (ap (unreached_from claims fs i) (drop_all i nodes h)) ∙ e
+pub unreached_end : (claims nodes : List ℕ) (fs : List Frame) (i : ℕ) (whole : Option ℕ) → length nodes ≤ i → first_unreached claims fs i (drop i nodes) ≡ whole → None ≡ whole
+unreached_end claims nodes fs i whole h e = sym (ap (first_unreached claims fs i) (drop_all i nodes h)) ∙ e
 
 -- ---- the judgement
 

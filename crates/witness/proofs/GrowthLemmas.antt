@@ -9,7 +9,7 @@ use Rattle.std.proofs.lemmas.Result.{IfOk-at_ok}
 use Rattle.base.specs.Lines.{whole_lines, unfinished, IsLine}
 use Rattle.btor2.specs.declared.item.Item.{Item}
 use Rattle.btor2.specs.Trace.{Frame, IsTrace, next_state}
-use Rattle.aiger.specs.Literal.{Valuation}
+use Rattle.base.specs.Literal.{Valuation}
 use Rattle.aiger.specs.Circuit.{Circuit, IsCircuit}
 use Rattle.aiger.specs.Trace.{IsTrace as IsBitTrace, next_state as next_bits}
 use Rattle.witness.specs.declared.why.Why.{Why}
@@ -26,7 +26,7 @@ use Rattle.aiger.proofs.TraceLemmas.{trace_exists}
 use Rattle.witness.proofs.BitReadLemmas.{bits_are_line}
 use Rattle.witness.proofs.TextEndLemmas.{whole_lines-line_end, whole_lines-part}
 use Rattle.witness.proofs.ReadingLemmas.{by_test, lines_append, holds_behind}
-use Rattle.witness.proofs.FrameLemmas.{trace_length}
+use Rattle.btor2.proofs.TraceLemmas.{trace_length}
 use Rattle.witness.proofs.ClosedLemmas.{line_closes_one}
 
 -- what is claimed is the same, but where there is no frame

@@ -1,10 +1,11 @@
 -- What is judged of a text of either kind, by its claim and by what it reads as, and the first breach in its frames.
-use Rattle.std.proofs.Common.{◌≡◌, ℕ, suc, ◌+◌, Bool, true, false, List, [], ◌∷◌, ◌++◌, Option, Some, None, Result, Ok, Err, length, map, refl, sym, ap, subst, ◌∙◌, arith}
+use Rattle.std.proofs.Common.{◌≡◌, ℕ, suc, ◌+◌, Bool, true, false, List, [], ◌∷◌, ◌++◌, Option, Some, None, Result, Ok, Err, length, refl, sym, ap, subst, ◌∙◌, arith}
 use Rattle.std.specs.Option.{option_or}
 use Rattle.witness.specs.declared.judgement.Judgement.{Judgement}
 use Rattle.witness.specs.declared.judgement.Judgement.TheVariants as judgement
 use Rattle.witness.specs.Readings.{Fault}
-use Rattle.witness.specs.Judgements.{violated_at, breach_from, JudgesAs}
+use Rattle.witness.specs.Fits.{breach_from}
+use Rattle.witness.specs.Judgements.{Violation, violated_at, first_of, JudgesAs}
 
 module _ {R : Type 0} (Says : R → Judgement → Type 0) (none : Bool) (read : Result R Fault) where
   pub some_judged : ((r : R) → read ≡ Ok r → (j : Judgement) × Says r j) → (j : Judgement) × JudgesAs Says none read j
@@ -30,6 +31,33 @@ module _ {R : Type 0} (Says : R → Judgement → Type 0) (none : Bool) (read : 
   pub judged_says : (r : R) (j : Judgement) → none ≡ false → read ≡ Ok r → JudgesAs Says none read j → Says r j
   judged_says r j e is h = subst (λ (o : Result R Fault). JudgesAs Says false o j) is (subst (λ (b : Bool). JudgesAs Says b read j) e h)
 
+-- ---- what is accepted
+
+-- it makes a claim, reads as something, and that is judged so
+pub record ReadAccepted {R : Type 0} (Says : R → Judgement → Type 0) (none : Bool) (read : Result R Fault) (frames : ℕ) : Type 0 where
+  pub claims : none ≡ false
+  pub what : R
+  pub is : read ≡ Ok what
+  pub judged : Says what (judgement.Accepted frames)
+
+pub accepted_reads : {R : Type 0} (Says : R → Judgement → Type 0) (none : Bool) (read : Result R Fault) (frames : ℕ) → JudgesAs Says none read (judgement.Accepted frames) → ReadAccepted Says none read frames
+accepted_reads Says true read frames h = absurd (cc)
+accepted_reads Says false (Err e) frames h = absurd (cc)
+accepted_reads Says false (Ok r) frames h = record { claims = refl; what = r; is = refl; judged = h }
+
+-- no initial value differs, there is no breach, each claim is reached, and so many frames are there as are told
+pub record NoFault (different : Option ℕ) (broken : Option Violation) (unreached : Option ℕ) (told frames : ℕ) : Type 0 where
+  pub initial : different ≡ None
+  pub breach : broken ≡ None
+  pub reached : unreached ≡ None
+  pub many : told ≡ frames
+
+pub no_fault : (different : Option ℕ) (broken : Option Violation) (unreached : Option ℕ) (n m : ℕ) → judgement.Accepted n ≡ first_of different broken unreached m → NoFault different broken unreached n m
+no_fault (Some k) broken unreached n m e = absurd (cc)
+no_fault None (Some v) unreached n m e = absurd (cc)
+no_fault None None (Some i) n m e = absurd (cc)
+no_fault None None None n m e = record { initial = refl; breach = refl; reached = refl; many = cc }
+
 -- ---- the first breach
 
 module _ {F : Type 0} (violated : F → Option ℕ) where
@@ -41,8 +69,3 @@ module _ {F : Type 0} (violated : F → Option ℕ) where
         | Some i ↦ refl
         | None ↦ rest ∙ ap (λ (n : ℕ). option_or (breach_from violated (suc k) fs) (violated_at n (violated f) None)) (omega arith)
       ]
-
-  -- it goes by what does not hold in each
-  pub breach_by : (k : ℕ) (fs : List F) → breach_from violated k fs ≡ breach_from (λ o. o) k (map violated fs)
-  breach_by k [] = refl
-  breach_by k (f ∷ fs) = ap (violated_at k (violated f)) (breach_by (suc k) fs)

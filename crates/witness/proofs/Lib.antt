@@ -9,6 +9,7 @@ pub mod ReadingLemmas
 pub mod ReadLemmas
 pub mod ReadTextLemmas
 pub mod GivenWordLemmas
+pub mod ShownLemmas
 pub mod FrameLemmas
 pub mod FitLemmas
 pub mod JudgedLemmas
@@ -36,3 +37,4 @@ pub mod WordJudgeLemmas
 pub mod ClosedLemmas
 pub mod ReachedLemmas
 pub mod GrowthLemmas
+pub mod AcceptLemmas

@@ -1,8 +1,5 @@
 -- A text has one judgement over a well-formed model: the model has one trace, and a judgement looks only at nodes with a value.
-use Rattle.std.proofs.Common.{◌≡◌, ℕ, suc, ◌+◌, Bool, true, false, cond, not, ◌&&◌, nat_eq, List, [], ◌∷◌, ◌++◌, length, map, flat_map, Option, Some, refl, sym, ap, ap₂, subst, ◌∙◌, append_assoc}
-use Rattle.std.specs.List.{list_any, list_all, position_from}
-use Rattle.std.proofs.lemmas.List.{length-map}
-use Rattle.std.proofs.lemmas.List.Folds.{list_all-map}
+use Rattle.std.proofs.Common.{◌≡◌, ℕ, ◌+◌, Bool, true, false, cond, nat_eq, List, [], ◌∷◌, ◌++◌, length, map, flat_map, Some, refl, sym, ap, ap₂, subst, ◌∙◌, append_assoc}
 use Rattle.btor2.specs.declared.item.Item.{Item}
 use Rattle.btor2.specs.declared.item.Body.{Body}
 use Rattle.btor2.specs.Items.{operands, node_width, is_bad, is_constraint}
@@ -16,9 +13,10 @@ use Rattle.witness.specs.declared.judgement.Judgement.{Judgement}
 use Rattle.witness.specs.Texts.{shape_of}
 use Rattle.witness.specs.Admits.{Read, read_text, witness_of}
 use Rattle.btor2.specs.Lists.{of_kind}
-use Rattle.witness.specs.Judgements.{Words, initial_words, given_frames, nodes_of, first_violated, breach_from, never_rises, unreached_from, verdict, words_of, makes_no_claim, JudgesWords, Judges}
+use Rattle.btor2.specs.Reachability.{nodes_of, values_of, model_shows}
+use Rattle.witness.specs.Judgements.{Words, initial_words, given_frames, verdict, words_of, makes_no_claim, JudgesWords, Judges, first_different}
 use Rattle.base.specs.Lines.{whole_lines}
-use Rattle.witness.proofs.JudgedLemmas.{some_judged, judged_once, breach_by}
+use Rattle.witness.proofs.JudgedLemmas.{some_judged, judged_once}
 
 -- ---- the nodes of properties have values
 
@@ -49,15 +47,10 @@ nodes_from kind items before (x ∷ xs) w is =
 pub nodes_have_widths : (kind : Body → Bool) (items : List Item) → IsWellFormed items → Each (HasWidth items) (nodes_of kind items)
 nodes_have_widths kind items w = nodes_from kind items [] items w refl
 
--- ---- traces that are the same have the same verdict
+-- ---- traces that are the same show the same
 
 pub same_word : (items : List Item) (f g : Frame) (a : ℕ) → SameFrame items f g → HasWidth items a → f a ≡ g a
 same_word items f g a same h = same a (is_some_from (node_width items a) h.0 h.1)
-
-first_same : (f g : Frame) (n : ℕ) (nodes : List ℕ) → Each (λ a. f a ≡ g a) nodes → position_from (λ a. not (nat_eq (f a) 1)) n nodes ≡ position_from (λ a. not (nat_eq (g a) 1)) n nodes
-first_same f g n [] h = refl
-first_same f g n (a ∷ more) h =
-    ap₂ (λ (v : ℕ) (o : Option ℕ). cond (not (nat_eq v 1)) (Some n) o) h.0 (first_same f g (n + 1) more h.1)
 
 -- what each frame says of nodes is the same
 said_same : {A : Type 0} (says : Frame → A) (items : List Item) (fs gs : List Frame) → ((f g : Frame) → SameFrame items f g → says f ≡ says g) → SameTrace items fs gs → map says fs ≡ map says gs
@@ -66,34 +59,26 @@ said_same says items [] (g ∷ gs) each same = absurd same
 said_same says items (f ∷ fs) [] each same = absurd same
 said_same says items (f ∷ fs) (g ∷ gs) each same = ap₂ (λ x xs. x ∷ xs) (each f g same.0) (said_same says items fs gs each same.1)
 
-never_same : (items : List Item) (fs gs : List Frame) (a : ℕ) → HasWidth items a → SameTrace items fs gs → never_rises fs a ≡ never_rises gs a
-never_same items fs gs a h same =
-    let said = said_same (λ (f : Frame). f a) items fs gs (λ f g alike. same_word items f g a alike h) same in
-    sym (list_all-map (λ (x : ℕ). not (nat_eq x 1)) (λ (f : Frame). f a) fs) ∙ (ap (list_all (λ x. not (nat_eq x 1))) said ∙ list_all-map (λ (x : ℕ). not (nat_eq x 1)) (λ (f : Frame). f a) gs)
+values_same : (f g : Frame) (nodes : List ℕ) → Each (λ a. f a ≡ g a) nodes → map (λ a. nat_eq (f a) 1) nodes ≡ map (λ a. nat_eq (g a) 1) nodes
+values_same f g [] h = refl
+values_same f g (a ∷ more) h = ap₂ (λ (v : ℕ) (l : List Bool). nat_eq v 1 ∷ l) h.0 (values_same f g more h.1)
 
-unreached_same : (claims : List ℕ) (fs gs : List Frame) (i : ℕ) (nodes : List ℕ) → Each (λ a. never_rises fs a ≡ never_rises gs a) nodes → unreached_from claims fs i nodes ≡ unreached_from claims gs i nodes
-unreached_same claims fs gs i [] h = refl
-unreached_same claims fs gs i (a ∷ more) h =
-    ap₂ (λ (b : Bool) (o : Option ℕ). cond (list_any (λ c. nat_eq c i) claims && b) (Some i) o) h.0 (unreached_same claims fs gs (suc i) more h.1)
+kind_same : (kind : Body → Bool) (items : List Item) (f g : Frame) → IsWellFormed items → SameFrame items f g → values_of kind items f ≡ values_of kind items g
+kind_same kind items f g well same =
+    values_same f g (nodes_of kind items) (each_weaker (HasWidth items) (λ a. f a ≡ g a) (nodes_of kind items) (λ a there. same_word items f g a same there) (nodes_have_widths kind items well))
 
--- it goes by what traces agree on
-verdict_same : (items : List Item) (w : Words) (fs gs : List Frame) → IsWellFormed items → SameTrace items fs gs → verdict items w fs ≡ verdict items w gs
-verdict_same items w fs gs well same =
-    let bads = nodes_of is_bad items in
-    let reached = unreached_same w.claims fs gs 0 bads (each_weaker (HasWidth items) (λ a. never_rises fs a ≡ never_rises gs a) bads (λ a there. never_same items fs gs a there same) (nodes_have_widths is_bad items well)) in
-    let constraints = nodes_of is_constraint items in
-    let said = said_same (first_violated items) items fs gs (λ f g alike. first_same f g 0 constraints (each_weaker (HasWidth items) (λ a. f a ≡ g a) constraints (λ a there. same_word items f g a alike there) (nodes_have_widths is_constraint items well))) same in
-    let violated = breach_by (first_violated items) 0 fs ∙ (ap (breach_from (λ o. o) 0) said ∙ sym (breach_by (first_violated items) 0 gs)) in
-    let long : length fs ≡ length gs = sym (length-map fs (first_violated items)) ∙ (ap length said ∙ length-map gs (first_violated items)) in
-    rw (violated, reached, long) refl
+-- so they show the same
+pub shown_same : (items : List Item) (fs gs : List Frame) → IsWellFormed items → SameTrace items fs gs → map (model_shows items) fs ≡ map (model_shows items) gs
+shown_same items fs gs well same =
+    said_same (model_shows items) items fs gs (λ f g alike. rw (kind_same is_bad items f g well alike, kind_same is_constraint items f g well alike) refl) same
 
 -- ---- one judgement
 
 words_judged : (items : List Item) (w : Words) → IsWellFormed items → (j : Judgement) × JudgesWords items w j
 words_judged items w well =
     let trace = trace_exists items (initial_words items w) (given_frames items w) well in (
-      verdict items w trace.0,
-      λ fs h. verdict_same items w trace.0 fs well (trace_unique items (initial_words items w) (given_frames items w) trace.0 fs well trace.1 h),
+      verdict (first_different items (initial_words items w)) w.claims (length (nodes_of is_bad items)) (map (model_shows items) trace.0),
+      λ fs h. ap (verdict (first_different items (initial_words items w)) w.claims (length (nodes_of is_bad items))) (shown_same items trace.0 fs well (trace_unique items (initial_words items w) (given_frames items w) trace.0 fs well trace.1 h)),
     )
 
 words_judged_once : (items : List Item) (w : Words) (j k : Judgement) → IsWellFormed items → JudgesWords items w j → JudgesWords items w k → j ≡ k

@@ -1,48 +1,42 @@
 -- Which claims a judge of either kind says are reached.
-use Rattle.std.proofs.Common.{◌≡◌, ℕ, ◌<◌, ◌≤◌, nat_eq, Bool, true, false, not, ◌&&◌, List, [], ◌∷◌, Option, Some, None, length, map, get_or, slice_get, refl, sym, ap, ap₂, subst, ◌∙◌, arith, inl, inr}
+use Rattle.std.proofs.Common.{◌≡◌, ℕ, ◌<◌, nat_eq, Bool, true, false, not, ◌&&◌, List, [], ◌∷◌, length, map, get_or, refl, sym, ap, ap₂, subst, ◌∙◌, arith, inl, inr}
 use Rattle.std.specs.List.{list_any}
-use Rattle.std.specs.Option.{option_map_or}
 use Rattle.std.proofs.lemmas.Bool.{cases_lt, cases_eq, and_left, and_right, ne_eqb, false_from_ne_true}
-use Rattle.std.proofs.lemmas.Option.{slice_get-get_or, slice_get_past}
 use Rattle.base.specs.Lines.{whole_lines}
 use Rattle.btor2.specs.declared.item.Item.{Item}
 use Rattle.btor2.specs.Items.{is_bad}
 use Rattle.btor2.specs.Lists.{places}
 use Rattle.btor2.specs.Trace.{Frame, IsTrace}
-use Rattle.aiger.specs.Literal.{Valuation}
+use Rattle.base.specs.Literal.{Valuation}
 use Rattle.aiger.specs.Circuit.{Circuit}
 use Rattle.aiger.specs.Trace.{IsTrace as IsBitTrace}
 use Rattle.witness.specs.Texts.{Parts, shape_of}
 use Rattle.witness.specs.Readings.{lines_read, reading}
 use Rattle.witness.specs.Admits.{Read, word_reader}
-use Rattle.witness.specs.Judgements.{nodes_of, never_rises, frame_words, initial_words, given_words}
-use Rattle.witness.specs.Fits.{is_set, NoneIsSet, AreClaimed}
+use Rattle.base.specs.Shown.{rises_in}
+use Rattle.btor2.specs.Reachability.{nodes_of, model_shows}
+use Rattle.aiger.specs.Reachability.{circuit_shows}
+use Rattle.witness.specs.Fits.{never_1, is_set, NoneIsSet, AreClaimed}
+use Rattle.witness.specs.Judgements.{frame_words, initial_words, given_words}
 use Rattle.witness.specs.ClosedWords.{IsClosedTrace}
 use Rattle.witness.specs.WordPlays.{TracedBy, frames_alone}
 use Rattle.witness.specs.WordStands.{WordReader, WordJudge, StandsFor}
 use Rattle.witness.specs.BitAdmits.{BitPlace, AtHeader, AtClaim, AtInitial, AtFirst, AtLater, AtDone, BitRead, bit_reader}
-use Rattle.witness.specs.BitJudgements.{bit_rises}
-use Rattle.witness.specs.BitPlays.{BitPlay}
+use Rattle.witness.specs.BitPlays.{BitPlay, bit_rises}
+use Rattle.witness.proofs.ShownLemmas.{never_shown, none_past, bit_rises_shown}
 use Rattle.witness.specs.declared.bit_reader.BitReader.{BitReader}
 use Rattle.witness.specs.BitStands.{Reads, PlaysAt, Tells, BitJudge, StandsFor as StandsForBits}
-use Rattle.witness.specs.Reached.{word_rises, word_reached, IsClosedBitTrace, bit_reached}
+use Rattle.witness.specs.Reached.{word_reached, IsClosedBitTrace, bit_reached}
 use Rattle.witness.proofs.FrameLemmas.{bad_names, length-nodes}
 
 -- ---- over a model
 
-rises_there : (items : List Item) (fs : List Frame) (k : ℕ) → k < length (nodes_of is_bad items) → word_rises items fs k ≡ not (never_rises fs (get_or (nodes_of is_bad items) k 0))
-rises_there items fs k h = ap (λ (o : Option ℕ). option_map_or (λ a. not (never_rises fs a)) o false) (slice_get-get_or (nodes_of is_bad items) k 0 h)
-
-rises_past : (items : List Item) (fs : List Frame) (k : ℕ) → length (nodes_of is_bad items) ≤ k → word_rises items fs k ≡ false
-rises_past items fs k h = ap (λ (o : Option ℕ). option_map_or (λ a. not (never_rises fs a)) o false) (slice_get_past (nodes_of is_bad items) k h)
-
--- nothing rises in no frame
-none_rises : (items : List Item) (k : ℕ) → word_rises items [] k ≡ false
-none_rises items k = by (slice_get (nodes_of is_bad items) k)
+rises_there : (items : List Item) (fs : List Frame) (k : ℕ) → k < length (nodes_of is_bad items) → not (never_1 fs (get_or (nodes_of is_bad items) k 0)) ≡ rises_in k (map (model_shows items) fs)
+rises_there items fs k h = ap not (never_shown items fs k h) ∙ twice (rises_in k (map (model_shows items) fs))
   where
-    by : (o : Option ℕ) → option_map_or (λ a. not (never_rises [] a)) o false ≡ false
-    by None = refl
-    by (Some a) = refl
+    twice : (b : Bool) → not (not b) ≡ b
+    twice true = refl
+    twice false = refl
 
 no_flag : NoneIsSet []
 no_flag i = refl
@@ -53,13 +47,13 @@ some_frames x xs e = cc
 -- by the frames that are closed
 by_frames : (items : List Item) (q : WordReader) (claims : List ℕ) (k : ℕ) (closed : List Parts) (base : List ℕ) (fs : List Frame) → TracedBy items base q.play (map frame_words closed)
     → IsTrace items (initial_words items (frames_alone (map frame_words closed))) (map (given_words items) (map frame_words closed)) fs → ((closed ≡ [] → ⊥) → AreClaimed q.claimed claims) → k < length (nodes_of is_bad items)
-    → (is_set q.claimed k && is_set q.play.rose k) ≡ (list_any (λ c. nat_eq c k) claims && word_rises items fs k)
+    → (is_set q.claimed k && is_set q.play.rose k) ≡ (list_any (λ c. nat_eq c k) claims && rises_in k (map (model_shows items) fs))
 by_frames items q claims k [] base [] fresh t known h =
-    and_right (is_set q.claimed k) (is_set q.play.rose k) (fresh.rose k) ∙ sym (and_right (list_any (λ c. nat_eq c k) claims) (word_rises items [] k) (none_rises items k))
+    and_right (is_set q.claimed k) (is_set q.play.rose k) (fresh.rose k) ∙ sym (and_right (list_any (λ c. nat_eq c k) claims) (rises_in k (map (model_shows items) [])) refl)
 by_frames items q claims k [] base (f ∷ fs) fresh t known h = absurd t
 by_frames items q claims k (x ∷ xs) base fs traced t known h =
     let one = traced fs t in
-    ap₂ (λ (a b : Bool). a && b) (known (some_frames x xs) k) (one.rose [] no_flag k h ∙ sym (rises_there items fs k h))
+    ap₂ (λ (a b : Bool). a && b) (known (some_frames x xs) k) (one.rose [] no_flag k h ∙ rises_there items fs k h)
 
 pub word_reached_is : (items : List Item) (text : List ℕ) (j : WordJudge) (fs : List Frame) (k : ℕ) (b : Bool) → StandsFor items j text → IsClosedTrace items text fs
     → b ≡ (is_set j.reader.claimed k && is_set j.reader.play.rose k) → (b ≡ true → k < length (places is_bad 0 j.reader.play.items)) → b ≡ word_reached items text fs k
@@ -73,7 +67,7 @@ word_reached_is items text j fs k b stands trace flags there =
           let none : b ≡ false = false_from_ne_true b (λ e.
           let inside : k < length (places is_bad 0 items) = subst (λ (l : List Item). k < length (places is_bad 0 l)) counts.items_are (there e) in
           omega (arith, inside, h, length-nodes is_bad items bad_names)) in
-          none ∙ sym (and_right (list_any (λ c. nat_eq c k) r.claims) (word_rises items fs k) (rises_past items fs k h))
+          none ∙ sym (and_right (list_any (λ c. nat_eq c k) r.claims) (rises_in k (map (model_shows items) fs)) (none_past items fs k h))
     ]
 
 -- ---- over a circuit
@@ -93,7 +87,7 @@ rose_at c p r line AtClaim plays vs t = none_rose c r p.rose vs plays.1 (ap (λ 
 rose_at c p r line AtInitial plays vs t = none_rose c r p.rose vs plays.1 (ap (λ (x : BitPlay). x.rose) plays.0.start) t
 rose_at c p r line AtFirst plays vs t = (plays.0.traced vs t).rose
 rose_at c p r line AtLater plays vs t = (plays.0.traced vs t).rose
-rose_at c p r line AtDone plays vs t = (plays.traced vs t).rose
+rose_at c p r line AtDone plays vs t = (plays.0.traced vs t).rose
 
 pub tells_of : (c : Circuit) (q : BitReader) (r : BitRead) (line : List ℕ) → Reads c q r line → Tells c q r
 tells_of c q r line reads =
@@ -113,4 +107,4 @@ unfolding reading
 bit_reached_is c text j vs k b stands trace is =
     let r : BitRead = (lines_read (bit_reader c) (whole_lines text)).read in
     let tells = stands.lines.counts in
-    is ∙ (ap₂ (λ (i : ℕ) (x : Bool). nat_eq i k && x) tells.claim (tells.rose vs trace) ∙ at_claim (λ i. bit_rises c i vs) r.claim k)
+    is ∙ (ap₂ (λ (i : ℕ) (x : Bool). nat_eq i k && x) tells.claim (tells.rose vs trace ∙ bit_rises_shown c r.claim vs) ∙ at_claim (λ i. rises_in i (map (circuit_shows c) vs)) r.claim k)

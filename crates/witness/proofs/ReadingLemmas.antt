@@ -187,6 +187,14 @@ module _ {R : Type 0} (reader : Reader R) where
   pub text_was_read : (text : List ℕ) (final : R) → text_read reader text ≡ Ok final → WasRead text final
   text_was_read text final h = read_was text final (goes 0 reader.nothing (whole_lines text) (omega arith)) h
 
+  -- what its lines say
+  pub was_all_read : (text : List ℕ) (final : R) → text_read reader text ≡ Ok final → (reading reader text).read ≡ final
+  unfolding reading
+  was_all_read text final h =
+      let were = text_was_read text final h in
+      let few = were.few in
+      ap (λ (g : Reading R). g.read) (all_count 0 reader.nothing (whole_lines text) final (omega (arith, few)) were.all)
+
   -- ---- beginnings
 
   -- whole lines that are all admitted are all read

@@ -13,7 +13,9 @@ use Rattle.witness.specs.Texts.{Shape, Assignment, Parts, has_free, is_comment, 
 use Rattle.witness.proofs.WordPlayLemmas.{goes_steps, between_behind, word_is}
 use Rattle.witness.specs.Readings.{Reading, so_far, nothing_admitted, one_more_line, next_line_of, next_line, lines_behind, lines_read, reading, is_nothing}
 use Rattle.witness.specs.Admits.{claims_at, assignment_at, state_assignment_at, Place, AtStatus, AtClaims, AtParts, InStates, InFrame, AtEnd, Read, nothing_read, frame_closed, opens_frame, opens_states, begins_part, after_claims, after_assignment, in_part, admit_at, admit, word_reader, is_at_end, witness_of}
-use Rattle.witness.specs.Judgements.{frame_words, makes_no_claim, FrameWords, words_of, Words, initial_words, given_words, given_frames, nodes_of, unreached_from, verdict, JudgesWords, first_of}
+use Rattle.btor2.specs.Reachability.{nodes_of, model_shows}
+use Rattle.witness.specs.Fits.{first_unreached, AreClaimed, NoneIsSet, RisesAmong}
+use Rattle.witness.specs.Judgements.{frame_words, makes_no_claim, FrameWords, words_of, Words, initial_words, given_words, given_frames, verdict, JudgesWords, first_of, first_different}
 use Rattle.witness.specs.WordPlays.{nothing_given, is_between, steps_of, steps_taken, WordPlay, Plays, Traced, TracedBy, frames_alone, word_at}
 use Rattle.witness.specs.ClosedWords.{closed_word_frames, ClosesFrame, ClosesAtMostOne, IsClosedTrace, last_word}
 use Rattle.witness.specs.Stands.{IsOfLines}
@@ -28,11 +30,11 @@ use Rattle.std.proofs.Math.Bool.{or-false}
 use Rattle.btor2.specs.Items.{is_bad}
 use Rattle.btor2.specs.Trace.{Frame, IsTrace}
 use Rattle.witness.specs.declared.judgement.Judgement.{Judgement}
-use Rattle.witness.specs.Fits.{AreClaimed, NoneIsSet, RisesAmong}
 use Rattle.witness.proofs.FrameLemmas.{as_many_frames}
 use Rattle.runs.specs.Run.{IsNow}
 use Rattle.witness.proofs.ReadTextLemmas.{ended}
 use Rattle.witness.specs.declared.why.Why.TheVariants as why
+use Rattle.witness.proofs.ShownLemmas.{words_verdict}
 
 -- ---- what an admitted line changes
 
@@ -209,9 +211,13 @@ nothing_said shape n r (line ∷ lines) at h =
           ]
     ]
 
+pub nothing_is_said : (shape : Shape) (text : List ℕ) → makes_no_claim 0 (whole_lines text) ≡ true → (reading (word_reader shape) text).read ≡ nothing_read
+unfolding reading
+nothing_is_said shape text h = nothing_said shape 0 nothing_read (whole_lines text) refl h
+
 pub closes_nothing : (shape : Shape) (text : List ℕ) → makes_no_claim 0 (whole_lines text) ≡ true → closed_word_frames shape text ≡ 0
 unfolding reading
-closes_nothing shape text h = ap (λ (r : Read). length r.closed) (nothing_said shape 0 nothing_read (whole_lines text) refl h)
+closes_nothing shape text h = ap (λ (r : Read). length r.closed) (nothing_is_said shape text h)
 
 -- ---- what is held behind a line
 
@@ -335,13 +341,13 @@ module _ (items : List Item) (q : WordReader) (r : Read) (line : List ℕ) (read
 
   -- the first claim that is not reached
   unreached : (o : Option ℕ)
-      → ((claims : List ℕ) (gs : List Frame) (none : List Bool) → AreClaimed q.claimed claims → NoneIsSet none → RisesAmong (nodes_of is_bad q.play.items) gs none q.play.rose → o ≡ unreached_from claims gs 0 (nodes_of is_bad q.play.items))
-      → o ≡ unreached_from r.claims fs 0 (nodes_of is_bad items)
+      → ((claims : List ℕ) (gs : List Frame) (none : List Bool) → AreClaimed q.claimed claims → NoneIsSet none → RisesAmong (nodes_of is_bad q.play.items) gs none q.play.rose → o ≡ first_unreached claims gs 0 (nodes_of is_bad q.play.items))
+      → o ≡ first_unreached r.claims fs 0 (nodes_of is_bad items)
   unreached o says =
-      subst (λ (l : List Item). RisesAmong (nodes_of is_bad l) fs [] q.play.rose → o ≡ unreached_from r.claims fs 0 (nodes_of is_bad l)) plays.items_are (λ rises. says r.claims fs [] claimed no_flag rises) (traced.rose [] no_flag)
+      subst (λ (l : List Item). RisesAmong (nodes_of is_bad l) fs [] q.play.rose → o ≡ first_unreached r.claims fs 0 (nodes_of is_bad l)) plays.items_are (λ rises. says r.claims fs [] claimed no_flag rises) (traced.rose [] no_flag)
 
-  judged_whole : (o : Option ℕ) → o ≡ unreached_from r.claims fs 0 (nodes_of is_bad items) → first_of q.play.differs q.play.breach o q.play.frames ≡ verdict items w fs
-  judged_whole o e = rw (traced.differs, traced.breach, e, plays.count ∙ as_many_frames items w fs trace) refl
+  judged_whole : (o : Option ℕ) → o ≡ first_unreached r.claims fs 0 (nodes_of is_bad items) → first_of q.play.differs q.play.breach o q.play.frames ≡ verdict (first_different items (initial_words items w)) r.claims (length (nodes_of is_bad items)) (map (model_shows items) fs)
+  judged_whole o e = rw (traced.differs, traced.breach, e, plays.count ∙ as_many_frames items w fs trace) (words_verdict items (first_different items (initial_words items w)) r.claims fs)
 
 -- ---- the judgement
 
@@ -354,7 +360,7 @@ ended_at items text j old same was none = let stands = subst (λ (k : WordJudge)
 -- what is judged of a whole witness
 pub whole_witness : (items : List Item) (text : List ℕ) (j old : WordJudge) → j ≡ old → (o : Option ℕ) → StandsFor items old text → j.refused ≡ None
     → ((claims : List ℕ) (gs : List Frame) (none : List Bool) → AreClaimed j.reader.claimed claims → NoneIsSet none → RisesAmong (nodes_of is_bad j.reader.play.items) gs none j.reader.play.rose
-    → o ≡ unreached_from claims gs 0 (nodes_of is_bad j.reader.play.items))
+    → o ≡ first_unreached claims gs 0 (nodes_of is_bad j.reader.play.items))
     → is_at_end (lines_read (word_reader (shape_of items)) (whole_lines text)).read.place ≡ true
     → Says items (lines_read (word_reader (shape_of items)) (whole_lines text)).read (first_of j.reader.play.differs j.reader.play.breach o j.reader.play.frames)
 whole_witness items text j old same o was none says done fs t =

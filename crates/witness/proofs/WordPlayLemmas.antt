@@ -19,8 +19,9 @@ use Rattle.std.proofs.lemmas.List.{length-map, map-append, get_or_past, get_or-m
 use Rattle.std.proofs.lemmas.List.Elements.{All-nil, All-head, All-tail, All-push, All-get_or}
 use Rattle.std.proofs.lemmas.List.Folds.{list_all-append}
 use Rattle.witness.specs.Texts.{Shape, shape_of}
-use Rattle.witness.specs.Fits.{is_set, FirstFits, LaterFits, FramesFit, StandsAt, RisesIn, RisesAmong, NoneIsSet}
-use Rattle.witness.specs.Judgements.{FrameWords, Violation, violated_at, violation_from, never_rises, nodes_of, first_different, first_violated, initial_words, given_words}
+use Rattle.witness.specs.Fits.{is_set, FirstFits, LaterFits, FramesFit, StandsAt, RisesIn, RisesAmong, NoneIsSet, never_1, first_violated, breach_from}
+use Rattle.btor2.specs.Reachability.{nodes_of}
+use Rattle.witness.specs.Judgements.{FrameWords, Violation, violated_at, first_different, initial_words, given_words}
 use Rattle.witness.proofs.JudgedLemmas.{breach_more}
 use Rattle.witness.proofs.GivenWordLemmas.{words_of_kind, first_stands, later_stands}
 use Rattle.witness.proofs.FrameLemmas.{different_of, settled_now}
@@ -122,14 +123,14 @@ carried_more : (items : List Item) (carried : Frame) (fs : List Frame) (f : Fram
 carried_more items carried [] f = refl
 carried_more items carried (g ∷ fs) f = carried_more items (next_state items g) fs f
 
-never_more : (fs : List Frame) (f : Frame) (a : ℕ) → never_rises (fs ++ f ∷ []) a ≡ (never_rises fs a && not (f a == 1))
-never_more fs f a = list_all-append (λ (g : Frame). not (g a == 1)) fs (f ∷ []) ∙ ap (λ (b : Bool). never_rises fs a && b) (and-true (not (f a == 1)))
+never_more : (fs : List Frame) (f : Frame) (a : ℕ) → never_1 (fs ++ f ∷ []) a ≡ (never_1 fs a && not (f a == 1))
+never_more fs f a = list_all-append (λ (g : Frame). not (g a == 1)) fs (f ∷ []) ∙ ap (λ (b : Bool). never_1 fs a && b) (and-true (not (f a == 1)))
 
 rises_behind : (nodes : List ℕ) (fs : List Frame) (f : Frame) (none rose after : List Bool) → RisesAmong nodes fs none rose → RisesIn nodes f rose after → RisesAmong nodes (fs ++ f ∷ []) none after
 rises_behind nodes fs f none rose after was one i h =
     one i h
     ∙ (ap (λ (b : Bool). b || (f (get_or nodes i 0) == 1)) (was i h)
-    ∙ (or_cases (is_set none i) (never_rises fs (get_or nodes i 0)) (f (get_or nodes i 0) == 1) ∙ ap (λ (b : Bool). is_set none i || not b) (sym (never_more fs f (get_or nodes i 0)))))
+    ∙ (or_cases (is_set none i) (never_1 fs (get_or nodes i 0)) (f (get_or nodes i 0) == 1) ∙ ap (λ (b : Bool). is_set none i || not b) (sym (never_more fs f (get_or nodes i 0)))))
   where
     or_cases : (b n r : Bool) → ((b || not n) || r) ≡ (b || not (n && not r))
     or_cases true n r = refl
@@ -282,7 +283,7 @@ module _ (items : List Item) (here : FrameWords) (old new : WordPlay) (before se
         breach =
             closes.breach s.f now
             ∙ (ap₂ (λ (o : Option Violation) (n : ℕ). option_or o (violated_at n (first_violated items s.f) None)) was.breach number
-            ∙ (sym (breach_more (first_violated items) 0 s.front s.f) ∙ ap (violation_from items 0) (sym s.is)));
+            ∙ (sym (breach_more (first_violated items) 0 s.front s.f) ∙ ap (breach_from (first_violated items) 0) (sym s.is)));
         rose = λ none clear.
             subst (λ (l : List Frame). RisesAmong (nodes_of is_bad items) l none new.rose) (sym s.is)
             (rises_behind (nodes_of is_bad items) s.front s.f none old.rose new.rose (was.rose none clear) (closes.rose s.f now));

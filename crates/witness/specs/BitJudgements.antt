@@ -1,16 +1,16 @@
 -- The judgement of a text over a circuit ("AIGER 1.9 and Beyond", semantics; the order of the six answers is this project's).
-use Rattle.std.specs.Prelude.{◌≡◌, ℕ, suc, Bool, false, not, ◌||◌, List, [], ◌∷◌, Option, Some, None, codes, length, slice_index, if◌then◌else◌}
-use Rattle.std.specs.List.{list_any, position_from}
+use Rattle.std.specs.Prelude.{◌≡◌, ℕ, suc, Bool, false, not, ◌||◌, List, [], ◌∷◌, Option, Some, None, codes, map, length, if◌then◌else◌}
 use Rattle.std.specs.Str.{bytes_eq}
 use Rattle.base.specs.Lines.{whole_lines}
 use Rattle.aiger.specs.declared.circuit.Latch.{Latch}
 use Rattle.aiger.specs.declared.circuit.Reset.{Reset}
 use Rattle.aiger.specs.declared.circuit.Reset.TheVariants.{Zero, One, Free}
-use Rattle.aiger.specs.Literal.{Valuation, literal_value}
+use Rattle.base.specs.Literal.{Valuation}
 use Rattle.aiger.specs.Circuit.{Circuit}
 use Rattle.aiger.specs.Trace.{IsTrace}
+use Rattle.aiger.specs.Reachability.{circuit_shows}
 use Rattle.witness.specs.declared.judgement.Judgement.{Judgement}
-use Rattle.witness.specs.Judgements.{Violation, breach_from, first_of, JudgesAs}
+use Rattle.witness.specs.Judgements.{verdict, JudgesAs}
 use Rattle.witness.specs.BitTexts.{BitWitness}
 use Rattle.witness.specs.BitAdmits.{read_bit_text, bit_witness_of}
 
@@ -28,24 +28,7 @@ first_reset_differing k [] bits = None
 first_reset_differing k (l ∷ ls) [] = None
 first_reset_differing k (l ∷ ls) (b ∷ bs) = if differs_from_reset l.reset b then Some k else first_reset_differing (suc k) ls bs
 
--- the first constraint that does not hold in a frame
-abbrev pub first_bit_violated : Circuit → Valuation → Option ℕ
-first_bit_violated c v = position_from (λ l. not (literal_value v l)) 0 c.constraints
-
--- the first frame in which a constraint does not hold, and the first such constraint; frames are counted from k on
-abbrev pub bit_violation_from : Circuit → ℕ → List Valuation → Option Violation
-bit_violation_from c k vs = breach_from (first_bit_violated c) k vs
-
--- a bad property rises in a frame
-abbrev pub bit_rises : Circuit → ℕ → List Valuation → Bool
-bit_rises c i vs = list_any (λ v. literal_value v (slice_index c.bads i)) vs
-
 -- ---- the judgement
-
--- of a witness with its trace: initial bits first, then constraints in all frames, then the claim
-abbrev pub bit_verdict : Circuit → BitWitness → List Valuation → Judgement
-bit_verdict c w vs =
-    first_of (first_reset_differing 0 c.latches w.initial) (bit_violation_from c 0 vs) (if bit_rises c w.claim vs then None else Some w.claim) (length vs)
 
 -- the first line is whole, and says that there is no counterexample, or that none is known
 abbrev pub makes_no_bit_claim : List (List ℕ) → Bool
@@ -54,7 +37,9 @@ makes_no_bit_claim (line ∷ lines) = bytes_eq line (codes "0") || bytes_eq line
 
 -- what is judged of a witness, by the circuit's one trace from its bits
 abbrev pub JudgesBits : Circuit → BitWitness → Judgement → Type 0
-JudgesBits c w j = (vs : List Valuation) → IsTrace c w.initial w.frames vs → j ≡ bit_verdict c w vs
+JudgesBits c w j =
+    (vs : List Valuation) → IsTrace c w.initial w.frames vs
+    → j ≡ verdict (first_reset_differing 0 c.latches w.initial) (w.claim ∷ []) (length c.bads) (map (circuit_shows c) vs)
 
 -- the judgement of a text over a circuit
 abbrev pub BitJudges : Circuit → List ℕ → Judgement → Type 0

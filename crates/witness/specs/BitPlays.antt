@@ -1,13 +1,15 @@
 -- The frames of a witness of a circuit, played one after the other while its lines are read: what is kept of them, and which lines it is of.
-use Rattle.std.specs.Prelude.{◌≡◌, ℕ, ◌+◌, ◌*◌, ◌≤◌, Bool, true, false, List, [], ◌∷◌, Option, Some, None, map, length, take, slice_set}
-use Rattle.aiger.specs.Literal.{Valuation}
+use Rattle.std.specs.Prelude.{◌≡◌, ℕ, ◌+◌, ◌*◌, ◌≤◌, Bool, true, false, not, List, [], ◌∷◌, Option, Some, None, map, length, take, slice_index, slice_set}
+use Rattle.std.specs.List.{list_any, position_from}
+use Rattle.base.specs.Literal.{Valuation, literal_value}
 use Rattle.aiger.specs.Circuit.{Circuit}
 use Rattle.aiger.specs.Trace.{IsTrace, next_state}
 use Rattle.runs.specs.Run.{more_steps}
 use Rattle.runs.specs.CircuitRun.{CircuitRun, circuit_start, settle_steps}
 use Rattle.witness.specs.Judgements.{Violation}
 use Rattle.witness.specs.BitScans.{is_one_bit}
-use Rattle.witness.specs.BitJudgements.{first_reset_differing, bit_violation_from, bit_rises}
+use Rattle.witness.specs.BitJudgements.{first_reset_differing}
+use Rattle.witness.specs.Fits.{breach_from}
 
 -- a run of the circuit; the first latch whose initial bit is not that of its reset; how many frames are closed, the first constraint that did not hold in them,
 -- and whether the claimed bad property rose
@@ -42,10 +44,18 @@ pub record Begins (c : Circuit) (p : BitPlay) (line : List ℕ) : Type 0 where
   pub bits : length line ≤ length c.latches → take (length line) p.run.latches ≡ map is_one_bit line
   pub differs : length line ≤ length c.latches → p.differs ≡ first_reset_differing 0 c.latches (map is_one_bit line)
 
+-- the first constraint that does not hold in a frame
+abbrev pub first_bit_violated : Circuit → Valuation → Option ℕ
+first_bit_violated c v = position_from (λ l. not (literal_value v l)) 0 c.constraints
+
+-- a bad property is 1 in one of some frames
+abbrev pub bit_rises : Circuit → ℕ → List Valuation → Bool
+bit_rises c k vs = list_any (λ v. literal_value v (slice_index c.bads k)) vs
+
 -- what a trace says of what is kept
 pub record Traced (c : Circuit) (claim : ℕ) (initial : List Bool) (p : BitPlay) (vs : List Valuation) : Type 0 where
   pub latches : p.run.latches ≡ state_behind c initial vs
-  pub breach : p.breach ≡ bit_violation_from c 0 vs
+  pub breach : p.breach ≡ breach_from (first_bit_violated c) 0 vs
   pub rose : p.rose ≡ bit_rises c claim vs
 
 -- these frames are closed, and these bytes of the next one's line are read

@@ -1,7 +1,7 @@
 -- What a judge of witnesses of a circuit holds, and which texts it stands for.
 use Rattle.std.specs.Prelude.{◌≡◌, ℕ, ◌<◌, ◌||◌, Bool, true, false, List, [], Result, Ok, Err, codes, length}
 use Rattle.std.specs.Str.{bytes_eq}
-use Rattle.aiger.specs.Literal.{Valuation}
+use Rattle.base.specs.Literal.{Valuation}
 use Rattle.aiger.specs.Circuit.{Circuit}
 use Rattle.aiger.specs.Trace.{IsTrace}
 use Rattle.witness.specs.declared.why.Why.{Why}
@@ -11,9 +11,9 @@ use Rattle.witness.specs.declared.bit_reader.BitReader.{BitReader}
 use Rattle.witness.specs.declared.bit_scan.Scan.{Scan}
 use Rattle.witness.specs.Stands.{Judge, Judging, StandsFor as JudgeStandsFor}
 use Rattle.witness.specs.BitAdmits.{BitPlace, AtHeader, AtClaim, AtInitial, AtFirst, AtLater, AtDone, BitRead, bit_admit, bit_reader}
-use Rattle.witness.specs.BitJudgements.{makes_no_bit_claim, bit_rises}
+use Rattle.witness.specs.BitPlays.{bit_rises, BitPlay, play_start, steps_of, Begins, Plays}
+use Rattle.witness.specs.BitJudgements.{makes_no_bit_claim}
 use Rattle.witness.specs.BitScans.{Scans}
-use Rattle.witness.specs.BitPlays.{BitPlay, play_start, steps_of, Begins, Plays}
 
 -- which line comes next, as the code has it
 abbrev pub place_of : CodePlace → BitPlace
@@ -31,7 +31,7 @@ PlaysAt c r p line AtClaim = (p ≡ play_start c) × (r.frames ≡ [])
 PlaysAt c r p line AtInitial = Begins c p line × (r.frames ≡ []) × (r.claim < length c.bads)
 PlaysAt c r p line AtFirst = Plays c r.claim r.initial r.frames p line × (r.claim < length c.bads)
 PlaysAt c r p line AtLater = Plays c r.claim r.initial r.frames p line × (r.claim < length c.bads)
-PlaysAt c r p line AtDone = Plays c r.claim r.initial r.frames p []
+PlaysAt c r p line AtDone = Plays c r.claim r.initial r.frames p [] × (r.claim < length c.bads)
 
 -- the frames that are closed, and the steps that they took
 pub record Counts (c : Circuit) (q : BitReader) (r : BitRead) : Type 0 where

@@ -1,14 +1,16 @@
 -- The judgement of a text over a model ("Btor2, BtorMC and Boolector 3.0", semantics of witnesses; the order of the six answers is this project's).
-use Rattle.std.specs.Prelude.{◌≡◌, ℕ, suc, ◌+◌, Bool, true, false, not, ◌&&◌, ◌||◌, ◌==◌, nat_le, List, [], ◌∷◌, Option, Some, None, Result, Ok, Err, codes, map, length, flat_map, find, option_map, option_and_then, unwrap_or, if◌then◌else◌}
-use Rattle.std.specs.List.{list_any, list_all, position_from}
+use Rattle.std.specs.Prelude.{◌≡◌, ℕ, zero, suc, ◌+◌, Bool, true, false, not, ◌&&◌, ◌||◌, ◌==◌, nat_le, List, [], ◌∷◌, Option, Some, None, Result, Ok, Err, codes, map, length, find, option_map, option_and_then, unwrap_or, if◌then◌else◌}
+use Rattle.std.specs.List.{list_any, position_from}
 use Rattle.std.specs.Option.{option_or}
 use Rattle.std.specs.Str.{bytes_eq}
 use Rattle.base.specs.Lines.{whole_lines}
+use Rattle.base.specs.Shown.{Shown, rises_in}
 use Rattle.btor2.specs.declared.item.Item.{Item}
 use Rattle.btor2.specs.declared.item.Body.{Body}
-use Rattle.btor2.specs.Items.{is_input, is_state, is_bad, is_constraint, names_state, operands, init_word}
+use Rattle.btor2.specs.Items.{is_input, is_state, is_bad, names_state, init_word}
 use Rattle.btor2.specs.Lists.{of_kind}
 use Rattle.btor2.specs.Trace.{Frame, IsTrace}
+use Rattle.btor2.specs.Reachability.{nodes_of, model_shows}
 use Rattle.witness.specs.declared.judgement.Judgement.{Judgement}
 use Rattle.witness.specs.declared.judgement.Judgement.TheVariants as judgement
 use Rattle.witness.specs.Texts.{Assignment, Parts, Witness, shape_of, is_comment, most_lines}
@@ -76,14 +78,6 @@ differs (Some c) x = not (c == x)
 abbrev pub first_different : List Item → Frame → Option ℕ
 first_different items state = position_from (λ x. differs (init_word items x.id) (state x.id)) 0 (of_kind is_state items)
 
--- the nodes of the bad properties, or of the constraints
-abbrev pub nodes_of : (Body → Bool) → List Item → List ℕ
-nodes_of kind items = flat_map (λ x. operands x.body) (of_kind kind items)
-
--- the first constraint that does not hold in a frame
-abbrev pub first_violated : List Item → Frame → Option ℕ
-first_violated items f = position_from (λ a. not (f a == 1)) 0 (nodes_of is_constraint items)
-
 -- the first frame in which a constraint does not hold, and the first such constraint; frames are counted from k on
 pub record Violation : Type 0 where
   pub frame : ℕ
@@ -93,23 +87,15 @@ abbrev pub violated_at : ℕ → Option ℕ → Option Violation → Option Viol
 violated_at k None later = later
 violated_at k (Some i) later = Some (record { frame = k; constraint = i })
 
--- by which constraint does not hold in one
-abbrev pub breach_from : {F : Type 0} → (F → Option ℕ) → ℕ → List F → Option Violation
-breach_from violated k [] = None
-breach_from violated k (f ∷ fs) = violated_at k (violated f) (breach_from violated (suc k) fs)
+abbrev pub violation_from : ℕ → List Shown → Option Violation
+violation_from k [] = None
+violation_from k (s ∷ more) = violated_at k (position_from not 0 s.constraints) (violation_from (suc k) more)
 
-abbrev pub violation_from : List Item → ℕ → List Frame → Option Violation
-violation_from items k fs = breach_from (first_violated items) k fs
-
--- a node is 1 in no frame
-abbrev pub never_rises : List Frame → ℕ → Bool
-never_rises fs a = list_all (λ f. not (f a == 1)) fs
-
--- the first claimed bad property that rises in no frame; their nodes are counted from i on
-abbrev pub unreached_from : List ℕ → List Frame → ℕ → List ℕ → Option ℕ
-unreached_from claims fs i [] = None
-unreached_from claims fs i (a ∷ more) =
-    if list_any (λ c. c == i) claims && never_rises fs a then Some i else unreached_from claims fs (suc i) more
+-- the first of so many bad properties, counted from i on, that is claimed and rises in no frame
+abbrev pub unreached_from : List ℕ → List Shown → ℕ → ℕ → Option ℕ
+unreached_from claims shown i zero = None
+unreached_from claims shown i (suc more) =
+    if list_any (λ c. c == i) claims && not (rises_in i shown) then Some i else unreached_from claims shown (suc i) more
 
 -- ---- the judgement
 
@@ -120,10 +106,10 @@ first_of None (Some v) unreached frames = judgement.Violated v.frame v.constrain
 first_of None None (Some claim) frames = judgement.NotReached claim
 first_of None None None frames = judgement.Accepted frames
 
--- of a witness with its trace: initial words first, then constraints in all frames, then claims
-abbrev pub verdict : List Item → Words → List Frame → Judgement
-verdict items w fs =
-    first_of (first_different items (initial_words items w)) (violation_from items 0 fs) (unreached_from w.claims fs 0 (nodes_of is_bad items)) (length fs)
+-- of a witness over a model or a circuit, by the first initial value that differs, what it claims of so many bad properties, and what its frames show:
+-- initial values first, then constraints in all frames, then claims
+abbrev pub verdict : Option ℕ → List ℕ → ℕ → List Shown → Judgement
+verdict different claims bads shown = first_of different (violation_from 0 shown) (unreached_from claims shown 0 bads) (length shown)
 
 -- the first line that is no comment is whole, among the lines that may be there, and says that there is no counterexample, or that none is known
 abbrev pub makes_no_claim : ℕ → List (List ℕ) → Bool
@@ -134,7 +120,9 @@ makes_no_claim n (line ∷ lines) =
 
 -- what is judged of what was read, by the model's one trace from its words
 abbrev pub JudgesWords : List Item → Words → Judgement → Type 0
-JudgesWords items w j = (fs : List Frame) → IsTrace items (initial_words items w) (given_frames items w) fs → j ≡ verdict items w fs
+JudgesWords items w j =
+    (fs : List Frame) → IsTrace items (initial_words items w) (given_frames items w) fs
+    → j ≡ verdict (first_different items (initial_words items w)) w.claims (length (nodes_of is_bad items)) (map (model_shows items) fs)
 
 -- what is judged of a text, where its status says so of a claim and it reads so, by what is judged of what it says
 abbrev pub JudgesAs : {R : Type 0} → (R → Judgement → Type 0) → Bool → Result R Fault → Judgement → Type 0

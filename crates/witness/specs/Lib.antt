@@ -10,6 +10,7 @@ pub mod Printed
 pub mod BitTexts
 pub mod BitAdmits
 pub mod BitJudgements
+pub mod Accepted
 pub mod BitScans
 pub mod BitPlays
 pub mod Stands

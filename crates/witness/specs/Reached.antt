@@ -1,18 +1,17 @@
 -- Which claims of a text are reached in its closed frames: over a model ("Btor2, BtorMC and Boolector 3.0", semantics of witnesses) and over a circuit
 -- ("AIGER 1.9 and Beyond", semantics).
-use Rattle.std.specs.Prelude.{ℕ, Bool, false, not, ◌&&◌, ◌==◌, List, slice_get}
+use Rattle.std.specs.Prelude.{ℕ, Bool, ◌&&◌, ◌==◌, List, map}
 use Rattle.std.specs.List.{list_any}
-use Rattle.std.specs.Option.{option_map_or}
+use Rattle.base.specs.Shown.{rises_in}
 use Rattle.btor2.specs.declared.item.Item.{Item}
-use Rattle.btor2.specs.Items.{is_bad}
 use Rattle.btor2.specs.Trace.{Frame}
-use Rattle.aiger.specs.Literal.{Valuation}
+use Rattle.btor2.specs.Reachability.{model_shows}
+use Rattle.base.specs.Literal.{Valuation}
 use Rattle.aiger.specs.Circuit.{Circuit}
 use Rattle.aiger.specs.Trace.{IsTrace}
+use Rattle.aiger.specs.Reachability.{circuit_shows}
 use Rattle.witness.specs.Readings.{reading}
 use Rattle.witness.specs.BitAdmits.{BitRead, bit_reader}
-use Rattle.witness.specs.BitJudgements.{bit_rises}
-use Rattle.witness.specs.Judgements.{nodes_of, never_rises}
 use Rattle.witness.specs.ClosedWords.{said_in}
 
 -- ---- over a model
@@ -21,13 +20,9 @@ use Rattle.witness.specs.ClosedWords.{said_in}
 abbrev pub word_claimed : List Item → List ℕ → ℕ → Bool
 word_claimed items text k = list_any (λ c. c == k) (said_in items text).claims
 
--- a bad property is there at a position, and its node is 1 in one of some frames
-abbrev pub word_rises : List Item → List Frame → ℕ → Bool
-word_rises items fs k = option_map_or (λ a. not (never_rises fs a)) (slice_get (nodes_of is_bad items) k) false
-
 -- it is claimed, and 1 in a closed frame of the text
 abbrev pub word_reached : List Item → List ℕ → List Frame → ℕ → Bool
-word_reached items text fs k = word_claimed items text k && word_rises items fs k
+word_reached items text fs k = word_claimed items text k && rises_in k (map (model_shows items) fs)
 
 -- ---- over a circuit
 
@@ -45,4 +40,4 @@ bit_claimed c text k = (bits_said_in c text).claim == k
 
 -- it is claimed, and 1 in a closed frame of the text
 abbrev pub bit_reached : Circuit → List ℕ → List Valuation → ℕ → Bool
-bit_reached c text vs k = bit_claimed c text k && bit_rises c k vs
+bit_reached c text vs k = bit_claimed c text k && rises_in k (map (circuit_shows c) vs)

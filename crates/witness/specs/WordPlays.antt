@@ -5,14 +5,15 @@ use Rattle.base.specs.Decimals.{number_of}
 use Rattle.btor2.specs.declared.item.Item.{Item}
 use Rattle.btor2.specs.Items.{is_input, is_state, is_bad}
 use Rattle.btor2.specs.Trace.{Frame, IsTrace, next_state}
+use Rattle.btor2.specs.Reachability.{nodes_of}
 use Rattle.runs.specs.Frames.{ids_of}
 use Rattle.runs.specs.Run.{Run, IsNow, start, first_word, zeros, node_count, state_count, more_steps}
 use Rattle.witness.specs.declared.why.Why.{Why}
 use Rattle.witness.specs.Texts.{widths_of, Assignment, shape_of, assignment_line, IsAssignment}
 use Rattle.witness.specs.Admits.{cut_at_space, may_name, assignment_at}
-use Rattle.witness.specs.Fits.{IsFlagged, FramesFit, words_put, RisesAmong, NoneIsSet}
+use Rattle.witness.specs.Fits.{IsFlagged, FramesFit, words_put, first_violated, breach_from, RisesAmong, NoneIsSet}
 pub use Rattle.witness.specs.ClosedWords.{nothing_given, is_between, word_at}
-use Rattle.witness.specs.Judgements.{FrameWords, Words, pairs_of, initial_words, given_words, nodes_of, Violation, violation_from, first_different}
+use Rattle.witness.specs.Judgements.{FrameWords, Words, pairs_of, initial_words, given_words, Violation, first_different}
 
 -- a run of the model, which stays settled in the frame that was closed last until it has to move on; which states and inputs have a word in the frame that is open; the first state whose initial word is not that of its init line; how many
 -- frames are closed, the first constraint that did not hold in them, and which bad properties rose
@@ -80,7 +81,7 @@ pub record Traced (items : List Item) (frames : List FrameWords) (base : List �
   pub states : base ≡ map (next_state items last) (ids_of is_state items)
   pub carried : carried_behind items (initial_words items (frames_alone frames)) fs ≡ next_state items last
   pub differs : p.differs ≡ first_different items (initial_words items (frames_alone frames))
-  pub breach : p.breach ≡ violation_from items 0 fs
+  pub breach : p.breach ≡ breach_from (first_violated items) 0 fs
   pub rose : (none : List Bool) → NoneIsSet none → RisesAmong (nodes_of is_bad items) fs none p.rose
 
 abbrev pub TracedBy : List Item → List ℕ → WordPlay → List FrameWords → Type 0

@@ -2,11 +2,12 @@
 ghost use Rattle.std.specs.Prelude.{◌≡◌, ℕ, ◌&&◌, ◌||◌, ◌<◌, ◌^◌, true, false, List, [], ◌∷◌, ◌++◌, MatchResult, None, codes};
 ghost use Rattle.std.specs.Str.{bytes_eq};
 ghost use Rattle.base.specs.Lines.{IsLine, unfinished};
-ghost use Rattle.aiger.specs.Literal.{Valuation};
-ghost use Rattle.aiger.specs.Circuit.{Circuit};
+ghost use Rattle.base.specs.Literal.{Valuation};
+ghost use Rattle.aiger.specs.Circuit.{Circuit, IsCircuit};
 ghost use Rattle.runs.specs.CircuitRun.{circuit_held};
 ghost use Rattle.witness.specs.BitAdmits.{admitted_lines, closed_frames, is_done};
 ghost use Rattle.witness.specs.BitJudgements.{BitJudges};
+ghost use Rattle.witness.specs.Accepted.{BitAcceptsExactly};
 ghost use Rattle.witness.specs.BitScans.{Scans};
 ghost use Rattle.witness.specs.BitPlays.{steps_of};
 ghost use Rattle.witness.specs.Reached.{IsClosedBitTrace, bit_reached};
@@ -209,7 +210,9 @@ impl<'a> BitJudge<'a> {
 
     /// The judgement of the text: of every one that the judge stands for.
     pub fn finish(self) -> Judgement
-        ensures { (c : Circuit) (text : List ℕ) → StandsFor c self.entry text → BitJudges c text result }
+        ensures judged { (c : Circuit) (text : List ℕ) → StandsFor c self.entry text → BitJudges c text result }
+        // accepted exactly where the text says a witness of which this is judged
+        ensures accepted { (c : Circuit) (text : List ℕ) → IsCircuit c → StandsFor c self.entry text → BitAcceptsExactly c text result }
     {
         self.judgement()
     }

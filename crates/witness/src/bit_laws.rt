@@ -12,6 +12,7 @@ ghost use Rattle.witness.specs.Texts.{most_lines};
 ghost use Rattle.witness.specs.Beginnings.{IsBitBeginning};
 ghost use Rattle.witness.specs.BitTexts.{BitWitness, BitSays};
 ghost use Rattle.witness.specs.BitAdmits.{BitRead, read_bit_text, bit_witness_of, admitted_lines, closed_frames};
+ghost use Rattle.witness.specs.Accepted.{BitAcceptsExactly};
 ghost use Rattle.witness.specs.BitJudgements.{first_reset_differing, makes_no_bit_claim, BitJudges};
 ghost use Rattle.witness.specs.Worked.{constrained_circuit, kept_latches, one_input, toggles_once};
 
@@ -53,6 +54,12 @@ pub fn first_faulty_bit_line()
 pub fn exactly_one_bit_judgement()
     ensures exists { (c : Circuit) (text : List ℕ) → IsCircuit c → (j : Judgement) × BitJudges c text j }
     ensures unique { (c : Circuit) (text : List ℕ) (j k : Judgement) → IsCircuit c → BitJudges c text j → BitJudges c text k → j ≡ k }
+{}
+
+/// A law: what is judged of a text over a circuit is that it is accepted, with so many frames, exactly where it says a witness
+/// of which this is judged.
+pub fn accepted_exactly()
+    ensures { (c : Circuit) (text : List ℕ) (j : Judgement) → IsCircuit c → BitJudges c text j → BitAcceptsExactly c text j }
 {}
 
 /// A law: a text that makes no claim has no admitted line and closes no frame.

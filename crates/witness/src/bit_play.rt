@@ -1,13 +1,13 @@
 //! The frames of a witness of a circuit, played while its lines are read.
 ghost use Rattle.std.specs.Prelude.{◌≡◌, ℕ, ◌<◌, ◌-◌, ◌^◌, min, true, Bool, List, [], ◌∷◌, ◌++◌, MatchResult, length, map, slice_index, slice_index_or};
 ghost use Rattle.aiger.specs.declared.circuit.Latch.{Latch};
-ghost use Rattle.aiger.specs.Literal.{Valuation, literal_value};
+ghost use Rattle.base.specs.Literal.{Valuation, literal_value};
 ghost use Rattle.aiger.specs.Circuit.{Circuit};
 ghost use Rattle.runs.specs.CircuitRun.{IsFrameNow, circuit_held};
 ghost use Rattle.witness.specs.BitScans.{is_one_bit};
 ghost use Rattle.witness.specs.Judgements.{first_of};
-ghost use Rattle.witness.specs.BitJudgements.{differs_from_reset, first_bit_violated};
-ghost use Rattle.witness.specs.BitPlays.{Begins, Plays, play_start, differing, latch_given};
+ghost use Rattle.witness.specs.BitJudgements.{differs_from_reset};
+ghost use Rattle.witness.specs.BitPlays.{first_bit_violated, Begins, Plays, play_start, differing, latch_given};
 
 use crate::judgement::Judgement;
 use crate::verdicts::{Breach, judgement_of, note_breach};

@@ -7,8 +7,9 @@ ghost use Rattle.btor2.specs.Check.{IsWellFormed};
 ghost use Rattle.btor2.specs.Lists.{first_init_without_next};
 ghost use Rattle.witness.specs.Answers.{AnswersJudge, CountsJudge, NamesState};
 ghost use Rattle.witness.specs.Judgements.{Judges};
+ghost use Rattle.witness.specs.Accepted.{AcceptsExactly, BitAcceptsExactly};
 ghost use Rattle.witness.specs.WordStands.{StandsFor};
-ghost use Rattle.aiger.specs.Circuit.{Circuit};
+ghost use Rattle.aiger.specs.Circuit.{Circuit, IsCircuit};
 ghost use Rattle.witness.specs.BitJudgements.{BitJudges};
 ghost use Rattle.witness.specs.BitStands.{StandsFor as StandsForBits};
 
@@ -55,6 +56,8 @@ pub fn judge_words<S: Source>(
 ) -> Result<Judgement, JudgeFault>
     // the judgement is that of the whole text
     ensures judged { IfOk result (λ judgement. IfSome (S.to_come source.old) (λ text. Judges model.now text judgement)) }
+    // accepted exactly where the text says a witness of which this is judged
+    ensures accepted { IfOk result (λ judgement. IfSome (S.to_come source.old) (λ text. AcceptsExactly model.now text judgement)) }
     // a state with an init and no next is named exactly where there is one, the first
     ensures answer { AnswersJudge result (first_init_without_next model.now model.now) }
     ensures unread { IfErr result (λ e. NamesState e → source.new ≡ source.old) }
@@ -107,12 +110,17 @@ pub fn judge_bits<S: Source>(
 ) -> Result<Judgement, JudgeFault>
     // the judgement is that of the whole text
     ensures judged { IfOk result (λ judgement. IfSome (S.to_come source.old) (λ text. BitJudges circuit.now text judgement)) }
+    // accepted exactly where the text says a witness of which this is judged
+    ensures accepted { IfOk result (λ judgement. IfSome (S.to_come source.old) (λ text. BitAcceptsExactly circuit.now text judgement)) }
     ensures no_state { IfErr result (λ e. NamesState e → ⊥) }
     ensures unread { IsErrOf result JudgeFault.NoMemory → source.new ≡ source.old }
     ensures end { OnOk result (IsAtEnd (S.to_come source.new)) }
     // the source failed once where a device's fault is answered, and else not at all
     ensures counted { CountsJudge result (S.failures source.old) (S.failures source.new) }
+    // the circuit is one, whatever is answered
+    ensures valid { IsCircuit circuit.now }
 {
+    let _inputs = circuit.inputs();
     let mut judge = match BitJudge::new(alloc, circuit) {
         Ok(judge) => judge,
         Err(_) => return Err(JudgeFault::NoMemory),

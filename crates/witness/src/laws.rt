@@ -13,6 +13,7 @@ ghost use Rattle.witness.specs.Texts.{Shape, shape_of, has_free, Parts, Witness,
 ghost use Rattle.witness.specs.Beginnings.{IsBeginning};
 ghost use Rattle.witness.specs.Admits.{Read, read_text, witness_of};
 ghost use Rattle.witness.specs.Judgements.{words_of, given_frames, makes_no_claim, Judges};
+ghost use Rattle.witness.specs.Accepted.{AcceptsExactly};
 ghost use Rattle.witness.specs.ClosedWords.{word_reading, read_with, admitted_word_lines, closed_word_frames, said_in, IsClosedTrace, last_word, ClosesAtMostOne};
 ghost use Rattle.witness.specs.Worked.{constrained, wide, nothing_given, rises, follows};
 
@@ -72,6 +73,12 @@ pub fn exactly_one_judgement()
     ensures exists { (items : List Item) (text : List ℕ) → IsWellFormed items → (j : Judgement) × Judges items text j }
     ensures unique { (items : List Item) (text : List ℕ) (j k : Judgement) → IsWellFormed items → Judges items text j
         → Judges items text k → j ≡ k }
+{}
+
+/// A law: what is judged of a text over a well-formed model is that it is accepted, with so many frames, exactly where it says
+/// a witness of which this is judged.
+pub fn accepted_exactly()
+    ensures { (items : List Item) (text : List ℕ) (j : Judgement) → IsWellFormed items → Judges items text j → AcceptsExactly items text j }
 {}
 
 /// A law: a text that says that there is no claim closes no frame.

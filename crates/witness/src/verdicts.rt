@@ -6,8 +6,9 @@ ghost use Rattle.btor2.specs.Check.{IsWellFormed};
 ghost use Rattle.btor2.specs.Lists.{places, of_kind};
 ghost use Rattle.btor2.specs.Trace.{Frame};
 ghost use Rattle.runs.specs.Run.{IsNow};
-ghost use Rattle.witness.specs.Judgements.{nodes_of, differs, first_different, first_violated, violated_at, unreached_from, first_of};
-ghost use Rattle.witness.specs.Fits.{RisesIn, RisesAmong, NoneIsSet, AreClaimed};
+ghost use Rattle.btor2.specs.Reachability.{nodes_of};
+ghost use Rattle.witness.specs.Judgements.{differs, first_different, violated_at, first_of};
+ghost use Rattle.witness.specs.Fits.{first_violated, first_unreached, RisesIn, RisesAmong, NoneIsSet, AreClaimed};
 ghost use Rattle.witness.specs.Texts.{most_lines};
 ghost use Rattle.witness.specs.Readings.{last_refusal};
 
@@ -163,7 +164,7 @@ pub(crate) fn note_breach(found: &mut Option<Breach>, frame: u64, violated: Opti
 /// The first bad property that is claimed and does not rise, by two flags for each.
 pub(crate) fn first_unreached(claimed: &[bool], rose: &[bool]) -> Option<u64>
     requires many { length claimed.now ≡ length rose.now }
-    ensures { (claims nodes : List ℕ) (fs : List Frame) (none : List Bool) → AreClaimed claimed.now claims → length nodes ≡ length rose.now → NoneIsSet none → RisesAmong nodes fs none rose.now → result ≡ unreached_from claims fs 0 nodes }
+    ensures { (claims nodes : List ℕ) (fs : List Frame) (none : List Bool) → AreClaimed claimed.now claims → length nodes ≡ length rose.now → NoneIsSet none → RisesAmong nodes fs none rose.now → result ≡ first_unreached claims fs 0 nodes }
 {
     for i in 0..rose.len() {
         if claimed[i] & !rose[i] {

@@ -2,6 +2,7 @@
 ghost use Rattle.std.specs.Prelude.{◌≡◌, ℕ, ◌+◌, ◌<◌, ◌^◌, ◌&&◌, ◌||◌, true, List, [], ◌∷◌, ◌++◌, IfNone, IfOk, IfSome, None, codes};
 ghost use Rattle.std.specs.Str.{bytes_eq};
 ghost use Rattle.btor2.specs.declared.item.Item.{Item};
+ghost use Rattle.btor2.specs.Check.{IsWellFormed};
 ghost use Rattle.btor2.specs.Lists.{first_init_without_next};
 ghost use Rattle.btor2.specs.Trace.{Frame};
 ghost use Rattle.runs.specs.Refusal.{AnswersNew};
@@ -9,6 +10,7 @@ ghost use Rattle.runs.specs.Run.{node_count, state_count};
 ghost use Rattle.witness.specs.Texts.{shape_of};
 ghost use Rattle.witness.specs.Admits.{is_at_end};
 ghost use Rattle.witness.specs.Judgements.{Judges};
+ghost use Rattle.witness.specs.Accepted.{AcceptsExactly};
 ghost use Rattle.witness.specs.WordPlays.{steps_of};
 ghost use Rattle.witness.specs.ClosedWords.{admitted_word_lines, closed_word_frames, IsClosedTrace, last_word};
 ghost use Rattle.witness.specs.Reached.{word_reached};
@@ -227,7 +229,9 @@ impl<'a> WordJudge<'a> {
 
     /// The judgement of the text: of every one that the judge stands for.
     pub fn finish(self) -> Judgement
-        ensures { (items : List Item) (text : List ℕ) → StandsFor items self.entry text → Judges items text result }
+        ensures judged { (items : List Item) (text : List ℕ) → StandsFor items self.entry text → Judges items text result }
+        // accepted exactly where the text says a witness of which this is judged
+        ensures accepted { (items : List Item) (text : List ℕ) → IsWellFormed items → StandsFor items self.entry text → AcceptsExactly items text result }
     {
         self.judgement()
     }

@@ -8,8 +8,8 @@ ghost use Rattle.runs.specs.Refusal.{AnswersNew};
 ghost use Rattle.witness.specs.Texts.{has_free, shape_of};
 ghost use Rattle.witness.specs.Admits.{Read, nothing_read, opens_states, names_free, cut_at_space};
 ghost use Rattle.base.specs.Decimals.{number_of};
-ghost use Rattle.witness.specs.Judgements.{nodes_of, unreached_from};
-ghost use Rattle.witness.specs.Fits.{NoneIsSet, RisesAmong, AreClaimed, is_set};
+ghost use Rattle.btor2.specs.Reachability.{nodes_of};
+ghost use Rattle.witness.specs.Fits.{first_unreached, NoneIsSet, RisesAmong, AreClaimed, is_set};
 ghost use Rattle.witness.specs.declared.word_reader.Place.TheVariants as place;
 ghost use Rattle.witness.specs.KeptLines.{AreAlike};
 ghost use Rattle.witness.specs.WordStands.{Reads, GivesLine, TakesLine, NoPlainLine, is_alone, place_of};
@@ -128,7 +128,7 @@ impl<'a> WordReader<'a> {
 
     /// The first bad property that is claimed and rose in no closed frame.
     pub(crate) fn unreached(&self) -> Option<u64>
-        ensures { (claims : List ℕ) (fs : List Frame) (none : List Bool) → AreClaimed self.now.claimed claims → NoneIsSet none → RisesAmong (nodes_of is_bad self.now.play.items) fs none self.now.play.rose → result ≡ unreached_from claims fs 0 (nodes_of is_bad self.now.play.items) }
+        ensures { (claims : List ℕ) (fs : List Frame) (none : List Bool) → AreClaimed self.now.claimed claims → NoneIsSet none → RisesAmong (nodes_of is_bad self.now.play.items) fs none self.now.play.rose → result ≡ first_unreached claims fs 0 (nodes_of is_bad self.now.play.items) }
     {
         first_unreached(self.claimed.as_slice(), self.play.rose())
     }

@@ -1,6 +1,6 @@
 use Rattle.std.proofs.Common.{rules, ◌≡◌, ◌<◌, ℕ, zero, suc, List, [], ◌∷◌, ◌⊎◌, inl, inr, refl, arith, ⊎_elim}
 use Rattle.aiger.specs.Renumbering.{Uses, LeadsAlong, gate_line}
-use Rattle.aiger.specs.Literal.{variable}
+use Rattle.base.specs.Literal.{variable}
 use Rattle.std.specs.List.Sorted.{IsStrictlySortedBy}
 use Rattle.std.proofs.lemmas.List.Elements.{All-nil}
 use Rattle.aiger.specs.Circuit.{IsNamed, HasFew, HasDefined, net}

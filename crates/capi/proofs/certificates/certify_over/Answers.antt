@@ -1,6 +1,6 @@
 use Rattle.std.proofs.Common.{ap, ◌∙◌, sym}
 use Rattle.aiger.specs.Reachability.{CanRiseInCircuit}
-use Rattle.blast.specs.Reachability.{CanRise}
+use Rattle.btor2.specs.Reachability.{CanRise}
 use Rattle.capi.specs.declared.answers.Verdict.{Verdict}
 use Rattle.capi.proofs.HoldsLemmas.{holds_where}
 use Rattle.capi.proofs.certificates.certify_over.Goals as goal

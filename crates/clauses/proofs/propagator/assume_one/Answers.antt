@@ -1,7 +1,7 @@
 use Rattle.std.proofs.Common.{◌≡◌, ◌<◌, false, length, sym, ◌∙◌, arith}
-use Rattle.clauses.specs.Literal.{negation}
+use Rattle.base.specs.Literal.{negation}
 use Rattle.clauses.specs.Marked.{set_of}
-use Rattle.clauses.proofs.LiteralLemmas.{negation-inside}
+use Rattle.base.proofs.LiteralLemmas.{negation-inside}
 use Rattle.clauses.proofs.ConflictLemmas.{assumes_literal}
 use Rattle.clauses.proofs.propagator.assume_one.Goals as goal
 

@@ -1,6 +1,6 @@
 use Rattle.std.proofs.Common.{◌≡◌, ◌≢◌, ◌/◌, ◌<◌, ℕ, Bool, true, false, List, length, get_or, ap, sym, subst, ◌∙◌, arith}
 use Rattle.std.specs.Prelude.{Contains, All}
-use Rattle.clauses.specs.Literal.{negation}
+use Rattle.base.specs.Literal.{negation}
 use Rattle.clauses.specs.Propagation.{AllNegated}
 use Rattle.clauses.specs.Marked.{Marked, set_of}
 use Rattle.clauses.specs.Flat.{cut}

@@ -1,5 +1,5 @@
 use Rattle.std.proofs.Common.{ℕ, Bool, subst, ap, ◌∙◌, arith}
-use Rattle.clauses.specs.Literal.{negation}
+use Rattle.base.specs.Literal.{negation}
 use Rattle.clauses.specs.Flat.{cut}
 use Rattle.clauses.specs.Watched.{IsWatched, WalkedTo}
 use Rattle.clauses.proofs.PassLemmas.{Grows-more}

@@ -1,5 +1,5 @@
 use Rattle.std.proofs.Common.{ap}
-use Rattle.aiger.specs.Reachability.{Shown}
+use Rattle.base.specs.Shown.{Shown}
 use Rattle.engine.proofs.OutputLemmas.{initial_after, initial_before, trace_after, trace_before, shows, bad_bit, output_shown, bad_rises_after, bad_rises_before, output_rises_after, output_rises_before}
 use Rattle.engine.proofs.laws.outputs_rise_as_bads.Goals as goal
 

@@ -1,7 +1,7 @@
 use Rattle.std.proofs.Common.{◌≡◌, ℕ, ◌&&◌, List, length, take, ap, refl, arith}
 use Rattle.std.proofs.lemmas.List.{take_all}
 use Rattle.std.specs.List.{list_all}
-use Rattle.aiger.specs.Literal.{literal_value}
+use Rattle.base.specs.Literal.{literal_value}
 use Rattle.gates.proofs.LiteralLemmas.{MakesLiteral-same}
 use Rattle.engine.specs.Reads.{literal_of}
 use Rattle.engine.proofs.TableLemmas.{hold-more}

@@ -1,6 +1,6 @@
 use Rattle.std.proofs.lemmas.List.{length-map}
 use Rattle.std.proofs.Common.{◌≡◌, ℕ, ◌*◌, length, map, ap, subst, ◌∙◌, arith, rules}
-use Rattle.aiger.specs.Literal.{negation}
+use Rattle.base.specs.Literal.{negation}
 use Rattle.gates.specs.Made.{Refuses}
 use Rattle.gates.proofs.GrowthLemmas.{MakesWord-not}
 use Rattle.gates.proofs.SumLemmas.{MakesWord-decremented}

@@ -1,5 +1,5 @@
 use Rattle.std.proofs.Common.{◌≡◌, map, take}
-use Rattle.aiger.specs.Literal.{negation}
+use Rattle.base.specs.Literal.{negation}
 use Rattle.gates.proofs.bit_lists.negation.Given as goal
 
 abbrev pub invariant-loop-lit : goal.invariant-loop-lit

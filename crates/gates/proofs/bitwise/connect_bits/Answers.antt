@@ -1,5 +1,5 @@
 use Rattle.std.proofs.Common.{◌+◌, ◌*◌, take, sym, ap, ◌∙◌, arith, length-take, length, rules}
-use Rattle.aiger.specs.Literal.{literal_value}
+use Rattle.base.specs.Literal.{literal_value}
 use Rattle.gates.specs.Connect.{connected, connected_bits, connective_bound, words_bound}
 use Rattle.gates.specs.Made.{word_value, Refuses}
 use Rattle.gates.proofs.LaterLemmas.{IsDefined-of_word}

@@ -1,5 +1,5 @@
 use Rattle.std.proofs.Common.{length, map, ap, ◌∙◌}
-use Rattle.aiger.specs.Literal.{negation}
+use Rattle.base.specs.Literal.{negation}
 use Rattle.gates.specs.Connect.{connected_words}
 use Rattle.gates.specs.Made.{word_value}
 use Rattle.gates.proofs.GrowthLemmas.{MakesWord-negated}

@@ -1,6 +1,6 @@
 use Rattle.std.proofs.Common.{length, map, refl, arith, ◌*◌, rules}
 use Rattle.std.proofs.lemmas.List.{length-map}
-use Rattle.aiger.specs.Literal.{literal_value}
+use Rattle.base.specs.Literal.{literal_value}
 use Rattle.gates.specs.Made.{Refuses}
 use Rattle.gates.specs.Connect.{connected, connective_bound, words_bound}
 use Rattle.gates.proofs.LiteralLemmas.{Refuses-behind}

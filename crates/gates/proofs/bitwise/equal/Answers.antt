@@ -1,5 +1,5 @@
 use Rattle.std.proofs.Common.{◌≡◌, ◌+◌, ◌*◌, Bool, true, false, not, ◌==◌, bit_xor, length, refl, ap, ◌∙◌, arith, rules}
-use Rattle.aiger.specs.Literal.{negation}
+use Rattle.base.specs.Literal.{negation}
 use Rattle.gates.specs.Made.{MakesLiteral, word_value, Refuses}
 use Rattle.gates.proofs.LaterLemmas.{Refuses-weaker}
 use Rattle.gates.proofs.LiteralLemmas.{MakesLiteral-not, MakesLiteral-same, Refuses-behind}

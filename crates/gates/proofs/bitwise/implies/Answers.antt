@@ -1,7 +1,7 @@
 use Rattle.std.proofs.Common.{◌≡◌, Bool, true, false, not, ◌||◌, ◌==◌, refl, sym, ap, ap₂, ◌∙◌}
 use Rattle.base.specs.Word.{bit_number}
-use Rattle.aiger.specs.Literal.{literal_value}
-use Rattle.aiger.proofs.NetLemmas.{literal_value-negation}
+use Rattle.base.specs.Literal.{literal_value}
+use Rattle.base.proofs.LiteralLemmas.{literal_value-negation}
 use Rattle.gates.proofs.BitListLemmas.{MakesWord-bit, MakesWord-same, word_value-bit}
 use Rattle.gates.proofs.bitwise.implies.Goals as goal
 

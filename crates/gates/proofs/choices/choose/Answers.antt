@@ -1,7 +1,7 @@
 use Rattle.std.proofs.Common.{◌≡◌, Bool, true, false, List, [], ◌∷◌, length, map, if◌then◌else◌, refl, ap, arith, ◌*◌, rules}
 use Rattle.std.proofs.lemmas.List.{length-map}
 use Rattle.base.specs.Word.{word}
-use Rattle.aiger.specs.Literal.{literal_value}
+use Rattle.base.specs.Literal.{literal_value}
 use Rattle.gates.specs.Made.{Refuses}
 use Rattle.gates.proofs.LiteralLemmas.{Refuses-behind}
 use Rattle.gates.proofs.LaterLemmas.{IsDefined-of_word}

@@ -1,6 +1,6 @@
 use Rattle.std.proofs.Common.{◌≡◌, Bool, true, false, not, ◌&&◌, ◌||◌, refl, arith}
-use Rattle.aiger.specs.Literal.{literal_value}
-use Rattle.aiger.proofs.NetLemmas.{literal_value-negation}
+use Rattle.base.specs.Literal.{literal_value}
+use Rattle.base.proofs.LiteralLemmas.{literal_value-negation}
 use Rattle.gates.proofs.LiteralLemmas.{MakesLiteral-and, MakesLiteral-not, MakesLiteral-same}
 use Rattle.gates.proofs.literals.disjunction.Goals as goal
 

@@ -1,7 +1,7 @@
 use Rattle.std.proofs.Common.{◌≡◌, Bool, true, false, not, ◌&&◌, ◌||◌, refl, arith, if◌then◌else◌, rules}
 use Rattle.std.proofs.lemmas.Result.{IfOk-weaker, IfErr-weaker}
-use Rattle.aiger.specs.Literal.{literal_value}
-use Rattle.aiger.proofs.NetLemmas.{literal_value-negation}
+use Rattle.base.specs.Literal.{literal_value}
+use Rattle.base.proofs.LiteralLemmas.{literal_value-negation}
 use Rattle.gates.specs.Made.{Refuses}
 use Rattle.gates.proofs.LaterLemmas.{IsDefined-not, Refuses-weaker}
 use Rattle.gates.proofs.LiteralLemmas.{MakesLiteral-and, MakesLiteral-join, MakesLiteral-same, Refuses-behind}

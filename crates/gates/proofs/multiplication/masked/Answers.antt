@@ -1,5 +1,5 @@
 use Rattle.std.proofs.Common.{◌&&◌, arith, ◌*◌, length, rules}
-use Rattle.aiger.specs.Literal.{literal_value}
+use Rattle.base.specs.Literal.{literal_value}
 use Rattle.gates.specs.Made.{Refuses}
 use Rattle.gates.proofs.LaterLemmas.{IsDefined-of_word}
 use Rattle.gates.proofs.GrowthLemmas.{IsDefined-grown}

@@ -1,5 +1,5 @@
 use Rattle.std.proofs.Common.{◌&&◌}
-use Rattle.aiger.specs.Literal.{literal_value}
+use Rattle.base.specs.Literal.{literal_value}
 use Rattle.gates.proofs.BitListLemmas.{IsRow}
 use Rattle.gates.proofs.multiplication.masked.Given as goal
 

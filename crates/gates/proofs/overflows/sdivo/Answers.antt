@@ -1,6 +1,6 @@
 use Rattle.std.proofs.Common.{◌≡◌, ◌≤◌, length, map, arith, ap, ◌∙◌, ◌*◌, rules}
 use Rattle.std.proofs.lemmas.Result.{IfOk-weaker, IfErr-weaker}
-use Rattle.aiger.specs.Literal.{negation}
+use Rattle.base.specs.Literal.{negation}
 use Rattle.gates.specs.Made.{Refuses}
 use Rattle.gates.specs.Tests.{with_top_negated}
 use Rattle.gates.proofs.LaterLemmas.{Refuses-weaker}

@@ -8,7 +8,7 @@ use Rattle.base.specs.declared.operators.Binary.{Binary}
 use Rattle.base.specs.declared.operators.Binary.TheVariants.{Sll, Srl, Sra}
 use Rattle.aiger.specs.Net.{IsDefined}
 use Rattle.aiger.proofs.NetLemmas.{IsDefined-false}
-use Rattle.aiger.specs.Literal.{literal_value}
+use Rattle.base.specs.Literal.{literal_value}
 use Rattle.gates.specs.Bound.{log_up, binary_bound}
 use Rattle.gates.specs.Made.{MakesWord, MakesLiteral, word_value, Refuses}
 use Rattle.gates.specs.Tests.{is_shift, is_rotation}

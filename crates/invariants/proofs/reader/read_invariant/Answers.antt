@@ -1,7 +1,8 @@
 use Rattle.std.proofs.Common.{◌≡◌, ◌⊎◌, inl, inr, true, false, Ok, Err, rules, ⊎_elim, sym, ◌∙◌}
 use Rattle.std.specs.Io.KnownBytes.{prepend_known}
 use Rattle.invariants.specs.declared.why.InvariantWhy.TheVariants as why
-use Rattle.invariants.specs.Reading.{admit, ended, line_after}
+use Rattle.base.specs.Lines.{line_after}
+use Rattle.invariants.specs.Reading.{admit, ended}
 use Rattle.invariants.specs.Reader.{Lines, Gives, begun}
 use Rattle.invariants.proofs.ReaderLemmas.{step_agrees, step_fault, step_last, agree_trans, agree_gives, ok_weaker, err_weaker}
 use Rattle.invariants.proofs.TextFaultLemmas.{line_is_of_text, end_is_of_text}

@@ -2,4 +2,4 @@ use Rattle.restore.proofs.RiseLemmas.{accepted}
 use Rattle.restore.proofs.laws.restored_text_is_accepted.Goals as goal
 
 pub returns : goal.returns
-returns c circuit choice k d text given ws n = accepted circuit choice k d text given ws n c.bit_texts_read.ensures.read
+returns c = accepted

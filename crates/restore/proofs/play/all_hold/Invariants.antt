@@ -1,6 +1,6 @@
 use Rattle.std.proofs.Common.{◌≡◌, drop}
 use Rattle.std.specs.List.{list_all}
-use Rattle.aiger.specs.Literal.{Valuation, literal_value}
+use Rattle.base.specs.Literal.{Valuation, literal_value}
 use Rattle.runs.specs.CircuitRun.{IsFrameNow}
 use Rattle.engine.specs.EngineForm.{all_hold}
 use Rattle.restore.proofs.play.all_hold.Given as goal

@@ -1,5 +1,5 @@
 use Rattle.std.proofs.Common.{◌≡◌, ◌<◌, ◌≤◌, ℕ, List, length, option_map, slice_get}
-use Rattle.aiger.specs.Literal.{Valuation}
+use Rattle.base.specs.Literal.{Valuation}
 use Rattle.aiger.specs.Circuit.{Circuit}
 use Rattle.witness.specs.Reached.{IsClosedBitTrace, bit_reached}
 use Rattle.witness.specs.BitStands.{StandsFor}

@@ -1,6 +1,6 @@
 use Rattle.std.proofs.Common.{◌≡◌, ℕ, ◌<◌, length, get_or, false}
 use Rattle.aiger.specs.declared.circuit.Latch.{Latch}
-use Rattle.aiger.specs.Literal.{literal_value}
+use Rattle.base.specs.Literal.{literal_value}
 use Rattle.runs.specs.CircuitHolds.{valuation_of}
 use Rattle.base.specs.Steps.{more_steps}
 use Rattle.runs.proofs.bit_passes.take_nexts.Given as goal

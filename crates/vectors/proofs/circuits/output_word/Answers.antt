@@ -1,5 +1,5 @@
 use Rattle.std.proofs.Common.{ℕ, ◌+◌, ◌-◌, ◌*◌, ap, ◌∙◌, slice_index}
-use Rattle.aiger.specs.Literal.{literal_value}
+use Rattle.base.specs.Literal.{literal_value}
 use Rattle.aiger.specs.Circuit.{Circuit}
 use Rattle.vectors.proofs.RunLemmas.{one_read_before}
 use Rattle.vectors.proofs.circuits.output_word.Goals as goal

@@ -1,6 +1,6 @@
 use Rattle.std.proofs.Common.{◌≡◌, ◌≤◌, ◌<◌, ◌-◌, ◌^◌, length, map, drop}
 use Rattle.base.specs.Word.{word}
-use Rattle.aiger.specs.Literal.{Valuation, literal_value}
+use Rattle.base.specs.Literal.{Valuation, literal_value}
 use Rattle.runs.specs.CircuitRun.{IsFrameNow}
 use Rattle.vectors.proofs.circuits.output_word.Given as goal
 

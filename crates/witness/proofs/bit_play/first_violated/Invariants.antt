@@ -1,8 +1,8 @@
 use Rattle.std.proofs.Common.{◌≡◌, drop, not}
 use Rattle.std.specs.List.{position_from}
-use Rattle.aiger.specs.Literal.{Valuation, literal_value}
+use Rattle.base.specs.Literal.{Valuation, literal_value}
 use Rattle.runs.specs.CircuitRun.{IsFrameNow}
-use Rattle.witness.specs.BitJudgements.{first_bit_violated}
+use Rattle.witness.specs.BitPlays.{first_bit_violated}
 use Rattle.witness.proofs.bit_play.first_violated.Given as goal
 
 -- those before hold

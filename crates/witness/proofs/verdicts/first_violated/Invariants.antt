@@ -3,7 +3,8 @@ use Rattle.std.specs.List.{position_from}
 use Rattle.btor2.specs.Items.{is_constraint}
 use Rattle.btor2.specs.Trace.{Frame}
 use Rattle.runs.specs.Run.{IsNow}
-use Rattle.witness.specs.Judgements.{nodes_of, first_violated}
+use Rattle.btor2.specs.Reachability.{nodes_of}
+use Rattle.witness.specs.Fits.{first_violated}
 use Rattle.witness.proofs.verdicts.first_violated.Given as goal
 
 -- those before hold

@@ -2,7 +2,7 @@ use Rattle.std.proofs.Common.{◌<◌, nat_eq, length, get_or, ◌∙◌, arith}
 use Rattle.std.proofs.lemmas.List.{get_or-set_other}
 use Rattle.btor2.specs.Items.{is_bad}
 use Rattle.btor2.specs.Lists.{places}
-use Rattle.witness.specs.Judgements.{nodes_of}
+use Rattle.btor2.specs.Reachability.{nodes_of}
 use Rattle.witness.proofs.FrameLemmas.{bad_names, length-nodes, property_at, note_more}
 use Rattle.witness.proofs.verdicts.note_rises.Goals as goal
 

@@ -2,7 +2,7 @@ use Rattle.std.proofs.Common.{◌≡◌, ◌<◌, ◌≤◌, ℕ, ◌||◌, ◌=
 use Rattle.btor2.specs.Items.{is_bad}
 use Rattle.btor2.specs.Trace.{Frame}
 use Rattle.runs.specs.Run.{IsNow}
-use Rattle.witness.specs.Judgements.{nodes_of}
+use Rattle.btor2.specs.Reachability.{nodes_of}
 use Rattle.witness.specs.Fits.{is_set}
 use Rattle.witness.proofs.verdicts.note_rises.Given as goal
 

@@ -2,7 +2,7 @@ use Rattle.std.proofs.Common.{◌≡◌, ℕ, List, ◌++◌, map, ap, sym, ◌�
 use Rattle.aiger.specs.declared.circuit.Gate.{Gate}
 use Rattle.aiger.specs.declared.loose.GateLine.{GateLine}
 use Rattle.aiger.specs.Circuit.{IsCircuit}
-use Rattle.aiger.specs.Literal.{variable}
+use Rattle.base.specs.Literal.{variable}
 use Rattle.aiger.specs.Loose.{Loose, latch_variable}
 use Rattle.aiger.specs.Numbering.{IsOnce, line_in, name_in}
 use Rattle.aiger.specs.Renumbering.{new_gate, numbered, renumbered, circuit_by}

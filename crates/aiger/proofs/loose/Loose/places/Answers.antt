@@ -1,6 +1,6 @@
 use Rattle.std.proofs.Common.{◌≡◌, ℕ, ◌++◌, map, List, ap, sym, ◌∙◌, subst}
 use Rattle.aiger.specs.declared.loose.GateLine.{GateLine}
-use Rattle.aiger.specs.Literal.{variable}
+use Rattle.base.specs.Literal.{variable}
 use Rattle.aiger.specs.Loose.{Loose, latch_variable, gate_variable, defined_variables}
 use Rattle.aiger.specs.Numbering.{IsOnce}
 use Rattle.aiger.proofs.loose.Loose.places.Goals as goal

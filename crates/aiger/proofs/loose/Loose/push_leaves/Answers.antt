@@ -1,6 +1,6 @@
 use Rattle.std.proofs.Common.{◌≡◌, ℕ, ◌++◌, map, List, ap, sym, ◌∙◌, subst}
 use Rattle.aiger.specs.declared.loose.LatchLine.{LatchLine}
-use Rattle.aiger.specs.Literal.{variable}
+use Rattle.base.specs.Literal.{variable}
 use Rattle.aiger.specs.Loose.{Loose, latch_variable, gate_variable}
 use Rattle.aiger.specs.Numbering.{IsOnce}
 use Rattle.aiger.proofs.PlacesLemmas.{once_front}

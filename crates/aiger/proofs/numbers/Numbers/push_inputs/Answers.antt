@@ -1,4 +1,4 @@
-use Rattle.aiger.specs.Literal.{variable}
+use Rattle.base.specs.Literal.{variable}
 use Rattle.aiger.proofs.PlacesLemmas.{not_yet}
 use Rattle.aiger.proofs.numbers.Numbers.push_inputs.Goals as goal
 

@@ -1,5 +1,5 @@
 use Rattle.std.proofs.Common.{◌≡◌, ◌++◌, map, take}
-use Rattle.aiger.specs.Literal.{variable}
+use Rattle.base.specs.Literal.{variable}
 use Rattle.aiger.proofs.numbers.Numbers.push_inputs.Given as goal
 
 abbrev pub invariant-loop-lit : goal.invariant-loop-lit

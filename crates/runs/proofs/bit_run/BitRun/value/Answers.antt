@@ -1,5 +1,5 @@
 use Rattle.std.proofs.Common.{◌≡◌, Bool, true, List, ap, sym, subst, ◌∙◌}
-use Rattle.aiger.specs.Literal.{Valuation, literal_value}
+use Rattle.base.specs.Literal.{Valuation, literal_value}
 use Rattle.aiger.specs.Net.{IsDefined}
 use Rattle.aiger.specs.Circuit.{net}
 use Rattle.runs.specs.CircuitRun.{CircuitRun, IsFrameNow}

@@ -1,13 +1,12 @@
 use Rattle.std.proofs.Common.{◌≡◌, ◌<◌, ℕ, Bool, false, Option, None, ◌||◌, length, get_or, refl, subst, sym, ap, ◌∙◌}
 use Rattle.std.specs.Option.{option_or}
-use Rattle.aiger.specs.Literal.{Valuation, literal_value}
+use Rattle.base.specs.Literal.{Valuation, literal_value}
 use Rattle.aiger.specs.Trace.{next_state}
 use Rattle.aiger.specs.Circuit.{Circuit}
 use Rattle.runs.specs.Run.{more_steps}
 use Rattle.runs.specs.CircuitRun.{CircuitRun, IsFrameNow, no_inputs}
 use Rattle.witness.specs.Judgements.{violated_at}
-use Rattle.witness.specs.BitJudgements.{first_bit_violated}
-use Rattle.witness.specs.BitPlays.{BitPlay, Plays}
+use Rattle.witness.specs.BitPlays.{first_bit_violated, BitPlay, Plays}
 use Rattle.witness.proofs.BitPlayLemmas.{Closes, plays_more}
 use Rattle.witness.proofs.bit_play.BitPlay.close.Goals as goal
 

@@ -5,7 +5,8 @@ use Rattle.std.proofs.lemmas.List.{with_items_is}
 use Rattle.btor2.specs.declared.item.Item.{Item}
 use Rattle.btor2.specs.Items.{is_bad}
 use Rattle.runs.specs.Run.{Run}
-use Rattle.witness.specs.Judgements.{first_different, violated_at, nodes_of}
+use Rattle.btor2.specs.Reachability.{nodes_of}
+use Rattle.witness.specs.Judgements.{first_different, violated_at}
 use Rattle.witness.specs.Fits.{RisesIn}
 use Rattle.witness.specs.WordPlays.{WordPlay, Plays, nothing_given}
 use Rattle.witness.proofs.WordPlayLemmas.{Closes, plays_more}

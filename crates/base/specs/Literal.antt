@@ -1,7 +1,7 @@
 -- Literals and valuations ("AIGER 1.9 and Beyond", literals: 2v is variable v, 2v + 1 its negation, 0 is false and 1 is true).
 use Rattle.std.specs.Prelude.{ℕ, ◌+◌, ◌*◌, ◌/◌, ◌%◌, Bool, true, false, not, ◌==◌, if◌then◌else◌}
 
--- a valuation says of each variable whether it is true; only variables from 1 to the greatest of a circuit mean something
+-- a valuation says of each variable whether it is true; only those that a circuit or a formula has mean something
 abbrev pub Valuation : Type 0
 Valuation = ℕ → Bool
 

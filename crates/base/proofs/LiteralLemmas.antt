@@ -1,8 +1,32 @@
--- Literals and their negations.
-use Rattle.std.proofs.Common.{◌≡◌, ◌≢◌, ℕ, ◌+◌, ◌-◌, ◌*◌, ◌%◌, ◌/◌, ◌<◌, ⊎_elim, ap, ◌∙◌, arith}
+-- Literals and their negations, and what they say in a valuation.
+use Rattle.std.proofs.Common.{◌≡◌, ◌≢◌, ℕ, ◌+◌, ◌-◌, ◌*◌, ◌%◌, ◌/◌, ◌<◌, not, ⊎_elim, ap, ◌∙◌, arith}
 use Rattle.std.proofs.lemmas.Bool.{cases_eq}
 use Rattle.std.proofs.lemmas.Bool.Decides.{nat_tests}
-use Rattle.clauses.specs.Literal.{negation}
+use Rattle.base.specs.Literal.{Valuation, variable, negation, literal_value}
+
+-- a literal and its negation are of one variable
+pub variable-negation : (l : ℕ) → variable (negation l) ≡ variable l
+variable-negation l = grind (arith, nat_tests)
+
+-- a negation says the opposite
+pub literal_value-negation : (v : Valuation) (l : ℕ) → literal_value v (negation l) ≡ not (literal_value v l)
+literal_value-negation v l = grind (arith, nat_tests)
+
+-- an even literal says what its variable says
+pub literal_value-even : (v : Valuation) (k : ℕ) → 0 < k → literal_value v (2 * k) ≡ v k
+literal_value-even v k h =
+    let e : 2 * k / 2 ≡ k = omega arith in
+    let f : 2 * k % 2 ≡ 0 = omega arith in
+    grind (arith, nat_tests)
+
+-- an odd literal says the opposite of its variable
+pub literal_value-odd : (v : Valuation) (k : ℕ) → 0 < k → literal_value v (2 * k + 1) ≡ not (v k)
+literal_value-odd v k h =
+    let e : (2 * k + 1) / 2 ≡ k = omega arith in
+    let f : (2 * k + 1) % 2 ≡ 1 = omega arith in
+    grind (arith, nat_tests)
+
+-- ---- the numbers of negations
 
 pub negation-even : (l : ℕ) → l % 2 ≡ 0 → negation l ≡ l + 1
 negation-even l e = grind (arith, nat_tests)
