@@ -15,7 +15,7 @@ use Rattle.base.specs.Literal.{variable}
 use Rattle.aiger.specs.Net.{Net, variables, IsDefined, AreOrderedFrom}
 use Rattle.aiger.specs.Circuit.{Circuit, IsCircuit, net, are_defined, justice_refusal, with_justice}
 use Rattle.engine.proofs.LatchLemmas.{set-length}
-use Rattle.engine.proofs.TableLemmas.{ordered-at}
+use Rattle.gates.proofs.TableLemmas.{ordered-at}
 
 -- the next gate is one that the circuit takes
 pub gate_fits : (c d : Circuit) (gs : List Gate) (i : ℕ) (g : Gate) → d ≡ record c { gates = c.gates ++ take i gs } → AreOrderedFrom (suc (variables (net c))) gs → variables (net c) + length gs ≤ greatest_count

@@ -17,8 +17,9 @@ use Rattle.base.proofs.LiteralLemmas.{literal_value-negation, literal_value-even
 use Rattle.aiger.proofs.NetLemmas.{length-bits_from}
 use Rattle.aiger.proofs.TraceLemmas.{literal_value-agree, SameFrame-from_bits}
 use Rattle.engine.specs.EngineForm.{taken_bits, free_count, first_bit, first_bits, begins, kept_bit, kept_bits, where_some, or_one, with_own, engine_bits, input_count, latch_count, chosen, all_hold, ShowsSame, ShowSame}
-use Rattle.engine.specs.Reads.{read, literal_of, latch_value, read_latches, kept_literal, kept_latch, form_latches, literal_where, started_literal, before_literal, FormMade}
-use Rattle.engine.proofs.TableLemmas.{value-literal_of}
+use Rattle.gates.specs.Reads.{read, literal_of}
+use Rattle.engine.specs.Reads.{latch_value, read_latches, kept_literal, kept_latch, form_latches, literal_where, started_literal, before_literal, FormMade}
+use Rattle.gates.proofs.TableLemmas.{value-literal_of}
 use Rattle.engine.proofs.MadeLemmas.{chosen_all}
 
 not_not : (b : Bool) → not (not b) ≡ b

@@ -1,7 +1,6 @@
 mod AssemblyLemmas
 mod CopyLemmas
 mod FormLemmas
-mod KeptTableLemmas
 mod LatchLemmas
 mod MadeLemmas
 mod MoveLemmas

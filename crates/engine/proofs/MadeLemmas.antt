@@ -15,7 +15,8 @@ use Rattle.aiger.proofs.TraceLemmas.{bits_from-agree}
 use Rattle.gates.specs.Made.{MakesLiteral}
 use Rattle.gates.proofs.GrowthLemmas.{Grows-trans, Grows-weaker, Satisfies-earlier, IsDefined-grown, All-defined-grown}
 use Rattle.engine.specs.EngineForm.{free_count, input_count, chosen}
-use Rattle.engine.specs.Reads.{read, literal_of, read_latches, LatchesRead, GatesRead, BadsRead, TableRead, started_literal, before_literal, bare_net, PropertiesRead, FormMade}
+use Rattle.gates.specs.Reads.{read, literal_of, GatesRead}
+use Rattle.engine.specs.Reads.{read_latches, LatchesRead, BadsRead, TableRead, started_literal, before_literal, bare_net, PropertiesRead, FormMade}
 
 -- the literals of variables that are there are defined
 pub doubles_defined : (n : Net) (a m : ℕ) → a + m ≤ suc (variables n) → All (IsDefined n) (map (λ k. 2 * k) (range_with_len a m))

@@ -4,5 +4,4 @@ pub mod Moves
 pub mod Outputs
 pub mod Reads
 pub mod Refusal
-pub mod Tables
 pub mod Worked

@@ -1,24 +1,16 @@
 -- What the literals that stand for a circuit's variables say in a valuation of its engine form's gates.
-use Rattle.std.specs.Prelude.{◌≡◌, ℕ, zero, suc, Option, ◌+◌, ◌*◌, ◌%◌, ◌≤◌, ◌==◌, nat_lt, Bool, ◌&&◌, not, List, [], ◌∷◌, ◌++◌, length, map, All, slice_index, if◌then◌else◌}
+use Rattle.std.specs.Prelude.{◌≡◌, ℕ, zero, suc, Option, ◌+◌, ◌*◌, ◌≤◌, nat_lt, Bool, ◌&&◌, not, List, [], ◌∷◌, length, map, All, slice_index, if◌then◌else◌}
 use Rattle.std.specs.List.{list_all}
 use Rattle.aiger.specs.declared.circuit.Latch.{Latch}
-use Rattle.aiger.specs.declared.circuit.Gate.{Gate}
 use Rattle.aiger.specs.declared.circuit.Reset.{Reset}
 use Rattle.aiger.specs.declared.circuit.Reset.TheVariants.{Zero, One, Free}
-use Rattle.base.specs.Literal.{Valuation, variable, negation, literal_value}
-use Rattle.aiger.specs.Net.{Net, variables, IsDefined, Satisfies, SatisfiesFrom, bits_from}
+use Rattle.base.specs.Literal.{Valuation, negation, literal_value}
+use Rattle.aiger.specs.Net.{Net, variables, IsDefined, Satisfies, bits_from}
 use Rattle.aiger.specs.Circuit.{Circuit, net, fresh_latch}
 use Rattle.gates.specs.Made.{Grows}
+use Rattle.gates.specs.Reads.{read, literal_of}
 use Rattle.engine.specs.declared.sizes.Sizes.{Sizes}
 use Rattle.engine.specs.EngineForm.{taken_bits, free_count, with_own, input_count, latch_count, engine_cost, chosen}
-
--- the valuation of the circuit that these literals say, one for each variable
-abbrev pub read : List ℕ → Valuation → Valuation
-read table w k = literal_value w (slice_index table k)
-
--- the literal that stands for a literal of the circuit
-abbrev pub literal_of : List ℕ → ℕ → ℕ
-literal_of table l = if l % 2 == 0 then slice_index table (variable l) else negation (slice_index table (variable l))
 
 -- the bit of a latch of the circuit, from what is kept of it, the bit that is given to it, and whether the first frame is over
 abbrev pub latch_value : Reset → Bool → Bool → Bool → Bool
@@ -37,13 +29,6 @@ pub record LatchesRead (old new : Net) (most : ℕ) (latches : List Latch) (own 
   pub defined : All (IsDefined new) more
   pub many : length more ≡ length latches
   pub bits : (w : Valuation) → Satisfies new w → map (literal_value w) more ≡ read_latches latches own input (literal_value w started) w
-
--- literals that stand for gates, behind those that stand for the variables below them
-pub record GatesRead (old new : Net) (first : ℕ) (gates : List Gate) (before more : List ℕ) : Type 0 where
-  pub grows : Grows old new (length gates)
-  pub defined : All (IsDefined new) more
-  pub many : length more ≡ length gates
-  pub satisfied : (w : Valuation) → Satisfies new w → SatisfiesFrom first gates (read (before ++ more) w)
 
 -- literals that are true where those of bad properties are and another one is
 pub record BadsRead (old new : Net) (table bads : List ℕ) (met : ℕ) (literals : List ℕ) : Type 0 where

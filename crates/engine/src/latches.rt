@@ -4,14 +4,14 @@ ghost use Rattle.aiger.specs.declared.circuit.Reset.TheVariants.{Zero};
 ghost use Rattle.base.specs.Literal.{variable, negation};
 ghost use Rattle.aiger.specs.Net.{IsDefined, variables};
 ghost use Rattle.aiger.specs.Circuit.{IsCircuit, net, with_latch, fresh_latch};
+ghost use Rattle.gates.specs.Reads.{literal_of};
 ghost use Rattle.engine.specs.EngineForm.{latch_count};
-ghost use Rattle.engine.specs.Reads.{literal_of, kept_literal, kept_latch, sizes_of, form_latches};
+ghost use Rattle.engine.specs.Reads.{kept_literal, kept_latch, sizes_of, form_latches};
 
 use crate::copies::set_latch;
 use crate::sizes::Sizes;
-use crate::table::Table;
-use crate::variables::literal_of;
 use aiger::{Circuit, Latch, Lit, Reset};
+use gates::{Table, literal_of};
 
 /// The literal that a latch takes: the negation of its next where it is kept as its negation.
 fn kept_next(table: &Table, latch: Latch) -> Lit

@@ -1,5 +1,5 @@
 //! The literals that stand for the latches of a circuit.
-ghost use Rattle.std.specs.Prelude.{◌≡◌, ℕ, ◌+◌, ◌*◌, ◌<◌, ◌≤◌, ◌++◌, List, length, map, All, IfOk, IfErr, OnOk};
+ghost use Rattle.std.specs.Prelude.{◌≡◌, ℕ, ◌+◌, ◌*◌, ◌<◌, ◌≤◌, ◌++◌, List, length, IfOk, IfErr, OnOk};
 ghost use Rattle.base.specs.Literal.{literal_value};
 ghost use Rattle.aiger.specs.Limits.{greatest_count};
 ghost use Rattle.aiger.specs.Net.{IsDefined, variables};
@@ -8,17 +8,8 @@ ghost use Rattle.engine.specs.EngineForm.{taken_bits, free_count};
 ghost use Rattle.engine.specs.Reads.{latch_value, LatchesRead};
 
 use crate::sizes::taken_bits;
-use crate::table::Table;
 use aiger::{Latch, Lit, Reset};
-use gates::{GateFault, Gates, mux};
-
-/// The literal of a variable.
-pub(crate) fn variable_literal(variable: u32) -> Lit
-    requires { variable ≤ greatest_count }
-    ensures { result ≡ 2 * variable }
-{
-    Lit::new(2 * variable)
-}
+use gates::{GateFault, Gates, Table, mux, variable_literal};
 
 /// The literal that stands for a latch: what is kept of it, or its negation; where it has no initial value the input in the
 /// first frame, and then what is kept of it.

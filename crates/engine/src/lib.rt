@@ -15,7 +15,6 @@ mod outputs;
 mod properties;
 mod sizes;
 mod table;
-mod variables;
 
 pub use fault::EngineFault;
 pub use form::{engine_form, why_no_form};

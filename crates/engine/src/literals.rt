@@ -9,12 +9,11 @@ ghost use Rattle.engine.specs.Reads.{sizes_of, started_literal, before_literal, 
 ghost use Rattle.engine.specs.Refusal.{engine_bound};
 
 use crate::choice::chosen;
-use crate::leaves::variable_literal;
-use crate::properties::{all_hold, bad_literals};
+use crate::properties::bad_literals;
 use crate::sizes::Sizes;
-use crate::table::{Table, variable_literals};
+use crate::table::variable_literals;
 use aiger::{Circuit, Lit};
-use gates::{GateFault, Gates};
+use gates::{GateFault, Gates, Table, all_hold, variable_literal};
 use std::alloc::Global;
 
 /// The literals of an engine form.

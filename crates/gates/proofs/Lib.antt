@@ -20,3 +20,5 @@ pub mod TopLemmas
 pub mod LaterLemmas
 pub mod OperatorLemmas
 pub mod RowLemmas
+mod KeptTableLemmas
+pub mod TableLemmas

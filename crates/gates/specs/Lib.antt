@@ -9,3 +9,5 @@ pub mod Sums
 pub mod Tests
 pub mod Faults
 pub mod Worked
+pub mod Reads
+pub mod Tables

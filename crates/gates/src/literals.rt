@@ -10,7 +10,10 @@ use crate::maker::Gates;
 use aiger::Lit;
 
 /// A literal that is true where one of two others is, or both are, with at most 1 gate.
-pub(crate) fn disjunction<G: Gates>(g: &mut G, a: Lit, b: Lit) -> Result<Lit, GateFault>
+///
+/// Conditions: both operands are defined. Errors: `TooBig` only where the variables so far and 1 sum to more than 2^30,
+/// `NoMemory`; the gates made so far stay.
+pub fn disjunction<G: Gates>(g: &mut G, a: Lit, b: Lit) -> Result<Lit, GateFault>
     requires left { IsDefined (G.made g.old) a }
     requires right { IsDefined (G.made g.old) b }
     ensures ok { IfOk result (MakesLiteral (G.made g.old) (G.made g.new) 1 (λ v. literal_value v a || literal_value v b)) }

@@ -1,7 +1,7 @@
 use Rattle.std.proofs.Common.{◌-◌, ◌<◌, ◌≤◌, ◌∙◌, length, arith}
 use Rattle.std.proofs.lemmas.List.{get_or_read}
-use Rattle.engine.proofs.KeptTableLemmas.{length-table, own_literal, later_literal}
-use Rattle.engine.proofs.table.Table.at.Goals as goal
+use Rattle.gates.proofs.KeptTableLemmas.{length-table, own_literal, later_literal}
+use Rattle.gates.proofs.table.Table.at.Goals as goal
 
 pub index-requires : goal.index-requires
 index-requires c = omega (arith, c.requires, length-table c.self.inside.inputs c.self.inside.more.items c.args.self.now c.self.view_is, c.if-variable-self.false)

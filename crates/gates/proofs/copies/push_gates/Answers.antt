@@ -2,9 +2,9 @@ use Rattle.std.proofs.Common.{◌≡◌, ◌++◌, ◌∷◌, [], List, ℕ, rul
 use Rattle.std.proofs.lemmas.List.{length-take-le}
 use Rattle.gates.specs.Made.{Refuses}
 use Rattle.gates.proofs.LiteralLemmas.{Refuses-behind}
-use Rattle.engine.specs.Reads.{literal_of}
-use Rattle.engine.proofs.TableLemmas.{gates-more, gates-inside, both_defined, IsDefined-literal_of}
-use Rattle.engine.proofs.variables.push_gates.Goals as goal
+use Rattle.gates.specs.Reads.{literal_of}
+use Rattle.gates.proofs.TableLemmas.{gates-more, gates-inside, both_defined, IsDefined-literal_of}
+use Rattle.gates.proofs.copies.push_gates.Goals as goal
 
 pub literal_of-requires : goal.literal_of-requires
 literal_of-requires g c =

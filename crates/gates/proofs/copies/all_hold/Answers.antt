@@ -3,9 +3,9 @@ use Rattle.std.proofs.lemmas.List.{take_all}
 use Rattle.std.specs.List.{list_all}
 use Rattle.base.specs.Literal.{literal_value}
 use Rattle.gates.proofs.LiteralLemmas.{MakesLiteral-same}
-use Rattle.engine.specs.Reads.{literal_of}
-use Rattle.engine.proofs.TableLemmas.{hold-more}
-use Rattle.engine.proofs.properties.all_hold.Goals as goal
+use Rattle.gates.specs.Reads.{literal_of}
+use Rattle.gates.proofs.TableLemmas.{hold-more}
+use Rattle.gates.proofs.copies.all_hold.Goals as goal
 
 pub loop-constraint-preserved : goal.loop-constraint-preserved
 loop-constraint-preserved g c =

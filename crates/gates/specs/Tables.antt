@@ -2,7 +2,7 @@
 use Rattle.std.specs.Prelude.{ℕ, ◌+◌, ◌*◌, ◌≤◌, ◌++◌, List, map}
 use Rattle.std.specs.List.{range_with_len}
 use Rattle.aiger.specs.Limits.{greatest_count}
-use Rattle.engine.specs.declared.table.Table.TheInside.{Inside}
+use Rattle.gates.specs.declared.table.Table.TheInside.{Inside}
 
 -- false and the inputs stand for themselves, and the others stand behind them
 abbrev pub table_of : Inside → List ℕ
