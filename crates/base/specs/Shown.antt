@@ -13,8 +13,8 @@ abbrev pub is_bad_in : ℕ → Shown → Bool
 is_bad_in b s = unwrap_or (slice_get s.bads b) false
 
 -- it is 1 in one of some frames
-abbrev pub rises_in : ℕ → List Shown → Bool
-rises_in b shown = list_any (is_bad_in b) shown
+abbrev pub rises_in_some : ℕ → List Shown → Bool
+rises_in_some b shown = list_any (is_bad_in b) shown
 
 -- in one of some frames the bad property with a number rises, and in it and in each frame before it all constraints hold
 abbrev pub rises_within : ℕ → List Shown → Bool

@@ -1,6 +1,6 @@
 -- Two traces that show the same in each frame are judged alike.
 use Rattle.std.proofs.Common.{◌≡◌, ℕ, ◌<◌, List, [], ◌∷◌, Option, Some, None, cond, length, slice_get, refl, sym, ap, subst, ◌∙◌, arith}
-use Rattle.base.specs.Shown.{Shown, rises_in}
+use Rattle.base.specs.Shown.{Shown, rises_in_some}
 use Rattle.btor2.specs.declared.item.Item.{Item}
 use Rattle.witness.specs.Judgements.{Violation, violation_from, first_of, verdict}
 use Rattle.witness.proofs.ShownLemmas.{sole_claim}
@@ -16,7 +16,7 @@ one_verdict items None None frames = refl
 -- by a claim that is there in both
 kept_same : (items : List Item) (claim bads nodes : ℕ) (shown : List Shown) → claim < bads → claim < nodes → IsSameVerdict items (verdict None (claim ∷ []) bads shown) (verdict None (claim ∷ []) nodes shown)
 kept_same items claim bads nodes shown within inside =
-    rw (sole_claim claim bads shown within, sole_claim claim nodes shown inside) (one_verdict items (violation_from 0 shown) (cond (rises_in claim shown) None (Some claim)) (length shown))
+    rw (sole_claim claim bads shown within, sole_claim claim nodes shown inside) (one_verdict items (violation_from 0 shown) (cond (rises_in_some claim shown) None (Some claim)) (length shown))
 
 -- where none differs the traces show the same
 pub same_verdict : (items : List Item) (claim bads nodes : ℕ) (latch state : Option ℕ) (bits words : List Shown) → claim < bads → claim < nodes → Belongs (latch_states items) 0 latch state

@@ -9,7 +9,7 @@ use Rattle.witness.proofs.BitReadLemmas.{bit_read_says}
 use Rattle.std.proofs.lemmas.Bool.{or_cases, eqb-true}
 use Rattle.std.proofs.lemmas.List.Elements.{All-head, All-tail}
 use Rattle.base.specs.Lines.{whole_lines}
-use Rattle.base.specs.Shown.{Shown, is_bad_in, rises_in}
+use Rattle.base.specs.Shown.{Shown, is_bad_in, rises_in_some}
 use Rattle.btor2.specs.declared.item.Item.{Item}
 use Rattle.btor2.specs.Items.{is_bad}
 use Rattle.btor2.specs.Check.{IsWellFormed}
@@ -52,7 +52,7 @@ module _ {F : Type 0} (test : F → Bool) where
           (rest.0, (ap (λ (b : Bool). cond b (Some n) (position_from test (n + 1) fs)) e ∙ rest.1.0, omega (arith, low)))
 
 -- of a bad property that is there and claimed, and that rises
-claim_rises : (claimed : ℕ → Bool) (shown : List Shown) (n k : ℕ) → k < n → claimed k ≡ true → rises_in k shown ≡ true → (first : ℕ) × ((slice_get (first_rises_from claimed shown 0 n) k ≡ Some (Some first)) × (first < length shown))
+claim_rises : (claimed : ℕ → Bool) (shown : List Shown) (n k : ℕ) → k < n → claimed k ≡ true → rises_in_some k shown ≡ true → (first : ℕ) × ((slice_get (first_rises_from claimed shown 0 n) k ≡ Some (Some first)) × (first < length shown))
 claim_rises claimed shown n k inside is some =
     let first = some_first (is_bad_in k) 0 shown some in
     let low = first.1.1 in
@@ -62,10 +62,10 @@ pub other_rises : (claimed : ℕ → Bool) (shown : List Shown) (n k : ℕ) → 
 other_rises claimed shown n k inside is = rises_there claimed shown n k inside ∙ ap (λ (b : Bool). Some (cond b (first_rise shown k) None)) is
 
 -- where each claim is reached
-claim_of_all : (claims : List ℕ) (shown : List Shown) (n k : ℕ) → k < n → list_any (λ c. nat_eq c k) claims ≡ true → unreached_from claims shown 0 n ≡ None → rises_in k shown ≡ true
+claim_of_all : (claims : List ℕ) (shown : List Shown) (n k : ℕ) → k < n → list_any (λ c. nat_eq c k) claims ≡ true → unreached_from claims shown 0 n ≡ None → rises_in_some k shown ≡ true
 claim_of_all claims shown n k inside claimed none =
     let e : 0 + k ≡ k = omega arith in
-    sym (ap (λ (i : ℕ). rises_in i shown) e) ∙ claim_reached claims shown 0 k n inside (ap (λ (i : ℕ). list_any (λ c. nat_eq c i) claims) e ∙ claimed) none
+    sym (ap (λ (i : ℕ). rises_in_some i shown) e) ∙ claim_reached claims shown 0 k n inside (ap (λ (i : ℕ). list_any (λ c. nat_eq c i) claims) e ∙ claimed) none
 
 -- ---- over a model
 

@@ -6,7 +6,7 @@ use Rattle.std.proofs.lemmas.Bool.{cases_eq, cases_lt}
 use Rattle.std.proofs.lemmas.List.{length-map, map-append}
 use Rattle.std.proofs.lemmas.Option.{slice_get-get_or, slice_get_past}
 use Rattle.base.specs.Lines.{IsLine}
-use Rattle.base.specs.Shown.{Shown, rises_in}
+use Rattle.base.specs.Shown.{Shown, rises_in_some}
 use Rattle.btor2.specs.declared.item.Item.{Item}
 use Rattle.btor2.specs.Items.{is_bad}
 use Rattle.btor2.specs.Trace.{Frame, IsTrace}
@@ -128,7 +128,7 @@ module _ (items : List Item) (text line : List ℕ) (before after : WordNoter) (
           h.firsts front trace ∙ alike_rises (model_shows items) (word_claimed items text) (word_claimed items whole) front bads alike in
           let shown = shown_more (model_shows items) fs front f is in
           noted_rises (word_claimed items whole) (map (model_shows items) front) (model_shows items f) bads (word_reached items whole fs) number before.firsts after.firsts (n ∙ (sym many ∙ sym (length-map front (model_shows items)))) was
-          (λ k. ap (λ (l : List Shown). word_claimed items whole k && rises_in k l) shown) (notes fs t)
+          (λ k. ap (λ (l : List Shown). word_claimed items whole k && rises_in_some k l) shown) (notes fs t)
           ∙ ap (λ (l : List Shown). first_rises_from (word_claimed items whole) l 0 bads) (sym shown)
 
 -- ---- over a circuit
@@ -183,5 +183,5 @@ module _ (noted : Bool) (c : Circuit) (text line : List ℕ) (before after : Bit
           h.firsts on front trace ∙ alike_rises (circuit_shows c) (bit_claimed c text) (bit_claimed c all) front (length c.bads) alike in
           let shown = shown_more (circuit_shows c) vs front v is in
           noted_rises (bit_claimed c all) (map (circuit_shows c) front) (circuit_shows c v) (length c.bads) (bit_reached c all vs) number before.firsts after.firsts (n ∙ (sym many ∙ sym (length-map front (circuit_shows c)))) was
-          (λ k. ap (λ (l : List Shown). bit_claimed c all k && rises_in k l) shown) (notes vs t)
+          (λ k. ap (λ (l : List Shown). bit_claimed c all k && rises_in_some k l) shown) (notes vs t)
           ∙ ap (λ (l : List Shown). first_rises_from (bit_claimed c all) l 0 (length c.bads)) (sym shown)

@@ -3,7 +3,7 @@ use Rattle.std.proofs.Common.{◌≡◌, ℕ, zero, suc, ◌+◌, ◌<◌, ◌�
 use Rattle.std.specs.List.{list_any, position_from}
 use Rattle.std.proofs.lemmas.Bool.{cases_lt}
 use Rattle.std.proofs.lemmas.Option.{slice_get_past}
-use Rattle.base.specs.Shown.{Shown, is_bad_in, rises_in}
+use Rattle.base.specs.Shown.{Shown, is_bad_in, rises_in_some}
 use Rattle.witness.proofs.GrowthLemmas.{Alike}
 use Rattle.rises.specs.FirstRises.{first_rise, first_rises_from}
 use Rattle.rises.specs.Notes.{noted, IsNoted}
@@ -95,17 +95,17 @@ module _ (claimed : ℕ → Bool) (shown : List Shown) (s : Shown) (n : ℕ) whe
   abbrev all : List Shown
   all = shown ++ s ∷ []
 
-  more_at : (k : ℕ) → noted (claimed k && rises_in k all) (length shown) (at claimed shown k) ≡ at claimed all k
+  more_at : (k : ℕ) → noted (claimed k && rises_in_some k all) (length shown) (at claimed shown k) ≡ at claimed all k
   more_at k =
       let e : 0 + length shown ≡ length shown = omega arith in
-      elim (claimed k) as (λ b. noted (b && rises_in k all) (length shown) (cond b (first_rise shown k) None) ≡ cond b (first_rise all k) None) [
-        | true ↦ ap (λ (m : ℕ). noted (rises_in k all) m (first_rise shown k)) (sym e) ∙ first_more (is_bad_in k) 0 shown s
+      elim (claimed k) as (λ b. noted (b && rises_in_some k all) (length shown) (cond b (first_rise shown k) None) ≡ cond b (first_rise all k) None) [
+        | true ↦ ap (λ (m : ℕ). noted (rises_in_some k all) m (first_rise shown k)) (sym e) ∙ first_more (is_bad_in k) 0 shown s
         | false ↦ refl
       ]
 
   -- what is noted behind a frame more are the first rises with it
   pub noted_rises : (reached : ℕ → Bool) (frame : ℕ) (before after : List (Option ℕ)) → frame ≡ length shown → before ≡ first_rises_from claimed shown 0 n
-      → ((k : ℕ) → reached k ≡ (claimed k && rises_in k all)) → IsNoted reached frame before after → after ≡ first_rises_from claimed all 0 n
+      → ((k : ℕ) → reached k ≡ (claimed k && rises_in_some k all)) → IsNoted reached frame before after → after ≡ first_rises_from claimed all 0 n
   noted_rises reached frame before after number was reaches notes = same_lists after (first_rises_from claimed all 0 n) at_position
     where
       from : (k : ℕ) (o : Option (Option ℕ)) → slice_get (first_rises_from claimed shown 0 n) k ≡ o → slice_get after k ≡ option_map (noted (reached k) frame) o

@@ -13,7 +13,7 @@ use Rattle.witness.specs.Judgements.{words_of, makes_no_claim, JudgesWords, Judg
 use Rattle.witness.specs.BitTexts.{BitWitness, BitSays}
 use Rattle.witness.specs.BitAdmits.{BitRead, is_done, bit_reader, read_bit_text, bit_witness_of}
 use Rattle.witness.specs.BitJudgements.{makes_no_bit_claim, JudgesBits, BitJudges}
-use Rattle.witness.specs.Accepted.{IsAccepted, IsAcceptedOver, AcceptsExactly, BitAcceptsExactly}
+use Rattle.witness.specs.Accepted.{IsAcceptedText, IsAcceptedBitText, AcceptsExactly, BitAcceptsExactly}
 use Rattle.witness.proofs.FitLemmas.{shape_is_small}
 use Rattle.witness.proofs.ReadLemmas.{all_read, says_read}
 use Rattle.witness.proofs.ReadTextLemmas.{read_says}
@@ -42,12 +42,12 @@ judged_words items text w j well says judged =
 pub accepts_exactly : (items : List Item) (text : List ℕ) (j : Judgement) → IsWellFormed items → Judges items text j → AcceptsExactly items text j
 accepts_exactly items text j well h frames = (there, back)
   where
-    there : j ≡ judgement.Accepted frames → IsAccepted items text frames
+    there : j ≡ judgement.Accepted frames → IsAcceptedText items text frames
     there e =
         let r = accepted_reads (λ (s : Read). JudgesWords items (words_of (witness_of s))) (makes_no_claim 0 (whole_lines text)) (read_text (shape_of items) text) frames (subst (Judges items text) e h) in
         record { witness = witness_of r.what; says = read_says (shape_of items) text r.what (shape_is_small items well) r.is; judged = r.judged }
 
-    back : IsAccepted items text frames → j ≡ judgement.Accepted frames
+    back : IsAcceptedText items text frames → j ≡ judgement.Accepted frames
     back a = same_judgement items text j (judgement.Accepted frames) well h (judged_words items text a.witness (judgement.Accepted frames) well a.says a.judged)
 
 -- ---- over a circuit
@@ -67,10 +67,10 @@ judged_bits c text w j circuit says judged =
 pub bit_accepts_exactly : (c : Circuit) (text : List ℕ) (j : Judgement) → IsCircuit c → BitJudges c text j → BitAcceptsExactly c text j
 bit_accepts_exactly c text j circuit h frames = (there, back)
   where
-    there : j ≡ judgement.Accepted frames → IsAcceptedOver c text frames
+    there : j ≡ judgement.Accepted frames → IsAcceptedBitText c text frames
     there e =
         let r = accepted_reads (λ (s : BitRead). JudgesBits c (bit_witness_of s)) (makes_no_bit_claim (whole_lines text)) (read_bit_text c text) frames (subst (BitJudges c text) e h) in
         record { witness = bit_witness_of r.what; says = bit_read_says c text r.what circuit r.is; judged = r.judged }
 
-    back : IsAcceptedOver c text frames → j ≡ judgement.Accepted frames
+    back : IsAcceptedBitText c text frames → j ≡ judgement.Accepted frames
     back a = same_bit_judgement c text j (judgement.Accepted frames) circuit h (judged_bits c text a.witness (judgement.Accepted frames) circuit a.says a.judged)

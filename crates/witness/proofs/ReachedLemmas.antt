@@ -13,7 +13,7 @@ use Rattle.aiger.specs.Trace.{IsTrace as IsBitTrace}
 use Rattle.witness.specs.Texts.{Parts, shape_of}
 use Rattle.witness.specs.Readings.{lines_read, reading}
 use Rattle.witness.specs.Admits.{Read, word_reader}
-use Rattle.base.specs.Shown.{rises_in}
+use Rattle.base.specs.Shown.{rises_in_some}
 use Rattle.btor2.specs.Reachability.{nodes_of, model_shows}
 use Rattle.aiger.specs.Reachability.{circuit_shows}
 use Rattle.witness.specs.Fits.{never_1, is_set, NoneIsSet, AreClaimed}
@@ -31,8 +31,8 @@ use Rattle.witness.proofs.FrameLemmas.{bad_names, length-nodes}
 
 -- ---- over a model
 
-rises_there : (items : List Item) (fs : List Frame) (k : ℕ) → k < length (nodes_of is_bad items) → not (never_1 fs (get_or (nodes_of is_bad items) k 0)) ≡ rises_in k (map (model_shows items) fs)
-rises_there items fs k h = ap not (never_shown items fs k h) ∙ twice (rises_in k (map (model_shows items) fs))
+rises_there : (items : List Item) (fs : List Frame) (k : ℕ) → k < length (nodes_of is_bad items) → not (never_1 fs (get_or (nodes_of is_bad items) k 0)) ≡ rises_in_some k (map (model_shows items) fs)
+rises_there items fs k h = ap not (never_shown items fs k h) ∙ twice (rises_in_some k (map (model_shows items) fs))
   where
     twice : (b : Bool) → not (not b) ≡ b
     twice true = refl
@@ -47,9 +47,9 @@ some_frames x xs e = cc
 -- by the frames that are closed
 by_frames : (items : List Item) (q : WordReader) (claims : List ℕ) (k : ℕ) (closed : List Parts) (base : List ℕ) (fs : List Frame) → TracedBy items base q.play (map frame_words closed)
     → IsTrace items (initial_words items (frames_alone (map frame_words closed))) (map (given_words items) (map frame_words closed)) fs → ((closed ≡ [] → ⊥) → AreClaimed q.claimed claims) → k < length (nodes_of is_bad items)
-    → (is_set q.claimed k && is_set q.play.rose k) ≡ (list_any (λ c. nat_eq c k) claims && rises_in k (map (model_shows items) fs))
+    → (is_set q.claimed k && is_set q.play.rose k) ≡ (list_any (λ c. nat_eq c k) claims && rises_in_some k (map (model_shows items) fs))
 by_frames items q claims k [] base [] fresh t known h =
-    and_right (is_set q.claimed k) (is_set q.play.rose k) (fresh.rose k) ∙ sym (and_right (list_any (λ c. nat_eq c k) claims) (rises_in k (map (model_shows items) [])) refl)
+    and_right (is_set q.claimed k) (is_set q.play.rose k) (fresh.rose k) ∙ sym (and_right (list_any (λ c. nat_eq c k) claims) (rises_in_some k (map (model_shows items) [])) refl)
 by_frames items q claims k [] base (f ∷ fs) fresh t known h = absurd t
 by_frames items q claims k (x ∷ xs) base fs traced t known h =
     let one = traced fs t in
@@ -67,7 +67,7 @@ word_reached_is items text j fs k b stands trace flags there =
           let none : b ≡ false = false_from_ne_true b (λ e.
           let inside : k < length (places is_bad 0 items) = subst (λ (l : List Item). k < length (places is_bad 0 l)) counts.items_are (there e) in
           omega (arith, inside, h, length-nodes is_bad items bad_names)) in
-          none ∙ sym (and_right (list_any (λ c. nat_eq c k) r.claims) (rises_in k (map (model_shows items) fs)) (none_past items fs k h))
+          none ∙ sym (and_right (list_any (λ c. nat_eq c k) r.claims) (rises_in_some k (map (model_shows items) fs)) (none_past items fs k h))
     ]
 
 -- ---- over a circuit
@@ -107,4 +107,4 @@ unfolding reading
 bit_reached_is c text j vs k b stands trace is =
     let r : BitRead = (lines_read (bit_reader c) (whole_lines text)).read in
     let tells = stands.lines.counts in
-    is ∙ (ap₂ (λ (i : ℕ) (x : Bool). nat_eq i k && x) tells.claim (tells.rose vs trace ∙ bit_rises_shown c r.claim vs) ∙ at_claim (λ i. rises_in i (map (circuit_shows c) vs)) r.claim k)
+    is ∙ (ap₂ (λ (i : ℕ) (x : Bool). nat_eq i k && x) tells.claim (tells.rose vs trace ∙ bit_rises_shown c r.claim vs) ∙ at_claim (λ i. rises_in_some i (map (circuit_shows c) vs)) r.claim k)

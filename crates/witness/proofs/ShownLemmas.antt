@@ -5,7 +5,7 @@ use Rattle.std.specs.List.{list_any, position_from}
 use Rattle.std.proofs.lemmas.Bool.{false_from_ne_true, cases_lt}
 use Rattle.std.proofs.lemmas.Option.{unwrap_or-slice_get, none-some}
 use Rattle.std.proofs.lemmas.List.{get_or-map, get_or_past, length-map}
-use Rattle.base.specs.Shown.{Shown, is_bad_in, rises_in}
+use Rattle.base.specs.Shown.{Shown, is_bad_in, rises_in_some}
 use Rattle.base.specs.Literal.{Valuation, literal_value}
 use Rattle.btor2.specs.declared.item.Item.{Item}
 use Rattle.btor2.specs.Items.{is_bad, is_constraint}
@@ -27,7 +27,7 @@ breach_shown : {F : Type 0} (shows : F → Shown) (violated : F → Option ℕ) 
 breach_shown shows violated each k [] = refl
 breach_shown shows violated each k (f ∷ fs) = ap₂ (violated_at k) (each f) (breach_shown shows violated each (suc k) fs)
 
-pub some_bad : {F : Type 0} (shows : F → Shown) (test : F → Bool) (k : ℕ) → ((f : F) → test f ≡ is_bad_in k (shows f)) → (fs : List F) → list_any test fs ≡ rises_in k (map shows fs)
+pub some_bad : {F : Type 0} (shows : F → Shown) (test : F → Bool) (k : ℕ) → ((f : F) → test f ≡ is_bad_in k (shows f)) → (fs : List F) → list_any test fs ≡ rises_in_some k (map shows fs)
 some_bad shows test k each [] = refl
 some_bad shows test k each (f ∷ fs) = ap₂ (λ (a b : Bool). a || b) (each f) (some_bad shows test k each fs)
 
@@ -37,45 +37,45 @@ unclaimed : (claim : ℕ) (shown : List Shown) (i n : ℕ) → claim < i → unr
 unclaimed claim shown i zero h = refl
 unclaimed claim shown i (suc n) h =
     let other : nat_eq claim i ≡ false = false_from_ne_true (nat_eq claim i) (λ e. absurd (omega (arith, h, eqb-true claim i e))) in
-    ap (λ (b : Bool). if (b || false) && not (rises_in i shown) then Some i else unreached_from (claim ∷ []) shown (suc i) n) other ∙ unclaimed claim shown (suc i) n (omega (arith, h))
+    ap (λ (b : Bool). if (b || false) && not (rises_in_some i shown) then Some i else unreached_from (claim ∷ []) shown (suc i) n) other ∙ unclaimed claim shown (suc i) n (omega (arith, h))
 
-claimed : (claim : ℕ) (shown : List Shown) (i n : ℕ) → i ≤ claim → claim < i + n → unreached_from (claim ∷ []) shown i n ≡ cond (rises_in claim shown) None (Some claim)
+claimed : (claim : ℕ) (shown : List Shown) (i n : ℕ) → i ≤ claim → claim < i + n → unreached_from (claim ∷ []) shown i n ≡ cond (rises_in_some claim shown) None (Some claim)
 claimed claim shown i zero low h = absurd (omega (arith, low, h))
-claimed claim shown i (suc n) low h = by (nat_eq claim i) refl
+claimed claim shown i (suc n) low h = by (nat_eq claim i) refl (λ lower. claimed claim shown (suc i) n lower (omega (arith, h)))
   where
-    here : (b : Bool) → rises_in i shown ≡ b → i ≡ claim → (if not b then Some i else unreached_from (claim ∷ []) shown (suc i) n) ≡ cond (rises_in claim shown) None (Some claim)
-    here true rises own = unclaimed claim shown (suc i) n (omega (arith, own)) ∙ sym (ap (λ (b : Bool). cond b None (Some claim)) (ap (λ (k : ℕ). rises_in k shown) (sym own) ∙ rises))
-    here false rises own = ap (λ (k : ℕ). Some k) own ∙ sym (ap (λ (b : Bool). cond b None (Some claim)) (ap (λ (k : ℕ). rises_in k shown) (sym own) ∙ rises))
+    here : (b : Bool) → rises_in_some i shown ≡ b → i ≡ claim → (if not b then Some i else unreached_from (claim ∷ []) shown (suc i) n) ≡ cond (rises_in_some claim shown) None (Some claim)
+    here true rises own = unclaimed claim shown (suc i) n (omega (arith, own)) ∙ sym (ap (λ (b : Bool). cond b None (Some claim)) (ap (λ (k : ℕ). rises_in_some k shown) (sym own) ∙ rises))
+    here false rises own = ap (λ (k : ℕ). Some k) own ∙ sym (ap (λ (b : Bool). cond b None (Some claim)) (ap (λ (k : ℕ). rises_in_some k shown) (sym own) ∙ rises))
 
-    by : (b : Bool) → nat_eq claim i ≡ b → (if (nat_eq claim i || false) && not (rises_in i shown) then Some i else unreached_from (claim ∷ []) shown (suc i) n) ≡ cond (rises_in claim shown) None (Some claim)
-    by true e =
-        ap (λ (b : Bool). if (b || false) && not (rises_in i shown) then Some i else unreached_from (claim ∷ []) shown (suc i) n) e
-        ∙ here (rises_in i shown) refl (sym (eqb-true claim i e))
-    by false e =
-        let other : (claim ≡ i → ⊥) = λ is. absurd (cc (e, eq-eqb claim i is)) in
-        ap (λ (b : Bool). if (b || false) && not (rises_in i shown) then Some i else unreached_from (claim ∷ []) shown (suc i) n) e
-        ∙ claimed claim shown (suc i) n (omega (arith, low, other)) (omega (arith, h))
+    by : (b : Bool) → nat_eq claim i ≡ b → (suc i ≤ claim → unreached_from (claim ∷ []) shown (suc i) n ≡ cond (rises_in_some claim shown) None (Some claim))
+        → (if (nat_eq claim i || false) && not (rises_in_some i shown) then Some i else unreached_from (claim ∷ []) shown (suc i) n) ≡ cond (rises_in_some claim shown) None (Some claim)
+    by true e later =
+        ap (λ (b : Bool). if (b || false) && not (rises_in_some i shown) then Some i else unreached_from (claim ∷ []) shown (suc i) n) e
+        ∙ here (rises_in_some i shown) refl (sym (eqb-true claim i e))
+    by false e later =
+        let other : claim ≡ i → ⊥ = λ is. absurd (cc (e, eq-eqb claim i is)) in
+        ap (λ (b : Bool). if (b || false) && not (rises_in_some i shown) then Some i else unreached_from (claim ∷ []) shown (suc i) n) e ∙ later (omega (arith, low, other))
 
 -- the one claim of a bad property that is there is unreached exactly where it rises in no frame
-pub sole_claim : (claim bads : ℕ) (shown : List Shown) → claim < bads → unreached_from (claim ∷ []) shown 0 bads ≡ cond (rises_in claim shown) None (Some claim)
+pub sole_claim : (claim bads : ℕ) (shown : List Shown) → claim < bads → unreached_from (claim ∷ []) shown 0 bads ≡ cond (rises_in_some claim shown) None (Some claim)
 sole_claim claim bads shown h = claimed claim shown 0 bads (omega arith) (omega (arith, h))
 
 -- ---- of claims that are all reached
 
-pub claim_reached : (claims : List ℕ) (shown : List Shown) (i m n : ℕ) → m < n → list_any (λ c. c == i + m) claims ≡ true → unreached_from claims shown i n ≡ None → rises_in (i + m) shown ≡ true
+pub claim_reached : (claims : List ℕ) (shown : List Shown) (i m n : ℕ) → m < n → list_any (λ c. c == i + m) claims ≡ true → unreached_from claims shown i n ≡ None → rises_in_some (i + m) shown ≡ true
 claim_reached claims shown i m zero h claimed none = absurd (omega (arith, h))
 claim_reached claims shown i zero (suc n) h claimed none =
     let own : i ≡ i + 0 = omega arith in
-    by (rises_in i shown) (ap (λ (k : ℕ). rises_in k shown) own)
-    (subst (λ (b : Bool). (if b && not (rises_in i shown) then Some i else unreached_from claims shown (suc i) n) ≡ None) (ap (λ (k : ℕ). list_any (λ c. c == k) claims) own ∙ claimed) none)
+    by (rises_in_some i shown) (ap (λ (k : ℕ). rises_in_some k shown) own)
+    (subst (λ (b : Bool). (if b && not (rises_in_some i shown) then Some i else unreached_from claims shown (suc i) n) ≡ None) (ap (λ (k : ℕ). list_any (λ c. c == k) claims) own ∙ claimed) none)
   where
-    by : (b : Bool) → b ≡ rises_in (i + 0) shown → (if not b then Some i else unreached_from claims shown (suc i) n) ≡ None → rises_in (i + 0) shown ≡ true
+    by : (b : Bool) → b ≡ rises_in_some (i + 0) shown → (if not b then Some i else unreached_from claims shown (suc i) n) ≡ None → rises_in_some (i + 0) shown ≡ true
     by true is e = sym is
     by false is e = absurd (none-some i (sym e))
 claim_reached claims shown i (suc m) (suc n) h claimed none =
     let more : i + suc m ≡ suc i + m = omega arith in
-    ap (λ (k : ℕ). rises_in k shown) more
-    ∙ claim_reached claims shown (suc i) m n (omega (arith, h)) (sym (ap (λ (k : ℕ). list_any (λ c. c == k) claims) more) ∙ claimed) (behind (list_any (λ c. c == i) claims && not (rises_in i shown)) none)
+    ap (λ (k : ℕ). rises_in_some k shown) more
+    ∙ claim_reached claims shown (suc i) m n (omega (arith, h)) (sym (ap (λ (k : ℕ). list_any (λ c. c == k) claims) more) ∙ claimed) (behind (list_any (λ c. c == i) claims && not (rises_in_some i shown)) none)
   where
     behind : (b : Bool) → (if b then Some i else unreached_from claims shown (suc i) n) ≡ None → unreached_from claims shown (suc i) n ≡ None
     behind true e = absurd (none-some i (sym e))
@@ -97,22 +97,22 @@ not_never (f ∷ fs) a = ap (λ (b : Bool). not (is_1 f a) && b) (not_never fs a
     both true c = refl
     both false c = refl
 
-pub never_shown : (items : List Item) (fs : List Frame) (k : ℕ) → k < length (nodes_of is_bad items) → never_1 fs (get_or (nodes_of is_bad items) k 0) ≡ not (rises_in k (map (model_shows items) fs))
+pub never_shown : (items : List Item) (fs : List Frame) (k : ℕ) → k < length (nodes_of is_bad items) → never_1 fs (get_or (nodes_of is_bad items) k 0) ≡ not (rises_in_some k (map (model_shows items) fs))
 never_shown items fs k h =
     not_never fs (get_or (nodes_of is_bad items) k 0)
     ∙ ap not (some_bad (model_shows items) (λ f. is_1 f (get_or (nodes_of is_bad items) k 0)) k (λ f. bad_is_shown items k f h) fs)
 
-first_shown : (claims : List ℕ) (fs : List Frame) (shown : List Shown) (i : ℕ) (rest : List ℕ) → ((m : ℕ) → m < length rest → never_1 fs (get_or rest m 0) ≡ not (rises_in (i + m) shown))
+first_shown : (claims : List ℕ) (fs : List Frame) (shown : List Shown) (i : ℕ) (rest : List ℕ) → ((m : ℕ) → m < length rest → never_1 fs (get_or rest m 0) ≡ not (rises_in_some (i + m) shown))
     → first_unreached claims fs i rest ≡ unreached_from claims shown i (length rest)
 first_shown claims fs shown i [] each = refl
 first_shown claims fs shown i (a ∷ rest) each =
     let zero_more : i + 0 ≡ i = omega arith in
-    let here : never_1 fs a ≡ not (rises_in i shown) = each 0 (omega arith) ∙ ap (λ (n : ℕ). not (rises_in n shown)) zero_more in
+    let here : never_1 fs a ≡ not (rises_in_some i shown) = each 0 (omega arith) ∙ ap (λ (n : ℕ). not (rises_in_some n shown)) zero_more in
     ap₂ (λ (b : Bool) (o : Option ℕ). if list_any (λ c. c == i) claims && b then Some i else o) here
-    (first_shown claims fs shown (suc i) rest (λ m h. let more : i + suc m ≡ suc i + m = omega arith in each (suc m) (omega (arith, h)) ∙ ap (λ (n : ℕ). not (rises_in n shown)) more))
+    (first_shown claims fs shown (suc i) rest (λ m h. let more : i + suc m ≡ suc i + m = omega arith in each (suc m) (omega (arith, h)) ∙ ap (λ (n : ℕ). not (rises_in_some n shown)) more))
 
 -- a bad property that is not there rises in no frame
-pub none_past : (items : List Item) (fs : List Frame) (k : ℕ) → length (nodes_of is_bad items) ≤ k → rises_in k (map (model_shows items) fs) ≡ false
+pub none_past : (items : List Item) (fs : List Frame) (k : ℕ) → length (nodes_of is_bad items) ≤ k → rises_in_some k (map (model_shows items) fs) ≡ false
 none_past items [] k h = refl
 none_past items (f ∷ fs) k h =
     ap₂ (λ (a b : Bool). a || b) (unwrap_or-slice_get (values_of is_bad items f) k false ∙ get_or_past (values_of is_bad items f) k false (omega (arith, h, length-map (nodes_of is_bad items) (is_1 f)))) (none_past items fs k h)
@@ -135,7 +135,7 @@ bit_is_shown c k v =
       | inr h ↦ ap (literal_value v) (get_or_past c.bads k 0 h) ∙ sym (unwrap_or-slice_get (map (literal_value v) c.bads) k false ∙ get_or_past (map (literal_value v) c.bads) k false (omega (arith, h, length-map c.bads (literal_value v))))
     ]
 
-pub bit_rises_shown : (c : Circuit) (k : ℕ) (vs : List Valuation) → bit_rises c k vs ≡ rises_in k (map (circuit_shows c) vs)
+pub bit_rises_shown : (c : Circuit) (k : ℕ) (vs : List Valuation) → bit_rises c k vs ≡ rises_in_some k (map (circuit_shows c) vs)
 bit_rises_shown c k vs = some_bad (circuit_shows c) (λ v. literal_value v (get_or c.bads k 0)) k (bit_is_shown c k) vs
 
 pub bits_verdict : (c : Circuit) (different : Option ℕ) (claim : ℕ) (vs : List Valuation) → claim < length c.bads

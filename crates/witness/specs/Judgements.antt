@@ -4,7 +4,7 @@ use Rattle.std.specs.List.{list_any, position_from}
 use Rattle.std.specs.Option.{option_or}
 use Rattle.std.specs.Str.{bytes_eq}
 use Rattle.base.specs.Lines.{whole_lines}
-use Rattle.base.specs.Shown.{Shown, rises_in}
+use Rattle.base.specs.Shown.{Shown, rises_in_some}
 use Rattle.btor2.specs.declared.item.Item.{Item}
 use Rattle.btor2.specs.declared.item.Body.{Body}
 use Rattle.btor2.specs.Items.{is_input, is_state, is_bad, names_state, init_word}
@@ -95,7 +95,7 @@ violation_from k (s ∷ more) = violated_at k (position_from not 0 s.constraints
 abbrev pub unreached_from : List ℕ → List Shown → ℕ → ℕ → Option ℕ
 unreached_from claims shown i zero = None
 unreached_from claims shown i (suc more) =
-    if list_any (λ c. c == i) claims && not (rises_in i shown) then Some i else unreached_from claims shown (suc i) more
+    if list_any (λ c. c == i) claims && not (rises_in_some i shown) then Some i else unreached_from claims shown (suc i) more
 
 -- ---- the judgement
 

@@ -2,7 +2,7 @@
 -- ("AIGER 1.9 and Beyond", semantics).
 use Rattle.std.specs.Prelude.{ℕ, Bool, ◌&&◌, ◌==◌, List, map}
 use Rattle.std.specs.List.{list_any}
-use Rattle.base.specs.Shown.{rises_in}
+use Rattle.base.specs.Shown.{rises_in_some}
 use Rattle.btor2.specs.declared.item.Item.{Item}
 use Rattle.btor2.specs.Trace.{Frame}
 use Rattle.btor2.specs.Reachability.{model_shows}
@@ -22,7 +22,7 @@ word_claimed items text k = list_any (λ c. c == k) (said_in items text).claims
 
 -- it is claimed, and 1 in a closed frame of the text
 abbrev pub word_reached : List Item → List ℕ → List Frame → ℕ → Bool
-word_reached items text fs k = word_claimed items text k && rises_in k (map (model_shows items) fs)
+word_reached items text fs k = word_claimed items text k && rises_in_some k (map (model_shows items) fs)
 
 -- ---- over a circuit
 
@@ -40,4 +40,4 @@ bit_claimed c text k = (bits_said_in c text).claim == k
 
 -- it is claimed, and 1 in a closed frame of the text
 abbrev pub bit_reached : Circuit → List ℕ → List Valuation → ℕ → Bool
-bit_reached c text vs k = bit_claimed c text k && rises_in k (map (circuit_shows c) vs)
+bit_reached c text vs k = bit_claimed c text k && rises_in_some k (map (circuit_shows c) vs)
