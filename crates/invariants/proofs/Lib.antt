@@ -5,6 +5,9 @@ mod FormulaLemmas
 mod ObligationLemmas
 mod PutLemmas
 mod ReaderLemmas
+mod SaidLemmas
+mod SaidNameLemmas
+mod SaidWordLemmas
 mod TextFaultLemmas
 mod TraceLemmas
 mod WordLemmas

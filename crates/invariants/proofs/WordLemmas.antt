@@ -12,7 +12,7 @@ use Rattle.invariants.proofs.PutLemmas.{drop_end}
 
 -- ---- words
 
-words_other : (b : ℕ) (bs : List ℕ) → (b == 32) ≡ false → words (b ∷ bs) ≡ onto_first b (words bs)
+pub words_other : (b : ℕ) (bs : List ℕ) → (b == 32) ≡ false → words (b ∷ bs) ≡ onto_first b (words bs)
 words_other b bs e = ap (λ (x : Bool). if x then [] ∷ words bs else onto_first b (words bs)) e
 
 -- a line without a blank is one word
@@ -37,7 +37,7 @@ words-blank (b ∷ bs) behind none =
     words_other b (bs ++ 32 ∷ behind) off ∙ ap (onto_first b) (words-blank bs behind rest))
     (cases_Bool (b == 32))
 
-words-some : (line : List ℕ) → (word : List ℕ) × (more : List (List ℕ)) × (words line ≡ word ∷ more)
+pub words-some : (line : List ℕ) → (word : List ℕ) × (more : List (List ℕ)) × (words line ≡ word ∷ more)
 words-some [] = ([], [], refl)
 words-some (b ∷ bs) =
     ⊎_elim

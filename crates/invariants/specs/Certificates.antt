@@ -1,6 +1,6 @@
 -- Certificates of a bad property of a circuit: the text of an invariant, and that of a proof over the formula that the invariant owes. Which formula that is, how
 -- a certificate is judged, and why there is no formula or no judgement.
-use Rattle.std.specs.Prelude.{◌≡◌, ◌⊎◌, ℕ, true, List, Option, None, Some, IfSome, Result, Ok, Err, length}
+use Rattle.std.specs.Prelude.{◌≡◌, ◌⊎◌, ℕ, true, List, Option, None, Some, IfSome, Result, Err, length}
 use Rattle.std.specs.List.{list_all}
 use Rattle.base.specs.Device.{HasRisen}
 use Rattle.aiger.specs.Circuit.{Circuit}
@@ -19,6 +19,7 @@ use Rattle.invariants.specs.Invariants.{AreOver, asks_one}
 use Rattle.invariants.specs.Obligation.{obligation}
 use Rattle.invariants.specs.Reading.{Reads}
 use Rattle.invariants.specs.Refusal.{obligation_refusal, RefusesObligation}
+use Rattle.invariants.specs.Texts.{SaysCubes}
 
 -- ---- what is judged
 
@@ -27,11 +28,11 @@ pub record IsFormFor (c : Circuit) (k : ℕ) (d : Circuit) : Type 0 where
   pub is_form : IsEngineFormOf c (Some k) d
   pub accepted : engine_refusal c (Some k) ≡ None
 
--- cubes are those that the text of an invariant, where it is known, reads as over a circuit; they speak of its latches alone, and each asks that one be 1
+-- cubes are those that the text of an invariant, where it is known, says over the latches of a circuit; they speak of these alone, and each asks that one be 1
 pub record AreCubes (d : Circuit) (invariant : Option (List ℕ)) (cubes : List (List ℕ)) : Type 0 where
   pub over : AreOver (length d.latches) cubes
   pub ask : list_all asks_one cubes ≡ true
-  pub reads : Reads (length d.latches) invariant (Ok cubes)
+  pub says : IfSome invariant (λ text. SaysCubes (length d.latches) text cubes)
 
 -- a formula is the obligation of the text of an invariant over a circuit
 pub record IsOwedOver (d : Circuit) (invariant : Option (List ℕ)) (f : Formula) : Type 0 where

@@ -7,4 +7,5 @@ pub mod Obligation
 pub mod Reader
 pub mod Reading
 pub mod Refusal
+pub mod Texts
 pub mod Worked

@@ -16,6 +16,7 @@ ghost use Rattle.invariants.specs.Certificates.{IsCertified};
 ghost use Rattle.invariants.specs.Invariants.{AreOver, asks_one, bad_literal, IsInductive};
 ghost use Rattle.invariants.specs.Obligation.{obligation};
 ghost use Rattle.invariants.specs.Reading.{read_text};
+ghost use Rattle.invariants.specs.Texts.{SaysCubes};
 ghost use Rattle.invariants.specs.Worked.{keeper, gated, first_is_one, one_and_zero};
 ghost use Rattle.invariants.specs.declared.why.InvariantWhy.TheVariants as why;
 
@@ -67,6 +68,17 @@ pub fn one_judgement_of_a_certificate()
     clauses::laws::one_judgement();
 }
 
+/// A law: a text is read as some cubes exactly where it says them.
+pub fn cubes_are_read_where_said()
+    ensures said { (latches : ℕ) (text : List ℕ) (cubes : List (List ℕ)) → SaysCubes latches text cubes → read_text latches text ≡ Ok cubes }
+    ensures read { (latches : ℕ) (text : List ℕ) (cubes : List (List ℕ)) → read_text latches text ≡ Ok cubes → SaysCubes latches text cubes }
+{}
+
+/// A law: a text says at most one list of cubes.
+pub fn one_list_of_cubes()
+    ensures { (latches : ℕ) (text : List ℕ) (cubes others : List (List ℕ)) → SaysCubes latches text cubes → SaysCubes latches text others → cubes ≡ others }
+{}
+
 /// Worked rows: the obligations of a latch that toggles over no cube, and of a circuit with a gate and a constant over one.
 pub fn worked_obligations()
     ensures toggler { obligation toggler [] ≡ record { variables = 3; clauses = (4 ∷ []) ∷ (7 ∷ 2 ∷ []) ∷ (6 ∷ []) ∷ [] } }
@@ -85,6 +97,12 @@ pub fn worked_invariants()
     ensures enters { ¬ IsInductive toggler (first_is_one ∷ []) }
     ensures asks { list_all asks_one (first_is_one ∷ one_and_zero ∷ []) ≡ true }
     ensures holds_at_start { asks_one (3 ∷ 5 ∷ []) ≡ false }
+{}
+
+/// Worked rows: a text says two cubes over two latches; one that names a latch twice says none.
+pub fn worked_sayings()
+    ensures two { SaysCubes 2 (codes "# by hand\n.i 2\n.o 1\n.p 2\n.ilb lo0 lo01\n.ob inv\n10 1\n# a cube more\n-1 1\n.e") ((2 ∷ 5 ∷ []) ∷ (4 ∷ []) ∷ []) }
+    ensures none { (cubes : List (List ℕ)) → ¬ SaysCubes 2 (codes ".i 2\n.o 1\n.p 1\n.ilb lo0 lo00\n.ob inv\n10 1\n.e\n") cubes }
 {}
 
 /// Worked rows: texts over circuits of two and twelve latches, and what they read as.

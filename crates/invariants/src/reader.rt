@@ -1,10 +1,11 @@
 //! Reading the text of an invariant from a source.
-ghost use Rattle.std.specs.Prelude.{◌≡◌, ◌≢◌, ◌⊎◌, ℕ, ◌<◌, Ok, Err, IfOk, IfErr, OnOk};
+ghost use Rattle.std.specs.Prelude.{◌≡◌, ◌≢◌, ◌⊎◌, ℕ, ◌<◌, Ok, Err, IfOk, IfErr, IfSome, OnOk};
 ghost use Rattle.std.specs.Io.KnownBytes.{IsAtEnd};
 ghost use Rattle.base.specs.Device.{HasRisen};
 ghost use Rattle.invariants.specs.declared.why.InvariantWhy.TheVariants as why;
 ghost use Rattle.invariants.specs.Reading.{admit, ended, Reads};
 ghost use Rattle.invariants.specs.Reader.{unread_fault};
+ghost use Rattle.invariants.specs.Texts.{SaysCubes};
 
 use crate::kept::Invariant;
 use crate::progress::Progress;
@@ -59,6 +60,7 @@ pub fn read_invariant<S: Source>(
 ) -> Result<Invariant, InvariantFault>
     requires { latches < 2147483647 }
     ensures reads { IfOk result (λ v. Reads latches (S.to_come source.old) (Ok v.cubes)) }
+    ensures says { IfOk result (λ v. IfSome (S.to_come source.old) (λ text. SaysCubes latches text v.cubes)) }
     ensures latches { IfOk result (λ v. v.latches ≡ latches) }
     ensures end { OnOk result (IsAtEnd (S.to_come source.new)) }
     ensures counted { OnOk result (S.failures source.new ≡ S.failures source.old) }

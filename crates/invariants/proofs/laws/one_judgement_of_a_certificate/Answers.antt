@@ -1,18 +1,18 @@
-use Rattle.std.proofs.Common.{◌≡◌, List, ℕ, Some, Ok, sym, ap, subst, ◌∙◌, length}
+use Rattle.std.proofs.Common.{◌≡◌, List, ℕ, Some, sym, ap, subst, ◌∙◌, length}
 use Rattle.aiger.specs.Circuit.{Circuit}
 use Rattle.clauses.specs.Formula.{Formula}
 use Rattle.clauses.specs.Judgements.{Judges}
 use Rattle.invariants.specs.Certificates.{IsOwedOver}
 use Rattle.invariants.specs.Obligation.{obligation}
-use Rattle.invariants.specs.Reading.{read_text}
+use Rattle.invariants.specs.Texts.{SaysCubes}
+use Rattle.invariants.proofs.SaidLemmas.{one_list}
 use Rattle.invariants.proofs.laws.one_judgement_of_a_certificate.Goals as goal
 
 -- over one circuit the text of an invariant owes one formula
 same_formula : (d e : Circuit) (invariant : List ℕ) (f g : Formula) → d ≡ e → IsOwedOver d (Some invariant) f → IsOwedOver e (Some invariant) g → f ≡ g
 same_formula d e invariant f g same a b =
-    let first : read_text (length e.latches) invariant ≡ Ok a.cubes = subst (λ (x : Circuit). read_text (length x.latches) invariant ≡ Ok a.cubes) same a.are_cubes.reads in
-    let second : read_text (length e.latches) invariant ≡ Ok b.cubes = b.are_cubes.reads in
-    let cubes : a.cubes ≡ b.cubes = cc in
+    let first : SaysCubes (length e.latches) invariant a.cubes = subst (λ (x : Circuit). SaysCubes (length x.latches) invariant a.cubes) same a.are_cubes.says in
+    let cubes : a.cubes ≡ b.cubes = one_list (length e.latches) invariant a.cubes b.cubes first b.are_cubes.says in
     a.is_obligation ∙ (ap (λ (x : Circuit). obligation x a.cubes) same ∙ (ap (obligation e) cubes ∙ sym b.is_obligation))
 
 pub returns : goal.returns

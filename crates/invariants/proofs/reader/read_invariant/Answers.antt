@@ -1,10 +1,12 @@
-use Rattle.std.proofs.Common.{◌≡◌, ◌⊎◌, inl, inr, true, false, Ok, Err, rules, ⊎_elim, sym, ◌∙◌}
+use Rattle.std.proofs.Common.{◌≡◌, ◌⊎◌, inl, inr, true, false, Ok, Err, IfSome, rules, ⊎_elim, sym, ◌∙◌}
 use Rattle.std.specs.Io.KnownBytes.{prepend_known}
 use Rattle.invariants.specs.declared.why.InvariantWhy.TheVariants as why
 use Rattle.base.specs.Lines.{line_after}
 use Rattle.invariants.specs.Reading.{admit, ended}
 use Rattle.invariants.specs.Reader.{Lines, Gives, begun}
+use Rattle.invariants.specs.Texts.{SaysCubes}
 use Rattle.invariants.proofs.ReaderLemmas.{step_agrees, step_fault, step_last, agree_trans, agree_gives, ok_weaker, err_weaker}
+use Rattle.invariants.proofs.SaidLemmas.{gives_said}
 use Rattle.invariants.proofs.TextFaultLemmas.{line_is_of_text, end_is_of_text}
 use Rattle.invariants.proofs.reader.read_invariant.Goals as goal
 
@@ -18,6 +20,12 @@ returns-then-not-is_whole-clause-reads g c =
     agree_gives (g.S.Source.to_come c.args.source.now) (prepend_known c.loop-is_whole.lines.rest (g.S.Source.to_come c.loop-is_whole.source)) 0 c.loop-is_whole.number (begun c.args.latches) p (Ok v.cubes) c.loop-is_whole.invariant.same
     (step_last c.in-Ok.is_whole c.loop-is_whole.lines c.advance.new.self (g.S.Source.to_come c.loop-is_whole.source) (g.S.Source.to_come c.advance.new.source) c.loop-is_whole.number c.saturating_add-number.result p c.rest.result.now (Ok v.cubes) w c.in-Ok.ensures.bytes c.rest.ensures next h))
     c.finish.ensures.ok
+
+pub returns-then-not-is_whole-clause-says : goal.returns-then-not-is_whole-clause-says
+returns-then-not-is_whole-clause-says g c =
+    ok_weaker c.finish.result (λ v. Gives 0 (begun c.args.latches) (g.S.Source.to_come c.args.source.now) (Ok v.cubes)) (λ v. IfSome (g.S.Source.to_come c.args.source.now) (λ text. SaysCubes c.args.latches text v.cubes))
+    (λ v h. gives_said c.args.latches (g.S.Source.to_come c.args.source.now) v.cubes h)
+    (returns-then-not-is_whole-clause-reads g c)
 
 pub returns-then-not-is_whole-clause-fault : goal.returns-then-not-is_whole-clause-fault
 returns-then-not-is_whole-clause-fault g c =
