@@ -6,16 +6,15 @@ use Rattle.std.proofs.lemmas.Bool.Decides.{nat_tests}
 use Rattle.std.proofs.lemmas.List.{length-map}
 use Rattle.std.proofs.lemmas.List.Elements.{All-nil, All-cons, All-head, All-tail, filter-append}
 use Rattle.std.proofs.lemmas.Slice.Eq.{bytes_eq-Decides}
-use Rattle.base.specs.Lines.{HasNone, whole_lines, unfinished}
+use Rattle.base.specs.Lines.{HasNone, whole_lines, unfinished, all_lines, line_after}
 use Rattle.base.specs.Decimals.{is_nothing, number_of}
-use Rattle.clauses.specs.Proofs.{all_lines}
 use Rattle.invariants.specs.declared.expected.Expected.{Expected}
 use Rattle.invariants.specs.declared.expected.Expected.TheVariants as expect
 use Rattle.invariants.specs.declared.why.InvariantFault.{InvariantFault}
 use Rattle.invariants.specs.declared.why.InvariantWhy.{InvariantWhy}
 use Rattle.invariants.specs.declared.why.InvariantWhy.TheVariants as why
 use Rattle.invariants.specs.Invariants.{asks_one}
-use Rattle.invariants.specs.Reading.{words, sole, value_of, decimal_of, behind_key, names_of, is_part, part_of, cube_of, is_one, parts_of, asking, cube_or_why, Reading, at_start, with_width, with_outputs, with_count, with_names, with_output, with_cube, with_line, admit, line_after, is_ended, ended, read_lines, read_text}
+use Rattle.invariants.specs.Reading.{words, sole, value_of, decimal_of, behind_key, names_of, is_part, part_of, cube_of, is_one, parts_of, asking, cube_or_why, Reading, at_start, with_width, with_outputs, with_count, with_names, with_output, with_cube, with_line, admit, is_ended, ended, read_lines, read_text}
 use Rattle.invariants.specs.Reader.{Gives, begun}
 use Rattle.invariants.specs.Texts.{is_told, names_line, NamesLatch, part_byte, part_literals, cube_line, cube_literals, Pla, pla_lines, SaysCubes}
 use Rattle.invariants.proofs.WordLemmas.{words-none, words-blank, words-some}

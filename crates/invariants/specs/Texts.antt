@@ -2,9 +2,8 @@
 -- cubes, the names of the latches, the name of the output, a line for each cube, and the end. Latches are counted from 0, and the variable of one is one more.
 use Rattle.std.specs.Prelude.{◌≡◌, ◌≢◌, ℕ, suc, ◌+◌, ◌*◌, ◌<◌, Bool, true, false, not, ◌==◌, nat_eq, List, [], ◌∷◌, ◌++◌, length, map, filter, flat_map, zip, All, Option, None, Some, codes}
 use Rattle.std.specs.List.{list_all, AllZip, IsDistinct}
-use Rattle.base.specs.Lines.{HasNone}
+use Rattle.base.specs.Lines.{HasNone, all_lines}
 use Rattle.base.specs.Decimals.{number_of, digits_number}
-use Rattle.clauses.specs.Proofs.{all_lines}
 use Rattle.invariants.specs.Invariants.{asks_one}
 
 -- a line tells something: it has a byte, and does not begin with `#`
