@@ -1,5 +1,5 @@
 -- Decimals: which bytes write a number, and which number they write.
-use Rattle.std.specs.Prelude.{ℕ, ◌-◌, ◌^◌, min, Bool, true, false, ◌&&◌, ◌||◌, not, List, [], ◌∷◌, Option, Some, None, ◌==◌, nat_le, if◌then◌else◌}
+use Rattle.std.specs.Prelude.{ℕ, ◌+◌, ◌-◌, ◌*◌, ◌^◌, min, Bool, true, false, ◌&&◌, ◌||◌, not, List, [], ◌∷◌, Option, Some, None, ◌==◌, nat_le, if◌then◌else◌}
 use Rattle.std.specs.List.{list_all}
 use Rattle.std.specs.Str.Parse.{digits_value}
 
@@ -37,3 +37,7 @@ digits_number bytes = if are_digits bytes then Some (capped_value bytes) else No
 -- the number that bytes write, where they are a decimal
 unfoldable pub number_of : List ℕ → Option ℕ
 number_of bytes = if is_decimal bytes then Some (capped_value bytes) else None
+
+-- a number with a digit more, which stays at 2 ^ 64 - 1; with any other byte it is as it was
+abbrev pub number_more : ℕ → ℕ → ℕ
+number_more number byte = if is_digit byte then min (min (number * 10) (2 ^ 64 - 1) + (byte - 48)) (2 ^ 64 - 1) else number

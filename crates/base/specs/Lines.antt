@@ -19,6 +19,11 @@ abbrev pub onto_first : ℕ → List (List ℕ) → List (List ℕ)
 onto_first b [] = []
 onto_first b (line ∷ lines) = (b ∷ line) ∷ lines
 
+-- a byte more at the front of the first of some pieces; where there is none, it is one
+abbrev pub to_first : ℕ → List (List ℕ) → List (List ℕ)
+to_first b [] = (b ∷ []) ∷ []
+to_first b (p ∷ ps) = (b ∷ p) ∷ ps
+
 -- the whole lines of a text: those that a byte 10 ends
 abbrev pub whole_lines : List ℕ → List (List ℕ)
 whole_lines [] = []

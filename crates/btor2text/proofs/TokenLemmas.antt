@@ -5,7 +5,8 @@ use Rattle.std.proofs.lemmas.Bool.{or_parts, not-true, not-false, both_ways, or_
 use Rattle.std.proofs.lemmas.Bool.Decides.{nat_tests}
 use Rattle.std.proofs.lemmas.List.{drop_more, take_all, drop_all, take-append-drop}
 use Rattle.bstr.specs.Bytes.{is_in, not_in}
-use Rattle.btor2text.specs.Tokens.{is_blank, to_first, pieces, is_some_bytes, before_comment, tokens, begins_blank, begins_token}
+use Rattle.base.specs.Lines.{to_first}
+use Rattle.btor2text.specs.Tokens.{is_blank, pieces, is_some_bytes, before_comment, tokens, begins_blank, begins_token}
 
 -- the blanks as a set of bytes
 abbrev pub blanks : List ℕ

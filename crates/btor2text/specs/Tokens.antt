@@ -1,14 +1,10 @@
 -- Tokens of a line of a model's text ("Btor2, BtorMC and Boolector 3.0", syntax; which bytes separate tokens and where a comment begins is this project's profile).
 use Rattle.std.specs.Prelude.{ℕ, Bool, true, false, not, ◌||◌, List, [], ◌∷◌, ◌==◌, if◌then◌else◌, filter}
+use Rattle.base.specs.Lines.{to_first}
 
 -- a space or a tab
 abbrev pub is_blank : ℕ → Bool
 is_blank b = (b == 32) || (b == 9)
-
--- a byte more at the front of the first piece
-abbrev pub to_first : ℕ → List (List ℕ) → List (List ℕ)
-to_first b [] = (b ∷ []) ∷ []
-to_first b (p ∷ ps) = (b ∷ p) ∷ ps
 
 -- what stands between blanks, empty pieces too
 abbrev pub pieces : List ℕ → List (List ℕ)

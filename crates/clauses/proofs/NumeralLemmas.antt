@@ -4,10 +4,10 @@ use Rattle.std.specs.Str.{bytes_eq}
 use Rattle.std.proofs.lemmas.Bool.{cases_Bool, and_parts, eqb-true, eqb-false, ne_eqb, le-leb, lt-ltb}
 use Rattle.std.proofs.lemmas.List.Folds.{list_all-append}
 use Rattle.std.proofs.Math.Seq.{take-append_seam, take-length}
-use Rattle.base.specs.Decimals.{is_digit, are_digits, is_decimal, capped_value, number_of}
+use Rattle.base.specs.Decimals.{is_digit, are_digits, is_decimal, capped_value, number_of, number_more}
 use Rattle.base.proofs.DecimalLemmas.{digit_range, capped_value-nil, capped_value_more}
 use Rattle.clauses.specs.declared.numeral.Numeral.{Numeral}
-use Rattle.clauses.specs.Numerals.{Counts, number_more, numeral_more, is_numeral}
+use Rattle.clauses.specs.Numerals.{Counts, numeral_more, is_numeral}
 
 -- a number with a digit more
 value_more : (digits : List ℕ) (b n : ℕ) → are_digits (digits ++ b ∷ []) ≡ true → n ≡ capped_value digits → number_more n b ≡ capped_value (digits ++ b ∷ [])

@@ -1,6 +1,6 @@
 -- What is kept of the bytes of a decimal of which more may follow.
-use Rattle.std.specs.Prelude.{◌≡◌, ℕ, ◌+◌, ◌-◌, ◌*◌, ◌^◌, min, Bool, true, not, ◌&&◌, ◌||◌, ◌==◌, nat_lt, List, length, slice_index_or, if◌then◌else◌}
-use Rattle.base.specs.Decimals.{is_digit, are_digits, capped_value}
+use Rattle.std.specs.Prelude.{◌≡◌, ℕ, ◌+◌, ◌-◌, ◌^◌, min, Bool, true, not, ◌&&◌, ◌||◌, ◌==◌, nat_lt, List, length, slice_index_or, if◌then◌else◌}
+use Rattle.base.specs.Decimals.{is_digit, are_digits, capped_value, number_more}
 use Rattle.clauses.specs.declared.numeral.Numeral.{Numeral}
 
 -- what is kept is that of these bytes
@@ -10,11 +10,7 @@ pub record Counts (n : Numeral) (bytes : List ℕ) : Type 0 where
   pub digits : n.digits ≡ are_digits bytes
   pub number : n.digits ≡ true → n.number ≡ capped_value bytes
 
--- a number with a digit more
-abbrev pub number_more : ℕ → ℕ → ℕ
-number_more number byte = if is_digit byte then min (min (number * 10) (2 ^ 64 - 1) + (byte - 48)) (2 ^ 64 - 1) else number
-
--- the same with a byte more
+-- what is kept with a byte more
 abbrev pub numeral_more : Numeral → ℕ → Numeral
 numeral_more n byte =
     record {

@@ -1,8 +1,8 @@
 //! A decimal, byte by byte.
 ghost use Rattle.std.specs.Prelude.{◌≡◌, List, ℕ, [], codes};
 ghost use Rattle.std.specs.Str.{bytes_eq};
-ghost use Rattle.base.specs.Decimals.{is_digit, is_nothing, number_of};
-ghost use Rattle.clauses.specs.Numerals.{Counts, number_more, numeral_more, is_numeral};
+ghost use Rattle.base.specs.Decimals.{is_digit, is_nothing, number_of, number_more};
+ghost use Rattle.clauses.specs.Numerals.{Counts, numeral_more, is_numeral};
 
 /// What bytes say as a decimal, of which more may follow.
 #[derive(Clone, Copy)]

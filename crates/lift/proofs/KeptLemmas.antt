@@ -5,11 +5,11 @@ use Rattle.std.proofs.lemmas.Bool.{cases_Bool, and_parts, eq-eqb, ne_eqb, lt-ltb
 use Rattle.std.proofs.lemmas.List.Folds.{list_all-append}
 use Rattle.std.proofs.lemmas.List.{map-append}
 use Rattle.std.proofs.lemmas.Grind.{take-set_at, take_at_read}
-use Rattle.base.specs.Decimals.{is_digit, are_digits, capped_value}
+use Rattle.base.specs.Decimals.{is_digit, are_digits, capped_value, number_more}
 use Rattle.base.proofs.DecimalLemmas.{capped_value-nil}
 use Rattle.witness.specs.declared.bit_scan.Scan.{Scan}
 use Rattle.witness.specs.Admits.{is_value_byte}
-use Rattle.witness.specs.BitScans.{Scans, behind_first, number_more, scan_more}
+use Rattle.witness.specs.BitScans.{Scans, behind_first, scan_more}
 use Rattle.witness.proofs.BitScanLemmas.{scans_more}
 use Rattle.lift.specs.Lifted.{line_bits}
 use Rattle.lift.specs.Kept.{KeptLine, Keeps, kept_more, kept_bits}

@@ -1,14 +1,14 @@
 -- What is kept of a line of a witness that is not yet admitted.
 use Rattle.std.specs.Prelude.{◌≡◌, ℕ, zero, suc, ◌<◌, ◌+◌, ◌≤◌, ◌==◌, nat_lt, min, Bool, true, false, List, [], ◌∷◌, codes, ◌++◌, Option, option_and_then, if◌then◌else◌, length, take, drop, slice_get, slice_index_or, slice_set}
 use Rattle.std.specs.Str.{bytes_eq}
-use Rattle.base.specs.Decimals.{are_digits, capped_value}
+use Rattle.base.specs.Decimals.{are_digits, capped_value, number_more}
 use Rattle.btor2.specs.declared.item.Item.{Item}
 use Rattle.btor2.specs.Lists.{places}
 use Rattle.btor2.specs.declared.leaves.Leaves.{Leaves}
 use Rattle.btor2.specs.Leaves.{list_of, is_leaf_at, leaf_width}
 use Rattle.aiger.specs.Circuit.{Circuit}
 use Rattle.witness.specs.Texts.{claim}
-use Rattle.witness.specs.BitScans.{behind_first, number_more}
+use Rattle.witness.specs.BitScans.{behind_first}
 use Rattle.lift.specs.Lifted.{word_line, line_bits, initial_piece, frame_piece}
 
 -- as many bits as fit, how many bytes there are, at most one more than fit, the first of them, and the number that the others write, where the first is a `b`

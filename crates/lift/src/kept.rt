@@ -1,7 +1,6 @@
 //! What is kept of a line of a witness until it is admitted.
 ghost use Rattle.std.specs.Prelude.{◌≡◌, ℕ, ◌+◌, nat_lt, List, [], ◌∷◌, ◌++◌, IfOk, if◌then◌else◌, length, slice_set};
-ghost use Rattle.base.specs.Decimals.{is_digit};
-ghost use Rattle.witness.specs.BitScans.{number_more};
+ghost use Rattle.base.specs.Decimals.{is_digit, number_more};
 ghost use Rattle.lift.specs.Kept.{Keeps, kept_more, kept_bits};
 
 use std::alloc::{AllocError, Global};

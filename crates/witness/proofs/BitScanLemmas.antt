@@ -4,11 +4,11 @@ use Rattle.std.specs.List.{list_any, list_all}
 use Rattle.std.proofs.lemmas.Bool.{cases_Bool, and_parts, and_from, eqb-true, eqb-false, ne_eqb, le-leb, lt-ltb}
 use Rattle.std.proofs.lemmas.List.Folds.{list_any-append, list_all-append}
 use Rattle.std.proofs.Math.Seq.{take-append_seam, take-length}
-use Rattle.base.specs.Decimals.{is_digit, are_digits, is_decimal, capped_value, number_of}
+use Rattle.base.specs.Decimals.{is_digit, are_digits, is_decimal, capped_value, number_of, number_more}
 use Rattle.base.proofs.DecimalLemmas.{digit_range, capped_value-nil, capped_value_more}
 use Rattle.witness.specs.declared.bit_scan.Scan.{Scan}
 use Rattle.witness.specs.Admits.{is_value_byte, Claim, claim_with, claim_of}
-use Rattle.witness.specs.BitScans.{behind_first, Scans, number_more, scan_more, has_decimal, claimed}
+use Rattle.witness.specs.BitScans.{behind_first, Scans, scan_more, has_decimal, claimed}
 use Rattle.std.proofs.Math.Bool.{and-true, or-false, and-false}
 
 -- a number with a digit more

@@ -9,7 +9,8 @@ use Rattle.base.proofs.BitLemmas.{length-bits, word_below, word-bits, bits-word_
 use Rattle.witness.specs.Texts.{digit, binary, symbol_part}
 use Rattle.std.proofs.lemmas.Result.{IfOk-at_ok}
 use Rattle.witness.proofs.ReadingLemmas.{by_test}
-use Rattle.witness.specs.Admits.{to_front, cut_at_space, to_first, between_spaces, is_value_byte, value_of}
+use Rattle.base.specs.Lines.{to_first}
+use Rattle.witness.specs.Admits.{to_front, cut_at_space, between_spaces, is_value_byte, value_of}
 
 -- ---- what stands before the first space
 

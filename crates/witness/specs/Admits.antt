@@ -3,6 +3,7 @@
 use Rattle.std.specs.Prelude.{ℕ, suc, Bool, true, false, ◌&&◌, ◌||◌, ◌==◌, nat_lt, List, [], ◌∷◌, ◌++◌, Option, Some, None, Result, Ok, Err, codes, decimal, map, length, reverse, slice_index, if◌then◌else◌}
 use Rattle.std.specs.List.{list_any, list_all}
 use Rattle.std.specs.Str.{bytes_eq}
+use Rattle.base.specs.Lines.{to_first}
 use Rattle.base.specs.Word.{word}
 use Rattle.base.specs.Decimals.{number_of}
 use Rattle.btor2.specs.Symbols.{is_symbol}
@@ -25,10 +26,6 @@ cut_at_space [] = ([], None)
 cut_at_space (b ∷ bs) = if b == 32 then ([], Some bs) else to_front b (cut_at_space bs)
 
 -- what stands between single spaces
-abbrev pub to_first : ℕ → List (List ℕ) → List (List ℕ)
-to_first b [] = (b ∷ []) ∷ []
-to_first b (p ∷ ps) = (b ∷ p) ∷ ps
-
 abbrev pub between_spaces : List ℕ → List (List ℕ)
 between_spaces [] = [] ∷ []
 between_spaces (b ∷ bs) = if b == 32 then [] ∷ between_spaces bs else to_first b (between_spaces bs)

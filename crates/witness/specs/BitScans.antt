@@ -1,7 +1,7 @@
 -- What is kept of the bytes of a line of which more may follow.
-use Rattle.std.specs.Prelude.{◌≡◌, ℕ, ◌+◌, ◌-◌, ◌*◌, ◌^◌, min, Bool, true, not, ◌&&◌, ◌||◌, ◌==◌, nat_lt, List, [], ◌∷◌, length, slice_index_or, Option, Some, None, if◌then◌else◌}
+use Rattle.std.specs.Prelude.{◌≡◌, ℕ, ◌+◌, ◌-◌, ◌^◌, min, Bool, true, not, ◌&&◌, ◌||◌, ◌==◌, nat_lt, List, [], ◌∷◌, length, slice_index_or, Option, Some, None, if◌then◌else◌}
 use Rattle.std.specs.List.{list_any, list_all}
-use Rattle.base.specs.Decimals.{is_digit, are_digits, capped_value}
+use Rattle.base.specs.Decimals.{is_digit, are_digits, capped_value, number_more}
 use Rattle.witness.specs.declared.bit_scan.Scan.{Scan}
 use Rattle.witness.specs.Admits.{is_value_byte}
 
@@ -28,11 +28,7 @@ pub record Scans (s : Scan) (line : List ℕ) : Type 0 where
   pub values : s.values ≡ list_all is_value_byte line
   pub unknown : s.unknown ≡ list_any (λ b. b == 120) line
 
--- a number with a digit more
-abbrev pub number_more : ℕ → ℕ → ℕ
-number_more number byte = if is_digit byte then min (min (number * 10) (2 ^ 64 - 1) + (byte - 48)) (2 ^ 64 - 1) else number
-
--- the same with a byte more
+-- what is known with a byte more
 abbrev pub scan_more : Scan → ℕ → Scan
 scan_more s byte =
     record {

@@ -2,11 +2,11 @@
 ghost use Rattle.std.specs.Prelude.{◌≡◌, ℕ, ◌==◌, ◌&&◌, ◌<◌, ◌-◌, ◌^◌, min, List, [], ◌∷◌, ◌++◌, MatchResult, Some, Ok, Err, map, length};
 ghost use Rattle.std.specs.List.{list_all};
 ghost use Rattle.std.specs.Str.{bytes_eq};
-ghost use Rattle.base.specs.Decimals.{is_digit};
+ghost use Rattle.base.specs.Decimals.{is_digit, number_more};
 ghost use Rattle.witness.specs.Readings.{is_nothing};
 ghost use Rattle.witness.specs.Admits.{is_value_byte};
 ghost use Rattle.witness.specs.BitAdmits.{judged_claim, claim_at, bits_at};
-ghost use Rattle.witness.specs.BitScans.{Scans, number_more, scan_more, has_decimal, claimed, is_bit, is_one_bit};
+ghost use Rattle.witness.specs.BitScans.{Scans, scan_more, has_decimal, claimed, is_bit, is_one_bit};
 
 use crate::why::Why;
 
