@@ -14,7 +14,7 @@ use Rattle.aiger.specs.declared.fault.CircuitFault.{CircuitFault}
 use Rattle.aiger.specs.Limits.{greatest_count}
 use Rattle.base.specs.Literal.{variable}
 use Rattle.aiger.specs.Net.{Net, variables, IsDefined, AreOrdered}
-use Rattle.aiger.specs.Circuit.{Circuit, IsCircuit, AllLiterals, HasDefined, HasFew, HasNames, IsNamed, Place, NameMap, place_cmp, rank, with_name_in, section_count, are_defined, net, IsName, count_refusal, size_refusal}
+use Rattle.aiger.specs.Circuit.{Circuit, IsCircuit, AllLiterals, HasDefined, HasFew, HasNames, IsNamed, NamePlace, NameMap, place_cmp, rank, with_name_in, section_count, are_defined, net, IsName, count_refusal, size_refusal}
 use Rattle.aiger.specs.Refusal.{RefusesBy}
 use Rattle.aiger.specs.declared.fault.CircuitFault.TheVariants.{TooBig}
 use Rattle.aiger.proofs.NetLemmas.{AreOrdered-push, IsDefined-append}
@@ -68,7 +68,7 @@ same_counts c names section.Fair = refl
 -- the names of a circuit are those of one with as many positions or more
 pub names_kept : (c d : Circuit) → HasNames c → d.names ≡ c.names → IsWithin c d → HasNames d
 names_kept c d has e more =
-    let weaker : (entry : Place × List ℕ) → IsNamed c entry → IsNamed d entry = λ entry n. record { section = n.section; is_section = n.is_section; position = omega (arith, n.position, more n.section); name = n.name } in
+    let weaker : (entry : NamePlace × List ℕ) → IsNamed c entry → IsNamed d entry = λ entry n. record { section = n.section; is_section = n.is_section; position = omega (arith, n.position, more n.section); name = n.name } in
     record {
       sorted = subst (λ (names : NameMap). IsStrictlySortedBy place_cmp (keys_of names)) (sym e) has.sorted;
       named = subst (All (IsNamed d)) (sym e) (All-weaker (IsNamed c) (IsNamed d) weaker c.names has.named);
@@ -164,7 +164,7 @@ pub kept_name : (P : ℕ → Type 0) (c : Circuit) (s : Section) (k : ℕ) (name
     → OnOk r (IsStrictlySortedBy place_cmp (keys_of names)) → OnErr r (names ≡ c.names) → AreKept P (record c { names = names })
 kept_name P c s k name names (Ok x) ok kept here good sorted err =
     let d : Circuit = record c { names = names } in
-    let weaker : (entry : Place × List ℕ) → IsNamed c entry → IsNamed d entry = λ entry n. record { section = n.section; is_section = n.is_section; position = omega (arith, n.position, same_counts c names n.section); name = n.name } in
+    let weaker : (entry : NamePlace × List ℕ) → IsNamed c entry → IsNamed d entry = λ entry n. record { section = n.section; is_section = n.is_section; position = omega (arith, n.position, same_counts c names n.section); name = n.name } in
     let new : IsNamed d ((rank s, k), name) = record { section = s; is_section = refl; position = omega (arith, here, same_counts c names s); name = good } in
     let all : All (IsNamed d) (with_name_in c.names s k name) = All-insert_entry exact_places (rank s, k) name (IsNamed d) c.names (All-weaker (IsNamed c) (IsNamed d) weaker c.names kept.names.named) new in
     record {

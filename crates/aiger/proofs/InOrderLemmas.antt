@@ -10,7 +10,7 @@ use Rattle.base.specs.Literal.{variable}
 use Rattle.aiger.specs.Loose.{Loose, IsLoose, latch_variable, gate_variable, defined_variables}
 use Rattle.aiger.specs.Numbering.{WaitForEarlier, slot_of}
 use Rattle.aiger.specs.Readiness.{IsFirst}
-use Rattle.aiger.specs.Renumbering.{gate_line, gate_name, numbered, has_number, is_ready, AreInTurn, IsOrder, new_gate, renumbered, circuit_by}
+use Rattle.aiger.specs.Renumbering.{gate_line, gate_name, variables_numbered, has_number, is_ready, AreInTurn, IsOrder, new_gate, renumbered, circuit_by}
 use Rattle.aiger.proofs.KnownLemmas.{AllKnown}
 use Rattle.aiger.proofs.NumberingLemmas.{IsSlotOf, IsCircuit-renumbered}
 use Rattle.aiger.proofs.OrderLemmas.{any_map, has_number-append, numbered-append}
@@ -22,15 +22,15 @@ abbrev pub as_they_stand : Loose → List ℕ
 as_they_stand l = range_with_len 0 (length l.gates)
 
 -- a literal that waits for no gate but earlier ones has a number when these have theirs
-number_by_slot : (l : Loose) (k lit slot : ℕ) → IsSlotOf l lit slot → slot ≤ k → has_number (numbered l (range_with_len 0 k)) lit ≡ true
+number_by_slot : (l : Loose) (k lit slot : ℕ) → IsSlotOf l lit slot → slot ≤ k → has_number (variables_numbered l (range_with_len 0 k)) lit ≡ true
 number_by_slot l k lit zero is h =
-    subst (λ (ns : List ℕ). has_number ns lit ≡ true) (sym (numbered-append l [] (range_with_len 0 k))) (has_number-append (numbered l []) (map (gate_name l) (range_with_len 0 k)) lit (is.leaf refl))
+    subst (λ (ns : List ℕ). has_number ns lit ≡ true) (sym (numbered-append l [] (range_with_len 0 k))) (has_number-append (variables_numbered l []) (map (gate_name l) (range_with_len 0 k)) lit (is.leaf refl))
 number_by_slot l k lit (suc g) is h =
     let name = (is.gate g refl).1 in
     let there : list_any (nat_eq (gate_name l g)) (map (gate_name l) (range_with_len 0 k)) ≡ true = any_map (gate_name l) g (range_with_len 0 k) (within_range g 0 k (omega arith) (omega (arith, h))) in
     let joined = list_any-append (nat_eq (gate_name l g)) (map variable l.inputs ++ map latch_variable l.latches) (map (gate_name l) (range_with_len 0 k)) in
-    let any : list_any (nat_eq (gate_name l g)) (numbered l (range_with_len 0 k)) ≡ true = grind (arith, nat_tests, there, joined) in
-    let here : list_any (nat_eq (variable lit)) (numbered l (range_with_len 0 k)) ≡ true = subst (λ (v : ℕ). list_any (nat_eq v) (numbered l (range_with_len 0 k)) ≡ true) (sym name) any in
+    let any : list_any (nat_eq (gate_name l g)) (variables_numbered l (range_with_len 0 k)) ≡ true = grind (arith, nat_tests, there, joined) in
+    let here : list_any (nat_eq (variable lit)) (variables_numbered l (range_with_len 0 k)) ≡ true = subst (λ (v : ℕ). list_any (nat_eq v) (variables_numbered l (range_with_len 0 k)) ≡ true) (sym name) any in
     grind (arith, nat_tests, here)
 
 module _ (l : Loose) (known : AllKnown l) (wait : WaitForEarlier (defined_variables l) (leaf_count l) l.gates) where
@@ -70,7 +70,7 @@ module _ (l : Loose) (known : AllKnown l) (wait : WaitForEarlier (defined_variab
   is_circuit valid = IsCircuit-renumbered l (as_they_stand l) valid known is_order (omega (arith, length-range_with_len 0 (length l.gates)))
 
 -- the variables with numbers are then those that are defined
-pub numbered_as_they_stand : (l : Loose) → numbered l (as_they_stand l) ≡ defined_variables l
+pub numbered_as_they_stand : (l : Loose) → variables_numbered l (as_they_stand l) ≡ defined_variables l
 numbered_as_they_stand l =
     ap (λ (xs : List ℕ). map variable l.inputs ++ map latch_variable l.latches ++ xs)
     (map_at_places gate_variable (record { lhs = 0; rhs0 = 0; rhs1 = 0 }) l.gates (gate_line l) 0 (λ i low. ap (gate_line l) (zero_more i)))
@@ -81,7 +81,7 @@ numbered_as_they_stand l =
 -- the circuit by the places of variables, with the gates as they stand
 pub by_places : (l : Loose) (places : List ℕ) (gates : List Gate) → places ≡ defined_variables l → gates ≡ map (new_gate places) l.gates → circuit_by l places gates ≡ renumbered l (as_they_stand l)
 by_places l places gates e f =
-    let names : places ≡ numbered l (as_they_stand l) = e ∙ sym (numbered_as_they_stand l) in
+    let names : places ≡ variables_numbered l (as_they_stand l) = e ∙ sym (numbered_as_they_stand l) in
     let at : map (λ j. new_gate places (gate_line l j)) (as_they_stand l) ≡ map (new_gate places) l.gates = map_at_places (new_gate places) (record { lhs = 0; rhs0 = 0; rhs1 = 0 }) l.gates (gate_line l) 0 (λ i low. ap (gate_line l) (zero_more i)) in
     ap (circuit_by l places) (f ∙ sym at) ∙ ap (λ (ns : List ℕ). circuit_by l ns (map (λ j. new_gate ns (gate_line l j)) (as_they_stand l))) names
   where
@@ -89,6 +89,6 @@ by_places l places gates e f =
     zero_more i = omega arith
 
 -- the circuit by numbers, with the gates in an order
-pub by_order : (l : Loose) (order names : List ℕ) (gates : List Gate) → names ≡ numbered l order → gates ≡ map (λ j. new_gate names (gate_line l j)) order → circuit_by l names gates ≡ renumbered l order
+pub by_order : (l : Loose) (order names : List ℕ) (gates : List Gate) → names ≡ variables_numbered l order → gates ≡ map (λ j. new_gate names (gate_line l j)) order → circuit_by l names gates ≡ renumbered l order
 by_order l order names gates e f =
     ap (circuit_by l names) f ∙ ap (λ (ns : List ℕ). circuit_by l ns (map (λ j. new_gate ns (gate_line l j)) order)) e

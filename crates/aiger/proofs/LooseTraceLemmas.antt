@@ -11,10 +11,10 @@ use Rattle.aiger.specs.declared.loose.LatchLine.{LatchLine}
 use Rattle.base.specs.Literal.{Valuation, variable, literal_value}
 use Rattle.aiger.specs.Net.{SatisfiesFrom, bits_from, variables, IsDefined}
 use Rattle.aiger.specs.Circuit.{Circuit, IsCircuit, net}
-use Rattle.aiger.specs.Trace.{IsFrame, IsTrace, next_state, SameFrame, SameTrace}
+use Rattle.aiger.specs.Trace.{IsCircuitFrame, IsCircuitTrace, next_latch_bits, SameCircuitFrame, SameCircuitTrace}
 use Rattle.aiger.specs.Loose.{Loose, IsLoose, latch_of, latch_variable, gate_variable}
-use Rattle.aiger.specs.LooseTrace.{HoldsOf, IsLooseFrame, IsLooseTrace, loose_next_state, ShowsSame, AllShowSame}
-use Rattle.aiger.specs.Renumbering.{gate_line, gate_name, numbered, has_number, AreInTurn, IsOrder, IsRenumbered, new_literal, new_gate, ordered_gate, renumbered}
+use Rattle.aiger.specs.LooseTrace.{HoldsOf, IsLooseFrame, IsLooseTrace, loose_next_state, ShowsSameAsFile, AllShowSame}
+use Rattle.aiger.specs.Renumbering.{gate_line, gate_name, variables_numbered, has_number, AreInTurn, IsOrder, IsRenumbered, new_literal, new_gate, ordered_gate, renumbered}
 use Rattle.aiger.proofs.TraceLemmas.{trace_exists, trace_unique, literal_value-agree, next_state-agree}
 use Rattle.aiger.proofs.LooseLemmas.{count_join}
 use Rattle.aiger.proofs.NumberingLemmas.{new_latch}
@@ -37,27 +37,27 @@ ordered_value w a b = by (nat_lt a b) refl
     by false e = ap (λ (t : Bool). let g : Gate = if t then record { rhs0 = b; rhs1 = a } else record { rhs0 = a; rhs1 = b } in literal_value w g.rhs0 && literal_value w g.rhs1) e
 
 -- one gate more has one number more
-length_with_gate : (l : Loose) (done : List ℕ) (j : ℕ) → length (numbered l (done ++ j ∷ [])) ≡ suc (length (numbered l done))
-length_with_gate l done j = ap length (numbered-append l done (j ∷ [])) ∙ omega (arith, length-append (numbered l done) (gate_name l j ∷ []))
+length_with_gate : (l : Loose) (done : List ℕ) (j : ℕ) → length (variables_numbered l (done ++ j ∷ [])) ≡ suc (length (variables_numbered l done))
+length_with_gate l done j = ap length (numbered-append l done (j ∷ [])) ∙ omega (arith, length-append (variables_numbered l done) (gate_name l j ∷ []))
 
 -- where the file's gates hold, the circuit's are satisfied
-satisfies : (l : Loose) (done js order : List ℕ) (v : Valuation) → All (HoldsOf v) l.gates → AreInTurn l done js → order ≡ done ++ js → SatisfiesFrom (suc (length (numbered l done))) (map (λ j. new_gate (numbered l order) (gate_line l j)) js) (rename (numbered l order) v)
+satisfies : (l : Loose) (done js order : List ℕ) (v : Valuation) → All (HoldsOf v) l.gates → AreInTurn l done js → order ≡ done ++ js → SatisfiesFrom (suc (length (variables_numbered l done))) (map (λ j. new_gate (variables_numbered l order) (gate_line l j)) js) (rename (variables_numbered l order) v)
 satisfies l done [] order v holds turn e = tt
 satisfies l done (j ∷ js) order v holds turn e =
-    let names : List ℕ = numbered l order in
+    let names : List ℕ = variables_numbered l order in
     let w : Valuation = rename names v in
     let r = ready_parts l done j turn.0.ready in
-    let split : names ≡ numbered l done ++ gate_name l j ∷ map (gate_name l) js = ap (numbered l) e ∙ numbered-append l done (j ∷ js) in
-    let z : suc (length (numbered l done)) - 1 ≡ length (numbered l done) = omega arith in
-    let name : slice_index_or names (length (numbered l done)) 0 ≡ gate_name l j = ap (λ (ns : List ℕ). slice_index_or ns (length (numbered l done)) 0) split ∙ at_middle (numbered l done) (map (gate_name l) js) (gate_name l j) in
-    let here : w (suc (length (numbered l done))) ≡ v (gate_name l j) = ap (λ (k : ℕ). v (slice_index_or names k 0)) z ∙ ap v name in
+    let split : names ≡ variables_numbered l done ++ gate_name l j ∷ map (gate_name l) js = ap (variables_numbered l) e ∙ numbered-append l done (j ∷ js) in
+    let z : suc (length (variables_numbered l done)) - 1 ≡ length (variables_numbered l done) = omega arith in
+    let name : slice_index_or names (length (variables_numbered l done)) 0 ≡ gate_name l j = ap (λ (ns : List ℕ). slice_index_or ns (length (variables_numbered l done)) 0) split ∙ at_middle (variables_numbered l done) (map (gate_name l) js) (gate_name l j) in
+    let here : w (suc (length (variables_numbered l done))) ≡ v (gate_name l j) = ap (λ (k : ℕ). v (slice_index_or names k 0)) z ∙ ap v name in
     let line : GateLine = gate_line l j in
     let hold : v (gate_name l j) ≡ (literal_value v line.rhs0 && literal_value v line.rhs1) = holds j (record { lhs = 0; rhs0 = 0; rhs1 = 0 }) r.0 in
-    let known : (lit : ℕ) → has_number (numbered l done) lit ≡ true → has_number names lit ≡ true = λ lit t. subst (λ (ns : List ℕ). has_number ns lit ≡ true) (sym split) (has_number-append (numbered l done) (gate_name l j ∷ map (gate_name l) js) lit t) in
+    let known : (lit : ℕ) → has_number (variables_numbered l done) lit ≡ true → has_number names lit ≡ true = λ lit t. subst (λ (ns : List ℕ). has_number ns lit ≡ true) (sym split) (has_number-append (variables_numbered l done) (gate_name l j ∷ map (gate_name l) js) lit t) in
     let p : literal_value w (new_literal names line.rhs0) ≡ literal_value v line.rhs0 = value_renamed names v line.rhs0 (known line.rhs0 r.2) in
     let q : literal_value w (new_literal names line.rhs1) ≡ literal_value v line.rhs1 = value_renamed names v line.rhs1 (known line.rhs1 r.3) in
     let o = ordered_value w (new_literal names line.rhs0) (new_literal names line.rhs1) in
-    let gate : w (suc (length (numbered l done))) ≡ (literal_value w (new_gate names line).rhs0 && literal_value w (new_gate names line).rhs1) = here ∙ (hold ∙ (ap (λ (x : Bool). x && literal_value v line.rhs1) (sym p) ∙ (ap (λ (x : Bool). literal_value w (new_literal names line.rhs0) && x) (sym q) ∙ sym o))) in
+    let gate : w (suc (length (variables_numbered l done))) ≡ (literal_value w (new_gate names line).rhs0 && literal_value w (new_gate names line).rhs1) = here ∙ (hold ∙ (ap (λ (x : Bool). x && literal_value v line.rhs1) (sym p) ∙ (ap (λ (x : Bool). literal_value w (new_literal names line.rhs0) && x) (sym q) ∙ sym o))) in
     let rest = satisfies l (done ++ j ∷ []) js order v holds turn.1 (e ∙ sym (append_assoc done (j ∷ []) js)) in
     (gate, subst (λ (n : ℕ). SatisfiesFrom (suc n) (map (λ (k : ℕ). new_gate names (gate_line l k)) js) w) (length_with_gate l done j) rest)
 
@@ -67,18 +67,18 @@ map_twice g f [] = refl
 map_twice {X} {Y} {Z} g f (x ∷ xs) = ap (λ (ys : List Z). g (f x) ∷ ys) (map_twice g f xs)
 
 -- the inputs and latches alone have the first numbers
-length_of_leaves : (l : Loose) → length (numbered l []) ≡ length l.inputs + length l.latches
+length_of_leaves : (l : Loose) → length (variables_numbered l []) ≡ length l.inputs + length l.latches
 length_of_leaves l = ap length (append-nil (map variable l.inputs ++ map latch_variable l.latches)) ∙ omega (arith, length-append (map variable l.inputs) (map latch_variable l.latches), length-map l.inputs variable, length-map l.latches latch_variable)
 
 -- a frame of the file is one of the circuit
-IsFrame-renamed : (l : Loose) (order : List ℕ) (state input : List Bool) (v : Valuation) → AreInTurn l [] order → IsLooseFrame l state input v → IsFrame (renumbered l order) state input (rename (numbered l order) v)
+IsFrame-renamed : (l : Loose) (order : List ℕ) (state input : List Bool) (v : Valuation) → AreInTurn l [] order → IsLooseFrame l state input v → IsCircuitFrame (renumbered l order) state input (rename (variables_numbered l order) v)
 IsFrame-renamed l order state input v turn frame =
     let a : List ℕ = map variable l.inputs in
     let b : List ℕ = map latch_variable l.latches in
     let g : List ℕ = map (gate_name l) order in
     let c : Circuit = renumbered l order in
-    let w : Valuation = rename (numbered l order) v in
-    let k : length c.latches ≡ length l.latches = length-map l.latches (λ (line : LatchLine). record { next = new_literal (numbered l order) line.next; reset = line.reset }) in
+    let w : Valuation = rename (variables_numbered l order) v in
+    let k : length c.latches ≡ length l.latches = length-map l.latches (λ (line : LatchLine). record { next = new_literal (variables_numbered l order) line.next; reset = line.reset }) in
     let gates = satisfies l [] order order v frame.gates turn refl in
     let i = bits_of_middle [] a (b ++ g) v in
     let j = bits_of_middle a b g v in
@@ -99,22 +99,22 @@ nexts_renamed names v (x ∷ xs) known =
     cc
 
 -- each next literal has a number
-nexts_numbered : (l : Loose) (order : List ℕ) → ((j : ℕ) → j < length l.gates → list_any (nat_eq j) order ≡ true) → AllKnown l → All (λ line. has_number (numbered l order) line.next ≡ true) l.latches
+nexts_numbered : (l : Loose) (order : List ℕ) → ((j : ℕ) → j < length l.gates → list_any (nat_eq j) order ≡ true) → AllKnown l → All (λ line. has_number (variables_numbered l order) line.next ≡ true) l.latches
 nexts_numbered l order all known =
-    All-weaker (λ (line : LatchLine). IsKnown l line.next) (λ (line : LatchLine). has_number (numbered l order) line.next ≡ true) (λ line t. number_from_known l order line.next all t) l.latches (All-unmap (λ (x : Latch). IsKnown l x.next) latch_of l.latches known.sections.nexts)
+    All-weaker (λ (line : LatchLine). IsKnown l line.next) (λ (line : LatchLine). has_number (variables_numbered l order) line.next ≡ true) (λ line t. number_from_known l order line.next all t) l.latches (All-unmap (λ (x : Latch). IsKnown l x.next) latch_of l.latches known.sections.nexts)
 
 -- a trace of the file is one of the circuit
-IsTrace-renamed : (l : Loose) (order : List ℕ) (state : List Bool) (inputs : List (List Bool)) (vs : List Valuation) → IsOrder l order → AllKnown l → IsLooseTrace l state inputs vs → IsTrace (renumbered l order) state inputs (map (rename (numbered l order)) vs)
+IsTrace-renamed : (l : Loose) (order : List ℕ) (state : List Bool) (inputs : List (List Bool)) (vs : List Valuation) → IsOrder l order → AllKnown l → IsLooseTrace l state inputs vs → IsCircuitTrace (renumbered l order) state inputs (map (rename (variables_numbered l order)) vs)
 IsTrace-renamed l order state [] [] turn known t = tt
 IsTrace-renamed l order state [] (v ∷ vs) turn known t = absurd t
 IsTrace-renamed l order state (input ∷ inputs) [] turn known t = absurd t
 IsTrace-renamed l order state (input ∷ inputs) (v ∷ vs) turn known t =
-    let e : next_state (renumbered l order) (rename (numbered l order) v) ≡ loose_next_state l v = nexts_renamed (numbered l order) v l.latches (nexts_numbered l order turn.all known) in
+    let e : next_latch_bits (renumbered l order) (rename (variables_numbered l order) v) ≡ loose_next_state l v = nexts_renamed (variables_numbered l order) v l.latches (nexts_numbered l order turn.all known) in
     let rest = IsTrace-renamed l order (loose_next_state l v) inputs vs turn known t.1 in
-    (IsFrame-renamed l order state input v turn.in_turn t.0, subst (λ (st : List Bool). IsTrace (renumbered l order) st inputs (map (rename (numbered l order)) vs)) (sym e) rest)
+    (IsFrame-renamed l order state input v turn.in_turn t.0, subst (λ (st : List Bool). IsCircuitTrace (renumbered l order) st inputs (map (rename (variables_numbered l order)) vs)) (sym e) rest)
 
 -- a list of literals shows the same in frames that agree
-literals_same : (c : Circuit) (names : List ℕ) (v w : Valuation) (lits : List ℕ) → SameFrame c (rename names v) w → All (λ lit. has_number names lit ≡ true) lits → All (IsDefined (net c)) (map (new_literal names) lits) → map (literal_value v) lits ≡ map (literal_value w) (map (new_literal names) lits)
+literals_same : (c : Circuit) (names : List ℕ) (v w : Valuation) (lits : List ℕ) → SameCircuitFrame c (rename names v) w → All (λ lit. has_number names lit ≡ true) lits → All (IsDefined (net c)) (map (new_literal names) lits) → map (literal_value v) lits ≡ map (literal_value w) (map (new_literal names) lits)
 literals_same c names v w [] same known defined = refl
 literals_same c names v w (x ∷ xs) same known defined =
     let P : ℕ → Type 0 = λ lit. has_number names lit ≡ true in
@@ -126,12 +126,12 @@ literals_same c names v w (x ∷ xs) same known defined =
     cc
 
 -- so does each section
-section_same : (l : Loose) (order : List ℕ) (v w : Valuation) (lits : List ℕ) → IsOrder l order → SameFrame (renumbered l order) (rename (numbered l order) v) w → All (IsKnown l) lits → All (IsDefined (net (renumbered l order))) (map (new_literal (numbered l order)) lits) → map (literal_value v) lits ≡ map (literal_value w) (map (new_literal (numbered l order)) lits)
+section_same : (l : Loose) (order : List ℕ) (v w : Valuation) (lits : List ℕ) → IsOrder l order → SameCircuitFrame (renumbered l order) (rename (variables_numbered l order) v) w → All (IsKnown l) lits → All (IsDefined (net (renumbered l order))) (map (new_literal (variables_numbered l order)) lits) → map (literal_value v) lits ≡ map (literal_value w) (map (new_literal (variables_numbered l order)) lits)
 section_same l order v w lits turn same known defined =
-    literals_same (renumbered l order) (numbered l order) v w lits same (All-weaker (IsKnown l) (λ lit. has_number (numbered l order) lit ≡ true) (λ lit t. number_from_known l order lit turn.all t) lits known) defined
+    literals_same (renumbered l order) (variables_numbered l order) v w lits same (All-weaker (IsKnown l) (λ lit. has_number (variables_numbered l order) lit ≡ true) (λ lit t. number_from_known l order lit turn.all t) lits known) defined
 
 -- the traces of a file and of its circuit show the same
-all_show_same : (l : Loose) (order : List ℕ) (state : List Bool) (inputs : List (List Bool)) (vs ws : List Valuation) → IsOrder l order → AllKnown l → IsCircuit (renumbered l order) → IsLooseTrace l state inputs vs → IsTrace (renumbered l order) state inputs ws → SameTrace (renumbered l order) (map (rename (numbered l order)) vs) ws
+all_show_same : (l : Loose) (order : List ℕ) (state : List Bool) (inputs : List (List Bool)) (vs ws : List Valuation) → IsOrder l order → AllKnown l → IsCircuit (renumbered l order) → IsLooseTrace l state inputs vs → IsCircuitTrace (renumbered l order) state inputs ws → SameCircuitTrace (renumbered l order) (map (rename (variables_numbered l order)) vs) ws
     → AllShowSame l (renumbered l order) vs ws
 all_show_same l order state [] [] [] turn known valid t u same = tt
 all_show_same l order state [] [] (w ∷ ws) turn known valid t u same = absurd u
@@ -140,45 +140,45 @@ all_show_same l order state (input ∷ inputs) [] ws turn known valid t u same =
 all_show_same l order state (input ∷ inputs) (v ∷ vs) [] turn known valid t u same = absurd u
 all_show_same l order state (input ∷ inputs) (v ∷ vs) (w ∷ ws) turn known valid t u same =
     let c : Circuit = renumbered l order in
-    let names : List ℕ = numbered l order in
-    let shows : ShowsSame l c v w =
+    let names : List ℕ = variables_numbered l order in
+    let shows : ShowsSameAsFile l c v w =
     record {
       latches = t.0.latches ∙ sym u.0.latches;
       outputs = section_same l order v w l.outputs turn same.0 known.sections.outputs valid.defined.outputs;
       bads = section_same l order v w l.bads turn same.0 known.sections.bads valid.defined.bads;
       constraints = section_same l order v w l.constraints turn same.0 known.sections.constraints valid.defined.constraints;
     } in
-    let e : next_state c (rename names v) ≡ loose_next_state l v = nexts_renamed names v l.latches (nexts_numbered l order turn.all known) in
-    let f : next_state c (rename names v) ≡ next_state c w = next_state-agree c (rename names v) w valid same.0 in
-    let rest : IsTrace c (loose_next_state l v) inputs ws = subst (λ (st : List Bool). IsTrace c st inputs ws) (sym f ∙ e) u.1 in
+    let e : next_latch_bits c (rename names v) ≡ loose_next_state l v = nexts_renamed names v l.latches (nexts_numbered l order turn.all known) in
+    let f : next_latch_bits c (rename names v) ≡ next_latch_bits c w = next_state-agree c (rename names v) w valid same.0 in
+    let rest : IsCircuitTrace c (loose_next_state l v) inputs ws = subst (λ (st : List Bool). IsCircuitTrace c st inputs ws) (sym f ∙ e) u.1 in
     (shows, all_show_same l order (loose_next_state l v) inputs vs ws turn known valid t.1 rest same.1)
 
 -- from the same inputs and first bits, a file and its circuit show the same
-pub shows_same : (l : Loose) (c : Circuit) (state : List Bool) (inputs : List (List Bool)) (vs ws : List Valuation) → IsRenumbered l c → IsCircuit c → IsLooseTrace l state inputs vs → IsTrace c state inputs ws → AllShowSame l c vs ws
+pub shows_same : (l : Loose) (c : Circuit) (state : List Bool) (inputs : List (List Bool)) (vs ws : List Valuation) → IsRenumbered l c → IsCircuit c → IsLooseTrace l state inputs vs → IsCircuitTrace c state inputs ws → AllShowSame l c vs ws
 shows_same l c state inputs vs ws is valid t u =
     let d : Circuit = renumbered l is.order in
     let good : IsCircuit d = subst IsCircuit is.circuit valid in
     let known : AllKnown l = all_known l is.known in
-    let trace : IsTrace d state inputs ws = subst (λ (x : Circuit). IsTrace x state inputs ws) is.circuit u in
+    let trace : IsCircuitTrace d state inputs ws = subst (λ (x : Circuit). IsCircuitTrace x state inputs ws) is.circuit u in
     let mine = IsTrace-renamed l is.order state inputs vs is.is_order known t in
-    let same = trace_unique d state inputs (map (rename (numbered l is.order)) vs) ws good mine trace in
+    let same = trace_unique d state inputs (map (rename (variables_numbered l is.order)) vs) ws good mine trace in
     subst (λ (x : Circuit). AllShowSame l x vs ws) (sym is.circuit) (all_show_same l is.order state inputs vs ws is.is_order known good t trace same)
 
 -- where the circuit's gates are satisfied, each gate of an order holds
-holds_back : (l : Loose) (done js order : List ℕ) (w : Valuation) → IsLoose l → AreGates l done → AreInTurn l done js → order ≡ done ++ js → SatisfiesFrom (suc (length (numbered l done))) (map (λ j. new_gate (numbered l order) (gate_line l j)) js) w
-    → (j : ℕ) → list_any (nat_eq j) js ≡ true → HoldsOf (unname (numbered l order) w) (gate_line l j)
+holds_back : (l : Loose) (done js order : List ℕ) (w : Valuation) → IsLoose l → AreGates l done → AreInTurn l done js → order ≡ done ++ js → SatisfiesFrom (suc (length (variables_numbered l done))) (map (λ j. new_gate (variables_numbered l order) (gate_line l j)) js) w
+    → (j : ℕ) → list_any (nat_eq j) js ≡ true → HoldsOf (unname (variables_numbered l order) w) (gate_line l j)
 holds_back l done [] order w valid within turn e s j t = absurd (cc)
 holds_back l done (k ∷ js) order w valid within turn e s j t =
-    by (nat_eq j k) refl (λ r. holds_back l (done ++ k ∷ []) js order w valid (AreGates-push l done k within ((ready_parts l done k turn.0.ready).0)) turn.1 (e ∙ sym (append_assoc done (k ∷ []) js)) (subst (λ (n : ℕ). SatisfiesFrom (suc n) (map (λ (i : ℕ). new_gate (numbered l order) (gate_line l i)) js) w) (sym (length_with_gate l done k)) s.1) j r)
+    by (nat_eq j k) refl (λ r. holds_back l (done ++ k ∷ []) js order w valid (AreGates-push l done k within ((ready_parts l done k turn.0.ready).0)) turn.1 (e ∙ sym (append_assoc done (k ∷ []) js)) (subst (λ (n : ℕ). SatisfiesFrom (suc n) (map (λ (i : ℕ). new_gate (variables_numbered l order) (gate_line l i)) js) w) (sym (length_with_gate l done k)) s.1) j r)
   where
-    by : (b : Bool) → nat_eq j k ≡ b → (list_any (nat_eq j) js ≡ true → HoldsOf (unname (numbered l order) w) (gate_line l j)) → HoldsOf (unname (numbered l order) w) (gate_line l j)
+    by : (b : Bool) → nat_eq j k ≡ b → (list_any (nat_eq j) js ≡ true → HoldsOf (unname (variables_numbered l order) w) (gate_line l j)) → HoldsOf (unname (variables_numbered l order) w) (gate_line l j)
     by true f rest =
-        let names : List ℕ = numbered l order in
+        let names : List ℕ = variables_numbered l order in
         let same : j ≡ k = grind (arith, nat_tests) in
         let line : GateLine = gate_line l k in
-        let split : names ≡ numbered l done ++ gate_name l k ∷ map (gate_name l) js = ap (numbered l) e ∙ numbered-append l done (k ∷ js) in
-        let place : position_or_len (nat_eq (gate_name l k)) names ≡ length (numbered l done) = ap (position_or_len (nat_eq (gate_name l k))) split ∙ placed (gate_name l k) (numbered l done) (map (gate_name l) js) (fresh l done k valid within turn.0.ready) in
-        let here : unname names w (gate_name l k) ≡ w (suc (length (numbered l done))) = ap (λ (n : ℕ). w (suc n)) place in
+        let split : names ≡ variables_numbered l done ++ gate_name l k ∷ map (gate_name l) js = ap (variables_numbered l) e ∙ numbered-append l done (k ∷ js) in
+        let place : position_or_len (nat_eq (gate_name l k)) names ≡ length (variables_numbered l done) = ap (position_or_len (nat_eq (gate_name l k))) split ∙ placed (gate_name l k) (variables_numbered l done) (map (gate_name l) js) (fresh l done k valid within turn.0.ready) in
+        let here : unname names w (gate_name l k) ≡ w (suc (length (variables_numbered l done))) = ap (λ (n : ℕ). w (suc n)) place in
         let p : literal_value w (new_literal names line.rhs0) ≡ literal_value (unname names w) line.rhs0 = value_unnamed names w line.rhs0 in
         let q : literal_value w (new_literal names line.rhs1) ≡ literal_value (unname names w) line.rhs1 = value_unnamed names w line.rhs1 in
         let o = ordered_value w (new_literal names line.rhs0) (new_literal names line.rhs1) in
@@ -218,16 +218,16 @@ bits_back pre (x ∷ xs) post w new =
     cc
 
 -- a frame of the circuit is one of the file
-IsLooseFrame-unnamed : (l : Loose) (order : List ℕ) (state input : List Bool) (w : Valuation) → IsLoose l → IsOrder l order → IsFrame (renumbered l order) state input w → IsLooseFrame l state input (unname (numbered l order) w)
+IsLooseFrame-unnamed : (l : Loose) (order : List ℕ) (state input : List Bool) (w : Valuation) → IsLoose l → IsOrder l order → IsCircuitFrame (renumbered l order) state input w → IsLooseFrame l state input (unname (variables_numbered l order) w)
 IsLooseFrame-unnamed l order state input w valid turn frame =
     let a : List ℕ = map variable l.inputs in
     let b : List ℕ = map latch_variable l.latches in
     let g : List ℕ = map (gate_name l) order in
     let d : List ℕ = map gate_variable l.gates in
     let c : Circuit = renumbered l order in
-    let v : Valuation = unname (numbered l order) w in
-    let k : length c.latches ≡ length l.latches = length-map l.latches (new_latch (numbered l order)) in
-    let first : suc (length l.inputs + length c.latches) ≡ suc (length (numbered l [])) = ap (λ (n : ℕ). suc (length l.inputs + n)) k ∙ ap suc (sym (length_of_leaves l)) in
+    let v : Valuation = unname (variables_numbered l order) w in
+    let k : length c.latches ≡ length l.latches = length-map l.latches (new_latch (variables_numbered l order)) in
+    let first : suc (length l.inputs + length c.latches) ≡ suc (length (variables_numbered l [])) = ap (λ (n : ℕ). suc (length l.inputs + n)) k ∙ ap suc (sym (length_of_leaves l)) in
     let sat = subst (λ (n : ℕ). SatisfiesFrom n c.gates w) first frame.gates in
     let new_inputs : AreNew [] a = new_from_once [] a (b ++ d) (subst (λ (ns : List ℕ). (v : ℕ) → count_by (nat_eq v) ns ≤ 1) (append_assoc a b d) valid.definitions.once) in
     let new_latches : AreNew a b = new_from_once a b d valid.definitions.once in
@@ -246,24 +246,24 @@ nexts_unnamed names w (x ∷ xs) =
     let t = nexts_unnamed names w xs in
     cc
 
-IsLooseTrace-unnamed : (l : Loose) (order : List ℕ) (state : List Bool) (inputs : List (List Bool)) (ws : List Valuation) → IsLoose l → IsOrder l order → IsTrace (renumbered l order) state inputs ws → IsLooseTrace l state inputs (map (unname (numbered l order)) ws)
+IsLooseTrace-unnamed : (l : Loose) (order : List ℕ) (state : List Bool) (inputs : List (List Bool)) (ws : List Valuation) → IsLoose l → IsOrder l order → IsCircuitTrace (renumbered l order) state inputs ws → IsLooseTrace l state inputs (map (unname (variables_numbered l order)) ws)
 IsLooseTrace-unnamed l order state [] [] valid turn t = tt
 IsLooseTrace-unnamed l order state [] (w ∷ ws) valid turn t = absurd t
 IsLooseTrace-unnamed l order state (input ∷ inputs) [] valid turn t = absurd t
 IsLooseTrace-unnamed l order state (input ∷ inputs) (w ∷ ws) valid turn t =
-    let e : loose_next_state l (unname (numbered l order) w) ≡ next_state (renumbered l order) w = nexts_unnamed (numbered l order) w l.latches in
-    let rest = IsLooseTrace-unnamed l order (next_state (renumbered l order) w) inputs ws valid turn t.1 in
-    (IsLooseFrame-unnamed l order state input w valid turn t.0, subst (λ (st : List Bool). IsLooseTrace l st inputs (map (unname (numbered l order)) ws)) (sym e) rest)
+    let e : loose_next_state l (unname (variables_numbered l order) w) ≡ next_latch_bits (renumbered l order) w = nexts_unnamed (variables_numbered l order) w l.latches in
+    let rest = IsLooseTrace-unnamed l order (next_latch_bits (renumbered l order) w) inputs ws valid turn t.1 in
+    (IsLooseFrame-unnamed l order state input w valid turn t.0, subst (λ (st : List Bool). IsLooseTrace l st inputs (map (unname (variables_numbered l order)) ws)) (sym e) rest)
 
 -- a numbered file has a trace
 pub loose_trace_exists : (l : Loose) (c : Circuit) (state : List Bool) (inputs : List (List Bool)) → IsLoose l → IsRenumbered l c → IsCircuit c → length state ≡ length l.latches → All (λ input. length input ≡ length l.inputs) inputs → (vs : List Valuation) × IsLooseTrace l state inputs vs
 loose_trace_exists l c state inputs valid is circuit s i =
     let d : Circuit = renumbered l is.order in
     let good : IsCircuit d = subst IsCircuit is.circuit circuit in
-    let k : length d.latches ≡ length l.latches = length-map l.latches (new_latch (numbered l is.order)) in
+    let k : length d.latches ≡ length l.latches = length-map l.latches (new_latch (variables_numbered l is.order)) in
     let t = trace_exists d state inputs good (s ∙ sym k) i in
-    (map (unname (numbered l is.order)) t.0, IsLooseTrace-unnamed l is.order state inputs t.0 valid is.is_order t.1)
+    (map (unname (variables_numbered l is.order)) t.0, IsLooseTrace-unnamed l is.order state inputs t.0 valid is.is_order t.1)
 
 -- latches begin alike
 pub same_resets : (l : Loose) (c : Circuit) → IsRenumbered l c → map (λ latch. latch.reset) c.latches ≡ map (λ line. line.reset) l.latches
-same_resets l c is = ap (λ (d : Circuit). map (λ (latch : Latch). latch.reset) d.latches) is.circuit ∙ map_twice (λ (latch : Latch). latch.reset) (new_latch (numbered l is.order)) l.latches
+same_resets l c is = ap (λ (d : Circuit). map (λ (latch : Latch). latch.reset) d.latches) is.circuit ∙ map_twice (λ (latch : Latch). latch.reset) (new_latch (variables_numbered l is.order)) l.latches

@@ -17,14 +17,14 @@ use Rattle.std.specs.Map.{lookup, keys_of}
 use Rattle.std.specs.List.{list_all, AllZip, each_same}
 use Rattle.aiger.specs.declared.circuit.Section.{Section}
 use Rattle.aiger.specs.declared.circuit.Section.TheVariants.{Input, Latch, Output, Bad, Constraint, Justice, Fair}
-use Rattle.aiger.specs.Names.{Place, rank, place_cmp, IsName, is_name, is_printable}
+use Rattle.aiger.specs.Names.{NamePlace, rank, place_cmp, IsName, is_name, is_printable}
 
 -- places that compare as equal are the same
 pub exact_places : CmpEqualImpliesEq place_cmp
 exact_places = exact_pairs nat_cmp nat_cmp exact_unsigned exact_unsigned
 
 pub places_total : IsTotalOrder place_cmp
-places_total = then_total (on_total (λ (p : Place). p.0) nat_cmp_total) (on_total (λ (p : Place). p.1) nat_cmp_total)
+places_total = then_total (on_total (λ (p : NamePlace). p.0) nat_cmp_total) (on_total (λ (p : NamePlace). p.1) nat_cmp_total)
 
 -- the section of a rank
 section_at : ℕ → Section
@@ -56,7 +56,7 @@ places_apart s t j k apart = by (place_cmp (rank t, j) (rank s, k)) refl
   where
     by : (r : Ordering) → place_cmp (rank t, j) (rank s, k) ≡ r → is_eq r ≡ false
     by Less e = refl
-    by Equal e = absurd (apart (section_from_rank s t (sym (ap (λ (p : Place). p.0) (exact_places (rank t, j) (rank s, k) e)))))
+    by Equal e = absurd (apart (section_from_rank s t (sym (ap (λ (p : NamePlace). p.0) (exact_places (rank t, j) (rank s, k) e)))))
     by Greater e = refl
 
 -- and so do two positions of one section
@@ -65,7 +65,7 @@ positions_apart s j k apart = by (place_cmp (rank s, j) (rank s, k)) refl
   where
     by : (r : Ordering) → place_cmp (rank s, j) (rank s, k) ≡ r → is_eq r ≡ false
     by Less e = refl
-    by Equal e = absurd (apart (ap (λ (p : Place). p.1) (exact_places (rank s, j) (rank s, k) e)))
+    by Equal e = absurd (apart (ap (λ (p : NamePlace). p.1) (exact_places (rank s, j) (rank s, k) e)))
     by Greater e = refl
 
 -- one entry more is found at its key, and the others are found as before
@@ -202,5 +202,5 @@ shown_alike show R same [] (y ∷ ys) z = absurd z
 shown_alike show R same (x ∷ xs) [] z = absurd z
 shown_alike show R same (x ∷ xs) (y ∷ ys) z = ap (λ e. e ∷ map show ys) (same x y z.0) ∙ ap (λ es. show x ∷ es) (shown_alike show R same xs ys z.1)
 
-pub same_entry : (a b c d : ℕ) (name copy : List ℕ) → c ≡ a → d ≡ b → AllZip (λ x y. y ≡ x) name copy → ◌≡◌ {A = Place × List ℕ} ((c, d), copy) ((a, b), name)
+pub same_entry : (a b c d : ℕ) (name copy : List ℕ) → c ≡ a → d ≡ b → AllZip (λ x y. y ≡ x) name copy → ◌≡◌ {A = NamePlace × List ℕ} ((c, d), copy) ((a, b), name)
 same_entry a b c d name copy e f z = rw (e, f, each_same name copy z) refl

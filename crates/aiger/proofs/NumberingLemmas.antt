@@ -16,23 +16,23 @@ use Rattle.base.specs.Literal.{variable}
 use Rattle.aiger.specs.Net.{IsDefined, AreOrderedFrom, variables}
 use Rattle.aiger.specs.Circuit.{Circuit, IsCircuit, net, section_count, NameMap}
 use Rattle.aiger.specs.Loose.{Loose, IsLoose, sections_of, latch_of, latch_variable}
-use Rattle.aiger.specs.Renumbering.{gate_line, gate_name, numbered, has_number, is_ready, AreInTurn, IsOrder, Uses, LeadsAlong, DependsOn, LeadsToCycle, IsFirstCyclic, new_literal, ordered_gate, new_gate, renumbered, circuit_by}
+use Rattle.aiger.specs.Renumbering.{gate_line, gate_name, variables_numbered, has_number, is_ready, AreInTurn, IsOrder, Uses, LeadsAlong, DependsOn, LeadsToCycle, IsFirstCyclic, new_literal, ordered_gate, new_gate, renumbered, circuit_by}
 use Rattle.aiger.proofs.CircuitLemmas.{names_kept}
 use Rattle.aiger.proofs.RenumberingLemmas.{found, place_kept, named_from_test, new_of_variable, new_constant}
 use Rattle.aiger.proofs.OrderLemmas.{numbered-append, has_number-append, ready_parts, any_map, no_cycle, unnumbered_operand, number_from_known, AreGates, AreGates-push, gate_from_name, gate_is_variable}
 use Rattle.aiger.proofs.KnownLemmas.{All-unmap, IsKnown, AllKnown}
-use Rattle.aiger.specs.Readiness.{slot_at, is_free, awaited, may_be_next, AreFirst}
+use Rattle.aiger.specs.Readiness.{slot_at, waits_for_nothing, awaited, may_be_next, AreFirst}
 use Rattle.aiger.proofs.ReadinessLemmas.{any_suc}
 
 -- a gate that has no number uses one that has none, where none is ready
 uses_unnumbered : (l : Loose) (order : List ℕ) (j : ℕ) → AllKnown l → is_ready l order j ≡ false → j < length l.gates → list_any (nat_eq j) order ≡ false → (i : ℕ) × (Uses l j i × (list_any (nat_eq i) order ≡ false))
 uses_unnumbered l order j known stuck low new =
-    by (has_number (numbered l order) (gate_line l j).rhs0) (has_number (numbered l order) (gate_line l j).rhs1) refl refl
+    by (has_number (variables_numbered l order) (gate_line l j).rhs0) (has_number (variables_numbered l order) (gate_line l j).rhs1) refl refl
   where
     both : IsKnown l (gate_line l j).rhs0 × IsKnown l (gate_line l j).rhs1
     both = known.operands j (record { lhs = 0; rhs0 = 0; rhs1 = 0 }) low
 
-    by : (x y : Bool) → has_number (numbered l order) (gate_line l j).rhs0 ≡ x → has_number (numbered l order) (gate_line l j).rhs1 ≡ y → (i : ℕ) × (Uses l j i × (list_any (nat_eq i) order ≡ false))
+    by : (x y : Bool) → has_number (variables_numbered l order) (gate_line l j).rhs0 ≡ x → has_number (variables_numbered l order) (gate_line l j).rhs1 ≡ y → (i : ℕ) × (Uses l j i × (list_any (nat_eq i) order ≡ false))
     by false y e f =
         let r = unnumbered_operand l order (gate_line l j).rhs0 both.0 e in
         (r.0, (record { user = low; used = r.1.0; operand = inl r.1.1 }, r.1.2))
@@ -41,9 +41,9 @@ uses_unnumbered l order j known stuck low new =
         (r.0, (record { user = low; used = r.1.0; operand = inr r.1.1 }, r.1.2))
     by true true e f =
         let a : nat_lt j (length l.gates) ≡ true = grind (arith, nat_tests) in
-        let b : is_ready l order j ≡ true = ap (λ (x : Bool). x && (not (list_any (nat_eq j) order) && (has_number (numbered l order) (gate_line l j).rhs0 && has_number (numbered l order) (gate_line l j).rhs1))) a
-        ∙ (ap (λ (x : Bool). not x && (has_number (numbered l order) (gate_line l j).rhs0 && has_number (numbered l order) (gate_line l j).rhs1)) new
-        ∙ (ap (λ (x : Bool). x && has_number (numbered l order) (gate_line l j).rhs1) e ∙ f)) in
+        let b : is_ready l order j ≡ true = ap (λ (x : Bool). x && (not (list_any (nat_eq j) order) && (has_number (variables_numbered l order) (gate_line l j).rhs0 && has_number (variables_numbered l order) (gate_line l j).rhs1))) a
+        ∙ (ap (λ (x : Bool). not x && (has_number (variables_numbered l order) (gate_line l j).rhs0 && has_number (variables_numbered l order) (gate_line l j).rhs1)) new
+        ∙ (ap (λ (x : Bool). x && has_number (variables_numbered l order) (gate_line l j).rhs1) e ∙ f)) in
         absurd (let z : true ≡ false = sym b ∙ stuck in cc)
 
 -- one step more along operands
@@ -146,20 +146,20 @@ ordered_below a b bound h k = by (nat_lt a b) refl
     by false e = (h, grind (arith, nat_tests))
 
 -- gates in turn are in the order of a circuit
-are_ordered : (l : Loose) (done js order : List ℕ) → AreInTurn l done js → order ≡ done ++ js → AreOrderedFrom (suc (length (numbered l done))) (map (λ j. new_gate (numbered l order) (gate_line l j)) js)
+are_ordered : (l : Loose) (done js order : List ℕ) → AreInTurn l done js → order ≡ done ++ js → AreOrderedFrom (suc (length (variables_numbered l done))) (map (λ j. new_gate (variables_numbered l order) (gate_line l j)) js)
 are_ordered l done [] order turn e = tt
 are_ordered l done (j ∷ js) order turn e =
     let r = ready_parts l done j turn.0.ready in
-    let names : List ℕ = numbered l order in
-    let split : names ≡ numbered l done ++ map (gate_name l) (j ∷ js) = ap (numbered l) e ∙ numbered-append l done (j ∷ js) in
-    let below : (lit : ℕ) → has_number (numbered l done) lit ≡ true → new_literal names lit < 2 * suc (length (numbered l done)) = λ lit t. subst (λ (ns : List ℕ). new_literal ns lit < 2 * suc (length (numbered l done))) (sym split) (new_literal-below (numbered l done) (map (gate_name l) (j ∷ js)) lit t) in
-    let o = ordered_below (new_literal names (gate_line l j).rhs0) (new_literal names (gate_line l j).rhs1) (2 * suc (length (numbered l done))) (below (gate_line l j).rhs0 r.2) (below (gate_line l j).rhs1 r.3) in
-    let n : length (numbered l (done ++ j ∷ [])) ≡ suc (length (numbered l done)) = ap length (numbered-append l done (j ∷ [])) ∙ omega (arith, length-append (numbered l done) (gate_name l j ∷ [])) in
+    let names : List ℕ = variables_numbered l order in
+    let split : names ≡ variables_numbered l done ++ map (gate_name l) (j ∷ js) = ap (variables_numbered l) e ∙ numbered-append l done (j ∷ js) in
+    let below : (lit : ℕ) → has_number (variables_numbered l done) lit ≡ true → new_literal names lit < 2 * suc (length (variables_numbered l done)) = λ lit t. subst (λ (ns : List ℕ). new_literal ns lit < 2 * suc (length (variables_numbered l done))) (sym split) (new_literal-below (variables_numbered l done) (map (gate_name l) (j ∷ js)) lit t) in
+    let o = ordered_below (new_literal names (gate_line l j).rhs0) (new_literal names (gate_line l j).rhs1) (2 * suc (length (variables_numbered l done))) (below (gate_line l j).rhs0 r.2) (below (gate_line l j).rhs1 r.3) in
+    let n : length (variables_numbered l (done ++ j ∷ [])) ≡ suc (length (variables_numbered l done)) = ap length (numbered-append l done (j ∷ [])) ∙ omega (arith, length-append (variables_numbered l done) (gate_name l j ∷ [])) in
     let rest = are_ordered l (done ++ j ∷ []) js order turn.1 (e ∙ sym (append_assoc done (j ∷ []) js)) in
     (o.0, o.1, subst (λ (k : ℕ). AreOrderedFrom (suc k) (map (λ (i : ℕ). new_gate names (gate_line l i)) js)) n rest)
 
 -- how many variables have numbers
-length_numbered : (l : Loose) (order : List ℕ) → length (numbered l order) ≡ length l.inputs + length l.latches + length order
+length_numbered : (l : Loose) (order : List ℕ) → length (variables_numbered l order) ≡ length l.inputs + length l.latches + length order
 length_numbered l order =
     omega (arith, length-append (map variable l.inputs ++ map latch_variable l.latches) (map (gate_name l) order), length-append (map variable l.inputs) (map latch_variable l.latches), length-map l.inputs variable, length-map l.latches latch_variable, length-map order (gate_name l))
 
@@ -168,29 +168,29 @@ abbrev pub new_latch : List ℕ → LatchLine → Latch
 new_latch names line = record { next = new_literal names line.next; reset = line.reset }
 
 -- how many variables the circuit has
-variables_renumbered : (l : Loose) (order : List ℕ) → variables (net (renumbered l order)) ≡ length (numbered l order)
+variables_renumbered : (l : Loose) (order : List ℕ) → variables (net (renumbered l order)) ≡ length (variables_numbered l order)
 variables_renumbered l order =
-    omega (arith, length_numbered l order, length-map l.latches (new_latch (numbered l order)), length-map order (λ (j : ℕ). new_gate (numbered l order) (gate_line l j)))
+    omega (arith, length_numbered l order, length-map l.latches (new_latch (variables_numbered l order)), length-map order (λ (j : ℕ). new_gate (variables_numbered l order) (gate_line l j)))
 
 -- a literal that has a number is defined in the circuit
-defined_renumbered : (l : Loose) (order : List ℕ) (lit : ℕ) → has_number (numbered l order) lit ≡ true → IsDefined (net (renumbered l order)) (new_literal (numbered l order) lit)
+defined_renumbered : (l : Loose) (order : List ℕ) (lit : ℕ) → has_number (variables_numbered l order) lit ≡ true → IsDefined (net (renumbered l order)) (new_literal (variables_numbered l order) lit)
 defined_renumbered l order lit t =
-    let below : new_literal (numbered l order) lit < 2 * suc (length (numbered l order)) = subst (λ (ns : List ℕ). new_literal ns lit < 2 * suc (length (numbered l order))) (append-nil (numbered l order)) (new_literal-below (numbered l order) [] lit t) in
+    let below : new_literal (variables_numbered l order) lit < 2 * suc (length (variables_numbered l order)) = subst (λ (ns : List ℕ). new_literal ns lit < 2 * suc (length (variables_numbered l order))) (append-nil (variables_numbered l order)) (new_literal-below (variables_numbered l order) [] lit t) in
     omega (arith, below, variables_renumbered l order)
 
-section_renumbered : (l : Loose) (order lits : List ℕ) → ((j : ℕ) → j < length l.gates → list_any (nat_eq j) order ≡ true) → All (IsKnown l) lits → All (IsDefined (net (renumbered l order))) (map (new_literal (numbered l order)) lits)
+section_renumbered : (l : Loose) (order lits : List ℕ) → ((j : ℕ) → j < length l.gates → list_any (nat_eq j) order ≡ true) → All (IsKnown l) lits → All (IsDefined (net (renumbered l order))) (map (new_literal (variables_numbered l order)) lits)
 section_renumbered l order lits all known =
-    All-map (IsDefined (net (renumbered l order))) (new_literal (numbered l order)) lits (All-weaker (IsKnown l) (λ (lit : ℕ). IsDefined (net (renumbered l order)) (new_literal (numbered l order) lit)) (λ lit t. defined_renumbered l order lit (number_from_known l order lit all t)) lits known)
+    All-map (IsDefined (net (renumbered l order))) (new_literal (variables_numbered l order)) lits (All-weaker (IsKnown l) (λ (lit : ℕ). IsDefined (net (renumbered l order)) (new_literal (variables_numbered l order) lit)) (λ lit t. defined_renumbered l order lit (number_from_known l order lit all t)) lits known)
 
 -- as many positions
 counts_renumbered : (l : Loose) (order : List ℕ) (s : Section) → section_count s (renumbered l order) ≡ section_count s (sections_of l)
 counts_renumbered l order section.Input = refl
-counts_renumbered l order section.Latch = length-map l.latches (new_latch (numbered l order)) ∙ sym (length-map l.latches latch_of)
-counts_renumbered l order section.Output = length-map l.outputs (new_literal (numbered l order))
-counts_renumbered l order section.Bad = length-map l.bads (new_literal (numbered l order))
-counts_renumbered l order section.Constraint = length-map l.constraints (new_literal (numbered l order))
-counts_renumbered l order section.Justice = length-map l.justice (map (new_literal (numbered l order)))
-counts_renumbered l order section.Fair = length-map l.fair (new_literal (numbered l order))
+counts_renumbered l order section.Latch = length-map l.latches (new_latch (variables_numbered l order)) ∙ sym (length-map l.latches latch_of)
+counts_renumbered l order section.Output = length-map l.outputs (new_literal (variables_numbered l order))
+counts_renumbered l order section.Bad = length-map l.bads (new_literal (variables_numbered l order))
+counts_renumbered l order section.Constraint = length-map l.constraints (new_literal (variables_numbered l order))
+counts_renumbered l order section.Justice = length-map l.justice (map (new_literal (variables_numbered l order)))
+counts_renumbered l order section.Fair = length-map l.fair (new_literal (variables_numbered l order))
 
 -- as many literals in all lists
 sizes_kept : (f : ℕ → ℕ) (lists : List (List ℕ)) → sum_by length (map (map f) lists) ≡ sum_by length lists
@@ -201,12 +201,12 @@ sizes_kept f (x ∷ xs) =
 -- the renumbered circuit is one
 pub IsCircuit-renumbered : (l : Loose) (order : List ℕ) → IsLoose l → AllKnown l → IsOrder l order → length order ≤ length l.gates → IsCircuit (renumbered l order)
 IsCircuit-renumbered l order valid known is few =
-    let names : List ℕ = numbered l order in
+    let names : List ℕ = variables_numbered l order in
     let c : Circuit = renumbered l order in
     let many = counts_renumbered l order in
     let u = valid.few.sections in
     let k = known.sections in
-    let first : length (numbered l []) ≡ length l.inputs + length c.latches = omega (arith, length_numbered l [], length-map l.latches (new_latch names)) in
+    let first : length (variables_numbered l []) ≡ length l.inputs + length c.latches = omega (arith, length_numbered l [], length-map l.latches (new_latch names)) in
     let defined = λ (lits : List ℕ) (t : All (IsKnown l) lits). section_renumbered l order lits is.all t in
     record {
       small = omega (arith, variables_renumbered l order, length_numbered l order, valid.few.defined);
@@ -225,7 +225,7 @@ IsCircuit-renumbered l order valid known is few =
 
 -- a slot says what a literal waits for
 pub record IsSlotOf (l : Loose) (lit slot : ℕ) : Type 0 where
-  pub leaf : slot ≡ 0 → has_number (numbered l []) lit ≡ true
+  pub leaf : slot ≡ 0 → has_number (variables_numbered l []) lit ≡ true
   pub gate : (g : ℕ) → slot ≡ suc g → (g < length l.gates) × (variable lit ≡ gate_name l g)
 
 -- two slots for each gate of a file, for its operands in their order
@@ -234,26 +234,26 @@ pub record AreSlotsOf (l : Loose) (slots : List ℕ) : Type 0 where
   pub second : (j : ℕ) → j < length l.gates → IsSlotOf l (gate_line l j).rhs1 (slot_at slots (2 * j + 1))
 
 -- a slot waits for nothing where its literal has a number
-slot_free : (l : Loose) (slots done : List ℕ) (s lit : ℕ) → IsLoose l → AreGates l done → IsSlotOf l lit (slot_at slots s) → is_free slots done s ≡ has_number (numbered l done) lit
+slot_free : (l : Loose) (slots done : List ℕ) (s lit : ℕ) → IsLoose l → AreGates l done → IsSlotOf l lit (slot_at slots s) → waits_for_nothing slots done s ≡ has_number (variables_numbered l done) lit
 slot_free l slots done s lit valid within is = by (slot_at slots s) refl
   where
-    by : (slot : ℕ) → slot_at slots s ≡ slot → is_free slots done s ≡ has_number (numbered l done) lit
+    by : (slot : ℕ) → slot_at slots s ≡ slot → waits_for_nothing slots done s ≡ has_number (variables_numbered l done) lit
     by zero e =
         let t : nat_eq (slot_at slots s) 0 ≡ true = grind (arith, nat_tests) in
-        let n : has_number (numbered l done) lit ≡ true = subst (λ (ns : List ℕ). has_number ns lit ≡ true) (sym (numbered-append l [] done)) (has_number-append (numbered l []) (map (gate_name l) done) lit (is.leaf e)) in
+        let n : has_number (variables_numbered l done) lit ≡ true = subst (λ (ns : List ℕ). has_number ns lit ≡ true) (sym (numbered-append l [] done)) (has_number-append (variables_numbered l []) (map (gate_name l) done) lit (is.leaf e)) in
         ap (λ (b : Bool). b || list_any (λ g. nat_eq (slot_at slots s) (suc g)) done) t ∙ sym n
     by (suc g) e =
         let r = is.gate g e in
         let a : nat_eq (slot_at slots s) 0 ≡ false = grind (arith, nat_tests) in
         let b : list_any (λ h. nat_eq (slot_at slots s) (suc h)) done ≡ list_any (nat_eq g) done = any_suc (slot_at slots s) g done e in
         let z : (variable lit == 0) ≡ false = gate_is_variable l g lit valid r.0 r.1 in
-        let m : list_any (nat_eq (variable lit)) (numbered l done) ≡ list_any (nat_eq g) done = same_test (list_any (nat_eq (variable lit)) (numbered l done)) (list_any (nat_eq g) done)
-        (λ t. gate_from_name l done g valid within r.0 (subst (λ (v : ℕ). list_any (nat_eq v) (numbered l done) ≡ true) r.1 t))
+        let m : list_any (nat_eq (variable lit)) (variables_numbered l done) ≡ list_any (nat_eq g) done = same_test (list_any (nat_eq (variable lit)) (variables_numbered l done)) (list_any (nat_eq g) done)
+        (λ t. gate_from_name l done g valid within r.0 (subst (λ (v : ℕ). list_any (nat_eq v) (variables_numbered l done) ≡ true) r.1 t))
         (λ t. let x : list_any (nat_eq (gate_name l g)) (map (gate_name l) done) ≡ true = any_map (gate_name l) g done t in
         let y = list_any-append (nat_eq (gate_name l g)) (map variable l.inputs ++ map latch_variable l.latches) (map (gate_name l) done) in
-        let w : list_any (nat_eq (gate_name l g)) (numbered l done) ≡ true = grind (arith, nat_tests, x, y) in
-        subst (λ (v : ℕ). list_any (nat_eq v) (numbered l done) ≡ true) (sym r.1) w) in
-        let n : has_number (numbered l done) lit ≡ list_any (nat_eq g) done = ap (λ (x : Bool). x || list_any (nat_eq (variable lit)) (numbered l done)) z ∙ m in
+        let w : list_any (nat_eq (gate_name l g)) (variables_numbered l done) ≡ true = grind (arith, nat_tests, x, y) in
+        subst (λ (v : ℕ). list_any (nat_eq v) (variables_numbered l done) ≡ true) (sym r.1) w) in
+        let n : has_number (variables_numbered l done) lit ≡ list_any (nat_eq g) done = ap (λ (x : Bool). x || list_any (nat_eq (variable lit)) (variables_numbered l done)) z ∙ m in
         ap (λ (x : Bool). x || list_any (λ h. nat_eq (slot_at slots s) (suc h)) done) a ∙ (b ∙ sym n)
       where
         same_test : (x y : Bool) → (x ≡ true → y ≡ true) → (y ≡ true → x ≡ true) → x ≡ y
@@ -269,16 +269,16 @@ next_is_ready l slots done valid within are j =
     (λ (low : j < length l.gates).
     let a = slot_free l slots done (2 * j) (gate_line l j).rhs0 valid within (are.first j low) in
     let b = slot_free l slots done (2 * j + 1) (gate_line l j).rhs1 valid within (are.second j low) in
-    ap (λ (x : Bool). nat_lt j (length l.gates) && (not (list_any (nat_eq j) done) && x)) (both (is_free slots done (2 * j)) (is_free slots done (2 * j + 1)) refl refl ∙ (ap (λ (x : Bool). x && is_free slots done (2 * j + 1)) a ∙ ap (λ (x : Bool). has_number (numbered l done) (gate_line l j).rhs0 && x) b)))
+    ap (λ (x : Bool). nat_lt j (length l.gates) && (not (list_any (nat_eq j) done) && x)) (both (waits_for_nothing slots done (2 * j)) (waits_for_nothing slots done (2 * j + 1)) refl refl ∙ (ap (λ (x : Bool). x && waits_for_nothing slots done (2 * j + 1)) a ∙ ap (λ (x : Bool). has_number (variables_numbered l done) (gate_line l j).rhs0 && x) b)))
     (λ (high : length l.gates ≤ j).
     let t : nat_lt j (length l.gates) ≡ false = grind (arith, nat_tests) in
-    ap (λ (x : Bool). x && (not (list_any (nat_eq j) done) && nat_eq (awaited slots done j) 0)) t ∙ sym (ap (λ (x : Bool). x && (not (list_any (nat_eq j) done) && (has_number (numbered l done) (gate_line l j).rhs0 && has_number (numbered l done) (gate_line l j).rhs1))) t))
+    ap (λ (x : Bool). x && (not (list_any (nat_eq j) done) && nat_eq (awaited slots done j) 0)) t ∙ sym (ap (λ (x : Bool). x && (not (list_any (nat_eq j) done) && (has_number (variables_numbered l done) (gate_line l j).rhs0 && has_number (variables_numbered l done) (gate_line l j).rhs1))) t))
     (cases_lt j (length l.gates))
   where
-    names : (s : ℕ) → is_free slots done s ≡ false → nat_eq (slot_at slots s) 0 ≡ false
+    names : (s : ℕ) → waits_for_nothing slots done s ≡ false → nat_eq (slot_at slots s) 0 ≡ false
     names s e = (or_parts (nat_eq (slot_at slots s) 0) (list_any (λ g. nat_eq (slot_at slots s) (suc g)) done) e).0
 
-    both : (x y : Bool) → is_free slots done (2 * j) ≡ x → is_free slots done (2 * j + 1) ≡ y → nat_eq (if x then (if y then 0 else slot_at slots (2 * j + 1)) else slot_at slots (2 * j)) 0 ≡ (x && y)
+    both : (x y : Bool) → waits_for_nothing slots done (2 * j) ≡ x → waits_for_nothing slots done (2 * j + 1) ≡ y → nat_eq (if x then (if y then 0 else slot_at slots (2 * j + 1)) else slot_at slots (2 * j)) 0 ≡ (x && y)
     both true true e f = refl
     both true false e f = names (2 * j + 1) f
     both false y e f = names (2 * j) e

@@ -5,7 +5,7 @@ use Rattle.std.proofs.lemmas.List.FromFn.{length-range_with_len}
 use Rattle.std.proofs.lemmas.Bool.Decides.{nat_tests}
 use Rattle.std.proofs.lemmas.List.Folds.{list_any-append, position_or_len_push}
 use Rattle.std.specs.List.{list_any, position, position_or_len, range_with_len}
-use Rattle.aiger.specs.Numbering.{number_in}
+use Rattle.aiger.specs.Numbering.{number_among}
 use Rattle.aiger.proofs.RangeLemmas.{within_range, outside_range, place_in_range, range_joined}
 use Rattle.aiger.proofs.RenumberingLemmas.{found, place_kept, place_further}
 
@@ -43,31 +43,31 @@ not_found v (x ∷ names) none =
     omega (arith, z, not_found v names rest)
 
 -- what stands somewhere has one more than its place as its number, and what stands nowhere 0
-pub number_there : (v : ℕ) (names : List ℕ) → list_any (nat_eq v) names ≡ true → number_in names v ≡ suc (position_or_len (nat_eq v) names)
+pub number_there : (v : ℕ) (names : List ℕ) → list_any (nat_eq v) names ≡ true → number_among names v ≡ suc (position_or_len (nat_eq v) names)
 number_there v names t = ap (λ (b : Bool). if b then suc (position_or_len (nat_eq v) names) else 0) t
 
-pub number_nowhere : (v : ℕ) (names : List ℕ) → list_any (nat_eq v) names ≡ false → number_in names v ≡ 0
+pub number_nowhere : (v : ℕ) (names : List ℕ) → list_any (nat_eq v) names ≡ false → number_among names v ≡ 0
 number_nowhere v names t = ap (λ (b : Bool). if b then suc (position_or_len (nat_eq v) names) else 0) t
 
 -- the place by the number
-pub place_by_none : (v : ℕ) (names : List ℕ) → number_in names v ≡ 0 → position_or_len (nat_eq v) names ≡ length names
+pub place_by_none : (v : ℕ) (names : List ℕ) → number_among names v ≡ 0 → position_or_len (nat_eq v) names ≡ length names
 place_by_none v names e = by (list_any (nat_eq v) names) refl
   where
     by : (b : Bool) → list_any (nat_eq v) names ≡ b → position_or_len (nat_eq v) names ≡ length names
     by true t = absurd (omega (arith, e, number_there v names t))
     by false t = not_found v names t
 
-pub place_by_number : (v : ℕ) (names : List ℕ) → 0 < number_in names v → (number_in names v - 1 ≡ position_or_len (nat_eq v) names) × (number_in names v - 1 ≤ length names)
+pub place_by_number : (v : ℕ) (names : List ℕ) → 0 < number_among names v → (number_among names v - 1 ≡ position_or_len (nat_eq v) names) × (number_among names v - 1 ≤ length names)
 place_by_number v names e = by (list_any (nat_eq v) names) refl
   where
-    by : (b : Bool) → list_any (nat_eq v) names ≡ b → (number_in names v - 1 ≡ position_or_len (nat_eq v) names) × (number_in names v - 1 ≤ length names)
+    by : (b : Bool) → list_any (nat_eq v) names ≡ b → (number_among names v - 1 ≡ position_or_len (nat_eq v) names) × (number_among names v - 1 ≤ length names)
     by true t =
-        let n : number_in names v ≡ suc (position_or_len (nat_eq v) names) = number_there v names t in
+        let n : number_among names v ≡ suc (position_or_len (nat_eq v) names) = number_there v names t in
         (omega (arith, n), omega (arith, n, place-le (nat_eq v) names))
     by false t = absurd (omega (arith, e, number_nowhere v names t))
 
 -- with one variable more, which stood nowhere, that one has the next number, and the others have theirs
-pub number_pushed : (names : List ℕ) (x v : ℕ) → list_any (nat_eq x) names ≡ false → cond (nat_eq x v) (suc (length names)) (number_in names v) ≡ number_in (names ++ x ∷ []) v
+pub number_pushed : (names : List ℕ) (x v : ℕ) → list_any (nat_eq x) names ≡ false → cond (nat_eq x v) (suc (length names)) (number_among names v) ≡ number_among (names ++ x ∷ []) v
 number_pushed names x v new = by (list_any (nat_eq v) names) (nat_eq x v) refl refl
   where
     any : list_any (nat_eq v) (names ++ x ∷ []) ≡ (list_any (nat_eq v) names || list_any (nat_eq v) (x ∷ []))
@@ -76,7 +76,7 @@ number_pushed names x v new = by (list_any (nat_eq v) names) (nat_eq x v) refl r
     place : position_or_len (nat_eq v) (names ++ x ∷ []) ≡ cond (nat_eq (position_or_len (nat_eq v) names) (length names)) (length names + cond (nat_eq v x) 0 1) (position_or_len (nat_eq v) names)
     place = position_or_len_push (nat_eq v) names x
 
-    by : (b c : Bool) → list_any (nat_eq v) names ≡ b → nat_eq x v ≡ c → cond (nat_eq x v) (suc (length names)) (number_in names v) ≡ number_in (names ++ x ∷ []) v
+    by : (b c : Bool) → list_any (nat_eq v) names ≡ b → nat_eq x v ≡ c → cond (nat_eq x v) (suc (length names)) (number_among names v) ≡ number_among (names ++ x ∷ []) v
     by true true t e =
         let s : x ≡ v = grind (arith, nat_tests) in
         let u : list_any (nat_eq v) names ≡ false = ap (λ (k : ℕ). list_any (nat_eq k) names) (sym s) ∙ new in
@@ -86,19 +86,19 @@ number_pushed names x v new = by (list_any (nat_eq v) names) (nat_eq x v) refl r
         let apart : nat_eq (position_or_len (nat_eq v) names) (length names) ≡ false = grind (arith, nat_tests) in
         let same : position_or_len (nat_eq v) (names ++ x ∷ []) ≡ position_or_len (nat_eq v) names = place ∙ ap (λ (b : Bool). cond b (length names + cond (nat_eq v x) 0 1) (position_or_len (nat_eq v) names)) apart in
         let there : list_any (nat_eq v) (names ++ x ∷ []) ≡ true = any ∙ ap (λ (b : Bool). b || list_any (nat_eq v) (x ∷ [])) t in
-        ap (λ (b : Bool). cond b (suc (length names)) (number_in names v)) e ∙ (number_there v names t ∙ (ap suc (sym same) ∙ sym (number_there v (names ++ x ∷ []) there)))
+        ap (λ (b : Bool). cond b (suc (length names)) (number_among names v)) e ∙ (number_there v names t ∙ (ap suc (sym same) ∙ sym (number_there v (names ++ x ∷ []) there)))
     by false true t e =
         let s : nat_eq v x ≡ true = grind (arith, nat_tests) in
         let last : nat_eq (position_or_len (nat_eq v) names) (length names) ≡ true = let n = not_found v names t in grind (arith, nat_tests) in
         let p : position_or_len (nat_eq v) (names ++ x ∷ []) ≡ length names + cond (nat_eq v x) 0 1 = place ∙ ap (λ (b : Bool). cond b (length names + cond (nat_eq v x) 0 1) (position_or_len (nat_eq v) names)) last in
         let z : ◌≡◌ {A = ℕ} (cond (nat_eq v x) 0 1) 0 = ap (λ (b : Bool). cond b 0 1) s in
         let there : list_any (nat_eq v) (names ++ x ∷ []) ≡ true = any ∙ (ap (λ (b : Bool). b || list_any (nat_eq v) (x ∷ [])) t ∙ ap (λ (b : Bool). b || false) s) in
-        let q : suc (length names) ≡ number_in (names ++ x ∷ []) v = omega (arith, number_there v (names ++ x ∷ []) there, p, z) in
-        ap (λ (b : Bool). cond b (suc (length names)) (number_in names v)) e ∙ q
+        let q : suc (length names) ≡ number_among (names ++ x ∷ []) v = omega (arith, number_there v (names ++ x ∷ []) there, p, z) in
+        ap (λ (b : Bool). cond b (suc (length names)) (number_among names v)) e ∙ q
     by false false t e =
         let s : nat_eq v x ≡ false = grind (arith, nat_tests) in
         let nowhere : list_any (nat_eq v) (names ++ x ∷ []) ≡ false = any ∙ (ap (λ (b : Bool). b || list_any (nat_eq v) (x ∷ [])) t ∙ ap (λ (b : Bool). b || false) s) in
-        ap (λ (b : Bool). cond b (suc (length names)) (number_in names v)) e ∙ (number_nowhere v names t ∙ sym (number_nowhere v (names ++ x ∷ []) nowhere))
+        ap (λ (b : Bool). cond b (suc (length names)) (number_among names v)) e ∙ (number_nowhere v names t ∙ sym (number_nowhere v (names ++ x ∷ []) nowhere))
 
 -- ---- variables that have their own numbers, and others behind them
 

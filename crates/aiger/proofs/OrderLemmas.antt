@@ -9,12 +9,12 @@ use Rattle.std.specs.List.{list_any, position_or_len, count_by}
 use Rattle.aiger.specs.declared.loose.GateLine.{GateLine}
 use Rattle.base.specs.Literal.{variable}
 use Rattle.aiger.specs.Loose.{Loose, IsLoose, IsDefining, defined_variables, latch_variable, gate_variable}
-use Rattle.aiger.specs.Renumbering.{is_known, gate_line, gate_name, numbered, has_number, is_ready, AreInTurn, Uses, LeadsAlong, DependsOn, LeadsToCycle}
+use Rattle.aiger.specs.Renumbering.{is_known, gate_line, gate_name, variables_numbered, has_number, is_ready, AreInTurn, Uses, LeadsAlong, DependsOn, LeadsToCycle}
 use Rattle.aiger.proofs.LooseLemmas.{count_join}
 use Rattle.aiger.proofs.RenumberingLemmas.{found, placed, place_kept, named_from_test}
 
 -- the numbered variables with further gates
-pub numbered-append : (l : Loose) (done more : List ℕ) → numbered l (done ++ more) ≡ numbered l done ++ map (gate_name l) more
+pub numbered-append : (l : Loose) (done more : List ℕ) → variables_numbered l (done ++ more) ≡ variables_numbered l done ++ map (gate_name l) more
 numbered-append l done more =
     ap (λ (xs : List ℕ). map variable l.inputs ++ map latch_variable l.latches ++ xs) (map-append (gate_name l) done more) ∙ sym (append_assoc (map variable l.inputs ++ map latch_variable l.latches) (map (gate_name l) done) (map (gate_name l) more))
 
@@ -25,9 +25,9 @@ has_number-append names more lit t =
     grind (arith, nat_tests, e, t)
 
 -- what a ready gate is
-pub ready_parts : (l : Loose) (done : List ℕ) (j : ℕ) → is_ready l done j ≡ true → (j < length l.gates) × (list_any (nat_eq j) done ≡ false) × (has_number (numbered l done) (gate_line l j).rhs0 ≡ true) × (has_number (numbered l done) (gate_line l j).rhs1 ≡ true)
+pub ready_parts : (l : Loose) (done : List ℕ) (j : ℕ) → is_ready l done j ≡ true → (j < length l.gates) × (list_any (nat_eq j) done ≡ false) × (has_number (variables_numbered l done) (gate_line l j).rhs0 ≡ true) × (has_number (variables_numbered l done) (gate_line l j).rhs1 ≡ true)
 ready_parts l done j t =
-    by (nat_lt j (length l.gates)) (list_any (nat_eq j) done) (has_number (numbered l done) (gate_line l j).rhs0) (has_number (numbered l done) (gate_line l j).rhs1) refl t
+    by (nat_lt j (length l.gates)) (list_any (nat_eq j) done) (has_number (variables_numbered l done) (gate_line l j).rhs0) (has_number (variables_numbered l done) (gate_line l j).rhs1) refl t
   where
     by : (a b c d : Bool) → nat_lt j (length l.gates) ≡ a → (a && (not b && (c && d))) ≡ true → (j < length l.gates) × (b ≡ false) × (c ≡ true) × (d ≡ true)
     by true false true true e u = (grind (arith, nat_tests), refl, refl, refl)
@@ -58,13 +58,13 @@ false_unless true h = absurd (h refl)
 false_unless false h = refl
 
 -- a known literal without a number is of a gate that has none
-pub unnumbered_operand : (l : Loose) (order : List ℕ) (lit : ℕ) → is_known l lit ≡ true → has_number (numbered l order) lit ≡ false → (i : ℕ) × ((i < length l.gates) × (variable lit ≡ gate_name l i) × (list_any (nat_eq i) order ≡ false))
+pub unnumbered_operand : (l : Loose) (order : List ℕ) (lit : ℕ) → is_known l lit ≡ true → has_number (variables_numbered l order) lit ≡ false → (i : ℕ) × ((i < length l.gates) × (variable lit ≡ gate_name l i) × (list_any (nat_eq i) order ≡ false))
 unnumbered_operand l order lit t none =
     by (variable lit == 0) (list_any (nat_eq (variable lit)) (map variable l.inputs ++ map latch_variable l.latches)) (list_any (nat_eq (variable lit)) (map gate_variable l.gates)) refl refl refl
   where
     by : (x y z : Bool) → (variable lit == 0) ≡ x → list_any (nat_eq (variable lit)) (map variable l.inputs ++ map latch_variable l.latches) ≡ y → list_any (nat_eq (variable lit)) (map gate_variable l.gates) ≡ z → (i : ℕ) × ((i < length l.gates) × (variable lit ≡ gate_name l i) × (list_any (nat_eq i) order ≡ false))
     by true y z e f g =
-        let u : has_number (numbered l order) lit ≡ true = ap (λ (c : Bool). c || list_any (nat_eq (variable lit)) (numbered l order)) e in
+        let u : has_number (variables_numbered l order) lit ≡ true = ap (λ (c : Bool). c || list_any (nat_eq (variable lit)) (variables_numbered l order)) e in
         absurd (let w : true ≡ false = sym u ∙ none in cc)
     by false true z e f g =
         let h = list_any-append (nat_eq (variable lit)) (map variable l.inputs ++ map latch_variable l.latches) (map (gate_name l) order) in
@@ -84,10 +84,10 @@ unnumbered_operand l order lit t none =
         absurd (grind (arith, nat_tests, e, f, g, h, t))
 
 -- so it has a number once all gates have
-pub number_from_known : (l : Loose) (order : List ℕ) (lit : ℕ) → ((j : ℕ) → j < length l.gates → list_any (nat_eq j) order ≡ true) → is_known l lit ≡ true → has_number (numbered l order) lit ≡ true
-number_from_known l order lit all t = by (has_number (numbered l order) lit) refl
+pub number_from_known : (l : Loose) (order : List ℕ) (lit : ℕ) → ((j : ℕ) → j < length l.gates → list_any (nat_eq j) order ≡ true) → is_known l lit ≡ true → has_number (variables_numbered l order) lit ≡ true
+number_from_known l order lit all t = by (has_number (variables_numbered l order) lit) refl
   where
-    by : (b : Bool) → has_number (numbered l order) lit ≡ b → has_number (numbered l order) lit ≡ true
+    by : (b : Bool) → has_number (variables_numbered l order) lit ≡ b → has_number (variables_numbered l order) lit ≡ true
     by true e = e
     by false e = let r = unnumbered_operand l order lit t e in let z : true ≡ false = sym (all r.0 r.1.0) ∙ r.1.2 in absurd (cc)
 
@@ -158,7 +158,7 @@ not_leaf l j valid h =
     false_unless (list_any (nat_eq (gate_name l j)) (map variable l.inputs ++ map latch_variable l.latches)) (λ u. omega (arith, valid.definitions.once (gate_name l j), joined, some, count_some (gate_name l j) (map variable l.inputs ++ map latch_variable l.latches) u))
 
 -- a gate is among those whose variable has a number exactly where it is one of them
-pub gate_from_name : (l : Loose) (done : List ℕ) (j : ℕ) → IsLoose l → AreGates l done → j < length l.gates → list_any (nat_eq (gate_name l j)) (numbered l done) ≡ true → list_any (nat_eq j) done ≡ true
+pub gate_from_name : (l : Loose) (done : List ℕ) (j : ℕ) → IsLoose l → AreGates l done → j < length l.gates → list_any (nat_eq (gate_name l j)) (variables_numbered l done) ≡ true → list_any (nat_eq j) done ≡ true
 gate_from_name l done j valid within h t =
     let leaves : List ℕ = map variable l.inputs ++ map latch_variable l.latches in
     let e = list_any-append (nat_eq (gate_name l j)) leaves (map (gate_name l) done) in
@@ -174,11 +174,11 @@ gate_from_name l done j valid within h t =
     subst (λ (k : ℕ). list_any (nat_eq k) done ≡ true) (same_gate l i j valid (within i here) h same) here
 
 -- a ready gate's variable has no number yet
-pub fresh : (l : Loose) (done : List ℕ) (j : ℕ) → IsLoose l → AreGates l done → is_ready l done j ≡ true → list_any (nat_eq (gate_name l j)) (numbered l done) ≡ false
+pub fresh : (l : Loose) (done : List ℕ) (j : ℕ) → IsLoose l → AreGates l done → is_ready l done j ≡ true → list_any (nat_eq (gate_name l j)) (variables_numbered l done) ≡ false
 fresh l done j valid within ready =
     let r = ready_parts l done j ready in
     let f : list_any (nat_eq j) done ≡ false = r.1 in
-    false_unless (list_any (nat_eq (gate_name l j)) (numbered l done)) (λ u. let t : list_any (nat_eq j) done ≡ true = gate_from_name l done j valid within r.0 u in let z : true ≡ false = sym t ∙ f in cc)
+    false_unless (list_any (nat_eq (gate_name l j)) (variables_numbered l done)) (λ u. let t : list_any (nat_eq j) done ≡ true = gate_from_name l done j valid within r.0 u in let z : true ≡ false = sym t ∙ f in cc)
 
 -- with a ready gate more, they are gates of the file
 pub AreGates-push : (l : Loose) (done : List ℕ) (j : ℕ) → AreGates l done → j < length l.gates → AreGates l (done ++ j ∷ [])
@@ -224,8 +224,8 @@ same_order l done (x ∷ xs) (y ∷ ys) a b all every =
 pub operand_before : (l : Loose) (done : List ℕ) (j i : ℕ) → IsLoose l → AreGates l done → is_ready l done j ≡ true → Uses l j i → list_any (nat_eq i) done ≡ true
 operand_before l done j i valid within ready uses =
     let r = ready_parts l done j ready in
-    let one : (lit : ℕ) → has_number (numbered l done) lit ≡ true → variable lit ≡ gate_name l i → list_any (nat_eq i) done ≡ true = λ lit t e.
-    gate_from_name l done i valid within uses.used (subst (λ (v : ℕ). list_any (nat_eq v) (numbered l done) ≡ true) e (named_from_test (numbered l done) lit t (gate_is_variable l i lit valid uses.used e))) in
+    let one : (lit : ℕ) → has_number (variables_numbered l done) lit ≡ true → variable lit ≡ gate_name l i → list_any (nat_eq i) done ≡ true = λ lit t e.
+    gate_from_name l done i valid within uses.used (subst (λ (v : ℕ). list_any (nat_eq v) (variables_numbered l done) ≡ true) e (named_from_test (variables_numbered l done) lit t (gate_is_variable l i lit valid uses.used e))) in
     ⊎_elim (λ (e : variable (gate_line l j).rhs0 ≡ gate_name l i). one (gate_line l j).rhs0 r.2 e) (λ (e : variable (gate_line l j).rhs1 ≡ gate_name l i). one (gate_line l j).rhs1 r.3 e) uses.operand
 
 -- a gate in an order stands behind its operands

@@ -19,7 +19,7 @@ use Rattle.aiger.specs.Circuit.{Circuit, IsCircuit, net, section_count}
 use Rattle.aiger.specs.Loose.{IsLoose, IsDefining, IsSmall, sections_of, latch_of, latch_variable, gate_variable, defined_count, defined_variables}
 use Rattle.aiger.specs.Numbering.{WaitForEarlier, is_unknown, line_in, slot_of}
 use Rattle.aiger.specs.Renumbering.{IsRenumbered, alone, is_known, used_lines, first_undefined, has_number, new_literal, new_gate, renumbered}
-use Rattle.aiger.specs.OwnLists.{own_inputs, own_latches, own_gates, own_lists}
+use Rattle.aiger.specs.OwnLists.{own_input_lines, own_latches, own_gates, own_lists}
 use Rattle.aiger.proofs.CircuitLemmas.{AllLiterals-weaker, names_kept}
 use Rattle.aiger.proofs.InOrderLemmas.{as_they_stand, is_order, by_places}
 use Rattle.aiger.proofs.KnownLemmas.{all_known}
@@ -33,11 +33,11 @@ use Rattle.aiger.proofs.UndefinedLemmas.{none_passes, none_unknown}
 even : (n : ℕ) → (2 * n) / 2 ≡ n
 even n = omega arith
 
-inputs_in_turn : (first n : ℕ) → map variable (own_inputs first n) ≡ range_with_len first n
+inputs_in_turn : (first n : ℕ) → map variable (own_input_lines first n) ≡ range_with_len first n
 inputs_in_turn first zero = refl
 inputs_in_turn first (suc n) =
     let z : suc first ≡ first + 1 = omega arith in
-    ap (λ (k : ℕ). k ∷ map variable (own_inputs (suc first) n)) (even first) ∙ ap (λ (ks : List ℕ). first ∷ ks) (inputs_in_turn (suc first) n ∙ ap (λ (k : ℕ). range_with_len k n) z)
+    ap (λ (k : ℕ). k ∷ map variable (own_input_lines (suc first) n)) (even first) ∙ ap (λ (ks : List ℕ). first ∷ ks) (inputs_in_turn (suc first) n ∙ ap (λ (k : ℕ). range_with_len k n) z)
 
 latches_in_turn : (first : ℕ) (ls : List Latch) → map latch_variable (own_latches first ls) ≡ range_with_len first (length ls)
 latches_in_turn first [] = refl
@@ -51,7 +51,7 @@ gates_in_turn first (g ∷ gs) =
     let z : suc first ≡ first + 1 = omega arith in
     ap (λ (k : ℕ). k ∷ map gate_variable (own_gates (suc first) gs)) (even first) ∙ ap (λ (ks : List ℕ). first ∷ ks) (gates_in_turn (suc first) gs ∙ ap (λ (k : ℕ). range_with_len k (length gs)) z)
 
-many_inputs : (first n : ℕ) → length (own_inputs first n) ≡ n
+many_inputs : (first n : ℕ) → length (own_input_lines first n) ≡ n
 many_inputs first zero = refl
 many_inputs first (suc n) = ap suc (many_inputs (suc first) n)
 
@@ -75,9 +75,9 @@ record IsOwn (lit : ℕ) : Type 0 where
 own_literal : (first : ℕ) → 1 ≤ first → first ≤ greatest_count → IsOwn (2 * first)
 own_literal first some few = record { defining = record { even = omega arith; least = omega (arith, some) }; small = omega (arith, few) }
 
-inputs_own : (first n : ℕ) → 1 ≤ first → first + n ≤ suc greatest_count → All IsOwn (own_inputs first n)
+inputs_own : (first n : ℕ) → 1 ≤ first → first + n ≤ suc greatest_count → All IsOwn (own_input_lines first n)
 inputs_own first zero some few = All-nil IsOwn
-inputs_own first (suc n) some few = All-cons IsOwn (2 * first) (own_inputs (suc first) n) (own_literal first some (omega (arith, few))) (inputs_own (suc first) n (omega arith) (omega (arith, few)))
+inputs_own first (suc n) some few = All-cons IsOwn (2 * first) (own_input_lines (suc first) n) (own_literal first some (omega (arith, few))) (inputs_own (suc first) n (omega arith) (omega (arith, few)))
 
 latches_own : (first : ℕ) (ls : List Latch) → 1 ≤ first → first + length ls ≤ suc greatest_count → All (λ line. IsOwn line.current) (own_latches first ls)
 latches_own first [] some few = All-nil (λ line. IsOwn line.current)

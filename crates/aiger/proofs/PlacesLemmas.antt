@@ -9,9 +9,9 @@ use Rattle.std.specs.List.{list_any, position, position_or_len, count_by}
 use Rattle.aiger.specs.declared.loose.GateLine.{GateLine}
 use Rattle.base.specs.Literal.{variable}
 use Rattle.aiger.specs.Loose.{Loose, IsLoose, defined_variables, defined_count, latch_variable, gate_variable}
-use Rattle.aiger.specs.Renumbering.{is_known, gate_line, gate_name, numbered, has_number, is_ready, AreInTurn, IsOrder, IsFirstCyclic, new_literal, ordered_gate, new_gate}
+use Rattle.aiger.specs.Renumbering.{is_known, gate_line, gate_name, variables_numbered, has_number, is_ready, AreInTurn, IsOrder, IsFirstCyclic, new_literal, ordered_gate, new_gate}
 use Rattle.aiger.specs.Readiness.{slot_at, AreSlots, IsWholeOrder}
-use Rattle.aiger.specs.Numbering.{IsOnce, UseNumbered, line_in, name_in, slot_of, slots_of, IsReadyOrder}
+use Rattle.aiger.specs.Numbering.{IsOnce, UseNumbered, line_in, gate_name_at, slot_of, slots_of, IsReadyOrder}
 use Rattle.aiger.proofs.RenumberingLemmas.{found, new_literal-kept}
 use Rattle.aiger.proofs.OrderLemmas.{AreGates, AreGates-push, count_some, false_unless, fresh, ready_parts, name_at_place, numbered-append}
 use Rattle.aiger.proofs.KnownLemmas.{IsKnown, AllKnown}
@@ -55,14 +55,14 @@ pub once_more : (xs : List ℕ) (x : ℕ) → IsOnce xs → list_any (nat_eq x) 
 once_more xs x once new = once_push xs (xs ++ x ∷ []) x (λ v. sum_by_push (λ (y : ℕ). cond (nat_eq v y) 1 0) xs x) once new
 
 -- gates in turn give numbers to variables that have none
-once_in_turn : (l : Loose) (done js : List ℕ) → IsLoose l → AreGates l done → AreInTurn l done js → IsOnce (numbered l done) → IsOnce (numbered l (done ++ js))
-once_in_turn l done [] valid within turn once = subst (λ (xs : List ℕ). IsOnce (numbered l xs)) (sym (append-nil done)) once
+once_in_turn : (l : Loose) (done js : List ℕ) → IsLoose l → AreGates l done → AreInTurn l done js → IsOnce (variables_numbered l done) → IsOnce (variables_numbered l (done ++ js))
+once_in_turn l done [] valid within turn once = subst (λ (xs : List ℕ). IsOnce (variables_numbered l xs)) (sym (append-nil done)) once
 once_in_turn l done (j ∷ js) valid within turn once =
     let low = (ready_parts l done j turn.0.ready).0 in
-    let more : IsOnce (numbered l (done ++ j ∷ [])) = subst IsOnce (sym (numbered-append l done (j ∷ []))) (once_more (numbered l done) (gate_name l j) once (fresh l done j valid within turn.0.ready)) in
-    subst (λ (xs : List ℕ). IsOnce (numbered l xs)) (append_assoc done (j ∷ []) js) (once_in_turn l (done ++ j ∷ []) js valid (AreGates-push l done j within low) turn.1 more)
+    let more : IsOnce (variables_numbered l (done ++ j ∷ [])) = subst IsOnce (sym (numbered-append l done (j ∷ []))) (once_more (variables_numbered l done) (gate_name l j) once (fresh l done j valid within turn.0.ready)) in
+    subst (λ (xs : List ℕ). IsOnce (variables_numbered l xs)) (append_assoc done (j ∷ []) js) (once_in_turn l (done ++ j ∷ []) js valid (AreGates-push l done j within low) turn.1 more)
 
-pub once_numbered : (l : Loose) (order : List ℕ) → IsLoose l → AreInTurn l [] order → IsOnce (numbered l order)
+pub once_numbered : (l : Loose) (order : List ℕ) → IsLoose l → AreInTurn l [] order → IsOnce (variables_numbered l order)
 once_numbered l order valid turn =
     let leaves : List ℕ = map variable l.inputs ++ map latch_variable l.latches in
     let front : IsOnce leaves = once_front leaves (map gate_variable l.gates) valid.definitions.once in
@@ -90,14 +90,14 @@ pub use_numbered : (l : Loose) (order : List ℕ) → AreInTurn l [] order → U
 use_numbered l order turn k j h e = let r = ready_parts l (take k order) j (in_turn_at l [] order k j turn h e) in (r.2, r.3)
 
 -- and the gate is the same when all have theirs
-pub gate_in_turn : (names : List ℕ) (lines : List GateLine) (order : List ℕ) (k j : ℕ) → UseNumbered names lines order → k < length order → j ≡ slice_index_or order k j → new_gate (names ++ map (name_in lines) (take k order)) (line_in lines j) ≡ new_gate (names ++ map (name_in lines) order) (line_in lines j)
+pub gate_in_turn : (names : List ℕ) (lines : List GateLine) (order : List ℕ) (k j : ℕ) → UseNumbered names lines order → k < length order → j ≡ slice_index_or order k j → new_gate (names ++ map (gate_name_at lines) (take k order)) (line_in lines j) ≡ new_gate (names ++ map (gate_name_at lines) order) (line_in lines j)
 gate_in_turn names lines order k j known h e =
-    let front : List ℕ = names ++ map (name_in lines) (take k order) in
-    let more : List ℕ = map (name_in lines) (drop k order) in
-    let whole : names ++ map (name_in lines) order ≡ front ++ more = ap (λ (js : List ℕ). names ++ map (name_in lines) js) (sym (take-append-drop k order)) ∙ (ap (λ (xs : List ℕ). names ++ xs) (map-append (name_in lines) (take k order) (drop k order)) ∙ sym (append_assoc names (map (name_in lines) (take k order)) more)) in
-    let kept : (lit : ℕ) → has_number front lit ≡ true → new_literal front lit ≡ new_literal (names ++ map (name_in lines) order) lit = λ lit t. sym (ap (λ (ns : List ℕ). new_literal ns lit) whole ∙ new_literal-kept front more lit t) in
+    let front : List ℕ = names ++ map (gate_name_at lines) (take k order) in
+    let more : List ℕ = map (gate_name_at lines) (drop k order) in
+    let whole : names ++ map (gate_name_at lines) order ≡ front ++ more = ap (λ (js : List ℕ). names ++ map (gate_name_at lines) js) (sym (take-append-drop k order)) ∙ (ap (λ (xs : List ℕ). names ++ xs) (map-append (gate_name_at lines) (take k order) (drop k order)) ∙ sym (append_assoc names (map (gate_name_at lines) (take k order)) more)) in
+    let kept : (lit : ℕ) → has_number front lit ≡ true → new_literal front lit ≡ new_literal (names ++ map (gate_name_at lines) order) lit = λ lit t. sym (ap (λ (ns : List ℕ). new_literal ns lit) whole ∙ new_literal-kept front more lit t) in
     let u = known k j h e in
-    ap (λ (a : ℕ). ordered_gate a (new_literal front (line_in lines j).rhs1)) (kept (line_in lines j).rhs0 u.0) ∙ ap (ordered_gate (new_literal (names ++ map (name_in lines) order) (line_in lines j).rhs0)) (kept (line_in lines j).rhs1 u.1)
+    ap (λ (a : ℕ). ordered_gate a (new_literal front (line_in lines j).rhs1)) (kept (line_in lines j).rhs0 u.0) ∙ ap (ordered_gate (new_literal (names ++ map (gate_name_at lines) order) (line_in lines j).rhs0)) (kept (line_in lines j).rhs1 u.1)
 
 -- one element more of what a list is mapped to
 pub mapped_more : {X Y : Type 0} (f : X → Y) (front now next : List Y) (xs : List X) (k : ℕ) (x : X) (y : Y) → now ≡ front ++ map f (take k xs) → next ≡ now ++ y ∷ [] → y ≡ f x → k < length xs → x ≡ get_or xs k x → next ≡ front ++ map f (take (k + 1) xs)
@@ -127,7 +127,7 @@ slot_known l lit known = by (variable lit == 0) refl
     by true e =
         let s : slot_of (defined_variables l) (leaf_count l) lit ≡ 0 = ap (λ (b : Bool). if b then 0 else suc p - leaf_count l) e in (
           record {
-            leaf = λ z. ap (λ (b : Bool). b || list_any (nat_eq (variable lit)) (numbered l [])) e;
+            leaf = λ z. ap (λ (b : Bool). b || list_any (nat_eq (variable lit)) (variables_numbered l [])) e;
             gate = λ g z. absurd (omega (arith, s, z));
           },
           omega (arith, s),
@@ -145,8 +145,8 @@ slot_known l lit known = by (variable lit == 0) refl
                 let here : slice_index_or (leaf_names l) p 0 ≡ variable lit = sym (get_or_append_left (leaf_names l) (map gate_variable l.gates) 0 p low) ∙ f.1 in
                 let t : nat_eq (variable lit) (slice_index_or (leaf_names l) p 0) ≡ true = grind (arith, nat_tests) in
                 let any : list_any (nat_eq (variable lit)) (leaf_names l) ≡ true = list_any_at (nat_eq (variable lit)) (leaf_names l) p 0 low t in
-                let a : list_any (nat_eq (variable lit)) (numbered l []) ≡ true = subst (λ (ns : List ℕ). list_any (nat_eq (variable lit)) ns ≡ true) (sym (append-nil (leaf_names l))) any in
-                ap (λ (b : Bool). b || list_any (nat_eq (variable lit)) (numbered l [])) e ∙ a;
+                let a : list_any (nat_eq (variable lit)) (variables_numbered l []) ≡ true = subst (λ (ns : List ℕ). list_any (nat_eq (variable lit)) ns ≡ true) (sym (append-nil (leaf_names l))) any in
+                ap (λ (b : Bool). b || list_any (nat_eq (variable lit)) (variables_numbered l [])) e ∙ a;
             gate = λ g z.
                 let at : p ≡ leaf_count l + g = omega (arith, s, z) in
                 let low : g < length l.gates = omega (arith, at, f.0, whole, m, n) in

@@ -15,7 +15,7 @@ use Rattle.std.specs.BinaryHeap.{IsHeap, IsUpperBound, PopsGreatest}
 use Rattle.std.specs.List.{AllByRecursion, list_any, IsDistinct}
 use Rattle.std.specs.List.Sorted.{IsPermutation}
 use Rattle.std.specs.declared.cmp.Reverse.{Reverse}
-use Rattle.aiger.specs.Readiness.{slot_at, is_free, awaited, may_be_next, AreSlots, is_passed, stands, IsChain, turns, one_if, times, IsFirstReady, is_open, IsPut, IsFirst, AreFirst, AreDone, IsUnderway, IsTaken, IsWholeOrder}
+use Rattle.aiger.specs.Readiness.{slot_at, waits_for_nothing, awaited, may_be_next, AreSlots, is_passed, stands, IsChain, turns, one_if, times_ready, IsFirstReady, is_open, IsPut, IsFirst, AreFirst, AreDone, IsUnderway, IsTaken, IsWholeOrder}
 use Rattle.aiger.proofs.OrderLemmas.{false_unless}
 
 -- what is read at a position is the element there
@@ -59,19 +59,19 @@ or_last false false true = refl
 or_last false false false = refl
 
 -- a slot once a gate more is done
-free_push : (slots done : List ℕ) (g s : ℕ) → is_free slots (done ++ g ∷ []) s ≡ (is_free slots done s || nat_eq (slot_at slots s) (suc g))
+free_push : (slots done : List ℕ) (g s : ℕ) → waits_for_nothing slots (done ++ g ∷ []) s ≡ (waits_for_nothing slots done s || nat_eq (slot_at slots s) (suc g))
 free_push slots done g s =
     ap (λ (b : Bool). nat_eq (slot_at slots s) 0 || b) (list_any-append (λ (h : ℕ). nat_eq (slot_at slots s) (suc h)) done (g ∷ [])) ∙ or_last (nat_eq (slot_at slots s) 0) (list_any (λ h. nat_eq (slot_at slots s) (suc h)) done) (nat_eq (slot_at slots s) (suc g))
 
 -- a slot that waits names no gate that is done
-open_slot : (slots done : List ℕ) (s g : ℕ) → is_free slots done s ≡ false → slot_at slots s ≡ suc g → list_any (nat_eq g) done ≡ false
+open_slot : (slots done : List ℕ) (s g : ℕ) → waits_for_nothing slots done s ≡ false → slot_at slots s ≡ suc g → list_any (nat_eq g) done ≡ false
 open_slot slots done s g t e = sym (any_suc (slot_at slots s) g done e) ∙ (or_parts (nat_eq (slot_at slots s) 0) (list_any (λ h. nat_eq (slot_at slots s) (suc h)) done) t).1
 
 -- what a gate waits for is not done
 awaited_open : (slots done : List ℕ) (j g : ℕ) → awaited slots done j ≡ suc g → list_any (nat_eq g) done ≡ false
-awaited_open slots done j g e = by (is_free slots done (2 * j)) (is_free slots done (2 * j + 1)) refl refl e
+awaited_open slots done j g e = by (waits_for_nothing slots done (2 * j)) (waits_for_nothing slots done (2 * j + 1)) refl refl e
   where
-    by : (p q : Bool) → is_free slots done (2 * j) ≡ p → is_free slots done (2 * j + 1) ≡ q → (if p then (if q then 0 else slot_at slots (2 * j + 1)) else slot_at slots (2 * j)) ≡ suc g → list_any (nat_eq g) done ≡ false
+    by : (p q : Bool) → waits_for_nothing slots done (2 * j) ≡ p → waits_for_nothing slots done (2 * j + 1) ≡ q → (if p then (if q then 0 else slot_at slots (2 * j + 1)) else slot_at slots (2 * j)) ≡ suc g → list_any (nat_eq g) done ≡ false
     by true true t u h = absurd (cc)
     by true false t u h = open_slot slots done (2 * j + 1) g u h
     by false q t u h = open_slot slots done (2 * j) g t h
@@ -79,9 +79,9 @@ awaited_open slots done j g e = by (is_free slots done (2 * j)) (is_free slots d
 -- a gate that waits for another one waits for it still
 awaited_kept : (slots done : List ℕ) (g j : ℕ) → nat_eq (awaited slots done j) (suc g) ≡ false → awaited slots (done ++ g ∷ []) j ≡ awaited slots done j
 awaited_kept slots done g j other =
-    ap (λ (t : Bool). if t then (if is_free slots (done ++ g ∷ []) (2 * j + 1) then 0 else slot_at slots (2 * j + 1)) else slot_at slots (2 * j)) (free_push slots done g (2 * j))
-    ∙ (ap (λ (t : Bool). if is_free slots done (2 * j) || nat_eq (slot_at slots (2 * j)) (suc g) then (if t then 0 else slot_at slots (2 * j + 1)) else slot_at slots (2 * j)) (free_push slots done g (2 * j + 1))
-    ∙ by (slot_at slots (2 * j)) (slot_at slots (2 * j + 1)) (is_free slots done (2 * j)) (is_free slots done (2 * j + 1)) (nat_eq (slot_at slots (2 * j)) (suc g)) (nat_eq (slot_at slots (2 * j + 1)) (suc g)) refl refl other)
+    ap (λ (t : Bool). if t then (if waits_for_nothing slots (done ++ g ∷ []) (2 * j + 1) then 0 else slot_at slots (2 * j + 1)) else slot_at slots (2 * j)) (free_push slots done g (2 * j))
+    ∙ (ap (λ (t : Bool). if waits_for_nothing slots done (2 * j) || nat_eq (slot_at slots (2 * j)) (suc g) then (if t then 0 else slot_at slots (2 * j + 1)) else slot_at slots (2 * j)) (free_push slots done g (2 * j + 1))
+    ∙ by (slot_at slots (2 * j)) (slot_at slots (2 * j + 1)) (waits_for_nothing slots done (2 * j)) (waits_for_nothing slots done (2 * j + 1)) (nat_eq (slot_at slots (2 * j)) (suc g)) (nat_eq (slot_at slots (2 * j + 1)) (suc g)) refl refl other)
   where
     by : (a b : ℕ) (p q x y : Bool) → nat_eq a (suc g) ≡ x → nat_eq b (suc g) ≡ y → nat_eq (if p then (if q then 0 else b) else a) (suc g) ≡ false → (if p || x then (if q || y then 0 else b) else a) ≡ (if p then (if q then 0 else b) else a)
     by a b true true x y e f h = refl
@@ -91,23 +91,23 @@ awaited_kept slots done g j other =
     by a b false q false y e f h = refl
 
 -- the first slot of a gate that waits for this one waits no longer once it is done
-freed_first : (slots done : List ℕ) (g j : ℕ) → awaited slots done j ≡ suc g → is_free slots (done ++ g ∷ []) (2 * j) ≡ true
-freed_first slots done g j e = free_push slots done g (2 * j) ∙ by (is_free slots done (2 * j)) e
+freed_first : (slots done : List ℕ) (g j : ℕ) → awaited slots done j ≡ suc g → waits_for_nothing slots (done ++ g ∷ []) (2 * j) ≡ true
+freed_first slots done g j e = free_push slots done g (2 * j) ∙ by (waits_for_nothing slots done (2 * j)) e
   where
-    by : (p : Bool) → (if p then (if is_free slots done (2 * j + 1) then 0 else slot_at slots (2 * j + 1)) else slot_at slots (2 * j)) ≡ suc g → (p || nat_eq (slot_at slots (2 * j)) (suc g)) ≡ true
+    by : (p : Bool) → (if p then (if waits_for_nothing slots done (2 * j + 1) then 0 else slot_at slots (2 * j + 1)) else slot_at slots (2 * j)) ≡ suc g → (p || nat_eq (slot_at slots (2 * j)) (suc g)) ≡ true
     by true h = refl
     by false h = eq-eqb (slot_at slots (2 * j)) (suc g) h
 
 -- where a gate's first slot waits, and where it does not
-awaited_first : (slots done : List ℕ) (j : ℕ) → is_free slots done (2 * j) ≡ false → awaited slots done j ≡ slot_at slots (2 * j)
-awaited_first slots done j t = ap (λ (b : Bool). if b then (if is_free slots done (2 * j + 1) then 0 else slot_at slots (2 * j + 1)) else slot_at slots (2 * j)) t
+awaited_first : (slots done : List ℕ) (j : ℕ) → waits_for_nothing slots done (2 * j) ≡ false → awaited slots done j ≡ slot_at slots (2 * j)
+awaited_first slots done j t = ap (λ (b : Bool). if b then (if waits_for_nothing slots done (2 * j + 1) then 0 else slot_at slots (2 * j + 1)) else slot_at slots (2 * j)) t
 
-awaited_second : (slots done : List ℕ) (j : ℕ) (b : Bool) → is_free slots done (2 * j) ≡ true → is_free slots done (2 * j + 1) ≡ b → awaited slots done j ≡ (if b then 0 else slot_at slots (2 * j + 1))
+awaited_second : (slots done : List ℕ) (j : ℕ) (b : Bool) → waits_for_nothing slots done (2 * j) ≡ true → waits_for_nothing slots done (2 * j + 1) ≡ b → awaited slots done j ≡ (if b then 0 else slot_at slots (2 * j + 1))
 awaited_second slots done j b t e =
-    ap (λ (b : Bool). if b then (if is_free slots done (2 * j + 1) then 0 else slot_at slots (2 * j + 1)) else slot_at slots (2 * j)) t ∙ ap (λ (b : Bool). if b then 0 else slot_at slots (2 * j + 1)) e
+    ap (λ (b : Bool). if b then (if waits_for_nothing slots done (2 * j + 1) then 0 else slot_at slots (2 * j + 1)) else slot_at slots (2 * j)) t ∙ ap (λ (b : Bool). if b then 0 else slot_at slots (2 * j + 1)) e
 
 -- a slot that the links still have is open where it waits
-open_is : (slots : List ℕ) (n : ℕ) (done heads links : List ℕ) (s : ℕ) → AreSlots slots n → AreDone n done heads → slot_at links s ≡ slot_at slots s → s < length slots → is_open heads links s ≡ not (is_free slots done s)
+open_is : (slots : List ℕ) (n : ℕ) (done heads links : List ℕ) (s : ℕ) → AreSlots slots n → AreDone n done heads → slot_at links s ≡ slot_at slots s → s < length slots → is_open heads links s ≡ not (waits_for_nothing slots done s)
 open_is slots n done heads links s are marks e low =
     ap (λ (x : ℕ). not (nat_eq x 0) && not (nat_eq (slice_index_or heads (x - 1) 0) 0)) e ∙ by (slot_at slots s) (are.within s 0 low)
   where
@@ -169,7 +169,7 @@ chain_kept links k v at (j ∷ js) new c =
 
 -- a gate that is looked at is put into the chain of what it waits for
 put : (slots : List ℕ) (n bound : ℕ) (done away heads links heads_put links_put : List ℕ) (ready now : ℕ → ℕ) (j s : ℕ) → IsUnderway slots n bound done (j ∷ away) heads links ready → list_any (nat_eq j) away ≡ false → j < bound
-    → s < length slots → slot_at links s ≡ slot_at slots s → is_free slots done s ≡ false → awaited slots done j ≡ slot_at slots s → IsPut j s heads links heads_put links_put → ((i : ℕ) → now i ≡ ready i) → IsUnderway slots n bound done away heads_put links_put now
+    → s < length slots → slot_at links s ≡ slot_at slots s → waits_for_nothing slots done s ≡ false → awaited slots done j ≡ slot_at slots s → IsPut j s heads links heads_put links_put → ((i : ℕ) → now i ≡ ready i) → IsUnderway slots n bound done away heads_put links_put now
 put slots n bound done away heads links heads_put links_put ready now j s u new low place same busy waits is still =
     subst (λ (x : List ℕ). IsUnderway slots n bound done away heads_put x now) (sym (is.link ∙ ap (λ (i : ℕ). slice_set links (2 * j) (slice_index_or heads i 0)) named))
     (subst (λ (x : List ℕ). IsUnderway slots n bound done away x (slice_set links (2 * j) (slice_index_or heads h 0)) now) (sym (is.head ∙ ap (λ (i : ℕ). slice_set heads i (j + 2)) named)) at_once)
@@ -283,7 +283,7 @@ note slots n bound done away heads links ready now j u new low left none is =
 
 -- how often a gate is in a heap
 abbrev pub times_in : List (Reverse ℕ) → ℕ → ℕ
-times_in others i = times None others i
+times_in others i = times_ready None others i
 
 -- no gate before the one that a heap gives is in it
 pub times_before : (i g : ℕ) (x : Reverse ℕ) (others : List (Reverse ℕ)) → i < g → g ≤ x.0 → IsUpperBound turns x others → times_in others i ≡ 0
@@ -302,7 +302,7 @@ pub first_popped : (x : Reverse ℕ) (others now : List (Reverse ℕ)) → IsHea
 first_popped x others now heap moved pops = (λ i. sum_by_popped (λ (g : Reverse ℕ). one_if (nat_eq g.0 i)) x others now moved, λ i low. times_before i x.0 x others low (omega arith) (pops heap).1)
 
 -- the one that stands apart, where it comes before all in a heap
-pub apart_first : (g : ℕ) (others : List (Reverse ℕ)) → ((i : ℕ) → i < g → times_in others i ≡ 0) → IsFirstReady (Some g) (times (Some g) others) (times_in others)
+pub apart_first : (g : ℕ) (others : List (Reverse ℕ)) → ((i : ℕ) → i < g → times_in others i ≡ 0) → IsFirstReady (Some g) (times_ready (Some g) others) (times_in others)
 apart_first g others none = (λ i. omega arith, λ i low. let no : one_if (nat_eq g i) ≡ 0 = ap one_if (ne_eqb g i (λ e. omega (arith, e, low))) in omega (arith, no, none i low))
 
 -- of as many ready gates
@@ -395,7 +395,7 @@ comes_to slots n c done heads links ready u low =
     }
 
 -- whether its slots are open
-passed_open : (slots : List ℕ) (n c : ℕ) (done heads links : List ℕ) (ready : ℕ → ℕ) → IsUnderway slots n c done [] heads links ready → c < n → (is_open heads links (2 * c) ≡ not (is_free slots done (2 * c))) × (is_open heads links (2 * c + 1) ≡ not (is_free slots done (2 * c + 1)))
+passed_open : (slots : List ℕ) (n c : ℕ) (done heads links : List ℕ) (ready : ℕ → ℕ) → IsUnderway slots n c done [] heads links ready → c < n → (is_open heads links (2 * c) ≡ not (waits_for_nothing slots done (2 * c))) × (is_open heads links (2 * c + 1) ≡ not (waits_for_nothing slots done (2 * c + 1)))
 passed_open slots n c done heads links ready u low = (
   open_is slots n done heads links (2 * c) u.are u.marks (u.kept.first c (omega arith)) (omega (arith, u.are.count, low)),
   open_is slots n done heads links (2 * c + 1) u.are u.marks (u.kept.second c) (omega (arith, u.are.count, low)),
@@ -404,22 +404,22 @@ passed_open slots n c done heads links ready u low = (
 -- it waits for the first of its operands, for the second one, or is next
 pub waits_for_first : (slots : List ℕ) (n c : ℕ) (done heads links heads_put links_put : List ℕ) (ready : ℕ → ℕ) → IsUnderway slots n c done [] heads links ready → c < n → is_open heads links (2 * c) ≡ true → IsPut c (2 * c) heads links heads_put links_put → IsUnderway slots n (c + 1) done [] heads_put links_put ready
 waits_for_first slots n c done heads links heads_put links_put ready u low opened is =
-    let free : is_free slots done (2 * c) ≡ false = not-true (is_free slots done (2 * c)) (sym (passed_open slots n c done heads links ready u low).0 ∙ opened) in
+    let free : waits_for_nothing slots done (2 * c) ≡ false = not-true (waits_for_nothing slots done (2 * c)) (sym (passed_open slots n c done heads links ready u low).0 ∙ opened) in
     put slots n (c + 1) done [] heads links heads_put links_put ready ready c (2 * c) (comes_to slots n c done heads links ready u low) refl (omega arith) (omega (arith, u.are.count, low)) (u.kept.first c (omega arith)) free (awaited_first slots done c free) is (λ i. refl)
 
 pub waits_for_second : (slots : List ℕ) (n c : ℕ) (done heads links heads_put links_put : List ℕ) (ready : ℕ → ℕ) → IsUnderway slots n c done [] heads links ready → c < n → is_open heads links (2 * c) ≡ false → is_open heads links (2 * c + 1) ≡ true → IsPut c (2 * c + 1) heads links heads_put links_put
     → IsUnderway slots n (c + 1) done [] heads_put links_put ready
 waits_for_second slots n c done heads links heads_put links_put ready u low closed opened is =
     let p = passed_open slots n c done heads links ready u low in
-    let first : is_free slots done (2 * c) ≡ true = not-false (is_free slots done (2 * c)) (sym p.0 ∙ closed) in
-    let free : is_free slots done (2 * c + 1) ≡ false = not-true (is_free slots done (2 * c + 1)) (sym p.1 ∙ opened) in
+    let first : waits_for_nothing slots done (2 * c) ≡ true = not-false (waits_for_nothing slots done (2 * c)) (sym p.0 ∙ closed) in
+    let free : waits_for_nothing slots done (2 * c + 1) ≡ false = not-true (waits_for_nothing slots done (2 * c + 1)) (sym p.1 ∙ opened) in
     put slots n (c + 1) done [] heads links heads_put links_put ready ready c (2 * c + 1) (comes_to slots n c done heads links ready u low) refl (omega arith) (omega (arith, u.are.count, low)) (u.kept.second c) free (awaited_second slots done c false first free) is (λ i. refl)
 
 pub taken_at_once : (slots : List ℕ) (n c : ℕ) (done heads links : List ℕ) (ready : ℕ → ℕ) → IsUnderway slots n c done [] heads links ready → c < n → ((i : ℕ) → ready i ≡ 0) → is_open heads links (2 * c) ≡ false → is_open heads links (2 * c + 1) ≡ false → IsTaken slots n (c + 1) done c heads links ready
 taken_at_once slots n c done heads links ready u low none closed shut =
     let p = passed_open slots n c done heads links ready u low in
-    let first : is_free slots done (2 * c) ≡ true = not-false (is_free slots done (2 * c)) (sym p.0 ∙ closed) in
-    let second : is_free slots done (2 * c + 1) ≡ true = not-false (is_free slots done (2 * c + 1)) (sym p.1 ∙ shut) in
+    let first : waits_for_nothing slots done (2 * c) ≡ true = not-false (waits_for_nothing slots done (2 * c)) (sym p.0 ∙ closed) in
+    let second : waits_for_nothing slots done (2 * c + 1) ≡ true = not-false (waits_for_nothing slots done (2 * c + 1)) (sym p.1 ∙ shut) in
     let new : list_any (nat_eq c) done ≡ false = false_unless (list_any (nat_eq c) done) (λ t. omega (arith, u.before c t)) in
     record {
       underway = comes_to slots n c done heads links ready u low;
@@ -439,7 +439,7 @@ AreFirst-push passes done (i ∷ js) j a f = (a.0, AreFirst-push passes (done ++
 pub record IsFreed (slots : List ℕ) (bound : ℕ) (done : List ℕ) (j : ℕ) : Type 0 where
   pub low : j < bound
   pub left : list_any (nat_eq j) done ≡ false
-  pub first : is_free slots done (2 * j) ≡ true
+  pub first : waits_for_nothing slots done (2 * j) ≡ true
 
 -- on the way along the chain of a gate that has its place now
 pub record IsWalk (slots : List ℕ) (n bound : ℕ) (done heads links : List ℕ) (ready : ℕ → ℕ) (at : ℕ) : Type 0 where
@@ -590,7 +590,7 @@ pub walk_step : (slots : List ℕ) (n bound : ℕ) (done heads links heads_now l
     → (is_open heads links (2 * j + 1) ≡ true → IsPut j (2 * j + 1) heads links heads_now links_now × ((i : ℕ) → now i ≡ ready i)) → (is_open heads links (2 * j + 1) ≡ false → (heads_now ≡ heads) × (links_now ≡ links) × ((i : ℕ) → now i ≡ ready i + one_if (nat_eq j i)))
     → (w : IsWalk slots n bound done heads_now links_now now next) × (suc (length w.rest) ≡ left)
 walk_step slots n bound done heads links heads_now links_now ready now j left next a e waits notes =
-    subst (λ (k : ℕ). (w : IsWalk slots n bound done heads_now links_now now k) × (suc (length w.rest) ≡ left)) (sym e) (by (is_free slots done (2 * j + 1)) refl)
+    subst (λ (k : ℕ). (w : IsWalk slots n bound done heads_now links_now now k) × (suc (length w.rest) ≡ left)) (sym e) (by (waits_for_nothing slots done (2 * j + 1)) refl)
   where
     u : IsUnderway slots n bound done (j ∷ a.rest) heads links ready
     u = a.underway
@@ -598,10 +598,10 @@ walk_step slots n bound done heads links heads_now links_now ready now j left ne
     place : 2 * j + 1 < length slots
     place = omega (arith, u.are.count, a.here.low, u.low)
 
-    test : is_open heads links (2 * j + 1) ≡ not (is_free slots done (2 * j + 1))
+    test : is_open heads links (2 * j + 1) ≡ not (waits_for_nothing slots done (2 * j + 1))
     test = open_is slots n done heads links (2 * j + 1) u.are u.marks (u.kept.second j) place
 
-    by : (b : Bool) → is_free slots done (2 * j + 1) ≡ b → (w : IsWalk slots n bound done heads_now links_now now (slot_at links (2 * j))) × (suc (length w.rest) ≡ left)
+    by : (b : Bool) → waits_for_nothing slots done (2 * j + 1) ≡ b → (w : IsWalk slots n bound done heads_now links_now now (slot_at links (2 * j))) × (suc (length w.rest) ≡ left)
     by false t =
         let is = waits (test ∙ ap not t) in
         let after : IsUnderway slots n bound done a.rest heads_now links_now now = put slots n bound done a.rest heads links heads_now links_now ready now j (2 * j + 1) u a.new a.here.low place (u.kept.second j) t (awaited_second slots done j false a.here.first t) is.0 is.1 in

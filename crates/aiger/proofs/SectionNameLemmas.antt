@@ -16,7 +16,7 @@ use Rattle.std.specs.Map.{lookup}
 use Rattle.aiger.specs.declared.circuit.Section.{Section}
 use Rattle.aiger.specs.declared.circuit.Section.TheVariants as section
 use Rattle.aiger.specs.Limits.{greatest_count}
-use Rattle.aiger.specs.Circuit.{Circuit, IsCircuit, IsNamed, Place, NameMap, Names, rank, place_cmp, name_in, name_of, name_at, section_count, section_names, with_name}
+use Rattle.aiger.specs.Circuit.{Circuit, IsCircuit, IsNamed, NamePlace, NameMap, Names, rank, place_cmp, name_in, name_of, name_at, section_count, section_names, with_name}
 use Rattle.aiger.proofs.NameLemmas.{entries_from_lookups, exact_places, places_total, places_apart, positions_apart, lookup-insert_entry, section_from_rank}
 
 -- lists as long and with the same elements are the same
@@ -57,7 +57,7 @@ pub section_names-unnamed : (s : Section) (c : Circuit) → c.names ≡ [] → s
 section_names-unnamed s c e = ap (λ (ns : NameMap). map (λ k. name_in ns s k) (range_with_len 0 (section_count s c))) e ∙ none_from_map s 0 (section_count s c)
 
 -- a test that is passed is of places that are the same
-same_place : (p q : Place) → is_eq (place_cmp p q) ≡ true → p ≡ q
+same_place : (p q : NamePlace) → is_eq (place_cmp p q) ≡ true → p ≡ q
 same_place p q t = by (place_cmp p q) refl t
   where
     by : (r : Ordering) → place_cmp p q ≡ r → is_eq r ≡ true → p ≡ q
@@ -66,13 +66,13 @@ same_place p q t = by (place_cmp p q) refl t
     by Greater e t = absurd (cc)
 
 -- a name of a circuit is at a place of a section, and of one of its positions
-section_of_name : (c : Circuit) (q : Place) (v : List ℕ) → IsCircuit c → lookup (is_at (place_cmp q)) c.names ≡ Some v → (s : Section) × ((q ≡ (rank s, q.1)) × (q.1 < section_count s c))
+section_of_name : (c : Circuit) (q : NamePlace) (v : List ℕ) → IsCircuit c → lookup (is_at (place_cmp q)) c.names ≡ Some v → (s : Section) × ((q ≡ (rank s, q.1)) × (q.1 < section_count s c))
 section_of_name c q v valid e =
     let found = place_from_lookup (is_at (place_cmp q)) c.names v e in
     let there : found.0 < length c.names = slice_get_within c.names found.0 (found.1, v) found.2 in
     let same : q ≡ found.1 = same_place q found.1 found.3 in
     let named : IsNamed c (found.1, v) = subst (IsNamed c) (get_or_from_slice_get c.names found.0 (found.1, v) (found.1, v) found.2) (All-get_or (IsNamed c) c.names found.0 (found.1, v) there valid.names.named) in
-    (named.section, (ap (λ (r : ℕ). (r, q.1)) (ap (λ (p : Place). p.0) same ∙ named.is_section), omega (arith, ap (λ (p : Place). p.1) same, named.position)))
+    (named.section, (ap (λ (r : ℕ). (r, q.1)) (ap (λ (p : NamePlace). p.0) same ∙ named.is_section), omega (arith, ap (λ (p : NamePlace). p.1) same, named.position)))
 
 -- so it has no names behind its positions
 pub name_of-outside : (c : Circuit) (s : Section) (k : ℕ) → IsCircuit c → section_count s c ≤ k → name_of c s k ≡ None
@@ -82,7 +82,7 @@ name_of-outside c s k valid out = by (name_of c s k) refl
     by None e = e
     by (Some v) e =
         let at = section_of_name c (rank s, k) v valid e in
-        let section : s ≡ at.0 = section_from_rank s at.0 (ap (λ (p : Place). p.0) at.1.0) in
+        let section : s ≡ at.0 = section_from_rank s at.0 (ap (λ (p : NamePlace). p.0) at.1.0) in
         absurd (omega (arith, out, at.1.1, ap (λ (t : Section). section_count t c) section))
 
 -- so a position more has none
@@ -153,12 +153,12 @@ few_positions section.Justice c valid = valid.few.justice
 few_positions section.Fair c valid = valid.few.fair
 
 -- names that are found alike at each position are found alike at each place
-found_alike : (c d : Circuit) (q : Place) → IsCircuit c → IsCircuit d → ((s : Section) (k : ℕ) → name_of d s k ≡ name_of c s k)
+found_alike : (c d : Circuit) (q : NamePlace) → IsCircuit c → IsCircuit d → ((s : Section) (k : ℕ) → name_of d s k ≡ name_of c s k)
     → lookup (is_at (place_cmp q)) d.names ≡ lookup (is_at (place_cmp q)) c.names
 found_alike c d q valid other same = by (lookup (is_at (place_cmp q)) d.names) refl (lookup (is_at (place_cmp q)) c.names) refl
   where
     here : (s : Section) → q ≡ (rank s, q.1) → lookup (is_at (place_cmp q)) d.names ≡ lookup (is_at (place_cmp q)) c.names
-    here s e = subst (λ (p : Place). lookup (is_at (place_cmp p)) d.names ≡ lookup (is_at (place_cmp p)) c.names) (sym e) (same s q.1)
+    here s e = subst (λ (p : NamePlace). lookup (is_at (place_cmp p)) d.names ≡ lookup (is_at (place_cmp p)) c.names) (sym e) (same s q.1)
 
     by : (r : Option (List ℕ)) → lookup (is_at (place_cmp q)) d.names ≡ r → (t : Option (List ℕ)) → lookup (is_at (place_cmp q)) c.names ≡ t
         → lookup (is_at (place_cmp q)) d.names ≡ lookup (is_at (place_cmp q)) c.names

@@ -9,7 +9,7 @@ use Rattle.aiger.specs.declared.circuit.Latch.{Latch}
 use Rattle.base.specs.Literal.{Valuation, literal_value}
 use Rattle.aiger.specs.Net.{variables, SatisfiesFrom, AreOrderedFrom, bits_from}
 use Rattle.aiger.specs.Circuit.{Circuit, IsCircuit, net}
-use Rattle.aiger.specs.Trace.{IsFrame, IsTrace, next_state, SameFrame, SameTrace}
+use Rattle.aiger.specs.Trace.{IsCircuitFrame, IsCircuitTrace, next_latch_bits, SameCircuitFrame, SameCircuitTrace}
 use Rattle.aiger.proofs.NetLemmas.{length-bits_from}
 
 -- a valuation with another bit at one variable
@@ -104,7 +104,7 @@ frame_of : Circuit → List Bool → List Bool → Valuation
 frame_of c state input =
     put_gates (suc (c.inputs + length c.latches)) c.gates (put_bits (suc c.inputs) state (put_bits 1 input (λ k. false)))
 
-IsFrame-frame_of : (c : Circuit) (state input : List Bool) → IsCircuit c → length state ≡ length c.latches → length input ≡ c.inputs → IsFrame c state input (frame_of c state input)
+IsFrame-frame_of : (c : Circuit) (state input : List Bool) → IsCircuit c → length state ≡ length c.latches → length input ≡ c.inputs → IsCircuitFrame c state input (frame_of c state input)
 unfolding frame_of
 IsFrame-frame_of c state input valid s i =
     let inner : Valuation = put_bits 1 input (λ k. false) in
@@ -120,13 +120,13 @@ IsFrame-frame_of c state input valid s i =
     }
 
 -- there is a trace
-pub trace_exists : (c : Circuit) (state : List Bool) (inputs : List (List Bool)) → IsCircuit c → length state ≡ length c.latches → All (λ input. length input ≡ c.inputs) inputs → (vs : List Valuation) × IsTrace c state inputs vs
+pub trace_exists : (c : Circuit) (state : List Bool) (inputs : List (List Bool)) → IsCircuit c → length state ≡ length c.latches → All (λ input. length input ≡ c.inputs) inputs → (vs : List Valuation) × IsCircuitTrace c state inputs vs
 trace_exists c state [] valid s is = ([], tt)
 trace_exists c state (input ∷ inputs) valid s is =
     let v : Valuation = frame_of c state input in
-    let frame : IsFrame c state input v = IsFrame-frame_of c state input valid s (All-head (λ (x : List Bool). length x ≡ c.inputs) input inputs is) in
-    let n : length (next_state c v) ≡ length c.latches = length-map c.latches (λ (latch : Latch). literal_value v latch.next) in
-    let rest = trace_exists c (next_state c v) inputs valid n (All-tail (λ (x : List Bool). length x ≡ c.inputs) input inputs is) in
+    let frame : IsCircuitFrame c state input v = IsFrame-frame_of c state input valid s (All-head (λ (x : List Bool). length x ≡ c.inputs) input inputs is) in
+    let n : length (next_latch_bits c v) ≡ length c.latches = length-map c.latches (λ (latch : Latch). literal_value v latch.next) in
+    let rest = trace_exists c (next_latch_bits c v) inputs valid n (All-tail (λ (x : List Bool). length x ≡ c.inputs) input inputs is) in
     (v ∷ rest.0, (frame, rest.1))
 
 -- valuations that agree below the gates agree on the gates too
@@ -141,7 +141,7 @@ agree_more first (g ∷ gs) v w one o s t a =
     λ k low high. all k low (omega arith)
 
 -- two frames from the same bits are the same
-pub SameFrame-from_bits : (c : Circuit) (state input : List Bool) (v w : Valuation) → IsCircuit c → IsFrame c state input v → IsFrame c state input w → SameFrame c v w
+pub SameFrame-from_bits : (c : Circuit) (state input : List Bool) (v w : Valuation) → IsCircuit c → IsCircuitFrame c state input v → IsCircuitFrame c state input w → SameCircuitFrame c v w
 SameFrame-from_bits c state input v w valid p q =
     let first : ℕ = suc (c.inputs + length c.latches) in
     let i : bits_from 1 c.inputs v ≡ bits_from 1 c.inputs w = p.inputs ∙ sym q.inputs in
@@ -159,45 +159,45 @@ next_bits-agree bound (l ∷ ls) v w a d =
     cc
 
 -- so they leave the same state
-pub next_state-agree : (c : Circuit) (v w : Valuation) → IsCircuit c → SameFrame c v w → next_state c v ≡ next_state c w
+pub next_state-agree : (c : Circuit) (v w : Valuation) → IsCircuit c → SameCircuitFrame c v w → next_latch_bits c v ≡ next_latch_bits c w
 next_state-agree c v w valid same =
     let bound : ℕ = suc (variables (net c)) in
     next_bits-agree bound c.latches v w (λ k low high. same k low (omega arith)) (λ k d h. omega (arith, valid.defined.nexts k d h))
 
 -- and two traces are the same
-pub trace_unique : (c : Circuit) (state : List Bool) (inputs : List (List Bool)) (vs ws : List Valuation) → IsCircuit c → IsTrace c state inputs vs → IsTrace c state inputs ws → SameTrace c vs ws
+pub trace_unique : (c : Circuit) (state : List Bool) (inputs : List (List Bool)) (vs ws : List Valuation) → IsCircuit c → IsCircuitTrace c state inputs vs → IsCircuitTrace c state inputs ws → SameCircuitTrace c vs ws
 trace_unique c state [] [] [] valid s t = tt
 trace_unique c state [] [] (w ∷ ws) valid s t = absurd t
 trace_unique c state [] (v ∷ vs) ws valid s t = absurd s
 trace_unique c state (input ∷ inputs) [] ws valid s t = absurd s
 trace_unique c state (input ∷ inputs) (v ∷ vs) [] valid s t = absurd t
 trace_unique c state (input ∷ inputs) (v ∷ vs) (w ∷ ws) valid s t =
-    let same : SameFrame c v w = SameFrame-from_bits c state input v w valid s.0 t.0 in
-    let e : next_state c v ≡ next_state c w = next_state-agree c v w valid same in
-    let rest : IsTrace c (next_state c v) inputs ws = subst (λ (st : List Bool). IsTrace c st inputs ws) (sym e) t.1 in
-    (same, trace_unique c (next_state c v) inputs vs ws valid s.1 rest)
+    let same : SameCircuitFrame c v w = SameFrame-from_bits c state input v w valid s.0 t.0 in
+    let e : next_latch_bits c v ≡ next_latch_bits c w = next_state-agree c v w valid same in
+    let rest : IsCircuitTrace c (next_latch_bits c v) inputs ws = subst (λ (st : List Bool). IsCircuitTrace c st inputs ws) (sym e) t.1 in
+    (same, trace_unique c (next_latch_bits c v) inputs vs ws valid s.1 rest)
 
 -- ---- how long traces are
 
 -- a trace has as many frames as there are input frames
-pub trace_length : (c : Circuit) (state : List Bool) (inputs : List (List Bool)) (vs : List Valuation) → IsTrace c state inputs vs → length vs ≡ length inputs
+pub trace_length : (c : Circuit) (state : List Bool) (inputs : List (List Bool)) (vs : List Valuation) → IsCircuitTrace c state inputs vs → length vs ≡ length inputs
 trace_length c state [] [] t = refl
 trace_length c state [] (v ∷ vs) t = absurd t
 trace_length c state (input ∷ inputs) [] t = absurd t
-trace_length c state (input ∷ inputs) (v ∷ vs) t = ap suc (trace_length c (next_state c v) inputs vs t.1)
+trace_length c state (input ∷ inputs) (v ∷ vs) t = ap suc (trace_length c (next_latch_bits c v) inputs vs t.1)
 
 -- each of which has a bit for each input
-pub trace_inputs : (c : Circuit) (state : List Bool) (inputs : List (List Bool)) (vs : List Valuation) → IsTrace c state inputs vs → All (λ input. length input ≡ c.inputs) inputs
+pub trace_inputs : (c : Circuit) (state : List Bool) (inputs : List (List Bool)) (vs : List Valuation) → IsCircuitTrace c state inputs vs → All (λ input. length input ≡ c.inputs) inputs
 trace_inputs c state [] vs t = All-nil (λ input. length input ≡ c.inputs)
 trace_inputs c state (input ∷ inputs) [] t = absurd t
 trace_inputs c state (input ∷ inputs) (v ∷ vs) t =
-    All-cons (λ input. length input ≡ c.inputs) input inputs (ap length (sym t.0.inputs) ∙ length-bits_from 1 c.inputs v) (trace_inputs c (next_state c v) inputs vs t.1)
+    All-cons (λ input. length input ≡ c.inputs) input inputs (ap length (sym t.0.inputs) ∙ length-bits_from 1 c.inputs v) (trace_inputs c (next_latch_bits c v) inputs vs t.1)
 
 -- and of so many of the first
-pub trace_taken : (c : Circuit) (state : List Bool) (inputs : List (List Bool)) (vs : List Valuation) (n : ℕ) → IsTrace c state inputs vs → IsTrace c state (take n inputs) (take n vs)
+pub trace_taken : (c : Circuit) (state : List Bool) (inputs : List (List Bool)) (vs : List Valuation) (n : ℕ) → IsCircuitTrace c state inputs vs → IsCircuitTrace c state (take n inputs) (take n vs)
 trace_taken c state [] [] zero t = tt
 trace_taken c state [] [] (suc n) t = tt
 trace_taken c state [] (v ∷ vs) n t = absurd t
 trace_taken c state (input ∷ inputs) [] n t = absurd t
 trace_taken c state (input ∷ inputs) (v ∷ vs) zero t = tt
-trace_taken c state (input ∷ inputs) (v ∷ vs) (suc n) t = (t.0, trace_taken c (next_state c v) inputs vs n t.1)
+trace_taken c state (input ∷ inputs) (v ∷ vs) (suc n) t = (t.0, trace_taken c (next_latch_bits c v) inputs vs n t.1)

@@ -13,7 +13,7 @@ use Rattle.aiger.specs.declared.fault.CircuitFault.TheVariants.{LiteralOutOfRang
 use Rattle.aiger.specs.Limits.{greatest_count}
 use Rattle.base.specs.Literal.{variable}
 use Rattle.aiger.specs.Net.{Net, variables, IsDefined, AreOrdered}
-pub use Rattle.aiger.specs.Names.{Place, NameMap, rank, letter, all_sections, place_cmp, name_in, with_name_in, Names, given_name, name_at, IsName, is_name}
+pub use Rattle.aiger.specs.Names.{NamePlace, NameMap, rank, letter, all_sections, place_cmp, name_in, with_name_in, Names, given_name, name_at, IsName, is_name}
 pub use Rattle.aiger.specs.Refusal.{RefusesBy, RefusesOnlyBy}
 
 pub record Circuit : Type 0 where
@@ -123,7 +123,7 @@ abbrev pub HasDefined : Net → Circuit → Type 0
 HasDefined n c = AllLiterals (IsDefined n) c
 
 -- a name that a circuit may have at a place: its section has the position
-pub record IsNamed (c : Circuit) (entry : Place × List ℕ) : Type 0 where
+pub record IsNamed (c : Circuit) (entry : NamePlace × List ℕ) : Type 0 where
   pub section : Section
   pub is_section : entry.0.0 ≡ rank section
   pub position : entry.0.1 < section_count section c

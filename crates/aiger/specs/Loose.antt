@@ -163,8 +163,8 @@ pub record IsLoose (l : Loose) : Type 0 where
   pub names : HasNames (sections_of l)
 
 -- the first fault of a line that defines a variable and has these further literals: the defining literal, a limit
-abbrev pub line_refusal : Loose → ℕ → List ℕ → Option CircuitFault
-line_refusal l defining others =
+abbrev pub loose_line_refusal : Loose → ℕ → List ℕ → Option CircuitFault
+loose_line_refusal l defining others =
     if is_defining defining && not (is_defined l (variable defining))
     then (if list_all is_small (defining ∷ others) then count_refusal (defined_count l) else Some TooBig)
     else Some LiteralOutOfRange

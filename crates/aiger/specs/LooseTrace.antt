@@ -30,7 +30,7 @@ IsLooseTrace l state (input ∷ inputs) (v ∷ vs) =
     IsLooseFrame l state input v × IsLooseTrace l (loose_next_state l v) inputs vs
 
 -- a file and a circuit show the same latches, outputs, bad properties and constraints
-pub record ShowsSame (l : Loose) (c : Circuit) (v : Valuation) (w : Valuation) : Type 0 where
+pub record ShowsSameAsFile (l : Loose) (c : Circuit) (v : Valuation) (w : Valuation) : Type 0 where
   pub latches : map (λ line. v (latch_variable line)) l.latches ≡ latch_bits (net c) w
   pub outputs : map (literal_value v) l.outputs ≡ map (literal_value w) c.outputs
   pub bads : map (literal_value v) l.bads ≡ map (literal_value w) c.bads
@@ -38,4 +38,4 @@ pub record ShowsSame (l : Loose) (c : Circuit) (v : Valuation) (w : Valuation) :
 
 -- as many frames, and the same in each
 abbrev pub AllShowSame : Loose → Circuit → List Valuation → List Valuation → Type 0
-AllShowSame l c vs ws = AllZip (ShowsSame l c) vs ws
+AllShowSame l c vs ws = AllZip (ShowsSameAsFile l c) vs ws

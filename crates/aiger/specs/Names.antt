@@ -34,16 +34,16 @@ abbrev pub all_sections : List Section
 all_sections = Input ∷ Latch ∷ Output ∷ Bad ∷ Constraint ∷ Justice ∷ Fair ∷ []
 
 -- a place of a name: its section's rank, and the position
-abbrev pub Place : Type 0
-Place = ℕ × ℕ
+abbrev pub NamePlace : Type 0
+NamePlace = ℕ × ℕ
 
 -- places in order: by section, then by position
-abbrev pub place_cmp : Place → Place → Ordering
+abbrev pub place_cmp : NamePlace → NamePlace → Ordering
 place_cmp = λ p q. ordering_then (nat_cmp p.0 q.0) (nat_cmp p.1 q.1)
 
 -- the names that there are, in the order of their places: whatever order they were given in, the same names are the same list
 abbrev pub NameMap : Type 0
-NameMap = List (Place × List ℕ)
+NameMap = List (NamePlace × List ℕ)
 
 -- the name of a position of a section, if it has one
 abbrev pub name_in : NameMap → Section → ℕ → Option (List ℕ)

@@ -42,8 +42,8 @@ bits_from first zero v = []
 bits_from first (suc count) v = v first ∷ bits_from (suc first) count v
 
 -- the bits of the inputs, and of the latches
-abbrev pub input_bits : Net → Valuation → List Bool
-input_bits n v = bits_from 1 n.inputs v
+abbrev pub net_input_bits : Net → Valuation → List Bool
+net_input_bits n v = bits_from 1 n.inputs v
 
 abbrev pub latch_bits : Net → Valuation → List Bool
 latch_bits n v = bits_from (suc n.inputs) n.latches v

@@ -20,12 +20,12 @@ abbrev pub line_in : List GateLine → ℕ → GateLine
 line_in lines j = slice_index_or lines j (record { lhs = 0; rhs0 = 0; rhs1 = 0 })
 
 -- the variable of the gate line at a position
-abbrev pub name_in : List GateLine → ℕ → ℕ
-name_in lines j = gate_variable (line_in lines j)
+abbrev pub gate_name_at : List GateLine → ℕ → ℕ
+gate_name_at lines j = gate_variable (line_in lines j)
 
 -- the number of a variable in a list of variables in the order of their numbers, from 1; 0 where it does not stand there
-abbrev pub number_in : List ℕ → ℕ → ℕ
-number_in names v = if list_any (nat_eq v) names then suc (position_or_len (nat_eq v) names) else 0
+abbrev pub number_among : List ℕ → ℕ → ℕ
+number_among names v = if list_any (nat_eq v) names then suc (position_or_len (nat_eq v) names) else 0
 
 -- what a literal waits for, by the places of the defined variables, of which so many first ones are no gates
 abbrev pub slot_of : List ℕ → ℕ → ℕ → ℕ
@@ -42,7 +42,7 @@ WaitForEarlier names leaves gates = (j : ℕ) → j < length gates → (slot_of 
 -- the operands of each gate of an order have numbers once the gates before it have theirs, behind those of these variables
 abbrev pub UseNumbered : List ℕ → List GateLine → List ℕ → Type 0
 UseNumbered names lines order = (k j : ℕ) → k < length order → j ≡ slice_index_or order k j
-    → (has_number (names ++ map (name_in lines) (take k order)) (line_in lines j).rhs0 ≡ true) × (has_number (names ++ map (name_in lines) (take k order)) (line_in lines j).rhs1 ≡ true)
+    → (has_number (names ++ map (gate_name_at lines) (take k order)) (line_in lines j).rhs0 ≡ true) × (has_number (names ++ map (gate_name_at lines) (take k order)) (line_in lines j).rhs1 ≡ true)
 
 -- the gates of a file in the order of readiness, until none is ready, and for how many operands each waits then
 pub record IsReadyOrder (l : Loose) (order : List ℕ) (waiting : List ℕ) : Type 0 where

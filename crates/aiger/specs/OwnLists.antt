@@ -8,9 +8,9 @@ use Rattle.aiger.specs.Circuit.{Circuit}
 use Rattle.aiger.specs.Loose.{Loose}
 
 -- so many input lines, the first of which defines the given variable
-abbrev pub own_inputs : ℕ → ℕ → List ℕ
-own_inputs first zero = []
-own_inputs first (suc n) = 2 * first ∷ own_inputs (suc first) n
+abbrev pub own_input_lines : ℕ → ℕ → List ℕ
+own_input_lines first zero = []
+own_input_lines first (suc n) = 2 * first ∷ own_input_lines (suc first) n
 
 -- the latch lines
 abbrev pub own_latches : ℕ → List Latch → List LatchLine
@@ -26,7 +26,7 @@ own_gates first (g ∷ gs) = record { lhs = 2 * first; rhs0 = g.rhs0; rhs1 = g.r
 abbrev pub own_lists : Circuit → Loose
 own_lists c =
     record {
-      inputs = own_inputs 1 c.inputs;
+      inputs = own_input_lines 1 c.inputs;
       latches = own_latches (suc c.inputs) c.latches;
       gates = own_gates (suc (c.inputs + length c.latches)) c.gates;
       outputs = c.outputs;

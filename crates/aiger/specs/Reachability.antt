@@ -3,7 +3,7 @@ use Rattle.std.specs.Prelude.{◌≡◌, ℕ, Bool, true, List, map}
 use Rattle.base.specs.Shown.{Shown, rises_within}
 use Rattle.base.specs.Literal.{Valuation, literal_value}
 use Rattle.aiger.specs.Circuit.{Circuit}
-use Rattle.aiger.specs.Trace.{AreInitial, IsTrace}
+use Rattle.aiger.specs.Trace.{AreInitial, IsCircuitTrace}
 
 -- what a valuation of a circuit shows
 abbrev pub circuit_shows : Circuit → Valuation → Shown
@@ -15,5 +15,5 @@ pub record CanRiseInCircuit (c : Circuit) (b : ℕ) : Type 0 where
   pub inputs : List (List Bool)
   pub frames : List Valuation
   pub initial : AreInitial c.latches state
-  pub trace : IsTrace c state inputs frames
+  pub trace : IsCircuitTrace c state inputs frames
   pub rises : rises_within b (map (circuit_shows c) frames) ≡ true

@@ -10,12 +10,12 @@ abbrev pub slot_at : List ℕ → ℕ → ℕ
 slot_at slots s = slice_index_or slots s 0
 
 -- a slot waits for nothing once these gates are done
-abbrev pub is_free : List ℕ → List ℕ → ℕ → Bool
-is_free slots done s = nat_eq (slot_at slots s) 0 || list_any (λ g. nat_eq (slot_at slots s) (suc g)) done
+abbrev pub waits_for_nothing : List ℕ → List ℕ → ℕ → Bool
+waits_for_nothing slots done s = nat_eq (slot_at slots s) 0 || list_any (λ g. nat_eq (slot_at slots s) (suc g)) done
 
 -- what a gate waits for once these gates are done: the first of its slots that waits, or 0
 abbrev pub awaited : List ℕ → List ℕ → ℕ → ℕ
-awaited slots done j = if is_free slots done (2 * j) then (if is_free slots done (2 * j + 1) then 0 else slot_at slots (2 * j + 1)) else slot_at slots (2 * j)
+awaited slots done j = if waits_for_nothing slots done (2 * j) then (if waits_for_nothing slots done (2 * j + 1) then 0 else slot_at slots (2 * j + 1)) else slot_at slots (2 * j)
 
 -- a gate may be next: it is not done, and it waits for nothing
 abbrev pub may_be_next : List ℕ → ℕ → List ℕ → ℕ → Bool
@@ -67,9 +67,9 @@ abbrev pub one_if : Bool → ℕ
 one_if test = cond test 1 0
 
 -- how often a gate is ready: as the one that stands apart, and in a heap
-abbrev pub times : Option ℕ → List (Reverse ℕ) → ℕ → ℕ
-times None others i = count_by (λ (g : Reverse ℕ). nat_eq g.0 i) others
-times (Some first) others i = one_if (nat_eq first i) + count_by (λ (g : Reverse ℕ). nat_eq g.0 i) others
+abbrev pub times_ready : Option ℕ → List (Reverse ℕ) → ℕ → ℕ
+times_ready None others i = count_by (λ (g : Reverse ℕ). nat_eq g.0 i) others
+times_ready (Some first) others i = one_if (nat_eq first i) + count_by (λ (g : Reverse ℕ). nat_eq g.0 i) others
 
 -- the first one is taken from those that are ready, where there is one
 abbrev pub IsFirstReady : Option ℕ → (ℕ → ℕ) → (ℕ → ℕ) → Type 0

@@ -14,21 +14,21 @@ RefusesOnlyBy (Ok x) fault = fault ≡ None
 RefusesOnlyBy (Err e) fault = fault ≡ Some e
 
 -- the number that is printed for a fault
-abbrev pub fault_number : CircuitFault → ℕ
-fault_number LiteralOutOfRange = 40
-fault_number OrderBroken = 41
-fault_number TooBig = 42
-fault_number NoMemory = 43
-fault_number NoSuchPosition = 44
-fault_number NameTaken = 45
-fault_number BadName = 46
+abbrev pub circuit_fault_number : CircuitFault → ℕ
+circuit_fault_number LiteralOutOfRange = 40
+circuit_fault_number OrderBroken = 41
+circuit_fault_number TooBig = 42
+circuit_fault_number NoMemory = 43
+circuit_fault_number NoSuchPosition = 44
+circuit_fault_number NameTaken = 45
+circuit_fault_number BadName = 46
 
 -- the name that is printed for a fault
-abbrev pub fault_name : CircuitFault → List ℕ
-fault_name LiteralOutOfRange = codes "LiteralOutOfRange"
-fault_name OrderBroken = codes "OrderBroken"
-fault_name TooBig = codes "TooBig"
-fault_name NoMemory = codes "NoMemory"
-fault_name NoSuchPosition = codes "NoSuchPosition"
-fault_name NameTaken = codes "NameTaken"
-fault_name BadName = codes "BadName"
+abbrev pub circuit_fault_name : CircuitFault → List ℕ
+circuit_fault_name LiteralOutOfRange = codes "LiteralOutOfRange"
+circuit_fault_name OrderBroken = codes "OrderBroken"
+circuit_fault_name TooBig = codes "TooBig"
+circuit_fault_name NoMemory = codes "NoMemory"
+circuit_fault_name NoSuchPosition = codes "NoSuchPosition"
+circuit_fault_name NameTaken = codes "NameTaken"
+circuit_fault_name BadName = codes "BadName"

@@ -41,8 +41,8 @@ abbrev pub gate_name : Loose → ℕ → ℕ
 gate_name l j = gate_variable (gate_line l j)
 
 -- the variables that have numbers once these gates have theirs, in the order of their numbers, which begin with 1
-abbrev pub numbered : Loose → List ℕ → List ℕ
-numbered l order = map variable l.inputs ++ map latch_variable l.latches ++ map (gate_name l) order
+abbrev pub variables_numbered : Loose → List ℕ → List ℕ
+variables_numbered l order = map variable l.inputs ++ map latch_variable l.latches ++ map (gate_name l) order
 
 -- a literal's variable is 0 or has a number
 abbrev pub has_number : List ℕ → ℕ → Bool
@@ -52,7 +52,7 @@ has_number names lit = variable lit == 0 || list_any (nat_eq (variable lit)) nam
 abbrev pub is_ready : Loose → List ℕ → ℕ → Bool
 is_ready l order j =
     nat_lt j (length l.gates) && (not (list_any (nat_eq j) order)
-    && (has_number (numbered l order) (gate_line l j).rhs0 && has_number (numbered l order) (gate_line l j).rhs1))
+    && (has_number (variables_numbered l order) (gate_line l j).rhs0 && has_number (variables_numbered l order) (gate_line l j).rhs1))
 
 -- further gates get their numbers in turn: each is the first in the file of those that are ready after the ones before it
 abbrev pub AreInTurn : Loose → List ℕ → List ℕ → Type 0
@@ -94,7 +94,7 @@ circuit_by l names gates =
 
 -- the circuit in which the gates have their numbers in this order; variables without a definition are gone
 abbrev pub renumbered : Loose → List ℕ → Circuit
-renumbered l order = circuit_by l (numbered l order) (map (λ j. new_gate (numbered l order) (gate_line l j)) order)
+renumbered l order = circuit_by l (variables_numbered l order) (map (λ j. new_gate (variables_numbered l order) (gate_line l j)) order)
 
 -- a circuit is the lists of a file with the numbers of a circuit
 pub record IsRenumbered (l : Loose) (c : Circuit) : Type 0 where

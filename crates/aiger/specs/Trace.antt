@@ -5,25 +5,25 @@ use Rattle.aiger.specs.declared.circuit.Latch.{Latch}
 use Rattle.aiger.specs.declared.circuit.Reset.{Reset}
 use Rattle.aiger.specs.declared.circuit.Reset.TheVariants.{Zero, One, Free}
 use Rattle.base.specs.Literal.{Valuation, literal_value}
-use Rattle.aiger.specs.Net.{variables, Satisfies, input_bits, latch_bits}
+use Rattle.aiger.specs.Net.{variables, Satisfies, net_input_bits, latch_bits}
 use Rattle.aiger.specs.Circuit.{Circuit, net}
 
 -- a frame from these latch bits and input bits: a valuation that satisfies the gates and has them
-pub record IsFrame (c : Circuit) (state : List Bool) (input : List Bool) (v : Valuation) : Type 0 where
+pub record IsCircuitFrame (c : Circuit) (state : List Bool) (input : List Bool) (v : Valuation) : Type 0 where
   pub gates : Satisfies (net c) v
-  pub inputs : input_bits (net c) v ≡ input
+  pub inputs : net_input_bits (net c) v ≡ input
   pub latches : latch_bits (net c) v ≡ state
 
 -- the latches' bits in the frame after v: those of their next literals
-abbrev pub next_state : Circuit → Valuation → List Bool
-next_state c v = map (λ latch. literal_value v latch.next) c.latches
+abbrev pub next_latch_bits : Circuit → Valuation → List Bool
+next_latch_bits c v = map (λ latch. literal_value v latch.next) c.latches
 
 -- a trace: as many frames as input frames, each from the state that the one before leaves
-abbrev pub IsTrace : Circuit → List Bool → List (List Bool) → List Valuation → Type 0
-IsTrace c state [] [] = Unit {0}
-IsTrace c state [] (v ∷ vs) = ⊥
-IsTrace c state (input ∷ inputs) [] = ⊥
-IsTrace c state (input ∷ inputs) (v ∷ vs) = IsFrame c state input v × IsTrace c (next_state c v) inputs vs
+abbrev pub IsCircuitTrace : Circuit → List Bool → List (List Bool) → List Valuation → Type 0
+IsCircuitTrace c state [] [] = Unit {0}
+IsCircuitTrace c state [] (v ∷ vs) = ⊥
+IsCircuitTrace c state (input ∷ inputs) [] = ⊥
+IsCircuitTrace c state (input ∷ inputs) (v ∷ vs) = IsCircuitFrame c state input v × IsCircuitTrace c (next_latch_bits c v) inputs vs
 
 -- a first bit agrees with a reset
 abbrev pub AgreesWithReset : Reset → Bool → Type 0
@@ -36,9 +36,9 @@ abbrev pub AreInitial : List Latch → List Bool → Type 0
 AreInitial latches bits = AllZip (λ (l : Latch) b. AgreesWithReset l.reset b) latches bits
 
 -- two valuations say the same of each variable of a circuit
-abbrev pub SameFrame : Circuit → Valuation → Valuation → Type 0
-SameFrame c v w = (k : ℕ) → 1 ≤ k → k ≤ variables (net c) → v k ≡ w k
+abbrev pub SameCircuitFrame : Circuit → Valuation → Valuation → Type 0
+SameCircuitFrame c v w = (k : ℕ) → 1 ≤ k → k ≤ variables (net c) → v k ≡ w k
 
 -- two traces are as long, and say the same in each frame
-abbrev pub SameTrace : Circuit → List Valuation → List Valuation → Type 0
-SameTrace c vs ws = AllZip (SameFrame c) vs ws
+abbrev pub SameCircuitTrace : Circuit → List Valuation → List Valuation → Type 0
+SameCircuitTrace c vs ws = AllZip (SameCircuitFrame c) vs ws

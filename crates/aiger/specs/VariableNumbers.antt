@@ -14,5 +14,5 @@ abbrev pub paged_number : VariablePages → ℕ → ℕ
 paged_number n v = in_page (get nat_eq n.pages (v / 16)) (v % 16)
 
 -- the number of a variable, or 0
-abbrev pub number_of : VariableNumbers → ℕ → ℕ
-number_of n v = if nat_lt v (length n.low.items) then slice_index_or n.low.items v 0 else paged_number n.others v
+abbrev pub number_kept : VariableNumbers → ℕ → ℕ
+number_kept n v = if nat_lt v (length n.low.items) then slice_index_or n.low.items v 0 else paged_number n.others v

@@ -18,8 +18,8 @@ abbrev pub on : Valuation
 on k = k == 1
 
 -- one gate of two inputs, with these operands
-abbrev pub one_gate : ℕ → ℕ → Net
-one_gate rhs0 rhs1 =
+abbrev pub one_gate_net : ℕ → ℕ → Net
+one_gate_net rhs0 rhs1 =
     record { inputs = 2; latches = 0; gates = record { rhs0 = rhs0; rhs1 = rhs1 } ∷ [] }
 
 -- two inputs and two gates, the second of which in the file has the first one's variable in an operand; the output is the second one
@@ -54,8 +54,8 @@ looped =
     }
 
 -- a latch that toggles, under the variable 5, with its own literal as reset
-abbrev pub named_toggler : Loose
-named_toggler =
+abbrev pub loose_toggler : Loose
+loose_toggler =
     record empty_loose {
       latches = record { current = 10; next = 11; reset = Free } ∷ [];
       outputs = 10 ∷ [];

@@ -1,6 +1,6 @@
 //! Why a circuit refuses what it is given, and why the lists of a file have no circuit.
 ghost use Rattle.std.specs.Prelude.{◌≡◌};
-ghost use Rattle.aiger.specs.Refusal.{fault_number, fault_name};
+ghost use Rattle.aiger.specs.Refusal.{circuit_fault_number, circuit_fault_name};
 ghost use Rattle.aiger.specs.Renumbering.{loose_fault_number, loose_fault_name};
 
 use std::alloc::AllocError;
@@ -32,7 +32,7 @@ pub enum CircuitFault {
 impl CircuitFault {
     /// The number that is printed for the fault.
     pub fn number(self) -> u32
-        ensures { result ≡ fault_number self }
+        ensures { result ≡ circuit_fault_number self }
     {
         match self {
             CircuitFault::LiteralOutOfRange => 40,
@@ -47,7 +47,7 @@ impl CircuitFault {
 
     /// The name that is printed for the fault.
     pub fn name(self) -> &'static str
-        ensures { result.now ≡ fault_name self }
+        ensures { result.now ≡ circuit_fault_name self }
     {
         match self {
             CircuitFault::LiteralOutOfRange => "LiteralOutOfRange",

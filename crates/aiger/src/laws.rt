@@ -5,13 +5,13 @@ ghost use Rattle.aiger.specs.Net.{Satisfies, AreOrdered};
 ghost use Rattle.aiger.specs.Circuit.{Circuit, IsCircuit, NameMap, rank, letter, all_sections, name_in, name_of, with_name, name_refusal};
 ghost use Rattle.aiger.specs.declared.circuit.Section.{Section};
 ghost use Rattle.aiger.specs.declared.circuit.TheConstants.Section.{ALL};
-ghost use Rattle.aiger.specs.Trace.{IsTrace, SameTrace, AreInitial};
+ghost use Rattle.aiger.specs.Trace.{IsCircuitTrace, SameCircuitTrace, AreInitial};
 ghost use Rattle.aiger.specs.declared.fault.CircuitFault.TheVariants.{LiteralOutOfRange, TooBig};
-ghost use Rattle.aiger.specs.Loose.{Loose, IsLoose, HasDefinitions, empty_loose, with_input_line, line_refusal, use_refusal};
+ghost use Rattle.aiger.specs.Loose.{Loose, IsLoose, HasDefinitions, empty_loose, with_input_line, loose_line_refusal, use_refusal};
 ghost use Rattle.aiger.specs.LooseTrace.{IsLooseTrace, AllShowSame};
 ghost use Rattle.aiger.specs.Renumbering.{IsRenumbered, IsOrder, LeadsToCycle, DependsOn, IsFirstCyclic, first_undefined, renumbered};
 ghost use Rattle.aiger.specs.OwnLists.{own_lists};
-ghost use Rattle.aiger.specs.Worked.{toggler, off, on, one_gate, crossed, backwards, straight, looped, led, far, of_each, of_each_numbered, toggler_of_any, unknown, named_toggler, named_off, named_on};
+ghost use Rattle.aiger.specs.Worked.{toggler, off, on, one_gate_net, crossed, backwards, straight, looped, led, far, of_each, of_each_numbered, toggler_of_any, unknown, loose_toggler, named_off, named_on};
 
 use crate::literal::Lit;
 
@@ -22,11 +22,11 @@ pub fn exactly_one_trace()
     ensures exists { (c : Circuit) (state : List Bool) (inputs : List (List Bool))
         → IsCircuit c → length state ≡ length c.latches
         → All (λ input. length input ≡ c.inputs) inputs
-        → (vs : List Valuation) × IsTrace c state inputs vs }
+        → (vs : List Valuation) × IsCircuitTrace c state inputs vs }
     // Any two say the same of each variable in each frame.
     ensures unique { (c : Circuit) (state : List Bool) (inputs : List (List Bool)) (vs ws : List Valuation)
-        → IsCircuit c → IsTrace c state inputs vs → IsTrace c state inputs ws
-        → SameTrace c vs ws }
+        → IsCircuit c → IsCircuitTrace c state inputs vs → IsCircuitTrace c state inputs ws
+        → SameCircuitTrace c vs ws }
 {}
 
 /// The names of a circuit are a map from section and position: in whatever order they were given,
@@ -53,7 +53,7 @@ pub fn renumbered_traces()
         → (vs : List Valuation) × IsLooseTrace l state inputs vs }
     // Each of its traces shows what a trace of the circuit shows.
     ensures same { (l : Loose) (c : Circuit) (state : List Bool) (inputs : List (List Bool)) (vs ws : List Valuation)
-        → IsLoose l → IsRenumbered l c → IsLooseTrace l state inputs vs → IsTrace c state inputs ws
+        → IsLoose l → IsRenumbered l c → IsLooseTrace l state inputs vs → IsCircuitTrace c state inputs ws
         → AllShowSame l c vs ws }
     // The latches begin alike.
     ensures resets { (l : Loose) (c : Circuit) → IsRenumbered l c
@@ -89,18 +89,18 @@ pub fn worked_traces()
     ensures odd { (v : Valuation) (k : ℕ) → 0 < k → literal_value v (2 * k + 1) ≡ not (v k) }
     ensures negations { (negation 0 ≡ 1) × (negation 1 ≡ 0) × (negation 6 ≡ 7) × (negation 7 ≡ 6) }
     // A gate of two inputs is true exactly when both are.
-    ensures gate { (v : Valuation) → Satisfies (one_gate 4 2) v ↔ (v 3 ≡ (v 1 && v 2)) }
+    ensures gate { (v : Valuation) → Satisfies (one_gate_net 4 2) v ↔ (v 3 ≡ (v 1 && v 2)) }
     // Its operands are below it, the greater one first.
-    ensures ordered { AreOrdered (one_gate 4 2) × AreOrdered (one_gate 5 5) }
-    ensures exchanged { ¬ AreOrdered (one_gate 2 4) }
-    ensures of_itself { ¬ AreOrdered (one_gate 6 2) }
+    ensures ordered { AreOrdered (one_gate_net 4 2) × AreOrdered (one_gate_net 5 5) }
+    ensures exchanged { ¬ AreOrdered (one_gate_net 2 4) }
+    ensures of_itself { ¬ AreOrdered (one_gate_net 6 2) }
     // The latch that toggles begins with 0, and is 1 in the frame after.
     ensures valid { IsCircuit toggler }
     ensures begins { AreInitial toggler.latches (false ∷ []) }
     ensures begins_otherwise { ¬ AreInitial toggler.latches (true ∷ []) }
-    ensures toggles { IsTrace toggler (false ∷ []) ([] ∷ [] ∷ []) (off ∷ on ∷ []) }
-    ensures stays { ¬ IsTrace toggler (false ∷ []) ([] ∷ [] ∷ []) (off ∷ off ∷ []) }
-    ensures ends_early { ¬ IsTrace toggler (false ∷ []) ([] ∷ [] ∷ []) (off ∷ []) }
+    ensures toggles { IsCircuitTrace toggler (false ∷ []) ([] ∷ [] ∷ []) (off ∷ on ∷ []) }
+    ensures stays { ¬ IsCircuitTrace toggler (false ∷ []) ([] ∷ [] ∷ []) (off ∷ off ∷ []) }
+    ensures ends_early { ¬ IsCircuitTrace toggler (false ∷ []) ([] ∷ [] ∷ []) (off ∷ []) }
     ensures rises { (literal_value off 2 ≡ false) × (literal_value on 2 ≡ true) }
 {
     prove!(Lit::FALSE.number() == 0);
@@ -132,17 +132,17 @@ pub fn worked_renumbering()
     ensures led { IsFirstCyclic led 0 × (¬ DependsOn led 0 0) × DependsOn led 1 1 }
     // The number of a variable comes from its line alone.
     ensures far { (renumbered far []).outputs ≡ 2 ∷ [] }
-    ensures alone { renumbered named_toggler [] ≡ toggler_of_any }
+    ensures alone { renumbered loose_toggler [] ≡ toggler_of_any }
     ensures of_each { IsRenumbered of_each of_each_numbered }
     // The lists of a circuit in its own numbers.
     ensures own { ((own_lists straight).inputs ≡ 2 ∷ 4 ∷ []) × ((own_lists straight).gates ≡ record { lhs = 6; rhs0 = 5; rhs1 = 2 } ∷ record { lhs = 8; rhs0 = 6; rhs1 = 3 } ∷ []) }
     // A variable that is defined twice, and a defining literal that is odd.
     ensures twice { ¬ HasDefinitions (with_input_line (with_input_line empty_loose 4) 4) }
-    ensures odd { line_refusal empty_loose 5 [] ≡ Some LiteralOutOfRange }
-    ensures again { line_refusal crossed 12 (2147483650 ∷ []) ≡ Some LiteralOutOfRange }
-    ensures too_big { (line_refusal crossed 10 (2147483650 ∷ []) ≡ Some TooBig) × (use_refusal 0 2147483650 ≡ Some TooBig) }
+    ensures odd { loose_line_refusal empty_loose 5 [] ≡ Some LiteralOutOfRange }
+    ensures again { loose_line_refusal crossed 12 (2147483650 ∷ []) ≡ Some LiteralOutOfRange }
+    ensures too_big { (loose_line_refusal crossed 10 (2147483650 ∷ []) ≡ Some TooBig) × (use_refusal 0 2147483650 ≡ Some TooBig) }
     ensures at_the_limit { use_refusal 0 2147483649 ≡ None }
     // The toggler under another name, from 0 and from 1.
-    ensures toggles { IsLooseTrace named_toggler (false ∷ []) ([] ∷ [] ∷ []) (named_off ∷ named_on ∷ []) }
-    ensures stays { ¬ IsLooseTrace named_toggler (false ∷ []) ([] ∷ [] ∷ []) (named_off ∷ named_off ∷ []) }
+    ensures toggles { IsLooseTrace loose_toggler (false ∷ []) ([] ∷ [] ∷ []) (named_off ∷ named_on ∷ []) }
+    ensures stays { ¬ IsLooseTrace loose_toggler (false ∷ []) ([] ∷ [] ∷ []) (named_off ∷ named_off ∷ []) }
 {}

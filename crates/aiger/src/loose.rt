@@ -77,7 +77,7 @@ impl Model for Loose {
 }
 
 impl Loose {
-    ghost use Rattle.aiger.specs.Loose.{IsLoose, empty_loose, is_defined, defined_count, sections_of, loose_name, with_input_line, with_latch_line, with_gate_line, with_output_line, with_bad_line, with_constraint_line, with_justice_lines, with_fair_line, with_loose_name, line_refusal, use_refusal, loose_justice_refusal, loose_name_refusal};
+    ghost use Rattle.aiger.specs.Loose.{IsLoose, empty_loose, is_defined, defined_count, sections_of, loose_name, with_input_line, with_latch_line, with_gate_line, with_output_line, with_bad_line, with_constraint_line, with_justice_lines, with_fair_line, with_loose_name, loose_line_refusal, use_refusal, loose_justice_refusal, loose_name_refusal};
 
     /// Empty lists. It takes no memory.
     pub fn new(alloc: Global) -> Loose
@@ -103,7 +103,7 @@ impl Loose {
     /// above 2^30 or there are 2^30 definitions already, `NoMemory`.
     pub fn push_input(&mut self, lit: Lit) -> Result<(), CircuitFault>
         ensures ok { OnOk result (self.new ≡ with_input_line self.old lit) }
-        ensures refused { RefusesBy result (line_refusal self.old lit []) }
+        ensures refused { RefusesBy result (loose_line_refusal self.old lit []) }
         ensures err { OnErr result (self.new ≡ self.old) }
     {
         if !self.may_define(lit) {
@@ -121,7 +121,7 @@ impl Loose {
     /// 2^30 or there are 2^30 definitions already, `NoMemory`.
     pub fn push_latch(&mut self, current: Lit, next: Lit, reset: Reset) -> Result<(), CircuitFault>
         ensures ok { OnOk result (self.new ≡ with_latch_line self.old (record { current = current; next = next; reset = reset })) }
-        ensures refused { RefusesBy result (line_refusal self.old current (next ∷ [])) }
+        ensures refused { RefusesBy result (loose_line_refusal self.old current (next ∷ [])) }
         ensures err { OnErr result (self.new ≡ self.old) }
     {
         if !self.may_define(current) {
@@ -144,7 +144,7 @@ impl Loose {
     /// 2^30 or there are 2^30 definitions already, `NoMemory`.
     pub fn push_gate(&mut self, lhs: Lit, rhs0: Lit, rhs1: Lit) -> Result<(), CircuitFault>
         ensures ok { OnOk result (self.new ≡ with_gate_line self.old (record { lhs = lhs; rhs0 = rhs0; rhs1 = rhs1 })) }
-        ensures refused { RefusesBy result (line_refusal self.old lhs (rhs0 ∷ rhs1 ∷ [])) }
+        ensures refused { RefusesBy result (loose_line_refusal self.old lhs (rhs0 ∷ rhs1 ∷ [])) }
         ensures err { OnErr result (self.new ≡ self.old) }
     {
         if !self.may_define(lhs) {

@@ -34,11 +34,11 @@ pub struct NameKeeper {
 impl Model for NameKeeper {
     ghost use Rattle.std.specs.Prelude.{map};
     ghost use Rattle.aiger.specs.Names.{NameMap};
-    ghost use Rattle.aiger.specs.FlatNames.{at_places, with_names};
+    ghost use Rattle.aiger.specs.FlatNames.{at_places, with_flat_names};
 
     ghost Value = { NameMap };
 
-    ghost view = { λ k. with_names (at_places k.in_order) (map (λ e. (e.0, e.1.items)) k.others.entries) };
+    ghost view = { λ k. with_flat_names (at_places k.in_order) (map (λ e. (e.0, e.1.items)) k.others.entries) };
 }
 
 impl NameKeeper {

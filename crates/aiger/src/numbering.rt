@@ -4,7 +4,7 @@ ghost use Rattle.std.specs.List.{list_all, position};
 ghost use Rattle.aiger.specs.Limits.{greatest_count};
 ghost use Rattle.base.specs.Literal.{variable};
 ghost use Rattle.aiger.specs.Loose.{IsLoose, defined_variables, latch_variable};
-ghost use Rattle.aiger.specs.Renumbering.{AnswersNumber, IsOrder, first_undefined, numbered};
+ghost use Rattle.aiger.specs.Renumbering.{AnswersNumber, IsOrder, first_undefined, variables_numbered};
 ghost use Rattle.aiger.specs.Numbering.{slots_of, IsOnce, WaitForEarlier};
 
 use crate::circuit::Circuit;

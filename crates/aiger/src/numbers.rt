@@ -5,8 +5,8 @@ ghost use Rattle.aiger.specs.Limits.{greatest_count};
 ghost use Rattle.base.specs.Literal.{variable};
 ghost use Rattle.aiger.specs.Loose.{latch_variable, gate_variable};
 ghost use Rattle.aiger.specs.Renumbering.{new_literal};
-ghost use Rattle.aiger.specs.Numbering.{IsOnce, WaitForEarlier, number_in, slot_of, slots_of};
-ghost use Rattle.aiger.specs.VariableNumbers.{number_of};
+ghost use Rattle.aiger.specs.Numbering.{IsOnce, WaitForEarlier, number_among, slot_of, slots_of};
+ghost use Rattle.aiger.specs.VariableNumbers.{number_kept};
 
 use crate::literal::Lit;
 use crate::loose::{GateLine, LatchLine};
@@ -29,14 +29,14 @@ pub struct Numbers {
 impl Model for Numbers {
     ghost use Rattle.std.specs.Prelude.{◌≡◌, ◌++◌, ℕ, List};
     ghost use Rattle.std.specs.List.{range_with_len};
-    ghost use Rattle.aiger.specs.Numbering.{number_in};
-    ghost use Rattle.aiger.specs.VariableNumbers.{number_of};
+    ghost use Rattle.aiger.specs.Numbering.{number_among};
+    ghost use Rattle.aiger.specs.VariableNumbers.{number_kept};
 
     ghost Value = { List ℕ };
 
     ghost view = { λ n. range_with_len 1 n.in_turn ++ n.variables.items };
 
-    ghost invariant = { λ n. (v : ℕ) → number_of n.numbers v ≡ number_in n.variables.items v };
+    ghost invariant = { λ n. (v : ℕ) → number_kept n.numbers v ≡ number_among n.variables.items v };
 }
 
 impl Numbers {
@@ -215,7 +215,7 @@ impl Numbers {
 /// The place of a variable in a list, from 0, by the numbers that the variables have there, or how many there are where
 /// it is not among them.
 fn place_in(variables: &[u32], numbers: &VariableNumbers, variable: u32) -> usize
-    requires { (v : ℕ) → number_of numbers.now v ≡ number_in variables.now v }
+    requires { (v : ℕ) → number_kept numbers.now v ≡ number_among variables.now v }
     ensures place { result ≡ position_or_len (nat_eq variable) variables.now }
     ensures within { result ≤ length variables.now }
 {

@@ -1,6 +1,6 @@
 //! A number for each variable that was given one.
 ghost use Rattle.std.specs.Prelude.{◌≡◌, ℕ, OnOk, OnErr, IfOk, nat_eq, cond};
-ghost use Rattle.aiger.specs.VariableNumbers.{number_of};
+ghost use Rattle.aiger.specs.VariableNumbers.{number_kept};
 
 use crate::variable_pages::VariablePages;
 use std::alloc::{AllocError, Global};
@@ -16,7 +16,7 @@ pub struct VariableNumbers {
 impl VariableNumbers {
     /// No variable has a number yet, and those below this one are low.
     pub fn new(alloc: Global, low: usize) -> Result<VariableNumbers, AllocError>
-        ensures { IfOk result (λ n. (v : ℕ) → number_of n v ≡ 0) }
+        ensures { IfOk result (λ n. (v : ℕ) → number_kept n v ≡ 0) }
     {
         Ok(VariableNumbers {
             low: vec![in alloc; 0u32; low]?,
@@ -27,7 +27,7 @@ impl VariableNumbers {
     /// The number of a variable, or 0. It takes no memory.
     #[inline(always)]
     pub fn get(&self, variable: u32) -> u32
-        ensures { result ≡ number_of self.now variable }
+        ensures { result ≡ number_kept self.now variable }
     {
         if (variable as usize) < self.low.len() {
             return self.low[variable as usize];
@@ -38,8 +38,8 @@ impl VariableNumbers {
     /// Gives a variable a number. The error is want of memory, and nothing has changed then.
     #[inline(always)]
     pub fn set(&mut self, variable: u32, number: u32) -> Result<(), AllocError>
-        ensures set { OnOk result ((v : ℕ) → number_of self.new v ≡ cond (nat_eq variable v) number (number_of self.old v)) }
-        ensures kept { OnErr result ((v : ℕ) → number_of self.new v ≡ number_of self.old v) }
+        ensures set { OnOk result ((v : ℕ) → number_kept self.new v ≡ cond (nat_eq variable v) number (number_kept self.old v)) }
+        ensures kept { OnErr result ((v : ℕ) → number_kept self.new v ≡ number_kept self.old v) }
     {
         if (variable as usize) < self.low.len() {
             self.low[variable as usize] = number;

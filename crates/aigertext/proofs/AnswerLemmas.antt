@@ -8,19 +8,19 @@ use Rattle.aigertext.specs.declared.fault.Stop.{Stop}
 use Rattle.aigertext.specs.declared.fault.Why.{Why}
 use Rattle.aigertext.specs.declared.fault.Why.TheVariants as why
 use Rattle.aigertext.specs.declared.fault.ReadFault.{ReadFault}
-use Rattle.aigertext.specs.AsciiReading.{AnswersText, IsFaultOf, GivesCircuit}
-use Rattle.aigertext.specs.Passes.{told, IsOfText, ReadsText}
+use Rattle.aigertext.specs.AsciiReading.{AnswersText, IsAsciiFaultOf, GivesCircuit}
+use Rattle.aigertext.specs.Passes.{told, IsTextWhy, ReadsText}
 use Rattle.aigertext.specs.declared.reading.taking.Taken.{Taken}
 use Rattle.aigertext.specs.declared.reading.taking.Taken.TheVariants as taken
-use Rattle.aigertext.specs.InOrder.{IsReadOf, IsTaken}
-use Rattle.aigertext.specs.Spelling.{Spells}
+use Rattle.aigertext.specs.InOrder.{IsReadOf, IsTakenFrom}
+use Rattle.aigertext.specs.Spelling.{SpellsCircuit}
 use Rattle.aigertext.proofs.AsciiStandsLemmas.{IsCircuitLaw, spells-read, read-spells}
 use Rattle.aigertext.proofs.ReadStandsLemmas.{NameLaw}
 use Rattle.aigertext.proofs.BackLemmas.{ok_same}
 use Rattle.aigertext.proofs.GateBackLemmas.{bytes_of}
 use Rattle.aigertext.proofs.StandsLemmas.{not_stopped}
 
-pub text_spells : IsCircuitLaw → NameLaw → (text : List ℕ) (c : Circuit) → ((i : ℕ) → Fits w8 (get_or text i 0)) → AnswersText text (Ok c) → Spells text c
+pub text_spells : IsCircuitLaw → NameLaw → (text : List ℕ) (c : Circuit) → ((i : ℕ) → Fits w8 (get_or text i 0)) → AnswersText text (Ok c) → SpellsCircuit text c
 text_spells circuit law text c bytes answers = read-spells circuit law text c (bytes_of text bytes) answers
 
 -- ---- where reading stopped
@@ -32,7 +32,7 @@ fault_by why.NoMemory text total s e same long is (inr stops) = inl is
 fault_by why.Device text total s e same long is (inr stops) = inl is
 fault_by w text total s e same long is (inr stops) =
     inr (
-      subst IsOfText (sym (ap (λ (f : ReadFault). f.why) is)) tt,
+      subst IsTextWhy (sym (ap (λ (f : ReadFault). f.why) is)) tt,
       record { stop = s; stops = stops; is = is ∙ ap (λ (n : ℕ). record { place = n - s.left; why = w }) (sym long) ∙ ap (λ (v : Why). record { place = length text - s.left; why = v }) (sym same) },
     )
 
@@ -46,7 +46,7 @@ abbrev pub OneAnswer : Type 0
 OneAnswer = (text : List ℕ) (a b : Result Circuit Stop) → AnswersText text a → AnswersText text b → a ≡ b
 
 abbrev pub Explained : Option (List ℕ) → ReadFault → Type 0
-Explained known e = IfSome known (λ text. (e.why ≡ why.Device) ⊎ ((e.why ≡ why.NoMemory) ⊎ IsFaultOf text e))
+Explained known e = IfSome known (λ text. (e.why ≡ why.Device) ⊎ ((e.why ≡ why.NoMemory) ⊎ IsAsciiFaultOf text e))
 
 module _ (law : IsCircuitLaw) (one_answer : OneAnswer) where
   pub found : (known : Option (List ℕ)) (r : Result Circuit ReadFault) → IsReadOf known r → IfOk r (λ c. IfSome known (λ all. AnswersText all (Ok c)))
@@ -64,12 +64,12 @@ module _ (law : IsCircuitLaw) (one_answer : OneAnswer) where
       let same : read.text ≡ all = subst (λ (k : Option (List ℕ)). IfSome k (λ t. read.text ≡ t)) is read.is in
       gives read.text r c (subst (λ (t : List ℕ). AnswersText t (Ok c)) (sym same) answers) read.reads
 
-  pub each : (known : Option (List ℕ)) (r : Result Circuit ReadFault) → IsReadOf known r → (all : List ℕ) (c : Circuit) → known ≡ Some all → Spells all c → GivesCircuit r c
+  pub each : (known : Option (List ℕ)) (r : Result Circuit ReadFault) → IsReadOf known r → (all : List ℕ) (c : Circuit) → known ≡ Some all → SpellsCircuit all c → GivesCircuit r c
   each known r read all c is spells = only known r read all c is (spells-read law all c spells)
 
-pub spells : (known : Option (List ℕ)) (r : Result Circuit ReadFault) → IsReadOf known r → IfOk r (λ c. IfSome known (λ all. Spells all c))
+pub spells : (known : Option (List ℕ)) (r : Result Circuit ReadFault) → IsReadOf known r → IfOk r (λ c. IfSome known (λ all. SpellsCircuit all c))
 spells None (Ok c) read = tt
-spells (Some all) (Ok c) read = subst (λ (t : List ℕ). Spells t c) read.is read.reads
+spells (Some all) (Ok c) read = subst (λ (t : List ℕ). SpellsCircuit t c) read.is read.reads
 spells known (Err e) read = tt
 
 pub fault : (known : Option (List ℕ)) (r : Result Circuit ReadFault) → IsReadOf known r → IfErr r (Explained known)
@@ -78,7 +78,7 @@ fault None (Err e) read = tt
 fault (Some all) (Err e) read =
     elim read.reads [
       | inl full ↦ inr (inl (ap (λ (f : ReadFault). f.why) full))
-      | inr f ↦ inr (inr (subst (λ (t : List ℕ). IsFaultOf t e) read.is f.1))
+      | inr f ↦ inr (inr (subst (λ (t : List ℕ). IsAsciiFaultOf t e) read.is f.1))
     ]
 
 memory_is_no_device : why.NoMemory ≡ why.Device → ⊥
@@ -86,7 +86,7 @@ memory_is_no_device e = cc
 
 no_device : (text : List ℕ) (e : ReadFault) → ReadsText text (Err e) → e.why ≡ why.Device → ⊥
 no_device text e (inl full) is = memory_is_no_device (sym (ap (λ (f : ReadFault). f.why) full) ∙ is)
-no_device text e (inr f) is = subst IsOfText is f.0
+no_device text e (inr f) is = subst IsTextWhy is f.0
 
 pub device : (known : Option (List ℕ)) (r : Result Circuit ReadFault) (Risen : Type 0) → IsReadOf known r → IfErr r (λ e. e.why ≡ why.Device → Risen)
 device known (Ok c) Risen read = tt
@@ -97,8 +97,8 @@ place_of text e (inl full) is = ap (λ (f : ReadFault). f.place) full
 place_of text e (inr f) is = absurd (by is)
   where
     by : (e.why ≡ why.Device) ⊎ (e.why ≡ why.NoMemory) → ⊥
-    by (inl d) = subst IsOfText d f.0
-    by (inr d) = subst IsOfText d f.0
+    by (inl d) = subst IsTextWhy d f.0
+    by (inr d) = subst IsTextWhy d f.0
 
 pub place : (known : Option (List ℕ)) (r : Result Circuit ReadFault) → IsReadOf known r → IfErr r (λ e. (e.why ≡ why.Device) ⊎ (e.why ≡ why.NoMemory) → e.place ≡ 0)
 place known (Ok c) read = tt
@@ -111,7 +111,7 @@ some_kept P None now kept h = tt
 some_kept P (Some all) None kept h = absurd kept
 some_kept P (Some all) (Some other) kept h = subst P kept h
 
-pub taken_kept : (known now : Option (List ℕ)) (t : Taken) → Keeps known now → IsTaken now t → IsTaken known t
+pub taken_kept : (known now : Option (List ℕ)) (t : Taken) → Keeps known now → IsTakenFrom now t → IsTakenFrom known t
 taken_kept known now (taken.Circuit c) kept is = record { text = is.text; is = some_kept (λ all. is.text ≡ all) known now kept is.is; reads = is.reads }
 taken_kept known now (taken.Fault e) kept is = record { text = is.text; is = some_kept (λ all. is.text ≡ all) known now kept is.is; reads = is.reads }
 taken_kept known now (taken.Text text) kept is = some_kept (λ all. text.items ≡ all) known now kept is
@@ -120,6 +120,6 @@ nothing_held : (known now : Option (List ℕ)) → Keeps (prepend_known [] known
 nothing_held None now kept = tt
 nothing_held (Some all) now kept = kept
 
-pub all_taken : (known now : Option (List ℕ)) (r : Result Taken ReadAllFault) → Keeps (prepend_known [] known) now → IfOk r (IsTaken now) → IfOk r (IsTaken known)
+pub all_taken : (known now : Option (List ℕ)) (r : Result Taken ReadAllFault) → Keeps (prepend_known [] known) now → IfOk r (IsTakenFrom now) → IfOk r (IsTakenFrom known)
 all_taken known now (Ok t) kept is = taken_kept known now t (nothing_held known now kept) is
 all_taken known now (Err e) kept is = tt

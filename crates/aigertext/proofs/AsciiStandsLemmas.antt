@@ -11,7 +11,7 @@ use Rattle.aigertext.specs.declared.fault.Stop.{Stop}
 use Rattle.aigertext.specs.declared.forms.Form.{Form}
 use Rattle.aigertext.specs.declared.forms.Form.TheVariants.{Ascii, Binary}
 use Rattle.aigertext.specs.Counts.{AreSmall, Fits, counts_of_file}
-use Rattle.aigertext.specs.Spelling.{IsHeader, IsAsciiText, Spells, use_lines}
+use Rattle.aigertext.specs.Spelling.{IsHeader, IsAsciiText, SpellsCircuit, use_lines}
 use Rattle.aigertext.specs.Reading.{line_at, header_of, names_at}
 use Rattle.aigertext.specs.AsciiReading.{lists_of_file, AnswersNamed, AnswersUndefined, AnswersCycle, AnswersLists, AnswersBody, AnswersHeader, AnswersText}
 use Rattle.aigertext.proofs.BackLemmas.{SaysAt, line-back}
@@ -103,18 +103,18 @@ ascii-stands circuit text c h rest header answers = by (lists_of_file h rest) re
 
 -- ---- either form
 
-pub spells-read : IsCircuitLaw → (text : List ℕ) (c : Circuit) → Spells text c → AnswersText text (Ok c)
+pub spells-read : IsCircuitLaw → (text : List ℕ) (c : Circuit) → SpellsCircuit text c → AnswersText text (Ok c)
 spells-read circuit text c (inl ascii) = ascii-read circuit text c ascii
 spells-read circuit text c (inr binary) = stands-read text c binary
 
-pub read-spells : IsCircuitLaw → NameLaw → (text : List ℕ) (c : Circuit) → AreBytes text → AnswersText text (Ok c) → Spells text c
+pub read-spells : IsCircuitLaw → NameLaw → (text : List ℕ) (c : Circuit) → AreBytes text → AnswersText text (Ok c) → SpellsCircuit text c
 unfolding AnswersText
 read-spells circuit law text c bytes answers = by (line_at header_of text) refl answers
   where
-    body : (form : Form) (h : Counts) (rest : List ℕ) → line_at header_of text ≡ Ok ((form, h), rest) → AnswersBody form h rest (Ok c) → Spells text c
+    body : (form : Form) (h : Counts) (rest : List ℕ) → line_at header_of text ≡ Ok ((form, h), rest) → AnswersBody form h rest (Ok c) → SpellsCircuit text c
     body Ascii h rest e a = inl (ascii-stands circuit text c h rest e a)
     body Binary h rest e a = inr (binary-stands law text c h rest bytes e (sym a))
 
-    by : (r : Result ((Form × Counts) × List ℕ) Stop) → line_at header_of text ≡ r → AnswersHeader r (Ok c) → Spells text c
+    by : (r : Result ((Form × Counts) × List ℕ) Stop) → line_at header_of text ≡ r → AnswersHeader r (Ok c) → SpellsCircuit text c
     by (Ok x) e a = body x.0.0 x.0.1 x.1 e a
     by (Err w) e a = absurd (not_stopped c w a)

@@ -7,7 +7,7 @@ use Rattle.aiger.specs.declared.circuit.Latch.{Latch}
 use Rattle.aiger.specs.Net.{variables, AreOrderedFrom}
 use Rattle.aiger.specs.Circuit.{Circuit, IsCircuit, IsNamed, net}
 use Rattle.aiger.specs.Loose.{IsLoose}
-use Rattle.aiger.specs.OwnLists.{own_inputs, own_latches, own_gates, own_lists}
+use Rattle.aiger.specs.OwnLists.{own_input_lines, own_latches, own_gates, own_lists}
 use Rattle.aiger.specs.Renumbering.{IsRenumbered}
 use Rattle.aigertext.specs.declared.reading.counts.Counts.{Counts}
 use Rattle.aigertext.specs.declared.forms.Form.TheVariants.{Ascii}
@@ -20,7 +20,7 @@ use Rattle.aigertext.proofs.WrittenLemmas.{written_header, written_reset, writte
 
 -- ---- lines
 
-pub written_inputs : (first n : ℕ) → AreLines IsInputLine (own_inputs first n) (input_lines first n)
+pub written_inputs : (first n : ℕ) → AreLines IsInputLine (own_input_lines first n) (input_lines first n)
 written_inputs first zero = refl
 written_inputs first (suc n) = (numbers_line (2 * first ∷ []), (input_lines (suc first) n, (refl, refl, written_inputs (suc first) n)))
 
@@ -44,9 +44,9 @@ written_gates first (g ∷ gs) = (numbers_line (2 * first ∷ g.rhs0 ∷ g.rhs1 
 
 -- ---- literals
 
-inputs_up_to : (m first n : ℕ) → first + n ≤ suc m → All (λ k. k ≤ 2 * m + 1) (own_inputs first n)
+inputs_up_to : (m first n : ℕ) → first + n ≤ suc m → All (λ k. k ≤ 2 * m + 1) (own_input_lines first n)
 inputs_up_to m first zero few = All-nil (λ k. k ≤ 2 * m + 1)
-inputs_up_to m first (suc n) few = All-cons (λ k. k ≤ 2 * m + 1) (2 * first) (own_inputs (suc first) n) (omega (arith, few)) (inputs_up_to m (suc first) n (omega (arith, few)))
+inputs_up_to m first (suc n) few = All-cons (λ k. k ≤ 2 * m + 1) (2 * first) (own_input_lines (suc first) n) (omega (arith, few)) (inputs_up_to m (suc first) n (omega (arith, few)))
 
 latches_up_to : (m first : ℕ) (ls : List Latch) → first + length ls ≤ suc m → All (λ l. l.next ≤ 2 * m + 1) ls → All (λ line. (line.current ≤ 2 * m + 1) × (line.next ≤ 2 * m + 1)) (own_latches first ls)
 latches_up_to m first [] few h = All-nil (λ line. (line.current ≤ 2 * m + 1) × (line.next ≤ 2 * m + 1))

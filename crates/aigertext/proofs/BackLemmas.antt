@@ -9,7 +9,7 @@ use Rattle.aigertext.specs.declared.fault.Stop.{Stop}
 use Rattle.aigertext.specs.declared.fault.Why.{Why}
 use Rattle.aigertext.specs.declared.fault.Why.TheVariants as why
 use Rattle.aigertext.specs.Ascii.{literal_lines}
-use Rattle.aigertext.specs.Reading.{◌>>=◌, at, some_or, cut, onto_front, cut_line, line_at, lines_at, within, literal_of, literals_at, size_within, size_of, sizes_at}
+use Rattle.aigertext.specs.Reading.{◌>>=◌, at_front, some_or, cut_at_byte, onto_front, cut_line, line_at, lines_at, within, literal_on, literals_at, size_within, size_of, sizes_at}
 
 -- what an answer has
 abbrev pub ok_or : {A E : Type 0} → A → Result A E → A
@@ -55,17 +55,17 @@ pub record IsCut (byte : ℕ) (text front behind : List ℕ) : Type 0 where
   pub parts : text ≡ front ++ byte ∷ behind
   pub none : HasNone byte front
 
-pub cut-back : (byte : ℕ) (text : List ℕ) (x : List ℕ × List ℕ) → cut byte text ≡ Some x → IsCut byte text x.0 x.1
+pub cut-back : (byte : ℕ) (text : List ℕ) (x : List ℕ × List ℕ) → cut_at_byte byte text ≡ Some x → IsCut byte text x.0 x.1
 cut-back byte [] x e = absurd cc
 cut-back byte (b ∷ bs) x e =
-    elim (chosen (b == byte) (Some ([], bs)) (onto_front b (cut byte bs)) (Some x) e) [
+    elim (chosen (b == byte) (Some ([], bs)) (onto_front b (cut_at_byte byte bs)) (Some x) e) [
       | inl here ↦
           let is : ([], bs) ≡ x = cc (here.1) in
           subst (λ (y : List ℕ × List ℕ). IsCut byte (b ∷ bs) y.0 y.1) is (record { parts = ap (λ (c : ℕ). c ∷ bs) (eqb-true b byte here.0); none = refl })
-      | inr later ↦ go (cut byte bs) refl later.1 later.0 (λ y f. cut-back byte bs y f)
+      | inr later ↦ go (cut_at_byte byte bs) refl later.1 later.0 (λ y f. cut-back byte bs y f)
     ]
   where
-    go : (r : Option (List ℕ × List ℕ)) → cut byte bs ≡ r → onto_front b r ≡ Some x → (b == byte) ≡ false → ((y : List ℕ × List ℕ) → cut byte bs ≡ Some y → IsCut byte bs y.0 y.1) → IsCut byte (b ∷ bs) x.0 x.1
+    go : (r : Option (List ℕ × List ℕ)) → cut_at_byte byte bs ≡ r → onto_front b r ≡ Some x → (b == byte) ≡ false → ((y : List ℕ × List ℕ) → cut_at_byte byte bs ≡ Some y → IsCut byte bs y.0 y.1) → IsCut byte (b ∷ bs) x.0 x.1
     go None f g not again = absurd cc
     go (Some y) f g not again =
         let rest = again y f in
@@ -82,7 +82,7 @@ pub record SaysAt {A : Type 0} (says : List ℕ → Result A Why) (text : List �
   pub said : says line ≡ Ok x
 
 module _ {A : Type 0} (says : List ℕ → Result A Why) (text : List ℕ) (x : A) (rest : List ℕ) where
-  said_by : (y : List ℕ × List ℕ) (r : Result A Why) → IsCut 10 text y.0 y.1 → says y.0 ≡ r → ◌>>=◌ {A = A} {B = A × List ℕ} {E = Stop} (at text r) (λ a. Ok (a, y.1)) ≡ Ok (x, rest) → SaysAt says text x rest
+  said_by : (y : List ℕ × List ℕ) (r : Result A Why) → IsCut 10 text y.0 y.1 → says y.0 ≡ r → ◌>>=◌ {A = A} {B = A × List ℕ} {E = Stop} (at_front text r) (λ a. Ok (a, y.1)) ≡ Ok (x, rest) → SaysAt says text x rest
   said_by y (Err w) c s e = absurd (not_err _ _ e)
   said_by y (Ok a) c s e =
       let is : (a, y.1) ≡ (x, rest) = ok_same (a, y.1) (x, rest) e in
@@ -93,12 +93,12 @@ module _ {A : Type 0} (says : List ℕ → Result A Why) (text : List ℕ) (x : 
         said = s ∙ ap (λ (p : A × List ℕ). Ok p.0) is;
       }
 
-  cut_by : (r : Option (List ℕ × List ℕ)) → cut 10 text ≡ r → cut_line says text r ≡ Ok (x, rest) → SaysAt says text x rest
+  cut_by : (r : Option (List ℕ × List ℕ)) → cut_at_byte 10 text ≡ r → cut_line says text r ≡ Ok (x, rest) → SaysAt says text x rest
   cut_by None c e = absurd (not_err _ _ e)
   cut_by (Some y) c e = said_by y (says y.0) (cut-back 10 text y c) refl e
 
   pub line-back : line_at says text ≡ Ok (x, rest) → SaysAt says text x rest
-  line-back e = cut_by (cut 10 text) refl e
+  line-back e = cut_by (cut_at_byte 10 text) refl e
 
 -- the first of some lines, and the others
 pub record LinesBack {A S : Type 0} (says : S → List ℕ → Result A Why) (next : S → A → S) (s : S) (n : ℕ) (text : List ℕ) (xs : List A) (rest : List ℕ) : Type 0 where
@@ -145,8 +145,8 @@ within-back w greatest n (Some m) e =
       | inr wrong ↦ absurd (not_err _ _ wrong.1)
     ]
 
-pub literal-back : (greatest l : ℕ) (line : List ℕ) → greatest < 2 ^ 64 - 1 → literal_of greatest line ≡ Ok l → line ≡ decimal l
-unfolding literal_of
+pub literal-back : (greatest l : ℕ) (line : List ℕ) → greatest < 2 ^ 64 - 1 → literal_on greatest line ≡ Ok l → line ≡ decimal l
+unfolding literal_on
 literal-back greatest l line small e =
     let p = within-back why.BadNumber greatest l (number_of line) e in
     number_is_decimal line l p.0 (omega (arith, p.1))
@@ -173,7 +173,7 @@ no_numbers text ls rest e =
 pub literals-back : (greatest n : ℕ) (text ls rest : List ℕ) → greatest < 2 ^ 64 - 1 → literals_at greatest n text ≡ Ok (ls, rest) → AreNumbersAt n text ls rest
 literals-back greatest zero text ls rest small e = no_numbers text ls rest e
 literals-back greatest (suc n) text ls rest small e =
-    let b = lines-back literal_of (λ g l. g) greatest n text ls rest e in
+    let b = lines-back literal_on (λ g l. g) greatest n text ls rest e in
     let others = literals-back greatest n b.after b.others rest small b.more in
     record {
       parts = one_number text b.one.line b.after rest b.first ls b.others b.one.parts (literal-back greatest b.first b.one.line small b.one.said) others.parts b.all;

@@ -8,10 +8,10 @@ use Rattle.base.specs.Decimals.{number_of, is_decimal, is_digit, are_digits, cap
 use Rattle.base.proofs.DecimalLemmas.{digit_range, decimal_are_digits, number_of-decimal, chosen}
 use Rattle.aigertext.specs.declared.fault.Why.{Why}
 use Rattle.aigertext.specs.Ascii.{numbers_line}
-use Rattle.aigertext.specs.Reading.{cut, fields, line_at, lines_at}
+use Rattle.aigertext.specs.Reading.{cut_at_byte, fields, line_at, lines_at}
 
 -- bytes before the first of a kind are cut off
-pub cut-found : (byte : ℕ) (front rest : List ℕ) → HasNone byte front → cut byte (front ++ byte ∷ rest) ≡ Some (front, rest)
+pub cut-found : (byte : ℕ) (front rest : List ℕ) → HasNone byte front → cut_at_byte byte (front ++ byte ∷ rest) ≡ Some (front, rest)
 cut-found byte [] rest h = rw (eq-eqb byte byte refl) refl
 cut-found byte (b ∷ bs) rest h =
     let parts = or_parts (b == byte) (list_any (λ c. c == byte) bs) h in

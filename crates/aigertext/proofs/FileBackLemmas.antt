@@ -22,8 +22,8 @@ use Rattle.aigertext.specs.declared.forms.Form.TheVariants.{Ascii}
 use Rattle.aigertext.specs.Ascii.{property_lines}
 use Rattle.aigertext.specs.Counts.{AreSmall, Fits, counts_of_file}
 use Rattle.aigertext.specs.Spelling.{AreLines, IsInputLine, IsLatchLine, IsGateLine, use_lines, AreUpTo}
-use Rattle.aigertext.specs.Reading.{some_or, fields, within, Properties, lists_of, nameless, properties_at, next_fields}
-use Rattle.aigertext.specs.AsciiReading.{defining, defining_by, input_of, latch_fields, latch_of, gate_fields, gate_of, onto_lists, with_properties_of, lists_of_file}
+use Rattle.aigertext.specs.Reading.{some_or, fields, within, Properties, sized_lists, nameless, properties_at, next_fields}
+use Rattle.aigertext.specs.AsciiReading.{defining, defining_by, input_of, latch_fields, latch_of_line, gate_fields, gate_of_line, onto_lists, with_properties_of, lists_of_file}
 use Rattle.aigertext.proofs.BackLemmas.{ok_same, not_err, bind-back, bind-then, within-back}
 use Rattle.aigertext.proofs.FileReadLemmas.{inputs_onto, latches_onto, gates_onto, HasInputs, HasLeaves, input_grows, latch_grows, gate_grows}
 use Rattle.aigertext.proofs.LatchBackLemmas.{spaced, fields-back, latch_by}
@@ -110,7 +110,7 @@ module _ (greatest : ℕ) (small : greatest < 2 ^ 64 - 1) where
       subst (λ (y : LatchLine). IsLatchBack l y (spaced (current ∷ next ∷ others))) is
       (record { reset = line.0.reset; is_reset = line.0.is_reset; spelled = text ∙ ap (λ (t : List ℕ). decimal own.value ++ 32 ∷ t) line.0.spelled }, ((c.1.0.0, line.1), c.1.0.1), c.1.1)
 
-  latch-back : (l : Loose) (x : LatchLine) (line : List ℕ) → latch_of greatest l line ≡ Ok x → IsLatchBack l x line
+  latch-back : (l : Loose) (x : LatchLine) (line : List ℕ) → latch_of_line greatest l line ≡ Ok x → IsLatchBack l x line
   latch-back l x line e = subst (IsLatchBack l x) (fields-back line) (latch_line-back l x (fields line) e)
 
   -- a gate
@@ -139,7 +139,7 @@ module _ (greatest : ℕ) (small : greatest < 2 ^ 64 - 1) where
       )
   gate_by l x (f ∷ g ∷ h ∷ i ∷ more) e = absurd (not_err _ _ e)
 
-  gate-back : (l : Loose) (x : GateLine) (line : List ℕ) → gate_of greatest l line ≡ Ok x → IsGateBack l x line
+  gate-back : (l : Loose) (x : GateLine) (line : List ℕ) → gate_of_line greatest l line ≡ Ok x → IsGateBack l x line
   gate-back l x line e = subst (IsGateBack l x) (fields-back line) (gate_by l x (fields line) e)
 
 -- ---- all sections
@@ -227,7 +227,7 @@ module _ (h : Counts) (few : AreSmall h) (fits : h.inputs + h.latches + h.gates 
           outputs = all_small p.outputs q.up_to.outputs;
           bads = all_small p.bads q.up_to.bads;
           constraints = all_small p.constraints q.up_to.constraints;
-          justice = lists_hold IsSmall (lists_of p.sizes p.listed) (all_small (concat (lists_of p.sizes p.listed)) q.up_to.justice);
+          justice = lists_hold IsSmall (sized_lists p.sizes p.listed) (all_small (concat (sized_lists p.sizes p.listed)) q.up_to.justice);
           fair = all_small p.fair q.up_to.fair;
         };
       }
@@ -240,7 +240,7 @@ module _ (h : Counts) (few : AreSmall h) (fits : h.inputs + h.latches + h.gates 
           outputs = few_of (length p.outputs) h.outputs q.outputs few.outputs;
           bads = few_of (length p.bads) h.bads q.bads few.bads;
           constraints = few_of (length p.constraints) h.constraints q.constraints few.constraints;
-          justice = few_of (length (lists_of p.sizes p.listed)) h.justice (length_lists p.sizes p.listed ∙ q.sizes) few.justice;
+          justice = few_of (length (sized_lists p.sizes p.listed)) h.justice (length_lists p.sizes p.listed ∙ q.sizes) few.justice;
           justice_literals = lists_total p.sizes p.listed q.listed q.total;
           fair = few_of (length p.fair) h.fair q.fair few.fair;
         };
@@ -294,13 +294,13 @@ pub lists-back : (h : Counts) (text : List ℕ) (l : Loose) (end : List ℕ) →
 unfolding lists_of_file
 lists-back h text l end few fits e0 =
     bind-then (onto_lists (input_of (2 * h.variables + 1)) with_input_line empty_loose h.inputs text) _ (l, end) e0
-    (λ x i e1. bind-then (onto_lists (latch_of (2 * h.variables + 1)) with_latch_line x.0 h.latches x.1) _ (l, end) e1
+    (λ x i e1. bind-then (onto_lists (latch_of_line (2 * h.variables + 1)) with_latch_line x.0 h.latches x.1) _ (l, end) e1
     (λ y k e2. bind-then (properties_at h y.1) _ (l, end) e2
     (λ z q e3. sections-back h few fits text x.1 y.1 z.1 end x.0 y.0 l z.0
     (onto-back (input_of (2 * h.variables + 1)) with_input_line variable IsInputLine (IsGoodInput (2 * h.variables + 1)) HasInputs input_grows (input-back (2 * h.variables + 1) small) empty_loose x.0 h.inputs text x.1 i)
-    (onto-back (latch_of (2 * h.variables + 1)) with_latch_line latch_variable IsLatchLine (IsGoodLatch (2 * h.variables + 1)) HasLeaves latch_grows (latch-back (2 * h.variables + 1) small) x.0 y.0 h.latches x.1 y.1 k)
+    (onto-back (latch_of_line (2 * h.variables + 1)) with_latch_line latch_variable IsLatchLine (IsGoodLatch (2 * h.variables + 1)) HasLeaves latch_grows (latch-back (2 * h.variables + 1) small) x.0 y.0 h.latches x.1 y.1 k)
     (properties-back h y.1 z.0 z.1 few.variables q)
-    (onto-back (gate_of (2 * h.variables + 1)) with_gate_line gate_variable IsGateLine (IsGoodGate (2 * h.variables + 1)) (λ m. Unit {0}) gate_grows (gate-back (2 * h.variables + 1) small) (with_properties_of y.0 z.0) l h.gates z.1 end e3))))
+    (onto-back (gate_of_line (2 * h.variables + 1)) with_gate_line gate_variable IsGateLine (IsGoodGate (2 * h.variables + 1)) (λ m. Unit {0}) gate_grows (gate-back (2 * h.variables + 1) small) (with_properties_of y.0 z.0) l h.gates z.1 end e3))))
   where
     small : 2 * h.variables + 1 < 2 ^ 64 - 1
     small = omega (arith, few.variables)

@@ -21,7 +21,7 @@ use Rattle.aigertext.specs.Ascii.{numbers_line}
 use Rattle.aigertext.specs.Counts.{counts_of_file}
 use Rattle.aigertext.specs.Spelling.{AreLines, IsInputLine, IsLatchLine, IsGateLine, use_lines, AreUpTo}
 use Rattle.aigertext.specs.Reading.{within, reset_of, line_at, next_fields}
-use Rattle.aigertext.specs.AsciiReading.{defining, input_of, latch_fields, latch_of, gate_fields, gate_of, onto_lists, with_properties_of, lists_of_file}
+use Rattle.aigertext.specs.AsciiReading.{defining, input_of, latch_fields, latch_of_line, gate_fields, gate_of_line, onto_lists, with_properties_of, lists_of_file}
 use Rattle.aigertext.proofs.FieldLemmas.{joined, fields-joined, numbers_read}
 use Rattle.aigertext.proofs.OntoLemmas.{all_onto, onto-read}
 use Rattle.aigertext.proofs.PropertyLemmas.{within-read, lists_of-concat, IsTold, reset-told}
@@ -58,10 +58,10 @@ module _ (greatest : ℕ) (small : greatest < 2 ^ 64 - 1) where
       let says : input_of greatest l (joined (n ∷ [])) ≡ Ok n = rw (number_of-decimal n n_small) own in
       ap (λ (t : List ℕ). line_at (input_of greatest l) (t ++ rest)) is ∙ numbers_read (input_of greatest l) (n ∷ []) rest n (n_small, tt) says
 
-  latch-read : (l : Loose) (x : LatchLine) (line rest : List ℕ) → ((x.current ≤ greatest) × (x.next ≤ greatest)) × IsDefining x.current → is_defined l (latch_variable x) ≡ false → IsLatchLine x line → line_at (latch_of greatest l) (line ++ rest) ≡ Ok (x, rest)
+  latch-read : (l : Loose) (x : LatchLine) (line rest : List ℕ) → ((x.current ≤ greatest) × (x.next ≤ greatest)) × IsDefining x.current → is_defined l (latch_variable x) ≡ false → IsLatchLine x line → line_at (latch_of_line greatest l) (line ++ rest) ≡ Ok (x, rest)
   unfolding latch_fields next_fields
   latch-read l x line rest good new is =
-      ap (λ (t : List ℕ). line_at (latch_of greatest l) (t ++ rest)) is.spelled ∙ by (reset-told x.current x.reset is.reset good.1.least current_small is.is_reset)
+      ap (λ (t : List ℕ). line_at (latch_of_line greatest l) (t ++ rest)) is.spelled ∙ by (reset-told x.current x.reset is.reset good.1.least current_small is.is_reset)
     where
       current_small : x.current < 2 ^ 64
       current_small = omega (arith, good.0.0)
@@ -75,29 +75,29 @@ module _ (greatest : ℕ) (small : greatest < 2 ^ 64 - 1) where
       next : within why.BadLatch greatest (number_of (decimal x.next)) ≡ Ok x.next
       next = within-read why.BadLatch greatest x.next good.0.1 (omega arith)
 
-      plain : latch_of greatest l (joined (x.current ∷ x.next ∷ [])) ≡ Ok (record { current = x.current; next = x.next; reset = Zero })
+      plain : latch_of_line greatest l (joined (x.current ∷ x.next ∷ [])) ≡ Ok (record { current = x.current; next = x.next; reset = Zero })
       plain = rw (fields-joined x.current (x.next ∷ []) (current_small, (next_small, tt)), number_of-decimal x.current current_small, own, next) refl
 
-      told : (n : ℕ) → n < 2 ^ 64 → reset_of x.current (Some n) ≡ Ok x.reset → latch_of greatest l (joined (x.current ∷ x.next ∷ n ∷ [])) ≡ Ok x
+      told : (n : ℕ) → n < 2 ^ 64 → reset_of x.current (Some n) ≡ Ok x.reset → latch_of_line greatest l (joined (x.current ∷ x.next ∷ n ∷ [])) ≡ Ok x
       told n n_small e =
           rw (fields-joined x.current (x.next ∷ n ∷ []) (current_small, (next_small, (n_small, tt))), number_of-decimal x.current current_small, own, next, number_of-decimal n n_small, e) refl
 
-      by : IsTold x.current x.reset is.reset → line_at (latch_of greatest l) (numbers_line (x.current ∷ x.next ∷ is.reset) ++ rest) ≡ Ok (x, rest)
+      by : IsTold x.current x.reset is.reset → line_at (latch_of_line greatest l) (numbers_line (x.current ∷ x.next ∷ is.reset) ++ rest) ≡ Ok (x, rest)
       by (inl t) =
-          rw (t.0) (numbers_read (latch_of greatest l) (x.current ∷ x.next ∷ []) rest x (current_small, (next_small, tt)) (plain ∙ ap (λ (r : Reset). Ok (record { current = x.current; next = x.next; reset = r })) (sym t.1)))
+          rw (t.0) (numbers_read (latch_of_line greatest l) (x.current ∷ x.next ∷ []) rest x (current_small, (next_small, tt)) (plain ∙ ap (λ (r : Reset). Ok (record { current = x.current; next = x.next; reset = r })) (sym t.1)))
       by (inr t) =
-          rw (t.1.0) (numbers_read (latch_of greatest l) (x.current ∷ x.next ∷ t.0 ∷ []) rest x (current_small, (next_small, (t.1.1, tt))) (told t.0 t.1.1 t.1.2))
+          rw (t.1.0) (numbers_read (latch_of_line greatest l) (x.current ∷ x.next ∷ t.0 ∷ []) rest x (current_small, (next_small, (t.1.1, tt))) (told t.0 t.1.1 t.1.2))
 
-  pub gate-told : (l : Loose) (n a b lhs : ℕ) (text rest : List ℕ) → text ≡ numbers_line (n ∷ a ∷ b ∷ []) ++ rest → n < 2 ^ 64 → a ≤ greatest → b ≤ greatest → defining why.GateOrder greatest l n ≡ Ok lhs → line_at (gate_of greatest l) text ≡ Ok (record { lhs = lhs; rhs0 = a; rhs1 = b }, rest)
+  pub gate-told : (l : Loose) (n a b lhs : ℕ) (text rest : List ℕ) → text ≡ numbers_line (n ∷ a ∷ b ∷ []) ++ rest → n < 2 ^ 64 → a ≤ greatest → b ≤ greatest → defining why.GateOrder greatest l n ≡ Ok lhs → line_at (gate_of_line greatest l) text ≡ Ok (record { lhs = lhs; rhs0 = a; rhs1 = b }, rest)
   unfolding gate_fields
   gate-told l n a b lhs text rest is n_small first second own =
       let a_small : a < 2 ^ 64 = omega (arith, first) in
       let b_small : b < 2 ^ 64 = omega (arith, second) in
-      let says : gate_of greatest l (joined (n ∷ a ∷ b ∷ [])) ≡ Ok (record { lhs = lhs; rhs0 = a; rhs1 = b }) =
+      let says : gate_of_line greatest l (joined (n ∷ a ∷ b ∷ [])) ≡ Ok (record { lhs = lhs; rhs0 = a; rhs1 = b }) =
       rw (fields-joined n (a ∷ b ∷ []) (n_small, (a_small, (b_small, tt))), number_of-decimal n n_small, within-read why.BadNumber greatest a first (omega arith), within-read why.BadNumber greatest b second (omega arith), own) refl in
-      ap (line_at (gate_of greatest l)) is ∙ numbers_read (gate_of greatest l) (n ∷ a ∷ b ∷ []) rest (record { lhs = lhs; rhs0 = a; rhs1 = b }) (n_small, (a_small, (b_small, tt))) says
+      ap (line_at (gate_of_line greatest l)) is ∙ numbers_read (gate_of_line greatest l) (n ∷ a ∷ b ∷ []) rest (record { lhs = lhs; rhs0 = a; rhs1 = b }) (n_small, (a_small, (b_small, tt))) says
 
-  gate-read : (l : Loose) (x : GateLine) (line rest : List ℕ) → ((x.lhs ≤ greatest) × (x.rhs0 ≤ greatest) × (x.rhs1 ≤ greatest)) × IsDefining x.lhs → is_defined l (gate_variable x) ≡ false → IsGateLine x line → line_at (gate_of greatest l) (line ++ rest) ≡ Ok (x, rest)
+  gate-read : (l : Loose) (x : GateLine) (line rest : List ℕ) → ((x.lhs ≤ greatest) × (x.rhs0 ≤ greatest) × (x.rhs1 ≤ greatest)) × IsDefining x.lhs → is_defined l (gate_variable x) ≡ false → IsGateLine x line → line_at (gate_of_line greatest l) (line ++ rest) ≡ Ok (x, rest)
   gate-read l x line rest good new is =
       gate-told l x.lhs x.rhs0 x.rhs1 x.lhs (line ++ rest) rest (ap (λ (t : List ℕ). t ++ rest) is) (omega (arith, good.0.0)) good.0.1 good.0.2 (defining-read why.GateOrder greatest l x.lhs (record { up_to = good.0.0; defining' = good.1 }) new)
 
@@ -161,19 +161,19 @@ module _ (greatest : ℕ) (l : Loose) (valid : IsLoose l) (unnamed : l.names ≡
       (both (λ n. n ≤ 2 * greatest + 1) IsDefining l.inputs up_to.inputs valid.definitions.inputs) are
       ∙ ap (λ (m : Loose). Ok (m, rest)) (inputs_onto empty_loose l.inputs)
 
-  latches_read : (bytes rest : List ℕ) → AreLines IsLatchLine l.latches bytes → onto_lists (latch_of (2 * greatest + 1)) with_latch_line with_inputs (length l.latches) (bytes ++ rest) ≡ Ok (with_leaves, rest)
+  latches_read : (bytes rest : List ℕ) → AreLines IsLatchLine l.latches bytes → onto_lists (latch_of_line (2 * greatest + 1)) with_latch_line with_inputs (length l.latches) (bytes ++ rest) ≡ Ok (with_leaves, rest)
   latches_read bytes rest are =
       let once : IsOnce (defined_variables with_inputs ++ (map latch_variable l.latches ++ map gate_variable l.gates)) =
       subst IsOnce (behind_inputs (map variable l.inputs) (map latch_variable l.latches) (map gate_variable l.gates)) valid.definitions.once in
-      onto-read (latch_of (2 * greatest + 1)) with_latch_line latch_variable IsLatchLine (λ x. ((x.current ≤ 2 * greatest + 1) × (x.next ≤ 2 * greatest + 1)) × IsDefining x.current) HasLeaves latch_grows (latch-read (2 * greatest + 1) small) with_inputs l.latches (map gate_variable l.gates) bytes rest refl once
+      onto-read (latch_of_line (2 * greatest + 1)) with_latch_line latch_variable IsLatchLine (λ x. ((x.current ≤ 2 * greatest + 1) × (x.next ≤ 2 * greatest + 1)) × IsDefining x.current) HasLeaves latch_grows (latch-read (2 * greatest + 1) small) with_inputs l.latches (map gate_variable l.gates) bytes rest refl once
       (both (λ x. (x.current ≤ 2 * greatest + 1) × (x.next ≤ 2 * greatest + 1)) (λ x. IsDefining x.current) l.latches up_to.latches valid.definitions.latches) are
       ∙ ap (λ (m : Loose). Ok (m, rest)) (latches_onto with_inputs l.latches)
 
-  gates_read : (bytes rest : List ℕ) → AreLines IsGateLine l.gates bytes → onto_lists (gate_of (2 * greatest + 1)) with_gate_line with_all_uses (length l.gates) (bytes ++ rest) ≡ Ok (record with_all_uses { gates = l.gates }, rest)
+  gates_read : (bytes rest : List ℕ) → AreLines IsGateLine l.gates bytes → onto_lists (gate_of_line (2 * greatest + 1)) with_gate_line with_all_uses (length l.gates) (bytes ++ rest) ≡ Ok (record with_all_uses { gates = l.gates }, rest)
   gates_read bytes rest are =
       let once : IsOnce (defined_variables with_all_uses ++ (map gate_variable l.gates ++ [])) =
       subst IsOnce (behind_leaves (map variable l.inputs) (map latch_variable l.latches) (map gate_variable l.gates)) valid.definitions.once in
-      onto-read (gate_of (2 * greatest + 1)) with_gate_line gate_variable IsGateLine (λ x. ((x.lhs ≤ 2 * greatest + 1) × (x.rhs0 ≤ 2 * greatest + 1) × (x.rhs1 ≤ 2 * greatest + 1)) × IsDefining x.lhs) (λ m. Unit {0}) gate_grows (gate-read (2 * greatest + 1) small) with_all_uses l.gates [] bytes rest tt once
+      onto-read (gate_of_line (2 * greatest + 1)) with_gate_line gate_variable IsGateLine (λ x. ((x.lhs ≤ 2 * greatest + 1) × (x.rhs0 ≤ 2 * greatest + 1) × (x.rhs1 ≤ 2 * greatest + 1)) × IsDefining x.lhs) (λ m. Unit {0}) gate_grows (gate-read (2 * greatest + 1) small) with_all_uses l.gates [] bytes rest tt once
       (both (λ x. (x.lhs ≤ 2 * greatest + 1) × (x.rhs0 ≤ 2 * greatest + 1) × (x.rhs1 ≤ 2 * greatest + 1)) (λ x. IsDefining x.lhs) l.gates up_to.gates valid.definitions.gates) are
       ∙ ap (λ (m : Loose). Ok (m, rest)) (gates_onto with_all_uses l.gates)
 

@@ -3,7 +3,7 @@ use Rattle.std.proofs.Common.{◌≡◌, ℕ, ◌+◌, ◌≤◌, true, ◌==◌
 use Rattle.std.specs.Str.{bytes_eq}
 use Rattle.base.specs.Decimals.{number_of}
 use Rattle.aigertext.specs.declared.fault.Why.TheVariants as why
-use Rattle.aigertext.specs.Reading.{some_or, numbers_in, counts_at, counts_of, counts_told, fitting, form_of, header_fields, header_of, fields}
+use Rattle.aigertext.specs.Reading.{some_or, numbers_in, counts_at, counts_of, counts_told, fitting, header_form, header_fields, header_of, fields}
 use Rattle.aigertext.proofs.BackLemmas.{ok_same, not_err, bind-back, bind-then, some-back}
 use Rattle.std.specs.List.{list_all, AllByRecursion}
 use Rattle.std.proofs.lemmas.Bool.{and_parts, or_parts, eqb-true, leb-true, ltb-false}
@@ -93,8 +93,8 @@ pub record HeaderBack (form : Form) (line : List ℕ) (h : Counts) : Type 0 wher
   pub few_first : AreCounts (first_of_counts h)
   pub few_last : AreCounts (last_of_counts h)
 
-form-back : (word : List ℕ) (form : Form) → form_of word ≡ Ok form → word ≡ form_word form
-unfolding form_of
+form-back : (word : List ℕ) (form : Form) → header_form word ≡ Ok form → word ≡ form_word form
+unfolding header_form
 form-back word form e =
     elim (chosen (bytes_eq word (codes "aag")) (Ok Ascii) (if bytes_eq word (codes "aig") then Ok Binary else Err why.BadHeader) (Ok form) e) [
       | inl ascii ↦ subst (λ (f : Form). word ≡ form_word f) (form_same Ascii form ascii.1) (same_bytes word (codes "aag") ascii.0)
@@ -138,7 +138,7 @@ fields_by : (fs : List (List ℕ)) (f : Form) (h : Counts) → header_fields fs 
 unfolding header_fields
 fields_by [] f h e = absurd (not_err _ _ e)
 fields_by (word ∷ rest) f h e =
-    let form = bind-back (form_of word) _ (f, h) e in
+    let form = bind-back (header_form word) _ (f, h) e in
     let g = bind-back (counts_told rest) _ (f, h) form.then' in
     let ns = bind-back (numbers_in rest) counts_of g.value g.was in
     let fit = bind-back (fitting form.value g.value) _ (f, h) g.then' in

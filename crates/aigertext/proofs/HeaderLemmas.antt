@@ -15,7 +15,7 @@ use Rattle.aigertext.specs.Ascii.{numbers_line, form_word}
 use Rattle.aigertext.specs.Counts as counts
 use Rattle.aigertext.specs.Counts.{Fits, first_of_counts, last_of_counts, counts_by, counts_in}
 use Rattle.aigertext.specs.Spelling.{IsHeader}
-use Rattle.aigertext.specs.Reading.{fields, line_at, numbers_in, counts_of, fitting, form_of, header_fields, header_of}
+use Rattle.aigertext.specs.Reading.{fields, line_at, numbers_in, counts_of, fitting, header_form, header_fields, header_of}
 use Rattle.aigertext.proofs.HeaderBackLemmas.{AreCounts, counts_front}
 use Rattle.aigertext.proofs.FieldLemmas.{joined, AreSmall, fields-joined, fields-more, joined_is_line, none_of_both, numbers_line-joined, line_read}
 
@@ -47,8 +47,8 @@ fitting-read Ascii h fits =
     rw enough refl
 fitting-read Binary h fits = rw (eq-eqb h.variables (h.inputs + h.latches + h.gates) fits) refl
 
-form-read : (form : Form) → form_of (form_word form) ≡ Ok form
-unfolding form_of
+form-read : (form : Form) → header_form (form_word form) ≡ Ok form
+unfolding header_form
 form-read Ascii = refl
 form-read Binary = refl
 

@@ -26,8 +26,8 @@ use Rattle.aigertext.specs.Reading.{◌>>=◌, line_at, header_of, gate_at, gate
 use Rattle.aigertext.specs.AsciiReading.{lists_of_file, AnswersNamed, AnswersLists, AnswersHeader, AnswersText}
 use Rattle.aiger.specs.Loose.{Loose}
 use Rattle.base.specs.Lines.{IsLine}
-use Rattle.aigertext.specs.Passes.{onto, with_gates, latch_in, latches_in}
-use Rattle.aigertext.specs.InOrder.{uses_at, uses_of, IsFront, HasFront, text_with, IsPut, PutsText, Finishes, IsFinish, ReadsOnto}
+use Rattle.aigertext.specs.Passes.{onto, with_more_gates, latch_in, latches_in}
+use Rattle.aigertext.specs.InOrder.{uses_at, uses_of, IsFront, HasFront, text_with, ArePutGates, PutsText, Finishes, IsFinish, ReadsOnto}
 use Rattle.aigertext.proofs.AsciiWrittenLemmas.{OwnValid, OwnNumbered, OwnMany, up_to, written_inputs, written_gates}
 use Rattle.aigertext.proofs.BackLemmas.{ok_same, err_same, not_err, bind-then, line-back}
 use Rattle.aigertext.proofs.FieldLemmas.{line_read}
@@ -297,11 +297,11 @@ fresh_first inputs latches = ap suc (by (length-replicate latches fresh_latch))
     by e = omega (arith, e)
 
 -- gates that were put onto a fresh circuit are all that it has
-gates_put : (inputs latches : ℕ) (c0 c : Circuit) (gs : List Gate) → c0 ≡ fresh_circuit inputs latches → c ≡ with_gates c0 gs → (c.gates ≡ gs) × (c ≡ with_gates (fresh_circuit inputs latches) c.gates)
+gates_put : (inputs latches : ℕ) (c0 c : Circuit) (gs : List Gate) → c0 ≡ fresh_circuit inputs latches → c ≡ with_more_gates c0 gs → (c.gates ≡ gs) × (c ≡ with_more_gates (fresh_circuit inputs latches) c.gates)
 gates_put inputs latches c0 c gs fresh is =
-    let all : c ≡ with_gates (fresh_circuit inputs latches) gs = is ∙ ap (λ (d : Circuit). with_gates d gs) fresh in
+    let all : c ≡ with_more_gates (fresh_circuit inputs latches) gs = is ∙ ap (λ (d : Circuit). with_more_gates d gs) fresh in
     let own : c.gates ≡ gs = ap (λ (d : Circuit). d.gates) all in
-    (own, all ∙ ap (λ (g : List Gate). with_gates (fresh_circuit inputs latches) g) (sym own))
+    (own, all ∙ ap (λ (g : List Gate). with_more_gates (fresh_circuit inputs latches) g) (sym own))
 
 -- the lines of gates that are put together again
 pub put_together : (form : Form) (h : Counts) (before : List ℕ) (first : ℕ) (gs hs : List Gate) (window : List ℕ) → form ≡ Ascii → first ≡ h.inputs + h.latches + 1 → hs ≡ gs → text_with form h before gs window ≡ before ++ (gates_text Ascii first hs ++ window)
@@ -320,8 +320,8 @@ whole_text_is form h uses text gates p c fresh =
     ap (λ (d : Circuit). text_with form h p.before d.gates gates) fresh ∙ sym p.parts
 
 module _ (form : Form) (h : Counts) (before : List ℕ) (c0 c1 : Circuit) (passed : ℕ) (window0 window1 : List ℕ) (k0 k1 : Option (List ℕ))
-    (fresh : c0 ≡ fresh_circuit h.inputs h.latches) (puts : PutsText (IsPut form) c0 c1 passed (prepend_known window0 k0) (prepend_known window1 k1)) where
-  pub put_on : c1 ≡ with_gates (fresh_circuit h.inputs h.latches) c1.gates
+    (fresh : c0 ≡ fresh_circuit h.inputs h.latches) (puts : PutsText (ArePutGates form) c0 c1 passed (prepend_known window0 k0) (prepend_known window1 k1)) where
+  pub put_on : c1 ≡ with_more_gates (fresh_circuit h.inputs h.latches) c1.gates
   put_on = (gates_put h.inputs h.latches c0 c1 puts.puts.gates fresh puts.puts.is).1
 
   own_text : puts.bytes ≡ gates_text form (suc (h.inputs + h.latches)) c1.gates
@@ -349,12 +349,12 @@ module _ (form : Form) (h : Counts) (before : List ℕ) (c0 c1 : Circuit) (passe
 -- ---- what is left of a text
 
 module _ (form : Form) (h : Counts) (uses : List Latch × Properties) (before : List ℕ) (front : IsFront form h uses before) (c0 c1 : Circuit) (n : ℕ) (window names : List ℕ)
-    (bare : c0 ≡ with_gates (fresh_circuit h.inputs h.latches) c0.gates) (puts : PutsText (IsPut form) c0 c1 n (Some window) (Some names)) (valid : IsCircuit c1) where
+    (bare : c0 ≡ with_more_gates (fresh_circuit h.inputs h.latches) c0.gates) (puts : PutsText (ArePutGates form) c0 c1 n (Some window) (Some names)) (valid : IsCircuit c1) where
   own_gates : c1.gates ≡ c0.gates ++ puts.puts.gates
   own_gates = ap (λ (c : Circuit). c.gates) puts.puts.is
 
-  bare_then : c1 ≡ with_gates (fresh_circuit h.inputs h.latches) c1.gates
-  bare_then = puts.puts.is ∙ ap (λ (c : Circuit). record c { gates = c0.gates ++ puts.puts.gates }) bare ∙ ap (λ (gs : List Gate). with_gates (fresh_circuit h.inputs h.latches) gs) (sym own_gates)
+  bare_then : c1 ≡ with_more_gates (fresh_circuit h.inputs h.latches) c1.gates
+  bare_then = puts.puts.is ∙ ap (λ (c : Circuit). record c { gates = c0.gates ++ puts.puts.gates }) bare ∙ ap (λ (gs : List Gate). with_more_gates (fresh_circuit h.inputs h.latches) gs) (sym own_gates)
 
   latches_are : length c1.latches ≡ h.latches
   latches_are = ap (λ (c : Circuit). length c.latches) bare_then ∙ length-replicate h.latches fresh_latch
@@ -403,14 +403,14 @@ finish_reads own_valid own_numbered own_many Binary h uses before front gs names
     inr (stops_at_name h uses before front gs names ordered few e many f)
 
 module _ (form : Form) (h : Counts) (uses : List Latch × Properties) (before : List ℕ) (front : IsFront form h uses before) (c0 c1 : Circuit) (n : ℕ) (window names : List ℕ)
-    (bare : c0 ≡ with_gates (fresh_circuit h.inputs h.latches) c0.gates) (puts : PutsText (IsPut form) c0 c1 n (Some window) (Some names)) (valid : IsCircuit c1) where
+    (bare : c0 ≡ with_more_gates (fresh_circuit h.inputs h.latches) c0.gates) (puts : PutsText (ArePutGates form) c0 c1 n (Some window) (Some names)) (valid : IsCircuit c1) where
   pub reads_left : OwnValid → OwnNumbered → OwnMany → {X : Type 0} (c : Circuit) (r : Result X Stop) → length c1.gates ≡ h.gates → IsFinish h uses c1.gates c names r → ReadsOnto c (text_with form h before c0.gates window) r
   reads_left own_valid own_numbered own_many c r many f =
       subst (λ (t : List ℕ). ReadsOnto c t r) (text_then form h uses before front c0 c1 n window names bare puts valid)
       (finish_reads own_valid own_numbered own_many form h uses before front c1.gates names c r (in_order form h uses before front c0 c1 n window names bare puts valid) (few_gates form h uses before front c0 c1 n window names bare puts valid) many f)
 
-pub gate_answer : (form : Form) (h : Counts) (uses : List Latch × Properties) (before : List ℕ) (front : IsFront form h uses before) (c0 c1 : Circuit) (n : ℕ) (window names : List ℕ) (bare : c0 ≡ with_gates (fresh_circuit h.inputs h.latches) c0.gates)
-    (puts : PutsText (IsPut form) c0 c1 n (Some window) (Some names)) (valid : IsCircuit c1) (e : Stop) (own : ℕ) → (form ≡ Ascii → length c0.gates ≡ h.gates) → length c1.gates ≤ h.gates → length c1.gates ≢ h.gates → own ≡ 2 * (variables (net c1) + 1) → gate_at own names ≡ Err e
+pub gate_answer : (form : Form) (h : Counts) (uses : List Latch × Properties) (before : List ℕ) (front : IsFront form h uses before) (c0 c1 : Circuit) (n : ℕ) (window names : List ℕ) (bare : c0 ≡ with_more_gates (fresh_circuit h.inputs h.latches) c0.gates)
+    (puts : PutsText (ArePutGates form) c0 c1 n (Some window) (Some names)) (valid : IsCircuit c1) (e : Stop) (own : ℕ) → (form ≡ Ascii → length c0.gates ≡ h.gates) → length c1.gates ≤ h.gates → length c1.gates ≢ h.gates → own ≡ 2 * (variables (net c1) + 1) → gate_at own names ≡ Err e
     → AnswersText (text_with form h before c0.gates window) (Err e)
 gate_answer Ascii h uses before front c0 c1 n window names bare puts valid e own all most other is stops =
     absurd (other (omega (arith, all refl, most, ap (length {A = Gate}) (own_gates Ascii h uses before front c0 c1 n window names bare puts valid), length-append c0.gates puts.puts.gates)))

@@ -14,7 +14,7 @@ use Rattle.aigertext.specs.declared.fault.Why.TheVariants as why
 use Rattle.aigertext.specs.declared.forms.Form.{Form}
 use Rattle.aigertext.specs.declared.forms.Form.TheVariants.{Ascii, Binary}
 use Rattle.aigertext.specs.Spelling.{IsReset, IsNextLine, AreNextLines, AreLines, IsLatchLine}
-use Rattle.aigertext.specs.Reading.{fields, some_or, within, reset_of, reset_at, next_fields}
+use Rattle.aigertext.specs.Reading.{fields, some_or, within, reset_of, reset_on, next_fields}
 use Rattle.aigertext.specs.Passes.{own_fields, latch_in, latches_in}
 use Rattle.aigertext.proofs.BackLemmas.{ok_same, not_err, bind-then, some-back, within-back, lines-back}
 use Rattle.aigertext.proofs.FieldLemmas.{joined, numbers_line-joined}
@@ -97,7 +97,7 @@ abbrev IsLatchAt : ℕ → ℕ → Latch → List ℕ → Type 0
 IsLatchAt greatest own l bytes = IsNextLine own l bytes × (l.next ≤ greatest)
 
 -- the fields behind a next literal are the numbers that say how a latch begins
-resets-back : (own : ℕ) (r : Reset) (fs : List (List ℕ)) → own < 2 ^ 64 - 1 → reset_at own fs ≡ Ok r → (numbers : List ℕ) × (IsReset own r numbers × (fs ≡ map decimal numbers))
+resets-back : (own : ℕ) (r : Reset) (fs : List (List ℕ)) → own < 2 ^ 64 - 1 → reset_on own fs ≡ Ok r → (numbers : List ℕ) × (IsReset own r numbers × (fs ≡ map decimal numbers))
 resets-back own r [] small e = ([], (subst (λ (x : Reset). IsReset own x []) (ok_same Zero r e) (inl refl), refl))
 resets-back own r (field ∷ []) small e = let b = reset-back own r field small e in (b.0 ∷ [], (b.1.1, ap (λ (f : List ℕ). f ∷ []) b.1.0))
 resets-back own r (field ∷ more ∷ others) small e = absurd (not_err _ _ e)
@@ -112,7 +112,7 @@ unfolding next_fields
 latch_by greatest own l [] g_small o_small e = absurd (not_err _ _ e)
 latch_by greatest own l (next ∷ others) g_small o_small e =
     bind-then (within why.BadLatch greatest (number_of next)) _ l e
-    (λ n n' e1. bind-then (reset_at own others) _ l e1
+    (λ n n' e1. bind-then (reset_on own others) _ l e1
     (λ r r' e2.
     let p = within-back why.BadLatch greatest n (number_of next) n' in
     let b = resets-back own r others o_small r' in

@@ -16,7 +16,7 @@ use Rattle.aigertext.specs.declared.fault.Stop.{Stop}
 use Rattle.aigertext.specs.declared.fault.Why.{Why}
 use Rattle.aigertext.specs.declared.fault.Why.TheVariants as why
 use Rattle.aigertext.specs.Spelling.{Given, given_line, GiveNames, IsComment}
-use Rattle.aigertext.specs.Reading.{◌>>=◌, at, cut, section_of, some_or, accepted, named_by, name_on, names_on, names_at}
+use Rattle.aigertext.specs.Reading.{◌>>=◌, at_front, cut_at_byte, section_with_letter, some_or, name_accepted, named_by, name_on, names_on, names_at}
 use Rattle.aigertext.proofs.BackLemmas.{ok_same, not_err, IsCut, cut-back}
 use Rattle.aigertext.proofs.NameReadLemmas.{HasFewPositions, few_with_name}
 
@@ -36,8 +36,8 @@ found_letter b (t ∷ ss) s e =
     some_same : (s t : Section) → Some s ≡ Some t → s ≡ t
     some_same s t e = cc
 
-section_of-back : (b : ℕ) (s : Section) → section_of b ≡ Some s → b ≡ letter s
-unfolding section_of
+section_of-back : (b : ℕ) (s : Section) → section_with_letter b ≡ Some s → b ≡ letter s
+unfolding section_with_letter
 section_of-back b s e = found_letter b all_sections s e
 
 -- a position that a circuit has a name for
@@ -61,7 +61,7 @@ pub record NameBack (c : Circuit) (line : List ℕ) (d : Circuit) : Type 0 where
 
 module _ (c : Circuit) (b : ℕ) (bs : List ℕ) (d : Circuit) (few : HasFewPositions c) where
   accepted_by : (s : Section) (x : List ℕ × List ℕ) (p : ℕ) (f : Option CircuitFault) → b ≡ letter s → IsCut 32 bs x.0 x.1 → number_of x.0 ≡ Some p → name_refusal c s p x.1 ≡ f
-      → accepted (with_name c s p x.1) f ≡ Ok d → NameBack c (b ∷ bs) d
+      → name_accepted (with_name c s p x.1) f ≡ Ok d → NameBack c (b ∷ bs) d
   accepted_by s x p (Some f) is parts n r e = absurd (not_err _ _ e)
   accepted_by s x p None is parts n r e =
       let small : p < 2 ^ 64 - 1 = omega (arith, position_below c s p x.1 r, few s) in
@@ -74,22 +74,22 @@ module _ (c : Circuit) (b : ℕ) (bs : List ℕ) (d : Circuit) (few : HasFewPosi
       record { given = record { section = s; position = p; name = x.1 }; taken = r; after = ok_same (with_name c s p x.1) d e; parts = line }
 
   position_by : (s : Section) (x : List ℕ × List ℕ) (r : Option ℕ) → b ≡ letter s → IsCut 32 bs x.0 x.1 → number_of x.0 ≡ r
-      → ◌>>=◌ {A = ℕ} {B = Circuit} {E = Why} (some_or why.BadSymbol r) (λ p. accepted (with_name c s p x.1) (name_refusal c s p x.1)) ≡ Ok d → NameBack c (b ∷ bs) d
+      → ◌>>=◌ {A = ℕ} {B = Circuit} {E = Why} (some_or why.BadSymbol r) (λ p. name_accepted (with_name c s p x.1) (name_refusal c s p x.1)) ≡ Ok d → NameBack c (b ∷ bs) d
   position_by s x None is parts n e = absurd (not_err _ _ e)
   position_by s x (Some p) is parts n e = accepted_by s x p (name_refusal c s p x.1) is parts n refl e
 
-  cut_by : (s : Section) (r : Option (List ℕ × List ℕ)) → b ≡ letter s → cut 32 bs ≡ r → named_by c s r ≡ Ok d → NameBack c (b ∷ bs) d
+  cut_by : (s : Section) (r : Option (List ℕ × List ℕ)) → b ≡ letter s → cut_at_byte 32 bs ≡ r → named_by c s r ≡ Ok d → NameBack c (b ∷ bs) d
   cut_by s None is f e = absurd (not_err _ _ e)
   cut_by s (Some x) is f e = position_by s x (number_of x.0) is (cut-back 32 bs x f) refl e
 
-  section_by : (r : Option Section) → section_of b ≡ r → ◌>>=◌ {A = Section} {B = Circuit} {E = Why} (some_or why.BadSymbol r) (λ s. named_by c s (cut 32 bs)) ≡ Ok d → NameBack c (b ∷ bs) d
+  section_by : (r : Option Section) → section_with_letter b ≡ r → ◌>>=◌ {A = Section} {B = Circuit} {E = Why} (some_or why.BadSymbol r) (λ s. named_by c s (cut_at_byte 32 bs)) ≡ Ok d → NameBack c (b ∷ bs) d
   section_by None f e = absurd (not_err _ _ e)
-  section_by (Some s) f e = cut_by s (cut 32 bs) (section_of-back b s f) refl e
+  section_by (Some s) f e = cut_by s (cut_at_byte 32 bs) (section_of-back b s f) refl e
 
 pub name-back : (c : Circuit) (line : List ℕ) (d : Circuit) → HasFewPositions c → name_on c line ≡ Ok d → NameBack c line d
 unfolding name_on
 name-back c [] d few e = absurd (not_err _ _ e)
-name-back c (b ∷ bs) d few e = section_by c b bs d few (section_of b) refl e
+name-back c (b ∷ bs) d few e = section_by c b bs d few (section_with_letter b) refl e
 
 -- names and a comment
 pub record NamesBack (c : Circuit) (text : List ℕ) (d : Circuit) : Type 0 where
@@ -117,7 +117,7 @@ pub names_on-back : (c : Circuit) (lines : List (List ℕ)) (last : List ℕ) (d
 names_on-back c [] [] d few e = record { given = []; names = ok_same c d e; comment = []; is_comment = inl refl; parts = refl }
 names_on-back c [] (b ∷ bs) d few e = absurd (not_err _ _ e)
 names_on-back c (line ∷ lines) last d few e =
-    elim (chosen (bytes_eq line (codes "c")) (Ok c) (◌>>=◌ {A = Circuit} {B = Circuit} {E = Stop} (at (text_of_lines (line ∷ lines) ++ last) (name_on c line)) (λ x. names_on x lines last)) (Ok d) e) [
+    elim (chosen (bytes_eq line (codes "c")) (Ok c) (◌>>=◌ {A = Circuit} {B = Circuit} {E = Stop} (at_front (text_of_lines (line ∷ lines) ++ last) (name_on c line)) (λ x. names_on x lines last)) (Ok d) e) [
       | inl comment' ↦
           let is : line ≡ codes "c" = same_bytes line (codes "c") comment'.0 in
           record {
@@ -130,7 +130,7 @@ names_on-back c (line ∷ lines) last d few e =
       | inr name' ↦ by (name_on c line) refl name'.1 (λ x f g. names_on-back x lines last d f g)
     ]
   where
-    by : (r : Result Circuit Why) → name_on c line ≡ r → ◌>>=◌ {A = Circuit} {B = Circuit} {E = Stop} (at (text_of_lines (line ∷ lines) ++ last) r) (λ x. names_on x lines last) ≡ Ok d
+    by : (r : Result Circuit Why) → name_on c line ≡ r → ◌>>=◌ {A = Circuit} {B = Circuit} {E = Stop} (at_front (text_of_lines (line ∷ lines) ++ last) r) (λ x. names_on x lines last) ≡ Ok d
         → ((x : Circuit) → HasFewPositions x → names_on x lines last ≡ Ok d → NamesBack x (text_of_lines lines ++ last) d) → NamesBack c (text_of_lines (line ∷ lines) ++ last) d
     by (Err w) f g again = absurd (not_err _ _ g)
     by (Ok x) f g again =

@@ -15,7 +15,7 @@ use Rattle.aiger.specs.Limits.{greatest_count}
 use Rattle.aiger.specs.Circuit.{Circuit, letter, section_count, name_of, with_name, name_refusal, is_name}
 use Rattle.aiger.specs.Names.{is_printable}
 use Rattle.aigertext.specs.Spelling.{Given, given_line, GiveNames, IsComment}
-use Rattle.aigertext.specs.Reading.{cut, section_of, name_on, names_at}
+use Rattle.aigertext.specs.Reading.{cut_at_byte, section_with_letter, name_on, names_at}
 use Rattle.aigertext.proofs.FieldLemmas.{cut-found, decimal_has_none, none_of_both}
 
 -- a name that a circuit takes
@@ -23,8 +23,8 @@ record IsTaken (c : Circuit) (g : Given) : Type 0 where
   position : g.position < section_count g.section c
   name : list_all is_printable g.name ≡ true
 
-section_of-letter : (s : Section) → section_of (letter s) ≡ Some s
-unfolding section_of
+section_of-letter : (s : Section) → section_with_letter (letter s) ≡ Some s
+unfolding section_with_letter
 section_of-letter section.Input = refl
 section_of-letter section.Latch = refl
 section_of-letter section.Output = refl
@@ -100,7 +100,7 @@ module _ (c : Circuit) (g : Given) (few : HasFewPositions c) (e : name_refusal c
   name-read : name_on c (name_bytes g) ≡ Ok (with_name c g.section g.position g.name)
   unfolding name_on
   name-read =
-      let found : cut 32 (decimal g.position ++ 32 ∷ g.name) ≡ Some (decimal g.position, g.name) = cut-found 32 (decimal g.position) g.name (decimal_has_none 32 g.position (omega arith) position_is_small) in
+      let found : cut_at_byte 32 (decimal g.position ++ 32 ∷ g.name) ≡ Some (decimal g.position, g.name) = cut-found 32 (decimal g.position) g.name (decimal_has_none 32 g.position (omega arith) position_is_small) in
       rw (section_of-letter g.section, found, number_of-decimal g.position position_is_small, e) refl
 
   step-read : (rest : List ℕ) (d : Circuit) → names_at (with_name c g.section g.position g.name) rest ≡ Ok d → names_at c (name_bytes g ++ 10 ∷ rest) ≡ Ok d

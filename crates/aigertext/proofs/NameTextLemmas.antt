@@ -13,7 +13,7 @@ use Rattle.std.proofs.lemmas.Map.Entries.{lookup_head, lookup_tail}
 use Rattle.aiger.specs.declared.circuit.Section.{Section}
 use Rattle.aiger.specs.declared.circuit.Section.TheVariants as section
 use Rattle.aiger.specs.Circuit.{Circuit, IsNamed, section_count, name_refusal, with_name}
-use Rattle.aiger.specs.Names.{Place, NameMap, rank, letter, all_sections, place_cmp, name_in, IsName, is_name, is_printable}
+use Rattle.aiger.specs.Names.{NamePlace, NameMap, rank, letter, all_sections, place_cmp, name_in, IsName, is_name, is_printable}
 use Rattle.aigertext.specs.Ascii.{name_line, name_lines, names_of, all_names}
 use Rattle.aigertext.specs.Spelling.{Given, given_line, GiveNames}
 use Rattle.aigertext.proofs.PlaceLemmas.{IsAhead, IsBehind, AreBehind, at_itself, apart, insert_last, unnamed_last, unnamed_ahead, behind_more, ahead_of_rest, ahead_chain}
@@ -38,7 +38,7 @@ section_at-rank section.Justice = refl
 section_at-rank section.Fair = refl
 
 -- the name of an entry, as a line gives it
-abbrev pub given_of : Place × List ℕ → Given
+abbrev pub given_of : NamePlace × List ℕ → Given
 given_of e = record { section = section_at e.0.0; position = e.0.1; name = e.1 }
 
 -- ---- each name is taken
@@ -61,26 +61,26 @@ counts_kept section.Constraint c names = refl
 counts_kept section.Justice c names = refl
 counts_kept section.Fair c names = refl
 
-section_is : (c : Circuit) (e : Place × List ℕ) → (n : IsNamed c e) → section_at e.0.0 ≡ n.section
+section_is : (c : Circuit) (e : NamePlace × List ℕ) → (n : IsNamed c e) → section_at e.0.0 ≡ n.section
 section_is c e n = ap section_at n.is_section ∙ section_at-rank n.section
 
-rank_is : (c : Circuit) (e : Place × List ℕ) → IsNamed c e → rank (section_at e.0.0) ≡ e.0.0
+rank_is : (c : Circuit) (e : NamePlace × List ℕ) → IsNamed c e → rank (section_at e.0.0) ≡ e.0.0
 rank_is c e n = ap rank (section_is c e n) ∙ sym n.is_section
 
-taken_at : (c : Circuit) (front : NameMap) (s : Section) (p : Place) (name : List ℕ) → rank s ≡ p.0 → p.1 < section_count s c → IsName name → IsBehind p front
+taken_at : (c : Circuit) (front : NameMap) (s : Section) (p : NamePlace) (name : List ℕ) → rank s ≡ p.0 → p.1 < section_count s c → IsName name → IsBehind p front
     → name_refusal (record c { names = front }) s p.1 name ≡ None
 taken_at c front s p name is below good behind =
     let free : lookup (is_at (place_cmp (rank s, p.1))) front ≡ None = ap (λ (r : ℕ). lookup (is_at (place_cmp (r, p.1))) front) is ∙ unnamed_last p front behind in
     let there : nat_le (section_count s c) p.1 ≡ false = grind (arith, nat_tests) in
     rw (counts_kept s c front, there, free, name_test name good) refl
 
-name_is_taken : (c : Circuit) (front : NameMap) (e : Place × List ℕ) → IsNamed c e → IsBehind e.0 front
+name_is_taken : (c : Circuit) (front : NameMap) (e : NamePlace × List ℕ) → IsNamed c e → IsBehind e.0 front
     → name_refusal (record c { names = front }) (section_at e.0.0) e.0.1 e.1 ≡ None
 name_is_taken c front e n behind =
     taken_at c front (section_at e.0.0) e.0 e.1 (rank_is c e n) (subst (λ (s : Section). e.0.1 < section_count s c) (sym (section_is c e n)) n.position) n.name behind
 
 -- a name behind all others is the last one
-with_last : (c : Circuit) (front : NameMap) (e : Place × List ℕ) → IsNamed c e → IsBehind e.0 front
+with_last : (c : Circuit) (front : NameMap) (e : NamePlace × List ℕ) → IsNamed c e → IsBehind e.0 front
     → with_name (record c { names = front }) (section_at e.0.0) e.0.1 e.1 ≡ record c { names = front ++ e ∷ [] }
 with_last c front e n behind =
     ap (λ (names : NameMap). record c { names = names })
@@ -113,7 +113,7 @@ lines_in-is s es p (suc n) =
     ∙ ap (λ (l : List ℕ). name_line (letter s) p (name_in es s p) ++ l) (lines_in-is s es (suc p) n)
 
 -- an entry that is at none of the positions
-lines-skip : (s : Section) (e : Place × List ℕ) (es : NameMap) (p n : ℕ) → ((k : ℕ) → p ≤ k → is_eq (place_cmp (rank s, k) e.0) ≡ false) → lines_in s (e ∷ es) p n ≡ lines_in s es p n
+lines-skip : (s : Section) (e : NamePlace × List ℕ) (es : NameMap) (p n : ℕ) → ((k : ℕ) → p ≤ k → is_eq (place_cmp (rank s, k) e.0) ≡ false) → lines_in s (e ∷ es) p n ≡ lines_in s es p n
 lines-skip s e es p zero h = refl
 lines-skip s e es p (suc n) h =
     ap (λ (name : Option (List ℕ)). name_line (letter s) p name ++ lines_in s (e ∷ es) (suc p) n) (lookup_tail (is_at (place_cmp (rank s, p))) e es (h p (omega arith)))
@@ -169,7 +169,7 @@ rank_above n r [] h has = absurd has
 rank_above n r (s ∷ ss) h (inl is) = omega (arith, h.0, is)
 rank_above n r (s ∷ ss) h (inr more) = rank_above n r ss h.1 more
 
-lines_of-skip : (ss : List Section) (c : Circuit) (e : Place × List ℕ) (es : NameMap) → AllByRecursion (λ t. e.0.0 < rank t) ss → lines_of ss c (e ∷ es) ≡ lines_of ss c es
+lines_of-skip : (ss : List Section) (c : Circuit) (e : NamePlace × List ℕ) (es : NameMap) → AllByRecursion (λ t. e.0.0 < rank t) ss → lines_of ss c (e ∷ es) ≡ lines_of ss c es
 lines_of-skip [] c e es h = refl
 lines_of-skip (s ∷ ss) c e es h =
     let other : rank s ≢ e.0.0 = omega (arith, h.0) in

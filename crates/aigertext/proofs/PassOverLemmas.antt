@@ -15,21 +15,21 @@ use Rattle.aiger.specs.declared.fault.LooseFault.TheVariants.{Cycle}
 use Rattle.aigertext.specs.declared.reading.counts.Counts.{Counts}
 use Rattle.aigertext.specs.declared.fault.Stop.{Stop}
 use Rattle.aigertext.specs.declared.fault.Why.{Why}
-use Rattle.aigertext.specs.Reading.{◌>>=◌, cut, line_at, Properties, properties_at}
+use Rattle.aigertext.specs.Reading.{◌>>=◌, cut_at_byte, line_at, Properties, properties_at}
 use Rattle.aigertext.specs.AsciiReading.{behind_line, behind_lines, lines_before, onto_lists, with_properties_of}
 use Rattle.aigertext.specs.PropertyLists.{no_lists, file_lists, properties_onto}
 use Rattle.aigertext.proofs.BackLemmas.{ok_same, err_same, not_err, bind-back, line-back}
 
 -- ---- lines that are passed over
 
-pub skip_one : (m n : ℕ) (text rest : List ℕ) → m ≡ suc n → rest ≡ behind_line text (cut 10 text) → behind_lines n rest ≡ behind_lines m text
+pub skip_one : (m n : ℕ) (text rest : List ℕ) → m ≡ suc n → rest ≡ behind_line text (cut_at_byte 10 text) → behind_lines n rest ≡ behind_lines m text
 skip_one m n text rest left is = ap (behind_lines n) is ∙ ap (λ (k : ℕ). behind_lines k text) (sym left)
 
 pub skip_both : (n k : ℕ) (text : List ℕ) → behind_lines k (behind_lines n text) ≡ behind_lines (n + k) text
 skip_both zero k text = let same : 0 + k ≡ k = omega arith in ap (λ (j : ℕ). behind_lines j text) (sym same)
 skip_both (suc n) k text =
     let same : suc n + k ≡ suc (n + k) = omega arith in
-    skip_both n k (behind_line text (cut 10 text)) ∙ ap (λ (j : ℕ). behind_lines j text) (sym same)
+    skip_both n k (behind_line text (cut_at_byte 10 text)) ∙ ap (λ (j : ℕ). behind_lines j text) (sym same)
 
 pub before_low : (h : Counts) (k n : ℕ) → k < h.latches + h.outputs + h.bads + h.constraints → n ≡ h.inputs → (text : List ℕ) → behind_lines k (behind_lines n text) ≡ behind_lines (lines_before h k) text
 before_low h k n low is text =

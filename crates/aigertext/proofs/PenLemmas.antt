@@ -5,7 +5,7 @@ use Rattle.std.specs.Prelude.{OnOk, OnErr, is_ok}
 use Rattle.base.specs.Device.{AppendsBeginning, CountsFaults, HasRisen, Sent}
 use Rattle.base.proofs.DeviceLemmas.{beginning_longer, sent_on, sent_then_beginning}
 use Rattle.aigertext.specs.declared.writing.pen.Pen.{Pen}
-use Rattle.aigertext.specs.Writing.{PutsOn, Writes}
+use Rattle.aigertext.specs.Writing.{PutsOn, WritesText}
 use Rattle.aigertext.proofs.BackLemmas.{not_err}
 
 none_on : {T E : Type 0} (a : Result T E) (w : Option (List ℕ)) (f : ℕ) (kept : List ℕ) → PutsOn a a w w f f kept kept []
@@ -31,13 +31,13 @@ pub put_off : {T E : Type 0} (a : Result T E) (w : Option (List ℕ)) (f : ℕ) 
 put_off (Ok x) w f k text failed = absurd cc
 put_off (Err e) w f k text failed = (refl, refl, refl)
 
-pub writes_line : {K : Type 0} {written : K → Option (List ℕ)} {failures : K → ℕ} {s t : K} {p q : Pen} {l x : List ℕ} → Writes written failures s t (record { outbox = p.outbox; line = l; answer = p.answer }) q x → Writes written failures s t p q x
+pub writes_line : {K : Type 0} {written : K → Option (List ℕ)} {failures : K → ℕ} {s t : K} {p q : Pen} {l x : List ℕ} → WritesText written failures s t (record { outbox = p.outbox; line = l; answer = p.answer }) q x → WritesText written failures s t p q x
 writes_line w = record { puts = w.puts }
 
-pub writes_none : {K : Type 0} {written : K → Option (List ℕ)} {failures : K → ℕ} {s : K} {p : Pen} → Writes written failures s s p p []
+pub writes_none : {K : Type 0} {written : K → Option (List ℕ)} {failures : K → ℕ} {s : K} {p : Pen} → WritesText written failures s s p p []
 writes_none {written} {failures} {s} {p} = record { puts = none_on p.answer (written s) (failures s) p.outbox }
 
-pub writes_then : {K : Type 0} {written : K → Option (List ℕ)} {failures : K → ℕ} {s t u : K} {p q r : Pen} {x y : List ℕ} → Writes written failures s t p q x → Writes written failures t u q r y → Writes written failures s u p r (x ++ y)
+pub writes_then : {K : Type 0} {written : K → Option (List ℕ)} {failures : K → ℕ} {s t u : K} {p q r : Pen} {x y : List ℕ} → WritesText written failures s t p q x → WritesText written failures t u q r y → WritesText written failures s u p r (x ++ y)
 writes_then {written} {failures} {s} {t} {u} {p} {q} {r} {x} {y} first next = record {
   puts = both_on p.answer q.answer r.answer (written s) (written t) (written u) (failures s) (failures t) (failures u) p.outbox q.outbox r.outbox x y first.puts next.puts;
 }
@@ -46,17 +46,17 @@ writes_then {written} {failures} {s} {t} {u} {p} {q} {r} {x} {y} first next = re
 pub record Writing {K : Type 0} (written : K → Option (List ℕ)) (failures : K → ℕ) (s t : K) (p q : Pen) (whole rest : List ℕ) : Type 0 where
   pub done : List ℕ
   pub all : done ++ rest ≡ whole
-  pub writes : Writes written failures s t p q done
+  pub writes : WritesText written failures s t p q done
 
 pub write_none : {K : Type 0} {written : K → Option (List ℕ)} {failures : K → ℕ} {s : K} {p : Pen} {whole : List ℕ} → Writing written failures s s p p whole whole
 write_none = record { done = []; all = refl; writes = writes_none }
 
-pub write_more : {K : Type 0} {written : K → Option (List ℕ)} {failures : K → ℕ} {s t u : K} {p q r : Pen} {whole rest piece more : List ℕ} → Writing written failures s t p q whole rest → Writes written failures t u q r piece → rest ≡ piece ++ more → Writing written failures s u p r whole more
+pub write_more : {K : Type 0} {written : K → Option (List ℕ)} {failures : K → ℕ} {s t u : K} {p q r : Pen} {whole rest piece more : List ℕ} → Writing written failures s t p q whole rest → WritesText written failures t u q r piece → rest ≡ piece ++ more → Writing written failures s u p r whole more
 write_more {piece} {more} so_far next parts = record {
   done = so_far.done ++ piece;
   all = append_assoc so_far.done piece more ∙ ap (λ l. so_far.done ++ l) (sym parts) ∙ so_far.all;
   writes = writes_then so_far.writes next;
 }
 
-pub write_all : {K : Type 0} {written : K → Option (List ℕ)} {failures : K → ℕ} {s t : K} {p q : Pen} {whole rest : List ℕ} → Writing written failures s t p q whole rest → rest ≡ [] → Writes written failures s t p q whole
-write_all {written} {failures} {s} {t} {p} {q} so_far none = subst (Writes written failures s t p q) (sym (append-nil so_far.done) ∙ ap (λ l. so_far.done ++ l) (sym none) ∙ so_far.all) so_far.writes
+pub write_all : {K : Type 0} {written : K → Option (List ℕ)} {failures : K → ℕ} {s t : K} {p q : Pen} {whole rest : List ℕ} → Writing written failures s t p q whole rest → rest ≡ [] → WritesText written failures s t p q whole
+write_all {written} {failures} {s} {t} {p} {q} so_far none = subst (WritesText written failures s t p q) (sym (append-nil so_far.done) ∙ ap (λ l. so_far.done ++ l) (sym none) ∙ so_far.all) so_far.writes

@@ -10,14 +10,14 @@ use Rattle.std.specs.Map.{lookup, keys_of}
 use Rattle.std.specs.Cmp.{IsTotalOrder}
 use Rattle.std.proofs.lemmas.Cmp.{nat_cmp_total, on_total, then_total, tied_itself}
 use Rattle.std.proofs.lemmas.Map.Entries.{lookup_tail}
-use Rattle.aiger.specs.Names.{Place, NameMap, place_cmp}
+use Rattle.aiger.specs.Names.{NamePlace, NameMap, place_cmp}
 
 -- one place stands before another: in an earlier section, or at an earlier position of the same one
-abbrev pub IsBefore : Place → Place → Type 0
+abbrev pub IsBefore : NamePlace → NamePlace → Type 0
 IsBefore p q = (p.0 < q.0) ⊎ ((p.0 ≡ q.0) × (p.1 < q.1))
 
 pub places_total : IsTotalOrder place_cmp
-places_total = then_total (on_total (λ (p : Place). p.0) nat_cmp_total) (on_total (λ (p : Place). p.1) nat_cmp_total)
+places_total = then_total (on_total (λ (p : NamePlace). p.0) nat_cmp_total) (on_total (λ (p : NamePlace). p.1) nat_cmp_total)
 
 -- the order's answer says which one stands before the other
 before_by : (a b c d : ℕ) (r s : Ordering) → r ≡ nat_cmp a b → s ≡ nat_cmp c d → ordering_then r s ≡ Less → (a < b) ⊎ ((a ≡ b) × (c < d))
@@ -27,7 +27,7 @@ before_by a b c d Equal Equal e f h = absurd cc
 before_by a b c d Equal Greater e f h = absurd cc
 before_by a b c d Greater s e f h = absurd cc
 
-pub before_from_less : (p q : Place) → place_cmp p q ≡ Less → IsBefore p q
+pub before_from_less : (p q : NamePlace) → place_cmp p q ≡ Less → IsBefore p q
 before_from_less p q h = before_by p.0 q.0 p.1 q.1 (nat_cmp p.0 q.0) (nat_cmp p.1 q.1) refl refl h
 
 -- places that are not the same are told apart
@@ -39,32 +39,32 @@ apart_by a b c d Equal Greater e f h = refl
 apart_by a b c d Equal Equal e f (inl h) = absurd (h (ranked a b Equal e))
 apart_by a b c d Equal Equal e f (inr h) = absurd (h (ranked c d Equal f))
 
-pub apart : (p q : Place) → (p.0 ≢ q.0) ⊎ (p.1 ≢ q.1) → is_eq (place_cmp p q) ≡ false
+pub apart : (p q : NamePlace) → (p.0 ≢ q.0) ⊎ (p.1 ≢ q.1) → is_eq (place_cmp p q) ≡ false
 apart p q h = apart_by p.0 q.0 p.1 q.1 (nat_cmp p.0 q.0) (nat_cmp p.1 q.1) refl refl h
 
-pub apart_before : (p q : Place) → IsBefore p q → is_eq (place_cmp p q) ≡ false
+pub apart_before : (p q : NamePlace) → IsBefore p q → is_eq (place_cmp p q) ≡ false
 apart_before p q (inl h) = apart p q (inl (omega arith))
 apart_before p q (inr h) = apart p q (inr (omega (arith, h.1)))
 
 -- a place is found at itself
-pub at_itself : (p : Place) → is_eq (place_cmp p p) ≡ true
+pub at_itself : (p : NamePlace) → is_eq (place_cmp p p) ≡ true
 at_itself p = ap is_eq (tied_itself places_total p)
 
 -- a name behind all others
-abbrev pub IsBehind : Place → NameMap → Type 0
+abbrev pub IsBehind : NamePlace → NameMap → Type 0
 IsBehind p es = AllByRecursion (λ e. place_cmp p e.0 ≡ Greater) es
 
-pub insert_last : (p : Place) (v : List ℕ) (es : NameMap) → IsBehind p es → insert_entry place_cmp es p v ≡ es ++ (p, v) ∷ []
+pub insert_last : (p : NamePlace) (v : List ℕ) (es : NameMap) → IsBehind p es → insert_entry place_cmp es p v ≡ es ++ (p, v) ∷ []
 insert_last p v [] h = refl
 insert_last p v (e ∷ es) h = rw h.0 (ap (λ (rest : NameMap). e ∷ rest) (insert_last p v es h.1))
 
-pub unnamed_last : (p : Place) (es : NameMap) → IsBehind p es → lookup (is_at (place_cmp p)) es ≡ None
+pub unnamed_last : (p : NamePlace) (es : NameMap) → IsBehind p es → lookup (is_at (place_cmp p)) es ≡ None
 unnamed_last p [] h = refl
 unnamed_last p (e ∷ es) h =
     let other : is_eq (place_cmp p e.0) ≡ false = ap is_eq h.0 in
     lookup_tail (is_at (place_cmp p)) e es other ∙ unnamed_last p es h.1
 
-behind_push : (p : Place) (es : NameMap) (e : Place × List ℕ) → IsBehind p es → place_cmp p e.0 ≡ Greater → IsBehind p (es ++ e ∷ [])
+behind_push : (p : NamePlace) (es : NameMap) (e : NamePlace × List ℕ) → IsBehind p es → place_cmp p e.0 ≡ Greater → IsBehind p (es ++ e ∷ [])
 behind_push p [] e h g = (g, tt)
 behind_push p (x ∷ es) e h g = (h.0, behind_push p es e h.1 g)
 
@@ -72,10 +72,10 @@ behind_push p (x ∷ es) e h g = (h.0, behind_push p es e h.1 g)
 abbrev pub AreBehind : NameMap → NameMap → Type 0
 AreBehind front rest = AllByRecursion (λ e. IsBehind e.0 front) rest
 
-greater_from_less : (p q : Place) → place_cmp p q ≡ Less → place_cmp q p ≡ Greater
+greater_from_less : (p q : NamePlace) → place_cmp p q ≡ Less → place_cmp q p ≡ Greater
 greater_from_less p q h = places_total.antisymm q p ∙ ap ordering_reverse h
 
-pub behind_more : (front : NameMap) (e : Place × List ℕ) (rest : NameMap) → AreBehind front rest → AllByRecursion (λ q. place_cmp e.0 q ≡ Less) (keys_of rest) → AreBehind (front ++ e ∷ []) rest
+pub behind_more : (front : NameMap) (e : NamePlace × List ℕ) (rest : NameMap) → AreBehind front rest → AllByRecursion (λ q. place_cmp e.0 q ≡ Less) (keys_of rest) → AreBehind (front ++ e ∷ []) rest
 behind_more front e [] h s = tt
 behind_more front e (x ∷ rest) h s = (behind_push x.0 front e h.0 (greater_from_less e.0 x.0 s.0), behind_more front e rest h.1 s.1)
 
@@ -84,19 +84,19 @@ all_behind_none [] = tt
 all_behind_none (x ∷ rest) = (tt, all_behind_none rest)
 
 -- no entry is at a place that stands before all of them
-abbrev pub IsAhead : Place → NameMap → Type 0
+abbrev pub IsAhead : NamePlace → NameMap → Type 0
 IsAhead p es = AllByRecursion (λ e. IsBefore p e.0) es
 
-pub unnamed_ahead : (p : Place) (es : NameMap) → IsAhead p es → lookup (is_at (place_cmp p)) es ≡ None
+pub unnamed_ahead : (p : NamePlace) (es : NameMap) → IsAhead p es → lookup (is_at (place_cmp p)) es ≡ None
 unnamed_ahead p [] h = refl
 unnamed_ahead p (e ∷ es) h = lookup_tail (is_at (place_cmp p)) e es (apart_before p e.0 h.0) ∙ unnamed_ahead p es h.1
 
 -- the places behind the first one
-pub ahead_of_rest : (p : Place) (es : NameMap) → AllByRecursion (λ q. place_cmp p q ≡ Less) (keys_of es) → IsAhead p es
+pub ahead_of_rest : (p : NamePlace) (es : NameMap) → AllByRecursion (λ q. place_cmp p q ≡ Less) (keys_of es) → IsAhead p es
 ahead_of_rest p [] h = tt
 ahead_of_rest p (e ∷ es) h = (before_from_less p e.0 h.0, ahead_of_rest p es h.1)
 
-before_chain : (p q r : Place) → (p.0 ≤ q.0) → (p.0 ≡ q.0 → p.1 ≤ q.1) → IsBefore q r → IsBefore p r
+before_chain : (p q r : NamePlace) → (p.0 ≤ q.0) → (p.0 ≡ q.0 → p.1 ≤ q.1) → IsBefore q r → IsBefore p r
 before_chain p q r le same (inl h) = inl (omega arith)
 before_chain p q r le same (inr h) =
     elim (lt_or_same p.0 q.0 le) [
@@ -108,6 +108,6 @@ before_chain p q r le same (inr h) =
     lt_or_same a b le = grind arith
 
 -- what stands before or at a place stands before all behind that
-pub ahead_chain : (p q : Place) (es : NameMap) → (p.0 ≤ q.0) → (p.0 ≡ q.0 → p.1 ≤ q.1) → IsAhead q es → IsAhead p es
+pub ahead_chain : (p q : NamePlace) (es : NameMap) → (p.0 ≤ q.0) → (p.0 ≡ q.0 → p.1 ≤ q.1) → IsAhead q es → IsAhead p es
 ahead_chain p q [] le same h = tt
 ahead_chain p q (e ∷ es) le same h = (before_chain p q e.0 le same h.0, ahead_chain p q es le same h.1)

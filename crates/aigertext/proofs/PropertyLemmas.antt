@@ -15,7 +15,7 @@ use Rattle.aigertext.specs.declared.fault.Why.{Why}
 use Rattle.aigertext.specs.declared.fault.Why.TheVariants as why
 use Rattle.aigertext.specs.Ascii.{numbers_line, literal_lines, size_lines, list_lines}
 use Rattle.aigertext.specs.Spelling.{IsReset, AreNextLines}
-use Rattle.aigertext.specs.Reading.{within, reset_of, literal_of, size_of, next_of, next_fields, literals_at, sizes_at, nexts_at, line_at, lists_of}
+use Rattle.aigertext.specs.Reading.{within, reset_of, literal_on, size_of, next_of, next_fields, literals_at, sizes_at, nexts_at, line_at, sized_lists}
 use Rattle.aigertext.proofs.FieldLemmas.{joined, fields-joined, numbers_read, lines_step}
 
 -- ---- literals
@@ -23,8 +23,8 @@ use Rattle.aigertext.proofs.FieldLemmas.{joined, fields-joined, numbers_read, li
 pub within-read : (w : Why) (greatest n : ℕ) → n ≤ greatest → greatest < 2 ^ 64 → within w greatest (number_of (decimal n)) ≡ Ok n
 within-read w greatest n le small = rw (number_of-decimal n (omega arith), le-leb n greatest le) refl
 
-literal-read : (greatest l : ℕ) → l ≤ greatest → greatest < 2 ^ 64 → literal_of greatest (decimal l) ≡ Ok l
-unfolding literal_of
+literal-read : (greatest l : ℕ) → l ≤ greatest → greatest < 2 ^ 64 → literal_on greatest (decimal l) ≡ Ok l
+unfolding literal_on
 literal-read greatest l le small = within-read why.BadNumber greatest l le small
 
 pub literals-read : (greatest : ℕ) (ls rest : List ℕ) → All (λ l. l ≤ greatest) ls → greatest < 2 ^ 64 → literals_at greatest (length ls) (literal_lines ls ++ rest) ≡ Ok (ls, rest)
@@ -32,9 +32,9 @@ literals-read greatest [] rest h small = refl
 literals-read greatest (l ∷ ls) rest h small =
     let le = All-head (λ (l : ℕ). l ≤ greatest) l ls h in
     let others = literals-read greatest ls rest (All-tail (λ (l : ℕ). l ≤ greatest) l ls h) small in
-    let one = numbers_read (literal_of greatest) (l ∷ []) (literal_lines ls ++ rest) l (omega arith, tt) (literal-read greatest l le small) in
+    let one = numbers_read (literal_on greatest) (l ∷ []) (literal_lines ls ++ rest) l (omega arith, tt) (literal-read greatest l le small) in
     ap (literals_at greatest (suc (length ls))) (append_assoc (numbers_line (l ∷ [])) (literal_lines ls) rest)
-    ∙ lines_step literal_of (λ g l. g) greatest (length ls) (numbers_line (l ∷ []) ++ (literal_lines ls ++ rest)) (literal_lines ls ++ rest) rest l ls one others
+    ∙ lines_step literal_on (λ g l. g) greatest (length ls) (numbers_line (l ∷ []) ++ (literal_lines ls ++ rest)) (literal_lines ls ++ rest) rest l ls one others
 
 -- ---- justice properties
 
@@ -69,7 +69,7 @@ pub length-concat : (lists : List (List ℕ)) → sum (map length lists) ≡ len
 length-concat lists = sum-map length lists ∙ sym (length-concat_by lists)
 
 -- they are cut into the lists again
-pub lists_of-concat : (lists : List (List ℕ)) → lists_of (map length lists) (concat lists) ≡ lists
+pub lists_of-concat : (lists : List (List ℕ)) → sized_lists (map length lists) (concat lists) ≡ lists
 lists_of-concat [] = refl
 lists_of-concat (ls ∷ lists) = rw (take-append_seam ls (concat lists), drop-append_seam ls (concat lists), lists_of-concat lists) refl
 

@@ -4,8 +4,8 @@ use Rattle.std.specs.List.{sum}
 use Rattle.std.proofs.lemmas.List.{take_more, drop_more, length-drop}
 use Rattle.aigertext.specs.declared.reading.property_lists.LiteralSection.{LiteralSection}
 use Rattle.aigertext.specs.declared.reading.property_lists.LiteralSection.TheVariants.{Output, Bad, Constraint, Fair}
-use Rattle.aigertext.specs.Reading.{lists_of}
-use Rattle.aigertext.specs.PropertyLists.{Lists, no_lists, with_literals, with_justice, ArePropertyLists}
+use Rattle.aigertext.specs.Reading.{sized_lists}
+use Rattle.aigertext.specs.PropertyLists.{Lists, no_lists, with_literals, with_justice_lists, ArePropertyLists}
 use Rattle.aigertext.proofs.PassLemmas.{sum_of_cons}
 
 -- ---- lists alone
@@ -24,7 +24,7 @@ with_more Fair p ls ms = ap (λ (l : List ℕ). record p { fair = l }) (append_a
 
 -- the lists of these sizes, the first so many of which are made
 pub record ListsMade (sizes listed : List ℕ) (index : ℕ) (made : List (List ℕ)) (rest : List ℕ) : Type 0 where
-  pub all : made ++ lists_of (drop index sizes) rest ≡ lists_of sizes listed
+  pub all : made ++ sized_lists (drop index sizes) rest ≡ sized_lists sizes listed
   pub sums : length rest ≡ sum (drop index sizes)
 
 module _ (sizes listed : List ℕ) (index : ℕ) (made : List (List ℕ)) (rest : List ℕ) (m : ListsMade sizes listed index made rest) (more : index < length sizes) where
@@ -39,7 +39,7 @@ module _ (sizes listed : List ℕ) (index : ℕ) (made : List (List ℕ)) (rest 
 
   pub lists_more : ListsMade sizes listed (index + 1) (made ++ take size rest ∷ []) (drop size rest)
   lists_more = record {
-    all = append_assoc made (take size rest ∷ []) (lists_of (drop (index + 1) sizes) (drop size rest)) ∙ ap (λ (ns : List ℕ). made ++ lists_of ns rest) (sym sizes_left) ∙ m.all;
+    all = append_assoc made (take size rest ∷ []) (sized_lists (drop (index + 1) sizes) (drop size rest)) ∙ ap (λ (ns : List ℕ). made ++ sized_lists ns rest) (sym sizes_left) ∙ m.all;
     sums = omega (arith, length-drop size rest, m.sums ∙ ap sum sizes_left ∙ sum_of_cons size (drop (index + 1) sizes), size_within);
   }
 
@@ -51,7 +51,7 @@ module _ {X : Type 0} (lists : X → Lists) (put : X → Lists → X) (laws : Ar
   add_literals section x ls = put x (with_literals section (lists x) ls)
 
   abbrev pub add_justice : X → List (List ℕ) → X
-  add_justice x js = put x (with_justice (lists x) js)
+  add_justice x js = put x (with_justice_lists (lists x) js)
 
   pub literals_none : (section : LiteralSection) (x : X) → x ≡ add_literals section x []
   literals_none section x = sym (laws.back x) ∙ ap (put x) (with_none section (lists x))
@@ -66,8 +66,8 @@ module _ {X : Type 0} (lists : X → Lists) (put : X → Lists → X) (laws : Ar
 
   pub justice_join : (x : X) (js ks : List (List ℕ)) → add_justice (add_justice x js) ks ≡ add_justice x (js ++ ks)
   justice_join x js ks =
-      let p : Lists = with_justice (lists x) js in
-      ap (λ (q : Lists). put (put x p) (with_justice q ks)) (laws.has x p) ∙ laws.again x p (with_justice p ks)
+      let p : Lists = with_justice_lists (lists x) js in
+      ap (λ (q : Lists). put (put x p) (with_justice_lists q ks)) (laws.has x p) ∙ laws.again x p (with_justice_lists p ks)
       ∙ ap (put x) (ap (λ (l : List (List ℕ)). record (lists x) { justice = l }) (append_assoc (lists x).justice js ks))
 
   -- literals that are put one after the other
@@ -100,11 +100,11 @@ module _ {X : Type 0} (lists : X → Lists) (put : X → Lists → X) (laws : Ar
         with_constraints = then_literals Constraint x z u (with_literals Bad (with_literals Output no_lists os) bs) cs with_bads third
 
         module _ (v : X) (js : List (List ℕ)) (fourth : v ≡ add_justice u js) where
-          pub with_lists_of : v ≡ put x (with_justice (with_literals Constraint (with_literals Bad (with_literals Output no_lists os) bs) cs) js)
-          with_lists_of = then_put x u v (with_literals Constraint (with_literals Bad (with_literals Output no_lists os) bs) cs) (λ q. with_justice q js) with_constraints fourth
+          pub with_lists_of : v ≡ put x (with_justice_lists (with_literals Constraint (with_literals Bad (with_literals Output no_lists os) bs) cs) js)
+          with_lists_of = then_put x u v (with_literals Constraint (with_literals Bad (with_literals Output no_lists os) bs) cs) (λ q. with_justice_lists q js) with_constraints fourth
 
-          pub with_all : (w : X) (fs : List ℕ) → w ≡ add_literals Fair v fs → w ≡ put x (with_literals Fair (with_justice (with_literals Constraint (with_literals Bad (with_literals Output no_lists os) bs) cs) js) fs)
-          with_all w fs = then_literals Fair x v w (with_justice (with_literals Constraint (with_literals Bad (with_literals Output no_lists os) bs) cs) js) fs with_lists_of
+          pub with_all : (w : X) (fs : List ℕ) → w ≡ add_literals Fair v fs → w ≡ put x (with_literals Fair (with_justice_lists (with_literals Constraint (with_literals Bad (with_literals Output no_lists os) bs) cs) js) fs)
+          with_all w fs = then_literals Fair x v w (with_justice_lists (with_literals Constraint (with_literals Bad (with_literals Output no_lists os) bs) cs) js) fs with_lists_of
 
   -- justice properties one more, and those that were put so far
   pub justice_put : (before now next : X) (made : List (List ℕ)) (ls : List ℕ) → now ≡ add_justice before made → next ≡ add_justice now (ls ∷ []) → next ≡ add_justice before (made ++ ls ∷ [])

@@ -14,8 +14,8 @@ use Rattle.aiger.specs.Circuit.{Circuit, net, with_gate}
 use Rattle.aigertext.specs.declared.forms.Form.{Form}
 use Rattle.aigertext.specs.Ascii.{numbers_line, input_lines}
 use Rattle.aigertext.specs.Binary.{gate_text, gates_text}
-use Rattle.aigertext.specs.Passes.{with_gates}
-use Rattle.aigertext.specs.InOrder.{line_texts, IsLineUpTo, IsPut, IsPutOnLists, PutsText, FollowEachOther}
+use Rattle.aigertext.specs.Passes.{with_more_gates}
+use Rattle.aigertext.specs.InOrder.{line_texts, IsLineUpTo, ArePutGates, IsPutOnLists, PutsText, FollowEachOther}
 
 -- ---- inputs
 
@@ -49,18 +49,18 @@ gates_text-append form first (g ∷ gs) hs =
     ∙ sym (append_assoc (gate_text form (2 * first) g) (gates_text form (suc first) gs) (gates_text form (first + suc (length gs)) hs))
 
 -- how many variables and gates there are then
-pub variables_then : (old new : Circuit) (gs : List Gate) → new ≡ with_gates old gs → variables (net new) ≡ variables (net old) + length gs
+pub variables_then : (old new : Circuit) (gs : List Gate) → new ≡ with_more_gates old gs → variables (net new) ≡ variables (net old) + length gs
 variables_then old new gs is = ap (λ (c : Circuit). variables (net c)) is ∙ omega (arith, length-append old.gates gs)
 
 -- gates are put onto a circuit in pieces
-pub circuit_pieces : (form : Form) → FollowEachOther (IsPut form)
+pub circuit_pieces : (form : Form) → FollowEachOther (ArePutGates form)
 circuit_pieces form = record {
   none = λ c. record { gates = []; is = ap (λ (gs : List Gate). record c { gates = gs }) (sym (append-nil c.gates)); own = refl };
   both = λ a b c x y p q.
       let first : suc (variables (net b)) ≡ suc (variables (net a)) + length p.gates = omega (arith, variables_then a b p.gates p.is) in
       record {
         gates = p.gates ++ q.gates;
-        is = q.is ∙ ap (λ (d : Circuit). with_gates d q.gates) p.is ∙ ap (λ (gs : List Gate). record a { gates = gs }) (append_assoc a.gates p.gates q.gates);
+        is = q.is ∙ ap (λ (d : Circuit). with_more_gates d q.gates) p.is ∙ ap (λ (gs : List Gate). record a { gates = gs }) (append_assoc a.gates p.gates q.gates);
         own =
             ap (λ (t : List ℕ). t ++ y) p.own ∙ ap (λ (t : List ℕ). gates_text form (suc (variables (net a))) p.gates ++ t) (q.own ∙ ap (λ (k : ℕ). gates_text form k q.gates) first)
             ∙ sym (gates_text-append form (suc (variables (net a))) p.gates q.gates);
@@ -68,7 +68,7 @@ circuit_pieces form = record {
 }
 
 -- one gate by its text
-pub one_put : (form : Form) (c d : Circuit) (own : ℕ) (g : Gate) → own ≡ 2 * (variables (net c) + 1) → d ≡ with_gate c g.rhs0 g.rhs1 → IsPut form c d (gate_text form own g)
+pub one_put : (form : Form) (c d : Circuit) (own : ℕ) (g : Gate) → own ≡ 2 * (variables (net c) + 1) → d ≡ with_gate c g.rhs0 g.rhs1 → ArePutGates form c d (gate_text form own g)
 one_put form c d own g is next =
     let same : own ≡ 2 * suc (variables (net c)) = omega (arith, is) in
     record {

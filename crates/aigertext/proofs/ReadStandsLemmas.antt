@@ -24,7 +24,7 @@ use Rattle.aigertext.specs.Ascii.{form_word, numbers_line, literal_lines, size_l
 use Rattle.aigertext.specs.Counts.{first_of_counts, last_of_counts, counts_in}
 use Rattle.aigertext.specs.Binary.{gates_text}
 use Rattle.aigertext.specs.Spelling.{IsHeader, AreNextLines, GiveNames, Given, IsEnd, IsBinaryText}
-use Rattle.aigertext.specs.Reading.{Properties, lists_of, line_at, literal_of, size_within, size_of, literals_at, sizes_at, nexts_at, gates_at, properties_at, nameless, binary_at, names_at, header_of}
+use Rattle.aigertext.specs.Reading.{Properties, sized_lists, line_at, literal_on, size_within, size_of, literals_at, sizes_at, nexts_at, gates_at, properties_at, nameless, binary_at, names_at, header_of}
 use Rattle.aigertext.proofs.BackLemmas.{ok_same, not_err, bind-back, bind-then, lines-back, within-back, literals-back, sizes-back, SaysAt, line-back}
 use Rattle.aigertext.proofs.FieldLemmas.{joined, numbers_line-joined}
 use Rattle.deltas.proofs.BackLemmas.{AreBytes}
@@ -43,18 +43,18 @@ fits_front n ns literals e =
     let whole : sum (n ∷ ns) ≡ n + sum ns = sum_of_cons n ns in
     (omega (arith, e, whole), omega (arith, e, whole, length-drop n literals))
 
-sizes_of_lists : (ns literals : List ℕ) → length literals ≡ sum ns → map length (lists_of ns literals) ≡ ns
+sizes_of_lists : (ns literals : List ℕ) → length literals ≡ sum ns → map length (sized_lists ns literals) ≡ ns
 sizes_of_lists [] literals e = refl
 sizes_of_lists (n ∷ ns) literals e =
     let fits = fits_front n ns literals e in
-    ap (λ (k : ℕ). k ∷ map length (lists_of ns (drop n literals))) (length-take-le n literals fits.0)
+    ap (λ (k : ℕ). k ∷ map length (sized_lists ns (drop n literals))) (length-take-le n literals fits.0)
     ∙ ap (λ (l : List ℕ). n ∷ l) (sizes_of_lists ns (drop n literals) fits.1)
 
 none_left : (literals : List ℕ) → length literals ≡ 0 → [] ≡ literals
 none_left [] e = refl
 none_left (l ∷ ls) e = absurd (omega (arith, e))
 
-pub concat_of_lists : (ns literals : List ℕ) → length literals ≡ sum ns → concat (lists_of ns literals) ≡ literals
+pub concat_of_lists : (ns literals : List ℕ) → length literals ≡ sum ns → concat (sized_lists ns literals) ≡ literals
 concat_of_lists [] literals e = none_left literals e
 concat_of_lists (n ∷ ns) literals e =
     let fits = fits_front n ns literals e in
@@ -72,10 +72,10 @@ record AreSmall (greatest n : ℕ) (ls : List ℕ) : Type 0 where
   small : AllByRecursion (λ l. l ≤ greatest) ls
 
 literals_small : (greatest n : ℕ) (text ls rest : List ℕ) → literals_at greatest n text ≡ Ok (ls, rest) → AreSmall greatest n ls
-unfolding literal_of
+unfolding literal_on
 literals_small greatest zero text ls rest e = subst (AreSmall greatest 0) (ap (λ (p : List ℕ × List ℕ). p.0) (ok_same ([], text) (ls, rest) e)) (record { many = refl; small = tt })
 literals_small greatest (suc n) text ls rest e =
-    let b = lines-back literal_of (λ g l. g) greatest n text ls rest e in
+    let b = lines-back literal_on (λ g l. g) greatest n text ls rest e in
     let others = literals_small greatest n b.after b.others rest b.more in
     let first : b.first ≤ greatest = (within-back why.BadNumber greatest b.first (number_of b.one.line) b.one.said).1 in
     subst (AreSmall greatest (suc n)) (sym b.all) (record { many = ap suc others.many; small = (first, others.small) })
@@ -177,8 +177,8 @@ lists_hold P (ls ∷ lists) h =
     let parts = front_holds P ls (concat lists) h in
     All-cons (All P) ls lists parts.0 (lists_hold P lists parts.1)
 
-pub lists_total : (ns literals : List ℕ) → length literals ≡ sum ns → sum ns ≤ greatest_count → sum_by length (lists_of ns literals) ≤ greatest_count
-lists_total ns literals e few = subst (λ (n : ℕ). n ≤ greatest_count) (ap sum (sym (sizes_of_lists ns literals e)) ∙ sum-map length (lists_of ns literals)) few
+pub lists_total : (ns literals : List ℕ) → length literals ≡ sum ns → sum ns ≤ greatest_count → sum_by length (sized_lists ns literals) ≤ greatest_count
+lists_total ns literals e few = subst (λ (n : ℕ). n ≤ greatest_count) (ap sum (sym (sizes_of_lists ns literals e)) ∙ sum-map length (sized_lists ns literals)) few
 
 -- names change nothing else
 pub names_alone : (c : Circuit) (gs : List Given) (d : Circuit) → GiveNames c gs d → ◌≡◌ {A = Circuit} (record c { names = [] }) (record d { names = [] })
@@ -192,7 +192,7 @@ pub record IsBody (h : Counts) (text : List ℕ) (end : List ℕ) (c : Circuit) 
   pub whole : text ≡ latches ++ (property_lines c ++ (gates_text Binary (suc (c.inputs + length c.latches)) c.gates ++ end))
   pub counts : h ≡ counts_in c
 
-pub length_lists : (ns literals : List ℕ) → length (lists_of ns literals) ≡ length ns
+pub length_lists : (ns literals : List ℕ) → length (sized_lists ns literals) ≡ length ns
 length_lists [] literals = refl
 length_lists (n ∷ ns) literals = ap suc (length_lists ns (drop n literals))
 
@@ -200,9 +200,9 @@ pub property_is : (inputs : ℕ) (ls : List Latch) (p : Properties) (gs : List G
     → property_lines (nameless inputs ls p gs) ++ rest
     ≡ literal_lines p.outputs ++ (literal_lines p.bads ++ (literal_lines p.constraints ++ (literal_lines p.sizes ++ (literal_lines p.listed ++ (literal_lines p.fair ++ rest)))))
 property_is inputs ls p gs rest e =
-    let sizes : size_lines (lists_of p.sizes p.listed) ≡ literal_lines p.sizes = size_lines-is (lists_of p.sizes p.listed) ∙ ap literal_lines (sizes_of_lists p.sizes p.listed e) in
+    let sizes : size_lines (sized_lists p.sizes p.listed) ≡ literal_lines p.sizes = size_lines-is (sized_lists p.sizes p.listed) ∙ ap literal_lines (sizes_of_lists p.sizes p.listed e) in
     property_text (nameless inputs ls p gs) rest
-    ∙ ap (λ (l : List ℕ). literal_lines p.outputs ++ (literal_lines p.bads ++ (literal_lines p.constraints ++ (l ++ (literal_lines (concat (lists_of p.sizes p.listed)) ++ (literal_lines p.fair ++ rest)))))) sizes
+    ∙ ap (λ (l : List ℕ). literal_lines p.outputs ++ (literal_lines p.bads ++ (literal_lines p.constraints ++ (l ++ (literal_lines (concat (sized_lists p.sizes p.listed)) ++ (literal_lines p.fair ++ rest)))))) sizes
     ∙ ap (λ (l : List ℕ). literal_lines p.outputs ++ (literal_lines p.bads ++ (literal_lines p.constraints ++ (literal_lines p.sizes ++ (literal_lines l ++ (literal_lines p.fair ++ rest))))))
     (concat_of_lists p.sizes p.listed e)
 
@@ -255,7 +255,7 @@ module _ (h : Counts) (text : List ℕ) (c : Circuit) (ls : List Latch) (after :
           outputs = defined p.outputs q.up_to.outputs;
           bads = defined p.bads q.up_to.bads;
           constraints = defined p.constraints q.up_to.constraints;
-          justice = lists_hold (λ n. variable n ≤ h.inputs + length ls + length gs) (lists_of p.sizes p.listed) (defined (concat (lists_of p.sizes p.listed)) q.up_to.justice);
+          justice = lists_hold (λ n. variable n ≤ h.inputs + length ls + length gs) (sized_lists p.sizes p.listed) (defined (concat (sized_lists p.sizes p.listed)) q.up_to.justice);
           fair = defined p.fair q.up_to.fair;
         };
         names = record { sorted = tt; named = All-nil (IsNamed (nameless h.inputs ls p gs)) };

@@ -8,7 +8,7 @@ use Rattle.aigertext.specs.declared.reading.counts.Counts.{Counts}
 use Rattle.aigertext.specs.declared.forms.Form.{Form}
 use Rattle.aigertext.specs.Counts.{AreSmall}
 use Rattle.aigertext.specs.Reading.{Properties}
-use Rattle.aigertext.specs.Passes.{with_gates, with_latches}
+use Rattle.aigertext.specs.Passes.{with_more_gates, with_latches}
 use Rattle.aigertext.specs.InOrder.{IsFront}
 use Rattle.aigertext.proofs.InOrderLemmas.{UsesBack, uses-back}
 use Rattle.aigertext.proofs.LatchBackLemmas.{latches-back}
@@ -41,7 +41,7 @@ module _ (form : Form) (h : Counts) (ls : List Latch) (p : Properties) (small : 
   back : UsesBack form h (r.lines ++ []) (ls, p) []
   back = uses-back form h (r.lines ++ []) (ls, p) [] (r.read [])
 
-  pub all_latches : (c : Circuit) → c ≡ with_gates (fresh_circuit h.inputs h.latches) c.gates → length ls ≡ length c.latches
+  pub all_latches : (c : Circuit) → c ≡ with_more_gates (fresh_circuit h.inputs h.latches) c.gates → length ls ≡ length c.latches
   all_latches c is =
       (latches-back form (2 * h.variables + 1) (suc h.inputs) h.latches (r.lines ++ []) ls back.after (omega (arith, small.variables)) (omega (arith, small.inputs, small.latches)) back.latches).count
       ∙ sym (ap (λ (c : Circuit). length c.latches) is ∙ length-replicate h.latches fresh_latch)

@@ -11,7 +11,7 @@ use Rattle.aigertext.specs.declared.reading.counts.Counts.{Counts}
 use Rattle.aigertext.specs.declared.fault.Stop.{Stop}
 use Rattle.aigertext.specs.declared.fault.Why.{Why}
 use Rattle.aigertext.specs.declared.fault.Why.TheVariants as why
-use Rattle.aigertext.specs.Reading.{◌>>=◌, stop, cut, fields, line_at, some_or, within, next_fields, header_of, lists_of, Properties, properties_at, names_at, binary_at, fault_of}
+use Rattle.aigertext.specs.Reading.{◌>>=◌, stop, cut_at_byte, fields, line_at, some_or, within, next_fields, header_of, sized_lists, Properties, properties_at, names_at, binary_at, fault_of}
 use Rattle.aigertext.specs.declared.forms.Form.{Form}
 use Rattle.aigertext.specs.declared.forms.Form.TheVariants.{Ascii, Binary}
 use Rattle.aigertext.specs.declared.fault.ReadFault.{ReadFault}
@@ -37,8 +37,8 @@ latch_fields greatest l (current ∷ others) = do
   x ← next_fields greatest own others
   Ok (record { current = own; next = x.next; reset = x.reset })
 
-abbrev pub latch_of : ℕ → Loose → List ℕ → Result LatchLine Why
-latch_of greatest l line = latch_fields greatest l (fields line)
+abbrev pub latch_of_line : ℕ → Loose → List ℕ → Result LatchLine Why
+latch_of_line greatest l line = latch_fields greatest l (fields line)
 
 -- a gate: three numbers, of which the first defines a new variable; that is asked last
 unfoldable pub gate_fields : ℕ → Loose → List (List ℕ) → Result GateLine Why
@@ -50,8 +50,8 @@ gate_fields greatest l (lhs ∷ rhs0 ∷ rhs1 ∷ []) = do
   Ok (record { lhs = new; rhs0 = a; rhs1 = b })
 gate_fields greatest l other = Err why.BadNumber
 
-abbrev pub gate_of : ℕ → Loose → List ℕ → Result GateLine Why
-gate_of greatest l line = gate_fields greatest l (fields line)
+abbrev pub gate_of_line : ℕ → Loose → List ℕ → Result GateLine Why
+gate_of_line greatest l line = gate_fields greatest l (fields line)
 
 -- ---- lists
 
@@ -65,15 +65,15 @@ onto_lists says with' l (suc n) text = do
 -- the lists with their properties
 abbrev pub with_properties_of : Loose → Properties → Loose
 with_properties_of l p =
-    record l { outputs = p.outputs; bads = p.bads; constraints = p.constraints; justice = lists_of p.sizes p.listed; fair = p.fair }
+    record l { outputs = p.outputs; bads = p.bads; constraints = p.constraints; justice = sized_lists p.sizes p.listed; fair = p.fair }
 
 -- the lists that stand behind a header of the ascii form, and the text behind them
 unfoldable pub lists_of_file : Counts → List ℕ → Result (Loose × List ℕ) Stop
 lists_of_file h text = do
   i ← onto_lists (input_of (2 * h.variables + 1)) with_input_line empty_loose h.inputs text
-  l ← onto_lists (latch_of (2 * h.variables + 1)) with_latch_line i.0 h.latches i.1
+  l ← onto_lists (latch_of_line (2 * h.variables + 1)) with_latch_line i.0 h.latches i.1
   p ← properties_at h l.1
-  onto_lists (gate_of (2 * h.variables + 1)) with_gate_line (with_properties_of l.0 p.0) h.gates p.1
+  onto_lists (gate_of_line (2 * h.variables + 1)) with_gate_line (with_properties_of l.0 p.0) h.gates p.1
 
 -- ---- faults of the lists
 
@@ -84,7 +84,7 @@ behind_line text (Some x) = x.1
 
 abbrev pub behind_lines : ℕ → List ℕ → List ℕ
 behind_lines zero text = text
-behind_lines (suc n) text = behind_lines n (behind_line text (cut 10 text))
+behind_lines (suc n) text = behind_lines n (behind_line text (cut_at_byte 10 text))
 
 -- how many lines stand behind the header before the line that is k-th of those that use literals: the inputs are before all of them, the sizes of the justice properties before the justice literals
 abbrev pub lines_before : Counts → ℕ → ℕ
@@ -134,7 +134,7 @@ unfoldable pub AnswersText : List ℕ → Result Circuit Stop → Type 0
 AnswersText text answer = AnswersHeader (line_at header_of text) answer
 
 -- reading a text stops with this fault
-pub record IsFaultOf (text : List ℕ) (e : ReadFault) : Type 0 where
+pub record IsAsciiFaultOf (text : List ℕ) (e : ReadFault) : Type 0 where
   pub stop : Stop
   pub stops : AnswersText text (Err stop)
   pub is : e ≡ fault_of text stop

@@ -20,10 +20,10 @@ use Rattle.aigertext.specs.Binary.{inputs_text, gates_text}
 use Rattle.aigertext.specs.declared.reading.front.Front.{Front}
 use Rattle.aigertext.specs.Counts.{AreSmall, Fits}
 use Rattle.aigertext.specs.PropertyLists.{numbers_of}
-use Rattle.aigertext.specs.Spelling.{Spells}
+use Rattle.aigertext.specs.Spelling.{SpellsCircuit}
 use Rattle.aigertext.specs.AsciiReading.{lists_of_file, AnswersText}
 use Rattle.aigertext.specs.Reading.{◌>>=◌, line_at, header_of, Properties, properties_at, nameless, names_at}
-use Rattle.aigertext.specs.Passes.{with_gates, latches_in, ReadsText}
+use Rattle.aigertext.specs.Passes.{with_more_gates, latches_in, ReadsText}
 
 -- ---- the text
 
@@ -57,9 +57,9 @@ text_with form h before gs behind = before ++ (gates_text form (suc (h.inputs + 
 -- ---- the circuit
 
 -- gates were put onto a circuit by their text; the first has the circuit's next variable
-pub record IsPut (form : Form) (old new : Circuit) (text : List ℕ) : Type 0 where
+pub record ArePutGates (form : Form) (old new : Circuit) (text : List ℕ) : Type 0 where
   pub gates : List Gate
-  pub is : new ≡ with_gates old gates
+  pub is : new ≡ with_more_gates old gates
   pub own : text ≡ gates_text form (suc (variables (net old))) gates
 
 -- a circuit of these gates, latches and properties has this answer for the names of a text
@@ -74,7 +74,7 @@ IsFinish h uses gates c names (Err e) = (e.why ≡ why.NoMemory) ⊎ Finishes h 
 
 -- a text was read onto a circuit that it spells, or reading it stops, or memory ran out
 abbrev pub ReadsOnto : {X : Type 0} → Circuit → List ℕ → Result X Stop → Type 0
-ReadsOnto c text (Ok x) = Spells text c
+ReadsOnto c text (Ok x) = SpellsCircuit text c
 ReadsOnto c text (Err e) = (e.why ≡ why.NoMemory) ⊎ AnswersText text (Err e)
 
 -- ---- the lists of a file
@@ -125,12 +125,12 @@ pub record IsReadOf (known : Option (List ℕ)) (r : Result Circuit ReadFault) :
   pub reads : ReadsText text r
 
 -- what was taken from a source: the circuit that its bytes spell, their fault, or all of them
-abbrev pub IsTaken : Option (List ℕ) → Taken → Type 0
-IsTaken known (taken.Circuit c) = IsReadOf known (Ok c)
-IsTaken known (taken.Fault e) = IsReadOf known (Err e)
-IsTaken known (taken.Text text) = IfSome known (λ all. text.items ≡ all)
+abbrev pub IsTakenFrom : Option (List ℕ) → Taken → Type 0
+IsTakenFrom known (taken.Circuit c) = IsReadOf known (Ok c)
+IsTakenFrom known (taken.Fault e) = IsReadOf known (Err e)
+IsTakenFrom known (taken.Text text) = IfSome known (λ all. text.items ≡ all)
 
 -- the same, where nothing stands for a circuit that was there before
 abbrev pub IsTakenOnto : Option (List ℕ) → Circuit → Option Taken → Type 0
 IsTakenOnto known c None = IsReadOf known (Ok c)
-IsTakenOnto known c (Some t) = IsTaken known t
+IsTakenOnto known c (Some t) = IsTakenFrom known t

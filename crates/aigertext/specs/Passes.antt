@@ -3,8 +3,8 @@ use Rattle.std.specs.Prelude.{◌≡◌, ℕ, ◌+◌, ◌-◌, ◌==◌, List, 
 use Rattle.aiger.specs.declared.circuit.Gate.{Gate}
 use Rattle.aiger.specs.declared.circuit.Latch.{Latch}
 use Rattle.aiger.specs.Circuit.{Circuit}
-use Rattle.aigertext.specs.AsciiReading.{IsFaultOf}
-use Rattle.aigertext.specs.Spelling.{Spells}
+use Rattle.aigertext.specs.AsciiReading.{IsAsciiFaultOf}
+use Rattle.aigertext.specs.Spelling.{SpellsCircuit}
 use Rattle.aigertext.specs.declared.fault.ReadFault.{ReadFault}
 use Rattle.aigertext.specs.declared.fault.Stop.{Stop}
 use Rattle.aigertext.specs.declared.fault.Why.{Why}
@@ -49,8 +49,8 @@ onto front (Ok x) = Ok (front ++ x.0, x.1)
 onto front (Err e) = Err e
 
 -- the circuit with more gates, and with other latches
-abbrev pub with_gates : Circuit → List Gate → Circuit
-with_gates c gs = record c { gates = c.gates ++ gs }
+abbrev pub with_more_gates : Circuit → List Gate → Circuit
+with_more_gates c gs = record c { gates = c.gates ++ gs }
 
 abbrev pub with_latches : Circuit → List Latch → Circuit
 with_latches c ls = record c { latches = ls }
@@ -61,12 +61,12 @@ ReadsBy why_of view (Ok x) Answers = Answers (Ok (view x))
 ReadsBy why_of view (Err e) Answers = (why_of e ≡ why.NoMemory) ⊎ Answers (Err e)
 
 -- it is what was to be read of a text
-abbrev pub Reads : {X A : Type 0} → (X → A) → Result X Stop → Result A Stop → Type 0
-Reads view r read = ReadsBy (λ e. e.why) view r (λ answer. read ≡ answer)
+abbrev pub IsReadOf : {X A : Type 0} → (X → A) → Result X Stop → Result A Stop → Type 0
+IsReadOf view r read = ReadsBy (λ e. e.why) view r (λ answer. read ≡ answer)
 
 -- it is what was to be read of a line
-abbrev pub ReadsLine : {X A : Type 0} → (X → A) → Result X Why → Result A Why → Type 0
-ReadsLine view r read = ReadsBy (λ w. w) view r (λ answer. read ≡ answer)
+abbrev pub IsLineReadOf : {X A : Type 0} → (X → A) → Result X Why → Result A Why → Type 0
+IsLineReadOf view r read = ReadsBy (λ w. w) view r (λ answer. read ≡ answer)
 
 -- ---- whole texts
 
@@ -77,12 +77,12 @@ told total left why.Device = record { place = 0; why = why.NoMemory }
 told total left w = record { place = total - left; why = w }
 
 -- whether a why is one that a text has
-abbrev pub IsOfText : Why → Type 0
-IsOfText why.NoMemory = ⊥
-IsOfText why.Device = ⊥
-IsOfText w = Unit {0}
+abbrev pub IsTextWhy : Why → Type 0
+IsTextWhy why.NoMemory = ⊥
+IsTextWhy why.Device = ⊥
+IsTextWhy w = Unit {0}
 
 -- a text was read as a circuit that it spells or has the fault, unless memory ran out
 abbrev pub ReadsText : List ℕ → Result Circuit ReadFault → Type 0
-ReadsText text (Ok c) = Spells text c
-ReadsText text (Err e) = (e ≡ record { place = 0; why = why.NoMemory }) ⊎ (IsOfText e.why × IsFaultOf text e)
+ReadsText text (Ok c) = SpellsCircuit text c
+ReadsText text (Err e) = (e ≡ record { place = 0; why = why.NoMemory }) ⊎ (IsTextWhy e.why × IsAsciiFaultOf text e)

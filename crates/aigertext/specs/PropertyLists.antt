@@ -7,7 +7,7 @@ use Rattle.aigertext.specs.declared.reading.property_lists.LiteralSection.TheVar
 use Rattle.aigertext.specs.declared.reading.properties.PropertyLines.{PropertyLines}
 use Rattle.aigertext.specs.declared.reading.counts.Counts.{Counts}
 use Rattle.aigertext.specs.declared.fault.Stop.{Stop}
-use Rattle.aigertext.specs.Reading.{◌>>=◌, Properties, lists_of, properties_at}
+use Rattle.aigertext.specs.Reading.{◌>>=◌, Properties, sized_lists, properties_at}
 use Rattle.aigertext.specs.AsciiReading.{with_properties_of}
 
 pub record Lists : Type 0 where
@@ -28,8 +28,8 @@ with_literals Constraint p ls = record p { constraints = p.constraints ++ ls }
 with_literals Fair p ls = record p { fair = p.fair ++ ls }
 
 -- more justice properties
-abbrev pub with_justice : Lists → List (List ℕ) → Lists
-with_justice p js = record p { justice = p.justice ++ js }
+abbrev pub with_justice_lists : Lists → List (List ℕ) → Lists
+with_justice_lists p js = record p { justice = p.justice ++ js }
 
 -- the numbers of the lines of properties
 abbrev pub numbers_of : PropertyLines → Properties
@@ -48,7 +48,7 @@ no_numbers = record { outputs = []; bads = []; constraints = []; sizes = []; lis
 
 -- the properties that were read
 abbrev pub lists_made : Properties → Lists
-lists_made p = record { outputs = p.outputs; bads = p.bads; constraints = p.constraints; justice = lists_of p.sizes p.listed; fair = p.fair }
+lists_made p = record { outputs = p.outputs; bads = p.bads; constraints = p.constraints; justice = sized_lists p.sizes p.listed; fair = p.fair }
 
 -- lists beside which a value has other things, that stay as they are
 pub record ArePropertyLists {X : Type 0} (lists : X → Lists) (with_lists : X → Lists → X) : Type 0 where

@@ -36,14 +36,14 @@ abbrev pub stop : List ℕ → Why → Stop
 stop text w = record { left = length text; why = w }
 
 -- what the front of a text says; its why is told with its place
-abbrev pub at : {A : Type 0} → List ℕ → Result A Why → Result A Stop
-at text (Ok x) = Ok x
-at text (Err w) = Err (stop text w)
+abbrev pub at_front : {A : Type 0} → List ℕ → Result A Why → Result A Stop
+at_front text (Ok x) = Ok x
+at_front text (Err w) = Err (stop text w)
 
 -- what a function returned, seen by view, is what reading gives
-abbrev pub Gives : {X Y E : Type 0} → (X → Y) → Result X E → Result Y E → Type 0
-Gives view (Ok x) read = read ≡ Ok (view x)
-Gives view (Err e) read = read ≡ Err e
+abbrev pub IsAsRead : {X Y E : Type 0} → (X → Y) → Result X E → Result Y E → Type 0
+IsAsRead view (Ok x) read = read ≡ Ok (view x)
+IsAsRead view (Err e) read = read ≡ Err e
 
 -- what an option has, or a why where it has nothing
 abbrev pub some_or : {A : Type 0} → Why → Option A → Result A Why
@@ -57,9 +57,9 @@ onto_front b None = None
 onto_front b (Some x) = Some (b ∷ x.0, x.1)
 
 -- the bytes before the first of a kind and those behind it, where there is one
-abbrev pub cut : ℕ → List ℕ → Option (List ℕ × List ℕ)
-cut byte [] = None
-cut byte (b ∷ bs) = if b == byte then Some ([], bs) else onto_front b (cut byte bs)
+abbrev pub cut_at_byte : ℕ → List ℕ → Option (List ℕ × List ℕ)
+cut_at_byte byte [] = None
+cut_at_byte byte (b ∷ bs) = if b == byte then Some ([], bs) else onto_front b (cut_at_byte byte bs)
 
 -- the parts of a line between its spaces
 abbrev pub fields : List ℕ → List (List ℕ)
@@ -75,11 +75,11 @@ fields_behind (b ∷ bs) = fields bs
 abbrev pub cut_line : {A : Type 0} → (List ℕ → Result A Why) → List ℕ → Option (List ℕ × List ℕ) → Result (A × List ℕ) Stop
 cut_line says text None = Err (stop text why.Truncated)
 cut_line says text (Some x) = do
-  a ← at text (says x.0)
+  a ← at_front text (says x.0)
   Ok (a, x.1)
 
 abbrev pub line_at : {A : Type 0} → (List ℕ → Result A Why) → List ℕ → Result (A × List ℕ) Stop
-line_at says text = cut_line says text (cut 10 text)
+line_at says text = cut_line says text (cut_at_byte 10 text)
 
 -- what so many lines say, one after the other, and the text behind them; what a line says goes on to the next one
 abbrev pub lines_at : {A S : Type 0} → (S → List ℕ → Result A Why) → (S → A → S) → S → ℕ → List ℕ → Result (List A × List ℕ) Stop
@@ -126,8 +126,8 @@ fitting Ascii h = if nat_lt h.variables (h.inputs + h.latches + h.gates) then Er
 fitting Binary h = if h.variables == h.inputs + h.latches + h.gates then Ok h else Err why.CountsDisagree
 
 -- the form that a word is of
-unfoldable pub form_of : List ℕ → Result Form Why
-form_of word = if bytes_eq word (codes "aag") then Ok Ascii else (if bytes_eq word (codes "aig") then Ok Binary else Err why.BadHeader)
+unfoldable pub header_form : List ℕ → Result Form Why
+header_form word = if bytes_eq word (codes "aag") then Ok Ascii else (if bytes_eq word (codes "aig") then Ok Binary else Err why.BadHeader)
 
 -- the counts that fields are
 abbrev pub counts_told : List (List ℕ) → Result Counts Why
@@ -136,7 +136,7 @@ counts_told fields = numbers_in fields >>= counts_of
 unfoldable pub header_fields : List (List ℕ) → Result (Form × Counts) Why
 header_fields [] = Err why.BadHeader
 header_fields (word ∷ rest) = do
-  form ← form_of word
+  form ← header_form word
   h ← counts_told rest
   fits ← fitting form h
   Ok (form, fits)
@@ -153,8 +153,8 @@ within w greatest None = Err w
 within w greatest (Some n) = if nat_le n greatest then Ok n else Err w
 
 -- the literal of a line
-unfoldable pub literal_of : ℕ → List ℕ → Result ℕ Why
-literal_of greatest line = within why.BadNumber greatest (number_of line)
+unfoldable pub literal_on : ℕ → List ℕ → Result ℕ Why
+literal_on greatest line = within why.BadNumber greatest (number_of line)
 
 -- how a latch begins
 abbrev pub reset_of : ℕ → Option ℕ → Result Reset Why
@@ -162,17 +162,17 @@ reset_of own None = Err why.BadLatch
 reset_of own (Some n) = if n == 0 then Ok reset.Zero else (if n == 1 then Ok reset.One else (if n == own then Ok reset.Free else Err why.BadLatch))
 
 -- the same of the fields behind the next literal: none stands for 0
-abbrev pub reset_at : ℕ → List (List ℕ) → Result Reset Why
-reset_at own [] = Ok reset.Zero
-reset_at own (field ∷ []) = reset_of own (number_of field)
-reset_at own (field ∷ more ∷ others) = Err why.BadLatch
+abbrev pub reset_on : ℕ → List (List ℕ) → Result Reset Why
+reset_on own [] = Ok reset.Zero
+reset_on own (field ∷ []) = reset_of own (number_of field)
+reset_on own (field ∷ more ∷ others) = Err why.BadLatch
 
 -- a latch of the binary form: its next literal, and how it begins
 unfoldable pub next_fields : ℕ → ℕ → List (List ℕ) → Result Latch Why
 next_fields greatest own [] = Err why.BadLatch
 next_fields greatest own (next ∷ others) = do
   n ← within why.BadLatch greatest (number_of next)
-  r ← reset_at own others
+  r ← reset_on own others
   Ok (record { next = n; reset = r })
 
 abbrev pub next_of : ℕ → ℕ → List ℕ → Result Latch Why
@@ -192,7 +192,7 @@ nexts_at greatest own n text = lines_at (next_of greatest) (λ o l. o + 2) own n
 
 -- so many literals
 abbrev pub literals_at : ℕ → ℕ → List ℕ → Result (List ℕ × List ℕ) Stop
-literals_at greatest n text = lines_at literal_of (λ g l. g) greatest n text
+literals_at greatest n text = lines_at literal_on (λ g l. g) greatest n text
 
 -- so many sizes
 abbrev pub sizes_at : ℕ → ℕ → List ℕ → Result (List ℕ × List ℕ) Stop
@@ -226,8 +226,8 @@ at_or_below first d = if nat_lt first d.0 then Err why.GateOrder else Ok (first 
 -- a gate with this literal, and the text behind it
 unfoldable pub gate_at : ℕ → List ℕ → Result (Gate × List ℕ) Stop
 gate_at own text = do
-  x ← at text (delta_at text >>= below own)
-  y ← at x.1 (delta_at x.1 >>= at_or_below x.0)
+  x ← at_front text (delta_at text >>= below own)
+  y ← at_front x.1 (delta_at x.1 >>= at_or_below x.0)
   Ok (record { rhs0 = x.0; rhs1 = y.0 }, y.1)
 
 -- so many gates, the first of which has the given literal
@@ -241,26 +241,26 @@ gates_at own (suc n) text = do
 -- ---- names
 
 -- the section that a letter stands for
-unfoldable pub section_of : ℕ → Option Section
-section_of b = find (λ s. letter s == b) all_sections
+unfoldable pub section_with_letter : ℕ → Option Section
+section_with_letter b = find (λ s. letter s == b) all_sections
 
 -- the circuit with a name more, where it is not refused
-abbrev pub accepted : Circuit → Option CircuitFault → Result Circuit Why
-accepted c None = Ok c
-accepted c (Some fault) = Err why.BadSymbol
+abbrev pub name_accepted : Circuit → Option CircuitFault → Result Circuit Why
+name_accepted c None = Ok c
+name_accepted c (Some fault) = Err why.BadSymbol
 
 -- the circuit with the name that a line gives
 abbrev pub named_by : Circuit → Section → Option (List ℕ × List ℕ) → Result Circuit Why
 named_by c s None = Err why.BadSymbol
 named_by c s (Some x) = do
   position ← some_or why.BadSymbol (number_of x.0)
-  accepted (with_name c s position x.1) (name_refusal c s position x.1)
+  name_accepted (with_name c s position x.1) (name_refusal c s position x.1)
 
 unfoldable pub name_on : Circuit → List ℕ → Result Circuit Why
 name_on c [] = Err why.BadSymbol
 name_on c (b ∷ bs) = do
-  s ← some_or why.BadSymbol (section_of b)
-  named_by c s (cut 32 bs)
+  s ← some_or why.BadSymbol (section_with_letter b)
+  named_by c s (cut_at_byte 32 bs)
 
 -- the circuit with the names that lines give, up to a line `c`; the last line has no byte 10
 abbrev pub names_on : Circuit → List (List ℕ) → List ℕ → Result Circuit Stop
@@ -268,7 +268,7 @@ names_on c [] [] = Ok c
 names_on c [] (b ∷ bs) = Err (stop (b ∷ bs) why.Truncated)
 names_on c (line ∷ lines) last =
     if bytes_eq line (codes "c") then Ok c
-    else (at (text_of_lines (line ∷ lines) ++ last) (name_on c line) >>= (λ d. names_on d lines last))
+    else (at_front (text_of_lines (line ∷ lines) ++ last) (name_on c line) >>= (λ d. names_on d lines last))
 
 -- the same of a text
 abbrev pub names_at : Circuit → List ℕ → Result Circuit Stop
@@ -277,9 +277,9 @@ names_at c text = names_on c (whole_lines text) (unfinished text)
 -- ---- texts
 
 -- literals as lists of these sizes
-abbrev pub lists_of : List ℕ → List ℕ → List (List ℕ)
-lists_of [] literals = []
-lists_of (n ∷ ns) literals = take n literals ∷ lists_of ns (drop n literals)
+abbrev pub sized_lists : List ℕ → List ℕ → List (List ℕ)
+sized_lists [] literals = []
+sized_lists (n ∷ ns) literals = take n literals ∷ sized_lists ns (drop n literals)
 
 -- the literals of outputs, bad properties and constraints, the sizes and literals of the justice properties, and the fairness constraints
 pub record Properties : Type 0 where
@@ -311,7 +311,7 @@ nameless inputs latches p gates =
       outputs = p.outputs;
       bads = p.bads;
       constraints = p.constraints;
-      justice = lists_of p.sizes p.listed;
+      justice = sized_lists p.sizes p.listed;
       fair = p.fair;
       names = [];
     }

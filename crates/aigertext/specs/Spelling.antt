@@ -145,9 +145,9 @@ pub record IsAsciiText (text : List ℕ) (c : Circuit) : Type 0 where
   pub whole : text ≡ header ++ (inputs ++ (latches ++ (use_lines lists ++ (gates ++ end))))
 
 -- a text spells a circuit: it stands for it in the ascii form or in the binary form
-abbrev pub Spells : List ℕ → Circuit → Type 0
-Spells text c = IsAsciiText text c ⊎ IsBinaryText text c
+abbrev pub SpellsCircuit : List ℕ → Circuit → Type 0
+SpellsCircuit text c = IsAsciiText text c ⊎ IsBinaryText text c
 
 -- the bytes of a source, where it knows them, are a text of a circuit, of either form
 abbrev pub IsCircuitText : Option (List ℕ) → Circuit → Type 0
-IsCircuitText known circuit = IfSome known (λ text. Spells text circuit)
+IsCircuitText known circuit = IfSome known (λ text. SpellsCircuit text circuit)

@@ -20,8 +20,8 @@ why_row NoMemory = (61, codes "NoMemory")
 why_row Cycle = (62, codes "Cycle")
 why_row Undefined = (63, codes "Undefined")
 
-abbrev pub why_number : Why → ℕ
-why_number w = (why_row w).0
+abbrev pub circuit_why_number : Why → ℕ
+circuit_why_number w = (why_row w).0
 
-abbrev pub why_name : Why → List ℕ
-why_name w = (why_row w).1
+abbrev pub circuit_why_name : Why → List ℕ
+circuit_why_name w = (why_row w).1

@@ -14,8 +14,8 @@ abbrev pub one_latch : ℕ → Reset → Circuit
 one_latch next reset = record nothing { latches = record { next = next; reset = reset } ∷ []; bads = 2 ∷ []; names = ((rank Latch, 0), codes "t[0]") ∷ [] }
 
 -- the latch begins with 0 and takes its negation
-abbrev pub toggler : Circuit
-toggler = one_latch 3 Zero
+abbrev pub text_toggler : Circuit
+text_toggler = one_latch 3 Zero
 
 -- the latch has no initial value and keeps its bit
 abbrev pub free_state : Circuit
@@ -41,5 +41,5 @@ all_kinds =
     }
 
 -- an input, whose negation is an output
-abbrev pub one_input : Circuit
-one_input = record nothing { inputs = 1; outputs = 3 ∷ [] }
+abbrev pub negated_input : Circuit
+negated_input = record nothing { inputs = 1; outputs = 3 ∷ [] }

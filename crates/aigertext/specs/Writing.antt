@@ -9,5 +9,5 @@ abbrev pub PutsOn : {T E : Type 0} → Result T E → Result T E → Option (Lis
 PutsOn (Ok x) now old new before after kept left text = Puts now old new kept left text × CountsFaults now before after
 PutsOn (Err e) now old new before after kept left text = (now ≡ Err e) × (new ≡ old) × (after ≡ before)
 
-pub record Writes {K : Type 0} (written : K → Option (List ℕ)) (failures : K → ℕ) (s t : K) (p q : Pen) (text : List ℕ) : Type 0 where
+pub record WritesText {K : Type 0} (written : K → Option (List ℕ)) (failures : K → ℕ) (s t : K) (p q : Pen) (text : List ℕ) : Type 0 where
   pub puts : PutsOn p.answer q.answer (written s) (written t) (failures s) (failures t) p.outbox q.outbox text

@@ -1,6 +1,6 @@
 //! Why a text is no circuit.
 ghost use Rattle.std.specs.Prelude.{◌≡◌};
-ghost use Rattle.aigertext.specs.Whys.{why_row, why_number, why_name};
+ghost use Rattle.aigertext.specs.Whys.{why_row, circuit_why_number, circuit_why_name};
 
 use std::fmt;
 use thiserror::Error;
@@ -66,14 +66,14 @@ impl Why {
 
     /// The number that is printed for it.
     pub fn number(self) -> u32
-        ensures { result ≡ why_number self }
+        ensures { result ≡ circuit_why_number self }
     {
         self.row().0
     }
 
     /// The name that is printed for it.
     pub fn name(self) -> &'static str
-        ensures { result.now ≡ why_name self }
+        ensures { result.now ≡ circuit_why_name self }
     {
         self.row().1
     }

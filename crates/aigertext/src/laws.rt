@@ -13,14 +13,14 @@ ghost use Rattle.aigertext.specs.AsciiReading.{lists_of_file, behind_lines, line
 ghost use Rattle.aigertext.specs.declared.reading.counts.Counts.{Counts};
 ghost use Rattle.aigertext.specs.declared.fault.Stop.{Stop};
 ghost use Rattle.aigertext.specs.declared.fault.Why.TheVariants as why;
-ghost use Rattle.aigertext.specs.Worked.{toggler, free_state, one_gate, one_output, all_kinds, nothing, one_input};
+ghost use Rattle.aigertext.specs.Worked.{text_toggler, free_state, one_gate, one_output, all_kinds, nothing, negated_input};
 
 use aiger::laws::{circuit_with_a_name, one_renumbering, own_numbers};
 
 /// Worked rows: the texts of a latch that toggles, of a latch with no initial value, of a gate, and of
 /// properties of each kind.
 pub fn worked_texts()
-    ensures toggler { ascii_text toggler ≡ codes "aag 1 0 1 0 0 1\n2 3\n2\nl0 t[0]\n" }
+    ensures toggler { ascii_text text_toggler ≡ codes "aag 1 0 1 0 0 1\n2 3\n2\nl0 t[0]\n" }
     ensures free_state { ascii_text free_state ≡ codes "aag 1 0 1 0 0 1\n2 2 2\n2\nl0 t[0]\n" }
     ensures one_gate { ascii_text one_gate ≡ codes "aag 3 2 0 0 1 0 1\n2\n4\n6\n6 4 2\ni0 a\nc0 both\n" }
     ensures all_kinds { ascii_text all_kinds ≡ codes "aag 1 1 0 2 0 0 0 2 1\n2\n2\n3\n2\n0\n2\n3\n1\no1 y\nj1 j\nf0 f\n" }
@@ -38,7 +38,7 @@ pub fn worked_lines()
 
 /// Worked rows: binary texts of the same circuits, and of a gate that is an output.
 pub fn worked_binary_texts()
-    ensures toggler { binary_text toggler ≡ codes "aig 1 0 1 0 0 1\n3\n2\nl0 t[0]\n" }
+    ensures toggler { binary_text text_toggler ≡ codes "aig 1 0 1 0 0 1\n3\n2\nl0 t[0]\n" }
     ensures free_state { binary_text free_state ≡ codes "aig 1 0 1 0 0 1\n2 2\n2\nl0 t[0]\n" }
     ensures one_gate { binary_text one_gate ≡ codes "aig 3 2 0 0 1 0 1\n6\n" ++ 2 ∷ 2 ∷ codes "i0 a\nc0 both\n" }
     ensures one_output { binary_text one_output ≡ codes "aig 3 2 0 1 1\n6\n" ++ 2 ∷ 2 ∷ [] }
@@ -48,8 +48,8 @@ pub fn worked_binary_texts()
 /// Worked rows: binary texts that are read, in the writer's spelling and in others.
 #[tactic(auto, unfolding(crate::specs::AsciiReading::AnswersText, crate::specs::Reading::binary_at, crate::specs::Reading::properties_at, crate::specs::Reading::name_on, crate::specs::Reading::section_of, crate::specs::Reading::gate_at, crate::specs::Reading::delta_at, deltas::specs::Deltas::number_at, crate::specs::Reading::size_of, crate::specs::Reading::next_fields, crate::specs::Reading::literal_of, crate::specs::Reading::header_fields, crate::specs::Reading::form_of, crate::specs::Reading::fitting, crate::specs::Reading::counts_of, base::specs::Decimals::number_of, base::specs::Decimals::capped_value, base::specs::Decimals::is_decimal))]
 pub fn worked_binary_readings()
-    ensures toggler { AnswersText ((codes "aig 1 0 1 0 0 1\n3\n2\nl0 t[0]\n")) (Ok toggler) }
-    ensures spelled_out { AnswersText ((codes "aig 1 0 1 0 0 1 0 0 0\n3 0\n2\nl0 t[0]\nc\nany")) (Ok toggler) }
+    ensures toggler { AnswersText ((codes "aig 1 0 1 0 0 1\n3\n2\nl0 t[0]\n")) (Ok text_toggler) }
+    ensures spelled_out { AnswersText ((codes "aig 1 0 1 0 0 1 0 0 0\n3 0\n2\nl0 t[0]\nc\nany")) (Ok text_toggler) }
     ensures free_state { AnswersText ((codes "aig 1 0 1 0 0 1\n2 2\n2\nl0 t[0]\n")) (Ok free_state) }
     ensures one_output { AnswersText ((codes "aig 3 2 0 1 1\n6\n" ++ 2 ∷ 2 ∷ [])) (Ok one_output) }
     ensures any_order { AnswersText ((codes "aig 3 2 0 0 1 0 1\n6\n" ++ 2 ∷ 2 ∷ codes "c0 both\ni0 a\n")) (Ok one_gate) }
@@ -144,8 +144,8 @@ pub fn worked_binary_spellings()
 /// Worked rows: an ascii text in numbers of its own, with a greatest variable that is above all of them, stands for a
 /// circuit; with a greatest variable that is below the number of variables it does not.
 pub fn worked_ascii_spellings()
-    ensures any_number { IsAsciiText (codes "aag 9 1 0 1 0\n8\n9\n") one_input }
-    ensures too_many { ¬ IsAsciiText (codes "aag 0 1 0 1 0\n2\n3\n") one_input }
+    ensures any_number { IsAsciiText (codes "aag 9 1 0 1 0\n8\n9\n") negated_input }
+    ensures too_many { ¬ IsAsciiText (codes "aag 0 1 0 1 0\n2\n3\n") negated_input }
 {
     one_ascii_circuit();
 }

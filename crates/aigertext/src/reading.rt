@@ -5,10 +5,10 @@ ghost use Rattle.base.specs.Device.{HasRisen};
 ghost use Rattle.aiger.specs.Circuit.{Circuit as CircuitValue};
 ghost use Rattle.aigertext.specs.Reading.{line_at, header_of};
 ghost use Rattle.aigertext.specs.Counts.{AreSmall, Fits};
-ghost use Rattle.aigertext.specs.InOrder.{IsTaken, IsReadOf};
+ghost use Rattle.aigertext.specs.InOrder.{IsTakenFrom, IsReadOf};
 ghost use Rattle.aigertext.specs.declared.forms.Form.TheVariants as form;
-ghost use Rattle.aigertext.specs.AsciiReading.{AnswersText, IsFaultOf, GivesCircuit};
-ghost use Rattle.aigertext.specs.Spelling.{Spells};
+ghost use Rattle.aigertext.specs.AsciiReading.{AnswersText, IsAsciiFaultOf, GivesCircuit};
+ghost use Rattle.aigertext.specs.Spelling.{SpellsCircuit};
 ghost use Rattle.aigertext.specs.Passes.{ReadsBy, ReadsText};
 ghost use Rattle.aigertext.specs.declared.fault.Why.TheVariants as why;
 
@@ -88,7 +88,7 @@ fn read_text(alloc: Global, text: &[u8]) -> Result<Circuit, ReadFault>
 
 /// The circuit of what was taken from a source, or its fault.
 fn read_taken(alloc: Global, taken: Taken) -> Result<Circuit, ReadFault>
-    ensures { (known : Option (List ℕ)) → IsTaken known taken → IsReadOf known result }
+    ensures { (known : Option (List ℕ)) → IsTakenFrom known taken → IsReadOf known result }
 {
     match taken {
         Taken::Circuit(circuit) => Ok(circuit),
@@ -107,13 +107,13 @@ pub fn read<S: Source>(alloc: Global, source: &mut S) -> Result<Circuit, ReadFau
     // the text stands for what is read
     ensures found { IfOk result (λ c. IfSome (S.to_come source.old) (λ text. AnswersText text (Ok c))) }
     // and it spells that circuit by the sections of its form
-    ensures spells { IfOk result (λ c. IfSome (S.to_come source.old) (λ text. Spells text c)) }
+    ensures spells { IfOk result (λ c. IfSome (S.to_come source.old) (λ text. SpellsCircuit text c)) }
     // every text that stands for a circuit is read as it, want of memory and device faults apart
     ensures only { (text : List ℕ) (c : CircuitValue) → S.to_come source.old ≡ Some text → AnswersText text (Ok c) → GivesCircuit result c }
     // and so is each that spells one
-    ensures each { (text : List ℕ) (c : CircuitValue) → S.to_come source.old ≡ Some text → Spells text c → GivesCircuit result c }
+    ensures each { (text : List ℕ) (c : CircuitValue) → S.to_come source.old ≡ Some text → SpellsCircuit text c → GivesCircuit result c }
     // a fault that is neither is where reading stops
-    ensures fault { IfErr result (λ e. IfSome (S.to_come source.old) (λ text. (e.why ≡ why.Device) ⊎ ((e.why ≡ why.NoMemory) ⊎ IsFaultOf text e))) }
+    ensures fault { IfErr result (λ e. IfSome (S.to_come source.old) (λ text. (e.why ≡ why.Device) ⊎ ((e.why ≡ why.NoMemory) ⊎ IsAsciiFaultOf text e))) }
     ensures end { OnOk result (IsAtEnd (S.to_come source.new)) }
     ensures counted { OnOk result (S.failures source.new ≡ S.failures source.old) }
     ensures device { IfErr result (λ e. e.why ≡ why.Device → HasRisen (S.failures source.old) (S.failures source.new)) }

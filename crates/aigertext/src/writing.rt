@@ -3,7 +3,7 @@ ghost use Rattle.std.specs.Prelude.{OnOk, OnErr};
 ghost use Rattle.std.specs.Io.KnownBytes.{Appends};
 ghost use Rattle.base.specs.Device.{CountsFaults, AppendsBeginning};
 ghost use Rattle.aigertext.specs.Binary.{ascii_text, binary_text, circuit_text};
-ghost use Rattle.aigertext.specs.Writing.{Writes};
+ghost use Rattle.aigertext.specs.Writing.{WritesText};
 
 mod gates;
 mod header;
@@ -61,7 +61,7 @@ pub fn write_binary<K: Sink>(circuit: &Circuit, sink: &mut K) -> Result<(), Devi
 
 /// Puts the text of a circuit.
 fn put_text<K: Sink>(pen: &mut Pen, sink: &mut K, form: Form, circuit: &Circuit)
-    ensures { Writes K.written K.failures sink.old sink.new pen.old pen.new (circuit_text form circuit.now) }
+    ensures { WritesText K.written K.failures sink.old sink.new pen.old pen.new (circuit_text form circuit.now) }
 {
     let inputs = circuit.inputs();
     put_header(pen, sink, form, circuit);

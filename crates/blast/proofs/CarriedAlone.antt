@@ -6,16 +6,16 @@ use Rattle.btor2.proofs.StateWords.{not_free}
 use Rattle.blast.specs.Cost.{input_width, state_width, given_width, carried_width}
 use Rattle.btor2.specs.Lists.{HaveNexts}
 use Rattle.btor2.specs.Leaves.{kind_width}
-use Rattle.blast.specs.Leaves.{by_body, of_kind, leaf_bits}
+use Rattle.blast.specs.Leaves.{by_body, given_by_kind, leaf_bits}
 use Rattle.blast.proofs.NodeLemmas.{length-leaves}
 
 -- kinds that are the same of some items give the same of them, and a kind that none is of gives nothing
-of_kind-alike : {A : Type 0} (kind other : Item → Bool) (give : Item → List A) (xs : List Item) → ((place : ℕ) (x : Item) → slice_get xs place ≡ Some x → kind x ≡ other x) → of_kind kind give xs ≡ of_kind other give xs
+of_kind-alike : {A : Type 0} (kind other : Item → Bool) (give : Item → List A) (xs : List Item) → ((place : ℕ) (x : Item) → slice_get xs place ≡ Some x → kind x ≡ other x) → given_by_kind kind give xs ≡ given_by_kind other give xs
 of_kind-alike kind other give [] same = refl
 of_kind-alike kind other give (x ∷ xs) same =
     ap₂ (λ (l r : List _). l ++ r) (ap (λ (b : Bool). cond b (give x) []) (same 0 x refl)) (of_kind-alike kind other give xs (λ place y at. same (suc place) y at))
 
-of_kind-none : {A : Type 0} (kind : Item → Bool) (give : Item → List A) (xs : List Item) → ((place : ℕ) (x : Item) → slice_get xs place ≡ Some x → kind x ≡ false) → of_kind kind give xs ≡ []
+of_kind-none : {A : Type 0} (kind : Item → Bool) (give : Item → List A) (xs : List Item) → ((place : ℕ) (x : Item) → slice_get xs place ≡ Some x → kind x ≡ false) → given_by_kind kind give xs ≡ []
 of_kind-none kind give [] none = refl
 of_kind-none kind give (x ∷ xs) none =
     ap₂ (λ (l r : List _). l ++ r) (ap (λ (b : Bool). cond b (give x) []) (none 0 x refl)) (of_kind-none kind give xs (λ place y at. none (suc place) y at))
@@ -35,10 +35,10 @@ all_carried items h place x at = by (is_state x.body) (λ e. not_free items x.id
     by true carried = ap not (carried refl)
     by false carried = refl
 
-pub given_alone : {A : Type 0} (items : List Item) (give : Item → List A) (front : List A) → HaveNexts items → front ++ of_kind (is_free_state items) give items ≡ front
+pub given_alone : {A : Type 0} (items : List Item) (give : Item → List A) (front : List A) → HaveNexts items → front ++ given_by_kind (is_free_state items) give items ≡ front
 given_alone items give front h = ap (λ (l : List _). front ++ l) (of_kind-none (is_free_state items) give items (none_free items h)) ∙ append-nil front
 
-pub carried_alone : {A : Type 0} (items : List Item) (give : Item → List A) → HaveNexts items → of_kind (is_carried_state items) give items ≡ of_kind (by_body is_state) give items
+pub carried_alone : {A : Type 0} (items : List Item) (give : Item → List A) → HaveNexts items → given_by_kind (is_carried_state items) give items ≡ given_by_kind (by_body is_state) give items
 carried_alone items give h = of_kind-alike (is_carried_state items) (by_body is_state) give items (all_carried items h)
 
 -- the same of widths

@@ -8,8 +8,8 @@ use Rattle.btor2.specs.declared.item.Body.{Body}
 use Rattle.btor2.specs.Lists.{places}
 use Rattle.btor2.specs.Trace.{bits_of}
 use Rattle.btor2.specs.Leaves.{kind_width}
-use Rattle.blast.specs.Leaves.{by_body, of_kind}
-use Rattle.blast.specs.Blocks.{block, blocks, written, IsBlank}
+use Rattle.blast.specs.Leaves.{by_body, given_by_kind}
+use Rattle.blast.specs.Blocks.{block, blocks, written_over, IsBlank}
 
 -- Entries of lists.
 
@@ -41,20 +41,20 @@ length_drop_rest list zero h = omega arith
 length_drop_rest [] (suc n) h = absurd (omega arith)
 length_drop_rest (x ∷ list) (suc n) h = omega (arith, length_drop_rest list n (omega arith))
 
-pub written-nil : {A : Type 0} (list : List A) (at : ℕ) → written list at [] ≡ list
-unfolding written
+pub written-nil : {A : Type 0} (list : List A) (at : ℕ) → written_over list at [] ≡ list
+unfolding written_over
 written-nil list at = ap (λ (n : ℕ). take at list ++ drop n list) (omega arith) ∙ take-append-drop at list
 
-pub length-written : {A : Type 0} (list : List A) (at : ℕ) (more : List A) → at + length more ≤ length list → length (written list at more) ≡ length list
-unfolding written
+pub length-written : {A : Type 0} (list : List A) (at : ℕ) (more : List A) → at + length more ≤ length list → length (written_over list at more) ≡ length list
+unfolding written_over
 length-written list at more h =
     let t : length (take at list) ≡ at = length-take-le at list (omega arith) in
     let d : at + length more + length (drop (at + length more) list) ≡ length list = length_drop_rest list (at + length more) h in
     omega (arith, length-append (take at list) (more ++ drop (at + length more) list), length-append more (drop (at + length more) list))
 
 -- the entry behind a block is as it was
-pub written-behind : {A : Type 0} (list : List A) (at k : ℕ) (more : List A) → at + length more ≤ length list → slice_get (written list at more) (at + length more + k) ≡ slice_get list (at + length more + k)
-unfolding written
+pub written-behind : {A : Type 0} (list : List A) (at k : ℕ) (more : List A) → at + length more ≤ length list → slice_get (written_over list at more) (at + length more + k) ≡ slice_get list (at + length more + k)
+unfolding written_over
 written-behind list at k more h =
     let t : length (take at list) ≡ at = length-take-le at list (omega arith) in
     let p : length (take at list ++ more) ≡ at + length more = omega (arith, length-append (take at list) more) in
@@ -68,8 +68,8 @@ drop_here (x ∷ list) zero h = (x, refl)
 drop_here (x ∷ list) (suc n) h = drop_here list n (omega arith)
 
 -- one entry more
-pub written-more : {A : Type 0} (list : List A) (at : ℕ) (more : List A) (y : A) → at + length more < length list → set (written list at more) (at + length more) y ≡ written list at (more ++ y ∷ [])
-unfolding written
+pub written-more : {A : Type 0} (list : List A) (at : ℕ) (more : List A) (y : A) → at + length more < length list → set (written_over list at more) (at + length more) y ≡ written_over list at (more ++ y ∷ [])
+unfolding written_over
 written-more list at more y h =
     let t : length (take at list) ≡ at = length-take-le at list (omega arith) in
     let p : length (take at list ++ more) ≡ at + length more = omega (arith, length-append (take at list) more) in
@@ -83,8 +83,8 @@ written-more list at more y h =
     ∙ ap (λ (k : ℕ). take at list ++ ((more ++ y ∷ []) ++ drop k list)) n
 
 -- a block written over entries behind a front
-pub written-at : {A : Type 0} (front old more rest : List A) (at : ℕ) → length front ≡ at → length old ≡ length more → written (front ++ (old ++ rest)) at more ≡ (front ++ more) ++ rest
-unfolding written
+pub written-at : {A : Type 0} (front old more rest : List A) (at : ℕ) → length front ≡ at → length old ≡ length more → written_over (front ++ (old ++ rest)) at more ≡ (front ++ more) ++ rest
+unfolding written_over
 written-at front old more rest at e same =
     let n : length (front ++ old) ≡ at + length more = omega (arith, length-append front old) in
     let t : take at (front ++ (old ++ rest)) ≡ front = take_at front (old ++ rest) at e in
@@ -92,8 +92,8 @@ written-at front old more rest at e same =
     ap₂ (λ (x y : List _). x ++ (more ++ y)) t d ∙ sym (append_assoc front more rest)
 
 -- a block written behind another
-pub written-further : {A : Type 0} (list : List A) (at : ℕ) (xs ys : List A) → at + length xs + length ys ≤ length list → written (written list at xs) (at + length xs) ys ≡ written list at (xs ++ ys)
-unfolding written
+pub written-further : {A : Type 0} (list : List A) (at : ℕ) (xs ys : List A) → at + length xs + length ys ≤ length list → written_over (written_over list at xs) (at + length xs) ys ≡ written_over list at (xs ++ ys)
+unfolding written_over
 written-further list at xs ys h =
     let rest = drop (at + length xs) list in
     let t : length (take at list) ≡ at = length-take-le at list (omega arith) in
@@ -101,14 +101,14 @@ written-further list at xs ys h =
     let d : at + length xs + length rest ≡ length list = length_drop_rest list (at + length xs) (omega arith) in
     let old : length (take (length ys) rest) ≡ length ys = length-take-le (length ys) rest (omega arith) in
     let n : at + length xs + length ys ≡ at + length (xs ++ ys) = omega (arith, length-append xs ys) in
-    ap (λ (l : List _). written l (at + length xs) ys) (sym (append_assoc (take at list) xs rest) ∙ ap (λ (l : List _). (take at list ++ xs) ++ l) (sym (take-append-drop (length ys) rest)))
+    ap (λ (l : List _). written_over l (at + length xs) ys) (sym (append_assoc (take at list) xs rest) ∙ ap (λ (l : List _). (take at list ++ xs) ++ l) (sym (take-append-drop (length ys) rest)))
     ∙ written-at (take at list ++ xs) (take (length ys) rest) ys (drop (length ys) rest) (at + length xs) p old
     ∙ ap₂ (λ (l r : List _). l ++ r) (append_assoc (take at list) xs ys) (drop-drop (length ys) (at + length xs) list ∙ ap (λ (k : ℕ). drop k list) n)
     ∙ append_assoc (take at list) (xs ++ ys) (drop (at + length (xs ++ ys)) list)
 
 -- a block written over a whole list
-pub written-whole : {A : Type 0} (list more : List A) → length list ≡ length more → written list 0 more ≡ more
-unfolding written
+pub written-whole : {A : Type 0} (list more : List A) → length list ≡ length more → written_over list 0 more ≡ more
+unfolding written_over
 written-whole list more same = ap (λ (l : List _). more ++ l) (drop_all (0 + length more) list (omega arith)) ∙ append-nil more
 
 -- an entry written again
@@ -118,16 +118,16 @@ set_same (y ∷ list) zero x e = ap (λ (z : _). z ∷ list) (sym (same_Some y x
 set_same (y ∷ list) (suc k) x e = ap (λ (l : List _). y ∷ l) (set_same list k x e)
 
 -- blank entries, and a block of such entries written over them
-pub written-blank : {A : Type 0} (blank : A) (list : List A) (at count : ℕ) → IsBlank blank at count list → at + count ≤ length list → written list at (replicate count blank) ≡ list
+pub written-blank : {A : Type 0} (blank : A) (list : List A) (at count : ℕ) → IsBlank blank at count list → at + count ≤ length list → written_over list at (replicate count blank) ≡ list
 written-blank blank list at zero h room = written-nil list at
 written-blank blank list at (suc count) h room =
     let l : length (replicate count blank) ≡ count = length-replicate count blank in
     let i : at + length (replicate count blank) ≡ at + count = omega arith in
-    let before : written list at (replicate count blank) ≡ list = written-blank blank list at count (record { entries = λ k b. h.entries k (omega arith) }) (omega arith) in
+    let before : written_over list at (replicate count blank) ≡ list = written-blank blank list at count (record { entries = λ k b. h.entries k (omega arith) }) (omega arith) in
     let last = written-more list at (replicate count blank) blank (omega arith) in
     let more : count + 1 ≡ suc count = omega arith in
     let same : replicate (suc count) blank ≡ replicate count blank ++ blank ∷ [] = sym (replicate-append-replicate count 1 blank ∙ ap (λ (n : ℕ). replicate n blank) more) in
-    ap (written list at) same ∙ sym last ∙ ap₂ (λ (l : List _) (n : ℕ). set l n blank) before i ∙ set_same list (at + count) blank (h.entries count (omega arith))
+    ap (written_over list at) same ∙ sym last ∙ ap₂ (λ (l : List _) (n : ℕ). set l n blank) before i ∙ set_same list (at + count) blank (h.entries count (omega arith))
 
 -- Blocks of items.
 
@@ -156,27 +156,27 @@ blocks-rest give items ps k h = ap (blocks give items) (drop_more ps k 0 h)
 
 -- the blocks of the places of a kind are what the items of the kind give
 kind_blocks : {A : Type 0} (kind : Body → Bool) (give : Item → List A) (before xs : List Item) (n : ℕ) → length before ≡ n
-    → blocks give (before ++ xs) (places kind n xs) ≡ of_kind (by_body kind) give xs
+    → blocks give (before ++ xs) (places kind n xs) ≡ given_by_kind (by_body kind) give xs
 unfolding blocks
 kind_blocks kind give before [] n e = refl
 kind_blocks kind give before (x ∷ xs) n e =
     let own : slice_get (before ++ x ∷ xs) n ≡ Some x = ap (slice_get (before ++ x ∷ xs)) (omega arith) ∙ slice_get-behind before (x ∷ xs) n 0 e in
-    let rest : blocks give (before ++ x ∷ xs) (places kind (suc n) xs) ≡ of_kind (by_body kind) give xs =
+    let rest : blocks give (before ++ x ∷ xs) (places kind (suc n) xs) ≡ given_by_kind (by_body kind) give xs =
     ap (λ (l : List Item). blocks give l (places kind (suc n) xs)) (sym (append_assoc before (x ∷ []) xs))
     ∙ kind_blocks kind give (before ++ x ∷ []) xs (suc n) (omega (arith, length-append before (x ∷ []))) in
-    elim (kind x.body) as (λ b. blocks give (before ++ x ∷ xs) (cond b (n ∷ places kind (suc n) xs) (places kind (suc n) xs)) ≡ cond b (give x) [] ++ of_kind (by_body kind) give xs) [
+    elim (kind x.body) as (λ b. blocks give (before ++ x ∷ xs) (cond b (n ∷ places kind (suc n) xs) (places kind (suc n) xs)) ≡ cond b (give x) [] ++ given_by_kind (by_body kind) give xs) [
       | true ↦ ap₂ (λ (o : Option Item) (l : List _). block give o ++ l) own rest
       | false ↦ rest
     ]
 
-pub blocks-of_kind : {A : Type 0} (kind : Body → Bool) (give : Item → List A) (items : List Item) → blocks give items (places kind 0 items) ≡ of_kind (by_body kind) give items
+pub blocks-of_kind : {A : Type 0} (kind : Body → Bool) (give : Item → List A) (items : List Item) → blocks give items (places kind 0 items) ≡ given_by_kind (by_body kind) give items
 blocks-of_kind kind give items = kind_blocks kind give [] items 0 refl
 
 -- where each item gives an entry for each of its bits, those of a kind give as many as they have bits
-pub length-of_kind : {A : Type 0} (items : List Item) (kind : Item → Bool) (give : Item → List A) (xs : List Item) → ((x : Item) → length (give x) ≡ bits_of items x.id) → length (of_kind kind give xs) ≡ kind_width items kind xs
+pub length-of_kind : {A : Type 0} (items : List Item) (kind : Item → Bool) (give : Item → List A) (xs : List Item) → ((x : Item) → length (give x) ≡ bits_of items x.id) → length (given_by_kind kind give xs) ≡ kind_width items kind xs
 length-of_kind items kind give [] wide = refl
 length-of_kind items kind give (x ∷ xs) wide =
-    length-append (cond (kind x) (give x) []) (of_kind kind give xs) ∙ ap₂ ◌+◌ (by (kind x)) (length-of_kind items kind give xs wide)
+    length-append (cond (kind x) (give x) []) (given_by_kind kind give xs) ∙ ap₂ ◌+◌ (by (kind x)) (length-of_kind items kind give xs wide)
     ∙ sym (sum_by-cons (λ (y : Item). cond (kind y) (bits_of items y.id) 0) x xs)
   where
     by : (b : Bool) → length (cond b (give x) []) ≡ cond b (bits_of items x.id) 0
@@ -185,7 +185,7 @@ length-of_kind items kind give (x ∷ xs) wide =
 
 -- where the items of a kind are among those of a wider kind, what the wider kind gives is what they give
 pub of_kind-within : {A : Type 0} (wide kind : Item → Bool) (give : Item → List A) (xs : List Item) → ((x : Item) → kind x ≡ true → wide x ≡ true)
-    → of_kind wide (λ x. cond (kind x) (give x) []) xs ≡ of_kind kind give xs
+    → given_by_kind wide (λ x. cond (kind x) (give x) []) xs ≡ given_by_kind kind give xs
 of_kind-within wide kind give [] within = refl
 of_kind-within wide kind give (x ∷ xs) within = ap₂ (λ (l r : List _). l ++ r) (by (wide x) (kind x) (within x)) (of_kind-within wide kind give xs within)
   where
@@ -259,12 +259,12 @@ so_far-room blank give items ps k h =
 
 -- the next block written
 pub so_far-more : {A : Type 0} (blank : A) (give : Item → List A) (items : List Item) (ps : List ℕ) (k : ℕ) → k < length ps
-    → written (so_far blank give items ps k) (reached give items ps k) (block give (slice_get items (get_or ps k 0))) ≡ so_far blank give items ps (k + 1)
+    → written_over (so_far blank give items ps k) (reached give items ps k) (block give (slice_get items (get_or ps k 0))) ≡ so_far blank give items ps (k + 1)
 unfolding so_far reached
 so_far-more blank give items ps k h =
     let next = block give (slice_get items (get_or ps k 0)) in
     let rest = replicate (length (blocks give items (drop (k + 1) ps))) blank in
     let front = blocks give items (take k ps) in
-    ap (λ (l : List _). written l (length front) next) (so_far_cut blank give items ps k h)
+    ap (λ (l : List _). written_over l (length front) next) (so_far_cut blank give items ps k h)
     ∙ written-at front (replicate (length next) blank) next rest (length front) refl (length-replicate (length next) blank)
     ∙ ap (λ (l : List _). l ++ rest) (sym (blocks-more give items ps k h))

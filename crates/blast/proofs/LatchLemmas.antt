@@ -19,9 +19,9 @@ use Rattle.aiger.specs.declared.circuit.Reset.TheVariants as reset
 use Rattle.base.specs.Literal.{literal_value}
 use Rattle.aiger.specs.Net.{Net, IsDefined}
 use Rattle.aiger.specs.Circuit.{Circuit, net, with_latch, fresh_latch}
-use Rattle.blast.specs.Blocks.{block, blocks, written}
+use Rattle.blast.specs.Blocks.{block, blocks, written_over}
 use Rattle.blast.specs.Cost.{carried_width}
-use Rattle.blast.specs.Leaves.{by_body, of_kind, reset_of_bit, resets_of_word, leaf_resets, leaf_bits}
+use Rattle.blast.specs.Leaves.{by_body, given_by_kind, reset_of_bit, resets_of_word, leaf_resets, leaf_bits}
 use Rattle.blast.specs.Reads.{ReadsWord, RowsRead, LatchesRead}
 use Rattle.blast.specs.Rows.{row_at, reset_at, row_latches, state_latches, item_latches}
 use Rattle.blast.proofs.KindBlocks.{written-nil, written-more, length-written, blocks-of_kind, of_kind-within, so_far, reached, so_far-none, so_far-all, so_far-room, so_far-more, reached-more}
@@ -130,20 +130,20 @@ state_first items n rows x xs latches h reads all state some rest =
       resets =
           map-append (λ (latch : Latch). latch.reset) (state_latches items rows x) latches
           ∙ ap₂ ◌++◌ (resets-row_latches init row (bits_of items x.id) (next.4.wide ∙ sym width)) rest.resets
-          ∙ sym (ap (λ (b : Bool). cond b (leaf_resets items x) [] ++ of_kind (is_carried_state items) (leaf_resets items) xs) state);
+          ∙ sym (ap (λ (b : Bool). cond b (leaf_resets items x) [] ++ given_by_kind (is_carried_state items) (leaf_resets items) xs) state);
       nexts = λ st input f v t.
           let word : next_state items f x.id ≡ f next.0 = ap (λ (o : Option ℕ). unwrap_or (option_map f o) 0) next.2 in
           map-append (λ (latch : Latch). literal_value v latch.next) (state_latches items rows x) latches
           ∙ ap₂ ◌++◌ (nexts-row_latches (literal_value v) init 0 row ∙ next.4.bits st input f v t ∙ ap₂ bits (sym width) (sym word)) (rest.nexts st input f v t)
-          ∙ sym (ap (λ (b : Bool). cond b (leaf_bits items (next_state items f) x) [] ++ of_kind (is_carried_state items) (leaf_bits items (next_state items f)) xs) state);
+          ∙ sym (ap (λ (b : Bool). cond b (leaf_bits items (next_state items f) x) [] ++ given_by_kind (is_carried_state items) (leaf_bits items (next_state items f)) xs) state);
     }
 
 other_first : (items : List Item) (n : Net) (x : Item) (xs : List Item) (latches : List Latch) → is_carried_state items x ≡ false → LatchesRead items n xs latches → LatchesRead items n (x ∷ xs) latches
 other_first items n x xs latches other rest =
     record {
       defined = rest.defined;
-      resets = rest.resets ∙ sym (ap (λ (b : Bool). cond b (leaf_resets items x) [] ++ of_kind (is_carried_state items) (leaf_resets items) xs) other);
-      nexts = λ st input f v t. rest.nexts st input f v t ∙ sym (ap (λ (b : Bool). cond b (leaf_bits items (next_state items f) x) [] ++ of_kind (is_carried_state items) (leaf_bits items (next_state items f)) xs) other);
+      resets = rest.resets ∙ sym (ap (λ (b : Bool). cond b (leaf_resets items x) [] ++ given_by_kind (is_carried_state items) (leaf_resets items) xs) other);
+      nexts = λ st input f v t. rest.nexts st input f v t ∙ sym (ap (λ (b : Bool). cond b (leaf_bits items (next_state items f) x) [] ++ given_by_kind (is_carried_state items) (leaf_bits items (next_state items f)) xs) other);
     }
 
 item_first : (items : List Item) (n : Net) (rows : List (List ℕ)) (x : Item) (xs : List Item) (latches : List Latch) (b : Bool) → IsWellFormed items → RowsRead items n rows → length rows ≡ length items
@@ -153,10 +153,10 @@ item_first items n rows x xs latches false h reads all nexts test rest = other_f
 
 -- the latches of states read as theirs
 pub LatchesRead-made : (items : List Item) (n : Net) (rows : List (List ℕ)) (xs : List Item) → IsWellFormed items → RowsRead items n rows → length rows ≡ length items → first_init_without_next items xs ≡ None
-    → LatchesRead items n xs (of_kind (is_carried_state items) (state_latches items rows) xs)
+    → LatchesRead items n xs (given_by_kind (is_carried_state items) (state_latches items rows) xs)
 LatchesRead-made items n rows [] h reads all nexts = empty_latches items n
 LatchesRead-made items n rows (x ∷ xs) h reads all nexts =
-    item_first items n rows x xs (of_kind (is_carried_state items) (state_latches items rows) xs) (is_carried_state items x) h reads all nexts refl (LatchesRead-made items n rows xs h reads all (tail_next items x xs nexts))
+    item_first items n rows x xs (given_by_kind (is_carried_state items) (state_latches items rows) xs) (is_carried_state items x) h reads all nexts refl (LatchesRead-made items n rows xs h reads all (tail_next items x xs nexts))
 
 -- the latches of a state are as many as its bits
 pub length-state_latches : (items : List Item) (n : Net) (rows : List (List ℕ)) (x : Item) → IsWellFormed items → RowsRead items n rows → length rows ≡ length items → is_some (next_value items x.id) ≡ true
@@ -171,10 +171,10 @@ latches_first items n rows x xs true h reads all nexts test = length-state_latch
 latches_first items n rows x xs false h reads all nexts test = refl
 
 pub length-latches : (items : List Item) (n : Net) (rows : List (List ℕ)) (xs : List Item) → IsWellFormed items → RowsRead items n rows → length rows ≡ length items → first_init_without_next items xs ≡ None
-    → length (of_kind (is_carried_state items) (state_latches items rows) xs) ≡ kind_width items (is_carried_state items) xs
+    → length (given_by_kind (is_carried_state items) (state_latches items rows) xs) ≡ kind_width items (is_carried_state items) xs
 length-latches items n rows [] h reads all nexts = refl
 length-latches items n rows (x ∷ xs) h reads all nexts =
-    length-append (cond (is_carried_state items x) (state_latches items rows x) []) (of_kind (is_carried_state items) (state_latches items rows) xs)
+    length-append (cond (is_carried_state items x) (state_latches items rows x) []) (given_by_kind (is_carried_state items) (state_latches items rows) xs)
     ∙ ap₂ ◌+◌ (latches_first items n rows x xs (is_carried_state items x) h reads all nexts refl) (length-latches items n rows xs h reads all (tail_next items x xs nexts))
     ∙ sym (sum_by-cons (λ (y : Item). cond (is_carried_state items y) (bits_of items y.id) 0) x xs)
 
@@ -182,7 +182,7 @@ length-latches items n rows (x ∷ xs) h reads all nexts =
 
 -- a circuit with the first so many latches of a row
 abbrev pub WithRow : Circuit → Circuit → ℕ → Option ℕ → List ℕ → ℕ → Type 0
-WithRow old cur first init row bit = cur ≡ record old { latches = written old.latches first (row_latches init 0 (take bit row)) }
+WithRow old cur first init row bit = cur ≡ record old { latches = written_over old.latches first (row_latches init 0 (take bit row)) }
 
 pub WithRow-none : (c : Circuit) (first : ℕ) (init : Option ℕ) (row : List ℕ) → WithRow c c first init row 0
 unfolding row_latches
@@ -208,7 +208,7 @@ same_net old latches e =
 pub WithRow-net : (old cur : Circuit) (first : ℕ) (init : Option ℕ) (row : List ℕ) (bit : ℕ) → WithRow old cur first init row bit → bit ≤ length row → first + length row ≤ length old.latches → net cur ≡ net old
 WithRow-net old cur first init row bit h low room =
     let n = row_reached first init row bit low in
-    ap net h ∙ same_net old (written old.latches first (row_latches init 0 (take bit row))) (length-written old.latches first (row_latches init 0 (take bit row)) (omega arith))
+    ap net h ∙ same_net old (written_over old.latches first (row_latches init 0 (take bit row))) (length-written old.latches first (row_latches init 0 (take bit row)) (omega arith))
 
 pub WithRow-defined : (old cur : Circuit) (first : ℕ) (init : Option ℕ) (row : List ℕ) (bit : ℕ) → WithRow old cur first init row bit → bit < length row → first + length row ≤ length old.latches
     → All (IsDefined (net old)) row → IsDefined (net cur) (get_or row bit 0)
@@ -223,12 +223,12 @@ WithRow-more old cur new first init row bit h low room given =
     let n : first + length so_far ≡ first + bit = row_reached first init row bit (omega arith) in
     given ∙ ap (λ (c : Circuit). with_latch c (first + bit) latch) h
     ∙ ap (λ (l : List Latch). record old { latches = l })
-    (ap (λ (k : ℕ). set (written old.latches first so_far) k latch) (sym n)
+    (ap (λ (k : ℕ). set (written_over old.latches first so_far) k latch) (sym n)
     ∙ written-more old.latches first so_far latch (omega arith)
-    ∙ ap (written old.latches first) (sym (row_latches-more init row bit low)))
+    ∙ ap (written_over old.latches first) (sym (row_latches-more init row bit low)))
 
 -- what the items at the places of the states give is what the states give that are not free
-state_blocks : (items : List Item) (rows : List (List ℕ)) → blocks (item_latches items rows) items (places is_state 0 items) ≡ of_kind (is_carried_state items) (state_latches items rows) items
+state_blocks : (items : List Item) (rows : List (List ℕ)) → blocks (item_latches items rows) items (places is_state 0 items) ≡ given_by_kind (is_carried_state items) (state_latches items rows) items
 state_blocks items rows =
     blocks-of_kind is_state (item_latches items rows) items
     ∙ of_kind-within (by_body is_state) (is_carried_state items) (state_latches items rows) items (λ x h. (carried_parts items x h).0)
@@ -240,7 +240,7 @@ WithStates items rows ps old cur k = cur ≡ record old { latches = so_far fresh
 pub WithStates-none : (items : List Item) (n : Net) (rows : List (List ℕ)) (ps : List ℕ) (c : Circuit) → IsWellFormed items → RowsRead items n rows → length rows ≡ length items → first_init_without_next items items ≡ None
     → ps ≡ places is_state 0 items → c.latches ≡ replicate (carried_width items) fresh_latch → WithStates items rows ps c c 0
 WithStates-none items n rows ps c h reads all nexts e fresh =
-    let own : blocks (item_latches items rows) items ps ≡ of_kind (is_carried_state items) (state_latches items rows) items =
+    let own : blocks (item_latches items rows) items ps ≡ given_by_kind (is_carried_state items) (state_latches items rows) items =
     ap (blocks (item_latches items rows) items) e ∙ state_blocks items rows in
     sym (ap (λ (l : List Latch). record c { latches = l })
     (so_far-none fresh_latch (item_latches items rows) items ps
@@ -248,7 +248,7 @@ WithStates-none items n rows ps c h reads all nexts e fresh =
     ∙ sym fresh))
 
 pub WithStates-all : (items : List Item) (rows : List (List ℕ)) (ps : List ℕ) (old cur : Circuit) (k : ℕ) → ps ≡ places is_state 0 items → length ps ≤ k → WithStates items rows ps old cur k
-    → cur ≡ record old { latches = of_kind (is_carried_state items) (state_latches items rows) items }
+    → cur ≡ record old { latches = given_by_kind (is_carried_state items) (state_latches items rows) items }
 WithStates-all items rows ps old cur k e end h =
     h ∙ ap (λ (l : List Latch). record old { latches = l })
     (so_far-all fresh_latch (item_latches items rows) items ps k end ∙ ap (blocks (item_latches items rows) items) e ∙ state_blocks items rows)
@@ -263,12 +263,12 @@ WithStates-room items rows ps old cur k x h low at =
     omega (arith, room, ap length (next_state_block items rows ps k x at), ap (λ (c : Circuit). length c.latches) h)
 
 pub WithStates-more : (items : List Item) (rows : List (List ℕ)) (ps : List ℕ) (old cur new : Circuit) (k : ℕ) (x : Item) → WithStates items rows ps old cur k → k < length ps → slice_get items (get_or ps k 0) ≡ Some x
-    → new ≡ record cur { latches = written cur.latches (reached (item_latches items rows) items ps k) (item_latches items rows x) } → WithStates items rows ps old new (k + 1)
+    → new ≡ record cur { latches = written_over cur.latches (reached (item_latches items rows) items ps k) (item_latches items rows x) } → WithStates items rows ps old new (k + 1)
 WithStates-more items rows ps old cur new k x h low at given =
     given
-    ∙ ap (λ (c : Circuit). record c { latches = written c.latches (reached (item_latches items rows) items ps k) (item_latches items rows x) }) h
+    ∙ ap (λ (c : Circuit). record c { latches = written_over c.latches (reached (item_latches items rows) items ps k) (item_latches items rows x) }) h
     ∙ ap (λ (l : List Latch). record old { latches = l })
-    (ap (written (so_far fresh_latch (item_latches items rows) items ps k) (reached (item_latches items rows) items ps k)) (sym (next_state_block items rows ps k x at))
+    (ap (written_over (so_far fresh_latch (item_latches items rows) items ps k) (reached (item_latches items rows) items ps k)) (sym (next_state_block items rows ps k x at))
     ∙ so_far-more fresh_latch (item_latches items rows) items ps k low)
 
 pub reached-state : (items : List Item) (rows : List (List ℕ)) (ps : List ℕ) (k : ℕ) (x : Item) → k < length ps → slice_get items (get_or ps k 0) ≡ Some x
@@ -277,11 +277,11 @@ reached-state items rows ps k x low at =
     reached-more (item_latches items rows) items ps k low ∙ ap (λ (l : List Latch). reached (item_latches items rows) items ps k + length l) (next_state_block items rows ps k x at)
 
 -- with other latches, as many, the net is the same
-pub other_latches : (cur new : Circuit) (first : ℕ) (latches : List Latch) → new ≡ record cur { latches = written cur.latches first latches } → first + length latches ≤ length cur.latches
+pub other_latches : (cur new : Circuit) (first : ℕ) (latches : List Latch) → new ≡ record cur { latches = written_over cur.latches first latches } → first + length latches ≤ length cur.latches
     → (length new.latches ≡ length cur.latches) × (net new ≡ net cur)
 other_latches cur new first latches e room =
     let n = length-written cur.latches first latches room in
-    (ap (λ (c : Circuit). length c.latches) e ∙ n, ap net e ∙ same_net cur (written cur.latches first latches) n)
+    (ap (λ (c : Circuit). length c.latches) e ∙ n, ap net e ∙ same_net cur (written_over cur.latches first latches) n)
 
 -- a state that is not free has a next line, and latches
 pub record CarriedState (items : List Item) (rows : List (List ℕ)) (x : Item) : Type 0 where

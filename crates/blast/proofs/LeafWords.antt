@@ -16,7 +16,7 @@ use Rattle.btor2.specs.Trace.{Frame, bits_of}
 use Rattle.btor2.specs.Leaves.{kind_width}
 use Rattle.btor2.proofs.IdLemmas.{AreOthers, AreFresh, ids_fresh, ids_named, input_is_no_state}
 use Rattle.blast.specs.Cost.{input_width, given_width, carried_width}
-use Rattle.blast.specs.Leaves.{by_body, of_kind, leaf_bits, input_bits, state_bits}
+use Rattle.blast.specs.Leaves.{by_body, given_by_kind, leaf_bits, input_bits, state_bits}
 
 -- ---- the word that a leaf with an id takes of the bits
 
@@ -94,7 +94,7 @@ other_word : (items : List Item) (takes : Item → Bool) (x : Item) (xs : List I
 other_word items takes x xs bs id v h e = word_test items takes (λ n. nat_eq n x.id) false xs (others_test takes x xs h) bs id v e
 
 bits_are : (items : List Item) (takes : Item → Bool) (f : Frame) (xs : List Item) (bs : List Bool) → AreFresh xs → kind_width items takes xs ≤ length bs → ((id v : ℕ) → word_for items takes xs bs id ≡ Some v → f id ≡ v)
-    → of_kind takes (leaf_bits items f) xs ≡ take (kind_width items takes xs) bs
+    → given_by_kind takes (leaf_bits items f) xs ≡ take (kind_width items takes xs) bs
 bits_are items takes f [] bs fresh long same = refl
 bits_are items takes f (x ∷ xs) bs fresh long same =
     by (takes x) (subst (λ (n : ℕ). n ≤ length bs) sum long) same (λ cs. bits_are items takes f xs cs fresh.1) ∙ ap (λ (n : ℕ). take n bs) (sym sum)
@@ -110,13 +110,13 @@ bits_are items takes f (x ∷ xs) bs fresh long same =
 
     by : (t : Bool) → (if t then bits_of items x.id else 0) + kind_width items takes xs ≤ length bs
         → ((id v : ℕ) → (if nat_eq id x.id then (if t then Some (word (take (bits_of items x.id) bs)) else None) else word_for items takes xs (if t then drop (bits_of items x.id) bs else bs) id) ≡ Some v → f id ≡ v)
-        → ((cs : List Bool) → kind_width items takes xs ≤ length cs → ((id v : ℕ) → word_for items takes xs cs id ≡ Some v → f id ≡ v) → of_kind takes (leaf_bits items f) xs ≡ take (kind_width items takes xs) cs)
-        → (if t then leaf_bits items f x else []) ++ of_kind takes (leaf_bits items f) xs ≡ take ((if t then bits_of items x.id else 0) + kind_width items takes xs) bs
+        → ((cs : List Bool) → kind_width items takes xs ≤ length cs → ((id v : ℕ) → word_for items takes xs cs id ≡ Some v → f id ≡ v) → given_by_kind takes (leaf_bits items f) xs ≡ take (kind_width items takes xs) cs)
+        → (if t then leaf_bits items f x else []) ++ given_by_kind takes (leaf_bits items f) xs ≡ take ((if t then bits_of items x.id else 0) + kind_width items takes xs) bs
     by true long same rest =
         let mine : f x.id ≡ word (take (bits_of items x.id) bs) = same x.id (word (take (bits_of items x.id) bs)) (own true (word_for items takes xs (drop (bits_of items x.id) bs) x.id)) in
         let first : leaf_bits items f x ≡ take (bits_of items x.id) bs =
         ap (bits (bits_of items x.id)) mine ∙ bits-word_of_length (bits_of items x.id) (take (bits_of items x.id) bs) (length-take-le (bits_of items x.id) bs (omega (arith, long))) in
-        let more : of_kind takes (leaf_bits items f) xs ≡ take (kind_width items takes xs) (drop (bits_of items x.id) bs) =
+        let more : given_by_kind takes (leaf_bits items f) xs ≡ take (kind_width items takes xs) (drop (bits_of items x.id) bs) =
         rest (drop (bits_of items x.id) bs) (omega (arith, long, length-drop (bits_of items x.id) bs)) (λ id v e. same id v (behind true (drop (bits_of items x.id) bs) id v e)) in
         ap₂ ◌++◌ first more ∙ sym (take-add (bits_of items x.id) (kind_width items takes xs) bs)
     by false long same rest =

@@ -16,7 +16,7 @@ use Rattle.aiger.specs.Circuit.{Circuit, IsCircuit, net, fresh_latch}
 use Rattle.gates.specs.Made.{gates_only}
 use Rattle.blast.specs.declared.fault.LowerFault.TheVariants as fault
 use Rattle.blast.specs.Cost.{bound, given_width, carried_width}
-use Rattle.blast.specs.Leaves.{of_kind, leaf_resets, resets_of_word, reset_of_bit}
+use Rattle.blast.specs.Leaves.{given_by_kind, leaf_resets, resets_of_word, reset_of_bit}
 use Rattle.blast.specs.Lowering.{Lowers}
 use Rattle.blast.specs.Properties.{TakesProperties}
 use Rattle.blast.specs.Sections.{TakesNames}
@@ -91,7 +91,7 @@ length-resets w None = length-replicate w _
 length-resets w (Some x) = length-map _ reset_of_bit ∙ length-bits w x
 
 -- the states' resets are as many as their bits
-pub length-state_resets : (items xs : List Item) → length (of_kind (is_carried_state items) (leaf_resets items) xs) ≡ kind_width items (is_carried_state items) xs
+pub length-state_resets : (items xs : List Item) → length (given_by_kind (is_carried_state items) (leaf_resets items) xs) ≡ kind_width items (is_carried_state items) xs
 length-state_resets items xs = length-of_kind items (is_carried_state items) (leaf_resets items) xs (λ x. length-resets (bits_of items x.id) (init_word items x.id))
 
 -- latches that read as the states are as many as the bits that are carried

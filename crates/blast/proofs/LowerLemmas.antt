@@ -10,28 +10,28 @@ use Rattle.btor2.specs.Reachability.{values_of}
 use Rattle.btor2.specs.Trace.{Frame, IsFrame, IsState, IsInput, AreInputs, IsTrace, next_state}
 use Rattle.base.specs.Literal.{Valuation}
 use Rattle.aiger.specs.Circuit.{Circuit, net}
-use Rattle.aiger.specs.Trace.{IsFrame as IsCircuitFrame, IsTrace as IsCircuitTrace, next_state as next_bits}
-use Rattle.blast.specs.Leaves.{by_body, of_kind, input_bits, state_bits}
+use Rattle.aiger.specs.Trace.{IsCircuitFrame, IsCircuitTrace, next_latch_bits as next_bits}
+use Rattle.blast.specs.Leaves.{by_body, given_by_kind, input_bits, state_bits}
 use Rattle.blast.specs.Lowering.{ShowsSame}
 use Rattle.blast.specs.Reads.{Together, LatchesRead, OutputsRead, BadsRead, ConstraintsRead, observed}
 
 -- ---- what a frame shows, node by node
 
-constraint_shown : (f : Frame) (b : Body) (x : Item) (xs : List Item) → x.body ≡ b → of_kind (by_body is_constraint) (λ x. observed f x.body) xs ≡ values_of is_constraint xs f
-    → of_kind (by_body is_constraint) (λ x. observed f x.body) (x ∷ xs) ≡ values_of is_constraint (x ∷ xs) f
+constraint_shown : (f : Frame) (b : Body) (x : Item) (xs : List Item) → x.body ≡ b → given_by_kind (by_body is_constraint) (λ x. observed f x.body) xs ≡ values_of is_constraint xs f
+    → given_by_kind (by_body is_constraint) (λ x. observed f x.body) (x ∷ xs) ≡ values_of is_constraint (x ∷ xs) f
 constraint_shown f (body.Constraint a) x xs is rest = rw is (ap (λ (l : List Bool). (f a == 1) ∷ l) rest)
 constraint_shown f _ x xs is rest = rw is rest
 
-constraints_shown : (f : Frame) (xs : List Item) → of_kind (by_body is_constraint) (λ x. observed f x.body) xs ≡ values_of is_constraint xs f
+constraints_shown : (f : Frame) (xs : List Item) → given_by_kind (by_body is_constraint) (λ x. observed f x.body) xs ≡ values_of is_constraint xs f
 constraints_shown f [] = refl
 constraints_shown f (x ∷ xs) = constraint_shown f x.body x xs refl (constraints_shown f xs)
 
-bad_shown : (f : Frame) (b : Body) (x : Item) (xs : List Item) → x.body ≡ b → of_kind (by_body is_bad) (λ x. observed f x.body) xs ≡ values_of is_bad xs f
-    → of_kind (by_body is_bad) (λ x. observed f x.body) (x ∷ xs) ≡ values_of is_bad (x ∷ xs) f
+bad_shown : (f : Frame) (b : Body) (x : Item) (xs : List Item) → x.body ≡ b → given_by_kind (by_body is_bad) (λ x. observed f x.body) xs ≡ values_of is_bad xs f
+    → given_by_kind (by_body is_bad) (λ x. observed f x.body) (x ∷ xs) ≡ values_of is_bad (x ∷ xs) f
 bad_shown f (body.Bad a) x xs is rest = rw is (ap (λ (l : List Bool). (f a == 1) ∷ l) rest)
 bad_shown f _ x xs is rest = rw is rest
 
-bads_shown : (f : Frame) (xs : List Item) → of_kind (by_body is_bad) (λ x. observed f x.body) xs ≡ values_of is_bad xs f
+bads_shown : (f : Frame) (xs : List Item) → given_by_kind (by_body is_bad) (λ x. observed f x.body) xs ≡ values_of is_bad xs f
 bads_shown f [] = refl
 bads_shown f (x ∷ xs) = bad_shown f x.body x xs refl (bads_shown f xs)
 

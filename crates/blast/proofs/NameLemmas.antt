@@ -26,7 +26,7 @@ use Rattle.blast.specs.Cost.{given_width, carried_width}
 use Rattle.blast.specs.Leaves.{by_body, bit_name, bit_names, leaf_names}
 use Rattle.blast.specs.declared.properties.Property.{Property}
 use Rattle.blast.specs.declared.properties.Property.TheVariants as property
-use Rattle.blast.specs.Blocks.{block, blocks, written, IsBlank}
+use Rattle.blast.specs.Blocks.{block, blocks, written_over, IsBlank}
 use Rattle.blast.specs.Properties.{name_by, names_by}
 use Rattle.blast.specs.Sections.{section_of, part_names, names_given, Renames, TakesNames}
 use Rattle.blast.proofs.KindBlocks.{slice_get-replicate, written-nil, length-written, written-more, written-behind, written-blank, written-further, written-whole, blocks-of_kind, blocks-more, of_kind-within, reached, reached-is, reached-more, reached-within, reached-all, length-of_kind}
@@ -163,7 +163,7 @@ bit_names-more symbol count =
 
 -- a circuit with the names of the first so many bits of a leaf
 abbrev pub WithBits : Section → Circuit → Circuit → List ℕ → ℕ → ℕ → Type 0
-WithBits s old cur symbol first bit = Renames s old (written (section_names s old) first (bit_names (Some symbol) 0 bit)) cur
+WithBits s old cur symbol first bit = Renames s old (written_over (section_names s old) first (bit_names (Some symbol) 0 bit)) cur
 
 pub WithBits-none : (s : Section) (c : Circuit) (symbol : List ℕ) (first : ℕ) → WithBits s c c symbol first 0
 WithBits-none s c symbol first = Renames-equal s c c (section_names s c) _ (sym (written-nil (section_names s c) first)) (Renames-own s c)
@@ -175,7 +175,7 @@ WithBits-free s old cur symbol first count bit r free room low =
     let i : first + bit ≡ first + length (bit_names (Some symbol) 0 bit) + 0 = omega arith in
     let j : first + length (bit_names (Some symbol) 0 bit) + 0 ≡ first + bit = omega arith in
     ap (λ (names : Names). slice_get names (first + bit)) r.own
-    ∙ ap (slice_get (written (section_names s old) first (bit_names (Some symbol) 0 bit))) i
+    ∙ ap (slice_get (written_over (section_names s old) first (bit_names (Some symbol) 0 bit))) i
     ∙ written-behind (section_names s old) first 0 (bit_names (Some symbol) 0 bit) (omega arith)
     ∙ ap (slice_get (section_names s old)) j
     ∙ free.entries bit low
@@ -183,21 +183,21 @@ WithBits-free s old cur symbol first count bit r free room low =
 pub WithBits-more : (s : Section) (old cur new : Circuit) (symbol : List ℕ) (first bit : ℕ) → WithBits s old cur symbol first bit → first + bit < length (section_names s old)
     → Renames s cur (set (section_names s cur) (first + bit) (Some (bit_name symbol bit))) new → WithBits s old new symbol first (bit + 1)
 WithBits-more s old cur new symbol first bit r room given =
-    let names = written (section_names s old) first (bit_names (Some symbol) 0 bit) in
+    let names = written_over (section_names s old) first (bit_names (Some symbol) 0 bit) in
     let l : length (bit_names (Some symbol) 0 bit) ≡ bit = length-bit_names (Some symbol) 0 bit in
     let i : first + bit ≡ first + length (bit_names (Some symbol) 0 bit) = omega arith in
-    Renames-equal s old new (set names (first + bit) (Some (bit_name symbol bit))) (written (section_names s old) first (bit_names (Some symbol) 0 (bit + 1)))
+    Renames-equal s old new (set names (first + bit) (Some (bit_name symbol bit))) (written_over (section_names s old) first (bit_names (Some symbol) 0 (bit + 1)))
     (ap (λ (n : ℕ). set names n (Some (bit_name symbol bit))) i
     ∙ written-more (section_names s old) first (bit_names (Some symbol) 0 bit) (Some (bit_name symbol bit)) (omega arith)
-    ∙ ap (written (section_names s old) first) (sym (bit_names-more (Some symbol) bit)))
+    ∙ ap (written_over (section_names s old) first) (sym (bit_names-more (Some symbol) bit)))
     (Renames-then s old cur new names (λ (n : Names). set n (first + bit) (Some (bit_name symbol bit))) r given)
 
 -- a leaf without a symbol changes nothing
 pub unnamed_leaf : (s : Section) (c : Circuit) (first count : ℕ) → IsBlank None first count (section_names s c) → first + count ≤ length (section_names s c)
-    → Renames s c (written (section_names s c) first (bit_names None 0 count)) c
+    → Renames s c (written_over (section_names s c) first (bit_names None 0 count)) c
 unnamed_leaf s c first count free room =
     Renames-equal s c c (section_names s c) _
-    (sym (ap (written (section_names s c) first) (bit_names-none 0 count) ∙ written-blank None (section_names s c) first count free room)) (Renames-own s c)
+    (sym (ap (written_over (section_names s c) first) (bit_names-none 0 count) ∙ written-blank None (section_names s c) first count free room)) (Renames-own s c)
 
 -- Items.
 
@@ -212,18 +212,18 @@ part_blocks items p ps e =
 
 -- so far: the circuit with the names of the first so many items of a part's list, from a first position on
 abbrev pub WithItems : List Item → Leaves → List ℕ → ℕ → Circuit → Circuit → ℕ → Type 0
-WithItems items p ps first old cur k = Renames (section_of p) old (written (section_names (section_of p) old) first (blocks (names_given items p) items (take k ps))) cur
+WithItems items p ps first old cur k = Renames (section_of p) old (written_over (section_names (section_of p) old) first (blocks (names_given items p) items (take k ps))) cur
 
 pub WithItems-none : (items : List Item) (p : Leaves) (ps : List ℕ) (first : ℕ) (c : Circuit) → WithItems items p ps first c c 0
 unfolding blocks
 WithItems-none items p ps first c = Renames-equal (section_of p) c c (section_names (section_of p) c) _ (sym (written-nil (section_names (section_of p) c) first)) (Renames-own (section_of p) c)
 
 pub WithItems-all : (items : List Item) (p : Leaves) (ps : List ℕ) (first : ℕ) (old new : Circuit) (k : ℕ) → ps ≡ places (list_of p) 0 items → length ps ≤ k → WithItems items p ps first old new k
-    → Renames (section_of p) old (written (section_names (section_of p) old) first (part_names items p)) new
+    → Renames (section_of p) old (written_over (section_names (section_of p) old) first (part_names items p)) new
 WithItems-all items p ps first old new k e end h =
     Renames-equal (section_of p) old new _ _
-    (ap (λ (l : List ℕ). written (section_names (section_of p) old) first (blocks (names_given items p) items l)) (take_all k ps end)
-    ∙ ap (written (section_names (section_of p) old) first) (part_blocks items p ps e))
+    (ap (λ (l : List ℕ). written_over (section_names (section_of p) old) first (blocks (names_given items p) items l)) (take_all k ps end)
+    ∙ ap (written_over (section_names (section_of p) old) first) (part_blocks items p ps e))
     h
 
 -- the item at the next place
@@ -268,7 +268,7 @@ WithItems-open items p ps first old cur k next x e is_next free r low at =
 
 pub WithItems-more : (items : List Item) (p : Leaves) (ps : List ℕ) (first : ℕ) (old cur new : Circuit) (k next : ℕ) (x : Item) → ps ≡ places (list_of p) 0 items → next ≡ first + reached (names_given items p) items ps k
     → IsOpen (section_of p) old first (length (part_names items p)) → WithItems items p ps first old cur k → k < length ps → slice_get items (get_or ps k 0) ≡ Some x
-    → Renames (section_of p) cur (written (section_names (section_of p) cur) next (names_given items p x)) new
+    → Renames (section_of p) cur (written_over (section_names (section_of p) cur) next (names_given items p x)) new
     → WithItems items p ps first old new (k + 1)
 WithItems-more items p ps first old cur new k next x e is_next free r low at given =
     let names = section_names (section_of p) old in
@@ -276,10 +276,10 @@ WithItems-more items p ps first old cur new k next x e is_next free r low at giv
     let within = item_within items p ps k x e low at in
     let here : next ≡ first + length front = is_next ∙ ap (λ (n : ℕ). first + n) (reached-is (names_given items p) items ps k) in
     Renames-equal (section_of p) old new _ _
-    (ap (λ (n : ℕ). written (written names first front) n (names_given items p x)) here
+    (ap (λ (n : ℕ). written_over (written_over names first front) n (names_given items p x)) here
     ∙ written-further names first front (names_given items p x) (omega (arith, free.room))
-    ∙ ap (written names first) (sym (blocks-more (names_given items p) items ps k low ∙ ap (λ (l : Names). front ++ l) (next_block items p ps k x at))))
-    (Renames-then (section_of p) old cur new (written names first front) (λ (l : Names). written l next (names_given items p x)) r given)
+    ∙ ap (written_over names first) (sym (blocks-more (names_given items p) items ps k low ∙ ap (λ (l : Names). front ++ l) (next_block items p ps k x at))))
+    (Renames-then (section_of p) old cur new (written_over names first front) (λ (l : Names). written_over l next (names_given items p x)) r given)
 
 -- where the next item's positions begin
 pub reached-item : (items : List Item) (p : Leaves) (ps : List ℕ) (k : ℕ) (x : Item) → k < length ps → slice_get items (get_or ps k 0) ≡ Some x
@@ -292,10 +292,10 @@ pub reached-part : (items : List Item) (p : Leaves) (ps : List ℕ) (k : ℕ) �
 reached-part items p ps k e end = reached-all (names_given items p) items ps k end ∙ ap length (part_blocks items p ps e)
 
 -- an item of another part gives no names
-pub no_names : (items : List Item) (p : Leaves) (c : Circuit) (first : ℕ) (x : Item) → kind_of items p x ≡ false → Renames (section_of p) c (written (section_names (section_of p) c) first (names_given items p x)) c
+pub no_names : (items : List Item) (p : Leaves) (c : Circuit) (first : ℕ) (x : Item) → kind_of items p x ≡ false → Renames (section_of p) c (written_over (section_names (section_of p) c) first (names_given items p x)) c
 no_names items p c first x h =
     Renames-equal (section_of p) c c (section_names (section_of p) c) _
-    (sym (ap (λ (b : Bool). written (section_names (section_of p) c) first (cond b (leaf_names items x) [])) h ∙ written-nil (section_names (section_of p) c) first))
+    (sym (ap (λ (b : Bool). written_over (section_names (section_of p) c) first (cond b (leaf_names items x) [])) h ∙ written-nil (section_names (section_of p) c) first))
     (Renames-own (section_of p) c)
 
 -- the names of leaves are as many as their bits
@@ -320,7 +320,7 @@ open_section s c cur first count none room same =
     }
 
 -- a section of which one part was named is still open behind it
-pub open_behind : (s : Section) (c cur : Circuit) (next count : ℕ) (names : Names) → c.names ≡ [] → length names + count ≤ section_count s c → next ≡ 0 + length names → Renames s c (written (section_names s c) 0 names) cur
+pub open_behind : (s : Section) (c cur : Circuit) (next count : ℕ) (names : Names) → c.names ≡ [] → length names + count ≤ section_count s c → next ≡ 0 + length names → Renames s c (written_over (section_names s c) 0 names) cur
     → IsOpen s cur next count
 open_behind s c cur next count names none room e r =
     let n = length-section_names s c in
@@ -338,26 +338,26 @@ open_behind s c cur next count names none room e r =
 pub few_names : (s : Section) (old new : Circuit) → IsCircuit old → section_names s new ≡ section_names s old → length (section_names s new) ≤ greatest_count
 few_names s old new valid same = omega (arith, few_positions s old valid, ap length same, length-section_names s old)
 
-pub few_behind : (s : Section) (old new : Circuit) (names : Names) → IsCircuit old → length names ≤ section_count s old → Renames s old (written (section_names s old) 0 names) new → length (section_names s new) ≤ greatest_count
+pub few_behind : (s : Section) (old new : Circuit) (names : Names) → IsCircuit old → length names ≤ section_count s old → Renames s old (written_over (section_names s old) 0 names) new → length (section_names s new) ≤ greatest_count
 few_behind s old new names valid room r = omega (arith, few_positions s old valid, ap length r.own, length-section_names s old, length-written (section_names s old) 0 names (omega (arith, length-section_names s old)))
 
 -- a section of one part has its names
-one_part : (s : Section) (c cur new : Circuit) (names : Names) → section_count s c ≡ length names → section_names s cur ≡ section_names s c → Renames s cur (written (section_names s cur) 0 names) new → section_names s new ≡ names
+one_part : (s : Section) (c cur new : Circuit) (names : Names) → section_count s c ≡ length names → section_names s cur ≡ section_names s c → Renames s cur (written_over (section_names s cur) 0 names) new → section_names s new ≡ names
 one_part s c cur new names count same r = r.own ∙ written-whole (section_names s cur) names (ap length same ∙ length-section_names s c ∙ count)
 
 -- and one of two parts those of both
-two_parts : (s : Section) (c cur new : Circuit) (next : ℕ) (names more : Names) → section_count s c ≡ length names + length more → next ≡ 0 + length names → Renames s c (written (section_names s c) 0 names) cur
-    → Renames s cur (written (section_names s cur) next more) new → section_names s new ≡ names ++ more
+two_parts : (s : Section) (c cur new : Circuit) (next : ℕ) (names more : Names) → section_count s c ≡ length names + length more → next ≡ 0 + length names → Renames s c (written_over (section_names s c) 0 names) cur
+    → Renames s cur (written_over (section_names s cur) next more) new → section_names s new ≡ names ++ more
 two_parts s c cur new next names more count e a b =
     let n = length-section_names s c in
-    b.own ∙ ap₂ (λ (l : Names) (k : ℕ). written l k more) a.own e ∙ written-further (section_names s c) 0 names more (omega arith)
+    b.own ∙ ap₂ (λ (l : Names) (k : ℕ). written_over l k more) a.own e ∙ written-further (section_names s c) 0 names more (omega arith)
     ∙ written-whole (section_names s c) (names ++ more) (omega (arith, length-append names more))
 
 -- the three parts one after another
 pub TakesNames-made : (items : List Item) (c0 c1 c2 c3 : Circuit) (next : ℕ) → c0.inputs ≡ given_width items → length c0.latches ≡ carried_width items → next ≡ 0 + length (part_names items leaves.Inputs)
-    → Renames section.Input c0 (written (section_names section.Input c0) 0 (part_names items leaves.Inputs)) c1
-    → Renames section.Input c1 (written (section_names section.Input c1) next (part_names items leaves.Free)) c2
-    → Renames section.Latch c2 (written (section_names section.Latch c2) 0 (part_names items leaves.Carried)) c3
+    → Renames section.Input c0 (written_over (section_names section.Input c0) 0 (part_names items leaves.Inputs)) c1
+    → Renames section.Input c1 (written_over (section_names section.Input c1) next (part_names items leaves.Free)) c2
+    → Renames section.Latch c2 (written_over (section_names section.Latch c2) 0 (part_names items leaves.Carried)) c3
     → TakesNames items c0 c3
 TakesNames-made items c0 c1 c2 c3 next inputs latches e a b l =
     record {

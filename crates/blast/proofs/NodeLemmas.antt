@@ -24,7 +24,7 @@ use Rattle.aiger.proofs.NetLemmas.{length-bits_from, bits_from-append, bits_from
 use Rattle.gates.specs.Bound.{unary_bound, binary_bound, ite_bound}
 use Rattle.gates.specs.Made.{Grows, MakesWord, word_value}
 use Rattle.gates.proofs.GrowthLemmas.{Grows-refl, Grows-weaker, Satisfies-earlier, All-defined-grown}
-use Rattle.blast.specs.Leaves.{of_kind, leaf_bits}
+use Rattle.blast.specs.Leaves.{given_by_kind, leaf_bits}
 use Rattle.blast.specs.Cost.{line_cost}
 use Rattle.blast.specs.Reads.{Together, ReadsWord, RowsRead}
 use Rattle.blast.specs.Table.{MakesNode, MakesRow, IsOperand}
@@ -187,12 +187,12 @@ MakesNode-ite items old new rows x y z c a b row w q o p same_c same_a same_b m 
 -- Leaves.
 
 -- the items of a kind, of two lists
-of_kind-append : {A : Type 0} → (kind : Item → Bool) (give : Item → List A) (xs ys : List Item) → of_kind kind give (xs ++ ys) ≡ of_kind kind give xs ++ of_kind kind give ys
+of_kind-append : {A : Type 0} → (kind : Item → Bool) (give : Item → List A) (xs ys : List Item) → given_by_kind kind give (xs ++ ys) ≡ given_by_kind kind give xs ++ given_by_kind kind give ys
 of_kind-append kind give [] ys = refl
 of_kind-append {A} kind give (x ∷ xs) ys =
-    ap (λ (l : List A). cond (kind x) (give x) [] ++ l) (of_kind-append kind give xs ys) ∙ sym (append_assoc (cond (kind x) (give x) []) (of_kind kind give xs) (of_kind kind give ys))
+    ap (λ (l : List A). cond (kind x) (give x) [] ++ l) (of_kind-append kind give xs ys) ∙ sym (append_assoc (cond (kind x) (give x) []) (given_by_kind kind give xs) (given_by_kind kind give ys))
 
-pub length-leaves : (items : List Item) (kind : Item → Bool) (f : Frame) (xs : List Item) → length (of_kind kind (leaf_bits items f) xs) ≡ kind_width items kind xs
+pub length-leaves : (items : List Item) (kind : Item → Bool) (f : Frame) (xs : List Item) → length (given_by_kind kind (leaf_bits items f) xs) ≡ kind_width items kind xs
 length-leaves items kind f xs = length-of_kind items kind (leaf_bits items f) xs (λ x. length-bits (bits_of items x.id) (f x.id))
 
 -- the middle parts of two equal lists that are cut at equal lengths
@@ -203,7 +203,7 @@ same_middle a b c x y z e front middle =
 
 -- the variables of a leaf are its bits
 pub leaf_variables : (items before after : List Item) (x : Item) (kind : Item → Bool) (f : Frame) (v : Valuation) (first : ℕ) → items ≡ before ++ x ∷ after → kind x ≡ true
-    → bits_from first (kind_width items kind items) v ≡ of_kind kind (leaf_bits items f) items
+    → bits_from first (kind_width items kind items) v ≡ given_by_kind kind (leaf_bits items f) items
     → bits_from (first + kind_width items kind before) (bits_of items x.id) v ≡ leaf_bits items f x
 leaf_variables items before after x kind f v first splits is_kind whole =
     let m = kind_width items kind before in
@@ -211,14 +211,14 @@ leaf_variables items before after x kind f v first splits is_kind whole =
     let r = kind_width items kind after in
     let give = leaf_bits items f in
     let own : cond (kind x) (give x) [] ≡ give x = ap (λ (b : Bool). cond b (give x) []) is_kind in
-    let right : of_kind kind give items ≡ of_kind kind give before ++ (give x ++ of_kind kind give after) =
-    ap (of_kind kind give) splits ∙ of_kind-append kind give before (x ∷ after) ∙ ap (λ (l : List Bool). of_kind kind give before ++ (l ++ of_kind kind give after)) own in
+    let right : given_by_kind kind give items ≡ given_by_kind kind give before ++ (give x ++ given_by_kind kind give after) =
+    ap (given_by_kind kind give) splits ∙ of_kind-append kind give before (x ∷ after) ∙ ap (λ (l : List Bool). given_by_kind kind give before ++ (l ++ given_by_kind kind give after)) own in
     let number : kind_width items kind items ≡ m + (w + r) =
     ap (kind_width items kind) splits ∙ sum_by-append (λ (y : Item). cond (kind y) (bits_of items y.id) 0) before (x ∷ after)
     ∙ ap (λ (k : ℕ). m + k) (sum_by-cons (λ (y : Item). cond (kind y) (bits_of items y.id) 0) x after ∙ ap (λ (b : Bool). cond b w 0 + r) is_kind) in
     let left : bits_from first (kind_width items kind items) v ≡ bits_from first m v ++ (bits_from (first + m) w v ++ bits_from (first + m + w) r v) =
     ap (λ (k : ℕ). bits_from first k v) number ∙ bits_from-append first m (w + r) v ∙ ap (λ (l : List Bool). bits_from first m v ++ l) (bits_from-append (first + m) w r v) in
-    same_middle (bits_from first m v) (bits_from (first + m) w v) (bits_from (first + m + w) r v) (of_kind kind give before) (give x) (of_kind kind give after)
+    same_middle (bits_from first m v) (bits_from (first + m) w v) (bits_from (first + m + w) r v) (given_by_kind kind give before) (give x) (given_by_kind kind give after)
     (sym left ∙ whole ∙ right)
     (length-bits_from first m v ∙ sym (length-leaves items kind f before))
     (length-bits_from (first + m) w v ∙ sym (length-bits w (f x.id)))

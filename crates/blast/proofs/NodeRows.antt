@@ -28,7 +28,7 @@ use Rattle.aiger.proofs.NetLemmas.{length-bits_from, bits_from-append}
 use Rattle.gates.specs.Bound.{unary_bound, binary_bound}
 use Rattle.gates.specs.Made.{Grows}
 use Rattle.gates.proofs.GrowthLemmas.{Grows-refl, Grows-trans, variables-grown}
-use Rattle.blast.specs.Leaves.{by_body, of_kind, leaf_bits, input_bits}
+use Rattle.blast.specs.Leaves.{by_body, given_by_kind, leaf_bits, input_bits}
 use Rattle.blast.specs.Cost.{line_cost, cost, input_width, free_width, given_width, bound}
 use Rattle.blast.specs.declared.nodes.NextLeaf.{NextLeaf}
 use Rattle.blast.specs.Reads.{Together, RowReads, leaves_only, LowersNodes}
@@ -94,17 +94,17 @@ line_fits items place n rows next x front at fits =
 
 -- the bits that are given are those of the inputs and those of the free states
 given_parts : (items : List Item) (input : Frame) (v : Valuation) → bits_from 1 (given_width items) v ≡ input_bits items input
-    → (bits_from 1 (input_width items) v ≡ of_kind (by_body is_input) (leaf_bits items input) items)
-    × (bits_from (1 + input_width items) (free_width items) v ≡ of_kind (is_free_state items) (leaf_bits items input) items)
+    → (bits_from 1 (input_width items) v ≡ given_by_kind (by_body is_input) (leaf_bits items input) items)
+    × (bits_from (1 + input_width items) (free_width items) v ≡ given_by_kind (is_free_state items) (leaf_bits items input) items)
 given_parts items input v e =
-    same_parts (bits_from 1 (input_width items) v) (bits_from (1 + input_width items) (free_width items) v) (of_kind (by_body is_input) (leaf_bits items input) items) (of_kind (is_free_state items) (leaf_bits items input) items)
+    same_parts (bits_from 1 (input_width items) v) (bits_from (1 + input_width items) (free_width items) v) (given_by_kind (by_body is_input) (leaf_bits items input) items) (given_by_kind (is_free_state items) (leaf_bits items input) items)
     (sym (bits_from-append 1 (input_width items) (free_width items) v) ∙ e)
     (length-bits_from 1 (input_width items) v ∙ sym (length-leaves items (by_body is_input) input items))
 
 -- a leaf's row: it is one of a kind whose bits are so many variables from a first one on, and `own` has its word in a frame
 MakesRow-leaf : (items : List Item) (place : ℕ) (n : Net) (x : Item) (kind : Item → Bool) (first next : ℕ) (row : List ℕ) (own : Frame → Frame → Frame) → IsWellFormed items → slice_get items place ≡ Some x → kind x ≡ true
     → 0 < first → first + kind_width items kind items ≤ suc (variables n) → next ≡ first + kind_width items kind (take place items) → row ≡ map (λ i. 2 * (next + i)) (range_with_len 0 (bits_of items x.id))
-    → ((state input f : Frame) (v : Valuation) → Together items n state input f v → (bits_from first (kind_width items kind items) v ≡ of_kind kind (leaf_bits items (own state input)) items) × (f x.id ≡ own state input x.id))
+    → ((state input f : Frame) (v : Valuation) → Together items n state input f v → (bits_from first (kind_width items kind items) v ≡ given_by_kind kind (leaf_bits items (own state input)) items) × (f x.id ≡ own state input x.id))
     → MakesRow items n n x row
 MakesRow-leaf items place n x kind first next row own w at is_kind some room is_next row_is reads =
     let there = Stands-from_place items place x at in

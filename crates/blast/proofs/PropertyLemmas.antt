@@ -26,7 +26,7 @@ use Rattle.aiger.specs.Circuit.{Circuit, IsCircuit, net, name_of, section_count,
 use Rattle.aiger.proofs.SectionNameLemmas.{length-section_names, section_names-same, section_names-push}
 use Rattle.blast.specs.declared.properties.Property.{Property}
 use Rattle.blast.specs.declared.properties.Property.TheVariants as property
-use Rattle.blast.specs.Leaves.{by_body, of_kind, shown_width, shown_bits, bit_names}
+use Rattle.blast.specs.Leaves.{by_body, given_by_kind, shown_width, shown_bits, bit_names}
 use Rattle.blast.specs.Properties.{property_kind, property_section, literals_of, with_more, name_by, property_operand, property_literals, names_by, property_names, Adds, TakesProperties}
 use Rattle.blast.specs.Reads.{Together, RowsRead, observed}
 use Rattle.blast.specs.Rows.{row_at}
@@ -171,7 +171,7 @@ line_at_most p items n rows place x w reads all at = by (property_operand p x.bo
 -- What all lines add.
 
 -- what lines of a kind give, and the others nothing
-flat_by_kind : {A : Type 0} (kind : Item → Bool) (give own : Item → List A) (xs : List Item) → ((k : ℕ) (x : Item) → slice_get xs k ≡ Some x → give x ≡ cond (kind x) (own x) []) → flat_map give xs ≡ of_kind kind own xs
+flat_by_kind : {A : Type 0} (kind : Item → Bool) (give own : Item → List A) (xs : List Item) → ((k : ℕ) (x : Item) → slice_get xs k ≡ Some x → give x ≡ cond (kind x) (own x) []) → flat_map give xs ≡ given_by_kind kind own xs
 flat_by_kind kind give own [] h = refl
 flat_by_kind kind give own (x ∷ xs) h = ap₂ (λ (l m : List _). l ++ m) (h 0 x refl) (flat_by_kind kind give own xs (λ k y at. h (suc k) y at))
 
@@ -191,14 +191,14 @@ abbrev pub names_among : List Item → List (List ℕ) → Property → List Ite
 names_among items rows p xs = flat_map (property_names items rows p) xs
 
 all_values : (p : Property) (items : List Item) (n : Net) (rows : List (List ℕ)) → IsWellFormed items → RowsRead items n rows → length rows ≡ length items
-    → (state input f : Frame) (v : Valuation) → Together items n state input f v → map (literal_value v) (literals_among items rows p items) ≡ of_kind (by_body (property_kind p)) (λ (x : Item). shown_by p items f x.body) items
+    → (state input f : Frame) (v : Valuation) → Together items n state input f v → map (literal_value v) (literals_among items rows p items) ≡ given_by_kind (by_body (property_kind p)) (λ (x : Item). shown_by p items f x.body) items
 all_values p items n rows w reads all state input f v t =
     map_flat (literal_value v) (λ (x : Item). property_literals items rows p x.body) items
     ∙ flat_by_kind (by_body (property_kind p)) (λ (x : Item). map (literal_value v) (property_literals items rows p x.body)) (λ (x : Item). shown_by p items f x.body) items
     (λ k x at. line_values p items n rows k x x.body w reads all at refl state input f v t)
 
 all_names : (p : Property) (items : List Item) (n : Net) (rows : List (List ℕ)) → IsWellFormed items → RowsRead items n rows → length rows ≡ length items
-    → names_among items rows p items ≡ of_kind (by_body (property_kind p)) (λ (x : Item). named_by p items x.symbol x.body) items
+    → names_among items rows p items ≡ given_by_kind (by_body (property_kind p)) (λ (x : Item). named_by p items x.symbol x.body) items
 all_names p items n rows w reads all =
     flat_by_kind (by_body (property_kind p)) (property_names items rows p) (λ (x : Item). named_by p items x.symbol x.body) items
     (λ k x at. line_names p items n rows k x x.symbol x.body w reads all at refl)

@@ -18,9 +18,9 @@ use Rattle.aiger.specs.declared.circuit.Reset.{Reset}
 use Rattle.aiger.specs.declared.circuit.Reset.TheVariants as reset
 use Rattle.base.specs.Literal.{Valuation}
 use Rattle.aiger.specs.Circuit.{Circuit}
-use Rattle.aiger.specs.Trace.{AgreesWithReset, AreInitial, IsTrace as IsCircuitTrace}
+use Rattle.aiger.specs.Trace.{AgreesWithReset, AreInitial, IsCircuitTrace}
 use Rattle.blast.specs.Cost.{input_width, given_width, carried_width}
-use Rattle.blast.specs.Leaves.{by_body, of_kind, leaf_bits, leaf_resets, resets_of_word, reset_of_bit, input_bits, state_bits, state_resets}
+use Rattle.blast.specs.Leaves.{by_body, given_by_kind, leaf_bits, leaf_resets, resets_of_word, reset_of_bit, input_bits, state_bits, state_resets}
 use Rattle.blast.specs.Lowering.{Lowers, ShowsSame}
 use Rattle.blast.proofs.NodeLemmas.{length-leaves}
 use Rattle.blast.proofs.LowerAssembly.{length-resets, length-state_resets}
@@ -105,14 +105,14 @@ word_agrees w x None h = free_agree w x
 word_agrees w x (Some k) h = subst (λ (n : ℕ). Agree (map reset_of_bit (bits w k)) (bits w n)) (h k refl) (bits_agree (bits w k))
 
 -- words that agree with the init lines have bits that agree with the resets
-states_agree : (items : List Item) (state : Frame) → ((id k : ℕ) → init_word items id ≡ Some k → k ≡ state id) → (xs : List Item) → Agree (of_kind (is_carried_state items) (leaf_resets items) xs) (of_kind (is_carried_state items) (leaf_bits items state) xs)
+states_agree : (items : List Item) (state : Frame) → ((id k : ℕ) → init_word items id ≡ Some k → k ≡ state id) → (xs : List Item) → Agree (given_by_kind (is_carried_state items) (leaf_resets items) xs) (given_by_kind (is_carried_state items) (leaf_bits items state) xs)
 unfolding Agree
 states_agree items state says [] = tt
 states_agree items state says (x ∷ xs) = by (is_carried_state items x) (states_agree items state says xs)
   where
-    by : (b : Bool) → Agree (of_kind (is_carried_state items) (leaf_resets items) xs) (of_kind (is_carried_state items) (leaf_bits items state) xs)
-        → Agree ((if b then leaf_resets items x else []) ++ of_kind (is_carried_state items) (leaf_resets items) xs) ((if b then leaf_bits items state x else []) ++ of_kind (is_carried_state items) (leaf_bits items state) xs)
-    by true rest = agree_append (leaf_resets items x) (of_kind (is_carried_state items) (leaf_resets items) xs) (leaf_bits items state x) (of_kind (is_carried_state items) (leaf_bits items state) xs)
+    by : (b : Bool) → Agree (given_by_kind (is_carried_state items) (leaf_resets items) xs) (given_by_kind (is_carried_state items) (leaf_bits items state) xs)
+        → Agree ((if b then leaf_resets items x else []) ++ given_by_kind (is_carried_state items) (leaf_resets items) xs) ((if b then leaf_bits items state x else []) ++ given_by_kind (is_carried_state items) (leaf_bits items state) xs)
+    by true rest = agree_append (leaf_resets items x) (given_by_kind (is_carried_state items) (leaf_resets items) xs) (leaf_bits items state x) (given_by_kind (is_carried_state items) (leaf_bits items state) xs)
         (word_agrees (bits_of items x.id) (state x.id) (init_word items x.id) (says x.id)) rest
     by false rest = rest
 
@@ -131,7 +131,7 @@ state_count items c l state initial =
 -- as many bits are given as there are inputs of the circuit
 given_count : (items : List Item) (f : Frame) → length (input_bits items f) ≡ given_width items
 given_count items f =
-    length-append (of_kind (by_body is_input) (leaf_bits items f) items) (of_kind (is_free_state items) (leaf_bits items f) items)
+    length-append (given_by_kind (by_body is_input) (leaf_bits items f) items) (given_by_kind (is_free_state items) (leaf_bits items f) items)
     ∙ ap₂ ◌+◌ (length-leaves items (by_body is_input) f items) (length-leaves items (is_free_state items) f items)
 
 pub input_counts : (items : List Item) (c : Circuit) → Lowers items c → (inputs : List Frame) → All (λ input. length input ≡ c.inputs) (map (input_bits items) inputs)
@@ -183,18 +183,18 @@ leaf_lengths : (items : List Item) (state : Frame) (y : Item) → length (leaf_b
 leaf_lengths items state y = length-bits (bits_of items y.id) (state y.id) ∙ sym (length-resets (bits_of items y.id) (init_word items y.id))
 
 leaf_agrees : (items : List Item) (state : Frame) (before after : List Item) (y : Item) → is_carried_state items y ≡ true
-    → Agree (of_kind (is_carried_state items) (leaf_resets items) (before ++ y ∷ after)) (of_kind (is_carried_state items) (leaf_bits items state) (before ++ y ∷ after))
+    → Agree (given_by_kind (is_carried_state items) (leaf_resets items) (before ++ y ∷ after)) (given_by_kind (is_carried_state items) (leaf_bits items state) (before ++ y ∷ after))
     → Agree (leaf_resets items y) (leaf_bits items state y)
 leaf_agrees items state [] after y is h = by (is_carried_state items y) is h
   where
-    by : (b : Bool) → b ≡ true → Agree ((if b then leaf_resets items y else []) ++ of_kind (is_carried_state items) (leaf_resets items) after) ((if b then leaf_bits items state y else []) ++ of_kind (is_carried_state items) (leaf_bits items state) after)
+    by : (b : Bool) → b ≡ true → Agree ((if b then leaf_resets items y else []) ++ given_by_kind (is_carried_state items) (leaf_resets items) after) ((if b then leaf_bits items state y else []) ++ given_by_kind (is_carried_state items) (leaf_bits items state) after)
         → Agree (leaf_resets items y) (leaf_bits items state y)
-    by true is h = (agree_split (leaf_resets items y) (of_kind (is_carried_state items) (leaf_resets items) after) (leaf_bits items state y) (of_kind (is_carried_state items) (leaf_bits items state) after) (leaf_lengths items state y) h).0
+    by true is h = (agree_split (leaf_resets items y) (given_by_kind (is_carried_state items) (leaf_resets items) after) (leaf_bits items state y) (given_by_kind (is_carried_state items) (leaf_bits items state) after) (leaf_lengths items state y) h).0
     by false is h = absurd (cc)
 leaf_agrees items state (z ∷ before) after y is h = by (is_carried_state items z) (leaf_agrees items state before after y is) h
   where
-    by : (b : Bool) → (Agree (of_kind (is_carried_state items) (leaf_resets items) (before ++ y ∷ after)) (of_kind (is_carried_state items) (leaf_bits items state) (before ++ y ∷ after)) → Agree (leaf_resets items y) (leaf_bits items state y))
-        → Agree ((if b then leaf_resets items z else []) ++ of_kind (is_carried_state items) (leaf_resets items) (before ++ y ∷ after)) ((if b then leaf_bits items state z else []) ++ of_kind (is_carried_state items) (leaf_bits items state) (before ++ y ∷ after))
+    by : (b : Bool) → (Agree (given_by_kind (is_carried_state items) (leaf_resets items) (before ++ y ∷ after)) (given_by_kind (is_carried_state items) (leaf_bits items state) (before ++ y ∷ after)) → Agree (leaf_resets items y) (leaf_bits items state y))
+        → Agree ((if b then leaf_resets items z else []) ++ given_by_kind (is_carried_state items) (leaf_resets items) (before ++ y ∷ after)) ((if b then leaf_bits items state z else []) ++ given_by_kind (is_carried_state items) (leaf_bits items state) (before ++ y ∷ after))
         → Agree (leaf_resets items y) (leaf_bits items state y)
     by true rest h = rest (agree_split (leaf_resets items z) _ (leaf_bits items state z) _ (leaf_lengths items state z) h).1
     by false rest h = rest h
@@ -205,7 +205,7 @@ init_agrees : (items : List Item) (state : Frame) → IsWellFormed items → ((i
 init_agrees items state w fits agree t v e =
     let of = IsInitOf-from_value items t v w e in
     let y = state_item items t of.state in
-    let whole = subst (λ (l : List Item). Agree (of_kind (is_carried_state items) (leaf_resets items) l) (of_kind (is_carried_state items) (leaf_bits items state) l)) y.1.splits agree in
+    let whole = subst (λ (l : List Item). Agree (given_by_kind (is_carried_state items) (leaf_resets items) l) (given_by_kind (is_carried_state items) (leaf_bits items state) l)) y.1.splits agree in
     let carried : is_carried_state items y.0 ≡ true = ap₂ (λ (b c : Bool). b && not c) y.3 (init_not_free items y.0.id v (subst (λ (n : ℕ). init_value items n ≡ Some v) y.2 e)) in
     let leaf = leaf_agrees items state y.1.before y.1.after y.0 carried whole in
     let given : init_word items y.0.id ≡ Some of.constant = subst (λ (n : ℕ). init_word items n ≡ Some of.constant) y.2 (ap (option_and_then (constant_of items)) e ∙ of.word) in

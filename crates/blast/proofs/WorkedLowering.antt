@@ -7,14 +7,14 @@ use Rattle.base.specs.Word.{bits}
 use Rattle.btor2.specs.declared.item.Item.{Item}
 use Rattle.btor2.specs.Check.{IsWellFormed}
 use Rattle.btor2.specs.Trace.{Frame}
-use Rattle.btor2.specs.Worked.{toggler}
+use Rattle.btor2.specs.Worked.{toggler_model}
 use Rattle.btor2.proofs.TraceLemmas.{next_state_fits}
 use Rattle.base.specs.Literal.{Valuation}
 use Rattle.aiger.specs.declared.circuit.Reset.{Reset}
 use Rattle.aiger.specs.declared.circuit.Section.TheVariants as section
 use Rattle.aiger.specs.Circuit.{Circuit, IsCircuit, IsName, Names, net, section_names}
 use Rattle.aiger.specs.Worked.{toggler as toggler_circuit}
-use Rattle.blast.specs.Worked.{named_follower, follower_circuit, free_alone, one_input, named_inverter, inverter_circuit, named_keeper, keeper_circuit}
+use Rattle.blast.specs.Worked.{named_follower, follower_circuit, free_alone, input_circuit, named_inverter, inverter_circuit, named_keeper, keeper_circuit}
 use Rattle.blast.specs.Cost.{cost, given_width}
 use Rattle.blast.specs.Leaves.{input_names, state_names, state_resets, output_names, bad_names, constraint_names}
 use Rattle.blast.specs.Refusal.{IsOfProfile}
@@ -65,7 +65,7 @@ lowers_as_said items c profile same few observes well circuit =
 
 -- The model that toggles a bit.
 
-module _ (state input f : Frame) (v : Valuation) (t : Together toggler (net toggler_circuit) state input f v) where
+module _ (state input f : Frame) (v : Valuation) (t : Together toggler_model (net toggler_circuit) state input f v) where
   latch : v 1 ≡ (state 3 % 2 == 1)
   latch = head_same (v 1) (state 3 % 2 == 1) t.latches
 
@@ -78,18 +78,18 @@ module _ (state input f : Frame) (v : Valuation) (t : Together toggler (net togg
   bad : v 1 ≡ (f 3 == 1)
   bad = latch ∙ bit_is (state 3) small ∙ ap (λ (n : ℕ). n == 1) (sym t.frame.1.1.0)
 
-observes : IsWellFormed toggler → Observes toggler toggler_circuit
+observes : IsWellFormed toggler_model → Observes toggler_model toggler_circuit
 observes well =
     record {
       latches = record { defined = search rules; resets = refl; nexts = λ state input f v t. ap (λ (b : Bool). b ∷ []) (next state input f v t) };
       outputs = record { values = λ state input f v t. refl };
       bads = record { values = λ state input f v t. ap (λ (b : Bool). b ∷ []) (bad state input f v t) };
       constraints = record { values = λ state input f v t. refl };
-      stays = λ state input f fits in_fits frame. next_state_fits toggler state input f well fits in_fits frame (nexts_by_id toggler refl);
+      stays = λ state input f fits in_fits frame. next_state_fits toggler_model state input f well fits in_fits frame (nexts_by_id toggler_model refl);
     }
 
-pub toggler_lowered : IsWellFormed toggler → IsCircuit toggler_circuit → Lowers toggler toggler_circuit
-toggler_lowered well circuit = lowers_as_said toggler toggler_circuit refl refl (omega arith) (observes well) well circuit
+pub toggler_lowered : IsWellFormed toggler_model → IsCircuit toggler_circuit → Lowers toggler_model toggler_circuit
+toggler_lowered well circuit = lowers_as_said toggler_model toggler_circuit refl refl (omega arith) (observes well) well circuit
 
 -- The model in which a state follows a free state.
 
@@ -122,7 +122,7 @@ follower_lowered well circuit = lowers_as_said named_follower follower_circuit r
 
 -- The model of a free state alone.
 
-free_alone_observes : IsWellFormed free_alone → Observes free_alone one_input
+free_alone_observes : IsWellFormed free_alone → Observes free_alone input_circuit
 free_alone_observes well =
     record {
       latches = record { defined = search rules; resets = refl; nexts = λ state input f v t. refl };
@@ -132,8 +132,8 @@ free_alone_observes well =
       stays = λ state input f fits in_fits frame. next_state_fits free_alone state input f well fits in_fits frame (nexts_by_id free_alone refl);
     }
 
-pub free_alone_lowered : IsWellFormed free_alone → IsCircuit one_input → Lowers free_alone one_input
-free_alone_lowered well circuit = lowers_as_said free_alone one_input refl refl (omega arith) (free_alone_observes well) well circuit
+pub free_alone_lowered : IsWellFormed free_alone → IsCircuit input_circuit → Lowers free_alone input_circuit
+free_alone_lowered well circuit = lowers_as_said free_alone input_circuit refl refl (omega arith) (free_alone_observes well) well circuit
 
 -- The model that shows two bits negated.
 

@@ -13,8 +13,8 @@ blocks give items [] = []
 blocks give items (p ∷ ps) = block give (slice_get items p) ++ blocks give items ps
 
 -- a list with another written over it from a place on
-unfoldable pub written : {A : Type 0} → List A → ℕ → List A → List A
-written list at more = take at list ++ (more ++ drop (at + length more) list)
+unfoldable pub written_over : {A : Type 0} → List A → ℕ → List A → List A
+written_over list at more = take at list ++ (more ++ drop (at + length more) list)
 
 -- so many entries from a place on are blank
 pub record IsBlank {A : Type 0} (blank : A) (at count : ℕ) (list : List A) : Type 0 where

@@ -15,9 +15,9 @@ abbrev pub by_body : (Body → Bool) → Item → Bool
 by_body test x = test x.body
 
 -- what the items of a kind give, one after another: of those that pass a test
-abbrev pub of_kind : {A : Type 0} → (Item → Bool) → (Item → List A) → List Item → List A
-of_kind kind give [] = []
-of_kind kind give (x ∷ xs) = (if kind x then give x else []) ++ of_kind kind give xs
+abbrev pub given_by_kind : {A : Type 0} → (Item → Bool) → (Item → List A) → List Item → List A
+given_by_kind kind give [] = []
+given_by_kind kind give (x ∷ xs) = (if kind x then give x else []) ++ given_by_kind kind give xs
 
 -- the bits of a leaf's word in a frame, the lowest first
 abbrev pub leaf_bits : List Item → Frame → Item → List Bool
@@ -25,11 +25,11 @@ leaf_bits items f x = bits (bits_of items x.id) (f x.id)
 
 -- the bits of the words that are given in a frame, leaf after leaf: of all inputs, and then of all free states
 abbrev pub input_bits : List Item → Frame → List Bool
-input_bits items input = of_kind (by_body is_input) (leaf_bits items input) items ++ of_kind (is_free_state items) (leaf_bits items input) items
+input_bits items input = given_by_kind (by_body is_input) (leaf_bits items input) items ++ given_by_kind (is_free_state items) (leaf_bits items input) items
 
 -- the bits of the words that are carried into a frame, state after state: of all states that are not free
 abbrev pub state_bits : List Item → Frame → List Bool
-state_bits items state = of_kind (is_carried_state items) (leaf_bits items state) items
+state_bits items state = given_by_kind (is_carried_state items) (leaf_bits items state) items
 
 -- the name of a bit: the symbol, and the bit's number in brackets
 abbrev pub bit_name : List ℕ → ℕ → List ℕ
@@ -47,11 +47,11 @@ leaf_names items x = bit_names x.symbol 0 (bits_of items x.id)
 
 -- the names of the bits that are given: of all inputs, and then of all free states
 abbrev pub input_names : List Item → Names
-input_names items = of_kind (by_body is_input) (leaf_names items) items ++ of_kind (is_free_state items) (leaf_names items) items
+input_names items = given_by_kind (by_body is_input) (leaf_names items) items ++ given_by_kind (is_free_state items) (leaf_names items) items
 
 -- the names of the bits that are carried: of all states that are not free
 abbrev pub state_names : List Item → Names
-state_names items = of_kind (is_carried_state items) (leaf_names items) items
+state_names items = given_by_kind (is_carried_state items) (leaf_names items) items
 
 -- the name of a bad property or a constraint is its symbol
 abbrev pub own_name : Item → Names
@@ -59,11 +59,11 @@ own_name x = x.symbol ∷ []
 
 -- the names of the bad properties
 abbrev pub bad_names : List Item → Names
-bad_names items = of_kind (by_body is_bad) own_name items
+bad_names items = given_by_kind (by_body is_bad) own_name items
 
 -- the names of the constraints
 abbrev pub constraint_names : List Item → Names
-constraint_names items = of_kind (by_body is_constraint) own_name items
+constraint_names items = given_by_kind (by_body is_constraint) own_name items
 
 -- how a latch begins for a bit of an init constant
 abbrev pub reset_of_bit : Bool → Reset
@@ -81,7 +81,7 @@ leaf_resets items x = resets_of_word (bits_of items x.id) (init_word items x.id)
 
 -- how the latches begin: those of all states that are not free
 abbrev pub state_resets : List Item → List Reset
-state_resets items = of_kind (is_carried_state items) (leaf_resets items) items
+state_resets items = given_by_kind (is_carried_state items) (leaf_resets items) items
 
 -- whether a line is an output
 abbrev pub is_output : Body → Bool
@@ -99,7 +99,7 @@ shown_bits items f _ = []
 
 -- the bits that are shown in a frame, output after output
 abbrev pub output_bits : List Item → Frame → List Bool
-output_bits items f = of_kind (by_body is_output) (λ x. shown_bits items f x.body) items
+output_bits items f = given_by_kind (by_body is_output) (λ x. shown_bits items f x.body) items
 
 -- the names of the bits of an output line, from bit 0 on
 abbrev pub shown_names : List Item → Item → Names
@@ -107,4 +107,4 @@ shown_names items x = bit_names x.symbol 0 (shown_width items x.body)
 
 -- the names of the bits that are shown
 abbrev pub output_names : List Item → Names
-output_names items = of_kind (by_body is_output) (shown_names items) items
+output_names items = given_by_kind (by_body is_output) (shown_names items) items

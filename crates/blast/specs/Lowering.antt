@@ -8,7 +8,7 @@ use Rattle.btor2.specs.Reachability.{model_shows}
 use Rattle.base.specs.Literal.{Valuation, literal_value}
 use Rattle.aiger.specs.declared.circuit.Section.TheVariants as section
 use Rattle.aiger.specs.Circuit.{Circuit, IsCircuit, section_names}
-use Rattle.aiger.specs.Trace.{IsTrace as IsCircuitTrace}
+use Rattle.aiger.specs.Trace.{IsCircuitTrace}
 use Rattle.aiger.specs.Reachability.{circuit_shows}
 use Rattle.blast.specs.Leaves.{input_bits, state_bits, input_names, state_names, output_names, bad_names, constraint_names, state_resets, output_bits}
 use Rattle.blast.specs.Cost.{cost, given_width}

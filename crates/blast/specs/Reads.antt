@@ -6,10 +6,10 @@ use Rattle.btor2.specs.Items.{is_bad, is_constraint, is_carried_state, width_of_
 use Rattle.btor2.specs.Trace.{Frame, IsFrame, IsState, IsInput, next_state}
 use Rattle.aiger.specs.declared.circuit.Latch.{Latch}
 use Rattle.base.specs.Literal.{Valuation, literal_value}
-use Rattle.aiger.specs.Net.{Net, IsDefined, Satisfies, input_bits as net_input_bits, latch_bits as net_latch_bits}
+use Rattle.aiger.specs.Net.{Net, IsDefined, Satisfies, net_input_bits, latch_bits as net_latch_bits}
 use Rattle.gates.specs.Made.{Grows}
 use Rattle.blast.specs.Cost.{cost, given_width, carried_width}
-use Rattle.blast.specs.Leaves.{by_body, of_kind, leaf_bits, leaf_resets, observed, is_output, shown_bits, input_bits, state_bits}
+use Rattle.blast.specs.Leaves.{by_body, given_by_kind, leaf_bits, leaf_resets, observed, is_output, shown_bits, input_bits, state_bits}
 
 -- a frame of the model and a valuation of the gates go together: they have the same bits of what is given and of what is carried
 pub record Together (items : List Item) (n : Net) (state input f : Frame) (v : Valuation) : Type 0 where
@@ -47,12 +47,12 @@ pub record LowersNodes (items : List Item) (old new : Net) (rows : List (List �
 -- latches are those of the states among some items that are not free: they begin as the states do, and take their next words' bits
 pub record LatchesRead (items : List Item) (n : Net) (some : List Item) (latches : List Latch) : Type 0 where
   pub defined : All (λ latch. IsDefined n latch.next) latches
-  pub resets : map (λ latch. latch.reset) latches ≡ of_kind (is_carried_state items) (leaf_resets items) some
-  pub nexts : (state input f : Frame) (v : Valuation) → Together items n state input f v → map (λ latch. literal_value v latch.next) latches ≡ of_kind (is_carried_state items) (leaf_bits items (next_state items f)) some
+  pub resets : map (λ latch. latch.reset) latches ≡ given_by_kind (is_carried_state items) (leaf_resets items) some
+  pub nexts : (state input f : Frame) (v : Valuation) → Together items n state input f v → map (λ latch. literal_value v latch.next) latches ≡ given_by_kind (is_carried_state items) (leaf_bits items (next_state items f)) some
 
 -- in every frame, literals have the values of the bits of the outputs among some items
 pub record OutputsRead (items : List Item) (n : Net) (some : List Item) (outputs : List ℕ) : Type 0 where
-  pub values : (state input f : Frame) (v : Valuation) → Together items n state input f v → map (literal_value v) outputs ≡ of_kind (by_body is_output) (λ x. shown_bits items f x.body) some
+  pub values : (state input f : Frame) (v : Valuation) → Together items n state input f v → map (literal_value v) outputs ≡ given_by_kind (by_body is_output) (λ x. shown_bits items f x.body) some
 
 -- what the line of a bad property or of a constraint shows in a frame: whether its operand is 1
 abbrev pub observed : Frame → Body → List Bool
@@ -62,8 +62,8 @@ observed f _ = []
 
 -- in every frame, literals have the values of the bad properties among some items
 pub record BadsRead (items : List Item) (n : Net) (some : List Item) (bads : List ℕ) : Type 0 where
-  pub values : (state input f : Frame) (v : Valuation) → Together items n state input f v → map (literal_value v) bads ≡ of_kind (by_body is_bad) (λ x. observed f x.body) some
+  pub values : (state input f : Frame) (v : Valuation) → Together items n state input f v → map (literal_value v) bads ≡ given_by_kind (by_body is_bad) (λ x. observed f x.body) some
 
 -- in every frame, literals have the values of the constraints among some items
 pub record ConstraintsRead (items : List Item) (n : Net) (some : List Item) (constraints : List ℕ) : Type 0 where
-  pub values : (state input f : Frame) (v : Valuation) → Together items n state input f v → map (literal_value v) constraints ≡ of_kind (by_body is_constraint) (λ x. observed f x.body) some
+  pub values : (state input f : Frame) (v : Valuation) → Together items n state input f v → map (literal_value v) constraints ≡ given_by_kind (by_body is_constraint) (λ x. observed f x.body) some

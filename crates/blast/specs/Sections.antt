@@ -7,7 +7,7 @@ use Rattle.btor2.specs.Leaves.{kind_of}
 use Rattle.aiger.specs.declared.circuit.Section.{Section}
 use Rattle.aiger.specs.declared.circuit.Section.TheVariants as section
 use Rattle.aiger.specs.Circuit.{Circuit, Names, section_names}
-use Rattle.blast.specs.Leaves.{of_kind, leaf_names, input_names, state_names}
+use Rattle.blast.specs.Leaves.{given_by_kind, leaf_names, input_names, state_names}
 
 -- the section in which the positions of leaves of a kind stand: those of free states behind those of all inputs
 abbrev pub section_of : Leaves → Section
@@ -17,7 +17,7 @@ section_of leaves.Carried = section.Latch
 
 -- their names
 abbrev pub part_names : List Item → Leaves → Names
-part_names items l = of_kind (kind_of items l) (leaf_names items) items
+part_names items l = given_by_kind (kind_of items l) (leaf_names items) items
 
 -- the names of an item, and none where it is no leaf of the kind
 abbrev pub names_given : List Item → Leaves → Item → Names

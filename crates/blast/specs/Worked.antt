@@ -5,29 +5,29 @@ use Rattle.base.specs.declared.operators.Binary.TheVariants as binary
 use Rattle.btor2.specs.declared.item.Item.{Item}
 use Rattle.btor2.specs.declared.item.Body.{Body}
 use Rattle.btor2.specs.declared.item.Body.TheVariants as body
-use Rattle.btor2.specs.Worked.{line, numbered}
+use Rattle.btor2.specs.Worked.{line, items_numbered}
 use Rattle.aiger.specs.declared.circuit.Reset.TheVariants as reset
 use Rattle.aiger.specs.Circuit.{Circuit, fresh_circuit}
 
 -- an item with a name
-abbrev pub named : ℕ → List ℕ → Body → Item
-named id name says = record { id = id; symbol = Some name; body = says }
+abbrev pub named_item : ℕ → List ℕ → Body → Item
+named_item id name says = record { id = id; symbol = Some name; body = says }
 
 -- a state of two bits, without an init line, whose next word is its and with an input
 abbrev pub masked : List Item
-masked = numbered 1 (body.Sort 2 ∷ body.Input 1 ∷ body.State 1 ∷ body.Binary binary.And 1 2 3 ∷ body.Next 1 3 4 ∷ [])
+masked = items_numbered 1 (body.Sort 2 ∷ body.Input 1 ∷ body.State 1 ∷ body.Binary binary.And 1 2 3 ∷ body.Next 1 3 4 ∷ [])
 
 -- the toggling bit with the name t, bad where it is 1; a bit of input, x, is asked to be 1
 abbrev pub named_toggler : List Item
 named_toggler =
     line 1 (body.Sort 1)
     ∷ line 2 (body.Zero 1)
-    ∷ named 3 (codes "t") (body.State 1)
+    ∷ named_item 3 (codes "t") (body.State 1)
     ∷ line 4 (body.Init 1 3 2)
     ∷ line 5 (body.Unary unary.Not 1 3)
     ∷ line 6 (body.Next 1 3 5)
-    ∷ named 7 (codes "p") (body.Bad 3)
-    ∷ named 8 (codes "x") (body.Input 1)
+    ∷ named_item 7 (codes "p") (body.Bad 3)
+    ∷ named_item 8 (codes "x") (body.Input 1)
     ∷ line 9 (body.Constraint 8)
     ∷ []
 
@@ -35,9 +35,9 @@ named_toggler =
 abbrev pub named_follower : List Item
 named_follower =
     line 1 (body.Sort 1)
-    ∷ named 2 (codes "f") (body.State 1)
-    ∷ named 3 (codes "s") (body.State 1)
-    ∷ named 4 (codes "x") (body.Input 1)
+    ∷ named_item 2 (codes "f") (body.State 1)
+    ∷ named_item 3 (codes "s") (body.State 1)
+    ∷ named_item 4 (codes "x") (body.Input 1)
     ∷ line 5 (body.Next 1 3 2)
     ∷ line 6 (body.Bad 3)
     ∷ []
@@ -53,21 +53,21 @@ follower_circuit =
 
 -- a free state alone, its circuit of one input, and a circuit that takes it for a latch
 abbrev pub free_alone : List Item
-free_alone = numbered 1 (body.Sort 1 ∷ body.State 1 ∷ [])
+free_alone = items_numbered 1 (body.Sort 1 ∷ body.State 1 ∷ [])
 
-abbrev pub one_input : Circuit
-one_input = fresh_circuit 1 0
+abbrev pub input_circuit : Circuit
+input_circuit = fresh_circuit 1 0
 
-abbrev pub one_latch : Circuit
-one_latch = fresh_circuit 0 1
+abbrev pub latch_circuit : Circuit
+latch_circuit = fresh_circuit 0 1
 
 -- a state with an init line and no next line
 abbrev pub init_alone : List Item
-init_alone = numbered 1 (body.Sort 1 ∷ body.Zero 1 ∷ body.State 1 ∷ body.Init 1 3 2 ∷ [])
+init_alone = items_numbered 1 (body.Sort 1 ∷ body.Zero 1 ∷ body.State 1 ∷ body.Init 1 3 2 ∷ [])
 
 -- two bits of input, bad where both are 1
-abbrev pub gated : List Item
-gated = numbered 1 (body.Sort 1 ∷ body.Input 1 ∷ body.Input 1 ∷ body.Binary binary.And 1 2 3 ∷ body.Bad 4 ∷ [])
+abbrev pub both_bits : List Item
+both_bits = items_numbered 1 (body.Sort 1 ∷ body.Input 1 ∷ body.Input 1 ∷ body.Binary binary.And 1 2 3 ∷ body.Bad 4 ∷ [])
 
 -- two inputs, a bad property that is false, and a gate that would be its own negation, which no valuation satisfies
 abbrev pub unsatisfied : Circuit
@@ -77,9 +77,9 @@ unsatisfied = record (fresh_circuit 2 0) { gates = record { rhs0 = 7; rhs1 = 1 }
 abbrev pub named_inverter : List Item
 named_inverter =
     line 1 (body.Sort 2)
-    ∷ named 2 (codes "x") (body.Input 1)
+    ∷ named_item 2 (codes "x") (body.Input 1)
     ∷ line 3 (body.Unary unary.Not 1 2)
-    ∷ named 4 (codes "y") (body.Output 3)
+    ∷ named_item 4 (codes "y") (body.Output 3)
     ∷ []
 
 -- its circuit: the outputs are the negated inputs
@@ -99,7 +99,7 @@ abbrev pub named_keeper : List Item
 named_keeper =
     line 1 (body.Sort 2)
     ∷ line 2 (body.Sort 1)
-    ∷ named 3 (codes "s") (body.State 1)
+    ∷ named_item 3 (codes "s") (body.State 1)
     ∷ line 4 (body.Next 1 3 3)
     ∷ line 5 (body.Slice 2 3 1 1)
     ∷ line 6 (body.Bad 5)
@@ -116,7 +116,7 @@ keeper_circuit =
 
 -- a fairness line before a justice line, and a justice line before a state with an init line and no next line
 abbrev pub fair_first : List Item
-fair_first = numbered 1 (body.Sort 1 ∷ body.Input 1 ∷ body.Fair 2 ∷ body.Justice (2 ∷ []) ∷ [])
+fair_first = items_numbered 1 (body.Sort 1 ∷ body.Input 1 ∷ body.Fair 2 ∷ body.Justice (2 ∷ []) ∷ [])
 
 abbrev pub justice_first : List Item
-justice_first = numbered 1 (body.Sort 1 ∷ body.Zero 1 ∷ body.Justice (2 ∷ []) ∷ body.State 1 ∷ body.Init 1 4 2 ∷ [])
+justice_first = items_numbered 1 (body.Sort 1 ∷ body.Zero 1 ∷ body.Justice (2 ∷ []) ∷ body.State 1 ∷ body.Init 1 4 2 ∷ [])

@@ -6,7 +6,7 @@ ghost use Rattle.btor2.specs.Lists.{places, first_init_without_next};
 ghost use Rattle.aiger.specs.Net.{IsDefined};
 ghost use Rattle.aiger.specs.Limits.{greatest_count};
 ghost use Rattle.aiger.specs.Circuit.{net, with_latch, fresh_latch};
-ghost use Rattle.blast.specs.Blocks.{written};
+ghost use Rattle.blast.specs.Blocks.{written_over};
 ghost use Rattle.blast.specs.Cost.{carried_width};
 ghost use Rattle.blast.specs.Reads.{RowsRead, LatchesRead};
 ghost use Rattle.blast.specs.Rows.{row_at, reset_at, row_latches, state_latches, item_latches};
@@ -46,7 +46,7 @@ fn set_row(first: usize, row: &[Lit], init: Option<u64>, circuit: &mut Circuit)
     requires few { length circuit.old.latches ≤ greatest_count }
     requires short { length row.now ≤ 64 }
     requires defined { All (IsDefined (net circuit.old)) row.now }
-    ensures { circuit.new ≡ record circuit.old { latches = written circuit.old.latches first (row_latches init 0 row.now) } }
+    ensures { circuit.new ≡ record circuit.old { latches = written_over circuit.old.latches first (row_latches init 0 row.now) } }
 {
     for bit in 0..row.len() {
         set_bit(first + bit, row[bit], reset_of(init, bit), circuit);
@@ -97,7 +97,7 @@ fn set_state(
     requires reads { RowsRead model.now (net circuit.old) table.now }
     requires room { first + length (item_latches model.now table.now item.now) ≤ length circuit.old.latches }
     requires few { length circuit.old.latches ≤ greatest_count }
-    ensures latches { circuit.new ≡ record circuit.old { latches = written circuit.old.latches first (item_latches model.now table.now item.now) } }
+    ensures latches { circuit.new ≡ record circuit.old { latches = written_over circuit.old.latches first (item_latches model.now table.now item.now) } }
     ensures count { result ≡ length (item_latches model.now table.now item.now) }
 {
     if model.is_free(k) {

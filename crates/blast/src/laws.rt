@@ -2,7 +2,7 @@
 ghost use Rattle.std.specs.Prelude.{◌≡◌, ◌↔◌, ℕ, ◌+◌, ◌==◌, if◌then◌else◌, List, [], ◌∷◌, true, false, map, None, Some, codes, length};
 ghost use Rattle.base.specs.Literal.{Valuation};
 ghost use Rattle.aiger.specs.Circuit.{Circuit, IsCircuit};
-ghost use Rattle.aiger.specs.Trace.{AreInitial, IsTrace as IsCircuitTrace};
+ghost use Rattle.aiger.specs.Trace.{AreInitial, IsCircuitTrace};
 ghost use Rattle.aiger.specs.Worked.{toggler as toggler_circuit};
 ghost use Rattle.aiger.specs.declared.circuit.Reset.TheVariants as reset;
 ghost use Rattle.base.specs.declared.operators.Unary.TheVariants as unary;
@@ -11,18 +11,18 @@ ghost use Rattle.btor2.specs.declared.item.Item.{Item};
 ghost use Rattle.btor2.specs.declared.item.Body.TheVariants as body;
 ghost use Rattle.btor2.specs.Check.{IsWellFormed};
 ghost use Rattle.btor2.specs.Trace.{Frame, IsInitial, AreInputs};
-ghost use Rattle.btor2.specs.Worked.{toggler, open_ends};
+ghost use Rattle.btor2.specs.Worked.{toggler_model, open_ends};
 ghost use Rattle.blast.specs.declared.fault.LowerFault.TheVariants as fault;
 ghost use Rattle.blast.specs.Cost.{line_cost, cost, input_width, state_width, free_width, given_width, carried_width, bound};
 ghost use Rattle.btor2.specs.Items.{is_input, is_state};
 ghost use Rattle.btor2.specs.Lists.{HaveNexts};
-ghost use Rattle.blast.specs.Leaves.{by_body, of_kind, leaf_bits, leaf_names, leaf_resets, bit_name, input_bits, state_bits, input_names, state_names, output_names, bad_names, constraint_names, resets_of_word, state_resets, output_bits};
+ghost use Rattle.blast.specs.Leaves.{by_body, given_by_kind, leaf_bits, leaf_names, leaf_resets, bit_name, input_bits, state_bits, input_names, state_names, output_names, bad_names, constraint_names, resets_of_word, state_resets, output_bits};
 ghost use Rattle.blast.specs.Lowering.{Lowers};
 ghost use Rattle.base.specs.Shown.{rises_within};
 ghost use Rattle.aiger.specs.Reachability.{CanRiseInCircuit};
 ghost use Rattle.btor2.specs.Reachability.{CanRise, model_shows};
 ghost use Rattle.blast.specs.Refusal.{form_refusal, lowering_refusal};
-ghost use Rattle.blast.specs.Worked.{masked, named_toggler, named_follower, follower_circuit, free_alone, one_input, one_latch, init_alone, gated, unsatisfied, named_inverter, inverter_circuit, without_outputs, named_keeper, keeper_circuit, fair_first, justice_first};
+ghost use Rattle.blast.specs.Worked.{masked, named_toggler, named_follower, follower_circuit, free_alone, input_circuit, latch_circuit, init_alone, both_bits, unsatisfied, named_inverter, inverter_circuit, without_outputs, named_keeper, keeper_circuit, fair_first, justice_first};
 
 /// A law: from the bits of all initial words that agree with a model's init lines, and under the bits of all words of its
 /// inputs, a circuit that lowers the model has a trace, and these are initial bits of the circuit.
@@ -62,13 +62,13 @@ pub fn bits_are_given_or_carried()
 /// A law: in a model in which each state has a next line no state is free, so the bits that are given are those of the
 /// inputs, and the bits that are carried those of the states; and so are how many they are, their names, and how the latches begin.
 pub fn no_state_is_free()
-    ensures input_bits { (items : List Item) → HaveNexts items → (f : Frame) → input_bits items f ≡ of_kind (by_body is_input) (leaf_bits items f) items }
-    ensures state_bits { (items : List Item) → HaveNexts items → (f : Frame) → state_bits items f ≡ of_kind (by_body is_state) (leaf_bits items f) items }
-    ensures input_names { (items : List Item) → HaveNexts items → input_names items ≡ of_kind (by_body is_input) (leaf_names items) items }
-    ensures state_names { (items : List Item) → HaveNexts items → state_names items ≡ of_kind (by_body is_state) (leaf_names items) items }
+    ensures input_bits { (items : List Item) → HaveNexts items → (f : Frame) → input_bits items f ≡ given_by_kind (by_body is_input) (leaf_bits items f) items }
+    ensures state_bits { (items : List Item) → HaveNexts items → (f : Frame) → state_bits items f ≡ given_by_kind (by_body is_state) (leaf_bits items f) items }
+    ensures input_names { (items : List Item) → HaveNexts items → input_names items ≡ given_by_kind (by_body is_input) (leaf_names items) items }
+    ensures state_names { (items : List Item) → HaveNexts items → state_names items ≡ given_by_kind (by_body is_state) (leaf_names items) items }
     ensures given_width { (items : List Item) → HaveNexts items → given_width items ≡ input_width items }
     ensures carried_width { (items : List Item) → HaveNexts items → carried_width items ≡ state_width items }
-    ensures resets { (items : List Item) → HaveNexts items → state_resets items ≡ of_kind (by_body is_state) (leaf_resets items) items }
+    ensures resets { (items : List Item) → HaveNexts items → state_resets items ≡ given_by_kind (by_body is_state) (leaf_resets items) items }
 {}
 
 /// Worked rows: models with free states, and their circuits.
@@ -76,7 +76,7 @@ pub fn worked_free_states()
     ensures follower_is_model { IsWellFormed named_follower }
     ensures alone_is_model { IsWellFormed free_alone }
     ensures follower_is_circuit { IsCircuit follower_circuit }
-    ensures input_is_circuit { IsCircuit one_input }
+    ensures input_is_circuit { IsCircuit input_circuit }
 {}
 
 /// Worked rows: circuits that lower a model, of which one has a free state, which is an input behind the inputs, and one
@@ -84,11 +84,11 @@ pub fn worked_free_states()
 /// no valuation satisfies it; one that takes a free state for a latch; and a model that no circuit lowers, since a state
 /// has an init line and no next line.
 pub fn worked_lowerings()
-    ensures lowers { Lowers toggler toggler_circuit }
+    ensures lowers { Lowers toggler_model toggler_circuit }
     ensures follower { Lowers named_follower follower_circuit }
-    ensures free_alone { Lowers free_alone one_input }
-    ensures free_as_latch { ¬ Lowers free_alone one_latch }
-    ensures is_no_circuit { ¬ Lowers gated unsatisfied }
+    ensures free_alone { Lowers free_alone input_circuit }
+    ensures free_as_latch { ¬ Lowers free_alone latch_circuit }
+    ensures is_no_circuit { ¬ Lowers both_bits unsatisfied }
     ensures is_not_of_profile { (c : Circuit) → ¬ Lowers open_ends c }
 {
     aiger::laws::worked_traces();
@@ -126,12 +126,12 @@ pub fn worked_rises()
 
 /// Worked rows: the gates and the variables at most of a bit that toggles, and of two bits that are masked.
 pub fn worked_costs()
-    ensures not { line_cost toggler (body.Unary unary.Not 1 3) ≡ 0 }
+    ensures not { line_cost toggler_model (body.Unary unary.Not 1 3) ≡ 0 }
     ensures and { line_cost masked (body.Binary binary.And 1 2 3) ≡ 2 }
-    ensures toggler_cost { cost toggler ≡ 0 }
-    ensures toggler_inputs { input_width toggler ≡ 0 }
-    ensures toggler_states { state_width toggler ≡ 1 }
-    ensures toggler_bound { bound toggler ≡ 1 }
+    ensures toggler_cost { cost toggler_model ≡ 0 }
+    ensures toggler_inputs { input_width toggler_model ≡ 0 }
+    ensures toggler_states { state_width toggler_model ≡ 1 }
+    ensures toggler_bound { bound toggler_model ≡ 1 }
     ensures masked_cost { cost masked ≡ 2 }
     ensures masked_inputs { input_width masked ≡ 2 }
     ensures masked_states { state_width masked ≡ 2 }
@@ -147,16 +147,16 @@ pub fn worked_costs()
 
 /// Worked rows: the bits of inputs and states, how latches begin, and what bad properties and constraints show.
 pub fn worked_leaves()
-    ensures no_input_bits { input_bits toggler (λ id. 1) ≡ [] }
+    ensures no_input_bits { input_bits toggler_model (λ id. 1) ≡ [] }
     ensures input_bits { input_bits masked (λ id. 2) ≡ false ∷ true ∷ [] }
-    ensures state_bit { state_bits toggler (λ id. 1) ≡ true ∷ [] }
+    ensures state_bit { state_bits toggler_model (λ id. 1) ≡ true ∷ [] }
     ensures state_bits { state_bits masked (λ id. 1) ≡ true ∷ false ∷ [] }
     ensures free_behind_input { input_bits named_follower (λ id. if id == 2 then 1 else 0) ≡ false ∷ true ∷ [] }
     ensures carried_alone { state_bits named_follower (λ id. if id == 3 then 1 else 0) ≡ true ∷ [] }
     ensures none_carried { state_bits free_alone (λ id. 1) ≡ [] }
     ensures free_word { resets_of_word 2 None ≡ reset.Free ∷ reset.Free ∷ [] }
     ensures given_word { resets_of_word 2 (Some 1) ≡ reset.One ∷ reset.Zero ∷ [] }
-    ensures begins_with_0 { state_resets toggler ≡ reset.Zero ∷ [] }
+    ensures begins_with_0 { state_resets toggler_model ≡ reset.Zero ∷ [] }
     ensures begins_freely { state_resets masked ≡ reset.Free ∷ reset.Free ∷ [] }
     ensures of_carried { state_resets named_follower ≡ reset.Free ∷ [] }
     ensures is_shown { model_shows named_toggler (λ id. 1) ≡ record { bads = true ∷ []; constraints = true ∷ [] } }
@@ -171,10 +171,10 @@ pub fn worked_names()
     ensures input { input_names named_toggler ≡ Some (codes "x[0]") ∷ [] }
     ensures bad { bad_names named_toggler ≡ Some (codes "p") ∷ [] }
     ensures constraint { constraint_names named_toggler ≡ None ∷ [] }
-    ensures no_constraint { constraint_names toggler ≡ [] }
-    ensures latch_without { state_names toggler ≡ None ∷ [] }
+    ensures no_constraint { constraint_names toggler_model ≡ [] }
+    ensures latch_without { state_names toggler_model ≡ None ∷ [] }
     ensures inputs_without { input_names masked ≡ None ∷ None ∷ [] }
-    ensures bad_without { bad_names toggler ≡ None ∷ [] }
+    ensures bad_without { bad_names toggler_model ≡ None ∷ [] }
     ensures free_behind_input { input_names named_follower ≡ Some (codes "x[0]") ∷ Some (codes "f[0]") ∷ [] }
     ensures carried_alone { state_names named_follower ≡ Some (codes "s[0]") ∷ [] }
     ensures free_without { input_names free_alone ≡ None ∷ [] }

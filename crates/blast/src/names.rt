@@ -8,7 +8,7 @@ ghost use Rattle.aiger.specs.Circuit.{section_names, is_name};
 ghost use Rattle.blast.specs.declared.fault.LowerFault.TheVariants as fault;
 ghost use Rattle.blast.specs.Cost.{given_width, carried_width};
 ghost use Rattle.blast.specs.Leaves.{bit_name, bit_names, leaf_names};
-ghost use Rattle.blast.specs.Blocks.{written, IsBlank};
+ghost use Rattle.blast.specs.Blocks.{written_over, IsBlank};
 ghost use Rattle.btor2.specs.Leaves.{list_of};
 ghost use Rattle.blast.specs.Sections.{section_of, part_names, names_given, Renames, TakesNames};
 
@@ -77,7 +77,7 @@ fn name_bits(
     requires room { first + count ≤ length (section_names section circuit.old) }
     requires few { length (section_names section circuit.old) ≤ greatest_count }
     requires count { count ≤ 64 }
-    ensures ok { OnOk result (Renames section circuit.old (written (section_names section circuit.old) first (bit_names symbol.now 0 count)) circuit.new) }
+    ensures ok { OnOk result (Renames section circuit.old (written_over (section_names section circuit.old) first (bit_names symbol.now 0 count)) circuit.new) }
     ensures err { IfErr result (λ e. e ≡ fault.NoMemory) }
 {
     match symbol {
@@ -107,7 +107,7 @@ fn name_leaf(
     requires free { IsBlank None first (length (leaf_names model.now item.now)) (section_names section circuit.old) }
     requires room { first + length (leaf_names model.now item.now) ≤ length (section_names section circuit.old) }
     requires few { length (section_names section circuit.old) ≤ greatest_count }
-    ensures ok { OnOk result (Renames section circuit.old (written (section_names section circuit.old) first (leaf_names model.now item.now)) circuit.new) }
+    ensures ok { OnOk result (Renames section circuit.old (written_over (section_names section circuit.old) first (leaf_names model.now item.now)) circuit.new) }
     ensures count { IfOk result (λ n. n ≡ length (leaf_names model.now item.now)) }
     ensures err { IfErr result (λ e. e ≡ fault.NoMemory) }
 {
@@ -134,7 +134,7 @@ fn name_item(
     requires free { IsBlank None first (length (names_given model.now leaves item.now)) (section_names (section_of leaves) circuit.old) }
     requires room { first + length (names_given model.now leaves item.now) ≤ length (section_names (section_of leaves) circuit.old) }
     requires few { length (section_names (section_of leaves) circuit.old) ≤ greatest_count }
-    ensures ok { OnOk result (Renames (section_of leaves) circuit.old (written (section_names (section_of leaves) circuit.old) first (names_given model.now leaves item.now)) circuit.new) }
+    ensures ok { OnOk result (Renames (section_of leaves) circuit.old (written_over (section_names (section_of leaves) circuit.old) first (names_given model.now leaves item.now)) circuit.new) }
     ensures count { IfOk result (λ n. n ≡ length (names_given model.now leaves item.now)) }
     ensures err { IfErr result (λ e. e ≡ fault.NoMemory) }
 {
@@ -155,7 +155,7 @@ fn name_part(
     requires blank { IsBlank None first (length (part_names model.now leaves)) (section_names (section_of leaves) circuit.old) }
     requires room { first + length (part_names model.now leaves) ≤ length (section_names (section_of leaves) circuit.old) }
     requires few { length (section_names (section_of leaves) circuit.old) ≤ greatest_count }
-    ensures ok { OnOk result (Renames (section_of leaves) circuit.old (written (section_names (section_of leaves) circuit.old) first (part_names model.now leaves)) circuit.new) }
+    ensures ok { OnOk result (Renames (section_of leaves) circuit.old (written_over (section_names (section_of leaves) circuit.old) first (part_names model.now leaves)) circuit.new) }
     ensures next { IfOk result (λ n. n ≡ first + length (part_names model.now leaves)) }
     ensures err { IfErr result (λ e. e ≡ fault.NoMemory) }
 {

@@ -132,8 +132,8 @@ table items x =
     ∷ []
 
 -- the rows of what an item says, behind those of its own id
-abbrev pub said : List Item → Body → List (Bool × PushFault)
-said items b = drop 3 (table items (record { id = 0; symbol = None; body = b }))
+abbrev pub said_rows : List Item → Body → List (Bool × PushFault)
+said_rows items b = drop 3 (table items (record { id = 0; symbol = None; body = b }))
 
 -- the refusal of an item after the items before it, if there is one
 unfoldable pub refusal : List Item → Item → Option PushFault

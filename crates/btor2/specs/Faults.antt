@@ -6,28 +6,28 @@ use Rattle.btor2.specs.declared.fault.PushFault.{PushFault}
 use Rattle.btor2.specs.declared.fault.PushFault.TheVariants.{TooManyItems, IdOutOfRange, IdTaken, NoSuchSort, NoSuchNode, NotAState, WidthOutOfRange, SliceOutOfRange, SortMismatch, ConstantDoesNotFit, InitNotConstant, SecondInit, SecondNext, JusticeEmpty, NoMemory}
 
 -- the number and the name that are printed for a refusal
-abbrev pub number_and_name : PushFault → ℕ × List ℕ
-number_and_name IdTaken = (1, codes "IdTaken")
-number_and_name IdOutOfRange = (2, codes "IdOutOfRange")
-number_and_name NoSuchSort = (3, codes "NoSuchSort")
-number_and_name NoSuchNode = (4, codes "NoSuchNode")
-number_and_name WidthOutOfRange = (5, codes "WidthOutOfRange")
-number_and_name SortMismatch = (6, codes "SortMismatch")
-number_and_name SliceOutOfRange = (7, codes "SliceOutOfRange")
-number_and_name NotAState = (8, codes "NotAState")
-number_and_name SecondInit = (9, codes "SecondInit")
-number_and_name SecondNext = (10, codes "SecondNext")
-number_and_name InitNotConstant = (11, codes "InitNotConstant")
-number_and_name TooManyItems = (12, codes "TooManyItems")
-number_and_name JusticeEmpty = (13, codes "JusticeEmpty")
-number_and_name NoMemory = (14, codes "NoMemory")
-number_and_name ConstantDoesNotFit = (15, codes "ConstantDoesNotFit")
+abbrev pub push_fault_row : PushFault → ℕ × List ℕ
+push_fault_row IdTaken = (1, codes "IdTaken")
+push_fault_row IdOutOfRange = (2, codes "IdOutOfRange")
+push_fault_row NoSuchSort = (3, codes "NoSuchSort")
+push_fault_row NoSuchNode = (4, codes "NoSuchNode")
+push_fault_row WidthOutOfRange = (5, codes "WidthOutOfRange")
+push_fault_row SortMismatch = (6, codes "SortMismatch")
+push_fault_row SliceOutOfRange = (7, codes "SliceOutOfRange")
+push_fault_row NotAState = (8, codes "NotAState")
+push_fault_row SecondInit = (9, codes "SecondInit")
+push_fault_row SecondNext = (10, codes "SecondNext")
+push_fault_row InitNotConstant = (11, codes "InitNotConstant")
+push_fault_row TooManyItems = (12, codes "TooManyItems")
+push_fault_row JusticeEmpty = (13, codes "JusticeEmpty")
+push_fault_row NoMemory = (14, codes "NoMemory")
+push_fault_row ConstantDoesNotFit = (15, codes "ConstantDoesNotFit")
 
-abbrev pub number_of : PushFault → ℕ
-number_of fault = (number_and_name fault).0
+abbrev pub push_fault_number : PushFault → ℕ
+push_fault_number fault = (push_fault_row fault).0
 
-abbrev pub name_of : PushFault → List ℕ
-name_of fault = (number_and_name fault).1
+abbrev pub push_fault_name : PushFault → List ℕ
+push_fault_name fault = (push_fault_row fault).1
 
 -- the number that is printed for bytes that are no symbol
 abbrev pub symbol_fault_number : SymbolFault → ℕ

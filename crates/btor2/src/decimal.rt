@@ -13,11 +13,11 @@ pub struct Decimal {
 
 impl Model for Decimal {
     ghost use Rattle.std.specs.Prelude.{ℤ};
-    ghost use Rattle.btor2.specs.Decimals.{joined};
+    ghost use Rattle.btor2.specs.Decimals.{number_joined};
 
     ghost Value = { ℤ };
 
-    ghost view = { λ d. joined d.high d.low };
+    ghost view = { λ d. number_joined d.high d.low };
 }
 
 impl Decimal {

@@ -1,6 +1,6 @@
 //! Why a model refuses an item.
 ghost use Rattle.std.specs.Prelude.{◌≡◌};
-ghost use Rattle.btor2.specs.Faults.{number_of, name_of};
+ghost use Rattle.btor2.specs.Faults.{push_fault_number, push_fault_name};
 
 use std::fmt;
 use thiserror::Error;
@@ -44,7 +44,7 @@ pub enum PushFault {
 impl PushFault {
     /// The number that is printed for the fault.
     pub fn number(self) -> u32
-        ensures { result ≡ number_of self }
+        ensures { result ≡ push_fault_number self }
     {
         match self {
             PushFault::IdTaken => 1,
@@ -67,7 +67,7 @@ impl PushFault {
 
     /// The name that is printed for the fault.
     pub fn name(self) -> &'static str
-        ensures { result.now ≡ name_of self }
+        ensures { result.now ≡ push_fault_name self }
     {
         match self {
             PushFault::IdTaken => "IdTaken",

@@ -11,7 +11,7 @@ ghost use Rattle.btor2.specs.Lists.{first_init_without_next};
 ghost use Rattle.btor2.specs.declared.leaves.Leaves.TheVariants as leaves;
 ghost use Rattle.btor2.specs.Leaves.{kind_of, is_leaf_at, leaf_width, kind_width};
 ghost use Rattle.btor2.specs.Trace.{Frame, bits_of, IsFrame, IsInput, IsState, IsTrace, SameTrace, next_state, InputFits, StateFits};
-ghost use Rattle.btor2.specs.Worked.{line, toggler, counter, open_ends, follower, shapes, nibble};
+ghost use Rattle.btor2.specs.Worked.{line, toggler_model, counter, open_ends, follower, shapes, nibble};
 
 /// A law: from carried words and a list of given words a model has exactly one trace.
 pub fn exactly_one_trace()
@@ -35,11 +35,11 @@ pub fn words_fit()
 
 /// Worked rows: the frames of a model of one bit that toggles.
 pub fn worked_traces()
-    ensures is_model { IsWellFormed toggler }
-    ensures first { (f : Frame) → IsFrame toggler (λ id. 0) (λ id. 0) f
-        → (f 3 ≡ 0) × (f 5 ≡ 1) × (next_state toggler f 3 ≡ 1) }
-    ensures second { (f g : Frame) → IsTrace toggler (λ id. 0) ((λ id. 0) ∷ (λ id. 0) ∷ []) (f ∷ g ∷ [])
-        → (g 3 ≡ 1) × (g 5 ≡ 0) × (next_state toggler g 3 ≡ 0) }
+    ensures is_model { IsWellFormed toggler_model }
+    ensures first { (f : Frame) → IsFrame toggler_model (λ id. 0) (λ id. 0) f
+        → (f 3 ≡ 0) × (f 5 ≡ 1) × (next_state toggler_model f 3 ≡ 1) }
+    ensures second { (f g : Frame) → IsTrace toggler_model (λ id. 0) ((λ id. 0) ∷ (λ id. 0) ∷ []) (f ∷ g ∷ [])
+        → (g 3 ≡ 1) × (g 5 ≡ 0) × (next_state toggler_model g 3 ≡ 0) }
 {}
 
 /// Worked rows: the last frame of a counter of two bits, and the words of nodes of each shape where the input is 9 and where
@@ -84,12 +84,12 @@ pub fn words_that_fit_states()
 /// neither in the toggler, whose state has both; the first state of the second model is free, its second has a next
 /// line alone and its third an init line alone.
 pub fn worked_free_states()
-    ensures toggler { is_free toggler 3 ≡ false }
+    ensures toggler { is_free toggler_model 3 ≡ false }
     ensures neither { is_free open_ends 3 ≡ true }
     ensures next_alone { is_free open_ends 4 ≡ false }
     ensures init_alone { is_free open_ends 5 ≡ false }
     ensures open_ends_is_model { IsWellFormed open_ends }
-    ensures each_has_next { first_init_without_next toggler toggler ≡ None }
+    ensures each_has_next { first_init_without_next toggler_model toggler_model ≡ None }
     ensures third_has_none { first_init_without_next open_ends open_ends ≡ Some 5 }
 {}
 
@@ -147,8 +147,8 @@ pub fn worked_refusals()
     ensures hex_too_great { refusal nibble (line 3 (body.Consth 1 2 16)) ≡ Some fault.ConstantDoesNotFit }
     ensures init_not_constant { refusal (nibble ++ line 3 (body.State 1) ∷ []) (line 4 (body.Init 1 3 2))
         ≡ Some fault.InitNotConstant }
-    ensures second_init { refusal toggler (line 8 (body.Init 1 3 2)) ≡ Some fault.SecondInit }
-    ensures second_next { refusal toggler (line 8 (body.Next 1 3 3)) ≡ Some fault.SecondNext }
+    ensures second_init { refusal toggler_model (line 8 (body.Init 1 3 2)) ≡ Some fault.SecondInit }
+    ensures second_next { refusal toggler_model (line 8 (body.Next 1 3 3)) ≡ Some fault.SecondNext }
     ensures justice_empty { refusal nibble (line 3 (body.Justice [])) ≡ Some fault.JusticeEmpty }
     ensures accepted { refusal nibble (line 3 (body.Unary unary.Not 1 2)) ≡ None }
 {}

@@ -7,7 +7,7 @@ use Rattle.btor2text.specs.declared.fault.Why.{Why}
 use Rattle.btor2text.specs.declared.fault.Why.TheVariants as why
 use Rattle.btor2text.specs.declared.fault.ReadFault.{ReadFault}
 use Rattle.btor2text.specs.Spelling.{StandsFor}
-use Rattle.btor2text.specs.Reading.{fault_at, lines_on, text_on, ReadsAs}
+use Rattle.btor2text.specs.Reading.{line_fault, lines_on, text_on, ReadsAs}
 use Rattle.btor2text.specs.Stopping.{Stops, TextFails}
 use Rattle.btor2text.specs.FirstFault.{IsFaultOf}
 use Rattle.btor2text.proofs.FaultLemmas.{not_failed, text_fails}
@@ -39,7 +39,7 @@ pub only : (known : Option (List ℕ)) (model : List Item) → GivesItems known 
 only known model h text items is stands = ok_items model items (sym (gives_items known model h text is) ∙ stands_read text items stands)
 
 -- the reading stopped
-why_is : (e : ReadFault) (w : Why) → e ≡ fault_at 0 w → e.why ≡ w
+why_is : (e : ReadFault) (w : Why) → e ≡ line_fault 0 w → e.why ≡ w
 why_is e w is = ap (λ (f : ReadFault). f.why) is
 
 gives_fault : (known after : Option (List ℕ)) (e : ReadFault) → TextFails known after [] e → (text : List ℕ) → known ≡ Some text → text_on text ≡ Err e

@@ -17,8 +17,8 @@ use Rattle.btor2text.specs.declared.forms.Property.{Property}
 use Rattle.btor2text.specs.declared.forms.Property.TheVariants as property
 use Rattle.btor2text.specs.Words.{form_name}
 use Rattle.btor2text.specs.Digits.{IsNumber}
-use Rattle.btor2text.specs.Spelling.{Says}
-use Rattle.btor2text.specs.Reading.{◌>>=◌, Tokens, sort_at, width_at, pair_at, triple_at, operand_at, plain_at, bit_at, digits_at, signed_at, counted_at, constant_at, leaf_body, extension_body, link_body, property_body, body_at}
+use Rattle.btor2text.specs.Spelling.{SaysBody}
+use Rattle.btor2text.specs.Reading.{◌>>=◌, Tokens, sort_at, width_told, pair_at, triple_at, operand_at, plain_at, bit_at, digits_at, signed_at, counted_at, constant_told, leaf_body, extension_body, link_body, property_body, body_at}
 use Rattle.btor2text.proofs.BoundLemmas.{IsId, BodyFits}
 use Rattle.btor2text.proofs.PlaceLemmas.{bind_ok, ok_is, plain_at_takes, plain_at-decimal, bit_at_takes, bit_at-decimal, sort_at_takes, sort_at-decimal, operand_at_takes, operand_at-decimal, width_at_takes, width_at-again, pair_at_takes, pair_at-again, triple_at_takes, triple_at-again}
 use Rattle.btor2text.proofs.OperandLemmas.{counted_at_takes, counted_at-again}
@@ -53,7 +53,7 @@ body_form (body.Justice nodes) = form.Justice
 -- what the tokens behind a form's word were read as: a body of this form, which the tokens up to those that follow say
 pub record Taken (f : Form) (tokens : Tokens) (x : Body × Tokens) : Type 0 where
   pub form : body_form x.0 ≡ f
-  pub says : BodyFits x.0 → (front : Tokens) × (tokens ≡ front ++ x.1) × Says x.0 (form_name f ∷ front)
+  pub says : BodyFits x.0 → (front : Tokens) × (tokens ≡ front ++ x.1) × SaysBody x.0 (form_name f ∷ front)
 
 -- what the words of a group say
 leaf_taken : (l : Leaf) (tokens rest : Tokens) (s : ℕ) → (IsId s → tokens ≡ decimal s ∷ rest) → Taken (form.Leaf l) tokens (leaf_body l s, rest)
@@ -85,8 +85,8 @@ numeral_joined radix most tokens s x least word rs rx id le =
     let d = digits_at_takes radix most s.1 x least word rx le in
     (d.0, sort_at_takes tokens s rs id ∙ ap (λ rest. decimal s.0 ∷ rest) d.1, d.2)
 
-constant_at_takes : (c : Constant) (tokens : Tokens) (x : Body × Tokens) → constant_at c tokens ≡ Ok x → Taken (form.Constant c) tokens x
-unfolding constant_at
+constant_at_takes : (c : Constant) (tokens : Tokens) (x : Body × Tokens) → constant_told c tokens ≡ Ok x → Taken (form.Constant c) tokens x
+unfolding constant_told
 constant_at_takes constant.Const tokens y e =
     let s = bind_ok (sort_at tokens) (λ s. digits_at 2 64 s.1 >>= λ x. Ok (body.Const s.0 x.0 x.1, x.2)) y e in
     let x = bind_ok (digits_at 2 64 s.0.1) (λ x. Ok (body.Const s.0.0 x.0 x.1, x.2)) y s.2 in
@@ -117,7 +117,7 @@ choice_joined tokens x e rx re s c t id = triple_at_takes tokens x rx s c t ∙ 
 pub body_at_takes : (f : Form) (tokens : Tokens) (x : Body × Tokens) → body_at f tokens ≡ Ok x → Taken f tokens x
 unfolding body_at
 body_at_takes form.Sort tokens y e =
-    let b = bind_ok (width_at tokens) (λ x. Ok (body.Sort x.0, x.1)) y e in
+    let b = bind_ok (width_told tokens) (λ x. Ok (body.Sort x.0, x.1)) y e in
     subst (Taken form.Sort tokens) {x = (body.Sort b.0.0, b.0.1)} (ok_is (body.Sort b.0.0, b.0.1) y b.2)
     (record { form = refl; says = λ fits. (codes "bitvec" ∷ decimal b.0.0 ∷ [], width_at_takes tokens b.0 b.1 (omega (arith, fits)), refl) })
 body_at_takes (form.Leaf l) tokens y e =
@@ -171,8 +171,8 @@ pub record Again (b : Body) (tokens : Tokens) : Type 0 where
   pub parts : tokens ≡ form_name (body_form b) ∷ behind
   pub again : (rest : Tokens) → body_at (body_form b) (behind ++ rest) ≡ Ok (b, rest)
 
-pub says_again : (b : Body) (tokens : Tokens) → Says b tokens → BodyFits b → Again b tokens
-unfolding body_at constant_at
+pub says_again : (b : Body) (tokens : Tokens) → SaysBody b tokens → BodyFits b → Again b tokens
+unfolding body_at constant_told
 says_again (body.Sort n) tokens says fits = record { behind = codes "bitvec" ∷ decimal n ∷ []; parts = says; again = λ rest. rw (width_at-again n rest (omega (arith, fits))) refl }
 says_again (body.Input s) tokens says fits = record { behind = decimal s ∷ []; parts = says; again = λ rest. rw (sort_at-decimal s rest fits) refl }
 says_again (body.State s) tokens says fits = record { behind = decimal s ∷ []; parts = says; again = λ rest. rw (sort_at-decimal s rest fits) refl }

@@ -12,7 +12,7 @@ use Rattle.btor2text.specs.declared.fault.Why.TheVariants as why
 use Rattle.btor2text.specs.declared.fault.ReadFault.{ReadFault}
 use Rattle.btor2text.specs.Tokens.{tokens}
 use Rattle.btor2text.specs.Spelling.{SpellsAll}
-use Rattle.btor2text.specs.Reading.{fault_at, then_lines, line_on, lines_on, text_on}
+use Rattle.btor2text.specs.Reading.{line_fault, then_lines, line_on, lines_on, text_on}
 use Rattle.btor2text.specs.FirstFault.{IsUnfinished, BeginsFaulty, IsFaultOf}
 use Rattle.btor2text.proofs.StandsLemmas.{AddsLine, line_takes, well_after, spells_line}
 
@@ -45,7 +45,7 @@ pub some_bytes : (b : ℕ) (bs : List ℕ) → b ∷ bs ≢ []
 some_bytes b bs e = cc
 
 -- the fault is at this line
-at_once : (n : ℕ) (before : List Item) (lines : List (List ℕ)) (last : List ℕ) (w : Why) (e : ReadFault) → fault_at (line_after n) w ≡ e → FaultHere before lines last w → FaultIn n before lines last e
+at_once : (n : ℕ) (before : List Item) (lines : List (List ℕ)) (last : List ℕ) (w : Why) (e : ReadFault) → line_fault (line_after n) w ≡ e → FaultHere before lines last w → FaultIn n before lines last e
 at_once n before lines last w e is here =
     let line : line_after n ≡ e.line = ap (λ (f : ReadFault). f.line) is in
     let why-is : w ≡ e.why = ap (λ (f : ReadFault). f.why) is in
@@ -85,12 +85,12 @@ then_fails : (n : ℕ) (before : List Item) (line : List ℕ) (lines : List (Lis
 then_fails n before line lines last e others (Ok mid) formed rest is h =
     let adds = line_takes before (tokens line) mid formed is in
     fault_behind n before mid line lines last e adds (rest mid (well_after before mid (tokens line) formed adds) h)
-then_fails n before line lines last e others (Err w) formed rest is h = at_once n before (line ∷ lines) last w e (faults (fault_at (line_after n) w) e h) is
+then_fails n before line lines last e others (Err w) formed rest is h = at_once n before (line ∷ lines) last w e (faults (line_fault (line_after n) w) e h) is
 
 lines_fail : (n : ℕ) (before : List Item) (lines : List (List ℕ)) (last : List ℕ) (e : ReadFault) → IsWellFormed before → lines_on n before lines last ≡ Err e → FaultIn n before lines last e
 unfolding lines_on
 lines_fail n before [] [] e formed h = absurd (not_failed before e h)
-lines_fail n before [] (b ∷ bs) e formed h = at_once n before [] (b ∷ bs) why.Unfinished e (faults (fault_at (line_after n) why.Unfinished) e h) (some_bytes b bs, refl)
+lines_fail n before [] (b ∷ bs) e formed h = at_once n before [] (b ∷ bs) why.Unfinished e (faults (line_fault (line_after n) why.Unfinished) e h) (some_bytes b bs, refl)
 lines_fail n before (line ∷ lines) last e formed h =
     then_fails n before line lines last e (λ mid. lines_on (line_after n) mid lines last) (line_on before (tokens line)) formed (λ mid formed read. lines_fail (line_after n) mid lines last e formed read) refl h
 

@@ -8,7 +8,7 @@ use Rattle.btor2.specs.Symbols.{is_symbol}
 use Rattle.btor2text.specs.declared.fault.Why.TheVariants as why
 use Rattle.btor2text.specs.declared.forms.Form.{Form}
 use Rattle.btor2text.specs.Words.{form_name}
-use Rattle.btor2text.specs.Spelling.{symbol_tokens, Says, Spells}
+use Rattle.btor2text.specs.Spelling.{symbol_tokens, SaysBody, SpellsItem}
 use Rattle.btor2text.specs.Reading.{◌>>=◌, Tokens, plain_at, form_at, body_at, symbol_end, symbol_at, item_at}
 use Rattle.btor2text.proofs.BoundLemmas.{Fits}
 use Rattle.btor2text.proofs.PlaceLemmas.{bind_ok, ok_is, plain_at_takes, plain_at-decimal}
@@ -43,7 +43,7 @@ symbol_at-again (Some token) h = rw h refl
 -- the parts of a line, joined
 spelled : (tokens : Tokens) (i : ℕ × Tokens) (f : Form × Tokens) (b : Body × Tokens) (s : Option (List ℕ))
     → plain_at tokens ≡ Ok i → form_at i.1 ≡ Ok f → body_at f.0 f.1 ≡ Ok b → symbol_at b.1 ≡ Ok s
-    → Fits (record { id = i.0; symbol = s; body = b.0 }) → Spells tokens (record { id = i.0; symbol = s; body = b.0 })
+    → Fits (record { id = i.0; symbol = s; body = b.0 }) → SpellsItem tokens (record { id = i.0; symbol = s; body = b.0 })
 spelled tokens i f b s ri rf rb rs fits =
     let symbol = symbol_at_takes b.1 s rs in
     let form = form_at_takes i.1 f rf in
@@ -56,20 +56,20 @@ spelled tokens i f b s ri rf rb rs fits =
       symbol = symbol.1;
     }
 
-pub item_takes : (tokens : Tokens) (x : Item) → item_at tokens ≡ Ok x → Fits x → Spells tokens x
+pub item_takes : (tokens : Tokens) (x : Item) → item_at tokens ≡ Ok x → Fits x → SpellsItem tokens x
 unfolding item_at
 item_takes tokens x e =
     let i = bind_ok (plain_at tokens) (λ i. form_at i.1 >>= λ f. body_at f.0 f.1 >>= λ b. symbol_at b.1 >>= λ s. Ok (record { id = i.0; symbol = s; body = b.0 })) x e in
     let f = bind_ok (form_at i.0.1) (λ f. body_at f.0 f.1 >>= λ b. symbol_at b.1 >>= λ s. Ok (record { id = i.0.0; symbol = s; body = b.0 })) x i.2 in
     let b = bind_ok (body_at f.0.0 f.0.1) (λ b. symbol_at b.1 >>= λ s. Ok (record { id = i.0.0; symbol = s; body = b.0 })) x f.2 in
     let s = bind_ok (symbol_at b.0.1) (λ s. Ok (record { id = i.0.0; symbol = s; body = b.0.0 })) x b.2 in
-    subst (λ (y : Item). Fits y → Spells tokens y) {x = record { id = i.0.0; symbol = s.0; body = b.0.0 }} (ok_is (record { id = i.0.0; symbol = s.0; body = b.0.0 }) x s.2) (spelled tokens i.0 f.0 b.0 s.0 i.1 f.1 b.1 s.1)
+    subst (λ (y : Item). Fits y → SpellsItem tokens y) {x = record { id = i.0.0; symbol = s.0; body = b.0.0 }} (ok_is (record { id = i.0.0; symbol = s.0; body = b.0.0 }) x s.2) (spelled tokens i.0 f.0 b.0 s.0 i.1 f.1 b.1 s.1)
 
-read_again : (x : Item) (tokens : Tokens) → Fits x → Says x.body tokens → IsSymbolOption x.symbol → item_at (decimal x.id ∷ tokens ++ symbol_tokens x.symbol) ≡ Ok x
+read_again : (x : Item) (tokens : Tokens) → Fits x → SaysBody x.body tokens → IsSymbolOption x.symbol → item_at (decimal x.id ∷ tokens ++ symbol_tokens x.symbol) ≡ Ok x
 unfolding item_at
 read_again x tokens fits says symbol =
     let a = says_again x.body tokens says fits.body in
     rw (a.parts, plain_at-decimal x.id (form_name (body_form x.body) ∷ a.behind ++ symbol_tokens x.symbol) (omega (arith, fits.id.1)), form_at-again (body_form x.body) (a.behind ++ symbol_tokens x.symbol), a.again (symbol_tokens x.symbol), symbol_at-again x.symbol symbol) refl
 
-pub item_again : (tokens : Tokens) (x : Item) → Spells tokens x → Fits x → item_at tokens ≡ Ok x
+pub item_again : (tokens : Tokens) (x : Item) → SpellsItem tokens x → Fits x → item_at tokens ≡ Ok x
 item_again tokens x spelled fits = ap item_at spelled.tokens ∙ read_again x spelled.form fits spelled.says spelled.symbol

@@ -11,7 +11,7 @@ use Rattle.std.proofs.lemmas.Str.Parse.{IsDigitsTest, digits_value_short, numera
 use Rattle.base.specs.Decimals.{are_digits, begins_decimal, capped_value, number_of}
 use Rattle.base.proofs.DecimalLemmas.{digit_range, digits_more, digits_all, begun}
 use Rattle.btor2text.specs.Tokens.{is_blank, tokens, begins_token}
-use Rattle.btor2text.specs.Reading.{Tokens, plain, plain_at}
+use Rattle.btor2text.specs.Reading.{Tokens, plain_number, plain_at}
 use Rattle.btor2text.proofs.TokenLemmas.{tokens-to_blank, tokens-whole}
 
 -- the first so many bytes of a line, one at least, are digits that write this number, modulo 2 ^ 32
@@ -82,7 +82,7 @@ begins_a_decimal (b ∷ bs) zero lt first some = absurd (omega (arith, some))
 begins_a_decimal (b ∷ bs) (suc n) lt first some = rw (ne_eqb b 48 (λ e. omega (arith, e, first))) refl
 
 plain_front : (token : List ℕ) (rest : Tokens) (n : ℕ) → number_of token ≡ Some n → plain_at (token ∷ rest) ≡ Ok (n, rest)
-unfolding plain_at plain
+unfolding plain_at plain_number
 plain_front token rest n is = rw is refl
 
 -- the first byte of a line is a digit from 1 to 9, and these first bytes write this number

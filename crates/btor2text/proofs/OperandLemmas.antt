@@ -7,7 +7,7 @@ use Rattle.base.proofs.DecimalLemmas.{chosen}
 use Rattle.btor2.proofs.AcceptedLemmas.{Each}
 use Rattle.btor2text.specs.declared.fault.Why.{Why}
 use Rattle.btor2text.specs.declared.fault.Why.TheVariants as why
-use Rattle.btor2text.specs.Reading.{◌>>=◌, Tokens, plain, plain_at, operand_at, operands_at, counted_at}
+use Rattle.btor2text.specs.Reading.{◌>>=◌, Tokens, plain_number, plain_at, operand_at, operands_at, counted_at}
 use Rattle.btor2text.proofs.BoundLemmas.{IsId}
 use Rattle.btor2text.proofs.PlaceLemmas.{most, bind_ok, done, ok_is, some_is, some_read, plain_at_takes, plain_at-decimal, operand_at_takes, operand_at-decimal}
 
@@ -72,8 +72,8 @@ operands_at-again [] rest each = refl
 operands_at-again (a ∷ nodes) rest each = rw (operand_at-decimal a (map decimal nodes ++ rest) each.0, operands_at-again nodes rest each.1) refl
 
 -- a number that is read is told up to 2 ^ 64 - 1
-plain_small : (token : List ℕ) (n : ℕ) → plain token ≡ Ok n → n ≤ 2 ^ 64 - 1
-unfolding plain number_of capped_value
+plain_small : (token : List ℕ) (n : ℕ) → plain_number token ≡ Ok n → n ≤ 2 ^ 64 - 1
+unfolding plain_number number_of capped_value
 plain_small token n e =
     elim (chosen (is_decimal token) (Some (min (digits_value 10 token) (2 ^ 64 - 1))) None (Some n) (some_read (number_of token) n e)) [
       | inl h ↦ let is = some_is (min (digits_value 10 token) (2 ^ 64 - 1)) n h.1 in omega (arith, is)
@@ -84,7 +84,7 @@ plain_at_small : (tokens : Tokens) (x : ℕ × Tokens) → plain_at tokens ≡ O
 unfolding plain_at
 plain_at_small [] x e = absurd cc
 plain_at_small (token ∷ rest) x e =
-    let b = bind_ok (plain token) (λ n. Ok (n, rest)) x e in
+    let b = bind_ok (plain_number token) (λ n. Ok (n, rest)) x e in
     subst (λ (p : ℕ × Tokens). p.0 ≤ 2 ^ 64 - 1) {x = (b.0, rest)} (ok_is (b.0, rest) x b.2) (plain_small token b.0 b.1)
 
 counted : (tokens : Tokens) (k : ℕ × Tokens) (x : List ℕ × Tokens) → plain_at tokens ≡ Ok k → k.0 < most → (k.1 ≡ map decimal x.0 ++ x.1) × (length x.0 ≡ k.0) → (tokens ≡ decimal (length x.0) ∷ map decimal x.0 ++ x.1) × (length x.0 < 2 ^ 64 - 1)

@@ -6,7 +6,7 @@ use Rattle.std.proofs.lemmas.Slice.Eq.{bytes_eq-Decides}
 use Rattle.base.specs.Decimals.{number_of}
 use Rattle.btor2text.specs.declared.fault.Why.{Why}
 use Rattle.btor2text.specs.declared.fault.Why.TheVariants as why
-use Rattle.btor2text.specs.Reading.{◌>>=◌, Tokens, some_of, operand_of, plain, operand, is_negative, plain_at, kept_id, kept_bit, sort_at, bit_at, operand_at, width_at, pair_at, triple_at}
+use Rattle.btor2text.specs.Reading.{◌>>=◌, Tokens, some_of, operand_of, plain_number, operand, is_negative, plain_at, kept_id, kept_slice_bit, sort_at, bit_at, operand_at, width_told, pair_at, triple_at}
 use Rattle.btor2text.proofs.BoundLemmas.{IsId}
 use Rattle.base.proofs.DecimalLemmas.{chosen, number_is_decimal, number_of-decimal}
 
@@ -38,12 +38,12 @@ pub some_read : {A : Type 0} (o : Option A) (x : A) → some_of o ≡ Ok x → o
 some_read (Some y) x e = ap (λ z. Some z) (ok_is y x e)
 some_read None x e = absurd cc
 
-pub plain_takes : (token : List ℕ) (n : ℕ) → plain token ≡ Ok n → n < most → token ≡ decimal n
-unfolding plain
+pub plain_takes : (token : List ℕ) (n : ℕ) → plain_number token ≡ Ok n → n < most → token ≡ decimal n
+unfolding plain_number
 plain_takes token n e lt = number_is_decimal token n (some_read (number_of token) n e) lt
 
-pub plain-decimal : (n : ℕ) → n < 2 ^ 64 → plain (decimal n) ≡ Ok n
-unfolding plain
+pub plain-decimal : (n : ℕ) → n < 2 ^ 64 → plain_number (decimal n) ≡ Ok n
+unfolding plain_number
 plain-decimal n lt = rw (number_of-decimal n lt) refl
 
 -- ---- places
@@ -52,7 +52,7 @@ pub plain_at_takes : (tokens : Tokens) (x : ℕ × Tokens) → plain_at tokens �
 unfolding plain_at
 plain_at_takes [] x e = absurd cc
 plain_at_takes (token ∷ rest) x e =
-    let b = bind_ok (plain token) (λ n. Ok (n, rest)) x e in
+    let b = bind_ok (plain_number token) (λ n. Ok (n, rest)) x e in
     subst (λ (p : ℕ × Tokens). p.0 < most → token ∷ rest ≡ decimal p.0 ∷ p.1) (ok_is (b.0, rest) x b.2) (λ lt. ap (λ t. t ∷ rest) (plain_takes token b.0 b.1 lt))
 
 -- a number that is kept as an id is that id
@@ -80,29 +80,29 @@ sort_at_takes tokens x e =
     subst (λ (p : ℕ × Tokens). IsId p.0 → tokens ≡ decimal p.0 ∷ p.1) {x = (kept_id y.0.0, y.0.1)} (ok_is (kept_id y.0.0, y.0.1) x y.2) (sort_is tokens y.0.0 y.0.1 y.1)
 
 -- a number that is kept as a small bit is that bit
-kept-bit : (n : ℕ) → kept_bit n ≤ 64 → kept_bit n ≡ n
-unfolding kept_bit
+kept-bit : (n : ℕ) → kept_slice_bit n ≤ 64 → kept_slice_bit n ≡ n
+unfolding kept_slice_bit
 kept-bit n le = omega arith
 
-small-bit : (n : ℕ) → n ≤ 64 → kept_bit n ≡ n
-unfolding kept_bit
+small-bit : (n : ℕ) → n ≤ 64 → kept_slice_bit n ≡ n
+unfolding kept_slice_bit
 small-bit n le = omega arith
 
-bit_is : (tokens : Tokens) (n : ℕ) (rest : Tokens) → plain_at tokens ≡ Ok (n, rest) → kept_bit n ≤ 64 → tokens ≡ decimal (kept_bit n) ∷ rest
-bit_is tokens n rest e le = plain_at_takes tokens (kept_bit n, rest) (e ∙ ap (λ (m : ℕ). Ok (m, rest)) (sym (kept-bit n le))) (omega (arith, le))
+bit_is : (tokens : Tokens) (n : ℕ) (rest : Tokens) → plain_at tokens ≡ Ok (n, rest) → kept_slice_bit n ≤ 64 → tokens ≡ decimal (kept_slice_bit n) ∷ rest
+bit_is tokens n rest e le = plain_at_takes tokens (kept_slice_bit n, rest) (e ∙ ap (λ (m : ℕ). Ok (m, rest)) (sym (kept-bit n le))) (omega (arith, le))
 
 pub bit_at_takes : (tokens : Tokens) (x : ℕ × Tokens) → bit_at tokens ≡ Ok x → x.0 ≤ 64 → tokens ≡ decimal x.0 ∷ x.1
 unfolding bit_at
 bit_at_takes tokens x e =
-    let y = bind_ok (plain_at tokens) (λ y. Ok (kept_bit y.0, y.1)) x e in
-    subst (λ (p : ℕ × Tokens). p.0 ≤ 64 → tokens ≡ decimal p.0 ∷ p.1) {x = (kept_bit y.0.0, y.0.1)} (ok_is (kept_bit y.0.0, y.0.1) x y.2) (bit_is tokens y.0.0 y.0.1 y.1)
+    let y = bind_ok (plain_at tokens) (λ y. Ok (kept_slice_bit y.0, y.1)) x e in
+    subst (λ (p : ℕ × Tokens). p.0 ≤ 64 → tokens ≡ decimal p.0 ∷ p.1) {x = (kept_slice_bit y.0.0, y.0.1)} (ok_is (kept_slice_bit y.0.0, y.0.1) x y.2) (bit_is tokens y.0.0 y.0.1 y.1)
 
 abbrev number : ℕ → Tokens → Result (ℕ × Tokens) Why
 number n rest = Ok (n, rest)
 
 -- an operand is read as a sort, where it is a number
 operand_is_sort : (tokens : Tokens) (x : ℕ × Tokens) → operand_at tokens ≡ Ok x → sort_at tokens ≡ Ok x
-unfolding operand_at sort_at plain_at operand plain
+unfolding operand_at sort_at plain_at operand plain_number
 operand_is_sort [] x e = absurd cc
 operand_is_sort (token ∷ rest) x e = by (is_negative token) (number_of token) e
   where
@@ -116,7 +116,7 @@ operand_at_takes tokens x e = sort_at_takes tokens x (operand_is_sort tokens x e
 
 -- a plain number is read in an operand's place
 pub plain_is_operand : (tokens : Tokens) (x : ℕ × Tokens) → plain_at tokens ≡ Ok x → operand_at tokens ≡ Ok (kept_id x.0, x.1)
-unfolding operand_at plain_at operand plain
+unfolding operand_at plain_at operand plain_number
 plain_is_operand [] x e = absurd cc
 plain_is_operand (token ∷ rest) x e = by (is_negative token) (number_of token) e
   where
@@ -140,8 +140,8 @@ pub operand_at-decimal : (n : ℕ) (rest : Tokens) → IsId n → operand_at (de
 operand_at-decimal n rest h =
     plain_is_operand (decimal n ∷ rest) (n, rest) (plain_at-decimal n rest (omega (arith, h.1))) ∙ ap (λ (m : ℕ). Ok (m, rest)) (kept-id n h)
 
-pub width_at_takes : (tokens : Tokens) (x : ℕ × Tokens) → width_at tokens ≡ Ok x → x.0 < most → tokens ≡ codes "bitvec" ∷ decimal x.0 ∷ x.1
-unfolding width_at
+pub width_at_takes : (tokens : Tokens) (x : ℕ × Tokens) → width_told tokens ≡ Ok x → x.0 < most → tokens ≡ codes "bitvec" ∷ decimal x.0 ∷ x.1
+unfolding width_told
 width_at_takes [] x e lt = absurd cc
 width_at_takes (token ∷ rest) x e lt =
     elim (chosen (bytes_eq token (codes "bitvec")) (plain_at rest) (cond (bytes_eq token (codes "array")) (Err why.ArraySort) (Err why.BadToken)) (Ok x) e) [
@@ -153,8 +153,8 @@ width_at_takes (token ∷ rest) x e lt =
           ]
     ]
 
-pub width_at-again : (n : ℕ) (rest : Tokens) → n < 2 ^ 64 → width_at (codes "bitvec" ∷ decimal n ∷ rest) ≡ Ok (n, rest)
-unfolding width_at
+pub width_at-again : (n : ℕ) (rest : Tokens) → n < 2 ^ 64 → width_told (codes "bitvec" ∷ decimal n ∷ rest) ≡ Ok (n, rest)
+unfolding width_told
 width_at-again n rest lt = plain_at-decimal n rest lt
 
 pair_joined : (tokens : Tokens) (s a : ℕ × Tokens) → sort_at tokens ≡ Ok s → operand_at s.1 ≡ Ok a → IsId s.0 → IsId a.0 → tokens ≡ decimal s.0 ∷ decimal a.0 ∷ a.1

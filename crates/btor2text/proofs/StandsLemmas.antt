@@ -11,8 +11,8 @@ use Rattle.btor2.proofs.ModelLemmas.{IsWellFormed-push}
 use Rattle.btor2text.specs.declared.fault.Why.{Why}
 use Rattle.btor2text.specs.declared.fault.ReadFault.{ReadFault}
 use Rattle.btor2text.specs.Tokens.{tokens}
-use Rattle.btor2text.specs.Spelling.{Spells, SpellsAll, StandsFor}
-use Rattle.btor2text.specs.Reading.{Tokens, item_at, accepted, then_lines, line_on, lines_on, text_on}
+use Rattle.btor2text.specs.Spelling.{SpellsItem, SpellsAll, StandsFor}
+use Rattle.btor2text.specs.Reading.{Tokens, item_at, item_accepted, then_lines, line_on, lines_on, text_on}
 use Rattle.btor2text.proofs.BoundLemmas.{accepted_fits}
 use Rattle.btor2text.proofs.PlaceLemmas.{bind_ok}
 use Rattle.btor2text.proofs.ItemLemmas.{item_takes, item_again}
@@ -21,9 +21,9 @@ use Rattle.btor2text.proofs.ItemLemmas.{item_takes, item_again}
 
 -- what a line that was read adds
 abbrev pub AddsLine : List Item → Tokens → List Item → Type 0
-AddsLine before line items = ((line ≡ []) × (items ≡ before)) ⊎ ((x : Item) × ((Spells line x × (refusal before x ≡ None)) × (items ≡ before ++ x ∷ [])))
+AddsLine before line items = ((line ≡ []) × (items ≡ before)) ⊎ ((x : Item) × ((SpellsItem line x × (refusal before x ≡ None)) × (items ≡ before ++ x ∷ [])))
 
-accepted_is : (before : List Item) (x : Item) (r : Option PushFault) (items : List Item) → accepted before x r ≡ Ok items → (r ≡ None) × (items ≡ before ++ x ∷ [])
+accepted_is : (before : List Item) (x : Item) (r : Option PushFault) (items : List Item) → item_accepted before x r ≡ Ok items → (r ≡ None) × (items ≡ before ++ x ∷ [])
 accepted_is before x None items e = (refl, cc)
 accepted_is before x (Some f) items e = absurd cc
 
@@ -31,11 +31,11 @@ pub line_takes : (before : List Item) (line : Tokens) (items : List Item) → Is
 unfolding line_on
 line_takes before [] items formed e = inl (refl, cc)
 line_takes before (first ∷ rest) items formed e =
-    let x = bind_ok (item_at (first ∷ rest)) (λ x. accepted before x (refusal before x)) items e in
+    let x = bind_ok (item_at (first ∷ rest)) (λ x. item_accepted before x (refusal before x)) items e in
     let is = accepted_is before x.0 (refusal before x.0) items x.2 in
     inr (x.0, ((item_takes (first ∷ rest) x.0 x.1 (accepted_fits before x.0 formed is.0), is.0), is.1))
 
-line_again : (before : List Item) (first : List ℕ) (rest : Tokens) (x : Item) → IsWellFormed before → Spells (first ∷ rest) x → refusal before x ≡ None → line_on before (first ∷ rest) ≡ Ok (before ++ x ∷ [])
+line_again : (before : List Item) (first : List ℕ) (rest : Tokens) (x : Item) → IsWellFormed before → SpellsItem (first ∷ rest) x → refusal before x ≡ None → line_on before (first ∷ rest) ≡ Ok (before ++ x ∷ [])
 unfolding line_on
 line_again before first rest x formed spelled none =
     rw (item_again (first ∷ rest) x spelled (accepted_fits before x formed none), none) refl
@@ -45,7 +45,7 @@ line_again before first rest x formed spelled none =
 no_tokens : (t : List ℕ) (ts : Tokens) → [] ≡ t ∷ ts → ⊥
 no_tokens t ts e = cc
 
-pub spells_line : (line : Tokens) (lines : List Tokens) (x : Item) (xs : List Item) → Spells line x → SpellsAll lines xs → SpellsAll (line ∷ lines) (x ∷ xs)
+pub spells_line : (line : Tokens) (lines : List Tokens) (x : Item) (xs : List Item) → SpellsItem line x → SpellsAll lines xs → SpellsAll (line ∷ lines) (x ∷ xs)
 spells_line [] lines x xs one others = absurd (no_tokens _ _ one.tokens)
 spells_line (token ∷ line) lines x xs one others = (one, others)
 

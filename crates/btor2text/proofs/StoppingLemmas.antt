@@ -10,7 +10,7 @@ use Rattle.btor2text.specs.declared.fault.Why.{Why}
 use Rattle.btor2text.specs.declared.fault.Why.TheVariants as why
 use Rattle.btor2text.specs.declared.fault.ReadFault.{ReadFault}
 use Rattle.btor2text.specs.Tokens.{tokens}
-use Rattle.btor2text.specs.Reading.{fault_at, line_on, lines_on, ReadsLine}
+use Rattle.btor2text.specs.Reading.{line_fault, line_on, lines_on, ReadsLine}
 use Rattle.btor2text.specs.Stopping.{Stops, IsOfLine, TextFails, Ends, ReadsLines}
 use Rattle.btor2text.proofs.TextLemmas.{goes_on, ends_at, is_done, is_unfinished}
 use Rattle.btor2text.proofs.WhyLemmas.{not_device, line_on_told, Told}
@@ -46,7 +46,7 @@ follows_line (Some text) (Some x) (Some y) items now next n m line f took whole 
 -- a line has a fault
 line_fails : (known a b : Option (List ℕ)) (items now : List Item) (n m : ℕ) (line : List ℕ) (w : Why)
     → Follows known items a n now → Consumes a b (line ++ 10 ∷ []) → IsLine line → m ≡ line_after n → line_on now (tokens line) ≡ Err w
-    → IfSome known (λ text. lines_on 0 items (whole_lines text) (unfinished text) ≡ Err (fault_at m w))
+    → IfSome known (λ text. lines_on 0 items (whole_lines text) (unfinished text) ≡ Err (line_fault m w))
 line_fails None a b items now n m line w f took whole number read = tt
 line_fails (Some text) None b items now n m line w f took whole number read = absurd f
 line_fails (Some text) (Some x) None items now n m line w f took whole number read = absurd took

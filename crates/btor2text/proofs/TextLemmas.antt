@@ -7,7 +7,7 @@ use Rattle.btor2text.specs.declared.fault.Why.{Why}
 use Rattle.btor2text.specs.declared.fault.Why.TheVariants as why
 use Rattle.btor2text.specs.declared.fault.ReadFault.{ReadFault}
 use Rattle.btor2text.specs.Tokens.{tokens}
-use Rattle.btor2text.specs.Reading.{fault_at, then_lines, line_on, lines_on}
+use Rattle.btor2text.specs.Reading.{line_fault, then_lines, line_on, lines_on}
 
 -- one line more
 pub lines_on-line : (n : ℕ) (before : List Item) (text line rest : List ℕ) → text ≡ line ++ 10 ∷ rest → IsLine line
@@ -27,10 +27,10 @@ module _ (n m : ℕ) (before : List Item) (text line rest : List ℕ) (total : R
       let one : lines_on n before (whole_lines text) (unfinished text) ≡ lines_on (line_after n) items (whole_lines rest) (unfinished rest) = step ∙ rw read refl in
       rw number (sym one ∙ so_far)
 
-  pub ends_at : (e : Why) → line_on before (tokens line) ≡ Err e → total ≡ Err (fault_at m e)
+  pub ends_at : (e : Why) → line_on before (tokens line) ≡ Err e → total ≡ Err (line_fault m e)
   ends_at e read =
       let step = lines_on-line n before text line rest is whole in
-      let one : lines_on n before (whole_lines text) (unfinished text) ≡ Err (fault_at (line_after n) e) = step ∙ rw read refl in
+      let one : lines_on n before (whole_lines text) (unfinished text) ≡ Err (line_fault (line_after n) e) = step ∙ rw read refl in
       rw number (sym so_far ∙ one)
 
 -- the end of the text
@@ -38,7 +38,7 @@ pub is_done : (n : ℕ) (before : List Item) (text : List ℕ) → text ≡ [] �
 unfolding lines_on
 is_done n before text none = rw none refl
 
-pub is_unfinished : (n : ℕ) (before : List Item) (text : List ℕ) → IsLine text → text ≢ [] → lines_on n before (whole_lines text) (unfinished text) ≡ Err (fault_at (line_after n) why.Unfinished)
+pub is_unfinished : (n : ℕ) (before : List Item) (text : List ℕ) → IsLine text → text ≢ [] → lines_on n before (whole_lines text) (unfinished text) ≡ Err (line_fault (line_after n) why.Unfinished)
 unfolding lines_on
 is_unfinished n before [] h some = absurd (some refl)
 is_unfinished n before (b ∷ bs) h some = lines_on-last n before (b ∷ bs) h

@@ -18,7 +18,7 @@ use Rattle.btor2text.specs.declared.forms.Constant.TheVariants as constant
 use Rattle.btor2text.specs.Tokens.{tokens}
 use Rattle.btor2text.specs.Words.{form_named, no_form, known_form, form_of}
 use Rattle.btor2text.specs.Digits.{number_in, signed_number}
-use Rattle.btor2text.specs.Reading.{◌>>=◌, Tokens, is_negative, some_of, operand_of, plain, operand, plain_at, kept_id, kept_bit, sort_at, bit_at, operand_at, width_at, pair_at, triple_at, digits_at, signed_at, operands_at, counted_at, constant_at, extension_body, form_at, body_at, symbol_end, symbol_at, item_at, refused, accepted, line_on}
+use Rattle.btor2text.specs.Reading.{◌>>=◌, Tokens, is_negative, some_of, operand_of, plain_number, operand, plain_at, kept_id, kept_slice_bit, sort_at, bit_at, operand_at, width_told, pair_at, triple_at, digits_at, signed_at, operands_at, counted_at, constant_told, extension_body, form_at, body_at, symbol_end, symbol_at, item_at, refused_why, item_accepted, line_on}
 
 -- a why of a text
 abbrev pub IsOfText : Why → Type 0
@@ -52,8 +52,8 @@ operand_of_told negative (Some n) = tt
 operand_of_told true None = tt
 operand_of_told false None = tt
 
-plain_told : (token : List ℕ) → Told (plain token)
-unfolding plain
+plain_told : (token : List ℕ) → Told (plain_number token)
+unfolding plain_number
 plain_told token = some_told (number_of token)
 
 operand_told : (token : List ℕ) → Told (operand token)
@@ -63,7 +63,7 @@ operand_told token = operand_of_told (is_negative token) (number_of token)
 plain_at_told : (tokens : Tokens) → Told (plain_at tokens)
 unfolding plain_at
 plain_at_told [] = tt
-plain_at_told (token ∷ rest) = told_bind (plain token) (λ n. Ok (n, rest)) (plain_told token) (λ _. tt)
+plain_at_told (token ∷ rest) = told_bind (plain_number token) (λ n. Ok (n, rest)) (plain_told token) (λ _. tt)
 
 sort_at_told : (tokens : Tokens) → Told (sort_at tokens)
 unfolding sort_at
@@ -71,15 +71,15 @@ sort_at_told tokens = told_bind (plain_at tokens) (λ x. Ok (kept_id x.0, x.1)) 
 
 bit_at_told : (tokens : Tokens) → Told (bit_at tokens)
 unfolding bit_at
-bit_at_told tokens = told_bind (plain_at tokens) (λ x. Ok (kept_bit x.0, x.1)) (plain_at_told tokens) (λ _. tt)
+bit_at_told tokens = told_bind (plain_at tokens) (λ x. Ok (kept_slice_bit x.0, x.1)) (plain_at_told tokens) (λ _. tt)
 
 operand_at_told : (tokens : Tokens) → Told (operand_at tokens)
 unfolding operand_at
 operand_at_told [] = tt
 operand_at_told (token ∷ rest) = told_bind (operand token) (λ n. Ok (kept_id n, rest)) (operand_told token) (λ _. tt)
 
-width_at_told : (tokens : Tokens) → Told (width_at tokens)
-unfolding width_at
+width_at_told : (tokens : Tokens) → Told (width_told tokens)
+unfolding width_told
 width_at_told [] = tt
 width_at_told (token ∷ rest) = told_if (bytes_eq token (codes "bitvec")) (plain_at rest) (cond (bytes_eq token (codes "array")) (Err why.ArraySort) (Err why.BadToken)) (plain_at_told rest) (told_if (bytes_eq token (codes "array")) (Err why.ArraySort) (Err why.BadToken) tt tt)
 
@@ -135,8 +135,8 @@ counted_at_told tokens =
     told_bind (operands_at k.0 k.1) (λ a. cond (k.0 == 2 ^ 64 - 1) (Err why.BadToken) (Ok a)) (operands_at_told k.0 k.1) (λ a.
     told_if (k.0 == 2 ^ 64 - 1) (Err why.BadToken) (Ok a) tt tt))
 
-constant_at_told : (c : Constant) (tokens : Tokens) → Told (constant_at c tokens)
-unfolding constant_at
+constant_at_told : (c : Constant) (tokens : Tokens) → Told (constant_told c tokens)
+unfolding constant_told
 constant_at_told constant.Const tokens =
     told_bind (sort_at tokens) _ (sort_at_told tokens) (λ s. told_bind (digits_at 2 64 s.1) (λ x. Ok (body.Const s.0 x.0 x.1, x.2)) (digits_at_told 2 64 s.1) (λ _. tt))
 constant_at_told constant.Constd tokens =
@@ -146,7 +146,7 @@ constant_at_told constant.Consth tokens =
 
 body_at_told : (f : Form) (tokens : Tokens) → Told (body_at f tokens)
 unfolding body_at
-body_at_told form.Sort tokens = told_bind (width_at tokens) _ (width_at_told tokens) (λ _. tt)
+body_at_told form.Sort tokens = told_bind (width_told tokens) _ (width_at_told tokens) (λ _. tt)
 body_at_told (form.Leaf l) tokens = told_bind (sort_at tokens) _ (sort_at_told tokens) (λ _. tt)
 body_at_told (form.Constant c) tokens = constant_at_told c tokens
 body_at_told (form.Extension e) tokens =
@@ -181,11 +181,11 @@ item_at_told tokens =
     told_bind (body_at f.0 f.1) _ (body_at_told f.0 f.1) (λ b.
     told_bind (symbol_at b.1) _ (symbol_at_told b.1) (λ _. tt))))
 
-refused_told : (f : PushFault) → IsOfText (refused f)
+refused_told : (f : PushFault) → IsOfText (refused_why f)
 refused_told push.ConstantDoesNotFit = tt
 refused_told _ = tt
 
-accepted_told : (before : List Item) (x : Item) (r : Option PushFault) → Told (accepted before x r)
+accepted_told : (before : List Item) (x : Item) (r : Option PushFault) → Told (item_accepted before x r)
 accepted_told before x None = tt
 accepted_told before x (Some f) = refused_told f
 

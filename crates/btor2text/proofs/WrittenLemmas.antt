@@ -30,7 +30,7 @@ use Rattle.btor2.proofs.ModelLemmas.{IsWellFormed-push}
 use Rattle.btor2text.specs.Tokens.{is_blank, tokens, begins_token}
 use Rattle.btor2text.specs.Words.{unary_name, binary_name}
 use Rattle.btor2text.specs.Digits.{are_digits_of, IsNumber, last_digits}
-use Rattle.btor2text.specs.Spelling.{form_tokens, symbol_tokens, Says, Spells, SpellsAll, StandsFor}
+use Rattle.btor2text.specs.Spelling.{form_tokens, symbol_tokens, SaysBody, SpellsItem, SpellsAll, StandsFor}
 use Rattle.btor2text.specs.Writing.{behind_spaces, written}
 use Rattle.btor2text.proofs.BoundLemmas.{IsId, SignedFits, BodyFits, Fits, accepted_fits}
 use Rattle.btor2text.proofs.StandsLemmas.{spells_line}
@@ -230,7 +230,7 @@ form_words (body.Fair a) fits few = (keyword (codes "fair") refl refl, (id_word 
 form_words (body.Output a) fits few = (keyword (codes "output") refl refl, (id_word a fits, tt))
 form_words (body.Justice nodes) fits few = (keyword (codes "justice") refl refl, (decimal_word (length nodes) (omega (arith, few)), id_words nodes fits))
 
-says_written : (b : Body) → BodyFits b → HasFewOperands b → Says b (form_tokens b)
+says_written : (b : Body) → BodyFits b → HasFewOperands b → SaysBody b (form_tokens b)
 says_written (body.Const s d v) fits few = (last_digits 2 d v, refl, last_number 2 d v (omega arith) (omega arith) fits.3)
 says_written (body.Consth s d v) fits few = (last_digits 16 d v, refl, last_number 16 d v (omega arith) (omega arith) fits.3)
 says_written (body.Justice nodes) fits few = (refl, few)
@@ -253,7 +253,7 @@ line_text x = decimal x.id ++ behind_spaces (form_tokens x.body ++ symbol_tokens
 line_words : (x : Item) → Fits x → HasSoundParts x → AreWords (form_tokens x.body ++ symbol_tokens x.symbol)
 line_words x fits writable = are_words-append (form_tokens x.body) (symbol_tokens x.symbol) (form_words x.body fits.body writable.operands) (symbol_words x.symbol writable.symbol)
 
-line_spells : (x : Item) → Fits x → HasSoundParts x → Spells (tokens (line_text x)) x
+line_spells : (x : Item) → Fits x → HasSoundParts x → SpellsItem (tokens (line_text x)) x
 line_spells x fits writable = record {
   form = form_tokens x.body;
   tokens = tokens_behind (decimal x.id) (form_tokens x.body ++ symbol_tokens x.symbol) (id_word x.id fits.id) (line_words x fits writable);

@@ -43,9 +43,9 @@ abbrev pub ◌>>=◌ : {A B : Type 0} → Result A Why → (A → Result B Why) 
 (Err e) >>= f = Err e
 
 -- what a function returned, seen by view, is what reading gives
-abbrev pub Gives : {X Y : Type 0} → (X → Y) → Result X Why → Result Y Why → Type 0
-Gives view (Ok x) read = read ≡ Ok (view x)
-Gives view (Err e) read = read ≡ Err e
+abbrev pub IsAsLineRead : {X Y : Type 0} → (X → Y) → Result X Why → Result Y Why → Type 0
+IsAsLineRead view (Ok x) read = read ≡ Ok (view x)
+IsAsLineRead view (Err e) read = read ≡ Err e
 
 -- the same, unless memory ran out
 abbrev pub GivesUnlessFull : {X Y : Type 0} → (X → Y) → Result X Why → Result Y Why → Type 0
@@ -64,8 +64,8 @@ some_of (Some x) = Ok x
 some_of None = Err why.BadToken
 
 -- the number of a token in a plain place: the line's own id, a sort or a width
-unfoldable pub plain : List ℕ → Result ℕ Why
-plain token = some_of (number_of token)
+unfoldable pub plain_number : List ℕ → Result ℕ Why
+plain_number token = some_of (number_of token)
 
 -- the number of an operand's place, or its why where there is none: `-` and a decimal has a why of its own
 abbrev pub operand_of : Bool → Option ℕ → Result ℕ Why
@@ -80,7 +80,7 @@ operand token = operand_of (is_negative token) (number_of token)
 unfoldable pub plain_at : Tokens → Result (ℕ × Tokens) Why
 plain_at [] = Err why.BadToken
 plain_at (token ∷ rest) = do
-  n ← plain token
+  n ← plain_number token
   Ok (n, rest)
 
 -- The id that an item keeps of a number: ids have 32 bits, and a number above the greatest id is kept as 0. No item
@@ -90,8 +90,8 @@ kept_id n = if nat_le n 4294967295 then n else 0
 
 -- The bit that a slice keeps of a number: bits have 32 bits too, and a number above the greatest of these is kept as that one. No node has a
 -- bit above 63, so a push refuses it as it would the number itself.
-unfoldable pub kept_bit : ℕ → ℕ
-kept_bit n = min n 4294967295
+unfoldable pub kept_slice_bit : ℕ → ℕ
+kept_slice_bit n = min n 4294967295
 
 -- the id of a sort, and the tokens behind it
 unfoldable pub sort_at : Tokens → Result (ℕ × Tokens) Why
@@ -110,12 +110,12 @@ operand_at (token ∷ rest) = do
 unfoldable pub bit_at : Tokens → Result (ℕ × Tokens) Why
 bit_at tokens = do
   x ← plain_at tokens
-  Ok (kept_bit x.0, x.1)
+  Ok (kept_slice_bit x.0, x.1)
 
 -- the width that the tokens behind `sort` say, and the tokens behind it
-unfoldable pub width_at : Tokens → Result (ℕ × Tokens) Why
-width_at [] = Err why.BadToken
-width_at (token ∷ rest) = if bytes_eq token (codes "bitvec") then plain_at rest else (if bytes_eq token (codes "array") then Err why.ArraySort else Err why.BadToken)
+unfoldable pub width_told : Tokens → Result (ℕ × Tokens) Why
+width_told [] = Err why.BadToken
+width_told (token ∷ rest) = if bytes_eq token (codes "bitvec") then plain_at rest else (if bytes_eq token (codes "array") then Err why.ArraySort else Err why.BadToken)
 
 -- a sort and an operand, and the tokens behind them
 unfoldable pub pair_at : Tokens → Result (ℕ × ℕ × Tokens) Why
@@ -191,16 +191,16 @@ property_body property.Fair a = body.Fair a
 property_body property.Output a = body.Output a
 
 -- what the tokens behind a constant's word say, and the tokens behind them
-unfoldable pub constant_at : Constant → Tokens → Result (Body × Tokens) Why
-constant_at constant.Const tokens = do
+unfoldable pub constant_told : Constant → Tokens → Result (Body × Tokens) Why
+constant_told constant.Const tokens = do
   s ← sort_at tokens
   x ← digits_at 2 64 s.1
   Ok (body.Const s.0 x.0 x.1, x.2)
-constant_at constant.Constd tokens = do
+constant_told constant.Constd tokens = do
   s ← sort_at tokens
   x ← signed_at s.1
   Ok (body.Constd s.0 x.0, x.1)
-constant_at constant.Consth tokens = do
+constant_told constant.Consth tokens = do
   s ← sort_at tokens
   x ← digits_at 16 16 s.1
   Ok (body.Consth s.0 x.0 x.1, x.2)
@@ -214,12 +214,12 @@ justice_at tokens = do
 -- what the tokens behind a form's word say, and the tokens behind them
 unfoldable pub body_at : Form → Tokens → Result (Body × Tokens) Why
 body_at form.Sort tokens = do
-  x ← width_at tokens
+  x ← width_told tokens
   Ok (body.Sort x.0, x.1)
 body_at (form.Leaf l) tokens = do
   x ← sort_at tokens
   Ok (leaf_body l x.0, x.1)
-body_at (form.Constant c) tokens = constant_at c tokens
+body_at (form.Constant c) tokens = constant_told c tokens
 body_at (form.Extension e) tokens = do
   x ← pair_at tokens
   w ← plain_at x.2
@@ -272,37 +272,37 @@ item_at tokens = do
   Ok (record { id = id.0; symbol = symbol; body = b.0 })
 
 -- the why of a refusal; a constant that does not fit has one of its own
-abbrev pub refused : PushFault → Why
-refused push.ConstantDoesNotFit = why.ConstantDoesNotFit
-refused f = why.Refused f
+abbrev pub refused_why : PushFault → Why
+refused_why push.ConstantDoesNotFit = why.ConstantDoesNotFit
+refused_why f = why.Refused f
 
 -- the items with one more, where it is not refused
-abbrev pub accepted : List Item → Item → Option PushFault → Result (List Item) Why
-accepted before x None = Ok (before ++ x ∷ [])
-accepted before x (Some f) = Err (refused f)
+abbrev pub item_accepted : List Item → Item → Option PushFault → Result (List Item) Why
+item_accepted before x None = Ok (before ++ x ∷ [])
+item_accepted before x (Some f) = Err (refused_why f)
 
 -- the items after one more line
 unfoldable pub line_on : List Item → Tokens → Result (List Item) Why
 line_on before [] = Ok before
 line_on before (first ∷ rest) = do
   x ← item_at (first ∷ rest)
-  accepted before x (refusal before x)
+  item_accepted before x (refusal before x)
 
 -- ---- texts
 
 -- a why at a line
-abbrev pub fault_at : ℕ → Why → ReadFault
-fault_at n e = record { line = n; why = e }
+abbrev pub line_fault : ℕ → Why → ReadFault
+line_fault n e = record { line = n; why = e }
 
 -- what a line gave, and then the lines behind it; its fault is told with its number
 abbrev pub then_lines : ℕ → Result (List Item) Why → (List Item → Result (List Item) ReadFault) → Result (List Item) ReadFault
 then_lines n (Ok items) others = others items
-then_lines n (Err e) others = Err (fault_at n e)
+then_lines n (Err e) others = Err (line_fault n e)
 
 -- what line n + 1 and those after it give behind some items; the last has no byte 10
 unfoldable pub lines_on : ℕ → List Item → List (List ℕ) → List ℕ → Result (List Item) ReadFault
 lines_on n before [] [] = Ok before
-lines_on n before [] (b ∷ bs) = Err (fault_at (line_after n) why.Unfinished)
+lines_on n before [] (b ∷ bs) = Err (line_fault (line_after n) why.Unfinished)
 lines_on n before (line ∷ lines) last = then_lines (line_after n) (line_on before (tokens line)) (λ items. lines_on (line_after n) items lines last)
 
 -- the items that a text spells, or its fault

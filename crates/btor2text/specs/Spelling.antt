@@ -40,11 +40,11 @@ form_tokens (body.Justice nodes) = codes "justice" ∷ decimal (length nodes) �
 -- Tokens behind an id say a body: they are the form's. The digits of a binary or a hexadecimal constant are as many as
 -- it keeps and write its number; hexadecimal ones are of either case. A justice line has less than 2 ^ 64 - 1 operands,
 -- since 2 ^ 64 - 1 is read for all greater numbers too.
-abbrev pub Says : Body → List (List ℕ) → Type 0
-Says (body.Const s d v) form = (digits : List ℕ) × (form ≡ codes "const" ∷ decimal s ∷ digits ∷ []) × IsNumber 2 d v digits
-Says (body.Consth s d v) form = (digits : List ℕ) × (form ≡ codes "consth" ∷ decimal s ∷ digits ∷ []) × IsNumber 16 d v digits
-Says (body.Justice nodes) form = (form ≡ form_tokens (body.Justice nodes)) × (length nodes < 2 ^ 64 - 1)
-Says b form = form ≡ form_tokens b
+abbrev pub SaysBody : Body → List (List ℕ) → Type 0
+SaysBody (body.Const s d v) form = (digits : List ℕ) × (form ≡ codes "const" ∷ decimal s ∷ digits ∷ []) × IsNumber 2 d v digits
+SaysBody (body.Consth s d v) form = (digits : List ℕ) × (form ≡ codes "consth" ∷ decimal s ∷ digits ∷ []) × IsNumber 16 d v digits
+SaysBody (body.Justice nodes) form = (form ≡ form_tokens (body.Justice nodes)) × (length nodes < 2 ^ 64 - 1)
+SaysBody b form = form ≡ form_tokens b
 
 -- the tokens of a symbol: itself, or none
 abbrev pub symbol_tokens : Option (List ℕ) → List (List ℕ)
@@ -52,10 +52,10 @@ symbol_tokens None = []
 symbol_tokens (Some symbol) = symbol ∷ []
 
 -- the tokens of a line spell an item: its id, its form, and its symbol, which is a symbol's bytes
-pub record Spells (line : List (List ℕ)) (x : Item) : Type 0 where
+pub record SpellsItem (line : List (List ℕ)) (x : Item) : Type 0 where
   pub form : List (List ℕ)
   pub tokens : line ≡ decimal x.id ∷ form ++ symbol_tokens x.symbol
-  pub says : Says x.body form
+  pub says : SaysBody x.body form
   pub symbol : IfSome x.symbol (λ bytes. is_symbol bytes ≡ true)
 
 -- lines stand for items in order; a line without tokens stands for nothing
@@ -64,7 +64,7 @@ SpellsAll [] [] = Unit {0}
 SpellsAll [] (x ∷ xs) = ⊥
 SpellsAll ([] ∷ lines) xs = SpellsAll lines xs
 SpellsAll ((token ∷ line) ∷ lines) [] = ⊥
-SpellsAll ((token ∷ line) ∷ lines) (x ∷ xs) = Spells (token ∷ line) x × SpellsAll lines xs
+SpellsAll ((token ∷ line) ∷ lines) (x ∷ xs) = SpellsItem (token ∷ line) x × SpellsAll lines xs
 
 -- a text stands for a model: every line ends with byte 10, the lines with a token stand for the items in order, and these are well formed
 pub record StandsFor (text : List ℕ) (items : List Item) : Type 0 where

@@ -3,7 +3,7 @@
 ghost use Rattle.std.specs.Prelude.{◌≡◌, ◌≤◌, ◌^◌, IfSome};
 ghost use Rattle.btor2text.specs.Digits.{number_in, decimal_number, signed_number};
 ghost use Rattle.btor2text.specs.Tokens.{tokens};
-ghost use Rattle.btor2text.specs.Reading.{Gives, digits_at, signed_at, constant_at};
+ghost use Rattle.btor2text.specs.Reading.{IsAsLineRead, digits_at, signed_at, constant_told};
 
 use crate::fault::Why;
 use crate::forms::Constant;
@@ -68,7 +68,7 @@ fn digits_at(radix: u32, most: u32, line: &[u8]) -> Result<(u32, u64, &[u8]), Wh
     requires greatest { radix ≤ 16 }
     requires word { radix ^ most ≡ 2 ^ 64 }
     requires most { most ≤ 64 }
-    ensures { Gives (λ x. (x.0, x.1, tokens x.2.now)) result (digits_at radix most (tokens line.now)) }
+    ensures { IsAsLineRead (λ x. (x.0, x.1, tokens x.2.now)) result (digits_at radix most (tokens line.now)) }
 {
     let (token, rest) = next_token(line).ok_or(Why::BadToken)?;
     let number = number_in(radix, token).ok_or(Why::BadToken)?;
@@ -82,7 +82,7 @@ fn digits_at(radix: u32, most: u32, line: &[u8]) -> Result<(u32, u64, &[u8]), Wh
 /// A decimal that may be negative, and the line behind it.
 #[tactic(auto, unfolding(crate::specs::Reading::signed_at))]
 fn signed_at(line: &[u8]) -> Result<(i128, &[u8]), Why>
-    ensures { Gives (λ x. (x.0, tokens x.1.now)) result (signed_at (tokens line.now)) }
+    ensures { IsAsLineRead (λ x. (x.0, tokens x.1.now)) result (signed_at (tokens line.now)) }
 {
     let (token, rest) = next_token(line).ok_or(Why::BadToken)?;
     let number = signed_number(token).ok_or(Why::BadToken)?;
@@ -92,7 +92,7 @@ fn signed_at(line: &[u8]) -> Result<(i128, &[u8]), Why>
 /// What the tokens behind a constant's word say, and the line behind them.
 #[tactic(auto, unfolding(crate::specs::Reading::constant_at))]
 pub(crate) fn constant_at(constant: Constant, line: &[u8]) -> Result<(Body, &[u8]), Why>
-    ensures { Gives (λ x. (x.0, tokens x.1.now)) result (constant_at constant (tokens line.now)) }
+    ensures { IsAsLineRead (λ x. (x.0, tokens x.1.now)) result (constant_told constant (tokens line.now)) }
 {
     let (sort, rest) = sort_at(line)?;
     match constant {

@@ -1,6 +1,6 @@
 //! Why a text is no model.
 ghost use Rattle.std.specs.Prelude.{◌≡◌};
-ghost use Rattle.btor2text.specs.Whys.{number_of, printed_number, name_of};
+ghost use Rattle.btor2text.specs.Whys.{line_why_number, printed_number, line_why_name};
 
 use btor2::PushFault;
 use std::fmt;
@@ -36,7 +36,7 @@ pub enum Why {
 impl Why {
     /// The number of the fault; for a refusal of the model that has no number here it is 27.
     pub fn number(self) -> u32
-        ensures { result ≡ number_of self }
+        ensures { result ≡ line_why_number self }
     {
         match self {
             Why::BadToken => 20,
@@ -65,7 +65,7 @@ impl Why {
 
     /// The name that is printed: that of the push's refusal where the model refuses the item, else the fault's own.
     pub fn name(self) -> &'static str
-        ensures { result.now ≡ name_of self }
+        ensures { result.now ≡ line_why_name self }
     {
         match self {
             Why::Refused(fault) => fault.name(),

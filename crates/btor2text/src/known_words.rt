@@ -2,7 +2,7 @@
 ghost use Rattle.std.specs.Prelude.{◌≡◌, ◌<◌, ◌≤◌, length, true};
 ghost use Rattle.btor2text.specs.Tokens.{tokens};
 ghost use Rattle.btor2text.specs.Words.{form_name};
-ghost use Rattle.btor2text.specs.Reading.{Gives, form_at};
+ghost use Rattle.btor2text.specs.Reading.{IsAsLineRead, form_at};
 ghost use Rattle.btor2text.specs.KnownWords.{IsKnown, BeginsAs};
 
 use crate::fault::Why;
@@ -88,7 +88,7 @@ impl KnownWords {
     /// A form, and the line behind its word.
     #[inline(always)]
     pub(crate) fn form_at<'a>(&mut self, line: &'a [u8]) -> Result<(Form, &'a [u8]), Why>
-        ensures { Gives (λ x. (x.0, tokens x.1.now)) result (form_at (tokens line.now)) }
+        ensures { IsAsLineRead (λ x. (x.0, tokens x.1.now)) result (form_at (tokens line.now)) }
     {
         let mut at = 0;
         if let Some(bytes) = line.first_chunk::<8>() {
@@ -109,7 +109,7 @@ impl KnownWords {
     #[tactic(auto, unfolding(crate::specs::Reading::form_at))]
     fn learn<'a>(&mut self, place: usize, line: &'a [u8]) -> Result<(Form, &'a [u8]), Why>
         requires { place < 256 }
-        ensures { Gives (λ x. (x.0, tokens x.1.now)) result (form_at (tokens line.now)) }
+        ensures { IsAsLineRead (λ x. (x.0, tokens x.1.now)) result (form_at (tokens line.now)) }
     {
         let (word, rest) = next_token(line).ok_or(Why::BadToken)?;
         let form = form_of(word)?;

@@ -10,12 +10,12 @@ ghost use Rattle.btor2.specs.Parts.{HaveSoundParts};
 ghost use Rattle.btor2.specs.Worked.{line};
 ghost use Rattle.btor2text.specs.declared.fault.Why.TheVariants as why;
 ghost use Rattle.btor2text.specs.Tokens.{tokens};
-ghost use Rattle.btor2text.specs.Whys.{number_of};
+ghost use Rattle.btor2text.specs.Whys.{line_why_number};
 ghost use Rattle.btor2text.specs.Words.{unary_of, binary_of};
-ghost use Rattle.btor2text.specs.Spelling.{Spells, StandsFor};
+ghost use Rattle.btor2text.specs.Spelling.{SpellsItem, StandsFor};
 ghost use Rattle.btor2text.specs.Writing.{written};
 ghost use Rattle.btor2text.specs.FirstFault.{IsFaultOf};
-ghost use Rattle.btor2text.specs.Reading.{line_on, text_on, kept_bit};
+ghost use Rattle.btor2text.specs.Reading.{line_on, text_on, kept_slice_bit};
 
 /// What is written stands for the items that are written, and is read again as them, for all well-formed lists of items
 /// whose parts are as their types keep them: `btor2::Model::items` gives both of every model, and `write` says it of them.
@@ -34,8 +34,8 @@ pub fn one_model()
 /// where it is not, they are these numbers.
 #[tactic(auto, unfolding(crate::specs::Reading::kept_bit))]
 pub fn bits_are_kept()
-    ensures refused { (width upper lower : ℕ) → width ≤ 64 → is_no_slice width (kept_bit upper) (kept_bit lower) ≡ is_no_slice width upper lower }
-    ensures same { (width upper lower : ℕ) → width ≤ 64 → is_no_slice width upper lower ≡ false → (kept_bit upper ≡ upper) × (kept_bit lower ≡ lower) }
+    ensures refused { (width upper lower : ℕ) → width ≤ 64 → is_no_slice width (kept_slice_bit upper) (kept_slice_bit lower) ≡ is_no_slice width upper lower }
+    ensures same { (width upper lower : ℕ) → width ≤ 64 → is_no_slice width upper lower ≡ false → (kept_slice_bit upper ≡ upper) × (kept_slice_bit lower ≡ lower) }
 {}
 
 /// Worked rows: the tokens of lines.
@@ -49,12 +49,12 @@ pub fn worked_tokens()
 
 /// Worked rows: lines that spell items, and a text that stands for one: without its last byte 10 it stands for none.
 pub fn worked_items()
-    ensures negated { Spells (tokens (codes "5 not 1 3")) (line 5 (body.Unary unary.Not 1 3)) }
-    ensures named { Spells (tokens (codes "3 state 1 t ; named")) (record { id = 3; symbol = Some (codes "t"); body = body.State 1 }) }
-    ensures hexadecimal { Spells (tokens (codes "2 consth 1 00Ff")) (line 2 (body.Consth 1 4 255)) }
-    ensures negative { Spells (tokens (codes "2 constd 1 -8")) (line 2 (body.Constd 1 (negsuc 7))) }
-    ensures justice { Spells (tokens (codes "4 justice 2 2 3")) (line 4 (body.Justice (2 ∷ 3 ∷ []))) }
-    ensures leading_zero { ¬ Spells (tokens (codes "05 not 1 3")) (line 5 (body.Unary unary.Not 1 3)) }
+    ensures negated { SpellsItem (tokens (codes "5 not 1 3")) (line 5 (body.Unary unary.Not 1 3)) }
+    ensures named { SpellsItem (tokens (codes "3 state 1 t ; named")) (record { id = 3; symbol = Some (codes "t"); body = body.State 1 }) }
+    ensures hexadecimal { SpellsItem (tokens (codes "2 consth 1 00Ff")) (line 2 (body.Consth 1 4 255)) }
+    ensures negative { SpellsItem (tokens (codes "2 constd 1 -8")) (line 2 (body.Constd 1 (negsuc 7))) }
+    ensures justice { SpellsItem (tokens (codes "4 justice 2 2 3")) (line 4 (body.Justice (2 ∷ 3 ∷ []))) }
+    ensures leading_zero { ¬ SpellsItem (tokens (codes "05 not 1 3")) (line 5 (body.Unary unary.Not 1 3)) }
     ensures text { StandsFor (codes "1 sort bitvec 1\n") (line 1 (body.Sort 1) ∷ []) }
     ensures unended { ¬ StandsFor (codes "1 sort bitvec 1") (line 1 (body.Sort 1) ∷ []) }
     ensures empty { StandsFor [] [] }
@@ -98,7 +98,7 @@ pub fn worked_whys()
 pub fn worked_faults()
     ensures second_line { IsFaultOf (codes "1 sort bitvec 1\n3 not 1 -2\n") (record { line = 2; why = why.NegativeOperand }) }
     ensures unfinished { IsFaultOf (codes "1 sort bitvec 1") (record { line = 1; why = why.Unfinished }) }
-    ensures numbers { (number_of why.ArraySort ≡ 21) × (number_of why.NegativeOperand ≡ 24) × (number_of why.UnknownOperator ≡ 23) × (number_of why.ConstantDoesNotFit ≡ 25) }
+    ensures numbers { (line_why_number why.ArraySort ≡ 21) × (line_why_number why.NegativeOperand ≡ 24) × (line_why_number why.UnknownOperator ≡ 23) × (line_why_number why.ConstantDoesNotFit ≡ 25) }
 {}
 
 /// Worked rows: the writer's text of items.

@@ -2,7 +2,7 @@
 
 ghost use Rattle.std.specs.Prelude.{◌≡◌, Ok, IfSome};
 ghost use Rattle.btor2text.specs.Tokens.{tokens};
-ghost use Rattle.btor2text.specs.Reading.{Gives, GivesUnlessFull, is_negative, plain_at, kept_id, kept_bit, sort_at, bit_at, operand_at, width_at, pair_at, triple_at, operands_at, counted_at};
+ghost use Rattle.btor2text.specs.Reading.{IsAsLineRead, GivesUnlessFull, is_negative, plain_at, kept_id, kept_slice_bit, sort_at, bit_at, operand_at, width_told, pair_at, triple_at, operands_at, counted_at};
 
 use crate::fault::Why;
 use crate::operators::is_word;
@@ -60,7 +60,7 @@ fn number_at(line: &[u8]) -> Option<(u64, &[u8])>
 #[inline(never)]
 #[tactic(auto, unfolding(crate::specs::Reading::plain_at, crate::specs::Reading::plain))]
 fn plain_token_at(line: &[u8]) -> Result<(u64, &[u8]), Why>
-    ensures { Gives (λ x. (x.0, tokens x.1.now)) result (plain_at (tokens line.now)) }
+    ensures { IsAsLineRead (λ x. (x.0, tokens x.1.now)) result (plain_at (tokens line.now)) }
 {
     let (token, rest) = next_token(line).ok_or(Why::BadToken)?;
     let number = decimal(token).ok_or(Why::BadToken)?;
@@ -70,7 +70,7 @@ fn plain_token_at(line: &[u8]) -> Result<(u64, &[u8]), Why>
 /// A number in a plain place, and the line behind it.
 #[inline(always)]
 pub(crate) fn plain_at(line: &[u8]) -> Result<(u64, &[u8]), Why>
-    ensures { Gives (λ x. (x.0, tokens x.1.now)) result (plain_at (tokens line.now)) }
+    ensures { IsAsLineRead (λ x. (x.0, tokens x.1.now)) result (plain_at (tokens line.now)) }
 {
     match number_at(line) {
         Some((number, rest)) => Ok((number, rest)),
@@ -91,7 +91,7 @@ fn kept_id(number: u64) -> u32
 #[inline(always)]
 #[tactic(auto, unfolding(crate::specs::Reading::sort_at))]
 pub(crate) fn sort_at(line: &[u8]) -> Result<(u32, &[u8]), Why>
-    ensures { Gives (λ x. (x.0, tokens x.1.now)) result (sort_at (tokens line.now)) }
+    ensures { IsAsLineRead (λ x. (x.0, tokens x.1.now)) result (sort_at (tokens line.now)) }
 {
     let (number, rest) = plain_at(line)?;
     Ok((kept_id(number), rest))
@@ -102,7 +102,7 @@ pub(crate) fn sort_at(line: &[u8]) -> Result<(u32, &[u8]), Why>
 #[inline(always)]
 #[tactic(auto, unfolding(crate::specs::Reading::kept_bit))]
 fn kept_bit(number: u64) -> u32
-    ensures { result ≡ kept_bit number }
+    ensures { result ≡ kept_slice_bit number }
 {
     u32::try_from(number).unwrap_or(u32::MAX)
 }
@@ -111,7 +111,7 @@ fn kept_bit(number: u64) -> u32
 #[inline(always)]
 #[tactic(auto, unfolding(crate::specs::Reading::bit_at))]
 pub(crate) fn bit_at(line: &[u8]) -> Result<(u32, &[u8]), Why>
-    ensures { Gives (λ x. (x.0, tokens x.1.now)) result (bit_at (tokens line.now)) }
+    ensures { IsAsLineRead (λ x. (x.0, tokens x.1.now)) result (bit_at (tokens line.now)) }
 {
     let (number, rest) = plain_at(line)?;
     Ok((kept_bit(number), rest))
@@ -122,7 +122,7 @@ pub(crate) fn bit_at(line: &[u8]) -> Result<(u32, &[u8]), Why>
 #[inline(never)]
 #[tactic(auto, unfolding(crate::specs::Reading::operand_at, crate::specs::Reading::operand))]
 fn operand_token_at(line: &[u8]) -> Result<(u32, &[u8]), Why>
-    ensures { Gives (λ x. (x.0, tokens x.1.now)) result (operand_at (tokens line.now)) }
+    ensures { IsAsLineRead (λ x. (x.0, tokens x.1.now)) result (operand_at (tokens line.now)) }
 {
     let (token, rest) = next_token(line).ok_or(Why::BadToken)?;
     match decimal(token) {
@@ -135,7 +135,7 @@ fn operand_token_at(line: &[u8]) -> Result<(u32, &[u8]), Why>
 /// The id of an operand, and the line behind it.
 #[inline(always)]
 pub(crate) fn operand_at(line: &[u8]) -> Result<(u32, &[u8]), Why>
-    ensures { Gives (λ x. (x.0, tokens x.1.now)) result (operand_at (tokens line.now)) }
+    ensures { IsAsLineRead (λ x. (x.0, tokens x.1.now)) result (operand_at (tokens line.now)) }
 {
     match number_at(line) {
         Some((number, rest)) => Ok((kept_id(number), rest)),
@@ -146,7 +146,7 @@ pub(crate) fn operand_at(line: &[u8]) -> Result<(u32, &[u8]), Why>
 /// The width behind `sort`, and the line behind it.
 #[tactic(auto, unfolding(crate::specs::Reading::width_at))]
 pub(crate) fn width_at(line: &[u8]) -> Result<(u64, &[u8]), Why>
-    ensures { Gives (λ x. (x.0, tokens x.1.now)) result (width_at (tokens line.now)) }
+    ensures { IsAsLineRead (λ x. (x.0, tokens x.1.now)) result (width_told (tokens line.now)) }
 {
     let (token, rest) = next_token(line).ok_or(Why::BadToken)?;
     if is_word(token, b"bitvec") {
@@ -162,7 +162,7 @@ pub(crate) fn width_at(line: &[u8]) -> Result<(u64, &[u8]), Why>
 #[inline(always)]
 #[tactic(auto, unfolding(crate::specs::Reading::pair_at))]
 pub(crate) fn pair_at(line: &[u8]) -> Result<(u32, u32, &[u8]), Why>
-    ensures { Gives (λ x. (x.0, x.1, tokens x.2.now)) result (pair_at (tokens line.now)) }
+    ensures { IsAsLineRead (λ x. (x.0, x.1, tokens x.2.now)) result (pair_at (tokens line.now)) }
 {
     let (sort, rest) = sort_at(line)?;
     let (first, rest) = operand_at(rest)?;
@@ -173,7 +173,7 @@ pub(crate) fn pair_at(line: &[u8]) -> Result<(u32, u32, &[u8]), Why>
 #[inline(always)]
 #[tactic(auto, unfolding(crate::specs::Reading::triple_at))]
 pub(crate) fn triple_at(line: &[u8]) -> Result<(u32, u32, u32, &[u8]), Why>
-    ensures { Gives (λ x. (x.0, x.1, x.2, tokens x.3.now)) result (triple_at (tokens line.now)) }
+    ensures { IsAsLineRead (λ x. (x.0, x.1, x.2, tokens x.3.now)) result (triple_at (tokens line.now)) }
 {
     let (sort, rest) = sort_at(line)?;
     let (first, rest) = operand_at(rest)?;

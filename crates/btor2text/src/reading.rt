@@ -7,8 +7,8 @@ ghost use Rattle.btor2.specs.Check.{refusal};
 ghost use Rattle.btor2text.specs.Tokens.{tokens};
 ghost use Rattle.btor2text.specs.FirstFault.{IsFaultOf};
 ghost use Rattle.btor2text.specs.Spelling.{StandsFor};
-ghost use Rattle.btor2text.specs.Reading.{accepted, line_on, ReadsLine, ReadsAs};
-ghost use Rattle.btor2text.specs.Stopping.{unread_fault, Stops, IsOfLine, Ends, ReadsLines};
+ghost use Rattle.btor2text.specs.Reading.{item_accepted, line_on, ReadsLine, ReadsAs};
+ghost use Rattle.btor2text.specs.Stopping.{unread_text_fault, Stops, IsOfLine, Ends, ReadsLines};
 
 use crate::fault::{ReadFault, Why};
 use crate::items::item;
@@ -20,7 +20,7 @@ use std::alloc::Global;
 
 /// Adds an item to a model.
 fn push(model: &mut Model, item: Item) -> Result<(), Why>
-    ensures { ReadsLine result model.new (accepted model.old item (refusal model.old item)) }
+    ensures { ReadsLine result model.new (item_accepted model.old item (refusal model.old item)) }
 {
     match model.push(item) {
         Ok(()) => Ok(()),
@@ -52,7 +52,7 @@ fn read_line(
 
 /// What is wrong where a source could not be read to its end.
 fn unread(cause: ReadAllFault) -> ReadFault
-    ensures { result ≡ unread_fault cause }
+    ensures { result ≡ unread_text_fault cause }
 {
     let why = match cause {
         ReadAllFault::Device => Why::Device,

@@ -8,7 +8,7 @@ use Rattle.engine.specs.EngineForm.{IsEngineFormOf}
 use Rattle.lift.specs.EngineLifting.{form_lifted_text, FindsWitnessInModel, KeepsFormVerdict}
 use Rattle.restore.specs.FormWitness.{FormJudges}
 use Rattle.witness.specs.declared.judgement.Judgement.{Judgement}
-use Rattle.capi.specs.EngineLifted.{IsFormLifted}
+use Rattle.capi.specs.EngineLifted.{CallLiftsForm}
 use Rattle.capi.specs.Judged.{verdict_of}
 use Rattle.capi.specs.Lifted.{choice_of}
 use Rattle.capi.specs.declared.answers.Verdict.{Verdict}
@@ -27,7 +27,7 @@ pub form_lifted : (known : List ℕ) (items : List Item) (c d : Circuit) (chosen
     → StandsFor known items → Lowers items c → IsEngineFormOf c (choice_of chosen bad) d → choice ≡ choice_of chosen bad
     → FormJudges c choice d witness j → KeepsFormVerdict names items c choice d witness j → FindsWitnessInModel names items c choice d witness
     → Some old ≡ Some [] → bytes ≡ old ++ form_lifted_text names items c choice d witness → verdict ≡ verdict_of j
-    → IsFormLifted known chosen bad names witness verdict bytes
+    → CallLiftsForm known chosen bad names witness verdict bytes
 form_lifted known items c d chosen bad names witness choice verdict j old bytes stands lowers form is judged kept found empty written told =
     let said = subst (λ (ch : Option ℕ). Says items c d names witness j bytes ch) is (judged, (kept, (found, behind_nothing old bytes (form_lifted_text names items c choice d witness) empty written))) in
     record {

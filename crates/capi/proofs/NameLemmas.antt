@@ -5,16 +5,16 @@ use Rattle.command_line.specs.Explanations.{Explains, has_row}
 use Rattle.command_line.specs.declared.explanations.Explanation.{Explanation}
 use Rattle.command_line.specs.declared.explanations.Part.{Part}
 use Rattle.std.specs.List.{list_any}
-use Rattle.capi.specs.Named.{HasEach, IsName, IsOfNone, name_among, name_in, or_name}
+use Rattle.capi.specs.Named.{HasEach, IsRefusalName, IsOfNone, name_among, name_listed, or_name}
 
 -- a row that has the number, or the rows behind it, give a name
 at_row : (is_number is_name later : Bool) (mine : List ℕ) (other : Option (List ℕ)) → ((is_number && is_name) || later) ≡ true → (later ≡ true → other ≢ None) → (if is_number then Some mine else other) ≢ None
 at_row true is_name later mine other has behind = λ is. absurd cc
 at_row false is_name later mine other has behind = behind has
 
-named_row : (number : ℕ) (name : List ℕ) (rows : List Explanation) → has_row number name rows ≡ true → name_in number rows ≢ None
+named_row : (number : ℕ) (name : List ℕ) (rows : List Explanation) → has_row number name rows ≡ true → name_listed number rows ≢ None
 named_row number name [] has = absurd cc
-named_row number name (row ∷ rows) has = at_row (row.number == number) (bytes_eq row.name.now name) (has_row number name rows) row.name.now (name_in number rows) has (named_row number name rows)
+named_row number name (row ∷ rows) has = at_row (row.number == number) (bytes_eq row.name.now name) (has_row number name rows) row.name.now (name_listed number rows) has (named_row number name rows)
 
 -- a part that has the number, or the parts behind it, give a name
 at_part : (has later : Bool) (mine other : Option (List ℕ)) → (has || later) ≡ true → (has ≡ true → mine ≢ None) → (later ≡ true → other ≢ None) → or_name mine other ≢ None
@@ -25,7 +25,7 @@ at_part false later None other is here behind = behind is
 named_part : (number : ℕ) (name : List ℕ) (parts : List Part) → Explains parts number name → name_among number parts ≢ None
 named_part number name [] has = absurd cc
 named_part number name (part ∷ parts) has =
-    at_part (has_row number name part.rows.now) (list_any (λ (p : Part). has_row number name p.rows.now) parts) (name_in number part.rows.now) (name_among number parts) has (named_row number name part.rows.now) (named_part number name parts)
+    at_part (has_row number name part.rows.now) (list_any (λ (p : Part). has_row number name p.rows.now) parts) (name_listed number part.rows.now) (name_among number parts) has (named_row number name part.rows.now) (named_part number name parts)
 
 -- a number without a name is not that of a refusal that the table has
 not_of : (number : ℕ) (parts : List Part) → name_among number parts ≡ None → (other : ℕ) (name : List ℕ) → Explains parts other name → other ≢ number
@@ -56,7 +56,7 @@ of_none number parts each none = record {
   certificates = λ it. not_of number parts none _ _ (each.certificates it);
 }
 
-pub is_name : {S : Type 0} → (f : S → List ℕ) (r : Option S) (number : ℕ) (table : List Part) → HasEach table → option_map f r ≡ name_among number table → IfSome r (λ s. IsName number (f s))
+pub is_name : {S : Type 0} → (f : S → List ℕ) (r : Option S) (number : ℕ) (table : List Part) → HasEach table → option_map f r ≡ name_among number table → IfSome r (λ s. IsRefusalName number (f s))
 is_name f (Some s) number table each is = record { table = table; has_each = each; named = sym is }
 is_name f None number table each is = tt
 

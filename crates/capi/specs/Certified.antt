@@ -6,22 +6,22 @@ use Rattle.aiger.specs.Circuit.{Circuit}
 use Rattle.blast.specs.Lowering.{Lowers}
 use Rattle.btor2.specs.Reachability.{CanRise}
 use Rattle.clauses.specs.Formula.{Formula}
-use Rattle.clauses.specs.Printed.{why_number}
+use Rattle.clauses.specs.Printed.{proof_why_number}
 use Rattle.clauses.specs.FormulaTexts.{formula_text}
 use Rattle.clauses.specs.declared.judgement.Judgement.{Judgement}
 use Rattle.clauses.specs.declared.judgement.Judgement.TheVariants as judgement
-use Rattle.engine.specs.Faults.{number_of as engine_number}
+use Rattle.engine.specs.Faults.{engine_fault_number as engine_number}
 use Rattle.engine.specs.declared.fault.EngineFault.TheVariants as engine
 use Rattle.invariants.specs.Certificates.{IsCertified, IsOwed, OwesNone}
-use Rattle.invariants.specs.Faults.{obligation_number, why_number as invariant_number}
+use Rattle.invariants.specs.Faults.{obligation_number, invariant_why_number as invariant_number}
 use Rattle.invariants.specs.declared.claim_fault.ClaimFault.{ClaimFault}
 use Rattle.invariants.specs.declared.claim_fault.ClaimFault.TheVariants as claim
 use Rattle.invariants.specs.declared.fault.ObligationFault.TheVariants as obligation
 use Rattle.invariants.specs.declared.why.InvariantFault.{InvariantFault}
 use Rattle.invariants.specs.declared.why.InvariantWhy.{InvariantWhy}
 use Rattle.invariants.specs.declared.why.InvariantWhy.TheVariants as invariant
-use Rattle.capi.specs.Judged.{IsNoModel}
-use Rattle.capi.specs.Written.{IsUnlowered}
+use Rattle.capi.specs.Judged.{CallTellsNoModel}
+use Rattle.capi.specs.Written.{CallTellsUnlowered}
 use Rattle.capi.specs.declared.answers.Stop.{Stop}
 use Rattle.capi.specs.declared.answers.Stop.TheVariants as stop
 use Rattle.capi.specs.declared.answers.Verdict.{Verdict}
@@ -29,7 +29,7 @@ use Rattle.capi.specs.declared.answers.Verdict.{Verdict}
 -- what a judgement of a proof is told as: that the property holds, with the line behind which nothing is to be shown, that a line is malformed, with the number of why, that the step that ends in a line is not implied, or that the text ends before
 abbrev pub proof_verdict_of : Judgement → Verdict
 proof_verdict_of (judgement.Derived line) = record { kind = 0; why = 0; first = line; second = 0 }
-proof_verdict_of (judgement.Malformed line why) = record { kind = 4; why = why_number why; first = line; second = 0 }
+proof_verdict_of (judgement.Malformed line why) = record { kind = 4; why = proof_why_number why; first = line; second = 0 }
 proof_verdict_of (judgement.NotImplied line) = record { kind = 6; why = 0; first = line; second = 0 }
 proof_verdict_of judgement.NotDerived = record { kind = 7; why = 0; first = 0; second = 0 }
 
@@ -82,7 +82,7 @@ pub record OwesNothing (model : List ℕ) (bad : ℕ) (invariant : List ℕ) (st
 
 -- why a call on a certificate stops: what speaks against the first text, against lowering its model, or that the invariant owes nothing
 abbrev pub IsClaimStop : List ℕ → ℕ → List ℕ → Stop → Type 0
-IsClaimStop model bad invariant (stop.Text refusal) = IsNoModel model refusal
-IsClaimStop model bad invariant (stop.Model refusal) = IsUnlowered model refusal ⊎ OwesNothing model bad invariant (stop.Model refusal)
+IsClaimStop model bad invariant (stop.Text refusal) = CallTellsNoModel model refusal
+IsClaimStop model bad invariant (stop.Model refusal) = CallTellsUnlowered model refusal ⊎ OwesNothing model bad invariant (stop.Model refusal)
 IsClaimStop model bad invariant (stop.Second refusal) = OwesNothing model bad invariant (stop.Second refusal)
 IsClaimStop model bad invariant stop.NoMemory = Unit {0}

@@ -2,14 +2,14 @@
 use Rattle.std.specs.Prelude.{◌≡◌, ℕ, List, Some}
 use Rattle.aiger.specs.Circuit.{Circuit, IsCircuit}
 use Rattle.aiger.specs.Reachability.{CanRiseInCircuit}
-use Rattle.aigertext.specs.Spelling.{Spells}
+use Rattle.aigertext.specs.Spelling.{SpellsCircuit}
 use Rattle.clauses.specs.Formula.{Formula}
 use Rattle.clauses.specs.FormulaTexts.{formula_text}
 use Rattle.clauses.specs.declared.judgement.Judgement.{Judgement}
 use Rattle.invariants.specs.Certificates.{IsCertified, IsOwed, OwesNone}
 use Rattle.invariants.specs.declared.claim_fault.ClaimFault.{ClaimFault}
 use Rattle.capi.specs.Certified.{claim_stop, proof_verdict_of}
-use Rattle.capi.specs.Judged.{IsNoCircuit}
+use Rattle.capi.specs.Judged.{CallTellsNoCircuit}
 use Rattle.capi.specs.declared.answers.Stop.{Stop}
 use Rattle.capi.specs.declared.answers.Stop.TheVariants as stop
 use Rattle.capi.specs.declared.answers.Verdict.{Verdict}
@@ -18,7 +18,7 @@ use Rattle.capi.specs.declared.answers.Verdict.{Verdict}
 pub record IsProofVerdictOver (circuit : List ℕ) (bad : ℕ) (invariant proof : List ℕ) (verdict : Verdict) : Type 0 where
   pub value : Circuit
   pub is_circuit : IsCircuit value
-  pub text : Spells circuit value
+  pub text : SpellsCircuit circuit value
   pub judgement : Judgement
   pub judged : IsCertified value bad (Some invariant) (Some proof) judgement
   pub told : verdict ≡ proof_verdict_of judgement
@@ -28,7 +28,7 @@ pub record IsProofVerdictOver (circuit : List ℕ) (bad : ℕ) (invariant proof 
 pub record IsObligationOver (circuit : List ℕ) (bad : ℕ) (invariant : List ℕ) (bytes : List ℕ) : Type 0 where
   pub value : Circuit
   pub is_circuit : IsCircuit value
-  pub text : Spells circuit value
+  pub text : SpellsCircuit circuit value
   pub formula : Formula
   pub owed : IsOwed value bad (Some invariant) formula
   pub is : bytes ≡ formula_text formula
@@ -36,14 +36,14 @@ pub record IsObligationOver (circuit : List ℕ) (bad : ℕ) (invariant : List �
 -- the first text is of a circuit, and over it this is why an invariant owes no formula for a bad property
 pub record OwesNothingOver (circuit : List ℕ) (bad : ℕ) (invariant : List ℕ) (stop : Stop) : Type 0 where
   pub value : Circuit
-  pub text : Spells circuit value
+  pub text : SpellsCircuit circuit value
   pub fault : ClaimFault
   pub is : OwesNone value bad (Some invariant) fault
   pub told : stop ≡ claim_stop fault
 
 -- why a call on a certificate over a circuit stops: what speaks against the first text, or that the invariant owes nothing
 abbrev pub IsClaimStopOver : List ℕ → ℕ → List ℕ → Stop → Type 0
-IsClaimStopOver circuit bad invariant (stop.Text refusal) = IsNoCircuit circuit refusal
+IsClaimStopOver circuit bad invariant (stop.Text refusal) = CallTellsNoCircuit circuit refusal
 IsClaimStopOver circuit bad invariant (stop.Model refusal) = OwesNothingOver circuit bad invariant (stop.Model refusal)
 IsClaimStopOver circuit bad invariant (stop.Second refusal) = OwesNothingOver circuit bad invariant (stop.Second refusal)
 IsClaimStopOver circuit bad invariant stop.NoMemory = Unit {0}

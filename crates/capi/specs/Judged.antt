@@ -9,9 +9,9 @@ use Rattle.btor2text.specs.Spelling.{StandsFor}
 use Rattle.btor2text.specs.Whys.{printed_number}
 use Rattle.aiger.specs.Circuit.{Circuit, IsCircuit}
 use Rattle.aigertext.specs.declared.fault.ReadFault.{ReadFault as CircuitFault}
-use Rattle.aigertext.specs.AsciiReading.{IsFaultOf as IsCircuitFaultOf}
-use Rattle.aigertext.specs.Spelling.{Spells}
-use Rattle.aigertext.specs.Whys.{why_number as circuit_why_number}
+use Rattle.aigertext.specs.AsciiReading.{IsAsciiFaultOf as IsCircuitFaultOf}
+use Rattle.aigertext.specs.Spelling.{SpellsCircuit}
+use Rattle.aigertext.specs.Whys.{circuit_why_number}
 use Rattle.witness.specs.Answers.{judge_number}
 use Rattle.witness.specs.BitJudgements.{BitJudges}
 use Rattle.witness.specs.Judgements.{Judges}
@@ -49,20 +49,20 @@ pub record IsWordVerdict (model witness : List ℕ) (verdict : Verdict) : Type 0
 pub record IsBitVerdict (circuit witness : List ℕ) (verdict : Verdict) : Type 0 where
   pub value : Circuit
   pub is_circuit : IsCircuit value
-  pub text : Spells circuit value
+  pub text : SpellsCircuit circuit value
   pub judgement : Judgement
   pub judged : BitJudges value witness judgement
   pub reached : ReachesInCircuit value witness judgement
   pub told : verdict ≡ verdict_of judgement
 
 -- a text is no model, and this is the number and the line of its first fault
-pub record IsNoModel (text : List ℕ) (refusal : Refusal) : Type 0 where
+pub record CallTellsNoModel (text : List ℕ) (refusal : Refusal) : Type 0 where
   pub fault : ReadFault
   pub first : IsFaultOf text fault
   pub told : refusal ≡ record { number = printed_number fault.why; place = fault.line }
 
 -- a text is no circuit, and this is the number and the place of its first fault
-pub record IsNoCircuit (text : List ℕ) (refusal : Refusal) : Type 0 where
+pub record CallTellsNoCircuit (text : List ℕ) (refusal : Refusal) : Type 0 where
   pub fault : CircuitFault
   pub first : IsCircuitFaultOf text fault
   pub told : refusal ≡ record { number = circuit_why_number fault.why; place = fault.place }
@@ -83,8 +83,8 @@ IsStop against_text against_model (stop.Second refusal) = ⊥
 IsStop against_text against_model stop.NoMemory = Unit {0}
 
 -- the status of a stop, and what is told of it
-abbrev pub Tells : Stop → ℕ → Refusal → Refusal → Type 0
-Tells (stop.Text refusal) status old new = (status ≡ 2) × (new ≡ refusal)
-Tells (stop.Model refusal) status old new = (status ≡ 3) × (new ≡ refusal)
-Tells stop.NoMemory status old new = (status ≡ 4) × (new ≡ old)
-Tells (stop.Second refusal) status old new = (status ≡ 5) × (new ≡ refusal)
+abbrev pub CallTells : Stop → ℕ → Refusal → Refusal → Type 0
+CallTells (stop.Text refusal) status old new = (status ≡ 2) × (new ≡ refusal)
+CallTells (stop.Model refusal) status old new = (status ≡ 3) × (new ≡ refusal)
+CallTells stop.NoMemory status old new = (status ≡ 4) × (new ≡ old)
+CallTells (stop.Second refusal) status old new = (status ≡ 5) × (new ≡ refusal)

@@ -7,10 +7,10 @@ use Rattle.btor2.specs.Trace.{Frame}
 use Rattle.btor2text.specs.Spelling.{StandsFor}
 use Rattle.aiger.specs.Circuit.{Circuit}
 use Rattle.aigertext.specs.Binary.{circuit_text}
-use Rattle.aigertext.specs.Spelling.{Spells}
+use Rattle.aigertext.specs.Spelling.{SpellsCircuit}
 use Rattle.blast.specs.Lowering.{Lowers}
 use Rattle.engine.specs.EngineForm.{IsEngineFormOf}
-use Rattle.engine.specs.Faults.{number_of as engine_number}
+use Rattle.engine.specs.Faults.{engine_fault_number as engine_number}
 use Rattle.engine.specs.Refusal.{engine_refusal}
 use Rattle.engine.specs.declared.fault.EngineFault.{EngineFault}
 use Rattle.engine.specs.declared.fault.EngineFault.TheVariants as engine
@@ -24,7 +24,7 @@ use Rattle.witness.specs.ClosedWords.{IsClosedTrace}
 use Rattle.witness.specs.Judgements.{Judges}
 use Rattle.witness.specs.declared.judgement.Judgement.{Judgement}
 use Rattle.capi.specs.Judged.{verdict_of}
-use Rattle.capi.specs.Written.{form_of}
+use Rattle.capi.specs.Written.{form_asked}
 use Rattle.capi.specs.declared.answers.Refusal.{Refusal}
 use Rattle.capi.specs.declared.answers.Stop.{Stop}
 use Rattle.capi.specs.declared.answers.Stop.TheVariants as stop
@@ -66,10 +66,10 @@ choice_of false position = None
 -- some bytes are the text of an engine form of the circuit of a text
 pub record IsForm (circuit : List ℕ) (chosen : Bool) (bad : ℕ) (binary : Bool) (bytes : List ℕ) : Type 0 where
   pub value : Circuit
-  pub text : Spells circuit value
+  pub text : SpellsCircuit circuit value
   pub form : Circuit
   pub is_form : IsEngineFormOf value (choice_of chosen bad) form
-  pub is : bytes ≡ circuit_text (form_of binary) form
+  pub is : bytes ≡ circuit_text (form_asked binary) form
 
 -- why a call stops where a circuit has no engine form
 abbrev pub form_stop : EngineFault → Stop
@@ -79,7 +79,7 @@ form_stop fault = stop.Model (record { number = engine_number fault; place = 0 }
 -- a text is of a circuit without such an engine form, and this is the number of what speaks against it first
 pub record IsFormless (text : List ℕ) (chosen : Bool) (bad : ℕ) (refusal : Refusal) : Type 0 where
   pub value : Circuit
-  pub text_is : Spells text value
+  pub text_is : SpellsCircuit text value
   pub fault : EngineFault
   pub first : engine_refusal value (choice_of chosen bad) ≡ Some fault
   pub told : refusal ≡ record { number = engine_number fault; place = 0 }

@@ -5,7 +5,7 @@ use Rattle.btor2.specs.Check.{IsWellFormed}
 use Rattle.btor2text.specs.Spelling.{StandsFor}
 use Rattle.aiger.specs.Circuit.{Circuit, IsCircuit}
 use Rattle.aigertext.specs.Binary.{circuit_text}
-use Rattle.aigertext.specs.Spelling.{Spells}
+use Rattle.aigertext.specs.Spelling.{SpellsCircuit}
 use Rattle.aigertext.specs.declared.forms.Form.{Form}
 use Rattle.aigertext.specs.declared.forms.Form.TheVariants as form
 use Rattle.blast.specs.Cost.{cost, bound}
@@ -39,9 +39,9 @@ pub record Needs (IsSo : List ℕ → Type 0) (old new : List ℕ) (needed : ℕ
 -- ---- circuits
 
 -- the form of a circuit that is asked for
-abbrev pub form_of : Bool → Form
-form_of true = form.Binary
-form_of false = form.Ascii
+abbrev pub form_asked : Bool → Form
+form_asked true = form.Binary
+form_asked false = form.Ascii
 
 -- some bytes are the text of a circuit that lowers the model of a text
 pub record IsLowering (model : List ℕ) (binary : Bool) (bytes : List ℕ) : Type 0 where
@@ -49,14 +49,14 @@ pub record IsLowering (model : List ℕ) (binary : Bool) (bytes : List ℕ) : Ty
   pub text : StandsFor model items
   pub circuit : Circuit
   pub lowers : Lowers items circuit
-  pub is : bytes ≡ circuit_text (form_of binary) circuit
+  pub is : bytes ≡ circuit_text (form_asked binary) circuit
 
 -- some bytes are the writer's text of the circuit of a text
 pub record IsRewriting (circuit : List ℕ) (binary : Bool) (bytes : List ℕ) : Type 0 where
   pub value : Circuit
   pub is_circuit : IsCircuit value
-  pub text : Spells circuit value
-  pub is : bytes ≡ circuit_text (form_of binary) value
+  pub text : SpellsCircuit circuit value
+  pub is : bytes ≡ circuit_text (form_asked binary) value
 
 -- these are the gates and the variables that the lowering of the model of a text has at most
 pub record IsCost (model : List ℕ) (gates variables : ℕ) : Type 0 where
@@ -69,21 +69,21 @@ pub record IsCost (model : List ℕ) (gates variables : ℕ) : Type 0 where
 -- ---- what is not lowered
 
 -- the item that a lowering is refused for, by its id, or 0 where it is the model as a whole
-abbrev pub place_of : LowerFault → ℕ
-place_of (lower.Justice id) = id
-place_of (lower.Fair id) = id
-place_of (lower.NoNext id) = id
-place_of _ = 0
+abbrev pub fault_place : LowerFault → ℕ
+fault_place (lower.Justice id) = id
+fault_place (lower.Fair id) = id
+fault_place (lower.NoNext id) = id
+fault_place _ = 0
 
 -- why a call stops where a model is not lowered
 abbrev pub stop_of : LowerFault → Stop
 stop_of lower.NoMemory = stop.NoMemory
-stop_of fault = stop.Model (record { number = lower_number fault; place = place_of fault })
+stop_of fault = stop.Model (record { number = lower_number fault; place = fault_place fault })
 
 -- a text is of a model that is not lowered, and this is the number of what speaks against it first, and its place
-pub record IsUnlowered (text : List ℕ) (refusal : Refusal) : Type 0 where
+pub record CallTellsUnlowered (text : List ℕ) (refusal : Refusal) : Type 0 where
   pub items : List Item
   pub text_is : StandsFor text items
   pub fault : LowerFault
   pub first : lowering_refusal items ≡ Some fault
-  pub told : refusal ≡ record { number = lower_number fault; place = place_of fault }
+  pub told : refusal ≡ record { number = lower_number fault; place = fault_place fault }

@@ -1,7 +1,7 @@
 //! What the exported calls answer.
 ghost use Rattle.std.specs.Prelude.{◌≡◌};
 ghost use Rattle.capi.specs.Certified.{proof_verdict_of};
-ghost use Rattle.capi.specs.Judged.{Tells, verdict_of};
+ghost use Rattle.capi.specs.Judged.{CallTells, verdict_of};
 ghost use Rattle.capi.specs.Restored.{fault_verdict_of};
 
 use restore::RestoreFault;
@@ -121,7 +121,7 @@ const SECOND_REFUSED: u32 = 5;
 
 /// Tells why a call stops, and answers its status.
 pub(crate) fn tell(stop: Stop, refusal: &mut Refusal) -> u32
-    ensures { Tells stop result refusal.old refusal.new }
+    ensures { CallTells stop result refusal.old refusal.new }
 {
     match stop {
         Stop::Text(against) => {

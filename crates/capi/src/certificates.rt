@@ -2,14 +2,14 @@
 ghost use Rattle.std.specs.Prelude.{◌≡◌, ◌≢◌, ◌⊎◌, ℕ, List, Some, IfOk, IfErr, IfSome, length};
 ghost use Rattle.btor2.specs.declared.item.Item.{Item};
 ghost use Rattle.btor2text.specs.Spelling.{StandsFor};
-ghost use Rattle.aigertext.specs.Spelling.{Spells};
+ghost use Rattle.aigertext.specs.Spelling.{SpellsCircuit};
 ghost use Rattle.blast.specs.Lowering.{Lowers};
 ghost use Rattle.capi.specs.declared.answers.Stop.TheVariants as stop;
 ghost use Rattle.capi.specs.Certified.{IsClaimStop, IsObligation, IsProofVerdict, OwesNothing, claim_stop};
 ghost use Rattle.capi.specs.CircuitCertified.{IsClaimStopOver, IsObligationOver, IsProofVerdictOver, OwesNothingOver};
-ghost use Rattle.capi.specs.Judged.{IsNoModel, IsStop};
+ghost use Rattle.capi.specs.Judged.{CallTellsNoModel, IsStop};
 ghost use Rattle.clauses.specs.FormulaTexts.{formula_text};
-ghost use Rattle.capi.specs.Written.{Fills, IsUnlowered, Needs};
+ghost use Rattle.capi.specs.Written.{Fills, CallTellsUnlowered, Needs};
 
 use crate::answers::{DONE, Refusal, Stop, Verdict, tell};
 use crate::buffers::hand_over;
@@ -74,8 +74,8 @@ pub(crate) fn certify_over(
 ) -> Result<Verdict, Stop>
     ensures done { (text : List ℕ) (items : List Item) → StandsFor text items → Lowers items circuit.now → IfOk result (IsProofVerdict text bad invariant.now proof.now) }
     ensures refused { (text : List ℕ) (items : List Item) → StandsFor text items → Lowers items circuit.now → IfErr result (IsClaimStop text bad invariant.now) }
-    ensures done_over { (text : List ℕ) → Spells text circuit.now → IfOk result (IsProofVerdictOver text bad invariant.now proof.now) }
-    ensures refused_over { (text : List ℕ) → Spells text circuit.now → IfErr result (IsClaimStopOver text bad invariant.now) }
+    ensures done_over { (text : List ℕ) → SpellsCircuit text circuit.now → IfOk result (IsProofVerdictOver text bad invariant.now proof.now) }
+    ensures refused_over { (text : List ℕ) → SpellsCircuit text circuit.now → IfErr result (IsClaimStopOver text bad invariant.now) }
 {
     blast::laws::bad_properties_rise_alike();
     // the lists of a circuit are one
@@ -141,8 +141,8 @@ pub extern "C" fn hwtool_check_proof(
     refusal: &mut Refusal,
 ) -> u32
     ensures done { result ≡ 0 → IsProofVerdict model.now bad invariant.now proof.now verdict.new }
-    ensures refused { result ≡ 2 → IsNoModel model.now refusal.new }
-    ensures unlowered { result ≡ 3 → IsUnlowered model.now refusal.new ⊎ OwesNothing model.now bad invariant.now (stop.Model refusal.new) }
+    ensures refused { result ≡ 2 → CallTellsNoModel model.now refusal.new }
+    ensures unlowered { result ≡ 3 → CallTellsUnlowered model.now refusal.new ⊎ OwesNothing model.now bad invariant.now (stop.Model refusal.new) }
     ensures second { result ≡ 5 → OwesNothing model.now bad invariant.now (stop.Second refusal.new) }
     ensures statuses { (result ≡ 0) ⊎ ((result ≡ 2) ⊎ ((result ≡ 3) ⊎ ((result ≡ 4) ⊎ (result ≡ 5)))) }
     ensures verdict_stays { result ≢ 0 → verdict.new ≡ verdict.old }
@@ -178,8 +178,8 @@ pub(crate) fn owe_over(
 ) -> Result<VecSink, Stop>
     ensures done { (text : List ℕ) (items : List Item) → StandsFor text items → Lowers items circuit.now → IfOk result (λ sink. IfSome (⟦<VecSink as Sink>⟧.written sink) (IsObligation text bad invariant.now)) }
     ensures refused { (text : List ℕ) (items : List Item) → StandsFor text items → Lowers items circuit.now → IfErr result (IsClaimStop text bad invariant.now) }
-    ensures done_over { (text : List ℕ) → Spells text circuit.now → IfOk result (λ sink. IfSome (⟦<VecSink as Sink>⟧.written sink) (IsObligationOver text bad invariant.now)) }
-    ensures refused_over { (text : List ℕ) → Spells text circuit.now → IfErr result (IsClaimStopOver text bad invariant.now) }
+    ensures done_over { (text : List ℕ) → SpellsCircuit text circuit.now → IfOk result (λ sink. IfSome (⟦<VecSink as Sink>⟧.written sink) (IsObligationOver text bad invariant.now)) }
+    ensures refused_over { (text : List ℕ) → SpellsCircuit text circuit.now → IfErr result (IsClaimStopOver text bad invariant.now) }
 {
     // the lists of a circuit are one
     let _ = circuit.inputs();
@@ -233,8 +233,8 @@ pub extern "C" fn hwtool_obligation(
 ) -> u32
     ensures done { result ≡ 0 → Fills (IsObligation model.now bad invariant.now) buffer.old buffer.new needed.new }
     ensures small { result ≡ 1 → Needs (IsObligation model.now bad invariant.now) buffer.old buffer.new needed.new }
-    ensures refused { result ≡ 2 → IsNoModel model.now refusal.new }
-    ensures unlowered { result ≡ 3 → IsUnlowered model.now refusal.new ⊎ OwesNothing model.now bad invariant.now (stop.Model refusal.new) }
+    ensures refused { result ≡ 2 → CallTellsNoModel model.now refusal.new }
+    ensures unlowered { result ≡ 3 → CallTellsUnlowered model.now refusal.new ⊎ OwesNothing model.now bad invariant.now (stop.Model refusal.new) }
     ensures second { result ≡ 5 → OwesNothing model.now bad invariant.now (stop.Second refusal.new) }
     ensures statuses { (result ≡ 0) ⊎ ((result ≡ 1) ⊎ ((result ≡ 2) ⊎ ((result ≡ 3) ⊎ ((result ≡ 4) ⊎ (result ≡ 5))))) }
     ensures unwritten { (result ≡ 2) ⊎ ((result ≡ 3) ⊎ ((result ≡ 4) ⊎ (result ≡ 5))) → (buffer.new ≡ buffer.old) × (needed.new ≡ needed.old) }

@@ -2,7 +2,7 @@
 ghost use Rattle.std.specs.Prelude.{◌≡◌, ◌≢◌, ◌⊎◌, ℕ, List, IfOk, IfErr, IfSome};
 ghost use Rattle.capi.specs.declared.answers.Stop.TheVariants as stop;
 ghost use Rattle.capi.specs.CircuitCertified.{IsClaimStopOver, IsObligationOver, IsProofVerdictOver, OwesNothingOver};
-ghost use Rattle.capi.specs.Judged.{IsNoCircuit};
+ghost use Rattle.capi.specs.Judged.{CallTellsNoCircuit};
 ghost use Rattle.capi.specs.Written.{Fills, Needs};
 
 use crate::answers::{DONE, Refusal, Stop, Verdict, tell};
@@ -56,7 +56,7 @@ pub extern "C" fn hwtool_check_proof_aig(
     refusal: &mut Refusal,
 ) -> u32
     ensures done { result ≡ 0 → IsProofVerdictOver circuit.now bad invariant.now proof.now verdict.new }
-    ensures refused { result ≡ 2 → IsNoCircuit circuit.now refusal.new }
+    ensures refused { result ≡ 2 → CallTellsNoCircuit circuit.now refusal.new }
     ensures formless { result ≡ 3 → OwesNothingOver circuit.now bad invariant.now (stop.Model refusal.new) }
     ensures second { result ≡ 5 → OwesNothingOver circuit.now bad invariant.now (stop.Second refusal.new) }
     ensures statuses { (result ≡ 0) ⊎ ((result ≡ 2) ⊎ ((result ≡ 3) ⊎ ((result ≡ 4) ⊎ (result ≡ 5)))) }
@@ -91,7 +91,7 @@ pub extern "C" fn hwtool_obligation_aig(
 ) -> u32
     ensures done { result ≡ 0 → Fills (IsObligationOver circuit.now bad invariant.now) buffer.old buffer.new needed.new }
     ensures small { result ≡ 1 → Needs (IsObligationOver circuit.now bad invariant.now) buffer.old buffer.new needed.new }
-    ensures refused { result ≡ 2 → IsNoCircuit circuit.now refusal.new }
+    ensures refused { result ≡ 2 → CallTellsNoCircuit circuit.now refusal.new }
     ensures formless { result ≡ 3 → OwesNothingOver circuit.now bad invariant.now (stop.Model refusal.new) }
     ensures second { result ≡ 5 → OwesNothingOver circuit.now bad invariant.now (stop.Second refusal.new) }
     ensures statuses { (result ≡ 0) ⊎ ((result ≡ 1) ⊎ ((result ≡ 2) ⊎ ((result ≡ 3) ⊎ ((result ≡ 4) ⊎ (result ≡ 5))))) }

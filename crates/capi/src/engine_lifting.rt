@@ -4,8 +4,8 @@ ghost use Rattle.btor2text.specs.Spelling.{StandsFor};
 ghost use Rattle.blast.specs.Lowering.{Lowers};
 ghost use Rattle.engine.specs.EngineForm.{IsEngineFormOf};
 ghost use Rattle.engine.specs.Refusal.{engine_refusal};
-ghost use Rattle.capi.specs.EngineLifted.{IsFormLifted, IsFoundLifted, IsNotForEngines};
-ghost use Rattle.capi.specs.Judged.{IsNoModel, IsStop};
+ghost use Rattle.capi.specs.EngineLifted.{CallLiftsForm, IsFoundLifted, CallTellsNoForm};
+ghost use Rattle.capi.specs.Judged.{CallTellsNoModel, IsStop};
 ghost use Rattle.capi.specs.Lifted.{choice_of};
 ghost use Rattle.capi.specs.Written.{Fills, Needs};
 
@@ -65,7 +65,7 @@ fn lift_from(
     requires lowers { Lowers model.now circuit.now }
     requires empty { ⟦<VecSink as Sink>⟧.written text.old ≡ Some [] }
     ensures done { (known : List ℕ) → StandsFor known model.now → IfOk result (λ verdict. IfSome (⟦<VecSink as Sink>⟧.written text.new) (IsFoundLifted known bad names found.now verdict)) }
-    ensures refused { (known : List ℕ) → StandsFor known model.now → IfErr result (IsStop (λ _. ⊥) (IsNotForEngines known true bad)) }
+    ensures refused { (known : List ℕ) → StandsFor known model.now → IfErr result (IsStop (λ _. ⊥) (CallTellsNoForm known true bad)) }
 {
     match why_no_form(circuit, Some(bad)) {
         Some(fault) => Err(form_stop(fault)),
@@ -84,7 +84,7 @@ fn lift_found(
 ) -> Result<Verdict, Stop>
     requires empty { ⟦<VecSink as Sink>⟧.written text.old ≡ Some [] }
     ensures done { (known : List ℕ) → StandsFor known model.now → IfOk result (λ verdict. IfSome (⟦<VecSink as Sink>⟧.written text.new) (IsFoundLifted known bad names found.now verdict)) }
-    ensures refused { (known : List ℕ) → StandsFor known model.now → IfErr result (IsStop (λ _. ⊥) (IsNotForEngines known true bad)) }
+    ensures refused { (known : List ℕ) → StandsFor known model.now → IfErr result (IsStop (λ _. ⊥) (CallTellsNoForm known true bad)) }
 {
     match lower(alloc, model) {
         Ok(circuit) => lift_from(alloc, model, &circuit, bad, names, found, text),
@@ -103,7 +103,7 @@ fn found_lifted(
 ) -> Result<Verdict, Stop>
     requires empty { ⟦<VecSink as Sink>⟧.written text.old ≡ Some [] }
     ensures done { IfOk result (λ verdict. IfSome (⟦<VecSink as Sink>⟧.written text.new) (IsFoundLifted model.now bad names found.now verdict)) }
-    ensures refused { IfErr result (IsStop (IsNoModel model.now) (IsNotForEngines model.now true bad)) }
+    ensures refused { IfErr result (IsStop (CallTellsNoModel model.now) (CallTellsNoForm model.now true bad)) }
 {
     let read = read_model(alloc, model)?;
     lift_found(alloc, &read, bad, names, found, text)
@@ -124,7 +124,7 @@ fn lift_through(
     requires lowers { Lowers model.now circuit.now }
     requires is_form { IsEngineFormOf circuit.now (choice_of chosen bad) form.now }
     requires empty { ⟦<VecSink as Sink>⟧.written text.old ≡ Some [] }
-    ensures done { (known : List ℕ) → StandsFor known model.now → IfOk result (λ verdict. IfSome (⟦<VecSink as Sink>⟧.written text.new) (IsFormLifted known chosen bad names witness.now verdict)) }
+    ensures done { (known : List ℕ) → StandsFor known model.now → IfOk result (λ verdict. IfSome (⟦<VecSink as Sink>⟧.written text.new) (CallLiftsForm known chosen bad names witness.now verdict)) }
     ensures refused { IfErr result (IsStop (λ _. ⊥) (λ _. ⊥)) }
 {
     let mut source = witness;
@@ -156,8 +156,8 @@ fn lift_by_form(
 ) -> Result<Verdict, Stop>
     requires lowers { Lowers model.now circuit.now }
     requires empty { ⟦<VecSink as Sink>⟧.written text.old ≡ Some [] }
-    ensures done { (known : List ℕ) → StandsFor known model.now → IfOk result (λ verdict. IfSome (⟦<VecSink as Sink>⟧.written text.new) (IsFormLifted known chosen bad names witness.now verdict)) }
-    ensures refused { (known : List ℕ) → StandsFor known model.now → IfErr result (IsStop (λ _. ⊥) (IsNotForEngines known chosen bad)) }
+    ensures done { (known : List ℕ) → StandsFor known model.now → IfOk result (λ verdict. IfSome (⟦<VecSink as Sink>⟧.written text.new) (CallLiftsForm known chosen bad names witness.now verdict)) }
+    ensures refused { (known : List ℕ) → StandsFor known model.now → IfErr result (IsStop (λ _. ⊥) (CallTellsNoForm known chosen bad)) }
 {
     match engine_form(alloc, circuit, choice_of(chosen, bad)) {
         Ok(form) => lift_through(
@@ -178,8 +178,8 @@ fn lift_witness(
     text: &mut VecSink,
 ) -> Result<Verdict, Stop>
     requires empty { ⟦<VecSink as Sink>⟧.written text.old ≡ Some [] }
-    ensures done { (known : List ℕ) → StandsFor known model.now → IfOk result (λ verdict. IfSome (⟦<VecSink as Sink>⟧.written text.new) (IsFormLifted known chosen bad names witness.now verdict)) }
-    ensures refused { (known : List ℕ) → StandsFor known model.now → IfErr result (IsStop (λ _. ⊥) (IsNotForEngines known chosen bad)) }
+    ensures done { (known : List ℕ) → StandsFor known model.now → IfOk result (λ verdict. IfSome (⟦<VecSink as Sink>⟧.written text.new) (CallLiftsForm known chosen bad names witness.now verdict)) }
+    ensures refused { (known : List ℕ) → StandsFor known model.now → IfErr result (IsStop (λ _. ⊥) (CallTellsNoForm known chosen bad)) }
 {
     match lower(alloc, model) {
         Ok(circuit) => lift_by_form(alloc, model, &circuit, chosen, bad, names, witness, text),
@@ -198,8 +198,8 @@ fn witness_lifted(
     text: &mut VecSink,
 ) -> Result<Verdict, Stop>
     requires empty { ⟦<VecSink as Sink>⟧.written text.old ≡ Some [] }
-    ensures done { IfOk result (λ verdict. IfSome (⟦<VecSink as Sink>⟧.written text.new) (IsFormLifted model.now chosen bad names witness.now verdict)) }
-    ensures refused { IfErr result (IsStop (IsNoModel model.now) (IsNotForEngines model.now chosen bad)) }
+    ensures done { IfOk result (λ verdict. IfSome (⟦<VecSink as Sink>⟧.written text.new) (CallLiftsForm model.now chosen bad names witness.now verdict)) }
+    ensures refused { IfErr result (IsStop (CallTellsNoModel model.now) (CallTellsNoForm model.now chosen bad)) }
 {
     let read = read_model(alloc, model)?;
     lift_witness(alloc, &read, chosen, bad, names, witness, text)
@@ -229,10 +229,10 @@ pub extern "C" fn hwtool_lift_engine(
     needed: &mut usize,
     refusal: &mut Refusal,
 ) -> u32
-    ensures done { result ≡ 0 → Fills (IsFormLifted model.now chosen bad names witness.now verdict.new) buffer.old buffer.new needed.new }
-    ensures small { result ≡ 1 → Needs (IsFormLifted model.now chosen bad names witness.now verdict.new) buffer.old buffer.new needed.new }
-    ensures refused { result ≡ 2 → IsNoModel model.now refusal.new }
-    ensures formless { result ≡ 3 → IsNotForEngines model.now chosen bad refusal.new }
+    ensures done { result ≡ 0 → Fills (CallLiftsForm model.now chosen bad names witness.now verdict.new) buffer.old buffer.new needed.new }
+    ensures small { result ≡ 1 → Needs (CallLiftsForm model.now chosen bad names witness.now verdict.new) buffer.old buffer.new needed.new }
+    ensures refused { result ≡ 2 → CallTellsNoModel model.now refusal.new }
+    ensures formless { result ≡ 3 → CallTellsNoForm model.now chosen bad refusal.new }
     ensures statuses { (result ≡ 0) ⊎ ((result ≡ 1) ⊎ ((result ≡ 2) ⊎ ((result ≡ 3) ⊎ (result ≡ 4)))) }
     ensures unwritten { (result ≡ 2) ⊎ ((result ≡ 3) ⊎ (result ≡ 4)) → (verdict.new ≡ verdict.old) × ((buffer.new ≡ buffer.old) × (needed.new ≡ needed.old)) }
     ensures refusal_stays { (result ≡ 0) ⊎ ((result ≡ 1) ⊎ (result ≡ 4)) → refusal.new ≡ refusal.old }
@@ -270,8 +270,8 @@ pub extern "C" fn hwtool_lift_engine_abc(
 ) -> u32
     ensures done { result ≡ 0 → Fills (IsFoundLifted model.now bad names found.now verdict.new) buffer.old buffer.new needed.new }
     ensures small { result ≡ 1 → Needs (IsFoundLifted model.now bad names found.now verdict.new) buffer.old buffer.new needed.new }
-    ensures refused { result ≡ 2 → IsNoModel model.now refusal.new }
-    ensures formless { result ≡ 3 → IsNotForEngines model.now true bad refusal.new }
+    ensures refused { result ≡ 2 → CallTellsNoModel model.now refusal.new }
+    ensures formless { result ≡ 3 → CallTellsNoForm model.now true bad refusal.new }
     ensures statuses { (result ≡ 0) ⊎ ((result ≡ 1) ⊎ ((result ≡ 2) ⊎ ((result ≡ 3) ⊎ (result ≡ 4)))) }
     ensures unwritten { (result ≡ 2) ⊎ ((result ≡ 3) ⊎ (result ≡ 4)) → (verdict.new ≡ verdict.old) × ((buffer.new ≡ buffer.old) × (needed.new ≡ needed.old)) }
     ensures refusal_stays { (result ≡ 0) ⊎ ((result ≡ 1) ⊎ (result ≡ 4)) → refusal.new ≡ refusal.old }

@@ -1,7 +1,7 @@
 //! The call that writes circuits for engines.
 ghost use Rattle.std.specs.Prelude.{◌≡◌, ◌⊎◌, ℕ, List, IfOk, IfErr, IfSome, length};
-ghost use Rattle.aigertext.specs.Spelling.{Spells};
-ghost use Rattle.capi.specs.Judged.{IsNoCircuit, IsStop};
+ghost use Rattle.aigertext.specs.Spelling.{SpellsCircuit};
+ghost use Rattle.capi.specs.Judged.{CallTellsNoCircuit, IsStop};
 ghost use Rattle.capi.specs.Lifted.{IsForm, IsFormless, choice_of, form_stop};
 ghost use Rattle.capi.specs.Written.{Fills, Needs};
 
@@ -42,8 +42,8 @@ fn form_text(
     bad: usize,
     binary: bool,
 ) -> Result<VecSink, Stop>
-    ensures done { (text : List ℕ) → Spells text circuit.now → IfOk result (λ sink. IfSome (⟦<VecSink as Sink>⟧.written sink) (IsForm text chosen bad binary)) }
-    ensures refused { (text : List ℕ) → Spells text circuit.now → IfErr result (IsStop (λ _. ⊥) (IsFormless text chosen bad)) }
+    ensures done { (text : List ℕ) → SpellsCircuit text circuit.now → IfOk result (λ sink. IfSome (⟦<VecSink as Sink>⟧.written sink) (IsForm text chosen bad binary)) }
+    ensures refused { (text : List ℕ) → SpellsCircuit text circuit.now → IfErr result (IsStop (λ _. ⊥) (IsFormless text chosen bad)) }
 {
     match engine_form(alloc, circuit, choice_of(chosen, bad)) {
         Ok(form) => text_of(alloc, &form, form_of(binary)),
@@ -60,7 +60,7 @@ fn formed(
     binary: bool,
 ) -> Result<VecSink, Stop>
     ensures done { IfOk result (λ sink. IfSome (⟦<VecSink as Sink>⟧.written sink) (IsForm circuit.now chosen bad binary)) }
-    ensures refused { IfErr result (IsStop (IsNoCircuit circuit.now) (IsFormless circuit.now chosen bad)) }
+    ensures refused { IfErr result (IsStop (CallTellsNoCircuit circuit.now) (IsFormless circuit.now chosen bad)) }
 {
     let read = read_circuit(alloc, circuit)?;
     form_text(alloc, &read, chosen, bad, binary)
@@ -86,7 +86,7 @@ pub extern "C" fn hwtool_engine_form(
 ) -> u32
     ensures done { result ≡ 0 → Fills (IsForm circuit.now chosen bad binary) buffer.old buffer.new needed.new }
     ensures small { result ≡ 1 → Needs (IsForm circuit.now chosen bad binary) buffer.old buffer.new needed.new }
-    ensures refused { result ≡ 2 → IsNoCircuit circuit.now refusal.new }
+    ensures refused { result ≡ 2 → CallTellsNoCircuit circuit.now refusal.new }
     ensures formless { result ≡ 3 → IsFormless circuit.now chosen bad refusal.new }
     ensures statuses { (result ≡ 0) ⊎ ((result ≡ 1) ⊎ ((result ≡ 2) ⊎ ((result ≡ 3) ⊎ (result ≡ 4)))) }
     ensures unwritten { (result ≡ 2) ⊎ ((result ≡ 3) ⊎ (result ≡ 4)) → (buffer.new ≡ buffer.old) × (needed.new ≡ needed.old) }

@@ -1,8 +1,8 @@
 //! The calls that judge witnesses.
 ghost use Rattle.std.specs.Prelude.{◌≡◌, ◌≢◌, ◌⊎◌, ℕ, List, IfOk, IfErr};
 ghost use Rattle.btor2text.specs.Spelling.{StandsFor};
-ghost use Rattle.aigertext.specs.Spelling.{Spells};
-ghost use Rattle.capi.specs.Judged.{IsBitVerdict, IsNoCircuit, IsNoModel, IsStop, IsUnjudged, IsWordVerdict};
+ghost use Rattle.aigertext.specs.Spelling.{SpellsCircuit};
+ghost use Rattle.capi.specs.Judged.{IsBitVerdict, CallTellsNoCircuit, CallTellsNoModel, IsStop, IsUnjudged, IsWordVerdict};
 
 use crate::answers::{DONE, Refusal, Stop, Verdict, tell};
 use crate::reading::{read_circuit, read_model};
@@ -15,7 +15,7 @@ use witness::{JudgeFault, judge_bits, judge_words};
 /// Judges a witness over a model.
 fn word_verdict(alloc: Global, model: &[u8], witness: &[u8]) -> Result<Verdict, Stop>
     ensures done { IfOk result (IsWordVerdict model.now witness.now) }
-    ensures refused { IfErr result (IsStop (IsNoModel model.now) (IsUnjudged model.now)) }
+    ensures refused { IfErr result (IsStop (CallTellsNoModel model.now) (IsUnjudged model.now)) }
 {
     let read = read_model(alloc, model)?;
     judge_over_model(alloc, &read, witness)
@@ -41,7 +41,7 @@ fn judge_over_model(alloc: Global, model: &Model, witness: &[u8]) -> Result<Verd
 /// Judges a witness over a circuit.
 fn bit_verdict(alloc: Global, circuit: &[u8], witness: &[u8]) -> Result<Verdict, Stop>
     ensures done { IfOk result (IsBitVerdict circuit.now witness.now) }
-    ensures refused { IfErr result (IsStop (IsNoCircuit circuit.now) (λ _. ⊥)) }
+    ensures refused { IfErr result (IsStop (CallTellsNoCircuit circuit.now) (λ _. ⊥)) }
 {
     let read = read_circuit(alloc, circuit)?;
     judge_over_circuit(alloc, &read, witness)
@@ -49,7 +49,7 @@ fn bit_verdict(alloc: Global, circuit: &[u8], witness: &[u8]) -> Result<Verdict,
 
 /// Judges a witness over a circuit that was read.
 fn judge_over_circuit(alloc: Global, circuit: &Circuit, witness: &[u8]) -> Result<Verdict, Stop>
-    ensures done { (text : List ℕ) → Spells text circuit.now → IfOk result (IsBitVerdict text witness.now) }
+    ensures done { (text : List ℕ) → SpellsCircuit text circuit.now → IfOk result (IsBitVerdict text witness.now) }
     ensures refused { IfErr result (IsStop (λ _. ⊥) (λ _. ⊥)) }
 {
     // the lists of a circuit are one
@@ -76,7 +76,7 @@ pub extern "C" fn hwtool_check_btor(
     refusal: &mut Refusal,
 ) -> u32
     ensures done { result ≡ 0 → IsWordVerdict model.now witness.now verdict.new }
-    ensures refused { result ≡ 2 → IsNoModel model.now refusal.new }
+    ensures refused { result ≡ 2 → CallTellsNoModel model.now refusal.new }
     ensures unjudged { result ≡ 3 → IsUnjudged model.now refusal.new }
     ensures statuses { (result ≡ 0) ⊎ ((result ≡ 2) ⊎ ((result ≡ 3) ⊎ (result ≡ 4))) }
     ensures verdict_stays { result ≢ 0 → verdict.new ≡ verdict.old }
@@ -104,7 +104,7 @@ pub extern "C" fn hwtool_check_aig(
     refusal: &mut Refusal,
 ) -> u32
     ensures done { result ≡ 0 → IsBitVerdict circuit.now witness.now verdict.new }
-    ensures refused { result ≡ 2 → IsNoCircuit circuit.now refusal.new }
+    ensures refused { result ≡ 2 → CallTellsNoCircuit circuit.now refusal.new }
     ensures statuses { (result ≡ 0) ⊎ ((result ≡ 2) ⊎ (result ≡ 4)) }
     ensures verdict_stays { result ≢ 0 → verdict.new ≡ verdict.old }
     ensures refusal_stays { (result ≡ 0) ⊎ (result ≡ 4) → refusal.new ≡ refusal.old }

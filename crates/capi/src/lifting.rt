@@ -2,9 +2,9 @@
 ghost use Rattle.std.specs.Prelude.{◌≡◌, ◌≢◌, ◌⊎◌, ℕ, List, [], Some, IfOk, IfErr, IfSome, length};
 ghost use Rattle.btor2text.specs.Spelling.{StandsFor};
 ghost use Rattle.blast.specs.Lowering.{Lowers};
-ghost use Rattle.capi.specs.Judged.{IsNoModel, IsStop, IsUnjudged};
+ghost use Rattle.capi.specs.Judged.{CallTellsNoModel, IsStop, IsUnjudged};
 ghost use Rattle.capi.specs.Lifted.{IsDump, IsLift, shown_of};
-ghost use Rattle.capi.specs.Written.{Fills, IsUnlowered, Needs};
+ghost use Rattle.capi.specs.Written.{Fills, CallTellsUnlowered, Needs};
 
 use crate::answers::{Refusal, Stop, Verdict, tell};
 use crate::buffers::hand_over;
@@ -47,7 +47,7 @@ fn lift_model(
 ) -> Result<Verdict, Stop>
     requires empty { ⟦<VecSink as Sink>⟧.written text.old ≡ Some [] }
     ensures done { (known : List ℕ) → StandsFor known model.now → IfOk result (λ verdict. IfSome (⟦<VecSink as Sink>⟧.written text.new) (IsLift known witness.now verdict)) }
-    ensures refused { (known : List ℕ) → StandsFor known model.now → IfErr result (IsStop (λ _. ⊥) (IsUnlowered known)) }
+    ensures refused { (known : List ℕ) → StandsFor known model.now → IfErr result (IsStop (λ _. ⊥) (CallTellsUnlowered known)) }
 {
     match lower(alloc, model) {
         Ok(circuit) => lift_over(alloc, model, &circuit, witness, text),
@@ -59,7 +59,7 @@ fn lift_model(
 fn lifted(alloc: Global, model: &[u8], witness: &[u8], text: &mut VecSink) -> Result<Verdict, Stop>
     requires empty { ⟦<VecSink as Sink>⟧.written text.old ≡ Some [] }
     ensures done { IfOk result (λ verdict. IfSome (⟦<VecSink as Sink>⟧.written text.new) (IsLift model.now witness.now verdict)) }
-    ensures refused { IfErr result (IsStop (IsNoModel model.now) (IsUnlowered model.now)) }
+    ensures refused { IfErr result (IsStop (CallTellsNoModel model.now) (CallTellsUnlowered model.now)) }
 {
     let read = read_model(alloc, model)?;
     lift_model(alloc, &read, witness, text)
@@ -107,7 +107,7 @@ fn dumped(
 ) -> Result<Verdict, Stop>
     requires empty { ⟦<VecSink as Sink>⟧.written text.old ≡ Some [] }
     ensures done { IfOk result (λ verdict. IfSome (⟦<VecSink as Sink>⟧.written text.new) (IsDump model.now all title.now witness.now verdict)) }
-    ensures refused { IfErr result (IsStop (IsNoModel model.now) (IsUnjudged model.now)) }
+    ensures refused { IfErr result (IsStop (CallTellsNoModel model.now) (IsUnjudged model.now)) }
 {
     let read = read_model(alloc, model)?;
     dump_over(alloc, &read, all, title, witness, text)
@@ -133,8 +133,8 @@ pub extern "C" fn hwtool_lift(
 ) -> u32
     ensures done { result ≡ 0 → Fills (IsLift model.now witness.now verdict.new) buffer.old buffer.new needed.new }
     ensures small { result ≡ 1 → Needs (IsLift model.now witness.now verdict.new) buffer.old buffer.new needed.new }
-    ensures refused { result ≡ 2 → IsNoModel model.now refusal.new }
-    ensures unlowered { result ≡ 3 → IsUnlowered model.now refusal.new }
+    ensures refused { result ≡ 2 → CallTellsNoModel model.now refusal.new }
+    ensures unlowered { result ≡ 3 → CallTellsUnlowered model.now refusal.new }
     ensures statuses { (result ≡ 0) ⊎ ((result ≡ 1) ⊎ ((result ≡ 2) ⊎ ((result ≡ 3) ⊎ (result ≡ 4)))) }
     ensures unwritten { (result ≡ 2) ⊎ ((result ≡ 3) ⊎ (result ≡ 4)) → (verdict.new ≡ verdict.old) × ((buffer.new ≡ buffer.old) × (needed.new ≡ needed.old)) }
     ensures refusal_stays { (result ≡ 0) ⊎ ((result ≡ 1) ⊎ (result ≡ 4)) → refusal.new ≡ refusal.old }
@@ -171,7 +171,7 @@ pub extern "C" fn hwtool_wave(
 ) -> u32
     ensures done { result ≡ 0 → Fills (IsDump model.now all title.now witness.now verdict.new) buffer.old buffer.new needed.new }
     ensures small { result ≡ 1 → Needs (IsDump model.now all title.now witness.now verdict.new) buffer.old buffer.new needed.new }
-    ensures refused { result ≡ 2 → IsNoModel model.now refusal.new }
+    ensures refused { result ≡ 2 → CallTellsNoModel model.now refusal.new }
     ensures unjudged { result ≡ 3 → IsUnjudged model.now refusal.new }
     ensures statuses { (result ≡ 0) ⊎ ((result ≡ 1) ⊎ ((result ≡ 2) ⊎ ((result ≡ 3) ⊎ (result ≡ 4)))) }
     ensures unwritten { (result ≡ 2) ⊎ ((result ≡ 3) ⊎ (result ≡ 4)) → (verdict.new ≡ verdict.old) × ((buffer.new ≡ buffer.old) × (needed.new ≡ needed.old)) }

@@ -1,10 +1,10 @@
 //! The calls that write circuits, and what a circuit costs.
 ghost use Rattle.std.specs.Prelude.{◌≡◌, ◌≢◌, ◌⊎◌, ℕ, List, Some, IfOk, IfErr, IfSome, length};
 ghost use Rattle.aigertext.specs.Binary.{circuit_text};
-ghost use Rattle.aigertext.specs.Spelling.{Spells};
+ghost use Rattle.aigertext.specs.Spelling.{SpellsCircuit};
 ghost use Rattle.btor2text.specs.Spelling.{StandsFor};
-ghost use Rattle.capi.specs.Judged.{IsNoCircuit, IsNoModel, IsStop};
-ghost use Rattle.capi.specs.Written.{Fills, IsCost, IsLowering, IsRewriting, IsUnlowered, Needs, form_of, stop_of};
+ghost use Rattle.capi.specs.Judged.{CallTellsNoCircuit, CallTellsNoModel, IsStop};
+ghost use Rattle.capi.specs.Written.{Fills, IsCost, IsLowering, IsRewriting, CallTellsUnlowered, Needs, form_asked, stop_of};
 
 use crate::answers::{DONE, Refusal, Stop, tell};
 use crate::buffers::hand_over;
@@ -18,7 +18,7 @@ use std::alloc::Global;
 
 /// The form of a circuit that is asked for.
 pub(crate) fn form_of(binary: bool) -> Form
-    ensures { result ≡ form_of binary }
+    ensures { result ≡ form_asked binary }
 {
     if binary { Form::Binary } else { Form::Ascii }
 }
@@ -52,7 +52,7 @@ pub(crate) fn text_of(alloc: Global, circuit: &Circuit, form: Form) -> Result<Ve
 /// Lowers a model that was read.
 fn lower_model(alloc: Global, model: &Model, binary: bool) -> Result<VecSink, Stop>
     ensures done { (text : List ℕ) → StandsFor text model.now → IfOk result (λ sink. IfSome (⟦<VecSink as Sink>⟧.written sink) (IsLowering text binary)) }
-    ensures refused { (text : List ℕ) → StandsFor text model.now → IfErr result (IsStop (λ _. ⊥) (IsUnlowered text)) }
+    ensures refused { (text : List ℕ) → StandsFor text model.now → IfErr result (IsStop (λ _. ⊥) (CallTellsUnlowered text)) }
 {
     match lower(alloc, model) {
         Ok(circuit) => text_of(alloc, &circuit, form_of(binary)),
@@ -63,7 +63,7 @@ fn lower_model(alloc: Global, model: &Model, binary: bool) -> Result<VecSink, St
 /// Lowers the model of a text.
 fn lowered(alloc: Global, model: &[u8], binary: bool) -> Result<VecSink, Stop>
     ensures done { IfOk result (λ sink. IfSome (⟦<VecSink as Sink>⟧.written sink) (IsLowering model.now binary)) }
-    ensures refused { IfErr result (IsStop (IsNoModel model.now) (IsUnlowered model.now)) }
+    ensures refused { IfErr result (IsStop (CallTellsNoModel model.now) (CallTellsUnlowered model.now)) }
 {
     let read = read_model(alloc, model)?;
     lower_model(alloc, &read, binary)
@@ -71,7 +71,7 @@ fn lowered(alloc: Global, model: &[u8], binary: bool) -> Result<VecSink, Stop>
 
 /// Writes a circuit that was read.
 fn rewrite(alloc: Global, circuit: &Circuit, binary: bool) -> Result<VecSink, Stop>
-    ensures done { (text : List ℕ) → Spells text circuit.now → IfOk result (λ sink. IfSome (⟦<VecSink as Sink>⟧.written sink) (IsRewriting text binary)) }
+    ensures done { (text : List ℕ) → SpellsCircuit text circuit.now → IfOk result (λ sink. IfSome (⟦<VecSink as Sink>⟧.written sink) (IsRewriting text binary)) }
     ensures refused { IfErr result (IsStop (λ _. ⊥) (λ _. ⊥)) }
 {
     // the lists of a circuit are one
@@ -82,7 +82,7 @@ fn rewrite(alloc: Global, circuit: &Circuit, binary: bool) -> Result<VecSink, St
 /// Writes the circuit of a text.
 fn rewritten(alloc: Global, circuit: &[u8], binary: bool) -> Result<VecSink, Stop>
     ensures done { IfOk result (λ sink. IfSome (⟦<VecSink as Sink>⟧.written sink) (IsRewriting circuit.now binary)) }
-    ensures refused { IfErr result (IsStop (IsNoCircuit circuit.now) (λ _. ⊥)) }
+    ensures refused { IfErr result (IsStop (CallTellsNoCircuit circuit.now) (λ _. ⊥)) }
 {
     let read = read_circuit(alloc, circuit)?;
     rewrite(alloc, &read, binary)
@@ -105,8 +105,8 @@ pub extern "C" fn hwtool_lower(
 ) -> u32
     ensures done { result ≡ 0 → Fills (IsLowering model.now binary) buffer.old buffer.new needed.new }
     ensures small { result ≡ 1 → Needs (IsLowering model.now binary) buffer.old buffer.new needed.new }
-    ensures refused { result ≡ 2 → IsNoModel model.now refusal.new }
-    ensures unlowered { result ≡ 3 → IsUnlowered model.now refusal.new }
+    ensures refused { result ≡ 2 → CallTellsNoModel model.now refusal.new }
+    ensures unlowered { result ≡ 3 → CallTellsUnlowered model.now refusal.new }
     ensures statuses { (result ≡ 0) ⊎ ((result ≡ 1) ⊎ ((result ≡ 2) ⊎ ((result ≡ 3) ⊎ (result ≡ 4)))) }
     ensures unwritten { (result ≡ 2) ⊎ ((result ≡ 3) ⊎ (result ≡ 4)) → (buffer.new ≡ buffer.old) × (needed.new ≡ needed.old) }
     ensures refusal_stays { (result ≡ 0) ⊎ ((result ≡ 1) ⊎ (result ≡ 4)) → refusal.new ≡ refusal.old }
@@ -134,7 +134,7 @@ pub extern "C" fn hwtool_convert(
 ) -> u32
     ensures done { result ≡ 0 → Fills (IsRewriting circuit.now binary) buffer.old buffer.new needed.new }
     ensures small { result ≡ 1 → Needs (IsRewriting circuit.now binary) buffer.old buffer.new needed.new }
-    ensures refused { result ≡ 2 → IsNoCircuit circuit.now refusal.new }
+    ensures refused { result ≡ 2 → CallTellsNoCircuit circuit.now refusal.new }
     ensures statuses { (result ≡ 0) ⊎ ((result ≡ 1) ⊎ ((result ≡ 2) ⊎ (result ≡ 4))) }
     ensures unwritten { (result ≡ 2) ⊎ (result ≡ 4) → (buffer.new ≡ buffer.old) × (needed.new ≡ needed.old) }
     ensures refusal_stays { (result ≡ 0) ⊎ ((result ≡ 1) ⊎ (result ≡ 4)) → refusal.new ≡ refusal.old }
@@ -158,7 +158,7 @@ pub extern "C" fn hwtool_cost(
     refusal: &mut Refusal,
 ) -> u32
     ensures done { result ≡ 0 → IsCost model.now gates.new variables.new }
-    ensures refused { result ≡ 2 → IsNoModel model.now refusal.new }
+    ensures refused { result ≡ 2 → CallTellsNoModel model.now refusal.new }
     ensures statuses { (result ≡ 0) ⊎ ((result ≡ 2) ⊎ (result ≡ 4)) }
     ensures untold { result ≢ 0 → (gates.new ≡ gates.old) × (variables.new ≡ variables.old) }
     ensures refusal_stays { (result ≡ 0) ⊎ (result ≡ 4) → refusal.new ≡ refusal.old }

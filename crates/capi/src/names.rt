@@ -1,7 +1,7 @@
 //! The calls that name refusals and the version.
 ghost use Rattle.std.specs.Prelude.{◌≡◌, ◌⊎◌, None, IfSome, option_map};
 ghost use Rattle.orders.specs.Version.{version};
-ghost use Rattle.capi.specs.Named.{IsName, IsOfNone, name_among, name_in};
+ghost use Rattle.capi.specs.Named.{IsRefusalName, IsOfNone, name_among, name_listed};
 ghost use Rattle.capi.specs.Written.{Fills, Needs};
 
 use crate::buffers::hand_over;
@@ -13,7 +13,7 @@ const UNKNOWN: u32 = 2;
 
 /// The name of the first of some rows that has a number.
 fn name_in(rows: &[Explanation], number: u32) -> Option<&'static str>
-    ensures { option_map (λ name. name.now) result ≡ name_in number rows.now }
+    ensures { option_map (λ name. name.now) result ≡ name_listed number rows.now }
 {
     let mut rest = rows;
     while let [row, behind @ ..] = rest {
@@ -42,7 +42,7 @@ fn name_among(parts: &[Part], number: u32) -> Option<&'static str>
 
 /// The name of a refusal, as the program prints it.
 fn name_of(number: u32) -> Option<&'static str>
-    ensures named { IfSome result (λ name. IsName number name.now) }
+    ensures named { IfSome result (λ name. IsRefusalName number name.now) }
     ensures unnamed { result ≡ None → IsOfNone number }
 {
     name_among(&refusal_table(), number)
@@ -55,8 +55,8 @@ fn name_of(number: u32) -> Option<&'static str>
 /// then.
 #[unsafe(no_mangle)]
 pub extern "C" fn hwtool_name(number: u32, buffer: &mut [u8], needed: &mut usize) -> u32
-    ensures done { result ≡ 0 → Fills (IsName number) buffer.old buffer.new needed.new }
-    ensures small { result ≡ 1 → Needs (IsName number) buffer.old buffer.new needed.new }
+    ensures done { result ≡ 0 → Fills (IsRefusalName number) buffer.old buffer.new needed.new }
+    ensures small { result ≡ 1 → Needs (IsRefusalName number) buffer.old buffer.new needed.new }
     ensures unknown { result ≡ 2 → IsOfNone number }
     ensures statuses { (result ≡ 0) ⊎ ((result ≡ 1) ⊎ (result ≡ 2)) }
     ensures unwritten { result ≡ 2 → (buffer.new ≡ buffer.old) × (needed.new ≡ needed.old) }

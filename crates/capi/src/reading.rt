@@ -2,8 +2,8 @@
 ghost use Rattle.std.specs.Prelude.{IfOk, IfErr};
 ghost use Rattle.btor2.specs.Check.{IsWellFormed};
 ghost use Rattle.btor2text.specs.Spelling.{StandsFor};
-ghost use Rattle.aigertext.specs.Spelling.{Spells};
-ghost use Rattle.capi.specs.Judged.{IsNoCircuit, IsNoModel, IsStop};
+ghost use Rattle.aigertext.specs.Spelling.{SpellsCircuit};
+ghost use Rattle.capi.specs.Judged.{CallTellsNoCircuit, CallTellsNoModel, IsStop};
 
 use crate::answers::{Refusal, Stop};
 use aiger::Circuit;
@@ -13,7 +13,7 @@ use std::alloc::Global;
 /// Reads the text of a model.
 pub(crate) fn read_model(alloc: Global, text: &[u8]) -> Result<Model, Stop>
     ensures read { IfOk result (λ model. StandsFor text.now model) }
-    ensures refused { IfErr result (IsStop (IsNoModel text.now) (λ _. ⊥)) }
+    ensures refused { IfErr result (IsStop (CallTellsNoModel text.now) (λ _. ⊥)) }
 {
     let mut source = text;
     match btor2text::read(alloc, &mut source) {
@@ -30,8 +30,8 @@ pub(crate) fn read_model(alloc: Global, text: &[u8]) -> Result<Model, Stop>
 
 /// Reads the text of a circuit, of either form.
 pub(crate) fn read_circuit(alloc: Global, text: &[u8]) -> Result<Circuit, Stop>
-    ensures read { IfOk result (λ circuit. Spells text.now circuit) }
-    ensures refused { IfErr result (IsStop (IsNoCircuit text.now) (λ _. ⊥)) }
+    ensures read { IfOk result (λ circuit. SpellsCircuit text.now circuit) }
+    ensures refused { IfErr result (IsStop (CallTellsNoCircuit text.now) (λ _. ⊥)) }
 {
     let mut source = text;
     match aigertext::read(alloc, &mut source) {

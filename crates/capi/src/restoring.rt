@@ -1,11 +1,11 @@
 //! The calls that restore what engines find over engine forms of circuits.
 ghost use Rattle.std.specs.Prelude.{◌≡◌, ◌⊎◌, ◌<◌, ℕ, List, [], None, Some, true, IfOk, IfErr, IfSome, length};
-ghost use Rattle.aigertext.specs.Spelling.{Spells};
+ghost use Rattle.aigertext.specs.Spelling.{SpellsCircuit};
 ghost use Rattle.engine.specs.EngineForm.{IsEngineFormOf};
 ghost use Rattle.engine.specs.Refusal.{engine_refusal};
-ghost use Rattle.capi.specs.Judged.{IsNoCircuit, IsStop};
+ghost use Rattle.capi.specs.Judged.{CallTellsNoCircuit, IsStop};
 ghost use Rattle.capi.specs.Lifted.{IsFormless, choice_of};
-ghost use Rattle.capi.specs.Restored.{IsFormRestored, IsRestored};
+ghost use Rattle.capi.specs.Restored.{CallRestoresForm, CallRestores};
 ghost use Rattle.capi.specs.Written.{Fills, Needs};
 
 use crate::answers::{Refusal, Stop, Verdict, tell};
@@ -29,7 +29,7 @@ fn restore_over(
     requires accepted { engine_refusal circuit.now (Some bad) ≡ None }
     requires there { bad < length circuit.now.bads }
     requires empty { ⟦<VecSink as Sink>⟧.written text.old ≡ Some [] }
-    ensures done { (known : List ℕ) → Spells known circuit.now → IfOk result (λ verdict. IfSome (⟦<VecSink as Sink>⟧.written text.new) (IsRestored known bad found.now verdict)) }
+    ensures done { (known : List ℕ) → SpellsCircuit known circuit.now → IfOk result (λ verdict. IfSome (⟦<VecSink as Sink>⟧.written text.new) (CallRestores known bad found.now verdict)) }
     ensures refused { IfErr result (IsStop (λ _. ⊥) (λ _. ⊥)) }
 {
     // the lists of a circuit are one
@@ -56,8 +56,8 @@ fn restore_found(
     text: &mut VecSink,
 ) -> Result<Verdict, Stop>
     requires empty { ⟦<VecSink as Sink>⟧.written text.old ≡ Some [] }
-    ensures done { (known : List ℕ) → Spells known circuit.now → IfOk result (λ verdict. IfSome (⟦<VecSink as Sink>⟧.written text.new) (IsRestored known bad found.now verdict)) }
-    ensures refused { (known : List ℕ) → Spells known circuit.now → IfErr result (IsStop (λ _. ⊥) (IsFormless known true bad)) }
+    ensures done { (known : List ℕ) → SpellsCircuit known circuit.now → IfOk result (λ verdict. IfSome (⟦<VecSink as Sink>⟧.written text.new) (CallRestores known bad found.now verdict)) }
+    ensures refused { (known : List ℕ) → SpellsCircuit known circuit.now → IfErr result (IsStop (λ _. ⊥) (IsFormless known true bad)) }
 {
     match why_no_form(circuit, Some(bad)) {
         Some(fault) => Err(form_stop(fault)),
@@ -74,8 +74,8 @@ fn found_restored(
     text: &mut VecSink,
 ) -> Result<Verdict, Stop>
     requires empty { ⟦<VecSink as Sink>⟧.written text.old ≡ Some [] }
-    ensures done { IfOk result (λ verdict. IfSome (⟦<VecSink as Sink>⟧.written text.new) (IsRestored circuit.now bad found.now verdict)) }
-    ensures refused { IfErr result (IsStop (IsNoCircuit circuit.now) (IsFormless circuit.now true bad)) }
+    ensures done { IfOk result (λ verdict. IfSome (⟦<VecSink as Sink>⟧.written text.new) (CallRestores circuit.now bad found.now verdict)) }
+    ensures refused { IfErr result (IsStop (CallTellsNoCircuit circuit.now) (IsFormless circuit.now true bad)) }
 {
     let read = read_circuit(alloc, circuit)?;
     restore_found(alloc, &read, bad, found, text)
@@ -93,7 +93,7 @@ fn restore_through(
 ) -> Result<Verdict, Stop>
     requires is_form { IsEngineFormOf circuit.now (choice_of chosen bad) form.now }
     requires empty { ⟦<VecSink as Sink>⟧.written text.old ≡ Some [] }
-    ensures done { (known : List ℕ) → Spells known circuit.now → IfOk result (λ verdict. IfSome (⟦<VecSink as Sink>⟧.written text.new) (IsFormRestored known chosen bad witness.now verdict)) }
+    ensures done { (known : List ℕ) → SpellsCircuit known circuit.now → IfOk result (λ verdict. IfSome (⟦<VecSink as Sink>⟧.written text.new) (CallRestoresForm known chosen bad witness.now verdict)) }
     ensures refused { IfErr result (IsStop (λ _. ⊥) (λ _. ⊥)) }
 {
     let mut source = witness;
@@ -120,8 +120,8 @@ fn restore_witness(
     text: &mut VecSink,
 ) -> Result<Verdict, Stop>
     requires empty { ⟦<VecSink as Sink>⟧.written text.old ≡ Some [] }
-    ensures done { (known : List ℕ) → Spells known circuit.now → IfOk result (λ verdict. IfSome (⟦<VecSink as Sink>⟧.written text.new) (IsFormRestored known chosen bad witness.now verdict)) }
-    ensures refused { (known : List ℕ) → Spells known circuit.now → IfErr result (IsStop (λ _. ⊥) (IsFormless known chosen bad)) }
+    ensures done { (known : List ℕ) → SpellsCircuit known circuit.now → IfOk result (λ verdict. IfSome (⟦<VecSink as Sink>⟧.written text.new) (CallRestoresForm known chosen bad witness.now verdict)) }
+    ensures refused { (known : List ℕ) → SpellsCircuit known circuit.now → IfErr result (IsStop (λ _. ⊥) (IsFormless known chosen bad)) }
 {
     match engine_form(alloc, circuit, choice_of(chosen, bad)) {
         Ok(form) => restore_through(alloc, circuit, &form, chosen, bad, witness, text),
@@ -139,8 +139,8 @@ fn witness_restored(
     text: &mut VecSink,
 ) -> Result<Verdict, Stop>
     requires empty { ⟦<VecSink as Sink>⟧.written text.old ≡ Some [] }
-    ensures done { IfOk result (λ verdict. IfSome (⟦<VecSink as Sink>⟧.written text.new) (IsFormRestored circuit.now chosen bad witness.now verdict)) }
-    ensures refused { IfErr result (IsStop (IsNoCircuit circuit.now) (IsFormless circuit.now chosen bad)) }
+    ensures done { IfOk result (λ verdict. IfSome (⟦<VecSink as Sink>⟧.written text.new) (CallRestoresForm circuit.now chosen bad witness.now verdict)) }
+    ensures refused { IfErr result (IsStop (CallTellsNoCircuit circuit.now) (IsFormless circuit.now chosen bad)) }
 {
     let read = read_circuit(alloc, circuit)?;
     restore_witness(alloc, &read, chosen, bad, witness, text)
@@ -169,9 +169,9 @@ pub extern "C" fn hwtool_restore(
     needed: &mut usize,
     refusal: &mut Refusal,
 ) -> u32
-    ensures done { result ≡ 0 → Fills (IsFormRestored circuit.now chosen bad witness.now verdict.new) buffer.old buffer.new needed.new }
-    ensures small { result ≡ 1 → Needs (IsFormRestored circuit.now chosen bad witness.now verdict.new) buffer.old buffer.new needed.new }
-    ensures refused { result ≡ 2 → IsNoCircuit circuit.now refusal.new }
+    ensures done { result ≡ 0 → Fills (CallRestoresForm circuit.now chosen bad witness.now verdict.new) buffer.old buffer.new needed.new }
+    ensures small { result ≡ 1 → Needs (CallRestoresForm circuit.now chosen bad witness.now verdict.new) buffer.old buffer.new needed.new }
+    ensures refused { result ≡ 2 → CallTellsNoCircuit circuit.now refusal.new }
     ensures formless { result ≡ 3 → IsFormless circuit.now chosen bad refusal.new }
     ensures statuses { (result ≡ 0) ⊎ ((result ≡ 1) ⊎ ((result ≡ 2) ⊎ ((result ≡ 3) ⊎ (result ≡ 4)))) }
     ensures unwritten { (result ≡ 2) ⊎ ((result ≡ 3) ⊎ (result ≡ 4)) → (verdict.new ≡ verdict.old) × ((buffer.new ≡ buffer.old) × (needed.new ≡ needed.old)) }
@@ -206,9 +206,9 @@ pub extern "C" fn hwtool_restore_abc(
     needed: &mut usize,
     refusal: &mut Refusal,
 ) -> u32
-    ensures done { result ≡ 0 → Fills (IsRestored circuit.now bad found.now verdict.new) buffer.old buffer.new needed.new }
-    ensures small { result ≡ 1 → Needs (IsRestored circuit.now bad found.now verdict.new) buffer.old buffer.new needed.new }
-    ensures refused { result ≡ 2 → IsNoCircuit circuit.now refusal.new }
+    ensures done { result ≡ 0 → Fills (CallRestores circuit.now bad found.now verdict.new) buffer.old buffer.new needed.new }
+    ensures small { result ≡ 1 → Needs (CallRestores circuit.now bad found.now verdict.new) buffer.old buffer.new needed.new }
+    ensures refused { result ≡ 2 → CallTellsNoCircuit circuit.now refusal.new }
     ensures formless { result ≡ 3 → IsFormless circuit.now true bad refusal.new }
     ensures statuses { (result ≡ 0) ⊎ ((result ≡ 1) ⊎ ((result ≡ 2) ⊎ ((result ≡ 3) ⊎ (result ≡ 4)))) }
     ensures unwritten { (result ≡ 2) ⊎ ((result ≡ 3) ⊎ (result ≡ 4)) → (verdict.new ≡ verdict.old) × ((buffer.new ≡ buffer.old) × (needed.new ≡ needed.old)) }

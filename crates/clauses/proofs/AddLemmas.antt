@@ -6,7 +6,7 @@ use Rattle.std.proofs.lemmas.List.Elements.{All-append, All-contains}
 use Rattle.std.proofs.Math.Seq.{get_or-append_seam}
 use Rattle.std.specs.Prelude.{All, Contains, slice_range}
 use Rattle.clauses.specs.Marked.{Marked, set_of, AreMarked, ArePlaced}
-use Rattle.clauses.specs.Growth.{Extends, Grows, GrowsBy, Falsifies, AreSettled}
+use Rattle.clauses.specs.Growth.{Extends, GrowsMarked, GrowsBy, Falsifies, AreSettled}
 use Rattle.clauses.proofs.TrailLemmas.{same_order, prefix_take}
 use Rattle.clauses.proofs.WalkLemmas.{AreMet-stays, all_settled, units_kept}
 use Rattle.clauses.proofs.ConflictLemmas.{no_conflict, falsified_standing, settled_closed}
@@ -17,7 +17,7 @@ use Rattle.clauses.specs.Propagator.{State, KeepsPropagator, Extended}
 use Rattle.clauses.specs.Added.{Added, Unchanged}
 use Rattle.clauses.proofs.WatchLemmas.{place_of, on_off}
 use Rattle.base.specs.Literal.{negation}
-use Rattle.clauses.specs.Flat.{cut, standing, AreEnds}
+use Rattle.clauses.specs.Flat.{cut, standing, AreStartsAndEnds}
 use Rattle.clauses.specs.Lists.{list_at, IsListed}
 use Rattle.clauses.specs.Watched.{clause_at, IsWatched, IsUnit, Stays, AreMet, UnitsMet, IsMet, Chosen, CanWatch}
 use Rattle.base.proofs.LiteralLemmas.{negation-inside, negation-even, negation-odd}
@@ -38,7 +38,7 @@ pub range_last : (xs ys : List ℕ) → slice_range (xs ++ ys) (length xs) (leng
 range_last xs ys = ap (λ (zs : List ℕ). take (length (xs ++ ys) - length xs) zs) (drop_behind xs ys) ∙ (let e : length (xs ++ ys) - length xs ≡ length ys = omega (arith, length-append xs ys) in ap (λ (n : ℕ). take n ys) e ∙ take_whole ys)
 
 -- a stretch of the longer list: one that was there, and the last
-pub cut-add : (literals clause starts ends : List ℕ) → AreEnds (length literals) starts ends → cut (literals ++ clause) (starts ++ length literals ∷ []) (ends ++ length (literals ++ clause) ∷ []) ≡ cut literals starts ends ++ clause ∷ []
+pub cut-add : (literals clause starts ends : List ℕ) → AreStartsAndEnds (length literals) starts ends → cut (literals ++ clause) (starts ++ length literals ∷ []) (ends ++ length (literals ++ clause) ∷ []) ≡ cut literals starts ends ++ clause ∷ []
 cut-add literals clause [] [] o = ap (λ (c : List ℕ). c ∷ []) (range_last literals clause)
 cut-add literals clause [] (e ∷ es) o = absurd (omega (arith, o.as_many))
 cut-add literals clause (s ∷ ss) [] o = absurd (omega (arith, o.as_many))
@@ -47,7 +47,7 @@ cut-add literals clause (s ∷ ss) (e ∷ es) o =
     ap₂ (λ (c : List ℕ) (cs : List (List ℕ)). c ∷ cs) (range_kept literals clause s e first.0 first.1)
     (cut-add literals clause ss es (record { as_many = omega (arith, o.as_many); stretch = λ k h. o.stretch (suc k) (omega arith) }))
 
-pub AreEnds-add : (size more : ℕ) (starts ends : List ℕ) → AreEnds size starts ends → size ≤ more → AreEnds more (starts ++ size ∷ []) (ends ++ more ∷ [])
+pub AreEnds-add : (size more : ℕ) (starts ends : List ℕ) → AreStartsAndEnds size starts ends → size ≤ more → AreStartsAndEnds more (starts ++ size ∷ []) (ends ++ more ∷ [])
 AreEnds-add size more starts ends o h = record {
   as_many = omega (arith, o.as_many, length-append starts (size ∷ []), length-append ends (more ∷ []));
   stretch = λ k below.
@@ -196,10 +196,10 @@ module _ (clauses : List (List ℕ)) (clause : List ℕ) where
   pub closed_before : (s : Literals) → IsClosed (clauses ++ clause ∷ []) s → IsClosed clauses s
   closed_before s closed k h = subst (λ (c : List ℕ). IsClosedUnder c s) (old_clause clauses clause k h) (closed k (omega (arith, many_more)))
 
-  pub Grows-wider : (old new : Marked) → Grows clauses old new → Grows (clauses ++ clause ∷ []) old new
+  pub Grows-wider : (old new : Marked) → GrowsMarked clauses old new → GrowsMarked (clauses ++ clause ∷ []) old new
   Grows-wider old new g = record { follows = λ s closed within. g.follows s (closed_before s closed) within; consistent = g.consistent; as_many = g.as_many; longer = g.longer; kept = g.kept; prefix = g.prefix }
 
-  pub Grows-last : (old new : Marked) → GrowsBy clause old new → Grows (clauses ++ clause ∷ []) old new
+  pub Grows-last : (old new : Marked) → GrowsBy clause old new → GrowsMarked (clauses ++ clause ∷ []) old new
   Grows-last old new g = Grows-by (clauses ++ clause ∷ []) (length clauses) clause old new (omega (arith, many_more)) (sym (last_clause clauses clause (length clauses) refl)) g
 
   pub closed_more : (s : Literals) → IsClosed clauses s → IsClosedUnder clause s → IsClosed (clauses ++ clause ∷ []) s
@@ -222,7 +222,7 @@ module _ (clauses : List (List ℕ)) (clause : List ℕ) where
       (closed_places clauses s (λ k h. subst (λ (c : List ℕ). IsClosedUnder c s) (get_or_append_left (standing clauses) (clause ∷ []) [] k h) (closed k (omega (arith, h, length-append (standing clauses) (clause ∷ []))))))
       (subst (λ (c : List ℕ). IsClosedUnder c s) (get_or-append_seam (standing clauses) clause [] []) (closed (length (standing clauses)) (omega (arith, length-append (standing clauses) (clause ∷ [])))))
 
-  pub refuted : (old new : Marked) → Grows (clauses ++ clause ∷ []) old new → Falsifies clauses new ⊎ AllNegated clause (set_of new) → MeetsConflict (standing clauses ++ clause ∷ []) (set_of old)
+  pub refuted : (old new : Marked) → GrowsMarked (clauses ++ clause ∷ []) old new → Falsifies clauses new ⊎ AllNegated clause (set_of new) → MeetsConflict (standing clauses ++ clause ∷ []) (set_of old)
   refuted old new g f s closed within =
       let all = g.follows s (closed_all s closed) within in
       ⊎_elim
@@ -305,7 +305,7 @@ module _ (literals starts ends watched : List ℕ) (lists : List (List ℕ)) (tr
     KeepsPropagator-add = record {
       even = k.even;
       inside = subst (λ (ls : List ℕ). All (λ l. l < length trail.marks) ls) (sym a.literals_are) (All-append (λ l. l < length trail.marks) literals clause k.inside low);
-      ordered = subst (λ (ss : List ℕ). AreEnds (length literals') ss ends') (sym a.starts_are) (subst (λ (es : List ℕ). AreEnds (length literals') (starts ++ length literals ∷ []) es) (sym a.ends_are) (AreEnds-add (length literals) (length literals') starts ends k.ordered (omega (arith, ap length a.literals_are, length-append literals clause))));
+      ordered = subst (λ (ss : List ℕ). AreStartsAndEnds (length literals') ss ends') (sym a.starts_are) (subst (λ (es : List ℕ). AreStartsAndEnds (length literals') (starts ++ length literals ∷ []) es) (sym a.ends_are) (AreEnds-add (length literals) (length literals') starts ends k.ordered (omega (arith, ap length a.literals_are, length-append literals clause))));
       low = k.low;
       consistent = k.consistent;
       are_watched = subst (λ (cs : List (List ℕ)). IsWatched cs watched' lists' (length trail.marks)) (sym cut_is)
@@ -343,7 +343,7 @@ at_rest literals starts ends watched lists trail k = all_settled (cut literals s
 
 -- What follows of a new clause is marked, before it is put behind the others.
 pub KeepsPropagator-grown : (literals starts ends watched watched' : List ℕ) (lists lists' : List (List ℕ)) (trail new : Marked) (clauses : List (List ℕ)) (clauses' : List (List ℕ))
-    → KeepsPropagator literals starts ends watched lists trail → clauses ≡ cut literals starts ends → IsWatched clauses watched' lists' (length trail.marks) → Grows clauses' trail new → AreMet clauses watched' new → KeepsPropagator literals starts ends watched' lists' new
+    → KeepsPropagator literals starts ends watched lists trail → clauses ≡ cut literals starts ends → IsWatched clauses watched' lists' (length trail.marks) → GrowsMarked clauses' trail new → AreMet clauses watched' new → KeepsPropagator literals starts ends watched' lists' new
 KeepsPropagator-grown literals starts ends watched watched' lists lists' trail new clauses clauses' k is w g met = record {
   even = ap (λ (n : ℕ). n % 2) g.as_many ∙ k.even;
   inside = subst (λ (n : ℕ). All (λ l. l < n) literals) (sym g.as_many) k.inside;
@@ -355,7 +355,7 @@ KeepsPropagator-grown literals starts ends watched watched' lists lists' trail n
   units_met = units_kept (cut literals starts ends) trail new g.kept k.units_met;
 }
 
-pub extended : (literals starts ends literals' starts' ends' watched' : List ℕ) (lists' : List (List ℕ)) (trail new : Marked) (clause : List ℕ) → 0 < length clause → cut literals' starts' ends' ≡ cut literals starts ends ++ clause ∷ [] → Grows (cut literals starts ends ++ clause ∷ []) trail new → KeepsPropagator literals' starts' ends' watched' lists' new
+pub extended : (literals starts ends literals' starts' ends' watched' : List ℕ) (lists' : List (List ℕ)) (trail new : Marked) (clause : List ℕ) → 0 < length clause → cut literals' starts' ends' ≡ cut literals starts ends ++ clause ∷ [] → GrowsMarked (cut literals starts ends ++ clause ∷ []) trail new → KeepsPropagator literals' starts' ends' watched' lists' new
     → Extended (state_from literals starts ends trail) clause (state_from literals' starts' ends' new)
 extended literals starts ends literals' starts' ends' watched' lists' trail new clause some is g k =
     let settled = at_rest literals' starts' ends' watched' lists' new k in
@@ -370,5 +370,5 @@ extended literals starts ends literals' starts' ends' watched' lists' trail new 
       free = no_conflict (cut literals' starts' ends') new k.consistent settled;
     }
 
-pub extends_of : (clauses : List (List ℕ)) (old new : Marked) → Grows clauses old new → Extends old new
+pub extends_of : (clauses : List (List ℕ)) (old new : Marked) → GrowsMarked clauses old new → Extends old new
 extends_of clauses old new g = record { as_many = g.as_many; longer = g.longer; kept = g.kept; prefix = g.prefix }

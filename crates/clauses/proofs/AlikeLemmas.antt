@@ -7,7 +7,7 @@ use Rattle.std.proofs.lemmas.List.{set-get_or}
 use Rattle.std.proofs.lemmas.List.Sums.{sum_by-cons}
 use Rattle.std.proofs.lemmas.Bool.Decides.{nat_tests}
 use Rattle.clauses.specs.Flat.{standing, AgreeAt}
-use Rattle.clauses.specs.Without.{times, AreAlike, NoneAlikeFrom, IsLastAlike, IsWithout}
+use Rattle.clauses.specs.Without.{times, AreSameClause, NoneAlikeFrom, IsLastAlike, IsWithout}
 use Rattle.clauses.specs.Without.IsWithout.{last, none}
 use Rattle.clauses.proofs.StandingLemmas.{stood, place_inside}
 
@@ -32,7 +32,7 @@ occurs l (x ∷ xs) =
 abbrev pub Agree : List ℕ → List ℕ → List ℕ → Type 0
 Agree literals one other = (i : ℕ) → i < length literals → times (get_or literals i 0) one ≡ times (get_or literals i 0) other
 
-pub alike : (one other : List ℕ) → Agree one one other → Agree other one other → AreAlike one other
+pub alike : (one other : List ℕ) → Agree one one other → Agree other one other → AreSameClause one other
 alike one other a b l =
     ⊎_elim
     (λ (own : (i : ℕ) × (i < length one) × (get_or one i 0 ≡ l)). subst (λ (x : ℕ). times x one ≡ times x other) own.2 (a own.0 own.1))
@@ -43,12 +43,12 @@ alike one other a b l =
     (occurs l other))
     (occurs l one)
 
-pub alike_answer : (one other : List ℕ) (answer : Bool) → Agree one one other → MatchBool answer (Agree other one other) ((l : ℕ) × (times l one ≢ times l other)) → MatchBool answer (AreAlike one other) (¬ AreAlike one other)
+pub alike_answer : (one other : List ℕ) (answer : Bool) → Agree one one other → MatchBool answer (Agree other one other) ((l : ℕ) × (times l one ≢ times l other)) → MatchBool answer (AreSameClause one other) (¬ AreSameClause one other)
 alike_answer one other true a b = alike one other a b
 alike_answer one other false a differ = λ all. differ.1 (all differ.0)
 
 -- a clause with a literal is alike to none without
-pub some_literal : (one other : List ℕ) → AreAlike one other → 0 < length one → 0 < length other
+pub some_literal : (one other : List ℕ) → AreSameClause one other → 0 < length one → 0 < length other
 some_literal [] other a h = absurd (omega (arith, h))
 some_literal (x ∷ xs) [] a h = absurd (omega (arith, a x, times_here x x xs refl))
 some_literal (x ∷ xs) (y ∷ ys) a h = omega arith
@@ -102,16 +102,16 @@ taken_of clauses clause k some l =
     last at.0
     (record {
       inside = at.1.inside;
-      alike = subst (AreAlike clause) (sym at.1.is) l.alike;
+      alike = subst (AreSameClause clause) (sym at.1.is) l.alike;
       later = λ i low high a.
           let m = at.1.later i (omega (arith, low)) high in
-          l.later m.0 (omega (arith, m.1)) (place_inside clauses m.0 m.2) (subst (AreAlike clause) (sym m.3) a);
+          l.later m.0 (omega (arith, m.1)) (place_inside clauses m.0 m.2) (subst (AreSameClause clause) (sym m.3) a);
     })
     at.1.left
 
 pub none_taken : (clauses : List (List ℕ)) (clause : List ℕ) → NoneAlikeFrom clauses clause 0 → IsWithout (standing clauses) clause (standing clauses)
 none_taken clauses clause n =
-    none (λ j low high a. let own = stood clauses j high in n own.0 (omega arith) (place_inside clauses own.0 own.1) (subst (AreAlike clause) (sym own.2) a)) refl
+    none (λ j low high a. let own = stood clauses j high in n own.0 (omega arith) (place_inside clauses own.0 own.1) (subst (AreSameClause clause) (sym own.2) a)) refl
 
 -- a clause without literals stands nowhere
 pub none_without_literals : (clauses : List (List ℕ)) (clause : List ℕ) → length clause ≡ 0 → IsWithout (standing clauses) clause (standing clauses)
@@ -175,5 +175,5 @@ alike_or (x ∷ xs) (y ∷ ys) whole whole' n h l =
     (cases_eq x l))
     (cases_eq x y)
 
-pub alike_by_places : (one other : List ℕ) → length one ≡ length other → ((i : ℕ) → i < length one → AgreeAt one other i) → AreAlike one other
+pub alike_by_places : (one other : List ℕ) → length one ≡ length other → ((i : ℕ) → i < length one → AgreeAt one other i) → AreSameClause one other
 alike_by_places one other n h l = ⊎_elim (λ (e : times l one ≡ times l other). e) (λ (e : times l one ≡ times l other). e) (alike_or one other one other n h l)

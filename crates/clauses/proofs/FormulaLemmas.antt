@@ -4,7 +4,7 @@ use Rattle.std.proofs.lemmas.List.Elements.{All-take, All-drop, All-from_get_or}
 use Rattle.std.specs.Prelude.{All, slice_range}
 use Rattle.clauses.specs.Flat.{cut}
 use Rattle.clauses.specs.Formula.{IsLiteral}
-use Rattle.clauses.specs.FormulaKept.{AreInTurn}
+use Rattle.clauses.specs.FormulaKept.{AreEndsInTurn}
 use Rattle.clauses.proofs.AddLemmas.{range_kept, range_last}
 
 pub length-cut_in_turn : (literals ends : List ℕ) (start : ℕ) → length (cut literals (start ∷ ends) ends) ≡ length ends
@@ -17,22 +17,22 @@ cut_in_turn_at literals (e ∷ es) start zero h = refl
 cut_in_turn_at literals (e ∷ es) start (suc k) h = cut_in_turn_at literals es e k (omega arith)
 
 -- the literals end at or after the start
-pub start_within : (start : ℕ) (ends : List ℕ) (size : ℕ) → AreInTurn start ends size → start ≤ size
+pub start_within : (start : ℕ) (ends : List ℕ) (size : ℕ) → AreEndsInTurn start ends size → start ≤ size
 start_within start [] size h = omega (arith, h)
 start_within start (e ∷ es) size h = omega (arith, h.0, start_within e es size h.1)
 
-pub turn_bounds : (start : ℕ) (ends : List ℕ) (size k : ℕ) → AreInTurn start ends size → k < length ends → (get_or (start ∷ ends) k 0 ≤ get_or ends k 0) × (get_or ends k 0 ≤ size)
+pub turn_bounds : (start : ℕ) (ends : List ℕ) (size k : ℕ) → AreEndsInTurn start ends size → k < length ends → (get_or (start ∷ ends) k 0 ≤ get_or ends k 0) × (get_or ends k 0 ≤ size)
 turn_bounds start [] size k h below = absurd (omega arith)
 turn_bounds start (e ∷ es) size zero h below = (h.0, start_within e es size h.1)
 turn_bounds start (e ∷ es) size (suc k) h below = turn_bounds e es size k h.1 (omega arith)
 
 -- one more clause, which may have no literals
 
-AreInTurn-push : (start : ℕ) (ends : List ℕ) (size more : ℕ) → AreInTurn start ends size → size ≤ more → AreInTurn start (ends ++ more ∷ []) more
+AreInTurn-push : (start : ℕ) (ends : List ℕ) (size more : ℕ) → AreEndsInTurn start ends size → size ≤ more → AreEndsInTurn start (ends ++ more ∷ []) more
 AreInTurn-push start [] size more h le = (omega (arith, h), refl)
 AreInTurn-push start (e ∷ es) size more h le = (h.0, AreInTurn-push e es size more h.1 le)
 
-cut-push : (literals clause ends : List ℕ) (start : ℕ) → AreInTurn start ends (length literals)
+cut-push : (literals clause ends : List ℕ) (start : ℕ) → AreEndsInTurn start ends (length literals)
     → cut (literals ++ clause) (start ∷ (ends ++ length (literals ++ clause) ∷ [])) (ends ++ length (literals ++ clause) ∷ []) ≡ cut literals (start ∷ ends) ends ++ clause ∷ []
 cut-push literals clause [] start h =
     ap (λ (c : List ℕ). c ∷ []) (ap (λ (s : ℕ). slice_range (literals ++ clause) s (length (literals ++ clause))) h ∙ range_last literals clause)
@@ -40,8 +40,8 @@ cut-push literals clause (e ∷ es) start h =
     ap₂ (λ (c : List ℕ) (cs : List (List ℕ)). c ∷ cs) (range_kept literals clause start e h.0 (start_within e es (length literals) h.1))
     (cut-push literals clause es e h.1)
 
-pub one_clause_more : (literals clause ends literals' ends' : List ℕ) (end' : ℕ) → literals' ≡ literals ++ clause → ends' ≡ ends ++ end' ∷ [] → end' ≡ length literals' → AreInTurn 0 ends (length literals)
-    → AreInTurn 0 ends' (length literals') × (cut literals' (0 ∷ ends') ends' ≡ cut literals (0 ∷ ends) ends ++ clause ∷ [])
+pub one_clause_more : (literals clause ends literals' ends' : List ℕ) (end' : ℕ) → literals' ≡ literals ++ clause → ends' ≡ ends ++ end' ∷ [] → end' ≡ length literals' → AreEndsInTurn 0 ends (length literals)
+    → AreEndsInTurn 0 ends' (length literals') × (cut literals' (0 ∷ ends') ends' ≡ cut literals (0 ∷ ends) ends ++ clause ∷ [])
 one_clause_more literals clause ends literals' ends' end' l e n h =
     let is : ends' ≡ ends ++ length (literals ++ clause) ∷ [] = e ∙ ap (λ (k : ℕ). ends ++ k ∷ []) (n ∙ ap length l) in
     (rw (is, l) (AreInTurn-push 0 ends (length literals) (length (literals ++ clause)) h (omega (arith, length-append literals clause))), rw (is, l) (cut-push literals clause ends 0 h))

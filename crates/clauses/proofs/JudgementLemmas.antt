@@ -6,11 +6,11 @@ use Rattle.std.specs.List.{remove}
 use Rattle.clauses.specs.declared.judgement.Judgement.{Judgement}
 use Rattle.clauses.specs.declared.judgement.Judgement.TheVariants as judgement
 use Rattle.base.specs.Literal.{Valuation, literal_value}
-use Rattle.clauses.specs.Formula.{Formula, SatisfiesClause, Satisfies, IsUnsatisfiable}
-use Rattle.clauses.specs.Propagation.{Literals, nothing, Holds, IsClosure, MeetsConflict, Implied, IsModel}
-use Rattle.clauses.specs.Proofs.{addition, deletion, Ended, ended, Fault, Reading, read_proof}
+use Rattle.clauses.specs.Formula.{Formula, SatisfiesClause, SatisfiesClauses, IsUnsatisfiable}
+use Rattle.clauses.specs.Propagation.{Literals, no_literal, Holds, IsClosure, MeetsConflict, Implied, IsModel}
+use Rattle.clauses.specs.Proofs.{addition, deletion, Ended, ended, ProofFault, ProofReading, read_proof}
 use Rattle.clauses.specs.Without.{IsLastAlike, IsWithout}
-use Rattle.clauses.specs.Judgements.{at_end, JudgesSteps, Judges}
+use Rattle.clauses.specs.Judgements.{at_end, JudgesSteps, JudgesProof}
 use Rattle.clauses.specs.Without.IsWithout.{last, none}
 use Rattle.clauses.proofs.SoundLemmas.{true_closed_all, satisfies_more, is_satisfied, is_unsatisfied}
 
@@ -22,11 +22,11 @@ remove_at (x ∷ xs) zero i h below = (suc i, omega (arith, below), refl)
 remove_at (x ∷ xs) (suc k) zero h below = (0, omega arith, refl)
 remove_at (x ∷ xs) (suc k) (suc i) h below = let own = remove_at xs k i (omega (arith, h)) (omega (arith, below)) in (suc own.0, omega (arith, own.1), own.2)
 
-satisfies_without : (a : Valuation) (clauses : List (List ℕ)) (clause : List ℕ) (left : List (List ℕ)) → IsWithout clauses clause left → Satisfies a clauses → Satisfies a left
+satisfies_without : (a : Valuation) (clauses : List (List ℕ)) (clause : List ℕ) (left : List (List ℕ)) → IsWithout clauses clause left → SatisfiesClauses a clauses → SatisfiesClauses a left
 satisfies_without a clauses clause left (last k own e) sat =
-    subst (λ (cs : List (List ℕ)). Satisfies a cs) (sym e)
+    subst (λ (cs : List (List ℕ)). SatisfiesClauses a cs) (sym e)
     (λ i below. let at = remove_at clauses k i own.inside below in subst (SatisfiesClause a) (sym at.2) (sat at.0 at.1))
-satisfies_without a clauses clause left (none not_there e) sat = subst (λ (cs : List (List ℕ)). Satisfies a cs) (sym e) sat
+satisfies_without a clauses clause left (none not_there e) sat = subst (λ (cs : List (List ℕ)). SatisfiesClauses a cs) (sym e) sat
 
 model_without : (a : Valuation) (clauses : List (List ℕ)) (clause : List ℕ) (left : List (List ℕ)) (s : Literals) → IsWithout clauses clause left → IsModel a clauses s → IsModel a left s
 model_without a clauses clause left s w m = record { satisfies = satisfies_without a clauses clause left w m.satisfies; holds = m.holds }
@@ -55,7 +55,7 @@ closures_hold clauses s t u v st c d = c.least v d.closed (λ l on. d.holds l (s
 
 -- ---- one judgement
 
-same_judgement : (fault : Option Fault) (steps : List Ended) (clauses : List (List ℕ)) (s t : Literals) (i j : Judgement) → Holds s t → Holds t s → JudgesSteps fault steps clauses s i → JudgesSteps fault steps clauses t j → i ≡ j
+same_judgement : (fault : Option ProofFault) (steps : List Ended) (clauses : List (List ℕ)) (s t : Literals) (i j : Judgement) → Holds s t → Holds t s → JudgesSteps fault steps clauses s i → JudgesSteps fault steps clauses t j → i ≡ j
 same_judgement fault [] clauses s t i j st ts a b = a ∙ sym b
 same_judgement fault (ended n (addition clause) ∷ steps) clauses s t i j st ts (inl a) (inl b) = a.1 ∙ sym b.1
 same_judgement fault (ended n (addition clause) ∷ steps) clauses s t i j st ts (inl a) (inr b) = absurd (a.0 (holds_more clauses t s clause ts b.0))
@@ -82,24 +82,24 @@ same_judgement fault (ended n (deletion clause) ∷ steps) clauses s t i j st ts
     let same : a.0 ≡ b.0 = one_without clauses clause a.0 b.0 a.1.0 b.1.0 in
     same_judgement fault steps b.0 s t i j st ts (subst (λ (cs : List (List ℕ)). JudgesSteps fault steps cs s i) same a.1.1) b.1.1
 
-pub one_judgement : (f : Formula) (text : List ℕ) (i j : Judgement) → Judges f text i → Judges f text j → i ≡ j
+pub one_judgement : (f : Formula) (text : List ℕ) (i j : Judgement) → JudgesProof f text i → JudgesProof f text j → i ≡ j
 one_judgement f text i j (inl a) (inl b) = a.1 ∙ sym b.1
 one_judgement f text i j (inl a) (inr b) = absurd (b.0 a.0)
 one_judgement f text i j (inr a) (inl b) = absurd (a.0 b.0)
 one_judgement f text i j (inr a) (inr b) =
     let reading : Reading = read_proof f.variables text in
     same_judgement reading.fault reading.steps f.clauses a.1.0 b.1.0 i j
-    (closures_hold f.clauses nothing nothing a.1.0 b.1.0 (λ l on. on) a.1.1.0 b.1.1.0)
-    (closures_hold f.clauses nothing nothing b.1.0 a.1.0 (λ l on. on) b.1.1.0 a.1.1.0)
+    (closures_hold f.clauses no_literal no_literal a.1.0 b.1.0 (λ l on. on) a.1.1.0 b.1.1.0)
+    (closures_hold f.clauses no_literal no_literal b.1.0 a.1.0 (λ l on. on) b.1.1.0 a.1.1.0)
     a.1.1.1 b.1.1.1
 
 -- ---- what is derived
 
-no_end : (fault : Option Fault) (n : ℕ) → judgement.Derived n ≡ at_end fault → ⊥
+no_end : (fault : Option ProofFault) (n : ℕ) → judgement.Derived n ≡ at_end fault → ⊥
 no_end None n e = cc
 no_end (Some f) n e = cc
 
-steps_sound : (fault : Option Fault) (steps : List Ended) (clauses : List (List ℕ)) (s : Literals) (n : ℕ) → JudgesSteps fault steps clauses s (judgement.Derived n) → (a : Valuation) → IsModel a clauses s → ⊥
+steps_sound : (fault : Option ProofFault) (steps : List Ended) (clauses : List (List ℕ)) (s : Literals) (n : ℕ) → JudgesSteps fault steps clauses s (judgement.Derived n) → (a : Valuation) → IsModel a clauses s → ⊥
 steps_sound fault [] clauses s n j a m = no_end fault n j
 steps_sound fault (ended k (addition clause) ∷ steps) clauses s n (inl j) a m = let no = j.1 in cc
 steps_sound fault (ended k (addition clause) ∷ steps) clauses s n (inr j) a m =
@@ -111,11 +111,11 @@ steps_sound fault (ended k (addition clause) ∷ steps) clauses s n (inr j) a m 
     j.1
 steps_sound fault (ended k (deletion clause) ∷ steps) clauses s n j a m = steps_sound fault steps j.0 s n j.1.1 a (model_without a clauses clause j.0 s j.1.0 m)
 
-nothing_holds : (s : Literals) → Holds nothing s
+nothing_holds : (s : Literals) → Holds no_literal s
 nothing_holds s l on = absurd (cc)
 
-pub derived_sound : (f : Formula) (text : List ℕ) (n : ℕ) → Judges f text (judgement.Derived n) → IsUnsatisfiable f
-derived_sound f text n (inl j) a sat = is_unsatisfied f.clauses nothing j.0 a (record { satisfies = sat; holds = nothing_holds (literal_value a) })
+pub derived_sound : (f : Formula) (text : List ℕ) (n : ℕ) → JudgesProof f text (judgement.Derived n) → IsUnsatisfiable f
+derived_sound f text n (inl j) a sat = is_unsatisfied f.clauses no_literal j.0 a (record { satisfies = sat; holds = nothing_holds (literal_value a) })
 derived_sound f text n (inr j) a sat =
     let reading : Reading = read_proof f.variables text in
     steps_sound reading.fault reading.steps f.clauses j.1.0 n j.1.1.1 a

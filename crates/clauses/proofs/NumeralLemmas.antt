@@ -7,7 +7,7 @@ use Rattle.std.proofs.Math.Seq.{take-append_seam, take-length}
 use Rattle.base.specs.Decimals.{is_digit, are_digits, is_decimal, capped_value, number_of, number_more}
 use Rattle.base.proofs.DecimalLemmas.{digit_range, capped_value-nil, capped_value_more}
 use Rattle.clauses.specs.declared.numeral.Numeral.{Numeral}
-use Rattle.clauses.specs.Numerals.{Counts, numeral_more, is_numeral}
+use Rattle.clauses.specs.Numerals.{CountsDigits, numeral_more, is_numeral}
 
 -- a number with a digit more
 value_more : (digits : List ℕ) (b n : ℕ) → are_digits (digits ++ b ∷ []) ≡ true → n ≡ capped_value digits → number_more n b ≡ capped_value (digits ++ b ∷ [])
@@ -43,14 +43,14 @@ and-false false = refl
 digits-more : (digits : List ℕ) (b : ℕ) → are_digits (digits ++ b ∷ []) ≡ (are_digits digits && is_digit b)
 digits-more digits b = list_all-append is_digit digits (b ∷ []) ∙ ap (λ (d : Bool). are_digits digits && d) (and-true (is_digit b))
 
-digits_kept : (n : Numeral) (bytes : List ℕ) (b : ℕ) → Counts n bytes → (n.digits && is_digit b) ≡ are_digits (bytes ++ b ∷ [])
+digits_kept : (n : Numeral) (bytes : List ℕ) (b : ℕ) → CountsDigits n bytes → (n.digits && is_digit b) ≡ are_digits (bytes ++ b ∷ [])
 digits_kept n bytes b h = ap (λ (d : Bool). d && is_digit b) h.digits ∙ sym (digits-more bytes b)
 
-number_kept : (n : Numeral) (bytes : List ℕ) (b : ℕ) → Counts n bytes → (n.digits && is_digit b) ≡ true → number_more n.number b ≡ capped_value (bytes ++ b ∷ [])
+number_kept : (n : Numeral) (bytes : List ℕ) (b : ℕ) → CountsDigits n bytes → (n.digits && is_digit b) ≡ true → number_more n.number b ≡ capped_value (bytes ++ b ∷ [])
 number_kept n bytes b h all = value_more bytes b n.number (sym (digits_kept n bytes b h) ∙ all) (h.number (and_parts n.digits (is_digit b) all).0)
 
 -- a byte more
-pub counts_more : (n : Numeral) (bytes : List ℕ) (b : ℕ) → Counts n bytes → Counts (numeral_more n b) (bytes ++ b ∷ [])
+pub counts_more : (n : Numeral) (bytes : List ℕ) (b : ℕ) → CountsDigits n bytes → CountsDigits (numeral_more n b) (bytes ++ b ∷ [])
 counts_more n [] b h =
     let none : n.count ≡ 0 = h.count in
     record { count = omega (arith, none); zero = rw none refl; digits = digits_kept n [] b h; number = number_kept n [] b h }
@@ -65,10 +65,10 @@ counts_more n (x ∷ xs) b h =
     }
 
 -- no byte
-pub counts_nothing : Counts (record { count = 0; zero = false; digits = true; number = 0 }) []
+pub counts_nothing : CountsDigits (record { count = 0; zero = false; digits = true; number = 0 }) []
 counts_nothing = record { count = refl; zero = refl; digits = refl; number = λ all. capped_value-nil }
 
-pub zero_kept : (n : Numeral) (bytes : List ℕ) → Counts n bytes → ((n.count == 1) && n.zero) ≡ bytes_eq bytes (codes "0")
+pub zero_kept : (n : Numeral) (bytes : List ℕ) → CountsDigits n bytes → ((n.count == 1) && n.zero) ≡ bytes_eq bytes (codes "0")
 zero_kept n [] h = let none : n.count ≡ 0 = h.count in rw none refl
 zero_kept n (x ∷ []) h = let one : n.count ≡ 1 = h.count in rw (one, h.zero) (sym (and-true (x == 48)))
 zero_kept n (x ∷ y ∷ ys) h =
@@ -89,7 +89,7 @@ digits_not_zero d ds not =
     ]
 
 -- they are a decimal, by what is kept
-decimal_test : (n : Numeral) (bytes : List ℕ) → Counts n bytes → is_decimal bytes ≡ is_numeral n
+decimal_test : (n : Numeral) (bytes : List ℕ) → CountsDigits n bytes → is_decimal bytes ≡ is_numeral n
 unfolding is_decimal
 decimal_test n [] h = let none : n.count ≡ 0 = h.count in rw none refl
 decimal_test n (d ∷ []) h =
@@ -107,13 +107,13 @@ decimal_test n (d ∷ e ∷ ds) h =
       | inr not ↦ rw (above, not_one, h.digits, h.zero, not) (digits_not_zero d (e ∷ ds) not ∙ sym (and-true (are_digits (d ∷ e ∷ ds))))
     ]
 
-pub number_there : (n : Numeral) (bytes : List ℕ) → Counts n bytes → is_numeral n ≡ true → Some n.number ≡ number_of bytes
+pub number_there : (n : Numeral) (bytes : List ℕ) → CountsDigits n bytes → is_numeral n ≡ true → Some n.number ≡ number_of bytes
 unfolding number_of
 number_there n bytes h holds =
     let test : is_decimal bytes ≡ true = decimal_test n bytes h ∙ holds in
     let digits : n.digits ≡ true = (and_parts n.digits (not n.zero || (n.count == 1)) (and_parts (nat_lt 0 n.count) (n.digits && (not n.zero || (n.count == 1))) holds).1).0 in
     rw (test, h.number digits) refl
 
-pub no_number : (n : Numeral) (bytes : List ℕ) → Counts n bytes → is_numeral n ≡ false → None ≡ number_of bytes
+pub no_number : (n : Numeral) (bytes : List ℕ) → CountsDigits n bytes → is_numeral n ≡ false → None ≡ number_of bytes
 unfolding number_of
 no_number n bytes h fails = let test : is_decimal bytes ≡ false = decimal_test n bytes h ∙ fails in rw test refl

@@ -8,7 +8,7 @@ use Rattle.std.specs.Prelude.{slice_range, Contains, All}
 use Rattle.base.specs.Literal.{negation}
 use Rattle.clauses.specs.Propagation.{Literals, OthersNegated, IsClosedUnder}
 use Rattle.clauses.specs.Marked.{Marked, set_of, IsConsistent, IsWithin, IsKept}
-use Rattle.clauses.specs.Growth.{IsOpen, GrowsBy, Grows}
+use Rattle.clauses.specs.Growth.{IsOpen, GrowsBy, GrowsMarked}
 use Rattle.clauses.specs.Flat.{cut}
 use Rattle.base.proofs.LiteralLemmas.{negation-negation, negation-other}
 
@@ -91,10 +91,10 @@ cut_at literals (a ∷ xs) (b ∷ bs) (suc k) e h = cut_at literals xs bs k (ome
 pub cut_equal : {l m s t e f : List ℕ} → l ≡ m → s ≡ t → e ≡ f → cut l s e ≡ cut m t f
 cut_equal {l} {m} {s} {t} {e} {f} p q r = ap (λ (x : List ℕ). cut x s e) p ∙ ap (λ (x : List ℕ). cut m x e) q ∙ ap (λ (x : List ℕ). cut m t x) r
 
-pub Grows-begin : (clauses : List (List ℕ)) (m : Marked) → IsConsistent m → Grows clauses m m
+pub Grows-begin : (clauses : List (List ℕ)) (m : Marked) → IsConsistent m → GrowsMarked clauses m m
 Grows-begin clauses m c = record { follows = λ s closed within. within; consistent = c; as_many = refl; longer = omega arith; kept = λ l on. on; prefix = λ j h. refl }
 
-pub Grows-more : (clauses : List (List ℕ)) (old now new : Marked) → Grows clauses old now → Grows clauses now new → Grows clauses old new
+pub Grows-more : (clauses : List (List ℕ)) (old now new : Marked) → GrowsMarked clauses old now → GrowsMarked clauses now new → GrowsMarked clauses old new
 Grows-more clauses old now new g h = record {
   follows = λ s closed within. h.follows s closed (g.follows s closed within);
   consistent = h.consistent;
@@ -104,7 +104,7 @@ Grows-more clauses old now new g h = record {
   prefix = λ j below. h.prefix j (omega (arith, g.longer)) ∙ g.prefix j below;
 }
 
-pub Grows-by : (clauses : List (List ℕ)) (k : ℕ) (clause : List ℕ) (old new : Marked) → k < length clauses → clause ≡ get_or clauses k [] → GrowsBy clause old new → Grows clauses old new
+pub Grows-by : (clauses : List (List ℕ)) (k : ℕ) (clause : List ℕ) (old new : Marked) → k < length clauses → clause ≡ get_or clauses k [] → GrowsBy clause old new → GrowsMarked clauses old new
 Grows-by clauses k clause old new h is g = record {
   follows = λ s closed within. g.follows s (subst (λ (c : List ℕ). IsClosedUnder c s) (sym is) (closed k h)) within;
   consistent = g.consistent;

@@ -9,7 +9,7 @@ use Rattle.std.specs.Prelude.{◌==◌, ◌&&◌, if◌then◌else◌}
 use Rattle.std.specs.List.{sum_by, remove}
 use Rattle.clauses.specs.Places.{mixed, clause_sum, last_at, HasSum, IsLatest, AreLinked, IsLink, IsLinkedBehind, IsUnlinked}
 use Rattle.clauses.specs.declared.places.Places.{Places}
-use Rattle.clauses.specs.Without.{times, AreAlike, NoneAlikeFrom}
+use Rattle.clauses.specs.Without.{times, AreSameClause, NoneAlikeFrom}
 use Rattle.clauses.proofs.AlikeLemmas.{occurs, some_literal, times_here}
 use Rattle.clauses.proofs.StandingLemmas.{place_inside}
 
@@ -18,13 +18,13 @@ use Rattle.clauses.proofs.StandingLemmas.{place_inside}
 abbrev one_where : ℕ → ℕ → ℕ
 one_where l y = cond (y == l) 1 0
 
-sum_alike : (f : ℕ → ℕ) (one other : List ℕ) → AreAlike one other → sum_by f one ≡ sum_by f other
+sum_alike : (f : ℕ → ℕ) (one other : List ℕ) → AreSameClause one other → sum_by f one ≡ sum_by f other
 sum_alike f [] [] a = refl
 sum_alike f [] (y ∷ ys) a = absurd (omega (arith, some_literal (y ∷ ys) [] (λ l. sym (a l)) (omega arith)))
 sum_alike f (x ∷ xs) other a =
     ⊎_elim
     (λ (own : (i : ℕ) × (i < length other) × (get_or other i 0 ≡ x)).
-    let rest : AreAlike xs (remove other own.0) =
+    let rest : AreSameClause xs (remove other own.0) =
     (λ l.
     let removed = sum_by-remove (one_where l) other own.0 0 own.1 in
     let first = ap (one_where l) own.2 in
@@ -34,11 +34,11 @@ sum_alike f (x ∷ xs) other a =
     (λ (z : times x other ≡ 0). absurd (omega (arith, z, a x, times_here x x xs refl)))
     (occurs x other)
 
-pub clause_sum-alike : (one other : List ℕ) → AreAlike one other → clause_sum one ≡ clause_sum other
+pub clause_sum-alike : (one other : List ℕ) → AreSameClause one other → clause_sum one ≡ clause_sum other
 clause_sum-alike one other a = ap (λ (n : ℕ). n % 4294967296) (sum_alike mixed one other a)
 
 -- a clause that is alike to one with a literal has its sum
-pub has_sum_alike : (clauses : List (List ℕ)) (clause : List ℕ) (s j : ℕ) → s ≡ clause_sum clause → 0 < length clause → AreAlike clause (get_or clauses j []) → HasSum clauses s j
+pub has_sum_alike : (clauses : List (List ℕ)) (clause : List ℕ) (s j : ℕ) → s ≡ clause_sum clause → 0 < length clause → AreSameClause clause (get_or clauses j []) → HasSum clauses s j
 has_sum_alike clauses clause s j is some a = (some_literal clause (get_or clauses j []) a some, sym (clause_sum-alike clause (get_or clauses j []) a) ∙ sym is)
 
 -- ---- the search for the last one
@@ -57,10 +57,10 @@ none_behind clauses clause s behind place is some latest none j low high a =
     (λ (h : behind ≤ j). none j h high a)
     (cases_lt j behind)
 
-pub none_from : (clauses : List (List ℕ)) (clause : List ℕ) (place : ℕ) → (AreAlike clause (get_or clauses place []) → ⊥) → NoneAlikeFrom clauses clause (suc place) → NoneAlikeFrom clauses clause place
+pub none_from : (clauses : List (List ℕ)) (clause : List ℕ) (place : ℕ) → (AreSameClause clause (get_or clauses place []) → ⊥) → NoneAlikeFrom clauses clause (suc place) → NoneAlikeFrom clauses clause place
 none_from clauses clause place other none j low high a =
     ⊎_elim
-    (λ (e : j ≡ place). other (subst (λ (k : ℕ). AreAlike clause (get_or clauses k [])) e a))
+    (λ (e : j ≡ place). other (subst (λ (k : ℕ). AreSameClause clause (get_or clauses k [])) e a))
     (λ (ne : j ≢ place). none j (omega (arith, low, ne)) high a)
     (cases_eq j place)
 

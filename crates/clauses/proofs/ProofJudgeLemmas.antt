@@ -10,10 +10,10 @@ use Rattle.clauses.specs.declared.word.Word.{Word}
 use Rattle.clauses.specs.declared.proof_judge.Place.{Place}
 use Rattle.clauses.specs.declared.proof_judge.Place.TheVariants as place
 use Rattle.clauses.specs.Formula.{Formula}
-use Rattle.clauses.specs.Proofs.{is_blank, token_of, Token, faulty, Mark, mark, most_lines, lines_marks, reading_from, read_proof}
-use Rattle.clauses.specs.Words.{Spells}
-use Rattle.clauses.specs.StepReaders.{StepReader, StandsAt, StandsForWords}
-use Rattle.clauses.specs.ProofJudges.{ProofJudge, next_lines, word_marks, marks_behind, IsWordAt, IsFew, Scanned, ScannedAt, StandsBefore, StandsThrough, BeginsText, StandsForText, AreMarksAt, EndsText}
+use Rattle.clauses.specs.Proofs.{is_proof_blank, token_of, Token, faulty, Mark, mark, most_proof_lines, lines_marks, reading_from, read_proof}
+use Rattle.clauses.specs.Words.{SpellsWord}
+use Rattle.clauses.specs.StepReaders.{StepReader, StandsAtStep, StandsForWords}
+use Rattle.clauses.specs.ProofJudges.{ProofJudge, next_lines, word_marks, marks_behind, IsTokenAt, IsFew, Scanned, ScannedAt, StandsBefore, StandsThrough, BeginsText, StandsForText, AreMarksAt, EndsText}
 use Rattle.clauses.proofs.StepReaderLemmas.{stands_begun}
 use Rattle.clauses.proofs.TextLemmas.{lines_same, marks_blank, marks_line, marks_letter, marks_end, marks_too_long, marks_comment, marks_within}
 
@@ -54,7 +54,7 @@ record GoesOn (v : ℕ) (p : Place) (n : ℕ) (w : List ℕ) (before : List ℕ)
   lines : (more : List ℕ) → n + length (whole_lines (before ++ more)) ≡ m + length (whole_lines more)
 
 goes_on : (f : Formula) (old : ProofJudge) (text before : List ℕ) (b : StandsBefore f old text before) (s : Scanned old text before b.marks) (reader : StepReader) (m : ℕ) (q : Place) (word : Word) (x : List ℕ) (added : List Mark)
-    → StandsForWords f reader (b.marks ++ added) → Spells word x → IsWordAt q x → IsFew q m → GoesOn old.variables old.place old.line s.word before added q m x
+    → StandsForWords f reader (b.marks ++ added) → SpellsWord word x → IsTokenAt q x → IsFew q m → GoesOn old.variables old.place old.line s.word before added q m x
     → StandsThrough f (record { reader = reader; variables = old.variables; line = m; place = q; word = word }) text
 goes_on f old text before b s reader m q word x added words spells plain few on =
     let new : ProofJudge = record { reader = reader; variables = old.variables; line = m; place = q; word = word } in
@@ -76,8 +76,8 @@ no_more f r marks s = subst (StandsForWords f r) (sym (append-nil marks)) s
 -- what ending a word does
 abbrev pub EndsWord : ProofJudge → StepReader → Word → Type 0
 EndsWord old reader word =
-    ((f : Formula) (marks : List Mark) (bytes : List ℕ) → Spells old.word bytes → StandsForWords f old.reader marks → StandsForWords f reader (marks ++ word_marks old.variables old.line bytes))
-    × ((bytes : List ℕ) → Spells old.word bytes → Spells word [])
+    ((f : Formula) (marks : List Mark) (bytes : List ℕ) → SpellsWord old.word bytes → StandsForWords f old.reader marks → StandsForWords f reader (marks ++ word_marks old.variables old.line bytes))
+    × ((bytes : List ℕ) → SpellsWord old.word bytes → SpellsWord word [])
 
 -- the line and what follows are the same
 abbrev pub KeepsPlace : ProofJudge → ProofJudge → Type 0
@@ -92,13 +92,13 @@ pub end_some : (f : Formula) (r : StepReader) (marks : List Mark) (v n : ℕ) (b
 end_some f r marks v n [] t some is s = absurd (cc)
 end_some f r marks v n (b ∷ bs) t some is s = subst (λ (u : Token). StandsForWords f r (marks ++ mark n u ∷ [])) is s
 
-plain_at : (p : Place) (w : List ℕ) → p ≡ place.Within → IsWordAt p w → list_any is_blank w ≡ false
-plain_at p w is plain = subst (λ (q : Place). IsWordAt q w) is plain
+plain_at : (p : Place) (w : List ℕ) → p ≡ place.Within → IsTokenAt p w → list_any is_proof_blank w ≡ false
+plain_at p w is plain = subst (λ (q : Place). IsTokenAt q w) is plain
 
 few_at : (p : Place) (n : ℕ) → p ≡ place.Within → IsFew p n → n ≤ 2 ^ 62
 few_at p n is few = subst (λ (q : Place). IsFew q n) is few
 
-on_line : (v : ℕ) (p : Place) (n : ℕ) (w : List ℕ) (byte m : ℕ) → p ≡ place.Within → list_any is_blank w ≡ false → (byte == 10) ≡ true → m ≡ suc n → GoesOn v p n w (byte ∷ []) (word_marks v n w) place.Begins m []
+on_line : (v : ℕ) (p : Place) (n : ℕ) (w : List ℕ) (byte m : ℕ) → p ≡ place.Within → list_any is_proof_blank w ≡ false → (byte == 10) ≡ true → m ≡ suc n → GoesOn v p n w (byte ∷ []) (word_marks v n w) place.Begins m []
 on_line v p n w byte m is plain ten next =
     rw (is, next) (record {
       marks = λ more. marks_line v n w byte more plain ten;
@@ -119,32 +119,32 @@ stands_line f old text byte reader word going within ten end b =
 on_same : (n : ℕ) (byte : ℕ) (more : List ℕ) → (byte == 10) ≡ false → n + length (whole_lines (byte ∷ more)) ≡ n + length (whole_lines more)
 on_same n byte more not = ap (λ (k : ℕ). n + k) (lines_same byte more not)
 
-on_blank : (v : ℕ) (p : Place) (n : ℕ) (w : List ℕ) (byte : ℕ) → p ≡ place.Within → list_any is_blank w ≡ false → (byte == 10) ≡ false → is_blank byte ≡ true → GoesOn v p n w (byte ∷ []) (word_marks v n w) p n []
+on_blank : (v : ℕ) (p : Place) (n : ℕ) (w : List ℕ) (byte : ℕ) → p ≡ place.Within → list_any is_proof_blank w ≡ false → (byte == 10) ≡ false → is_proof_blank byte ≡ true → GoesOn v p n w (byte ∷ []) (word_marks v n w) p n []
 on_blank v p n w byte is plain not blank = rw is (record { marks = λ more. marks_blank v n w byte more plain not blank; lines = λ more. on_same n byte more not })
 
-stands_blank : (f : Formula) (old : ProofJudge) (text : List ℕ) (byte : ℕ) (reader : StepReader) (word : Word) → old.reader.closed ≡ false → old.place ≡ place.Within → (byte == 10) ≡ false → is_blank byte ≡ true → EndsWord old reader word → StandsBefore f old text (byte ∷ [])
+stands_blank : (f : Formula) (old : ProofJudge) (text : List ℕ) (byte : ℕ) (reader : StepReader) (word : Word) → old.reader.closed ≡ false → old.place ≡ place.Within → (byte == 10) ≡ false → is_proof_blank byte ≡ true → EndsWord old reader word → StandsBefore f old text (byte ∷ [])
     → StandsThrough f (record { reader = reader; variables = old.variables; line = old.line; place = old.place; word = word }) text
 stands_blank f old text byte reader word going within not blank end b =
     let s : Scanned old text (byte ∷ []) b.marks = scanned f old text (byte ∷ []) b going in
     goes_on f old text (byte ∷ []) b s reader old.line old.place word [] (word_marks old.variables old.line s.word)
-    (end.0 f b.marks s.word s.spells b.words) (end.1 s.word s.spells) (subst (λ (p : Place). IsWordAt p []) (sym within) refl) s.few
+    (end.0 f b.marks s.word s.spells b.words) (end.1 s.word s.spells) (subst (λ (p : Place). IsTokenAt p []) (sym within) refl) s.few
     (on_blank old.variables old.place old.line s.word byte within (plain_at old.place s.word within s.plain) not blank)
 
 on_letter : (v : ℕ) (p : Place) (n : ℕ) (w : List ℕ) (byte : ℕ) → p ≡ place.Within → (byte == 10) ≡ false → GoesOn v p n w (byte ∷ []) [] p n (w ++ byte ∷ [])
 on_letter v p n w byte is not = rw is (record { marks = λ more. marks_letter v n w byte more not; lines = λ more. on_same n byte more not })
 
-plain_more : (w : List ℕ) (byte : ℕ) → list_any is_blank w ≡ false → is_blank byte ≡ false → list_any is_blank (w ++ byte ∷ []) ≡ false
-plain_more [] byte plain apart = or_from (is_blank byte) false apart refl
-plain_more (x ∷ xs) byte plain apart = let parts = or_parts (is_blank x) (list_any is_blank xs) plain in or_from (is_blank x) (list_any is_blank (xs ++ byte ∷ [])) parts.0 (plain_more xs byte parts.1 apart)
+plain_more : (w : List ℕ) (byte : ℕ) → list_any is_proof_blank w ≡ false → is_proof_blank byte ≡ false → list_any is_proof_blank (w ++ byte ∷ []) ≡ false
+plain_more [] byte plain apart = or_from (is_proof_blank byte) false apart refl
+plain_more (x ∷ xs) byte plain apart = let parts = or_parts (is_proof_blank x) (list_any is_proof_blank xs) plain in or_from (is_proof_blank x) (list_any is_proof_blank (xs ++ byte ∷ [])) parts.0 (plain_more xs byte parts.1 apart)
 
-pub stands_letter : (f : Formula) (old : ProofJudge) (text : List ℕ) (byte : ℕ) (word : Word) → old.reader.closed ≡ false → old.place ≡ place.Within → (byte == 10) ≡ false → is_blank byte ≡ false
-    → ((bytes : List ℕ) → Spells old.word bytes → Spells word (bytes ++ byte ∷ [])) → StandsBefore f old text (byte ∷ [])
+pub stands_letter : (f : Formula) (old : ProofJudge) (text : List ℕ) (byte : ℕ) (word : Word) → old.reader.closed ≡ false → old.place ≡ place.Within → (byte == 10) ≡ false → is_proof_blank byte ≡ false
+    → ((bytes : List ℕ) → SpellsWord old.word bytes → SpellsWord word (bytes ++ byte ∷ [])) → StandsBefore f old text (byte ∷ [])
     → StandsThrough f (record { reader = old.reader; variables = old.variables; line = old.line; place = old.place; word = word }) text
 stands_letter f old text byte word going within not apart more b =
     let s : Scanned old text (byte ∷ []) b.marks = scanned f old text (byte ∷ []) b going in
-    let plain : list_any is_blank (s.word ++ byte ∷ []) ≡ false = plain_more s.word byte (plain_at old.place s.word within s.plain) apart in
+    let plain : list_any is_proof_blank (s.word ++ byte ∷ []) ≡ false = plain_more s.word byte (plain_at old.place s.word within s.plain) apart in
     goes_on f old text (byte ∷ []) b s old.reader old.line old.place word (s.word ++ byte ∷ []) []
-    (no_more f old.reader b.marks b.words) (more s.word s.spells) (subst (λ (p : Place). IsWordAt p (s.word ++ byte ∷ [])) (sym within) plain) s.few
+    (no_more f old.reader b.marks b.words) (more s.word s.spells) (subst (λ (p : Place). IsTokenAt p (s.word ++ byte ∷ [])) (sym within) plain) s.few
     (on_letter old.variables old.place old.line s.word byte within not)
 
 -- a judge of which the reader and the word are others
@@ -161,19 +161,19 @@ word_line f old mid new text byte going within ten end same is b =
     (same_judge (λ (x : ProofJudge). StandsThrough f (record x { line = min (x.line + 1) (2 ^ 64 - 1); place = place.Begins }) text) old mid same
     (stands_line f old text byte mid.reader mid.word going within ten end b))
 
-pub word_blank : (f : Formula) (old mid : ProofJudge) (text : List ℕ) (byte : ℕ) → old.reader.closed ≡ false → old.place ≡ place.Within → (byte == 10) ≡ false → is_blank byte ≡ true → EndsWord old mid.reader mid.word → KeepsPlace old mid
+pub word_blank : (f : Formula) (old mid : ProofJudge) (text : List ℕ) (byte : ℕ) → old.reader.closed ≡ false → old.place ≡ place.Within → (byte == 10) ≡ false → is_proof_blank byte ≡ true → EndsWord old mid.reader mid.word → KeepsPlace old mid
     → StandsBefore f old text (byte ∷ []) → StandsThrough f mid text
 word_blank f old mid text byte going within not blank end same b = same_judge (λ (x : ProofJudge). StandsThrough f x text) old mid same (stands_blank f old text byte mid.reader mid.word going within not blank end b)
 
 -- ---- the first byte of a line
 
-nothing_at : (p : Place) (w : List ℕ) → p ≡ place.Begins → IsWordAt p w → w ≡ []
-nothing_at p w is none = subst (λ (q : Place). IsWordAt q w) is none
+nothing_at : (p : Place) (w : List ℕ) → p ≡ place.Begins → IsTokenAt p w → w ≡ []
+nothing_at p w is none = subst (λ (q : Place). IsTokenAt q w) is none
 
 begins_at : (v : ℕ) (p : Place) (n : ℕ) (w rest : List ℕ) → p ≡ place.Begins → marks_behind v p n w rest ≡ lines_marks v n (all_lines rest)
 begins_at v p n w rest is = rw is refl
 
-pub stands_too_long : (f : Formula) (old : ProofJudge) (text : List ℕ) (byte : ℕ) (reader : StepReader) → old.reader.closed ≡ false → old.place ≡ place.Begins → nat_lt most_lines old.line ≡ true → reader.closed ≡ true
+pub stands_too_long : (f : Formula) (old : ProofJudge) (text : List ℕ) (byte : ℕ) (reader : StepReader) → old.reader.closed ≡ false → old.place ≡ place.Begins → nat_lt most_proof_lines old.line ≡ true → reader.closed ≡ true
     → ((f : Formula) (marks : List Mark) → StandsForWords f old.reader marks → StandsForWords f reader (marks ++ mark old.line (faulty why.TooLong) ∷ [])) → StandsBefore f old text (byte ∷ [])
     → StandsThrough f (record { reader = reader; variables = old.variables; line = old.line; place = old.place; word = old.word }) text
 stands_too_long f old text byte reader going begins many closed over b =
@@ -189,10 +189,10 @@ stands_too_long f old text byte reader going begins many closed over b =
     ) in
     record { variables = b.variables; marks = b.marks ++ m ∷ []; words = over f b.marks b.words; scanned = subst (ScannedAt new text [] (b.marks ++ m ∷ [])) (sym closed) now }
 
-few_lines : (n : ℕ) → nat_lt most_lines n ≡ false → n ≤ most_lines
-few_lines n few = ltb-false most_lines n few
+few_lines : (n : ℕ) → nat_lt most_proof_lines n ≡ false → n ≤ most_proof_lines
+few_lines n few = ltb-false most_proof_lines n few
 
-pub stands_comment : (f : Formula) (old : ProofJudge) (text : List ℕ) (byte : ℕ) → old.reader.closed ≡ false → old.place ≡ place.Begins → nat_lt most_lines old.line ≡ false → (byte == 99) ≡ true → StandsBefore f old text (byte ∷ [])
+pub stands_comment : (f : Formula) (old : ProofJudge) (text : List ℕ) (byte : ℕ) → old.reader.closed ≡ false → old.place ≡ place.Begins → nat_lt most_proof_lines old.line ≡ false → (byte == 99) ≡ true → StandsBefore f old text (byte ∷ [])
     → StandsThrough f (record { reader = old.reader; variables = old.variables; line = old.line; place = place.Comment; word = old.word }) text
 stands_comment f old text byte going begins few is b =
     let s : Scanned old text (byte ∷ []) b.marks = scanned f old text (byte ∷ []) b going in
@@ -206,7 +206,7 @@ stands_comment f old text byte going begins few is b =
       lines = λ more. on_same old.line byte more not;
     })
 
-pub stands_within : (f : Formula) (old : ProofJudge) (text : List ℕ) (byte : ℕ) → old.reader.closed ≡ false → old.place ≡ place.Begins → nat_lt most_lines old.line ≡ false → (byte == 99) ≡ false → StandsBefore f old text (byte ∷ [])
+pub stands_within : (f : Formula) (old : ProofJudge) (text : List ℕ) (byte : ℕ) → old.reader.closed ≡ false → old.place ≡ place.Begins → nat_lt most_proof_lines old.line ≡ false → (byte == 99) ≡ false → StandsBefore f old text (byte ∷ [])
     → StandsBefore f (record { reader = old.reader; variables = old.variables; line = old.line; place = place.Within; word = old.word }) text (byte ∷ [])
 stands_within f old text byte going begins few not b =
     let s : Scanned old text (byte ∷ []) b.marks = scanned f old text (byte ∷ []) b going in
@@ -214,7 +214,7 @@ stands_within f old text byte going begins few not b =
     let none : s.word ≡ [] = nothing_at old.place s.word begins s.plain in
     let now : Scanned new text (byte ∷ []) b.marks = record {
       word = [];
-      spells = subst (Spells old.word) none s.spells;
+      spells = subst (SpellsWord old.word) none s.spells;
       plain = refl;
       few = few_lines old.line few;
       reads = λ more. s.reads more ∙ ap (λ (ms : List Mark). b.marks ++ ms) (begins_at old.variables old.place old.line s.word (byte ∷ more) begins ∙ marks_within old.variables old.line byte more few not);
@@ -232,7 +232,7 @@ pub stands_comment_end : (f : Formula) (old : ProofJudge) (text : List ℕ) (byt
 stands_comment_end f old text byte going comment ten b =
     let s : Scanned old text (byte ∷ []) b.marks = scanned f old text (byte ∷ []) b going in
     let few : old.line ≤ 2 ^ 62 = subst (λ (q : Place). IsFew q old.line) comment s.few in
-    let none : s.word ≡ [] = subst (λ (q : Place). IsWordAt q s.word) comment s.plain in
+    let none : s.word ≡ [] = subst (λ (q : Place). IsTokenAt q s.word) comment s.plain in
     let next : min (old.line + 1) (2 ^ 64 - 1) ≡ suc old.line = omega (arith, few) in
     let enough : min (old.line + 1) (2 ^ 64 - 1) ≤ suc (2 ^ 62) = omega (arith, few) in
     goes_on f old text (byte ∷ []) b s old.reader (min (old.line + 1) (2 ^ 64 - 1)) place.Begins old.word s.word []
@@ -265,7 +265,7 @@ text_begun f j b =
     let now : Scanned j [] [] [] = record {
       word = [];
       spells = b.word;
-      plain = subst (λ (p : Place). IsWordAt p []) (sym b.place) refl;
+      plain = subst (λ (p : Place). IsTokenAt p []) (sym b.place) refl;
       few = few j.line j.place b.line b.place;
       reads = λ more. sym (begins_at j.variables j.place j.line [] more b.place ∙ ap (λ (n : ℕ). lines_marks j.variables n (all_lines more)) b.line);
       last = λ more. omega (arith, b.line);
@@ -291,7 +291,7 @@ ends_closed f j text is b =
     let all : AreMarksAt j text b.marks true = ((s []).0, ap (λ (t : List ℕ). lines_marks j.variables 1 (all_lines t)) (sym (append-nil text)) ∙ (s []).1) in
     record { variables = b.variables; marks = b.marks; words = b.words; all = subst (AreMarksAt j text b.marks) (sym is) all }
 
-last_word : (v : ℕ) (p : Place) (n : ℕ) (w : List ℕ) → IsWordAt p w → marks_behind v p n w [] ≡ word_marks v n w
+last_word : (v : ℕ) (p : Place) (n : ℕ) (w : List ℕ) → IsTokenAt p w → marks_behind v p n w [] ≡ word_marks v n w
 last_word v place.Begins n w none = rw none refl
 last_word v place.Within n w plain = marks_end v n w plain
 last_word v place.Comment n w none = rw none refl
@@ -318,7 +318,7 @@ ends_over f old mid text going end same b = same_judge (λ (x : ProofJudge). End
 pub reads_text : (f : Formula) (j : ProofJudge) (text : List ℕ) (e : EndsText f j text) → j.reader.failed ≡ false → read_proof f.variables text ≡ reading_from j.line false [] e.marks
 reads_text f j text e ok = ap (λ (v : ℕ). read_proof v text) (sym e.variables) ∙ at j.reader.closed (e.words ok) e.all
   where
-    at : (closed : Bool) → StandsAt f j.reader e.marks closed → AreMarksAt j text e.marks closed → read_proof j.variables text ≡ reading_from j.line false [] e.marks
+    at : (closed : Bool) → StandsAtStep f j.reader e.marks closed → AreMarksAt j text e.marks closed → read_proof j.variables text ≡ reading_from j.line false [] e.marks
     at true c all =
         ap (reading_from (suc (length (whole_lines text))) false []) all.1 ∙ c.reads (suc (length (whole_lines text))) all.0
         ∙ sym (c.reads j.line []) ∙ ap (reading_from j.line false []) (append-nil e.marks)

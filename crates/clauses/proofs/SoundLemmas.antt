@@ -3,7 +3,7 @@ use Rattle.std.proofs.Common.{◌≡◌, ◌≢◌, ℕ, zero, suc, ◌+◌, ◌
 use Rattle.std.proofs.lemmas.Bool.{cases_eq, cases_lt, cases_Bool}
 use Rattle.std.proofs.lemmas.Bool.Decides.{nat_tests}
 use Rattle.base.specs.Literal.{negation, Valuation, literal_value}
-use Rattle.clauses.specs.Formula.{SatisfiesClause, Satisfies}
+use Rattle.clauses.specs.Formula.{SatisfiesClause, SatisfiesClauses}
 use Rattle.clauses.specs.Propagation.{Literals, AllNegated, IsClosedUnder, IsClosed, Conflict, Implied, MeetsConflict, IsModel}
 use Rattle.clauses.specs.Propagator.{State, Extended, in_list}
 use Rattle.std.proofs.lemmas.List.{get_or_append_left}
@@ -21,7 +21,7 @@ true_closed a clause sat i h others =
     (λ (ne : get_or clause sat.0 0 ≢ get_or clause i 0). absurd (both a (get_or clause sat.0 0) sat.2 (others sat.0 sat.1 ne)))
     (cases_eq (get_or clause sat.0 0) (get_or clause i 0))
 
-no_conflict : (a : Valuation) (clauses : List (List ℕ)) → Satisfies a clauses → Conflict clauses (literal_value a) → ⊥
+no_conflict : (a : Valuation) (clauses : List (List ℕ)) → SatisfiesClauses a clauses → Conflict clauses (literal_value a) → ⊥
 no_conflict a clauses sat (opposite l on also) = both a l on also
 no_conflict a clauses sat (falsified k h all) = let own = sat k h in both a (get_or (get_or clauses k []) own.0 0) own.2 (all own.0 own.1)
 
@@ -42,10 +42,10 @@ find_true a (l ∷ ls) =
     (find_true a ls))
     (cases_Bool (literal_value a l))
 
-pub true_closed_all : (a : Valuation) (clauses : List (List ℕ)) → Satisfies a clauses → IsClosed clauses (literal_value a)
+pub true_closed_all : (a : Valuation) (clauses : List (List ℕ)) → SatisfiesClauses a clauses → IsClosed clauses (literal_value a)
 true_closed_all a clauses sat k h = true_closed a (get_or clauses k []) (sat k h)
 
-pub satisfies_more : (a : Valuation) (clauses : List (List ℕ)) (clause : List ℕ) → Satisfies a clauses → SatisfiesClause a clause → Satisfies a (clauses ++ clause ∷ [])
+pub satisfies_more : (a : Valuation) (clauses : List (List ℕ)) (clause : List ℕ) → SatisfiesClauses a clauses → SatisfiesClause a clause → SatisfiesClauses a (clauses ++ clause ∷ [])
 satisfies_more a clauses clause sat own k h =
     ⊎_elim
     (λ (old : k < length clauses). subst (SatisfiesClause a) (sym (get_or_append_left clauses (clause ∷ []) [] k old)) (sat k old))
@@ -67,5 +67,5 @@ is_unsatisfied clauses given met a model = no_conflict a clauses model.satisfies
 
 pub model_after : (old : State) (clause : List ℕ) (new : State) → Extended old clause new → (a : Valuation) → IsModel a old.clauses (in_list old.followed) → SatisfiesClause a clause → IsModel a new.clauses (in_list new.followed)
 model_after old clause new x a model own =
-    let sat : Satisfies a new.clauses = subst (λ (cs : List (List ℕ)). Satisfies a cs) (sym x.clauses) (satisfies_more a old.clauses clause model.satisfies own) in
+    let sat : SatisfiesClauses a new.clauses = subst (λ (cs : List (List ℕ)). SatisfiesClauses a cs) (sym x.clauses) (satisfies_more a old.clauses clause model.satisfies own) in
     record { satisfies = sat; holds = x.closure.least (literal_value a) (true_closed_all a new.clauses sat) model.holds }

@@ -8,13 +8,13 @@ use Rattle.clauses.specs.declared.judgement.Judgement.{Judgement}
 use Rattle.clauses.specs.declared.why.Why.{Why}
 use Rattle.clauses.specs.declared.why.Why.TheVariants as why
 use Rattle.clauses.specs.Formula.{Formula}
-use Rattle.clauses.specs.Proofs.{ends, deletes, literal, faulty, Mark, mark, Ended, ended, Fault, Reading, step_of, has_begun, refused, reading_from}
+use Rattle.clauses.specs.Proofs.{ends, deletes, literal, faulty, Mark, mark, Ended, ended, ProofFault, ProofReading, step_of, has_begun, refused, reading_from}
 use Rattle.clauses.specs.Judgements.{JudgesReading}
-use Rattle.clauses.specs.StepJudges.{StepJudge, StandsFor, HasJudged}
-use Rattle.clauses.specs.StepReaders.{StepReader, behind_steps, Open, Closed, StandsAt, StandsForWords, HasReadAt, HasRead, BeginsReader}
+use Rattle.clauses.specs.StepJudges.{StepJudge, StandsForSteps, HasJudged}
+use Rattle.clauses.specs.StepReaders.{StepReader, behind_steps, Open, Closed, StandsAtStep, StandsForWords, HasReadAt, HasRead, BeginsReader}
 use Rattle.clauses.proofs.StepJudgeLemmas.{stands_begun as steps_begun}
 
-abbrev made : List Ended → Option Fault → Reading
+abbrev made : List Ended → Option ProofFault → ProofReading
 made steps fault = record { steps = steps; fault = fault }
 
 -- a word more, in front of what follows
@@ -23,7 +23,7 @@ reads_mark : (f : Formula) (r : StepReader) (marks : List Mark) (m : Mark) (o : 
 reads_mark f r marks m o last more = ap (reading_from last false []) (append_assoc marks (m ∷ []) more) ∙ o.reads last (m ∷ more)
 
 open_end : (f : Formula) (r : StepReader) (marks : List Mark) (line : ℕ) (judge : StepJudge) (clause : List ℕ) (closed failed : Bool) → clause ≡ []
-    → ((steps : List Ended) → StandsFor f steps r.judge → StandsFor f (steps ++ ended line (step_of r.deleting r.clause) ∷ []) judge)
+    → ((steps : List Ended) → StandsForSteps f steps r.judge → StandsForSteps f (steps ++ ended line (step_of r.deleting r.clause) ∷ []) judge)
     → Open f r marks → Open f (record { judge = judge; clause = clause; deleting = false; closed = closed; failed = failed }) (marks ++ mark line ends ∷ [])
 open_end f r marks line judge clause closed failed empty over o =
     let e : Ended = ended line (step_of r.deleting r.clause) in
@@ -41,13 +41,13 @@ open_next : (f : Formula) (old new : StepReader) (marks : List Mark) (m : Mark) 
 open_next f old new marks m same over o =
     record {
       steps = o.steps;
-      stands = subst (StandsFor f o.steps) (sym same) o.stands;
+      stands = subst (StandsForSteps f o.steps) (sym same) o.stands;
       reads = λ last more. reads_mark f old marks m o last more ∙ ap (behind_steps o.steps) (over last more);
     }
 
 closed_by : (f : Formula) (r : StepReader) (marks : List Mark) (m : Mark) (line : ℕ) (w : Why) (judge : StepJudge) (clause : List ℕ) (deleting closed failed : Bool)
     → ((last : ℕ) (more : List Mark) → reading_from last r.deleting r.clause (m ∷ more) ≡ refused line w)
-    → ((steps : List Ended) → StandsFor f steps r.judge → HasJudged f steps (record { line = line; why = w }) judge)
+    → ((steps : List Ended) → StandsForSteps f steps r.judge → HasJudged f steps (record { line = line; why = w }) judge)
     → Open f r marks → Closed f (record { judge = judge; clause = clause; deleting = deleting; closed = closed; failed = failed }) (marks ++ m ∷ [])
 closed_by f r marks m line w judge clause deleting closed failed is over o =
     record {
@@ -60,20 +60,20 @@ closed_by f r marks m line w judge clause deleting closed failed is over o =
 
 -- what an open reader stands for
 opened : (f : Formula) (r : StepReader) (marks : List Mark) → r.closed ≡ false → r.failed ≡ false → StandsForWords f r marks → Open f r marks
-opened f r marks is ok s = subst (StandsAt f r marks) is (s ok)
+opened f r marks is ok s = subst (StandsAtStep f r marks) is (s ok)
 
 stands_open : (f : Formula) (r : StepReader) (marks : List Mark) → r.closed ≡ false → Open f r marks → StandsForWords f r marks
-stands_open f r marks is o ok = subst (StandsAt f r marks) (sym is) o
+stands_open f r marks is o ok = subst (StandsAtStep f r marks) (sym is) o
 
 pub stands_end : (f : Formula) (r : StepReader) (marks : List Mark) (line : ℕ) (judge : StepJudge) (clause : List ℕ) → r.closed ≡ false → clause ≡ []
-    → ((steps : List Ended) → StandsFor f steps r.judge → StandsFor f (steps ++ ended line (step_of r.deleting r.clause) ∷ []) judge)
+    → ((steps : List Ended) → StandsForSteps f steps r.judge → StandsForSteps f (steps ++ ended line (step_of r.deleting r.clause) ∷ []) judge)
     → StandsForWords f r marks → StandsForWords f (record { judge = judge; clause = clause; deleting = false; closed = r.closed; failed = r.failed }) (marks ++ mark line ends ∷ [])
 stands_end f r marks line judge clause is empty over s ok =
     stands_open f (record { judge = judge; clause = clause; deleting = false; closed = r.closed; failed = r.failed }) (marks ++ mark line ends ∷ []) is
     (open_end f r marks line judge clause r.closed r.failed empty over (opened f r marks is ok s)) ok
 
 pub stands_refused : (f : Formula) (r : StepReader) (marks : List Mark) (line : ℕ) (w : Why) (judge : StepJudge) → r.closed ≡ false
-    → ((steps : List Ended) → StandsFor f steps r.judge → HasJudged f steps (record { line = line; why = w }) judge)
+    → ((steps : List Ended) → StandsForSteps f steps r.judge → HasJudged f steps (record { line = line; why = w }) judge)
     → StandsForWords f r marks → StandsForWords f (record { judge = judge; clause = r.clause; deleting = r.deleting; closed = true; failed = r.failed }) (marks ++ mark line (faulty w) ∷ [])
 stands_refused f r marks line w judge is over s ok =
     closed_by f r marks (mark line (faulty w)) line w judge r.clause r.deleting true r.failed (λ last more. refl) over (opened f r marks is ok s)
@@ -88,7 +88,7 @@ alike_open : (f : Formula) (r : StepReader) (marks : List Mark) (m n : Mark) →
     → StandsForWords f r (marks ++ n ∷ []) → StandsForWords f r (marks ++ m ∷ [])
 alike_open f r marks m n same s ok = at r.closed (s ok)
   where
-    at : (closed : Bool) → StandsAt f r (marks ++ n ∷ []) closed → StandsAt f r (marks ++ m ∷ []) closed
+    at : (closed : Bool) → StandsAtStep f r (marks ++ n ∷ []) closed → StandsAtStep f r (marks ++ m ∷ []) closed
     at true c = record { steps = c.steps; fault = c.fault; judged = c.judged; reads = λ last more. same last more ∙ c.reads last more }
     at false o = record { steps = o.steps; stands = o.stands; reads = λ last more. same last more ∙ o.reads last more }
 
@@ -135,7 +135,7 @@ whole_marks last marks = ap (reading_from last false []) (sym (append-nil marks)
 
 pub read_closed : (f : Formula) (r : StepReader) (marks : List Mark) (last : ℕ) → r.closed ≡ true → StandsForWords f r marks → HasRead f r (reading_from last false [] marks)
 read_closed f r marks last is s ok =
-    let c : Closed f r marks = subst (StandsAt f r marks) is (s ok) in
+    let c : Closed f r marks = subst (StandsAtStep f r marks) is (s ok) in
     subst (HasReadAt f r (reading_from last false [] marks)) (sym is) (c.steps, (c.fault, (c.judged, whole_marks last marks ∙ c.reads last [])))
 
 pub read_open : (f : Formula) (r : StepReader) (marks : List Mark) (last : ℕ) → r.closed ≡ false → has_begun r.deleting r.clause ≡ false → StandsForWords f r marks → HasRead f r (reading_from last false [] marks)
@@ -152,21 +152,21 @@ read_cut f old new marks last is was closed begun over s ok =
     let m : Mark = mark last (faulty why.CutOff) in
     let cut : reading_from last old.deleting old.clause [] ≡ reading_from last old.deleting old.clause (m ∷ []) = rw begun refl in
     let same : reading_from last false [] marks ≡ reading_from last false [] (marks ++ m ∷ []) = whole_marks last marks ∙ o.reads last [] ∙ ap (behind_steps o.steps) cut ∙ sym (o.reads last (m ∷ [])) in
-    subst (λ (reading : Reading). HasReadAt f new reading new.closed) (sym same) (read_closed f new (marks ++ m ∷ []) last closed (over s) ok)
+    subst (λ (reading : ProofReading). HasReadAt f new reading new.closed) (sym same) (read_closed f new (marks ++ m ∷ []) last closed (over s) ok)
 
-pub read_as : (f : Formula) (r : StepReader) (reading whole : Reading) → (r.failed ≡ false → reading ≡ whole) → HasRead f r whole → HasRead f r reading
-read_as f r reading whole same h ok = subst (λ (g : Reading). HasReadAt f r g r.closed) (sym (same ok)) (h ok)
+pub read_as : (f : Formula) (r : StepReader) (reading whole : ProofReading) → (r.failed ≡ false → reading ≡ whole) → HasRead f r whole → HasRead f r reading
+read_as f r reading whole same h ok = subst (λ (g : ProofReading). HasReadAt f r g r.closed) (sym (same ok)) (h ok)
 
 pub nothing_by_length : (xs : List ℕ) → (length xs == 0) ≡ is_nothing xs
 nothing_by_length [] = refl
 nothing_by_length (x ∷ xs) = ne_eqb (length (x ∷ xs)) 0 (λ e. omega (arith, e))
 
-pub judges_read : (f : Formula) (r : StepReader) (reading : Reading) (result : Result Judgement ClauseFault) → r.failed ≡ false
-    → ((steps : List Ended) → StandsFor f steps r.judge → IfOk result (λ j. JudgesReading f (record { steps = steps; fault = None }) j))
-    → ((steps : List Ended) (fault : Fault) → HasJudged f steps fault r.judge → IfOk result (λ j. JudgesReading f (record { steps = steps; fault = Some fault }) j))
+pub judges_read : (f : Formula) (r : StepReader) (reading : ProofReading) (result : Result Judgement ClauseFault) → r.failed ≡ false
+    → ((steps : List Ended) → StandsForSteps f steps r.judge → IfOk result (λ j. JudgesReading f (record { steps = steps; fault = None }) j))
+    → ((steps : List Ended) (fault : ProofFault) → HasJudged f steps fault r.judge → IfOk result (λ j. JudgesReading f (record { steps = steps; fault = Some fault }) j))
     → HasRead f r reading → IfOk result (λ j. JudgesReading f reading j)
 judges_read f r reading result ok none some h = at r.closed (h ok)
   where
     at : (closed : Bool) → HasReadAt f r reading closed → IfOk result (λ j. JudgesReading f reading j)
-    at true x = subst (λ (g : Reading). IfOk result (λ j. JudgesReading f g j)) (sym x.1.1.1) (some x.0 x.1.0 x.1.1.0)
-    at false x = subst (λ (g : Reading). IfOk result (λ j. JudgesReading f g j)) (sym x.1.1) (none x.0 x.1.0)
+    at true x = subst (λ (g : ProofReading). IfOk result (λ j. JudgesReading f g j)) (sym x.1.1.1) (some x.0 x.1.0 x.1.1.0)
+    at false x = subst (λ (g : ProofReading). IfOk result (λ j. JudgesReading f g j)) (sym x.1.1) (none x.0 x.1.0)

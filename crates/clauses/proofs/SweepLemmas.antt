@@ -7,7 +7,7 @@ use Rattle.clauses.specs.declared.places.Places.{Places}
 use Rattle.base.specs.Literal.{negation}
 use Rattle.clauses.specs.Marked.{Marked}
 use Rattle.clauses.specs.Propagator.{KeepsPropagator}
-use Rattle.clauses.specs.Flat.{cut, standing, AreEnds}
+use Rattle.clauses.specs.Flat.{cut, standing, AreStartsAndEnds}
 use Rattle.clauses.specs.Added.{Added}
 use Rattle.clauses.specs.Places.{clause_sum, last_at, AreLinked, IsLinkedBehind}
 use Rattle.clauses.specs.Watched.{clause_at, IsWatched, IsMet, AreMet, UnitsMet, CanWatch}
@@ -67,7 +67,7 @@ module _ (literals starts ends watched : List ℕ) (lists : List (List ℕ)) (tr
       AreLinked-behind (cut literals starts ends) _ clause (length ends) old new (omega (arith, can.first_in.1)) linked (sym (length-cut literals starts ends k.ordered.as_many)) few behind cut_more
 
 -- the literals of a clause are below the limit
-pub literals_below : (literals starts ends : List ℕ) (limit k : ℕ) → All (λ l. l < limit) literals → AreEnds (length literals) starts ends → k < length (cut literals starts ends) → All (λ l. l < limit) (get_or (cut literals starts ends) k [])
+pub literals_below : (literals starts ends : List ℕ) (limit k : ℕ) → All (λ l. l < limit) literals → AreStartsAndEnds (length literals) starts ends → k < length (cut literals starts ends) → All (λ l. l < limit) (get_or (cut literals starts ends) k [])
 literals_below literals starts ends limit k all o h =
     let low : k < length ends = omega (arith, h, length-cut literals starts ends o.as_many) in
     subst (All (λ l. l < limit)) (sym (cut_at literals starts ends k o.as_many low))

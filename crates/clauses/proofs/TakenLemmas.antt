@@ -7,7 +7,7 @@ use Rattle.clauses.specs.Marked.{Marked, set_of}
 use Rattle.clauses.proofs.TrailLemmas.{is_inside}
 use Rattle.clauses.specs.Propagator.{KeepsPropagator}
 use Rattle.base.specs.Literal.{negation}
-use Rattle.clauses.specs.Flat.{cut, AreEnds}
+use Rattle.clauses.specs.Flat.{cut, AreStartsAndEnds}
 use Rattle.clauses.specs.Lists.{list_at}
 use Rattle.clauses.specs.Watched.{clause_at, IsWatched, IsUnit, AreMet, UnitsMet, IsMet}
 use Rattle.base.proofs.LiteralLemmas.{negation-inside, half-negation, negation-negation}
@@ -19,7 +19,7 @@ cut-delete literals (s ∷ ss) [] k = refl
 cut-delete literals (s ∷ ss) (e ∷ es) zero = ap (λ (c : List ℕ). c ∷ cut literals ss es) (let none : s - s ≡ 0 = omega arith in ap (λ (n : ℕ). take n (drop s literals)) none)
 cut-delete literals (s ∷ ss) (e ∷ es) (suc k) = ap (λ (cs : List (List ℕ)). slice_range literals s e ∷ cs) (cut-delete literals ss es k)
 
-pub AreEnds-delete : (size : ℕ) (starts ends : List ℕ) (k : ℕ) → AreEnds size starts ends → AreEnds size starts (set ends k (get_or starts k 0))
+pub AreEnds-delete : (size : ℕ) (starts ends : List ℕ) (k : ℕ) → AreStartsAndEnds size starts ends → AreStartsAndEnds size starts (set ends k (get_or starts k 0))
 AreEnds-delete size starts ends k o =
     let many = length-set ends k (get_or starts k 0) in
     record {
@@ -122,7 +122,7 @@ KeepsPropagator-delete literals starts ends watched lists trail k start f is =
     record {
       even = f.even;
       inside = f.inside;
-      ordered = subst (λ (s : ℕ). AreEnds (length literals) starts (set ends k s)) (sym is) (AreEnds-delete (length literals) starts ends k f.ordered);
+      ordered = subst (λ (s : ℕ). AreStartsAndEnds (length literals) starts (set ends k s)) (sym is) (AreEnds-delete (length literals) starts ends k f.ordered);
       consistent = f.consistent;
       low = f.low;
       are_watched = subst (λ (cs : List (List ℕ)). IsWatched cs (set (set watched (2 * k) 4294967295) (2 * k + 1) 4294967295) lists (length trail.marks)) (sym same) (IsWatched-delete clauses watched lists (length trail.marks) k 4294967295 f.are_watched high);

@@ -9,7 +9,7 @@ use Rattle.base.specs.Lines.{IsLine, onto_first, whole_lines, all_lines, line_of
 use Rattle.base.proofs.LineLemmas.{whole_lines-line, unfinished-line, whole_lines-last, unfinished-last}
 use Rattle.clauses.specs.declared.why.Why.TheVariants as why
 use Rattle.clauses.specs.declared.proof_judge.Place.TheVariants as place
-use Rattle.clauses.specs.Proofs.{is_blank, ends_word, words_of, token_of, faulty, Mark, mark, is_comment, most_lines, line_marks, lines_marks}
+use Rattle.clauses.specs.Proofs.{is_proof_blank, ends_word, proof_words, token_of, faulty, Mark, mark, is_proof_comment, most_proof_lines, line_marks, lines_marks}
 use Rattle.clauses.specs.ProofJudges.{this_line, next_lines, word_marks, marks_behind}
 
 -- ---- lines
@@ -72,26 +72,26 @@ abbrev single : List ℕ → List (List ℕ)
 single [] = []
 single (b ∷ bs) = (b ∷ bs) ∷ []
 
-blanks : (x : ℕ) (xs : List ℕ) → list_any is_blank (x ∷ xs) ≡ false → (is_blank x ≡ false) × (list_any is_blank xs ≡ false)
-blanks x xs h = or_parts (is_blank x) (list_any is_blank xs) h
+blanks : (x : ℕ) (xs : List ℕ) → list_any is_proof_blank (x ∷ xs) ≡ false → (is_proof_blank x ≡ false) × (list_any is_proof_blank xs ≡ false)
+blanks x xs h = or_parts (is_proof_blank x) (list_any is_proof_blank xs) h
 
-words_step : (x : ℕ) (ys : List ℕ) → is_blank x ≡ false → ends_word ys ≡ true → words_of (x ∷ ys) ≡ (x ∷ []) ∷ words_of ys
+words_step : (x : ℕ) (ys : List ℕ) → is_proof_blank x ≡ false → ends_word ys ≡ true → proof_words (x ∷ ys) ≡ (x ∷ []) ∷ proof_words ys
 words_step x ys apart end = rw (apart, end) refl
 
-words_onto : (x : ℕ) (ys : List ℕ) → is_blank x ≡ false → ends_word ys ≡ false → words_of (x ∷ ys) ≡ onto_first x (words_of ys)
+words_onto : (x : ℕ) (ys : List ℕ) → is_proof_blank x ≡ false → ends_word ys ≡ false → proof_words (x ∷ ys) ≡ onto_first x (proof_words ys)
 words_onto x ys apart on = rw (apart, on) refl
 
-words_skip : (x : ℕ) (ys : List ℕ) → is_blank x ≡ true → words_of (x ∷ ys) ≡ words_of ys
+words_skip : (x : ℕ) (ys : List ℕ) → is_proof_blank x ≡ true → proof_words (x ∷ ys) ≡ proof_words ys
 words_skip x ys blank = rw blank refl
 
-word_alone : (w : List ℕ) → list_any is_blank w ≡ false → words_of w ≡ single w
+word_alone : (w : List ℕ) → list_any is_proof_blank w ≡ false → proof_words w ≡ single w
 word_alone [] plain = refl
 word_alone (x ∷ []) plain = words_step x [] (blanks x [] plain).0 refl
 word_alone (x ∷ y ∷ ys) plain =
     let own = blanks x (y ∷ ys) plain in
     words_onto x (y ∷ ys) own.0 (blanks y ys own.1).0 ∙ ap (onto_first x) (word_alone (y ∷ ys) own.1)
 
-word_before : (w l : List ℕ) (b : ℕ) → list_any is_blank w ≡ false → is_blank b ≡ true → words_of (w ++ b ∷ l) ≡ single w ++ words_of l
+word_before : (w l : List ℕ) (b : ℕ) → list_any is_proof_blank w ≡ false → is_proof_blank b ≡ true → proof_words (w ++ b ∷ l) ≡ single w ++ proof_words l
 word_before [] l b plain blank = words_skip b l blank
 word_before (x ∷ []) l b plain blank = words_step x (b ∷ l) (blanks x [] plain).0 blank ∙ ap (λ (ws : List (List ℕ)). (x ∷ []) ∷ ws) (words_skip b l blank)
 word_before (x ∷ y ∷ ys) l b plain blank =
@@ -118,24 +118,24 @@ next_ends b more ten = rw ten refl
 
 -- the marks of a line of words, and of the lines behind it
 abbrev line_and_rest : ℕ → ℕ → List ℕ → List ℕ → List Mark
-line_and_rest variables n line rest = map (λ x. mark n (token_of variables x)) (words_of line) ++ lines_marks variables (suc n) (all_lines rest)
+line_and_rest variables n line rest = map (λ x. mark n (token_of variables x)) (proof_words line) ++ lines_marks variables (suc n) (all_lines rest)
 
-pub marks_blank : (variables n : ℕ) (w : List ℕ) (b : ℕ) (more : List ℕ) → list_any is_blank w ≡ false → (b == 10) ≡ false → is_blank b ≡ true
+pub marks_blank : (variables n : ℕ) (w : List ℕ) (b : ℕ) (more : List ℕ) → list_any is_proof_blank w ≡ false → (b == 10) ≡ false → is_proof_blank b ≡ true
     → marks_behind variables place.Within n w (b ∷ more) ≡ word_marks variables n w ++ marks_behind variables place.Within n [] more
 marks_blank variables n w b more plain not blank =
     let said : List ℕ → Mark = λ x. mark n (token_of variables x) in
     let behind : List Mark = lines_marks variables (suc n) (all_lines (next_lines more)) in
-    let here : map said (words_of (w ++ b ∷ this_line more)) ≡ word_marks variables n w ++ map said (words_of (this_line more)) =
-    ap (map said) (word_before w (this_line more) b plain blank) ∙ map-append said (single w) (words_of (this_line more)) ∙ ap (λ (ms : List Mark). ms ++ map said (words_of (this_line more))) (marks_single variables n w) in
+    let here : map said (proof_words (w ++ b ∷ this_line more)) ≡ word_marks variables n w ++ map said (proof_words (this_line more)) =
+    ap (map said) (word_before w (this_line more) b plain blank) ∙ map-append said (single w) (proof_words (this_line more)) ∙ ap (λ (ms : List Mark). ms ++ map said (proof_words (this_line more))) (marks_single variables n w) in
     ap₂ (λ (t r : List ℕ). line_and_rest variables n (w ++ t) r) (this_on b more not) (next_on b more not)
     ∙ ap (λ (ms : List Mark). ms ++ behind) here
-    ∙ append_assoc (word_marks variables n w) (map said (words_of (this_line more))) behind
+    ∙ append_assoc (word_marks variables n w) (map said (proof_words (this_line more))) behind
 
-line_word : (variables n : ℕ) (w : List ℕ) → list_any is_blank w ≡ false → map (λ x. mark n (token_of variables x)) (words_of (w ++ [])) ≡ word_marks variables n w
+line_word : (variables n : ℕ) (w : List ℕ) → list_any is_proof_blank w ≡ false → map (λ x. mark n (token_of variables x)) (proof_words (w ++ [])) ≡ word_marks variables n w
 line_word variables n w plain =
-    ap (λ (t : List ℕ). map (λ x. mark n (token_of variables x)) (words_of t)) (append-nil w) ∙ ap (map (λ x. mark n (token_of variables x))) (word_alone w plain) ∙ marks_single variables n w
+    ap (λ (t : List ℕ). map (λ x. mark n (token_of variables x)) (proof_words t)) (append-nil w) ∙ ap (map (λ x. mark n (token_of variables x))) (word_alone w plain) ∙ marks_single variables n w
 
-pub marks_line : (variables n : ℕ) (w : List ℕ) (b : ℕ) (more : List ℕ) → list_any is_blank w ≡ false → (b == 10) ≡ true
+pub marks_line : (variables n : ℕ) (w : List ℕ) (b : ℕ) (more : List ℕ) → list_any is_proof_blank w ≡ false → (b == 10) ≡ true
     → marks_behind variables place.Within n w (b ∷ more) ≡ word_marks variables n w ++ marks_behind variables place.Begins (suc n) [] more
 marks_line variables n w b more plain ten =
     ap₂ (λ (t r : List ℕ). line_and_rest variables n (w ++ t) r) (this_ends b more ten) (next_ends b more ten)
@@ -147,18 +147,18 @@ marks_letter variables n w b more not =
     ap₂ (λ (t r : List ℕ). line_and_rest variables n (w ++ t) r) (this_on b more not) (next_on b more not)
     ∙ ap (λ (t : List ℕ). line_and_rest variables n t (next_lines more)) (sym (append_assoc w (b ∷ []) (this_line more)))
 
-pub marks_end : (variables n : ℕ) (w : List ℕ) → list_any is_blank w ≡ false → marks_behind variables place.Within n w [] ≡ word_marks variables n w
-marks_end variables n w plain = append-nil (map (λ x. mark n (token_of variables x)) (words_of (w ++ []))) ∙ line_word variables n w plain
+pub marks_end : (variables n : ℕ) (w : List ℕ) → list_any is_proof_blank w ≡ false → marks_behind variables place.Within n w [] ≡ word_marks variables n w
+marks_end variables n w plain = append-nil (map (λ x. mark n (token_of variables x)) (proof_words (w ++ []))) ∙ line_word variables n w plain
 
 -- ---- a line begins
 
-long_line : (variables n : ℕ) (line : List ℕ) → nat_lt most_lines n ≡ true → line_marks variables n line ≡ mark n (faulty why.TooLong) ∷ []
+long_line : (variables n : ℕ) (line : List ℕ) → nat_lt most_proof_lines n ≡ true → line_marks variables n line ≡ mark n (faulty why.TooLong) ∷ []
 long_line variables n line many = rw many refl
 
-comment_line : (variables n : ℕ) (line : List ℕ) → nat_lt most_lines n ≡ false → is_comment line ≡ true → line_marks variables n line ≡ []
+comment_line : (variables n : ℕ) (line : List ℕ) → nat_lt most_proof_lines n ≡ false → is_proof_comment line ≡ true → line_marks variables n line ≡ []
 comment_line variables n line few is = rw (few, is) refl
 
-words_line : (variables n : ℕ) (line : List ℕ) → nat_lt most_lines n ≡ false → is_comment line ≡ false → line_marks variables n line ≡ map (λ x. mark n (token_of variables x)) (words_of line)
+words_line : (variables n : ℕ) (line : List ℕ) → nat_lt most_proof_lines n ≡ false → is_proof_comment line ≡ false → line_marks variables n line ≡ map (λ x. mark n (token_of variables x)) (proof_words line)
 words_line variables n line few not = rw (few, not) refl
 
 -- a line that is read in this way, and those behind it
@@ -166,24 +166,24 @@ first_marks : (variables n : ℕ) (b : ℕ) (more : List ℕ) (ms : List Mark) �
     → lines_marks variables n (all_lines (b ∷ more)) ≡ ms ++ lines_marks variables (suc n) (all_lines (next_lines (b ∷ more)))
 first_marks variables n b more ms is = ap (lines_marks variables n) (lines_first b more) ∙ ap (λ (front : List Mark). front ++ lines_marks variables (suc n) (all_lines (next_lines (b ∷ more)))) is
 
-pub marks_too_long : (variables n : ℕ) (b : ℕ) (more : List ℕ) → nat_lt most_lines n ≡ true
+pub marks_too_long : (variables n : ℕ) (b : ℕ) (more : List ℕ) → nat_lt most_proof_lines n ≡ true
     → lines_marks variables n (all_lines (b ∷ more)) ≡ mark n (faulty why.TooLong) ∷ lines_marks variables (suc n) (all_lines (next_lines (b ∷ more)))
 marks_too_long variables n b more many = first_marks variables n b more (mark n (faulty why.TooLong) ∷ []) (long_line variables n (this_line (b ∷ more)) many)
 
-pub marks_comment : (variables n : ℕ) (b : ℕ) (more : List ℕ) → nat_lt most_lines n ≡ false → (b == 10) ≡ false → (b == 99) ≡ true
+pub marks_comment : (variables n : ℕ) (b : ℕ) (more : List ℕ) → nat_lt most_proof_lines n ≡ false → (b == 10) ≡ false → (b == 99) ≡ true
     → lines_marks variables n (all_lines (b ∷ more)) ≡ marks_behind variables place.Comment n [] more
 marks_comment variables n b more few not is =
-    first_marks variables n b more [] (comment_line variables n (this_line (b ∷ more)) few (ap is_comment (this_on b more not) ∙ is))
+    first_marks variables n b more [] (comment_line variables n (this_line (b ∷ more)) few (ap is_proof_comment (this_on b more not) ∙ is))
     ∙ ap (λ (r : List ℕ). lines_marks variables (suc n) (all_lines r)) (next_on b more not)
 
-no_comment : (b : ℕ) (more : List ℕ) → (b == 99) ≡ false → is_comment (this_line (b ∷ more)) ≡ false
+no_comment : (b : ℕ) (more : List ℕ) → (b == 99) ≡ false → is_proof_comment (this_line (b ∷ more)) ≡ false
 no_comment b more not =
     elim (cases_Bool (b == 10)) [
-      | inl ten ↦ ap is_comment (this_ends b more ten)
-      | inr other ↦ ap is_comment (this_on b more other) ∙ not
+      | inl ten ↦ ap is_proof_comment (this_ends b more ten)
+      | inr other ↦ ap is_proof_comment (this_on b more other) ∙ not
     ]
 
-pub marks_within : (variables n : ℕ) (b : ℕ) (more : List ℕ) → nat_lt most_lines n ≡ false → (b == 99) ≡ false
+pub marks_within : (variables n : ℕ) (b : ℕ) (more : List ℕ) → nat_lt most_proof_lines n ≡ false → (b == 99) ≡ false
     → lines_marks variables n (all_lines (b ∷ more)) ≡ marks_behind variables place.Within n [] (b ∷ more)
 marks_within variables n b more few not =
-    first_marks variables n b more (map (λ x. mark n (token_of variables x)) (words_of (this_line (b ∷ more)))) (words_line variables n (this_line (b ∷ more)) few (no_comment b more not))
+    first_marks variables n b more (map (λ x. mark n (token_of variables x)) (proof_words (this_line (b ∷ more)))) (words_line variables n (this_line (b ∷ more)) few (no_comment b more not))

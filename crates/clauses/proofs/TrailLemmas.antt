@@ -5,7 +5,7 @@ use Rattle.std.proofs.lemmas.List.{length-set, get_or-set_same, get_or-set_other
 use Rattle.std.proofs.lemmas.List.Sums.{sum_by-set, count_by-le-length}
 use Rattle.std.specs.List.{count_by}
 use Rattle.std.specs.Prelude.{if◌then◌else◌}
-use Rattle.clauses.specs.Marked.{Marked, set_of, IsOrder, IsKept, IsPrefix, AreMarked, ArePlaced}
+use Rattle.clauses.specs.Marked.{Marked, set_of, AreMarkedFirst, IsKept, IsPrefix, AreMarked, ArePlaced}
 
 abbrev pub one_if : Bool → ℕ
 one_if b = if b then 1 else 0
@@ -19,11 +19,11 @@ counted_more marks l inside off =
     let none : one_if (get_or marks l false) ≡ 0 = ap one_if off in
     omega (arith, step, none)
 
-pub has_room : (marks : List Bool) (literals : List ℕ) (count l : ℕ) → IsOrder marks literals count → l < length marks → get_or marks l false ≡ false → count < length literals
+pub has_room : (marks : List Bool) (literals : List ℕ) (count l : ℕ) → AreMarkedFirst marks literals count → l < length marks → get_or marks l false ≡ false → count < length literals
 has_room marks literals count l o inside off =
     omega (arith, counted_more marks l inside off, count_by-le-length (λ b. b) (set marks l true), length-set marks l true, o.as_many, o.counted)
 
-pub IsOrder-push : (marks : List Bool) (literals : List ℕ) (count l : ℕ) → IsOrder marks literals count → l < length marks → get_or marks l false ≡ false → IsOrder (set marks l true) (set literals count l) (count + 1)
+pub IsOrder-push : (marks : List Bool) (literals : List ℕ) (count l : ℕ) → AreMarkedFirst marks literals count → l < length marks → get_or marks l false ≡ false → AreMarkedFirst (set marks l true) (set literals count l) (count + 1)
 IsOrder-push marks literals count l o inside off =
     let room : count < length literals = has_room marks literals count l o inside off in
     record {
@@ -65,7 +65,7 @@ off_by false h = refl
 
 -- The last literal is taken back.
 
-pub IsOrder-pop : (marks : List Bool) (literals : List ℕ) (count before l : ℕ) → IsOrder marks literals count → count ≡ before + 1 → l ≡ get_or literals before 0 → (l < length marks) × IsOrder (set marks l false) literals before
+pub IsOrder-pop : (marks : List Bool) (literals : List ℕ) (count before l : ℕ) → AreMarkedFirst marks literals count → count ≡ before + 1 → l ≡ get_or literals before 0 → (l < length marks) × AreMarkedFirst (set marks l false) literals before
 IsOrder-pop marks literals count before l o one is =
     let on : get_or marks l false ≡ true = ap (λ (m : ℕ). get_or marks m false) is ∙ o.marked before (omega arith) in
     let inside : l < length marks = is_inside marks l on in
@@ -97,13 +97,13 @@ pub pushed_is : (marks : List Bool) (literals : List ℕ) (count l : ℕ) → co
     → marked_at (set marks l true) (take (count + 1) (set literals count l)) ≡ marked_at (set marks l true) (take count literals ++ l ∷ [])
 pushed_is marks literals count l room = ap (marked_at (set marks l true)) (let one : count + 1 ≡ suc count = omega arith in ap (λ (n : ℕ). take n (set literals count l)) one ∙ take-suc-set literals count l room)
 
-pub placed_in : (marks : List Bool) (literals : List ℕ) (count : ℕ) → IsOrder marks literals count → ArePlaced (marked_at marks (take count literals))
+pub placed_in : (marks : List Bool) (literals : List ℕ) (count : ℕ) → AreMarkedFirst marks literals count → ArePlaced (marked_at marks (take count literals))
 placed_in marks literals count o l on =
     let old = o.placed l on in
     let room : count ≤ length literals = omega (arith, o.as_many, o.counted, count_by-le-length (λ b. b) marks) in
     (old.0, omega (arith, old.1, length-take-le count literals room), get_or-take count literals old.0 0 old.1 ∙ old.2)
 
-pub marked_in : (marks : List Bool) (literals : List ℕ) (count : ℕ) → IsOrder marks literals count → AreMarked (marked_at marks (take count literals))
+pub marked_in : (marks : List Bool) (literals : List ℕ) (count : ℕ) → AreMarkedFirst marks literals count → AreMarked (marked_at marks (take count literals))
 marked_in marks literals count o j h =
     let room : count ≤ length literals = omega (arith, o.as_many, o.counted, count_by-le-length (λ b. b) marks) in
     let below : j < count = omega (arith, length-take-le count literals room) in
@@ -131,7 +131,7 @@ prefix_take old new longer prefix =
     ext_get_or 0 (take (length old.order) new.order) old.order (length-take-le (length old.order) new.order longer)
     (λ i h. let below : i < length old.order = omega (arith, length-take-le (length old.order) new.order longer) in get_or-take (length old.order) new.order i 0 below ∙ prefix i below)
 
-pub pop_step : (marks : List Bool) (literals : List ℕ) (count l : ℕ) → IsOrder marks literals count → 0 < count → l ≡ get_or literals (count - 1) l → (l < length marks) × IsOrder (set marks l false) literals (count - 1)
+pub pop_step : (marks : List Bool) (literals : List ℕ) (count l : ℕ) → AreMarkedFirst marks literals count → 0 < count → l ≡ get_or literals (count - 1) l → (l < length marks) × AreMarkedFirst (set marks l false) literals (count - 1)
 pop_step marks literals count l o some read =
     let room : count ≤ length literals = omega (arith, o.as_many, o.counted, count_by-le-length (λ b. b) marks) in
     IsOrder-pop marks literals count (count - 1) l o (omega arith) (get_or_read literals (count - 1) l (omega arith) read 0)

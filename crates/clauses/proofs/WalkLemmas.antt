@@ -3,9 +3,9 @@ use Rattle.std.proofs.Common.{◌≡◌, ◌≢◌, ℕ, ◌+◌, ◌*◌, ◌/�
 use Rattle.std.proofs.lemmas.Bool.{cases_eq, cases_Bool}
 use Rattle.base.specs.Literal.{negation}
 use Rattle.clauses.specs.Marked.{Marked, set_of, IsConsistent, IsSettled, IsKept, IsPrefix, AreMarked, ArePlaced}
-use Rattle.clauses.specs.Growth.{Grows, AreSettled, AssumesAll, Extends, Finished}
+use Rattle.clauses.specs.Growth.{GrowsMarked, AreSettled, AssumesAll, Extends, Finished}
 use Rattle.clauses.specs.Lists.{list_at}
-use Rattle.clauses.specs.Watched.{clause_at, IsWatched, IsMet, Processed, Walks, Advances, Walked, AreMet, Propagated, Stays, UnitsMet}
+use Rattle.clauses.specs.Watched.{clause_at, IsWatched, IsMet, Processed, Walks, AdvancesWatch, Walked, AreMet, Propagated, Stays, UnitsMet}
 use Rattle.clauses.specs.Flat.{standing}
 use Rattle.clauses.proofs.StandingLemmas.{place_inside}
 use Rattle.base.proofs.LiteralLemmas.{negation-negation, half-negation}
@@ -48,7 +48,7 @@ Processed-root clauses watched root m met marked kept prefix n j h below is =
 
 pub record Walking (clauses : List (List ℕ)) (limit negated : ℕ) (watched0 : List ℕ) (old : Marked) (watched : List ℕ) (lists : List (List ℕ)) (now : Marked) (place : ℕ) : Type 0 where
   pub is_watched : IsWatched clauses watched lists limit
-  pub grows : Grows clauses old now
+  pub grows : GrowsMarked clauses old now
   pub ahead : Walks clauses watched lists negated place now
   pub processed : (head : ℕ) → head ≤ length old.order → Processed clauses watched0 old head → Processed clauses watched now head
   pub stays : Stays watched0 watched old
@@ -65,7 +65,7 @@ Walking-begin clauses limit negated watched lists m w c low = record {
 }
 
 pub Walking-more : (clauses : List (List ℕ)) (limit negated : ℕ) (watched0 : List ℕ) (old : Marked) (watched : List ℕ) (lists : List (List ℕ)) (now : Marked) (place : ℕ) (watched' : List ℕ) (lists' : List (List ℕ)) (new : Marked) (next : ℕ)
-    → Walking clauses limit negated watched0 old watched lists now place → IsWatched clauses watched' lists' limit → Grows clauses now new → Advances clauses negated place watched lists now watched' lists' new next → Stays watched watched' now → Walking clauses limit negated watched0 old watched' lists' new next
+    → Walking clauses limit negated watched0 old watched lists now place → IsWatched clauses watched' lists' limit → GrowsMarked clauses now new → AdvancesWatch clauses negated place watched lists now watched' lists' new next → Stays watched watched' now → Walking clauses limit negated watched0 old watched' lists' new next
 Walking-more clauses limit negated watched0 old watched lists now place watched' lists' new next s w g a t = record {
   is_watched = w;
   grows = Grows-more clauses old now new s.grows g;
@@ -85,7 +85,7 @@ Walking-end clauses limit negated watched0 old watched lists now place s over = 
 
 pub record Propagating (clauses : List (List ℕ)) (limit head0 : ℕ) (watched0 : List ℕ) (old : Marked) (watched : List ℕ) (lists : List (List ℕ)) (now : Marked) (head : ℕ) : Type 0 where
   pub is_watched : IsWatched clauses watched lists limit
-  pub grows : Grows clauses old now
+  pub grows : GrowsMarked clauses old now
   pub processed : Processed clauses watched now head
   pub within : head ≤ length now.order
   pub stays : Stays watched0 watched old
@@ -95,7 +95,7 @@ pub Propagating-begin : (clauses : List (List ℕ)) (limit head : ℕ) (watched 
 Propagating-begin clauses limit head watched lists m w c p h = record { is_watched = w; grows = Grows-begin clauses m c; processed = p; within = h; stays = Stays-begin watched m; from = omega arith }
 
 pub Propagating-more : (clauses : List (List ℕ)) (limit head0 : ℕ) (watched0 : List ℕ) (old : Marked) (watched : List ℕ) (lists : List (List ℕ)) (now : Marked) (head negated : ℕ) (watched' : List ℕ) (lists' : List (List ℕ)) (new : Marked)
-    → Propagating clauses limit head0 watched0 old watched lists now head → head < length now.order → negated ≡ negation (get_or now.order head 0) → IsWatched clauses watched' lists' limit → Grows clauses now new → Walked clauses negated watched now watched' new → Stays watched watched' now → Propagating clauses limit head0 watched0 old watched' lists' new (head + 1)
+    → Propagating clauses limit head0 watched0 old watched lists now head → head < length now.order → negated ≡ negation (get_or now.order head 0) → IsWatched clauses watched' lists' limit → GrowsMarked clauses now new → Walked clauses negated watched now watched' new → Stays watched watched' now → Propagating clauses limit head0 watched0 old watched' lists' new (head + 1)
 Propagating-more clauses limit head0 watched0 old watched lists now head negated watched' lists' new p h at w g walked t = record {
   is_watched = w;
   grows = Grows-more clauses old now new p.grows g;
@@ -159,7 +159,7 @@ module _ (clauses : List (List ℕ)) (watched : List ℕ) (lists : List (List �
 pub units_kept : (clauses : List (List ℕ)) (old new : Marked) → IsKept old new → UnitsMet clauses old → UnitsMet clauses new
 units_kept clauses old new kept met k h one = let was = met k h one in (was.0, was.1, kept was.0 was.2)
 
-module _ (clauses : List (List ℕ)) (clause watched : List ℕ) (lists : List (List ℕ)) (limit : ℕ) (root assumed new : Marked) (units : UnitsMet clauses root) (a : AssumesAll clause (length clause) root assumed) (w : IsWatched clauses watched lists limit) (g : Grows clauses assumed new) where
+module _ (clauses : List (List ℕ)) (clause watched : List ℕ) (lists : List (List ℕ)) (limit : ℕ) (root assumed new : Marked) (units : UnitsMet clauses root) (a : AssumesAll clause (length clause) root assumed) (w : IsWatched clauses watched lists limit) (g : GrowsMarked clauses assumed new) where
   finished : (met : Bool) → Propagated clauses watched new met → Finished clauses assumed new met
   finished true f = (g, f)
   finished false met = (g, all_settled clauses watched lists limit new w g.consistent met (units_kept clauses root new (λ l on. g.kept l (a.kept l on)) units))

@@ -8,9 +8,9 @@ use Rattle.std.specs.Prelude.{Contains}
 use Rattle.std.specs.List.{swap_remove}
 use Rattle.base.specs.Literal.{negation}
 use Rattle.clauses.specs.Marked.{Marked, set_of, IsConsistent, IsSettled, IsKept, IsPrefix, AreMarked}
-use Rattle.clauses.specs.Growth.{IsOpen, Grows}
+use Rattle.clauses.specs.Growth.{IsOpen, GrowsMarked}
 use Rattle.clauses.specs.Lists.{list_at}
-use Rattle.clauses.specs.Watched.{clause_at, IsWatched, IsMet, Moved, Advances, Stays}
+use Rattle.clauses.specs.Watched.{clause_at, IsWatched, IsMet, Moved, AdvancesWatch, Stays}
 use Rattle.base.proofs.LiteralLemmas.{negation-negation, negation-other, negation-inside, half-negation}
 use Rattle.clauses.proofs.PassLemmas.{Grows-begin}
 use Rattle.clauses.proofs.ListsLemmas.{stays, length-swap_remove}
@@ -188,7 +188,7 @@ module _ (clauses : List (List ℕ)) (watched : List ℕ) (lists : List (List �
           (cases_eq n watch);
     }
 
-    pub Advances-move : (now : Marked) → AreMarked now → set_of now (negation literal) ≡ false → Advances clauses negated place watched lists now watched' lists' now place
+    pub Advances-move : (now : Marked) → AreMarked now → set_of now (negation literal) ≡ false → AdvancesWatch clauses negated place watched lists now watched' lists' now place
     Advances-move now marked off = record {
       ahead = λ walks n h.
           ⊎_elim
@@ -207,7 +207,7 @@ module _ (clauses : List (List ℕ)) (watched : List ℕ) (lists : List (List �
       within = omega (arith, ap length m.left, length-swap_remove (list_at lists negated) place there);
     }
 
-  pub Advances-drop : (lists' : List (List ℕ)) (now : Marked) → Dropped lists negated place lists' → ((n : ℕ) → n < length watched → get_or watched n 0 ≡ negated → get_or (list_at lists negated) place 0 ≢ n) → Advances clauses negated place watched lists now watched lists' now place
+  pub Advances-drop : (lists' : List (List ℕ)) (now : Marked) → Dropped lists negated place lists' → ((n : ℕ) → n < length watched → get_or watched n 0 ≡ negated → get_or (list_at lists negated) place 0 ≢ n) → AdvancesWatch clauses negated place watched lists now watched lists' now place
   Advances-drop lists' now d stale = record {
     ahead = λ walks n h is. after_drop (list_at lists' negated) clauses watched lists negated place now n d.left there (stale n h is) (walks n h is);
     processed = λ head room done. done;
@@ -216,7 +216,7 @@ module _ (clauses : List (List ℕ)) (watched : List ℕ) (lists : List (List �
     within = omega (arith, ap length d.left, length-swap_remove (list_at lists negated) place there);
   }
 
-  pub Advances-keep : (old new : Marked) → IsKept old new → IsPrefix old new → IsMet (clause_at clauses (get_or (list_at lists negated) place 0)) new → Advances clauses negated place watched lists old watched lists new (place + 1)
+  pub Advances-keep : (old new : Marked) → IsKept old new → IsPrefix old new → IsMet (clause_at clauses (get_or (list_at lists negated) place 0)) new → AdvancesWatch clauses negated place watched lists old watched lists new (place + 1)
   Advances-keep old new kept prefix met = record {
     ahead = λ walks n h is.
         ⊎_elim
@@ -249,8 +249,8 @@ other_inside clauses watched lists limit n w h low =
       subst (λ (c : List ℕ). Contains c (get_or watched (negation n) 0)) same (w.inside (negation n) room low'),
     )
 
-pub Grows-none : (clauses : List (List ℕ)) (old new : Marked) → new ≡ old → IsConsistent old → Grows clauses old new
-Grows-none clauses old new is c = subst (λ (m : Marked). Grows clauses old m) (sym is) (Grows-begin clauses old c)
+pub Grows-none : (clauses : List (List ℕ)) (old new : Marked) → new ≡ old → IsConsistent old → GrowsMarked clauses old new
+Grows-none clauses old new is c = subst (λ (m : Marked). GrowsMarked clauses old m) (sym is) (Grows-begin clauses old c)
 
 pub Stays-move : (watched watched' : List ℕ) (lists lists' : List (List ℕ)) (negated place literal : ℕ) (m : Marked) → Moved watched lists negated place literal watched' lists' → set_of m (negation literal) ≡ false → Stays watched watched' m
 Stays-move watched watched' lists lists' negated place literal m moved off =

@@ -6,11 +6,11 @@ use Rattle.clauses.specs.declared.why.Why.TheVariants as why
 use Rattle.clauses.specs.declared.judgement.Judgement.{Judgement}
 use Rattle.clauses.specs.declared.judgement.Judgement.TheVariants as judgement
 use Rattle.clauses.specs.Formula.{Formula}
-use Rattle.clauses.specs.Propagation.{Literals, nothing, IsClosed, Holds, IsClosure, MeetsConflict, Implied}
+use Rattle.clauses.specs.Propagation.{Literals, no_literal, IsClosed, Holds, IsClosure, MeetsConflict, Implied}
 use Rattle.clauses.specs.Propagation.Conflict.{opposite}
-use Rattle.clauses.specs.Proofs.{Reading, read_proof, ended, addition, deletion}
-use Rattle.clauses.specs.Judgements.{JudgesReading, Judges}
-use Rattle.clauses.specs.Without.{AreAlike, NoneAlikeFrom, IsWithout}
+use Rattle.clauses.specs.Proofs.{ProofReading, read_proof, ended, addition, deletion}
+use Rattle.clauses.specs.Judgements.{JudgesReading, JudgesProof}
+use Rattle.clauses.specs.Without.{AreSameClause, NoneAlikeFrom, IsWithout}
 use Rattle.clauses.specs.Without.IsWithout.{last, none}
 use Rattle.clauses.specs.Worked.{one, all_eight, eight, three_steps}
 use Rattle.clauses.proofs.WorkedLemmas.{both_true, given, closed, no_conflict, nothing_consistent, one_consistent, equal, all_eight-implied, all_eight-not_implied, all_eight-free}
@@ -63,14 +63,14 @@ reads-one_more = refl
 
 -- ---- how it is judged
 
-judged : (f : Formula) (text : List ℕ) (r : Reading) (j : Judgement) → read_proof f.variables text ≡ r → JudgesReading f r j → Judges f text j
-judged f text r j e h = subst (λ (x : Reading). JudgesReading f x j) (sym e) h
+judged : (f : Formula) (text : List ℕ) (r : ProofReading) (j : Judgement) → read_proof f.variables text ≡ r → JudgesReading f r j → JudgesProof f text j
+judged f text r j e h = subst (λ (x : ProofReading). JudgesReading f x j) (sym e) h
 
-none_holds : (s : Literals) → Holds nothing s
+none_holds : (s : Literals) → Holds no_literal s
 none_holds s l on = absurd (cc)
 
-nothing_closure : (clauses : List (List ℕ)) → IsClosed clauses nothing → IsClosure clauses nothing nothing
-nothing_closure clauses c = record { holds = none_holds nothing; closed = c; least = λ t tc holds. none_holds t }
+nothing_closure : (clauses : List (List ℕ)) → IsClosed clauses no_literal → IsClosure clauses no_literal no_literal
+nothing_closure clauses c = record { holds = none_holds no_literal; closed = c; least = λ t tc holds. none_holds t }
 
 abbrev nine : List (List ℕ)
 nine = all_eight ++ (2 ∷ 4 ∷ []) ∷ []
@@ -81,22 +81,22 @@ ten = nine ++ (2 ∷ []) ∷ []
 abbrev eleven : List (List ℕ)
 eleven = ten ++ (4 ∷ []) ∷ []
 
-nine-free : MeetsConflict nine nothing → ⊥
-nine-free met = no_conflict nine nothing nothing_consistent refl (met nothing (closed nine nothing refl) (λ l on. on))
+nine-free : MeetsConflict nine no_literal → ⊥
+nine-free met = no_conflict nine no_literal nothing_consistent refl (met no_literal (closed nine no_literal refl) (λ l on. on))
 
 two_ways : (s : Literals) (x y : ℕ) → s x ≡ true → s y ≡ true → (s x && (s y && true)) ≡ true
 two_ways s x y a b = both_true (s x) (s y && true) a (both_true (s y) true b refl)
 
-nine-implied : Implied nine nothing (2 ∷ [])
+nine-implied : Implied nine no_literal (2 ∷ [])
 nine-implied s c holds all =
     let a : s 3 ≡ true = all 0 (omega arith) in
     let b : s 4 ≡ true = given nine s c 8 1 (omega arith) (omega arith) (both_true (s 3) true a refl) in
     opposite 6 (given nine s c 2 2 (omega arith) (omega arith) (two_ways s 3 4 a b)) (given nine s c 3 2 (omega arith) (omega arith) (two_ways s 3 4 a b))
 
-ten-free : MeetsConflict ten nothing → ⊥
+ten-free : MeetsConflict ten no_literal → ⊥
 ten-free met = no_conflict ten (one 2) (one_consistent 2 (λ e. omega (arith, e))) refl (met (one 2) (closed ten (one 2) refl) (none_holds (one 2)))
 
-ten-closure : IsClosure ten nothing (one 2)
+ten-closure : IsClosure ten no_literal (one 2)
 ten-closure = record {
   holds = none_holds (one 2);
   closed = closed ten (one 2) refl;
@@ -115,33 +115,33 @@ eleven-met s c holds =
     let b : s 4 ≡ true = given eleven s c 10 0 (omega arith) (omega arith) refl in
     opposite 6 (given eleven s c 6 2 (omega arith) (omega arith) (two_ways s 2 4 a b)) (given eleven s c 7 2 (omega arith) (omega arith) (two_ways s 2 4 a b))
 
-eight-closure : IsClosure all_eight nothing nothing
-eight-closure = nothing_closure all_eight (closed all_eight nothing refl)
+eight-closure : IsClosure all_eight no_literal no_literal
+eight-closure = nothing_closure all_eight (closed all_eight no_literal refl)
 
-nine-closure : IsClosure nine nothing nothing
-nine-closure = nothing_closure nine (closed nine nothing refl)
+nine-closure : IsClosure nine no_literal no_literal
+nine-closure = nothing_closure nine (closed nine no_literal refl)
 
-pub judges-derived : Judges eight (codes "1 2 0\n1 0\n2 0\n") (judgement.Derived 3)
+pub judges-derived : JudgesProof eight (codes "1 2 0\n1 0\n2 0\n") (judgement.Derived 3)
 judges-derived =
     judged eight (codes "1 2 0\n1 0\n2 0\n") three_steps (judgement.Derived 3) reads-steps
-    (inr (all_eight-free, (nothing, (eight-closure, inr (all_eight-implied, inr (nine-free, (nothing, (nine-closure, inr (nine-implied, inr (ten-free, (one 2, (ten-closure, inr (ten-implied, inl (eleven-met, refl))))))))))))))
+    (inr (all_eight-free, (no_literal, (eight-closure, inr (all_eight-implied, inr (nine-free, (no_literal, (nine-closure, inr (nine-implied, inr (ten-free, (one 2, (ten-closure, inr (ten-implied, inl (eleven-met, refl))))))))))))))
 
-pub judges-not_implied : Judges eight (codes "1 0\n2 0\n") (judgement.NotImplied 1)
+pub judges-not_implied : JudgesProof eight (codes "1 0\n2 0\n") (judgement.NotImplied 1)
 judges-not_implied =
     judged eight (codes "1 0\n2 0\n") (record { steps = ended 1 (addition (2 ∷ [])) ∷ ended 2 (addition (4 ∷ [])) ∷ []; fault = None }) (judgement.NotImplied 1) reads-first
-    (inr (all_eight-free, (nothing, (eight-closure, inl (all_eight-not_implied, refl)))))
+    (inr (all_eight-free, (no_literal, (eight-closure, inl (all_eight-not_implied, refl)))))
 
-pub judges-not_derived : Judges eight (codes "1 2 0\n") judgement.NotDerived
+pub judges-not_derived : JudgesProof eight (codes "1 2 0\n") judgement.NotDerived
 judges-not_derived =
     judged eight (codes "1 2 0\n") (record { steps = ended 1 (addition (2 ∷ 4 ∷ [])) ∷ []; fault = None }) judgement.NotDerived reads-one
-    (inr (all_eight-free, (nothing, (eight-closure, inr (all_eight-implied, inr (nine-free, (nothing, (nine-closure, refl))))))))
+    (inr (all_eight-free, (no_literal, (eight-closure, inr (all_eight-implied, inr (nine-free, (no_literal, (nine-closure, refl))))))))
 
-pub judges-malformed : Judges eight (codes "1 2 0\n1 x 0\n") (judgement.Malformed 2 why.BadWord)
+pub judges-malformed : JudgesProof eight (codes "1 2 0\n1 x 0\n") (judgement.Malformed 2 why.BadWord)
 judges-malformed =
     judged eight (codes "1 2 0\n1 x 0\n") (record { steps = ended 1 (addition (2 ∷ 4 ∷ [])) ∷ []; fault = Some (record { line = 2; why = why.BadWord }) }) (judgement.Malformed 2 why.BadWord) reads-one_more
-    (inr (all_eight-free, (nothing, (eight-closure, inr (all_eight-implied, inr (nine-free, (nothing, (nine-closure, refl))))))))
+    (inr (all_eight-free, (no_literal, (eight-closure, inr (all_eight-implied, inr (nine-free, (no_literal, (nine-closure, refl))))))))
 
-pub judges-by_itself : Judges (record { variables = 1; clauses = (2 ∷ []) ∷ (3 ∷ []) ∷ [] }) (codes "x") (judgement.Derived 0)
+pub judges-by_itself : JudgesProof (record { variables = 1; clauses = (2 ∷ []) ∷ (3 ∷ []) ∷ [] }) (codes "x") (judgement.Derived 0)
 judges-by_itself = inl (λ s c holds. opposite 2 (given ((2 ∷ []) ∷ (3 ∷ []) ∷ []) s c 0 0 (omega arith) (omega arith) refl) (given ((2 ∷ []) ∷ (3 ∷ []) ∷ []) s c 1 0 (omega arith) (omega arith) refl), refl)
 
 -- ---- a clause taken away
@@ -149,7 +149,7 @@ judges-by_itself = inl (λ s c holds. opposite 2 (given ((2 ∷ []) ∷ (3 ∷ [
 abbrev pair : List (List ℕ)
 pair = (2 ∷ 4 ∷ []) ∷ (4 ∷ 2 ∷ []) ∷ (6 ∷ []) ∷ []
 
-swapped : AreAlike (2 ∷ 4 ∷ []) (4 ∷ 2 ∷ [])
+swapped : AreSameClause (2 ∷ 4 ∷ []) (4 ∷ 2 ∷ [])
 swapped l = let a : ℕ = cond (2 == l) 1 0 in let b : ℕ = cond (4 == l) 1 0 in let e : (0 + a) + b ≡ (0 + b) + a = omega arith in e
 
 none_later : NoneAlikeFrom pair (2 ∷ 4 ∷ []) 2

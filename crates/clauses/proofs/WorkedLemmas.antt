@@ -5,7 +5,7 @@ use Rattle.std.proofs.lemmas.Bool.{cases_eq}
 use Rattle.std.proofs.lemmas.Bool.Decides.{nat_tests}
 use Rattle.base.specs.Literal.{negation, Valuation, literal_value}
 use Rattle.clauses.specs.Formula.{IsUnsatisfiable}
-use Rattle.clauses.specs.Propagation.{Literals, nothing, AllNegated, OthersNegated, IsClosedUnder, IsClosed, Conflict, IsClosure, MeetsConflict, Implied}
+use Rattle.clauses.specs.Propagation.{Literals, no_literal, AllNegated, OthersNegated, IsClosedUnder, IsClosed, Conflict, IsClosure, MeetsConflict, Implied}
 use Rattle.clauses.specs.Propagation.Conflict.{opposite, falsified}
 use Rattle.clauses.specs.Worked.{one, two, all_eight, twice, with_negation, chain}
 
@@ -110,7 +110,7 @@ pub no_conflict : (clauses : List (List ℕ)) (s : Literals) → IsConsistentSet
 no_conflict clauses s c t (opposite l on also) = c l on also
 no_conflict clauses s c t (falsified k h all) = keep_one-not clauses s t k h all
 
-pub nothing_consistent : IsConsistentSet nothing
+pub nothing_consistent : IsConsistentSet no_literal
 nothing_consistent l on also = cc
 
 pub one_consistent : (x : ℕ) → negation x ≢ x → IsConsistentSet (one x)
@@ -137,14 +137,14 @@ two_consistent x y xx xy yx yy l on also =
 pub given : (clauses : List (List ℕ)) (s : Literals) → IsClosed clauses s → (k i : ℕ) → k < length clauses → i < length (get_or clauses k []) → others (get_or clauses k []) (get_or (get_or clauses k []) i 0) s ≡ true → s (get_or (get_or clauses k []) i 0) ≡ true
 given clauses s c k i h below t = c k h i below (others_negated (get_or clauses k []) (get_or (get_or clauses k []) i 0) s t)
 
-pub all_eight-implied : Implied all_eight nothing (2 ∷ 4 ∷ [])
+pub all_eight-implied : Implied all_eight no_literal (2 ∷ 4 ∷ [])
 all_eight-implied s c holds all =
     let a : s 3 ≡ true = all 0 (omega arith) in
     let b : s 5 ≡ true = all 1 (omega arith) in
     let two_others : (s 3 && (s 5 && true)) ≡ true = both_true (s 3) (s 5 && true) a (both_true (s 5) true b refl) in
     opposite 6 (given all_eight s c 0 2 (omega arith) (omega arith) two_others) (given all_eight s c 1 2 (omega arith) (omega arith) two_others)
 
-pub all_eight-not_implied : Implied all_eight nothing (2 ∷ []) → ⊥
+pub all_eight-not_implied : Implied all_eight no_literal (2 ∷ []) → ⊥
 all_eight-not_implied implied =
     no_conflict all_eight (one 3) (one_consistent 3 (λ e. omega (arith, e))) refl (implied (one 3) (closed all_eight (one 3) refl) (λ l on. absurd (cc)) (λ i h. first_only i h))
   where
@@ -152,8 +152,8 @@ all_eight-not_implied implied =
     first_only zero h = refl
     first_only (suc i) h = absurd (omega arith)
 
-pub all_eight-free : MeetsConflict all_eight nothing → ⊥
-all_eight-free met = no_conflict all_eight nothing nothing_consistent refl (met nothing (closed all_eight nothing refl) (λ l on. on))
+pub all_eight-free : MeetsConflict all_eight no_literal → ⊥
+all_eight-free met = no_conflict all_eight no_literal nothing_consistent refl (met no_literal (closed all_eight no_literal refl) (λ l on. on))
 
 some_true : (a : Valuation) (x y z i : ℕ) → i < 3 → literal_value a (get_or (x ∷ y ∷ z ∷ []) i 0) ≡ true → (literal_value a x || (literal_value a y || literal_value a z)) ≡ true
 some_true a x y z zero h on = left_true (literal_value a x) (literal_value a y || literal_value a z) on
@@ -187,10 +187,10 @@ all_eight-unsatisfiable a sat =
 pub twice-gives : (s : Literals) → IsClosedUnder (2 ∷ 2 ∷ []) s → s 2 ≡ true
 twice-gives s c = c 0 (omega arith) (others_negated (2 ∷ 2 ∷ []) 2 s refl)
 
-pub twice-implied : Implied twice nothing (2 ∷ [])
+pub twice-implied : Implied twice no_literal (2 ∷ [])
 twice-implied s c holds all = opposite 2 (twice-gives s (c 0 (omega arith))) (all 0 (omega arith))
 
-pub twice-not_implied : Implied twice nothing (4 ∷ []) → ⊥
+pub twice-not_implied : Implied twice no_literal (4 ∷ []) → ⊥
 twice-not_implied implied =
     no_conflict twice (two 2 5) (two_consistent 2 5 (λ e. omega (arith, e)) (λ e. omega (arith, e)) (λ e. omega (arith, e)) (λ e. omega (arith, e))) refl
     (implied (two 2 5) (closed twice (two 2 5) refl) (λ l on. absurd (cc)) five)
@@ -199,10 +199,10 @@ twice-not_implied implied =
     five zero h = refl
     five (suc i) h = absurd (omega (arith, h))
 
-pub negation-gives_nothing : IsClosedUnder (2 ∷ 3 ∷ []) nothing
-negation-gives_nothing = closed with_negation nothing refl 0 (omega arith)
+pub negation-gives_nothing : IsClosedUnder (2 ∷ 3 ∷ []) no_literal
+negation-gives_nothing = closed with_negation no_literal refl 0 (omega arith)
 
-pub negation-not_implied : Implied with_negation nothing (2 ∷ []) → ⊥
+pub negation-not_implied : Implied with_negation no_literal (2 ∷ []) → ⊥
 negation-not_implied implied = no_conflict with_negation (one 3) (one_consistent 3 (λ e. omega (arith, e))) refl (implied (one 3) (closed with_negation (one 3) refl) (λ l on. absurd (cc)) three)
   where
     three : AllNegated (2 ∷ []) (one 3)
@@ -212,7 +212,7 @@ negation-not_implied implied = no_conflict with_negation (one 3) (one_consistent
 pub negation-implied : (clauses : List (List ℕ)) (s : Literals) → Implied clauses s (2 ∷ 3 ∷ [])
 negation-implied clauses s t c holds all = opposite 2 (all 1 (omega arith)) (all 0 (omega arith))
 
-pub chain-closure : IsClosure chain nothing (two 2 4)
+pub chain-closure : IsClosure chain no_literal (two 2 4)
 chain-closure = record {
   holds = λ l on. absurd (cc);
   closed = closed chain (two 2 4) refl;

@@ -15,7 +15,7 @@ standing ([] ∷ clauses) = standing clauses
 standing ((l ∷ ls) ∷ clauses) = (l ∷ ls) ∷ standing clauses
 
 -- as many starts as ends, in order, and inside
-pub record AreEnds (size : ℕ) (starts ends : List ℕ) : Type 0 where
+pub record AreStartsAndEnds (size : ℕ) (starts ends : List ℕ) : Type 0 where
   pub as_many : length starts ≡ length ends
   pub stretch : (k : ℕ) → k < length ends → (slice_index starts k ≤ slice_index ends k) × (slice_index ends k ≤ size)
 

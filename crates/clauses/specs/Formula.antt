@@ -8,8 +8,8 @@ abbrev pub SatisfiesClause : Valuation → List ℕ → Type 0
 SatisfiesClause a clause = (i : ℕ) × (i < length clause) × (literal_value a (slice_index clause i) ≡ true)
 
 -- every clause is satisfied
-abbrev pub Satisfies : Valuation → List (List ℕ) → Type 0
-Satisfies a clauses = (k : ℕ) → k < length clauses → SatisfiesClause a (slice_index_or clauses k [])
+abbrev pub SatisfiesClauses : Valuation → List (List ℕ) → Type 0
+SatisfiesClauses a clauses = (k : ℕ) → k < length clauses → SatisfiesClause a (slice_index_or clauses k [])
 
 -- A count of variables, and clauses.
 pub record Formula : Type 0 where
@@ -25,4 +25,4 @@ IsFormula f = All (λ clause. All (IsLiteral f.variables) clause) f.clauses
 
 -- no assignment satisfies the formula
 abbrev pub IsUnsatisfiable : Formula → Type 0
-IsUnsatisfiable f = (a : Valuation) → Satisfies a f.clauses → ⊥
+IsUnsatisfiable f = (a : Valuation) → SatisfiesClauses a f.clauses → ⊥

@@ -15,13 +15,13 @@ abbrev pub formula_of : Inside → Formula
 formula_of f = record { variables = f.variables; clauses = cut f.literals.items (0 ∷ f.ends.items) f.ends.items }
 
 -- each end is at or after the one before, and the last is where the literals end
-abbrev pub AreInTurn : ℕ → List ℕ → ℕ → Type 0
-AreInTurn start [] size = start ≡ size
-AreInTurn start (end' ∷ ends) size = (start ≤ end') × AreInTurn end' ends size
+abbrev pub AreEndsInTurn : ℕ → List ℕ → ℕ → Type 0
+AreEndsInTurn start [] size = start ≡ size
+AreEndsInTurn start (end' ∷ ends) size = (start ≤ end') × AreEndsInTurn end' ends size
 
 pub record IsKeptFormula (f : Inside) : Type 0 where
   pub few : f.variables < 2147483647
-  pub in_turn : AreInTurn 0 f.ends.items (length f.literals.items)
+  pub in_turn : AreEndsInTurn 0 f.ends.items (length f.literals.items)
   pub literals : All (IsLiteral f.variables) f.literals.items
 
 -- a clause is taken only where each literal is one of the formula's variables; it is refused as no clause exactly where one is not

@@ -9,7 +9,7 @@ abbrev pub IsOpen : List ℕ → ℕ → Literals → Type 0
 IsOpen clause l s = Contains clause l × (s (negation l) ≡ false)
 
 -- a set of marked literals has grown: by what follows, within its limit, and consistently
-pub record Grows (clauses : List (List ℕ)) (old new : Marked) : Type 0 where
+pub record GrowsMarked (clauses : List (List ℕ)) (old new : Marked) : Type 0 where
   pub follows : Follows clauses old new
   pub consistent : IsConsistent new
   pub as_many : length new.marks ≡ length old.marks
@@ -39,8 +39,8 @@ AreSettled clauses m = (k : ℕ) → 0 < length (slice_index_or clauses k []) �
 
 -- after all passes: whether a conflict was met
 abbrev pub Finished : List (List ℕ) → Marked → Marked → Bool → Type 0
-Finished clauses old new true = Grows clauses old new × Falsifies clauses new
-Finished clauses old new false = Grows clauses old new × AreSettled clauses new
+Finished clauses old new true = GrowsMarked clauses old new × Falsifies clauses new
+Finished clauses old new false = GrowsMarked clauses old new × AreSettled clauses new
 
 pub record Assumes (l : ℕ) (old new : Marked) : Type 0 where
   pub follows : (s : Literals) → IsWithin old s → s (negation l) ≡ true → IsWithin new s

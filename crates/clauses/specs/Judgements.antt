@@ -5,17 +5,17 @@ use Rattle.std.specs.Prelude.{◌≡◌, ℕ, ◌⊎◌, List, [], ◌∷◌, �
 use Rattle.clauses.specs.declared.judgement.Judgement.{Judgement}
 use Rattle.clauses.specs.declared.judgement.Judgement.TheVariants as judgement
 use Rattle.clauses.specs.Formula.{Formula}
-use Rattle.clauses.specs.Propagation.{Literals, nothing, IsClosure, MeetsConflict, Implied}
+use Rattle.clauses.specs.Propagation.{Literals, no_literal, IsClosure, MeetsConflict, Implied}
 use Rattle.clauses.specs.Without.{IsWithout}
-use Rattle.clauses.specs.Proofs.{addition, deletion, Ended, ended, Fault, Reading, read_proof}
+use Rattle.clauses.specs.Proofs.{addition, deletion, Ended, ended, ProofFault, ProofReading, read_proof}
 
 -- where the steps have ended
-abbrev pub at_end : Option Fault → Judgement
+abbrev pub at_end : Option ProofFault → Judgement
 at_end None = judgement.NotDerived
 at_end (Some f) = judgement.Malformed f.line f.why
 
 -- how steps, and the fault behind them, are judged from clauses that stand and literals that followed
-abbrev pub JudgesSteps : Option Fault → List Ended → List (List ℕ) → Literals → Judgement → Type 0
+abbrev pub JudgesSteps : Option ProofFault → List Ended → List (List ℕ) → Literals → Judgement → Type 0
 JudgesSteps fault [] clauses followed j = j ≡ at_end fault
 JudgesSteps fault (ended n (addition clause) ∷ steps) clauses followed j =
     ((¬ Implied clauses followed clause) × (j ≡ judgement.NotImplied n))
@@ -27,11 +27,11 @@ JudgesSteps fault (ended n (deletion clause) ∷ steps) clauses followed j =
     (left : List (List ℕ)) × (IsWithout clauses clause left × JudgesSteps fault steps left followed j)
 
 -- what steps, and the fault behind them, are judged as over a formula
-abbrev pub JudgesReading : Formula → Reading → Judgement → Type 0
+abbrev pub JudgesReading : Formula → ProofReading → Judgement → Type 0
 JudgesReading f reading j =
-    (MeetsConflict f.clauses nothing × (j ≡ judgement.Derived 0))
-    ⊎ ((¬ MeetsConflict f.clauses nothing) × ((s : Literals) × (IsClosure f.clauses nothing s × JudgesSteps reading.fault reading.steps f.clauses s j)))
+    (MeetsConflict f.clauses no_literal × (j ≡ judgement.Derived 0))
+    ⊎ ((¬ MeetsConflict f.clauses no_literal) × ((s : Literals) × (IsClosure f.clauses no_literal s × JudgesSteps reading.fault reading.steps f.clauses s j)))
 
 -- what a text is judged as over a formula
-abbrev pub Judges : Formula → List ℕ → Judgement → Type 0
-Judges f text j = JudgesReading f (read_proof f.variables text) j
+abbrev pub JudgesProof : Formula → List ℕ → Judgement → Type 0
+JudgesProof f text j = JudgesReading f (read_proof f.variables text) j

@@ -17,7 +17,7 @@ abbrev pub marked_of : Inside → Marked
 marked_of t = record { marks = t.marks.items; order = take t.count t.literals.items }
 
 -- the marked literals are those in the first places
-pub record IsOrder (marks : List Bool) (literals : List ℕ) (count : ℕ) : Type 0 where
+pub record AreMarkedFirst (marks : List Bool) (literals : List ℕ) (count : ℕ) : Type 0 where
   pub as_many : length literals ≡ length marks
   pub counted : count_by (λ b. b) marks ≡ count
   pub placed : (l : ℕ) → slice_index_or marks l false ≡ true → (j : ℕ) × (j < count) × (slice_index literals j ≡ l)
@@ -25,7 +25,7 @@ pub record IsOrder (marks : List Bool) (literals : List ℕ) (count : ℕ) : Typ
   pub distinct : (i j : ℕ) → i < j → j < count → slice_index literals i ≢ slice_index literals j
 
 abbrev pub IsTrail : Inside → Type 0
-IsTrail t = IsOrder t.marks.items t.literals.items t.count
+IsTrail t = AreMarkedFirst t.marks.items t.literals.items t.count
 
 -- every marked literal is in the set
 abbrev pub IsWithin : Marked → Literals → Type 0

@@ -4,7 +4,7 @@ use Rattle.base.specs.Decimals.{is_digit, are_digits, capped_value, number_more}
 use Rattle.clauses.specs.declared.numeral.Numeral.{Numeral}
 
 -- what is kept is that of these bytes
-pub record Counts (n : Numeral) (bytes : List ℕ) : Type 0 where
+pub record CountsDigits (n : Numeral) (bytes : List ℕ) : Type 0 where
   pub count : n.count ≡ min (length bytes) (2 ^ 64 - 1)
   pub zero : n.zero ≡ (slice_index_or bytes 0 0 == 48)
   pub digits : n.digits ≡ are_digits bytes

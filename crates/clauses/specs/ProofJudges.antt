@@ -7,8 +7,8 @@ use Rattle.clauses.specs.declared.proof_judge.Place.TheVariants as place
 use Rattle.clauses.specs.declared.proof_judge.ProofJudge.TheInside.{Inside}
 use Rattle.clauses.specs.declared.word.Word.{Word}
 use Rattle.clauses.specs.Formula.{Formula}
-use Rattle.clauses.specs.Proofs.{is_blank, words_of, token_of, Mark, mark, most_lines, lines_marks}
-use Rattle.clauses.specs.Words.{Spells}
+use Rattle.clauses.specs.Proofs.{is_proof_blank, proof_words, token_of, Mark, mark, most_proof_lines, lines_marks}
+use Rattle.clauses.specs.Words.{SpellsWord}
 use Rattle.clauses.specs.StepReaders.{StepReader, StandsForWords, BeginsReader}
 
 -- ---- the rest of a text
@@ -31,7 +31,7 @@ word_marks variables line (b ∷ bs) = mark line (token_of variables (b ∷ bs))
 -- what the rest says, in a line that begins, behind the first bytes of a word, or in a comment
 abbrev pub marks_behind : ℕ → Place → ℕ → List ℕ → List ℕ → List Mark
 marks_behind variables place.Begins line word rest = lines_marks variables line (all_lines rest)
-marks_behind variables place.Within line word rest = map (λ w. mark line (token_of variables w)) (words_of (word ++ this_line rest)) ++ lines_marks variables (suc line) (all_lines (next_lines rest))
+marks_behind variables place.Within line word rest = map (λ w. mark line (token_of variables w)) (proof_words (word ++ this_line rest)) ++ lines_marks variables (suc line) (all_lines (next_lines rest))
 marks_behind variables place.Comment line word rest = lines_marks variables (suc line) (all_lines (next_lines rest))
 
 -- ---- a judge
@@ -50,22 +50,22 @@ pub record IsProofJudge (j : Inside) : Type 0 where
   pub few : j.variables < 2147483647
 
 -- a word has no blanks, and outside of words nothing has begun
-abbrev pub IsWordAt : Place → List ℕ → Type 0
-IsWordAt place.Begins word = word ≡ []
-IsWordAt place.Within word = list_any is_blank word ≡ false
-IsWordAt place.Comment word = word ≡ []
+abbrev pub IsTokenAt : Place → List ℕ → Type 0
+IsTokenAt place.Begins word = word ≡ []
+IsTokenAt place.Within word = list_any is_proof_blank word ≡ false
+IsTokenAt place.Comment word = word ≡ []
 
 -- a line that begins may be one too many
 abbrev pub IsFew : Place → ℕ → Type 0
-IsFew place.Begins line = line ≤ suc most_lines
-IsFew place.Within line = line ≤ most_lines
-IsFew place.Comment line = line ≤ most_lines
+IsFew place.Begins line = line ≤ suc most_proof_lines
+IsFew place.Within line = line ≤ most_proof_lines
+IsFew place.Comment line = line ≤ most_proof_lines
 
 -- some words are those of a text but for its last bytes, which are pending, whatever follows
 pub record Scanned (j : ProofJudge) (text pending : List ℕ) (marks : List Mark) : Type 0 where
   pub word : List ℕ
-  pub spells : Spells j.word word
-  pub plain : IsWordAt j.place word
+  pub spells : SpellsWord j.word word
+  pub plain : IsTokenAt j.place word
   pub few : IsFew j.place j.line
   pub reads : (more : List ℕ) → lines_marks j.variables 1 (all_lines (text ++ more)) ≡ marks ++ marks_behind j.variables j.place j.line word (pending ++ more)
   pub last : (more : List ℕ) → suc (length (whole_lines (text ++ more))) ≡ j.line + length (whole_lines (pending ++ more))
@@ -92,7 +92,7 @@ pub record BeginsText (f : Formula) (j : ProofJudge) : Type 0 where
   pub variables : j.variables ≡ f.variables
   pub line : j.line ≡ 1
   pub place : j.place ≡ place.Begins
-  pub word : Spells j.word []
+  pub word : SpellsWord j.word []
 
 -- it stands for a text over a formula; where that is empty, more clauses can be given
 abbrev pub StandsForText : Formula → ProofJudge → List ℕ → Type 0

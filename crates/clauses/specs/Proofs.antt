@@ -12,20 +12,20 @@ use Rattle.clauses.specs.declared.why.Why.TheVariants as why
 -- ---- words
 
 -- a space, a tab, or a carriage return
-abbrev pub is_blank : ℕ → Bool
-is_blank b = b == 32 || b == 9 || b == 13
+abbrev pub is_proof_blank : ℕ → Bool
+is_proof_blank b = b == 32 || b == 9 || b == 13
 
 -- a word ends where a blank follows, or nothing
 abbrev pub ends_word : List ℕ → Bool
 ends_word [] = true
-ends_word (b ∷ bs) = is_blank b
+ends_word (b ∷ bs) = is_proof_blank b
 
 -- the words of a line: its longest stretches without a blank
-abbrev pub words_of : List ℕ → List (List ℕ)
-words_of [] = []
-words_of (b ∷ bs) =
-    if is_blank b then words_of bs
-    else (if ends_word bs then (b ∷ []) ∷ words_of bs else onto_first b (words_of bs))
+abbrev pub proof_words : List ℕ → List (List ℕ)
+proof_words [] = []
+proof_words (b ∷ bs) =
+    if is_proof_blank b then proof_words bs
+    else (if ends_word bs then (b ∷ []) ∷ proof_words bs else onto_first b (proof_words bs))
 
 -- What a word says: the end of a step, that the step takes a clause away, a literal, or that it is faulty.
 pub data Token : Type 0 where
@@ -35,19 +35,19 @@ pub data Token : Type 0 where
   faulty : Why → Token
 
 -- a variable's number, of a literal whose sign is 0 or of its negation whose sign is 1
-abbrev pub numbered : ℕ → ℕ → Option ℕ → Token
-numbered variables sign None = faulty why.BadWord
-numbered variables sign (Some n) = if n == 0 then faulty why.BadWord else (if nat_lt variables n then faulty why.BadVariable else literal (2 * n + sign))
+abbrev pub variable_numbered : ℕ → ℕ → Option ℕ → Token
+variable_numbered variables sign None = faulty why.BadWord
+variable_numbered variables sign (Some n) = if n == 0 then faulty why.BadWord else (if nat_lt variables n then faulty why.BadVariable else literal (2 * n + sign))
 
 -- a literal: a decimal from 1 on, with a minus in front where it is a negation
-abbrev pub literal_of : ℕ → List ℕ → Token
-literal_of variables [] = faulty why.BadWord
-literal_of variables (b ∷ bs) = if b == 45 then numbered variables 1 (number_of bs) else numbered variables 0 (number_of (b ∷ bs))
+abbrev pub literal_said : ℕ → List ℕ → Token
+literal_said variables [] = faulty why.BadWord
+literal_said variables (b ∷ bs) = if b == 45 then variable_numbered variables 1 (number_of bs) else variable_numbered variables 0 (number_of (b ∷ bs))
 
 abbrev pub token_of : ℕ → List ℕ → Token
 token_of variables word =
     if bytes_eq word (codes "0") then ends
-    else (if bytes_eq word (codes "d") then deletes else literal_of variables word)
+    else (if bytes_eq word (codes "d") then deletes else literal_said variables word)
 
 -- ---- lines
 
@@ -55,18 +55,18 @@ token_of variables word =
 pub data Mark : Type 0 where
   mark : ℕ → Token → Mark
 
-abbrev pub is_comment : List ℕ → Bool
-is_comment [] = false
-is_comment (b ∷ bs) = b == 99
+abbrev pub is_proof_comment : List ℕ → Bool
+is_proof_comment [] = false
+is_proof_comment (b ∷ bs) = b == 99
 
 -- the most lines of a proof
-abbrev pub most_lines : ℕ
-most_lines = 2 ^ 62
+abbrev pub most_proof_lines : ℕ
+most_proof_lines = 2 ^ 62
 
 abbrev pub line_marks : ℕ → ℕ → List ℕ → List Mark
 line_marks variables n line =
-    if nat_lt most_lines n then mark n (faulty why.TooLong) ∷ []
-    else (if is_comment line then [] else map (λ word. mark n (token_of variables word)) (words_of line))
+    if nat_lt most_proof_lines n then mark n (faulty why.TooLong) ∷ []
+    else (if is_proof_comment line then [] else map (λ word. mark n (token_of variables word)) (proof_words line))
 
 -- of lines from one with a number on
 abbrev pub lines_marks : ℕ → ℕ → List (List ℕ) → List Mark
@@ -84,14 +84,14 @@ pub data Step : Type 0 where
 pub data Ended : Type 0 where
   ended : ℕ → Step → Ended
 
-pub record Fault : Type 0 where
+pub record ProofFault : Type 0 where
   pub line : ℕ
   pub why : Why
 
 -- the steps before the first fault, and that fault, where there is one
-pub record Reading : Type 0 where
+pub record ProofReading : Type 0 where
   pub steps : List Ended
-  pub fault : Option Fault
+  pub fault : Option ProofFault
 
 abbrev pub step_of : Bool → List ℕ → Step
 step_of true clause = deletion clause
@@ -101,11 +101,11 @@ step_of false clause = addition clause
 abbrev pub has_begun : Bool → List ℕ → Bool
 has_begun deleting clause = deleting || not (is_nothing clause)
 
-abbrev pub refused : ℕ → Why → Reading
+abbrev pub refused : ℕ → Why → ProofReading
 refused n w = record { steps = []; fault = Some (record { line = n; why = w }) }
 
 -- what marks read as behind the beginning of a step, in a text that ends in a line
-abbrev pub reading_from : ℕ → Bool → List ℕ → List Mark → Reading
+abbrev pub reading_from : ℕ → Bool → List ℕ → List Mark → ProofReading
 reading_from last deleting clause [] = if has_begun deleting clause then refused last why.CutOff else record { steps = []; fault = None }
 reading_from last deleting clause (mark n ends ∷ marks) =
     let behind : Reading = reading_from last false [] marks in
@@ -115,5 +115,5 @@ reading_from last deleting clause (mark n (literal l) ∷ marks) = reading_from 
 reading_from last deleting clause (mark n (faulty w) ∷ marks) = refused n w
 
 -- what a text reads as, over a formula of so many variables
-abbrev pub read_proof : ℕ → List ℕ → Reading
+abbrev pub read_proof : ℕ → List ℕ → ProofReading
 read_proof variables text = reading_from (suc (length (whole_lines text))) false [] (lines_marks variables 1 (all_lines text))

@@ -2,15 +2,15 @@
 -- Wetzler, M. Heule, W. Hunt, "DRAT-trim: Efficient checking and trimming using expressive clausal proofs", SAT 2014).
 use Rattle.std.specs.Prelude.{◌≡◌, ◌≢◌, ℕ, ◌<◌, Bool, true, false, List, [], length, slice_index, slice_index_or}
 use Rattle.base.specs.Literal.{negation, Valuation, literal_value}
-use Rattle.clauses.specs.Formula.{Satisfies}
+use Rattle.clauses.specs.Formula.{SatisfiesClauses}
 
 -- a set of literals
 abbrev pub Literals : Type 0
 Literals = ℕ → Bool
 
 -- no literals
-abbrev pub nothing : Literals
-nothing l = false
+abbrev pub no_literal : Literals
+no_literal l = false
 
 -- the set has the negation of each literal of a clause
 abbrev pub AllNegated : List ℕ → Literals → Type 0
@@ -52,5 +52,5 @@ Implied clauses given clause = (s : Literals) → IsClosed clauses s → Holds g
 
 -- an assignment satisfies the clauses, and the given literals are true in it
 pub record IsModel (a : Valuation) (clauses : List (List ℕ)) (given : Literals) : Type 0 where
-  pub satisfies : Satisfies a clauses
+  pub satisfies : SatisfiesClauses a clauses
   pub holds : Holds given (literal_value a)

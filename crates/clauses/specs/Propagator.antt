@@ -4,7 +4,7 @@ use Rattle.clauses.specs.declared.propagator.Propagator.TheInside.{Inside}
 use Rattle.clauses.specs.Propagation.{Literals, IsClosure, Conflict, MeetsConflict}
 use Rattle.clauses.specs.Marked.{Marked, IsEven, IsConsistent}
 use Rattle.clauses.specs.Watched.{IsWatched, AreMet, UnitsMet}
-use Rattle.clauses.specs.Flat.{cut, standing, AreEnds}
+use Rattle.clauses.specs.Flat.{cut, standing, AreStartsAndEnds}
 use Rattle.clauses.specs.Places.{last_at, AreLinked}
 
 -- a literal's bit in a list tells whether it is in the set
@@ -37,7 +37,7 @@ state_of p = record { limit = length p.trail.marks; clauses = standing (cut p.li
 pub record KeepsPropagator (literals starts ends watched : List ℕ) (lists : List (List ℕ)) (trail : Marked) : Type 0 where
   pub even : IsEven trail
   pub inside : All (λ l. l < length trail.marks) literals
-  pub ordered : AreEnds (length literals) starts ends
+  pub ordered : AreStartsAndEnds (length literals) starts ends
   pub consistent : IsConsistent trail
   pub low : length trail.marks < 4294967296
   pub are_watched : IsWatched (cut literals starts ends) watched lists (length trail.marks)

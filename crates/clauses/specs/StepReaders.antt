@@ -2,8 +2,8 @@
 use Rattle.std.specs.Prelude.{◌≡◌, ℕ, ◌<◌, Bool, true, false, List, [], ◌++◌, Some, None, All}
 use Rattle.clauses.specs.declared.step_reader.StepReader.TheInside.{Inside}
 use Rattle.clauses.specs.Formula.{Formula}
-use Rattle.clauses.specs.Proofs.{Mark, Ended, Fault, Reading, reading_from}
-use Rattle.clauses.specs.StepJudges.{StepJudge, StandsFor, HasJudged, Begins}
+use Rattle.clauses.specs.Proofs.{Mark, Ended, ProofFault, ProofReading, reading_from}
+use Rattle.clauses.specs.StepJudges.{StepJudge, StandsForSteps, HasJudged, BeginsSteps}
 
 -- the judge of the steps that ended, the literals of the step that has begun and whether it takes a clause away, whether a fault was met or memory was
 -- wanting, behind which nothing is read, and whether memory was wanting
@@ -23,41 +23,41 @@ abbrev pub IsReader : Inside → Type 0
 IsReader r = All (λ l. l < r.judge.propagator.limit) r.clause.items
 
 -- steps in front of a reading
-abbrev pub behind_steps : List Ended → Reading → Reading
+abbrev pub behind_steps : List Ended → ProofReading → ProofReading
 behind_steps steps reading = record { steps = steps ++ reading.steps; fault = reading.fault }
 
 -- no word was faulty: the steps that ended and the one that has begun are those of the words, whatever follows
 pub record Open (f : Formula) (r : StepReader) (marks : List Mark) : Type 0 where
   pub steps : List Ended
-  pub stands : StandsFor f steps r.judge
+  pub stands : StandsForSteps f steps r.judge
   pub reads : (last : ℕ) (more : List Mark) → reading_from last false [] (marks ++ more) ≡ behind_steps steps (reading_from last r.deleting r.clause more)
 
 -- the steps before a fault, and the fault, are those of the words, whatever follows
 pub record Closed (f : Formula) (r : StepReader) (marks : List Mark) : Type 0 where
   pub steps : List Ended
-  pub fault : Fault
+  pub fault : ProofFault
   pub judged : HasJudged f steps fault r.judge
   pub reads : (last : ℕ) (more : List Mark) → reading_from last false [] (marks ++ more) ≡ record { steps = steps; fault = Some fault }
 
-abbrev pub StandsAt : Formula → StepReader → List Mark → Bool → Type 0
-StandsAt f r marks true = Closed f r marks
-StandsAt f r marks false = Open f r marks
+abbrev pub StandsAtStep : Formula → StepReader → List Mark → Bool → Type 0
+StandsAtStep f r marks true = Closed f r marks
+StandsAtStep f r marks false = Open f r marks
 
 -- where memory was not wanting, a reader stands for words over a formula
 abbrev pub StandsForWords : Formula → StepReader → List Mark → Type 0
-StandsForWords f r marks = r.failed ≡ false → StandsAt f r marks r.closed
+StandsForWords f r marks = r.failed ≡ false → StandsAtStep f r marks r.closed
 
-abbrev pub HasReadAt : Formula → StepReader → Reading → Bool → Type 0
-HasReadAt f r reading true = (steps : List Ended) × ((fault : Fault) × (HasJudged f steps fault r.judge × (reading ≡ record { steps = steps; fault = Some fault })))
-HasReadAt f r reading false = (steps : List Ended) × (StandsFor f steps r.judge × (reading ≡ record { steps = steps; fault = None }))
+abbrev pub HasReadAt : Formula → StepReader → ProofReading → Bool → Type 0
+HasReadAt f r reading true = (steps : List Ended) × ((fault : ProofFault) × (HasJudged f steps fault r.judge × (reading ≡ record { steps = steps; fault = Some fault })))
+HasReadAt f r reading false = (steps : List Ended) × (StandsForSteps f steps r.judge × (reading ≡ record { steps = steps; fault = None }))
 
 -- where memory was not wanting, a reader has judged the steps of a reading, and its fault where there is one
-abbrev pub HasRead : Formula → StepReader → Reading → Type 0
+abbrev pub HasRead : Formula → StepReader → ProofReading → Type 0
 HasRead f r reading = r.failed ≡ false → HasReadAt f r reading r.closed
 
 -- where memory was not wanting, a reader has a formula's clauses and took no word
 pub record BeginsReader (f : Formula) (r : StepReader) : Type 0 where
-  pub begins : Begins f r.judge
+  pub begins : BeginsSteps f r.judge
   pub clause : r.clause ≡ []
   pub deleting : r.deleting ≡ false
   pub closed : r.closed ≡ false

@@ -60,7 +60,7 @@ pub record Moved (watched : List ℕ) (lists : List (List ℕ)) (negated place l
   pub as_many : length lists' ≡ length lists
 
 -- what a look at the watch at a place keeps and brings: a watch changes only to a literal that is not negated
-pub record Advances (clauses : List (List ℕ)) (negated place : ℕ) (watched : List ℕ) (lists : List (List ℕ)) (old : Marked) (watched' : List ℕ) (lists' : List (List ℕ)) (new : Marked) (next : ℕ) : Type 0 where
+pub record AdvancesWatch (clauses : List (List ℕ)) (negated place : ℕ) (watched : List ℕ) (lists : List (List ℕ)) (old : Marked) (watched' : List ℕ) (lists' : List (List ℕ)) (new : Marked) (next : ℕ) : Type 0 where
   pub ahead : Walks clauses watched lists negated place old → Walks clauses watched' lists' negated next new
   pub processed : (head : ℕ) → head ≤ length old.order → Processed clauses watched old head → Processed clauses watched' new head
   pub as_many : length watched' ≡ length watched
@@ -69,7 +69,7 @@ pub record Advances (clauses : List (List ℕ)) (negated place : ℕ) (watched :
 
 abbrev pub Entered : List (List ℕ) → ℕ → ℕ → List ℕ → List (List ℕ) → Marked → List ℕ → List (List ℕ) → Marked → Option ℕ → Type 0
 Entered clauses negated place watched lists old watched' lists' new None = Falsifies clauses new
-Entered clauses negated place watched lists old watched' lists' new (Some next) = Advances clauses negated place watched lists old watched' lists' new next
+Entered clauses negated place watched lists old watched' lists' new (Some next) = AdvancesWatch clauses negated place watched lists old watched' lists' new next
 
 -- what going through the list of a literal keeps and brings
 pub record Walked (clauses : List (List ℕ)) (negated : ℕ) (watched : List ℕ) (old : Marked) (watched' : List ℕ) (new : Marked) : Type 0 where

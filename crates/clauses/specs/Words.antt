@@ -5,14 +5,14 @@ use Rattle.clauses.specs.declared.word.Token.{Token as CodeToken}
 use Rattle.clauses.specs.declared.word.Token.TheVariants as code
 use Rattle.clauses.specs.declared.word.Word.{Word}
 use Rattle.clauses.specs.Proofs.{Token, ends, deletes, literal, faulty}
-use Rattle.clauses.specs.Numerals.{Counts}
+use Rattle.clauses.specs.Numerals.{CountsDigits}
 
 -- what a word says, as the code has it
-abbrev pub said : CodeToken → Token
-said code.Ends = ends
-said (code.Deletes) = deletes
-said (code.Literal l) = literal l
-said (code.Faulty w) = faulty w
+abbrev pub token_said : CodeToken → Token
+token_said code.Ends = ends
+token_said (code.Deletes) = deletes
+token_said (code.Literal l) = literal l
+token_said (code.Faulty w) = faulty w
 
 -- where it is a literal, it is below a limit
 abbrev pub IsBelow : ℕ → CodeToken → Type 0
@@ -27,19 +27,19 @@ sign_of true = 1
 sign_of false = 0
 
 -- bytes behind a minus where there is one
-abbrev pub signed : Bool → List ℕ → List ℕ
-signed true bytes = 45 ∷ bytes
-signed false bytes = bytes
+abbrev pub with_minus : Bool → List ℕ → List ℕ
+with_minus true bytes = 45 ∷ bytes
+with_minus false bytes = bytes
 
 -- no minus is first where none was seen
-abbrev pub IsFirst : Bool → List ℕ → Type 0
-IsFirst true bytes = Unit {0}
-IsFirst false bytes = (slice_index_or bytes 0 0 == 45) ≡ false
+abbrev pub IsFirstByte : Bool → List ℕ → Type 0
+IsFirstByte true bytes = Unit {0}
+IsFirstByte false bytes = (slice_index_or bytes 0 0 == 45) ≡ false
 
 -- what is kept is that of these bytes
-pub record Spells (w : Word) (bytes : List ℕ) : Type 0 where
+pub record SpellsWord (w : Word) (bytes : List ℕ) : Type 0 where
   pub behind : List ℕ
-  pub is : bytes ≡ signed w.negative behind
-  pub first : IsFirst w.negative behind
-  pub numeral : Counts w.numeral behind
+  pub is : bytes ≡ with_minus w.negative behind
+  pub first : IsFirstByte w.negative behind
+  pub numeral : CountsDigits w.numeral behind
   pub deletes : w.deletes ≡ bytes_eq bytes (codes "d")

@@ -2,7 +2,7 @@
 use Rattle.std.specs.Prelude.{ℕ, ◌==◌, ◌||◌, List, [], ◌∷◌, None}
 use Rattle.clauses.specs.Formula.{Formula}
 use Rattle.clauses.specs.Propagation.{Literals}
-use Rattle.clauses.specs.Proofs.{Reading, ended, addition}
+use Rattle.clauses.specs.Proofs.{ProofReading, ended, addition}
 
 -- one literal, and two
 abbrev pub one : ℕ → Literals
@@ -38,5 +38,5 @@ chain = (2 ∷ []) ∷ (3 ∷ 4 ∷ []) ∷ []
 abbrev pub eight : Formula
 eight = record { variables = 3; clauses = all_eight }
 
-abbrev pub three_steps : Reading
+abbrev pub three_steps : ProofReading
 three_steps = record { steps = ended 1 (addition (2 ∷ 4 ∷ [])) ∷ ended 2 (addition (2 ∷ [])) ∷ ended 3 (addition (4 ∷ [])) ∷ []; fault = None }

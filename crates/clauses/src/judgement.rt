@@ -18,9 +18,9 @@ pub enum Judgement {
 
 impl fmt::Display for Judgement {
     ghost use Rattle.std.specs.Prelude.{Some};
-    ghost use Rattle.clauses.specs.Printed.{judgement_text};
+    ghost use Rattle.clauses.specs.Printed.{proof_judgement_text};
 
-    ghost output = { λ j. Some (judgement_text j) };
+    ghost output = { λ j. Some (proof_judgement_text j) };
 
     /// The line that is printed for it.
     fn fmt<W: fmt::Write>(&self, f: &mut fmt::Formatter<W>) -> fmt::Result {

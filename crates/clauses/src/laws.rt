@@ -2,16 +2,16 @@
 ghost use Rattle.std.specs.Prelude.{◌≡◌, ℕ, true, List, [], ◌∷◌, None, Some, codes};
 ghost use Rattle.base.specs.Literal.{Valuation};
 ghost use Rattle.clauses.specs.Formula.{Formula, SatisfiesClause, IsUnsatisfiable};
-ghost use Rattle.clauses.specs.Propagation.{Literals, nothing, IsModel, IsClosedUnder, IsClosure, Implied, MeetsConflict};
+ghost use Rattle.clauses.specs.Propagation.{Literals, no_literal, IsModel, IsClosedUnder, IsClosure, Implied, MeetsConflict};
 ghost use Rattle.clauses.specs.Worked.{two, all_eight, twice, with_negation, chain, eight, three_steps};
 ghost use Rattle.clauses.specs.declared.why.Why.TheVariants as why;
 ghost use Rattle.clauses.specs.declared.judgement.Judgement.{Judgement};
 ghost use Rattle.clauses.specs.declared.judgement.Judgement.TheVariants as judgement;
 ghost use Rattle.clauses.specs.FormulaTexts.{formula_text};
 ghost use Rattle.clauses.specs.Proofs.{read_proof, ended, addition, deletion};
-ghost use Rattle.clauses.specs.Judgements.{Judges};
+ghost use Rattle.clauses.specs.Judgements.{JudgesProof};
 ghost use Rattle.clauses.specs.Without.{IsWithout};
-ghost use Rattle.clauses.specs.StepJudges.{StepJudge, Begins, StandsFor};
+ghost use Rattle.clauses.specs.StepJudges.{StepJudge, BeginsSteps, StandsForSteps};
 ghost use Rattle.clauses.specs.Propagator.{State, Extended, in_list};
 
 /// A law: an implied clause is satisfied by whatever satisfies the clauses and what is given.
@@ -32,45 +32,45 @@ pub fn models_stay()
 
 /// A law: where a text is judged as a proof, nothing satisfies the formula.
 pub fn derived_is_unsatisfiable()
-    ensures { (formula : Formula) (text : List ℕ) (line : ℕ) → Judges formula text (judgement.Derived line) → IsUnsatisfiable formula }
+    ensures { (formula : Formula) (text : List ℕ) (line : ℕ) → JudgesProof formula text (judgement.Derived line) → IsUnsatisfiable formula }
 {}
 
 /// A law: over a formula a text is judged in one way at most.
 pub fn one_judgement()
-    ensures { (formula : Formula) (text : List ℕ) (i j : Judgement) → Judges formula text i → Judges formula text j → i ≡ j }
+    ensures { (formula : Formula) (text : List ℕ) (i j : Judgement) → JudgesProof formula text i → JudgesProof formula text j → i ≡ j }
 {}
 
 /// A law: a judge that has a formula's clauses and took no step stands for no steps over it.
 pub fn begun_judge_stands()
-    ensures { (formula : Formula) (judge : StepJudge) → Begins formula judge → StandsFor formula [] judge }
+    ensures { (formula : Formula) (judge : StepJudge) → BeginsSteps formula judge → StandsForSteps formula [] judge }
 {}
 
 /// Worked rows: of all eight clauses of three variables none gives a literal by itself, and nothing satisfies them; a clause
 /// of two of the variables follows, and one of a single variable does not.
 pub fn worked_all_eight()
-    ensures free { ¬ MeetsConflict all_eight nothing }
-    ensures implied { Implied all_eight nothing (2 ∷ 4 ∷ []) }
-    ensures not_implied { ¬ Implied all_eight nothing (2 ∷ []) }
+    ensures free { ¬ MeetsConflict all_eight no_literal }
+    ensures implied { Implied all_eight no_literal (2 ∷ 4 ∷ []) }
+    ensures not_implied { ¬ Implied all_eight no_literal (2 ∷ []) }
     ensures unsatisfiable { IsUnsatisfiable (record { variables = 3; clauses = all_eight }) }
 {}
 
 /// Worked rows: a clause that has one literal twice gives it.
 pub fn worked_literal_twice()
     ensures gives { (s : Literals) → IsClosedUnder (2 ∷ 2 ∷ []) s → s 2 ≡ true }
-    ensures implied { Implied twice nothing (2 ∷ []) }
-    ensures not_implied { ¬ Implied twice nothing (4 ∷ []) }
+    ensures implied { Implied twice no_literal (2 ∷ []) }
+    ensures not_implied { ¬ Implied twice no_literal (4 ∷ []) }
 {}
 
 /// Worked rows: a clause that has a literal and its negation gives nothing, and follows from anything.
 pub fn worked_literal_and_negation()
-    ensures gives_nothing { IsClosedUnder (2 ∷ 3 ∷ []) nothing }
-    ensures not_implied { ¬ Implied with_negation nothing (2 ∷ []) }
+    ensures gives_nothing { IsClosedUnder (2 ∷ 3 ∷ []) no_literal }
+    ensures not_implied { ¬ Implied with_negation no_literal (2 ∷ []) }
     ensures implied { (clauses : List (List ℕ)) (given : Literals) → Implied clauses given (2 ∷ 3 ∷ []) }
 {}
 
 /// A worked row: a clause of one literal gives it, and with it another clause gives another.
 pub fn worked_chain()
-    ensures { IsClosure chain nothing (two 2 4) }
+    ensures { IsClosure chain no_literal (two 2 4) }
 {}
 
 /// Worked rows: the text of a formula of two clauses, one of them without literals, and of one without clauses.
@@ -94,11 +94,11 @@ pub fn worked_reading()
 /// Worked rows: all eight clauses of three variables are refuted by three steps, the second of which alone is not implied,
 /// and not by none.
 pub fn worked_judgements()
-    ensures derived { Judges eight (codes "1 2 0\n1 0\n2 0\n") (judgement.Derived 3) }
-    ensures not_implied { Judges eight (codes "1 0\n2 0\n") (judgement.NotImplied 1) }
-    ensures not_derived { Judges eight (codes "1 2 0\n") judgement.NotDerived }
-    ensures malformed { Judges eight (codes "1 2 0\n1 x 0\n") (judgement.Malformed 2 why.BadWord) }
-    ensures by_itself { Judges (record { variables = 1; clauses = (2 ∷ []) ∷ (3 ∷ []) ∷ [] }) (codes "x") (judgement.Derived 0) }
+    ensures derived { JudgesProof eight (codes "1 2 0\n1 0\n2 0\n") (judgement.Derived 3) }
+    ensures not_implied { JudgesProof eight (codes "1 0\n2 0\n") (judgement.NotImplied 1) }
+    ensures not_derived { JudgesProof eight (codes "1 2 0\n") judgement.NotDerived }
+    ensures malformed { JudgesProof eight (codes "1 2 0\n1 x 0\n") (judgement.Malformed 2 why.BadWord) }
+    ensures by_itself { JudgesProof (record { variables = 1; clauses = (2 ∷ []) ∷ (3 ∷ []) ∷ [] }) (codes "x") (judgement.Derived 0) }
 {}
 
 /// Worked rows: of clauses that have the same literals in some order the last is taken away; none is where there is none.

@@ -2,7 +2,7 @@
 ghost use Rattle.std.specs.Prelude.{◌≡◌, List, ℕ, [], codes};
 ghost use Rattle.std.specs.Str.{bytes_eq};
 ghost use Rattle.base.specs.Decimals.{is_digit, is_nothing, number_of, number_more};
-ghost use Rattle.clauses.specs.Numerals.{Counts, numeral_more, is_numeral};
+ghost use Rattle.clauses.specs.Numerals.{CountsDigits, numeral_more, is_numeral};
 
 /// What bytes say as a decimal, of which more may follow.
 #[derive(Clone, Copy)]
@@ -40,7 +40,7 @@ fn number_more(number: u64, byte: u8) -> u64
 impl Numeral {
     /// No byte yet.
     pub(crate) fn new() -> Numeral
-        ensures { Counts result [] }
+        ensures { CountsDigits result [] }
     {
         Numeral {
             count: 0,
@@ -68,14 +68,14 @@ impl Numeral {
 
     /// Whether there is no byte.
     pub(crate) fn is_empty(self) -> bool
-        ensures { (bytes : List ℕ) → Counts self bytes → result ≡ is_nothing bytes }
+        ensures { (bytes : List ℕ) → CountsDigits self bytes → result ≡ is_nothing bytes }
     {
         self.count == 0
     }
 
     /// Whether the only byte is `0`.
     pub(crate) fn is_zero(self) -> bool
-        ensures { (bytes : List ℕ) → Counts self bytes → result ≡ bytes_eq bytes (codes "0") }
+        ensures { (bytes : List ℕ) → CountsDigits self bytes → result ≡ bytes_eq bytes (codes "0") }
     {
         self.count == 1 && self.zero
     }
@@ -89,7 +89,7 @@ impl Numeral {
 
     /// The number that the bytes write, at most 2^64 - 1, where they are a decimal.
     pub(crate) fn number(self) -> Option<u64>
-        ensures { (bytes : List ℕ) → Counts self bytes → result ≡ number_of bytes }
+        ensures { (bytes : List ℕ) → CountsDigits self bytes → result ≡ number_of bytes }
     {
         if self.is_numeral() {
             Some(self.number)

@@ -3,7 +3,7 @@ ghost use Rattle.std.specs.Prelude.{◌≡◌, ◌<◌, ◌≤◌, slice_range, 
 ghost use Rattle.clauses.specs.Marked.{IsEven, set_of};
 ghost use Rattle.clauses.specs.Propagation.{AllNegated, OthersNegated};
 ghost use Rattle.clauses.specs.Growth.{IsOpen};
-ghost use Rattle.clauses.specs.Flat.{cut, AreEnds};
+ghost use Rattle.clauses.specs.Flat.{cut, AreStartsAndEnds};
 
 use crate::literal::negation;
 use crate::trail::Trail;
@@ -52,7 +52,7 @@ pub(crate) fn clause_of<'a>(
     ends: &[usize],
     k: usize,
 ) -> &'a [u32]
-    requires ends { AreEnds (length literals.now) starts.now ends.now }
+    requires ends { AreStartsAndEnds (length literals.now) starts.now ends.now }
     requires there { k < length ends.now }
     ensures { result.now ≡ slice_index_or (cut literals.now starts.now ends.now) k [] }
 {

@@ -1,6 +1,6 @@
 //! The places of clauses by their sums, which do not go by the order of literals.
 ghost use Rattle.std.specs.Prelude.{◌≡◌, ℕ, ◌+◌, ◌<◌, [], ◌==◌, if◌then◌else◌, IfOk, MatchOption, length};
-ghost use Rattle.clauses.specs.Flat.{cut, AreEnds};
+ghost use Rattle.clauses.specs.Flat.{cut, AreStartsAndEnds};
 ghost use Rattle.clauses.specs.Without.{NoneAlikeFrom, IsLastAlike};
 ghost use Rattle.clauses.specs.Places.{mixed, clause_sum, last_at, HasRoom, IsLink, AreLinked, IsLinkedBehind, IsUnlinked};
 
@@ -135,7 +135,7 @@ pub(crate) fn last_alike(
     sum: u32,
     clause: &[u32],
 ) -> Option<(usize, usize)>
-    requires ends { AreEnds (length literals.now) starts.now ends.now }
+    requires ends { AreStartsAndEnds (length literals.now) starts.now ends.now }
     requires linked { AreLinked (cut literals.now starts.now ends.now) (last_at places.now) places.now.before.items }
     requires sum { sum ≡ clause_sum clause.now }
     requires some { 0 < length clause.now }

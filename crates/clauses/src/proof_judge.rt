@@ -1,9 +1,9 @@
 //! The judge of the texts of proofs.
 ghost use Rattle.std.specs.Prelude.{◌≡◌, ◌+◌, ◌*◌, ◌-◌, ◌^◌, ◌<◌, ◌++◌, ◌∷◌, [], List, ℕ, false, min, nat_lt, All, IfOk};
 ghost use Rattle.clauses.specs.Formula.{Formula as FormulaValue};
-ghost use Rattle.clauses.specs.Proofs.{is_blank, most_lines, Mark};
-ghost use Rattle.clauses.specs.Judgements.{Judges};
-ghost use Rattle.clauses.specs.Words.{Spells};
+ghost use Rattle.clauses.specs.Proofs.{is_proof_blank, most_proof_lines, Mark};
+ghost use Rattle.clauses.specs.Judgements.{JudgesProof};
+ghost use Rattle.clauses.specs.Words.{SpellsWord};
 ghost use Rattle.clauses.specs.StepReaders.{StandsForWords};
 ghost use Rattle.clauses.specs.ProofJudges.{ProofJudge as ProofJudgeValue, word_marks, StandsBefore, StandsThrough, StandsForText, EndsText};
 ghost use Rattle.clauses.specs.declared.proof_judge.Place.TheVariants as place;
@@ -32,14 +32,14 @@ pub(crate) enum Place {
 
 /// Whether a byte is a space, a tab or a carriage return.
 fn is_blank(byte: u8) -> bool
-    ensures { result ≡ is_blank byte }
+    ensures { result ≡ is_proof_blank byte }
 {
     byte == b' ' || byte == b'\t' || byte == b'\r'
 }
 
 /// Whether a line is one too many.
 fn is_too_many(line: u64) -> bool
-    ensures { result ≡ nat_lt most_lines line }
+    ensures { result ≡ nat_lt most_proof_lines line }
 {
     line > MOST_LINES
 }
@@ -137,8 +137,8 @@ impl ProofJudge {
     /// The word that has begun ends, where one has.
     fn end_word(&mut self)
         requires { self.old.reader.closed ≡ false }
-        ensures words { (f : FormulaValue) (marks : List Mark) (bytes : List ℕ) → Spells self.old.word bytes → StandsForWords f self.old.reader marks → StandsForWords f self.new.reader (marks ++ word_marks self.old.variables self.old.line bytes) }
-        ensures word { (bytes : List ℕ) → Spells self.old.word bytes → Spells self.new.word [] }
+        ensures words { (f : FormulaValue) (marks : List Mark) (bytes : List ℕ) → SpellsWord self.old.word bytes → StandsForWords f self.old.reader marks → StandsForWords f self.new.reader (marks ++ word_marks self.old.variables self.old.line bytes) }
+        ensures word { (bytes : List ℕ) → SpellsWord self.old.word bytes → SpellsWord self.new.word [] }
         ensures same { (self.new.variables ≡ self.old.variables) × (self.new.line ≡ self.old.line) × (self.new.place ≡ self.old.place) }
     {
         if self.word.is_empty() {
@@ -243,7 +243,7 @@ impl ProofJudge {
 
     /// The judgement of the text, which ends.
     fn judgement(&mut self) -> Result<Judgement, ClauseFault>
-        ensures { (f : FormulaValue) (text : List ℕ) → StandsForText f self.old text → IfOk result (λ j. Judges f text j) }
+        ensures { (f : FormulaValue) (text : List ℕ) → StandsForText f self.old text → IfOk result (λ j. JudgesProof f text j) }
     {
         self.end_text();
         self.reader.finish(self.line)
@@ -253,7 +253,7 @@ impl ProofJudge {
     ///
     /// Errors: `NoMemory` where a growth was refused.
     pub fn finish(self) -> Result<Judgement, ClauseFault>
-        ensures { (f : FormulaValue) (text : List ℕ) → StandsForText f self text → IfOk result (λ j. Judges f text j) }
+        ensures { (f : FormulaValue) (text : List ℕ) → StandsForText f self text → IfOk result (λ j. JudgesProof f text j) }
     {
         let mut judge = self;
         judge.judgement()

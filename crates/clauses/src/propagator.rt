@@ -2,14 +2,14 @@
 ghost use Rattle.std.specs.Prelude.{◌≡◌, ◌<◌, ◌≤◌, ◌++◌, ◌∷◌, [], ◌↔◌, All, IsTrue, true, false, IfOk, OnOk, OnErr, MatchResult, Contains, length, slice_index, slice_set, ℕ, ◌*◌, ◌+◌};
 ghost use Rattle.clauses.specs.Marked.{IsConsistent, IsEven, set_of};
 ghost use Rattle.clauses.specs.Propagation.{Implied};
-ghost use Rattle.clauses.specs.Growth.{AssumedOne, Assumed, Extends, Grows};
+ghost use Rattle.clauses.specs.Growth.{AssumedOne, Assumed, Extends, GrowsMarked};
 ghost use Rattle.clauses.specs.Watched.{IsWatched, Stays, AreMet, UnitsMet, Brought};
 ghost use Rattle.clauses.specs.Propagator.{AddedTo, in_list};
 ghost use Rattle.clauses.specs.Lists.{list_at, IsListed};
 ghost use Rattle.std.specs.Vec.{vec_len, vec_capacity};
 ghost use Rattle.clauses.specs.Without.{IsWithout};
 ghost use Rattle.clauses.specs.Added.{Added, Unchanged};
-ghost use Rattle.clauses.specs.Flat.{cut, standing, AreEnds};
+ghost use Rattle.clauses.specs.Flat.{cut, standing, AreStartsAndEnds};
 ghost use Rattle.clauses.specs.Places.{clause_sum, last_at, IsLinkedBehind};
 
 use crate::fault::ClauseFault;
@@ -73,7 +73,7 @@ fn meets_conflict(
 ) -> Result<bool, ClauseFault>
     requires even { IsEven trail.old }
     requires inside { All (λ l. l < length trail.old.marks) literals.now }
-    requires ends { AreEnds (length literals.now) starts.now ends.now }
+    requires ends { AreStartsAndEnds (length literals.now) starts.now ends.now }
     requires below { All (λ l. l < length trail.old.marks) clause.now }
     requires consistent { IsConsistent trail.old }
     requires watched { IsWatched (cut literals.now starts.now ends.now) watched.old lists.old (length trail.old.marks) }
@@ -104,12 +104,12 @@ fn settle(
 ) -> Result<Option<(u32, u32)>, ClauseFault>
     requires even { IsEven trail.old }
     requires inside { All (λ l. l < length trail.old.marks) literals.now }
-    requires ends { AreEnds (length literals.now) starts.now ends.now }
+    requires ends { AreStartsAndEnds (length literals.now) starts.now ends.now }
     requires below { All (λ l. l < length trail.old.marks) clause.now }
     requires consistent { IsConsistent trail.old }
     requires watched { IsWatched (cut literals.now starts.now ends.now) watched.old lists.old (length trail.old.marks) }
     requires met { AreMet (cut literals.now starts.now ends.now) watched.old trail.old }
-    ensures grows { Grows (cut literals.now starts.now ends.now ++ clause.now ∷ []) trail.old trail.new }
+    ensures grows { GrowsMarked (cut literals.now starts.now ends.now ++ clause.now ∷ []) trail.old trail.new }
     ensures watched { IsWatched (cut literals.now starts.now ends.now) watched.new lists.new (length trail.old.marks) }
     ensures stays { Stays watched.old watched.new trail.old }
     ensures answer { IfOk result (λ both. Brought (cut literals.now starts.now ends.now) clause.now watched.new trail.new both) }

@@ -2,10 +2,10 @@
 ghost use Rattle.std.specs.Prelude.{◌≡◌, ◌+◌, ◌*◌, ◌<◌, ◌++◌, ◌∷◌, [], List, ℕ, true, false, All, IfOk};
 ghost use Rattle.base.specs.Decimals.{is_nothing};
 ghost use Rattle.clauses.specs.Formula.{Formula};
-ghost use Rattle.clauses.specs.Words.{said, IsBelow};
-ghost use Rattle.clauses.specs.Proofs.{ends, deletes, literal, faulty, mark, Mark, Ended, ended, step_of, has_begun, Reading, reading_from};
+ghost use Rattle.clauses.specs.Words.{token_said, IsBelow};
+ghost use Rattle.clauses.specs.Proofs.{ends, deletes, literal, faulty, mark, Mark, Ended, ended, step_of, has_begun, ProofReading, reading_from};
 ghost use Rattle.clauses.specs.Judgements.{JudgesReading};
-ghost use Rattle.clauses.specs.StepJudges.{StandsFor};
+ghost use Rattle.clauses.specs.StepJudges.{StandsForSteps};
 ghost use Rattle.clauses.specs.StepReaders.{StandsForWords, HasRead, BeginsReader};
 
 use crate::fault::ClauseFault;
@@ -18,7 +18,7 @@ use std::alloc::Global;
 /// Judges a step that has ended, which takes its clause away or adds it.
 fn judge_step(judge: &mut StepJudge, deleting: bool, clause: &[u32], line: u64)
     requires { All (λ l. l < judge.old.propagator.limit) clause.now }
-    ensures stands { (f : Formula) (steps : List Ended) → StandsFor f steps judge.old → StandsFor f (steps ++ ended line (step_of deleting clause.now) ∷ []) judge.new }
+    ensures stands { (f : Formula) (steps : List Ended) → StandsForSteps f steps judge.old → StandsForSteps f (steps ++ ended line (step_of deleting clause.now) ∷ []) judge.new }
     ensures limit { judge.new.propagator.limit ≡ judge.old.propagator.limit }
 {
     if deleting {
@@ -160,7 +160,7 @@ impl StepReader {
     pub(crate) fn take(&mut self, line: u64, token: Token)
         requires open { self.old.closed ≡ false }
         requires below { IsBelow self.old.judge.propagator.limit token }
-        ensures stands { (f : Formula) (marks : List Mark) → StandsForWords f self.old marks → StandsForWords f self.new (marks ++ mark line (said token) ∷ []) }
+        ensures stands { (f : Formula) (marks : List Mark) → StandsForWords f self.old marks → StandsForWords f self.new (marks ++ mark line (token_said token) ∷ []) }
         ensures limit { self.new.judge.propagator.limit ≡ self.old.judge.propagator.limit }
     {
         match token {
@@ -188,7 +188,7 @@ impl StepReader {
 
     /// The judgement of what was read.
     fn judgement(&self) -> Result<Judgement, ClauseFault>
-        ensures { (f : Formula) (reading : Reading) → HasRead f self.now reading → IfOk result (λ j. JudgesReading f reading j) }
+        ensures { (f : Formula) (reading : ProofReading) → HasRead f self.now reading → IfOk result (λ j. JudgesReading f reading j) }
     {
         if self.failed {
             return Err(ClauseFault::NoMemory);
@@ -200,7 +200,7 @@ impl StepReader {
     ///
     /// Errors: `NoMemory` where a growth was refused.
     pub(crate) fn finish(&mut self, last: u64) -> Result<Judgement, ClauseFault>
-        ensures judges { (f : Formula) (marks : List Mark) (reading : Reading) → StandsForWords f self.old marks → (self.old.failed ≡ false → reading ≡ reading_from last false [] marks) → IfOk result (λ j. JudgesReading f reading j) }
+        ensures judges { (f : Formula) (marks : List Mark) (reading : ProofReading) → StandsForWords f self.old marks → (self.old.failed ≡ false → reading ≡ reading_from last false [] marks) → IfOk result (λ j. JudgesReading f reading j) }
         ensures limit { self.new.judge.propagator.limit ≡ self.old.judge.propagator.limit }
     {
         self.close(last);

@@ -3,8 +3,8 @@
 ghost use Rattle.std.specs.Prelude.{◌≡◌, true, ◌≢◌, ◌+◌, ◌-◌, ◌<◌, ◌≤◌, All, length, Contains, IfOk, MatchResult, MatchOption, slice_index, slice_index_or, []};
 ghost use Rattle.base.specs.Literal.{negation};
 ghost use Rattle.clauses.specs.Marked.{IsConsistent, IsEven, set_of};
-ghost use Rattle.clauses.specs.Growth.{Grows};
-ghost use Rattle.clauses.specs.Flat.{cut, AreEnds};
+ghost use Rattle.clauses.specs.Growth.{GrowsMarked};
+ghost use Rattle.clauses.specs.Flat.{cut, AreStartsAndEnds};
 ghost use Rattle.clauses.specs.Lists.{list_at};
 ghost use Rattle.clauses.specs.Watched.{Watches, Visited, Entered, WalkedTo, Propagated, Processed, Stays, IsWatched, Moved};
 
@@ -96,7 +96,7 @@ fn enter(
 ) -> Result<Option<usize>, ClauseFault>
     requires even { IsEven trail.old }
     requires inside { All (λ l. l < length trail.old.marks) literals.now }
-    requires ends { AreEnds (length literals.now) starts.now ends.now }
+    requires ends { AreStartsAndEnds (length literals.now) starts.now ends.now }
     requires consistent { IsConsistent trail.old }
     requires watched { IsWatched (cut literals.now starts.now ends.now) watched.old lists.old (length trail.old.marks) }
     requires negated { negated < length trail.old.marks }
@@ -105,7 +105,7 @@ fn enter(
     requires short { place < usize.MAX }
     ensures watched { IsWatched (cut literals.now starts.now ends.now) watched.new lists.new (length trail.old.marks) }
     ensures stays { Stays watched.old watched.new trail.old }
-    ensures grows { Grows (cut literals.now starts.now ends.now) trail.old trail.new }
+    ensures grows { GrowsMarked (cut literals.now starts.now ends.now) trail.old trail.new }
     ensures answer { IfOk result (λ next. Entered (cut literals.now starts.now ends.now) negated place watched.old lists.old trail.old watched.new lists.new trail.new next) }
 {
     let _ = trail.len();
@@ -141,14 +141,14 @@ fn walk(
 ) -> Result<bool, ClauseFault>
     requires even { IsEven trail.old }
     requires inside { All (λ l. l < length trail.old.marks) literals.now }
-    requires ends { AreEnds (length literals.now) starts.now ends.now }
+    requires ends { AreStartsAndEnds (length literals.now) starts.now ends.now }
     requires consistent { IsConsistent trail.old }
     requires watched { IsWatched (cut literals.now starts.now ends.now) watched.old lists.old (length trail.old.marks) }
     requires negated { negated < length trail.old.marks }
     requires off { set_of trail.old (negation negated) ≡ true }
     ensures watched { IsWatched (cut literals.now starts.now ends.now) watched.new lists.new (length trail.old.marks) }
     ensures stays { Stays watched.old watched.new trail.old }
-    ensures grows { Grows (cut literals.now starts.now ends.now) trail.old trail.new }
+    ensures grows { GrowsMarked (cut literals.now starts.now ends.now) trail.old trail.new }
     ensures answer { IfOk result (λ met. WalkedTo (cut literals.now starts.now ends.now) negated watched.old trail.old watched.new trail.new met) }
 {
     let mut place = 0;
@@ -178,12 +178,12 @@ pub(crate) fn propagate(
     requires within { from ≤ length trail.old.order }
     requires even { IsEven trail.old }
     requires inside { All (λ l. l < length trail.old.marks) literals.now }
-    requires ends { AreEnds (length literals.now) starts.now ends.now }
+    requires ends { AreStartsAndEnds (length literals.now) starts.now ends.now }
     requires consistent { IsConsistent trail.old }
     requires watched { IsWatched (cut literals.now starts.now ends.now) watched.old lists.old (length trail.old.marks) }
     ensures watched { IsWatched (cut literals.now starts.now ends.now) watched.new lists.new (length trail.old.marks) }
     ensures stays { Stays watched.old watched.new trail.old }
-    ensures grows { Grows (cut literals.now starts.now ends.now) trail.old trail.new }
+    ensures grows { GrowsMarked (cut literals.now starts.now ends.now) trail.old trail.new }
     ensures answer { IfOk result (λ met. Propagated (cut literals.now starts.now ends.now) watched.new trail.new met) }
 {
     let mut head = from;

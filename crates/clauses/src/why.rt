@@ -1,6 +1,6 @@
 //! Why a line of a proof is refused.
 ghost use Rattle.std.specs.Prelude.{◌≡◌};
-ghost use Rattle.clauses.specs.Printed.{why_number, why_name};
+ghost use Rattle.clauses.specs.Printed.{proof_why_number, proof_why_name};
 
 use std::fmt;
 use thiserror::Error;
@@ -21,7 +21,7 @@ pub enum Why {
 impl Why {
     /// The number that is printed for the why.
     pub fn number(self) -> u32
-        ensures { result ≡ why_number self }
+        ensures { result ≡ proof_why_number self }
     {
         match self {
             Why::BadWord => 161,
@@ -33,7 +33,7 @@ impl Why {
 
     /// The name that is printed for the why.
     pub fn name(self) -> &'static str
-        ensures { result.now ≡ why_name self }
+        ensures { result.now ≡ proof_why_name self }
     {
         match self {
             Why::BadWord => "BadWord",

@@ -2,8 +2,8 @@
 ghost use Rattle.std.specs.Prelude.{◌≡◌, ◌+◌, ◌*◌, ◌<◌, List, ℕ, Some, [], ◌∷◌, ◌++◌, codes};
 ghost use Rattle.std.specs.Str.{bytes_eq};
 ghost use Rattle.base.specs.Decimals.{is_nothing};
-ghost use Rattle.clauses.specs.Proofs.{numbered, token_of};
-ghost use Rattle.clauses.specs.Words.{Spells, sign_of, said, IsBelow};
+ghost use Rattle.clauses.specs.Proofs.{variable_numbered, token_of};
+ghost use Rattle.clauses.specs.Words.{SpellsWord, sign_of, token_said, IsBelow};
 
 use crate::numeral::Numeral;
 use crate::why::Why;
@@ -35,7 +35,7 @@ pub(crate) struct Word {
 /// The literal of a variable's number, whose negation it is where it has a minus.
 fn numbered(variables: u32, negative: bool, number: u64) -> Token
     requires { variables < 2147483647 }
-    ensures said { said result ≡ numbered variables (sign_of negative) (Some number) }
+    ensures said { token_said result ≡ variable_numbered variables (sign_of negative) (Some number) }
     ensures below { IsBelow (2 * variables + 2) result }
 {
     if number == 0 {
@@ -50,7 +50,7 @@ fn numbered(variables: u32, negative: bool, number: u64) -> Token
 impl Word {
     /// A word with no byte yet.
     pub(crate) fn new() -> Word
-        ensures { Spells result [] }
+        ensures { SpellsWord result [] }
     {
         Word {
             negative: false,
@@ -61,7 +61,7 @@ impl Word {
 
     /// Whether there is no byte.
     pub(crate) fn is_empty(self) -> bool
-        ensures { (bytes : List ℕ) → Spells self bytes → result ≡ is_nothing bytes }
+        ensures { (bytes : List ℕ) → SpellsWord self bytes → result ≡ is_nothing bytes }
     {
         if self.negative {
             return false;
@@ -71,7 +71,7 @@ impl Word {
 
     /// Whether the word is `0`.
     fn is_end(self) -> bool
-        ensures { (bytes : List ℕ) → Spells self bytes → result ≡ bytes_eq bytes (codes "0") }
+        ensures { (bytes : List ℕ) → SpellsWord self bytes → result ≡ bytes_eq bytes (codes "0") }
     {
         if self.negative {
             return false;
@@ -81,7 +81,7 @@ impl Word {
 
     /// The same with a byte behind it.
     pub(crate) fn with(self, byte: u8) -> Word
-        ensures { (bytes : List ℕ) → Spells self bytes → Spells result (bytes ++ byte ∷ []) }
+        ensures { (bytes : List ℕ) → SpellsWord self bytes → SpellsWord result (bytes ++ byte ∷ []) }
     {
         if !self.is_empty() {
             return Word {
@@ -107,7 +107,7 @@ impl Word {
     /// What the word says over a formula of so many variables.
     pub(crate) fn token(self, variables: u32) -> Token
         requires { variables < 2147483647 }
-        ensures said { (bytes : List ℕ) → Spells self bytes → said result ≡ token_of variables bytes }
+        ensures said { (bytes : List ℕ) → SpellsWord self bytes → token_said result ≡ token_of variables bytes }
         ensures below { IsBelow (2 * variables + 2) result }
     {
         if self.is_end() {

@@ -1,8 +1,8 @@
 -- A table has the rows of its parts.
 use Rattle.std.proofs.Common.{◌≡◌, Bool, true, false, ◌||◌, List, refl}
-use Rattle.btor2.specs.Faults.{number_of, name_of as push_name}
+use Rattle.btor2.specs.Faults.{push_fault_number, push_fault_name as push_name}
 use Rattle.btor2.specs.declared.fault.PushFault.{PushFault}
-use Rattle.btor2text.specs.Whys.{name_of, printed_number}
+use Rattle.btor2text.specs.Whys.{line_why_name, printed_number}
 use Rattle.btor2text.specs.declared.fault.Why.{Why}
 use Rattle.btor2text.specs.declared.fault.Why.TheVariants as why
 use Rattle.command_line.specs.Explanations.{Has, HasOwn, has_row}
@@ -17,7 +17,7 @@ behind true rest is = refl
 behind false rest is = is
 
 -- a why of a model's text is in the part of texts, or in the next one, of items
-pub in_models : (w : Why) (before rest : Bool) (texts items : List Explanation) → HasOwn texts w → ((fault : PushFault) → Has items (number_of fault) (push_name fault)) → (before || (has_row (printed_number w) (name_of w) texts || (has_row (printed_number w) (name_of w) items || rest))) ≡ true
+pub in_models : (w : Why) (before rest : Bool) (texts items : List Explanation) → HasOwn texts w → ((fault : PushFault) → Has items (push_fault_number fault) (push_name fault)) → (before || (has_row (printed_number w) (line_why_name w) texts || (has_row (printed_number w) (line_why_name w) items || rest))) ≡ true
 in_models (why.Refused fault) before rest texts items own pushed = behind before _ (behind _ _ (here _ rest (pushed fault)))
 in_models w before rest texts items own pushed = behind before _ (here _ _ own)
 

@@ -2,7 +2,7 @@
 use Rattle.std.specs.Prelude.{◌≡◌, ℕ, ◌==◌, nat_eq, Bool, true, false, not, ◌&&◌, cond, List, [], ◌++◌, Option, Some, None, option_map, flat_map, codes, decimal}
 use Rattle.std.specs.List.{list_any, starts_with}
 use Rattle.std.specs.Str.{bytes_eq, str_eq_ignore_ascii_case}
-use Rattle.btor2text.specs.Whys.{number_of as why_number, name_of as why_name}
+use Rattle.btor2text.specs.Whys.{line_why_number as why_number, line_why_name as why_name}
 use Rattle.btor2text.specs.declared.fault.Why.{Why}
 use Rattle.btor2text.specs.declared.fault.Why.TheVariants as why
 use Rattle.command_line.specs.declared.explanations.Explanation.{Explanation}
@@ -12,9 +12,9 @@ use Rattle.command_line.specs.declared.explaining.Sought.{Sought}
 -- ---- what is sought
 
 -- a number is that of a row, where one is sought
-abbrev pub has_number : Option ℕ → Explanation → Bool
-has_number None row = true
-has_number (Some number) row = number == row.number
+abbrev pub has_sought_number : Option ℕ → Explanation → Bool
+has_sought_number None row = true
+has_sought_number (Some number) row = number == row.number
 
 -- a name is that of a row, in letters of either case, where one is sought
 abbrev pub has_name : Option (List ℕ) → Explanation → Bool
@@ -23,7 +23,7 @@ has_name (Some name) row = str_eq_ignore_ascii_case name row.name.now
 
 -- a row is sought: it has the number and the name
 abbrev pub is_sought : Sought → Explanation → Bool
-is_sought s row = has_number s.number row && has_name (option_map (λ name. name.now) s.name) row
+is_sought s row = has_sought_number s.number row && has_name (option_map (λ name. name.now) s.name) row
 
 -- a row is about the first line of a file
 abbrev pub is_of_first_line : Explanation → Bool

@@ -2,7 +2,7 @@
 
 ghost use Rattle.std.specs.Prelude.{◌≡◌, ◌++◌, ◌⊎◌, Bool, [], IfOk, OnOk, option_map};
 ghost use Rattle.std.specs.String.{string_bytes};
-ghost use Rattle.command_line.specs.Explanations.{explained, has_name, has_number, is_of_first_line, is_of_line, is_same, is_sought, is_told, row_lines, told_part, told_parts, told_row};
+ghost use Rattle.command_line.specs.Explanations.{explained, has_name, has_sought_number, is_of_first_line, is_of_line, is_same, is_sought, is_told, row_lines, told_part, told_parts, told_row};
 
 use crate::explanations::{Explanation, Part};
 use base::decimal;
@@ -96,7 +96,7 @@ impl<'a> Reading<'a> {
 
 /// Whether a number is that of a row, where one is sought.
 fn has_number(number: Option<u64>, row: &Explanation) -> bool
-    ensures { result ≡ has_number number row.now }
+    ensures { result ≡ has_sought_number number row.now }
 {
     match number {
         Some(number) => number == u64::from(row.number),

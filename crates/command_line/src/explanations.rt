@@ -1,40 +1,40 @@
 //! What refusals mean and what to do about them: a table, which docs/REFUSALS.md repeats.
 
-ghost use Rattle.aiger.specs.Refusal.{fault_name, fault_number};
+ghost use Rattle.aiger.specs.Refusal.{circuit_fault_name, circuit_fault_number};
 ghost use Rattle.aiger.specs.Renumbering.{loose_fault_name, loose_fault_number};
 ghost use Rattle.aiger.specs.declared.fault.CircuitFault.{CircuitFault};
 ghost use Rattle.aiger.specs.declared.fault.LooseFault.{LooseFault};
-ghost use Rattle.aigertext.specs.Whys.{why_name, why_number};
+ghost use Rattle.aigertext.specs.Whys.{circuit_why_name, circuit_why_number};
 ghost use Rattle.aigertext.specs.declared.fault.Why.{Why as CircuitWhy};
 ghost use Rattle.blast.specs.Faults.{convert_name, convert_number, lower_name, lower_number};
 ghost use Rattle.blast.specs.declared.fault.ConvertFault.{ConvertFault};
 ghost use Rattle.blast.specs.declared.fault.LowerFault.{LowerFault};
 ghost use Rattle.btor2.specs.Faults.{symbol_fault_name, symbol_fault_number};
 ghost use Rattle.btor2.specs.declared.symbol.SymbolFault.{SymbolFault};
-ghost use Rattle.btor2text.specs.Whys.{name_of, printed_number};
+ghost use Rattle.btor2text.specs.Whys.{line_why_name, printed_number};
 ghost use Rattle.btor2text.specs.declared.fault.Why.{Why};
 ghost use Rattle.clauses.specs.Faults.{clause_name, clause_number, formula_name, formula_number};
-ghost use Rattle.clauses.specs.Printed.{why_name as proof_name, why_number as proof_number};
+ghost use Rattle.clauses.specs.Printed.{proof_why_name as proof_name, proof_why_number as proof_number};
 ghost use Rattle.clauses.specs.declared.fault.ClauseFault.{ClauseFault};
 ghost use Rattle.clauses.specs.declared.fault.FormulaFault.{FormulaFault};
 ghost use Rattle.clauses.specs.declared.why.Why.{Why as ProofWhy};
 ghost use Rattle.command_line.specs.Explanations.{Explains};
-ghost use Rattle.engine.specs.Faults.{name_of as engine_name, number_of as engine_number};
+ghost use Rattle.engine.specs.Faults.{engine_fault_name as engine_name, engine_fault_number as engine_number};
 ghost use Rattle.engine.specs.declared.fault.EngineFault.{EngineFault};
-ghost use Rattle.gates.specs.Faults.{name_of as gate_name, number_of as gate_number};
+ghost use Rattle.gates.specs.Faults.{gate_fault_name as gate_name, gate_fault_number as gate_number};
 ghost use Rattle.gates.specs.declared.fault.GateFault.{GateFault};
 ghost use Rattle.invariants.specs.Faults.{certificate_name, certificate_number, claim_name, claim_number};
 ghost use Rattle.invariants.specs.declared.certificate_fault.CertificateFault.{CertificateFault};
 ghost use Rattle.invariants.specs.declared.claim_fault.ClaimFault.{ClaimFault};
-ghost use Rattle.lift.specs.Answers.{fault_name as lift_name, fault_number as lift_number};
+ghost use Rattle.lift.specs.Answers.{lift_fault_name as lift_name, lift_fault_number as lift_number};
 ghost use Rattle.lift.specs.declared.fault.LiftFault.{LiftFault};
-ghost use Rattle.restore.specs.Faults.{why_name as restore_name, why_number as restore_number};
+ghost use Rattle.restore.specs.Faults.{restore_why_name as restore_name, restore_why_number as restore_number};
 ghost use Rattle.restore.specs.declared.fault.RestoreWhy.{RestoreWhy};
 ghost use Rattle.runs.specs.Faults.{new_name, new_number};
 ghost use Rattle.runs.specs.declared.fault.NewFault.{NewFault};
-ghost use Rattle.tidy.specs.Answers.{fault_name as tidy_name, fault_number as tidy_number};
+ghost use Rattle.tidy.specs.Answers.{tidy_fault_name as tidy_name, tidy_fault_number as tidy_number};
 ghost use Rattle.tidy.specs.declared.fault.TidyFault.{TidyFault};
-ghost use Rattle.wave.specs.Answers.{fault_name as wave_name, fault_number as wave_number};
+ghost use Rattle.wave.specs.Answers.{wave_fault_name as wave_name, wave_fault_number as wave_number};
 ghost use Rattle.wave.specs.declared.fault.WaveFault.{WaveFault};
 ghost use Rattle.witness.specs.Answers.{judge_name, judge_number};
 ghost use Rattle.witness.specs.Printed.{why_number as witness_number, why_name as witness_name};
@@ -74,7 +74,7 @@ pub struct Part {
 /// Each refusal of each library is there, by the number and the name that the library gives it.
 pub fn refusal_table() -> [Part; 18]
     // the number of a why of a model's text that a push gives is its own, which is printed for it
-    ensures models { (why : Why) → Explains result (printed_number why) (name_of why) }
+    ensures models { (why : Why) → Explains result (printed_number why) (line_why_name why) }
     ensures symbols { (fault : SymbolFault) → Explains result (symbol_fault_number fault) (symbol_fault_name fault) }
     ensures lowerings { (fault : LowerFault) → Explains result (lower_number fault) (lower_name fault) }
     ensures conversions { (fault : ConvertFault) → Explains result (convert_number fault) (convert_name fault) }
@@ -82,13 +82,13 @@ pub fn refusal_table() -> [Part; 18]
     ensures judges { (fault : JudgeFault) → Explains result (judge_number fault) (judge_name fault) }
     ensures witnesses { (why : WitnessWhy) → Explains result (witness_number why) (witness_name why) }
     ensures gates { (fault : GateFault) → Explains result (gate_number fault) (gate_name fault) }
-    ensures circuits { (fault : CircuitFault) → Explains result (fault_number fault) (fault_name fault) }
+    ensures circuits { (fault : CircuitFault) → Explains result (circuit_fault_number fault) (circuit_fault_name fault) }
     ensures lists { (fault : LooseFault) → Explains result (loose_fault_number fault) (loose_fault_name fault) }
     ensures liftings { (fault : LiftFault) → Explains result (lift_number fault) (lift_name fault) }
     ensures engines { (fault : EngineFault) → Explains result (engine_number fault) (engine_name fault) }
     ensures counterexamples { (why : RestoreWhy) → Explains result (restore_number why) (restore_name why) }
     ensures dumps { (fault : WaveFault) → Explains result (wave_number fault) (wave_name fault) }
-    ensures texts { (why : CircuitWhy) → Explains result (why_number why) (why_name why) }
+    ensures texts { (why : CircuitWhy) → Explains result (circuit_why_number why) (circuit_why_name why) }
     ensures proofs { (why : ProofWhy) → Explains result (proof_number why) (proof_name why) }
     ensures clauses { (fault : ClauseFault) → Explains result (clause_number fault) (clause_name fault) }
     ensures formulas { (fault : FormulaFault) → Explains result (formula_number fault) (formula_name fault) }

@@ -14,7 +14,7 @@ use Rattle.restore.specs.declared.fault.RestoreFault.{RestoreFault}
 use Rattle.restore.specs.Accepted.{FindsAgain}
 use Rattle.restore.specs.Faults.{is_of_text}
 use Rattle.restore.specs.FormWitness.{form_restored_text, FormJudges}
-use Rattle.restore.specs.Reading.{read_text}
+use Rattle.restore.specs.Reading.{read_found}
 use Rattle.restore.specs.Restored.{restored_text}
 use Rattle.lift.specs.EngineLifting.{engine_lifted_text, form_lifted_text, FindsInModel, FindsWitnessInModel, KeepsFormVerdict}
 use Rattle.lift.specs.Lifted.{lifted_with, named_text}
@@ -39,10 +39,10 @@ abbrev Lifted : Type 0
 Lifted = Result (Judgement × List (Option ℕ)) RestoreFault
 
 -- of a text with a faulty line no first rises are asked for
-none_of_faulty : (c : Circuit) (claim : ℕ) (found : Option (List ℕ)) (e : RestoreFault) (firsts : List (Option ℕ)) → IfSome found (λ text. (read_text (input_count c) text).fault ≡ Some e)
-    → IfSome found (λ text. (read_text (input_count c) text).fault ≡ None → AreBitFirstRises c (restored_text c claim text) firsts)
+none_of_faulty : (c : Circuit) (claim : ℕ) (found : Option (List ℕ)) (e : RestoreFault) (firsts : List (Option ℕ)) → IfSome found (λ text. (read_found (input_count c) text).fault ≡ Some e)
+    → IfSome found (λ text. (read_found (input_count c) text).fault ≡ None → AreBitFirstRises c (restored_text c claim text) firsts)
 none_of_faulty c claim found e firsts first =
-    if_some_then found (λ text. (read_text (input_count c) text).fault ≡ Some e) (λ text. (read_text (input_count c) text).fault ≡ None → AreBitFirstRises c (restored_text c claim text) firsts)
+    if_some_then found (λ text. (read_found (input_count c) text).fault ≡ Some e) (λ text. (read_found (input_count c) text).fault ≡ None → AreBitFirstRises c (restored_text c claim text) firsts)
     (λ text is none. let not : None ≡ Some e = sym none ∙ is in absurd (cc)) first
 
 -- a command that told it has lifted what was restored
@@ -50,7 +50,7 @@ pub engine_lifted : (r : Result Answer Refusal) (told_by : Lifted) (known found 
     → IsModelOf known items → Lowers items c → IsClaim choice c claim → engine_refusal c (Some claim) ≡ None
     → IfOk told_by (λ lifted. IfSome found (λ text. BitJudges c (restored_text c claim text) lifted.0)) → IfOk told_by (λ lifted. IfSome found (λ text. FindsAgain c claim text lifted.0))
     → (named ≡ true → IfOk told_by (λ lifted. IfSome found (λ text. AreBitFirstRises c (restored_text c claim text) lifted.1)))
-    → OnOk told_by (IfSome found (λ text. (read_text (input_count c) text).fault ≡ None)) → IfErr told_by (λ e. is_of_text e.why ≡ true → IfSome found (λ text. (read_text (input_count c) text).fault ≡ Some e))
+    → OnOk told_by (IfSome found (λ text. (read_found (input_count c) text).fault ≡ None)) → IfErr told_by (λ e. is_of_text e.why ≡ true → IfSome found (λ text. (read_found (input_count c) text).fault ≡ Some e))
     → OnOk told_by (IfSome found (λ text. Appends before now (engine_lifted_text named items c claim text))) → IfErr told_by (λ e. is_of_text e.why ≡ true → IfSome found (λ text. Appends before now (engine_lifted_text named items c claim text)))
     → ((text : List ℕ) (j : Judgement) → BitJudges c text j → KeepsVerdictIn items c text (lifted_with named items c text) j) → ((text : List ℕ) → FindsInModel named items c claim text)
     → IfOk r (λ a. TellsLifted (lifting_said named items c) told_by a told told') → IfOk r (LiftsFound named choice known found before now told told')
@@ -67,7 +67,7 @@ engine_lifted (Ok a) (Ok lifted) known found before now told told' named choice 
   in_model = finds;
   firsts = lifted.1;
   rises = λ on.
-      if_some_then found (λ text. AreBitFirstRises c (restored_text c claim text) lifted.1) (λ text. (read_text (input_count c) text).fault ≡ None → AreBitFirstRises c (restored_text c claim text) lifted.1) (λ text are none. are) (rises on);
+      if_some_then found (λ text. AreBitFirstRises c (restored_text c claim text) lifted.1) (λ text. (read_found (input_count c) text).fault ≡ None → AreBitFirstRises c (restored_text c claim text) lifted.1) (λ text are none. are) (rises on);
   tells = inl (record { verdict = lifted.0; is_judged = record { right = right; judged = judged; again = again; line = tells.1 }; so = tells.0 });
 }
 engine_lifted (Ok a) (Err e) known found before now told told' named choice items c claim text lowers is accepted judged again rises right first all front keeps finds tells = record {

@@ -12,16 +12,16 @@ use Rattle.tasks.specs.declared.refusals.Refusal.TheVariants as refusal
 use Rattle.tasks.specs.Refusals.{IsNoCircuit, IsNoModel}
 use Rattle.tasks.specs.Statuses.{IfInput}
 use Rattle.commands.specs.declared.running.First.TheVariants as first_is
-use Rattle.commands.specs.Done.{first_of}
-use Rattle.commands.specs.Refusals.{Refuses, RefusesByName}
+use Rattle.commands.specs.Done.{first_file}
+use Rattle.commands.specs.Refusals.{RefusesTask, RefusesByName}
 
 -- a command that answers only that all is done has done what it says
 pub done_so : (r : Result Answer Refusal) {P : Type 0} (A : Answer → Type 0) → OnOk r P → IfOk r (λ a. a ≡ answer.Done) → (P → A answer.Done) → IfOk r A
 done_so (Ok a) {P} A did is so = subst A (sym is) (so did)
 done_so (Err e) {P} A did is so = tt
 
-no_model : (t : Task) (known : Option (List ℕ)) (f : Fault) → first_of t ≡ first_is.Model → IsNoModel known f → Refuses t known f
-unfolding first_of Refuses RefusesByName
+no_model : (t : Task) (known : Option (List ℕ)) (f : Fault) → first_file t ≡ first_is.Model → IsNoModel known f → RefusesTask t known f
+unfolding first_file RefusesTask RefusesByName
 no_model (task.LowerForEngines choice) known (fault.Model e) on is = is
 no_model task.CheckBtor known (fault.Model e) on is = is
 no_model task.Show known (fault.Model e) on is = is
@@ -37,8 +37,8 @@ no_model (task.Named (named.LiftForm choice)) known (fault.Model e) on is = is
 no_model _ known (fault.Model e) on is = absurd (cc)
 no_model t known _ on is = absurd is
 
-no_circuit : (t : Task) (known : Option (List ℕ)) (f : Fault) → first_of t ≡ first_is.Circuit → IsNoCircuit known f → Refuses t known f
-unfolding first_of Refuses RefusesByName
+no_circuit : (t : Task) (known : Option (List ℕ)) (f : Fault) → first_file t ≡ first_is.Circuit → IsNoCircuit known f → RefusesTask t known f
+unfolding first_file RefusesTask RefusesByName
 no_circuit task.AigConvert known (fault.Circuit e) on is = is
 no_circuit (task.ConvertForEngines choice) known (fault.Circuit e) on is = is
 no_circuit task.ConvertOutputs known (fault.Circuit e) on is = is
@@ -51,11 +51,11 @@ no_circuit _ known (fault.Circuit e) on is = absurd (cc)
 no_circuit t known _ on is = absurd is
 
 -- a first text that is no model is refused by a command that reads one
-pub refuses_no_model : (t : Task) (known : Option (List ℕ)) (r : Refusal) → first_of t ≡ first_is.Model → IfInput (IsNoModel known) r → IfInput (Refuses t known) r
+pub refuses_no_model : (t : Task) (known : Option (List ℕ)) (r : Refusal) → first_file t ≡ first_is.Model → IfInput (IsNoModel known) r → IfInput (RefusesTask t known) r
 refuses_no_model t known (refusal.Input f) on is = no_model t known f on is
 refuses_no_model t known _ on is = tt
 
 -- a first text that is no circuit is refused by a command that reads one
-pub refuses_no_circuit : (t : Task) (known : Option (List ℕ)) (r : Refusal) → first_of t ≡ first_is.Circuit → IfInput (IsNoCircuit known) r → IfInput (Refuses t known) r
+pub refuses_no_circuit : (t : Task) (known : Option (List ℕ)) (r : Refusal) → first_file t ≡ first_is.Circuit → IfInput (IsNoCircuit known) r → IfInput (RefusesTask t known) r
 refuses_no_circuit t known (refusal.Input f) on is = no_circuit t known f on is
 refuses_no_circuit t known _ on is = tt

@@ -10,7 +10,7 @@ use Rattle.engine.specs.EngineForm.{input_count, IsEngineFormOf}
 use Rattle.engine.specs.Refusal.{engine_refusal}
 use Rattle.rises.specs.FirstRises.{AreBitFirstRises}
 use Rattle.restore.specs.FormWitness.{form_restored_text, FormJudges}
-use Rattle.restore.specs.Reading.{read_text}
+use Rattle.restore.specs.Reading.{read_found}
 use Rattle.restore.specs.Restored.{restored_text}
 use Rattle.witness.specs.declared.judgement.Judgement.{Judgement}
 use Rattle.witness.specs.BitJudgements.{BitJudges}
@@ -20,7 +20,7 @@ use Rattle.lift.specs.Verdicts.{KeepsVerdictIn}
 use Rattle.tasks.specs.declared.answers.Answer.{Answer}
 use Rattle.tasks.specs.declared.answers.Answer.TheVariants as answer
 use Rattle.tasks.specs.Certificates.{Certifies, CertifiesByName, WritesOwed}
-use Rattle.tasks.specs.Done.{Compares, ConvertsForEngines, IsDumped, IsFormRestored, IsJudged, IsJudgedByName, IsJudgedOver, IsJudgedOverByName, Judged, LowersForEngines, Restores, Rewrites, Shows, TellsCost, TellsRestored, Tidies, judgement_line}
+use Rattle.tasks.specs.Done.{Compares, ConvertsForEngines, IsDumped, IsFormRestored, IsJudged, IsJudgedByName, IsJudgedOver, IsJudgedOverByName, Judged, LowersForEngines, Restores, Rewrites, ShowsModel, TellsCost, TellsRestored, Tidies, judgement_line}
 use Rattle.tasks.specs.Outputs.{ConvertsOutputs, ConvertsOutputsForEngines}
 use Rattle.tasks.specs.Subjects.{bad_item_said, lifted_said, said_by_name, where_named}
 use Rattle.btor2text.specs.Spelling.{IsModelOf}
@@ -62,7 +62,7 @@ pub record LiftsFound (named : Bool) (choice : Option ℕ) (model found before n
   pub kept : (text : List ℕ) (j : Judgement) → BitJudges lowered text j → KeepsVerdictIn items lowered text (lifted_with named items lowered text) j
   pub in_model : (text : List ℕ) → FindsInModel named items lowered claim text
   pub firsts : List (Option ℕ)
-  pub rises : named ≡ true → IfSome found (λ text. (read_text (input_count lowered) text).fault ≡ None → AreBitFirstRises lowered (restored_text lowered claim text) firsts)
+  pub rises : named ≡ true → IfSome found (λ text. (read_found (input_count lowered) text).fault ≡ None → AreBitFirstRises lowered (restored_text lowered claim text) firsts)
   pub tells : TellsRestored (lifting_said named items lowered firsts) a lowered claim found told told'
 
 -- The first text is of a model, which a circuit lowers that has an engine form, with all its bad properties or the chosen one; what was written is what the second, a witness of that form, is lifted to, with names or without; it was told how that is judged, with names behind it what the judgement is about, and of an acceptance in which frame the claim is reached first in what the second is restored to: over the model what is written is judged so too, and accepted, where the second is so over the form.
@@ -95,7 +95,7 @@ unfoldable pub Answers : Task → Form → Answer → Option (List ℕ) → Opti
 Answers task.Lower form answer.Done first second third before now told told' = Converts first before now form
 Answers (task.LowerForEngines choice) form answer.Done first second third before now told told' = LowersForEngines first before now form choice
 Answers task.CheckBtor form a first second third before now told told' = Judged (IsJudged first second before now) a
-Answers task.Show form answer.Done first second third before now told told' = Shows first before now
+Answers task.Show form answer.Done first second third before now told told' = ShowsModel first before now
 Answers task.Cost form answer.Done first second third before now told told' = TellsCost first before now
 Answers task.AigConvert form answer.Done first second third before now told told' = Rewrites first before now form
 Answers (task.ConvertForEngines choice) form answer.Done first second third before now told told' = ConvertsForEngines first before now form choice
@@ -131,22 +131,22 @@ has_one_file (task.CheckProof g choice) = false
 has_one_file _ = true
 
 -- what the first file of a command is
-unfoldable pub first_of : Task → First
-first_of task.Lower = first_is.Text
-first_of task.Vectors = first_is.Text
-first_of (task.TidyWitness pick) = first_is.Text
-first_of task.AigConvert = first_is.Circuit
-first_of (task.ConvertForEngines choice) = first_is.Circuit
-first_of task.ConvertOutputs = first_is.Circuit
-first_of (task.ConvertOutputsForEngines choice) = first_is.Circuit
-first_of task.CheckAig = first_is.Circuit
-first_of (task.Restore choice) = first_is.Circuit
-first_of (task.RestoreForm choice) = first_is.Circuit
-first_of (task.Named named.CheckAig) = first_is.Circuit
-first_of (task.Obligation g choice) = first_is.Certified
-first_of (task.CheckProof g choice) = first_is.Certified
-first_of (task.Named (named.CheckProof g choice)) = first_is.Certified
-first_of _ = first_is.Model
+unfoldable pub first_file : Task → First
+first_file task.Lower = first_is.Text
+first_file task.Vectors = first_is.Text
+first_file (task.TidyWitness pick) = first_is.Text
+first_file task.AigConvert = first_is.Circuit
+first_file (task.ConvertForEngines choice) = first_is.Circuit
+first_file task.ConvertOutputs = first_is.Circuit
+first_file (task.ConvertOutputsForEngines choice) = first_is.Circuit
+first_file task.CheckAig = first_is.Circuit
+first_file (task.Restore choice) = first_is.Circuit
+first_file (task.RestoreForm choice) = first_is.Circuit
+first_file (task.Named named.CheckAig) = first_is.Circuit
+first_file (task.Obligation g choice) = first_is.Certified
+first_file (task.CheckProof g choice) = first_is.Certified
+first_file (task.Named (named.CheckProof g choice)) = first_is.Certified
+first_file _ = first_is.Model
 
 -- a command has three files
 unfoldable pub has_three_files : Task → Bool

@@ -25,28 +25,28 @@ RefusesByName (named.LiftForm choice) known f = IsNotForEngines given.Model choi
 RefusesByName (named.CheckProof g choice) known f = IsNotClaimed claimed.Certified g choice known f
 
 -- the first text has this fault, for which a command refuses it
-unfoldable pub Refuses : Task → Option (List ℕ) → Fault → Type 0
-Refuses task.Lower known f = IsNotLowered known f
-Refuses (task.LowerForEngines choice) known f = IsNotForEngines given.Model choice known f
-Refuses task.CheckBtor known f = IsNotJudged known f
-Refuses task.Show known f = IsNoModel known f
-Refuses task.Cost known f = IsNoModel known f
-Refuses task.AigConvert known f = IsNoCircuit known f
-Refuses (task.ConvertForEngines choice) known f = IsNotForEngines given.Circuit choice known f
-Refuses task.ConvertOutputs known f = IsNotWithOutputs known f
-Refuses (task.ConvertOutputsForEngines choice) known f = IsNotWithOutputsForEngines choice known f
-Refuses task.CheckAig known f = IsNoCircuit known f
-Refuses task.Lift known f = IsNotLowered known f
-Refuses (task.Restore choice) known f = IsNotClaimed claimed.Found given.Circuit choice known f
-Refuses (task.RestoreForm choice) known f = IsNotForEngines given.Circuit choice known f
-Refuses (task.LiftFound choice) known f = IsNotClaimed claimed.Found given.Model choice known f
-Refuses (task.LiftForm choice) known f = IsNotForEngines given.Model choice known f
-Refuses (task.Wave shown) known f = IsNotJudged known f
-Refuses (task.Named n) known f = RefusesByName n known f
-Refuses (task.TidyWitness pick) known f = ⊥
-Refuses task.Vectors known f = IsNoVectorList known f
-Refuses (task.Obligation g choice) known f = IsNotClaimed claimed.Certified g choice known f
-Refuses (task.CheckProof g choice) known f = IsNotClaimed claimed.Certified g choice known f
+unfoldable pub RefusesTask : Task → Option (List ℕ) → Fault → Type 0
+RefusesTask task.Lower known f = IsNotLowered known f
+RefusesTask (task.LowerForEngines choice) known f = IsNotForEngines given.Model choice known f
+RefusesTask task.CheckBtor known f = IsNotJudged known f
+RefusesTask task.Show known f = IsNoModel known f
+RefusesTask task.Cost known f = IsNoModel known f
+RefusesTask task.AigConvert known f = IsNoCircuit known f
+RefusesTask (task.ConvertForEngines choice) known f = IsNotForEngines given.Circuit choice known f
+RefusesTask task.ConvertOutputs known f = IsNotWithOutputs known f
+RefusesTask (task.ConvertOutputsForEngines choice) known f = IsNotWithOutputsForEngines choice known f
+RefusesTask task.CheckAig known f = IsNoCircuit known f
+RefusesTask task.Lift known f = IsNotLowered known f
+RefusesTask (task.Restore choice) known f = IsNotClaimed claimed.Found given.Circuit choice known f
+RefusesTask (task.RestoreForm choice) known f = IsNotForEngines given.Circuit choice known f
+RefusesTask (task.LiftFound choice) known f = IsNotClaimed claimed.Found given.Model choice known f
+RefusesTask (task.LiftForm choice) known f = IsNotForEngines given.Model choice known f
+RefusesTask (task.Wave shown) known f = IsNotJudged known f
+RefusesTask (task.Named n) known f = RefusesByName n known f
+RefusesTask (task.TidyWitness pick) known f = ⊥
+RefusesTask task.Vectors known f = IsNoVectorList known f
+RefusesTask (task.Obligation g choice) known f = IsNotClaimed claimed.Certified g choice known f
+RefusesTask (task.CheckProof g choice) known f = IsNotClaimed claimed.Certified g choice known f
 
 -- the second text has this fault, for which a command refuses it
 abbrev pub RefusesSecond : Task → Option (List ℕ) → Option (List ℕ) → Fault → Type 0

@@ -13,12 +13,12 @@ use Rattle.tasks.specs.declared.refusals.Refusal.TheVariants as refusal
 use Rattle.tasks.specs.declared.answers.Answer.{Answer}
 use Rattle.tasks.specs.Refusals.{device_line, fault_line, output_name, refusal_line, second_name, status_of_fault}
 use Rattle.tasks.specs.Statuses.{CountsAll}
-use Rattle.commands.specs.Refusals.{Refuses, RefusesSecond}
+use Rattle.commands.specs.Refusals.{RefusesTask, RefusesSecond}
 
 -- the first text has a fault for which the command refuses it, and the line that tells that fault of the first file was written
 pub record IsFirstRefused (task : Task) (file : List ℕ) (first told told' : Option (List ℕ)) : Type 0 where
   pub fault : Fault
-  pub has : Refuses task first fault
+  pub has : RefusesTask task first fault
   pub status : status_of_fault fault ≡ 2
   pub line : Appends told told' (fault_line file fault)
 
@@ -36,7 +36,7 @@ IsRefused task file name first second told told' = IsFirstRefused task file firs
 -- Status 4: words leave open which bad property of the first text is claimed, and the line that says so was written.
 pub record IsLeftOpen (task : Task) (file : List ℕ) (first told told' : Option (List ℕ)) : Type 0 where
   pub claimed : Claimed
-  pub has : Refuses task first (fault.Unchosen claimed)
+  pub has : RefusesTask task first (fault.Unchosen claimed)
   pub line : Appends told told' (fault_line file (fault.Unchosen claimed))
 
 -- a refusal is none of an input, and standard error did not fail

@@ -6,8 +6,8 @@ ghost use Rattle.tasks.specs.declared.answers.Answer.TheVariants as answer;
 ghost use Rattle.btor2text.specs.Spelling.{IsModelOf};
 ghost use Rattle.aigertext.specs.Spelling.{IsCircuitText};
 ghost use Rattle.commands.specs.declared.running.First.TheVariants as first_is;
-ghost use Rattle.commands.specs.Done.{Answers, first_of, has_one_file, has_three_files, is_quiet};
-ghost use Rattle.commands.specs.Refusals.{Refuses, RefusesSecond};
+ghost use Rattle.commands.specs.Done.{Answers, first_file, has_one_file, has_three_files, is_quiet};
+ghost use Rattle.commands.specs.Refusals.{RefusesTask, RefusesSecond};
 ghost use Rattle.tasks.specs.Statuses.{Counts, CountsAll, ErrUntold, IfInput, IfSecond};
 ghost use Rattle.commands.specs.Statuses.{HasFailed, IsLeftOpen, IsRefused};
 
@@ -125,7 +125,7 @@ enum First {
 /// What the first file of a command is.
 #[tactic(auto, unfolding(crate::specs::Done::first_of))]
 fn first_of(task: Task) -> First
-    ensures { result ≡ first_of task }
+    ensures { result ≡ first_file task }
 {
     match task {
         Task::Lower | Task::Vectors | Task::TidyWitness(_) => First::Text,
@@ -157,7 +157,7 @@ fn obey<A: Source, B: Source, T: Source, O: Sink, E: Sink, W: Watch>(
     watch: &mut W,
 ) -> Result<Answer, Refusal>
     ensures done { IfOk result (λ answer. Answers order.now.task order.now.form answer (A.to_come first.old) (B.to_come second.old) (T.to_come third.old) (O.written out.old) (O.written out.new) (E.written err.old) (E.written err.new)) }
-    ensures refused { IfErr result (IfInput (Refuses order.now.task (A.to_come first.old))) }
+    ensures refused { IfErr result (IfInput (RefusesTask order.now.task (A.to_come first.old))) }
     ensures refused_second { IfErr result (IfSecond (RefusesSecond order.now.task (A.to_come first.old) (B.to_come second.old))) }
     ensures unwritten { IfErr result (IfInput (λ _. out.new ≡ out.old)) }
     ensures unwritten_second { IfErr result (IfSecond (λ _. out.new ≡ out.old)) }
@@ -186,9 +186,9 @@ fn obey_on_certificates<A: Source, B: Source, T: Source, O: Sink, E: Sink, W: Wa
     err: &mut E,
     watch: &mut W,
 ) -> Result<Answer, Refusal>
-    requires { first_of task ≡ first_is.Certified }
+    requires { first_file task ≡ first_is.Certified }
     ensures done { (form : Form) → IfOk result (λ answer. Answers task form answer (A.to_come first.old) (B.to_come second.old) (T.to_come third.old) (O.written out.old) (O.written out.new) (E.written err.old) (E.written err.new)) }
-    ensures refused { IfErr result (IfInput (Refuses task (A.to_come first.old))) }
+    ensures refused { IfErr result (IfInput (RefusesTask task (A.to_come first.old))) }
     ensures refused_second { IfErr result (IfSecond (RefusesSecond task (A.to_come first.old) (B.to_come second.old))) }
     ensures unwritten { IfErr result (IfInput (λ _. out.new ≡ out.old)) }
     ensures unwritten_second { IfErr result (IfSecond (λ _. out.new ≡ out.old)) }
@@ -221,9 +221,9 @@ fn obey_two<A: Source, B: Source, O: Sink, E: Sink, W: Watch>(
     err: &mut E,
     watch: &mut W,
 ) -> Result<Answer, Refusal>
-    requires { ¬ (first_of order.now.task ≡ first_is.Certified) }
+    requires { ¬ (first_file order.now.task ≡ first_is.Certified) }
     ensures done { (third : Option (List ℕ)) → IfOk result (λ answer. Answers order.now.task order.now.form answer (A.to_come first.old) (B.to_come second.old) third (O.written out.old) (O.written out.new) (E.written err.old) (E.written err.new)) }
-    ensures refused { IfErr result (IfInput (Refuses order.now.task (A.to_come first.old))) }
+    ensures refused { IfErr result (IfInput (RefusesTask order.now.task (A.to_come first.old))) }
     ensures unwritten { IfErr result (IfInput (λ _. out.new ≡ out.old)) }
     ensures untold { ErrUntold result (err.new ≡ err.old) }
     ensures counted { Counts result (A.failures first.old) (A.failures first.new) (B.failures second.old) (B.failures second.new) (O.failures out.old) (O.failures out.new) (E.failures err.old) (E.failures err.new) }
@@ -247,9 +247,9 @@ fn obey_on_text<A: Source, O: Sink, W: Watch>(
     out: &mut O,
     watch: &mut W,
 ) -> Result<Answer, Refusal>
-    requires { first_of order.now.task ≡ first_is.Text }
+    requires { first_file order.now.task ≡ first_is.Text }
     ensures done { (second third told : Option (List ℕ)) → IfOk result (λ answer. Answers order.now.task order.now.form answer (A.to_come first.old) second third (O.written out.old) (O.written out.new) told told) }
-    ensures refused { IfErr result (IfInput (Refuses order.now.task (A.to_come first.old))) }
+    ensures refused { IfErr result (IfInput (RefusesTask order.now.task (A.to_come first.old))) }
     ensures unwritten { IfErr result (IfInput (λ _. out.new ≡ out.old)) }
     ensures counted { (s e : ℕ) → Counts result (A.failures first.old) (A.failures first.new) s s (O.failures out.old) (O.failures out.new) e e }
 {
@@ -271,9 +271,9 @@ fn obey_on_model<A: Source, B: Source, O: Sink, E: Sink, W: Watch>(
     err: &mut E,
     watch: &mut W,
 ) -> Result<Answer, Refusal>
-    requires { first_of order.now.task ≡ first_is.Model }
+    requires { first_file order.now.task ≡ first_is.Model }
     ensures done { (third : Option (List ℕ)) → IfOk result (λ answer. Answers order.now.task order.now.form answer (A.to_come first.old) (B.to_come second.old) third (O.written out.old) (O.written out.new) (E.written err.old) (E.written err.new)) }
-    ensures refused { IfErr result (IfInput (Refuses order.now.task (A.to_come first.old))) }
+    ensures refused { IfErr result (IfInput (RefusesTask order.now.task (A.to_come first.old))) }
     ensures unwritten { IfErr result (IfInput (λ _. out.new ≡ out.old)) }
     ensures untold { ErrUntold result (err.new ≡ err.old) }
     ensures counted { Counts result (A.failures first.old) (A.failures first.new) (B.failures second.old) (B.failures second.new) (O.failures out.old) (O.failures out.new) (E.failures err.old) (E.failures err.new) }
@@ -295,9 +295,9 @@ fn do_on_model<B: Source, O: Sink, E: Sink, W: Watch>(
     err: &mut E,
     watch: &mut W,
 ) -> Result<Answer, Refusal>
-    requires { first_of order.now.task ≡ first_is.Model }
+    requires { first_file order.now.task ≡ first_is.Model }
     ensures done { (known third : Option (List ℕ)) → IsModelOf known model.now → IfOk result (λ answer. Answers order.now.task order.now.form answer known (B.to_come second.old) third (O.written out.old) (O.written out.new) (E.written err.old) (E.written err.new)) }
-    ensures refused { (known : Option (List ℕ)) → IsModelOf known model.now → IfErr result (IfInput (Refuses order.now.task known)) }
+    ensures refused { (known : Option (List ℕ)) → IsModelOf known model.now → IfErr result (IfInput (RefusesTask order.now.task known)) }
     ensures unwritten { IfErr result (IfInput (λ _. out.new ≡ out.old)) }
     ensures untold { ErrUntold result (err.new ≡ err.old) }
     ensures counted { (f : ℕ) → Counts result f f (B.failures second.old) (B.failures second.new) (O.failures out.old) (O.failures out.new) (E.failures err.old) (E.failures err.new) }
@@ -340,9 +340,9 @@ fn obey_on_circuit<A: Source, B: Source, O: Sink, E: Sink>(
     out: &mut O,
     err: &mut E,
 ) -> Result<Answer, Refusal>
-    requires { first_of order.now.task ≡ first_is.Circuit }
+    requires { first_file order.now.task ≡ first_is.Circuit }
     ensures done { (third : Option (List ℕ)) → IfOk result (λ answer. Answers order.now.task order.now.form answer (A.to_come first.old) (B.to_come second.old) third (O.written out.old) (O.written out.new) (E.written err.old) (E.written err.new)) }
-    ensures refused { IfErr result (IfInput (Refuses order.now.task (A.to_come first.old))) }
+    ensures refused { IfErr result (IfInput (RefusesTask order.now.task (A.to_come first.old))) }
     ensures unwritten { IfErr result (IfInput (λ _. out.new ≡ out.old)) }
     ensures untold { ErrUntold result (err.new ≡ err.old) }
     ensures counted { Counts result (A.failures first.old) (A.failures first.new) (B.failures second.old) (B.failures second.new) (O.failures out.old) (O.failures out.new) (E.failures err.old) (E.failures err.new) }
@@ -363,9 +363,9 @@ fn do_on_circuit<B: Source, O: Sink, E: Sink>(
     out: &mut O,
     err: &mut E,
 ) -> Result<Answer, Refusal>
-    requires { first_of order.now.task ≡ first_is.Circuit }
+    requires { first_file order.now.task ≡ first_is.Circuit }
     ensures done { (known third : Option (List ℕ)) → IsCircuitText known circuit.now → IfOk result (λ answer. Answers order.now.task order.now.form answer known (B.to_come second.old) third (O.written out.old) (O.written out.new) (E.written err.old) (E.written err.new)) }
-    ensures refused { (known : Option (List ℕ)) → IsCircuitText known circuit.now → IfErr result (IfInput (Refuses order.now.task known)) }
+    ensures refused { (known : Option (List ℕ)) → IsCircuitText known circuit.now → IfErr result (IfInput (RefusesTask order.now.task known)) }
     ensures unwritten { IfErr result (IfInput (λ _. out.new ≡ out.old)) }
     ensures untold { ErrUntold result (err.new ≡ err.old) }
     ensures counted { (f : ℕ) → Counts result f f (B.failures second.old) (B.failures second.new) (O.failures out.old) (O.failures out.new) (E.failures err.old) (E.failures err.new) }

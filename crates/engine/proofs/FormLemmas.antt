@@ -12,12 +12,12 @@ use Rattle.aiger.specs.declared.circuit.Reset.TheVariants as reset
 use Rattle.base.specs.Literal.{Valuation, negation, literal_value}
 use Rattle.aiger.specs.Net.{variables, IsDefined, bits_from}
 use Rattle.aiger.specs.Circuit.{Circuit, IsCircuit, net, fresh_latch}
-use Rattle.aiger.specs.Trace.{IsFrame, IsTrace, next_state, SameFrame}
+use Rattle.aiger.specs.Trace.{IsCircuitFrame, IsCircuitTrace, next_latch_bits, SameCircuitFrame}
 use Rattle.base.proofs.LiteralLemmas.{literal_value-negation, literal_value-even}
 use Rattle.aiger.proofs.NetLemmas.{length-bits_from}
 use Rattle.aiger.proofs.TraceLemmas.{literal_value-agree, SameFrame-from_bits}
-use Rattle.engine.specs.EngineForm.{taken_bits, free_count, first_bit, first_bits, begins, kept_bit, kept_bits, where_some, or_one, with_own, engine_bits, input_count, latch_count, chosen, all_hold, ShowsSame, ShowSame}
-use Rattle.gates.specs.Reads.{read, literal_of}
+use Rattle.engine.specs.EngineForm.{taken_bits, free_count, first_bit, first_bits, begins, kept_bit, kept_bits, where_some, or_one, with_own, engine_bits, input_count, latch_count, chosen, all_hold, GoesTogether, GoTogether}
+use Rattle.gates.specs.Reads.{read, literal_in}
 use Rattle.engine.specs.Reads.{latch_value, read_latches, kept_literal, kept_latch, form_latches, literal_where, started_literal, before_literal, FormMade}
 use Rattle.gates.proofs.TableLemmas.{value-literal_of}
 use Rattle.engine.proofs.MadeLemmas.{chosen_all}
@@ -140,15 +140,15 @@ map_own f c z kept x y =
     ∙ ap (or_one (f z))
     (map-append f (kept ++ where_some free x) (where_some some y) ∙ ap₂ ◌++◌ (map-append f kept (where_some free x) ∙ ap (λ l. map f kept ++ l) (map_where f free x)) (map_where f some y))
 
-next_kept : (v w : Valuation) (table : List ℕ) (P : ℕ → Type 0) (ls : List Latch) → ((l : ℕ) → P l → literal_value w (literal_of table l) ≡ literal_value v l) → All (λ (latch : Latch). P latch.next) ls
+next_kept : (v w : Valuation) (table : List ℕ) (P : ℕ → Type 0) (ls : List Latch) → ((l : ℕ) → P l → literal_value w (literal_in table l) ≡ literal_value v l) → All (λ (latch : Latch). P latch.next) ls
     → map (λ (latch : Latch). literal_value w latch.next) (map (kept_latch table) ls) ≡ kept_bits false ls (map (λ (latch : Latch). literal_value v latch.next) ls)
 next_kept v w table P [] same all = refl
 next_kept v w table P (l ∷ ls) same all =
     ap₂ ◌∷◌ (by l.reset (same l.next (All-head (λ (latch : Latch). P latch.next) l ls all))) (next_kept v w table P ls same (All-tail (λ (latch : Latch). P latch.next) l ls all))
   where
-    by : (r : Reset) → literal_value w (literal_of table l.next) ≡ literal_value v l.next → literal_value w (kept_literal r (literal_of table l.next)) ≡ kept_bit false r (literal_value v l.next)
+    by : (r : Reset) → literal_value w (literal_in table l.next) ≡ literal_value v l.next → literal_value w (kept_literal r (literal_in table l.next)) ≡ kept_bit false r (literal_value v l.next)
     by reset.Zero e = e
-    by reset.One e = literal_value-negation w (literal_of table l.next) ∙ ap not e
+    by reset.One e = literal_value-negation w (literal_in table l.next) ∙ ap not e
     by reset.Free e = e
 
 literal_there : (n l : ℕ) → 0 < n → literal_where n l ≡ l
@@ -158,9 +158,9 @@ literal_there (suc n) l h = refl
 -- ---- one frame
 
 pub step : (c : Circuit) (choice : Option ℕ) (d : Circuit) (table : List ℕ) (lit : ℕ) → IsCircuit c → FormMade c choice (net d) table lit d.bads → d.latches ≡ form_latches c table lit
-    → (first met : Bool) (state g : List Bool) (v w : Valuation) → IsFrame c state (take c.inputs g) v → IsFrame d (engine_bits c first met state) g w
+    → (first met : Bool) (state g : List Bool) (v w : Valuation) → IsCircuitFrame c state (take c.inputs g) v → IsCircuitFrame d (engine_bits c first met state) g w
     → (first ≡ true → state ≡ first_bits c.latches (drop c.inputs g)) → (length c.constraints ≡ 0 → met ≡ true)
-    → ShowsSame c choice d first met v w × (next_state d w ≡ engine_bits c false (met && all_hold c v) (next_state c v))
+    → GoesTogether c choice d first met v w × (next_latch_bits d w ≡ engine_bits c false (met && all_hold c v) (next_latch_bits c v))
 step c choice d table lit valid made latches first met state g v w p q begin no_constraint =
     let n : ℕ = length c.latches in
     let s : ℕ = suc d.inputs in
@@ -195,16 +195,16 @@ step c choice d table lit valid made latches first met state g v w p q begin no_
     (λ e. begin e ∙ ap (λ (l : List Bool). first_bits c.latches (drop c.inputs l)) (sym q.inputs) ∙ ap (first_bits c.latches) (back 1 c.inputs d.inputs (d.inputs - c.inputs) (suc c.inputs) w (omega arith) (omega arith)))
     many started in
     let r : Valuation = read table w in
-    let frame : IsFrame c state (take c.inputs g) r = record {
+    let frame : IsCircuitFrame c state (take c.inputs g) r = record {
       gates = made.gates w q.gates;
       inputs = made.input_bits w ∙ sym (front 1 c.inputs d.inputs w le_inputs) ∙ ap (take c.inputs) q.inputs;
       latches = made.latch_bits w q.gates ∙ read_is;
     } in
-    let same : SameFrame c v r = SameFrame-from_bits c state (take c.inputs g) v r valid p frame in
-    let one : (l : ℕ) → IsDefined (net c) l → literal_value w (literal_of table l) ≡ literal_value v l =
+    let same : SameCircuitFrame c v r = SameFrame-from_bits c state (take c.inputs g) v r valid p frame in
+    let one : (l : ℕ) → IsDefined (net c) l → literal_value w (literal_in table l) ≡ literal_value v l =
     λ l h. value-literal_of table w l made.zero_is ∙ sym (literal_value-agree (suc (variables (net c))) v r l (λ k low high. same k low (omega arith)) (omega arith)) in
     let before_is : before_literal c ≡ literal_where some (negation (2 * (d.inputs + length d.latches))) = ap₂ (λ (i k : ℕ). literal_where some (negation (2 * (i + k)))) (sym inputs) (sym size) in
-    let hold : list_all (λ l. literal_value w (literal_of table l)) c.constraints ≡ all_hold c v = all_same _ _ (IsDefined (net c)) c.constraints one valid.defined.constraints in
+    let hold : list_all (λ l. literal_value w (literal_in table l)) c.constraints ≡ all_hold c v = all_same _ _ (IsDefined (net c)) c.constraints one valid.defined.constraints in
     let met_is : literal_value w lit ≡ (met && all_hold c v) = made.met_is w q.gates ∙ ap₂ ◌&&◌ (ap (literal_value w) before_is ∙ before some no_constraint last) hold in (
       record {
         latches = q.latches ∙ ap (engine_bits c first met) (sym p.latches);
@@ -229,8 +229,8 @@ step c choice d table lit valid made latches first met state g v w p q begin no_
 
 frames_same : (c : Circuit) (choice : Option ℕ) (d : Circuit) (table : List ℕ) (lit : ℕ) → IsCircuit c → FormMade c choice (net d) table lit d.bads → d.latches ≡ form_latches c table lit
     → (first met : Bool) (state : List Bool) (given : List (List Bool)) (vs ws : List Valuation)
-    → IsTrace c state (map (take c.inputs) given) vs → IsTrace d (engine_bits c first met state) given ws
-    → (first ≡ true → state ≡ begins c given) → (length c.constraints ≡ 0 → met ≡ true) → ShowSame c choice d first met vs ws
+    → IsCircuitTrace c state (map (take c.inputs) given) vs → IsCircuitTrace d (engine_bits c first met state) given ws
+    → (first ≡ true → state ≡ begins c given) → (length c.constraints ≡ 0 → met ≡ true) → GoTogether c choice d first met vs ws
 frames_same c choice d table lit valid made latches first met state [] [] [] p q begin none = tt
 frames_same c choice d table lit valid made latches first met state [] [] (w ∷ ws) p q begin none = absurd q
 frames_same c choice d table lit valid made latches first met state [] (v ∷ vs) ws p q begin none = absurd p
@@ -238,8 +238,8 @@ frames_same c choice d table lit valid made latches first met state (g ∷ given
 frames_same c choice d table lit valid made latches first met state (g ∷ given) (v ∷ vs) [] p q begin none = absurd q
 frames_same c choice d table lit valid made latches first met state (g ∷ given) (v ∷ vs) (w ∷ ws) p q begin none =
     let here = step c choice d table lit valid made latches first met state g v w p.0 q.0 begin none in
-    let more : IsTrace d (engine_bits c false (met && all_hold c v) (next_state c v)) given ws = subst (λ (s : List Bool). IsTrace d s given ws) here.1 q.1 in
-    (here.0, frames_same c choice d table lit valid made latches false (met && all_hold c v) (next_state c v) given vs ws p.1 more (λ e. absurd (cc)) (λ e. ap₂ ◌&&◌ (none e) (no_constraints c.constraints e)))
+    let more : IsCircuitTrace d (engine_bits c false (met && all_hold c v) (next_latch_bits c v)) given ws = subst (λ (s : List Bool). IsCircuitTrace d s given ws) here.1 q.1 in
+    (here.0, frames_same c choice d table lit valid made latches false (met && all_hold c v) (next_latch_bits c v) given vs ws p.1 more (λ e. absurd (cc)) (λ e. ap₂ ◌&&◌ (none e) (no_constraints c.constraints e)))
   where
     no_constraints : (ls : List ℕ) → length ls ≡ 0 → list_all (literal_value v) ls ≡ true
     no_constraints [] e = refl
@@ -281,12 +281,12 @@ zeros_first : (c : Circuit) (given : List Bool) → engine_bits c true true (fir
 zeros_first c given = ap (λ (kept : List Bool). with_own c false kept false false) (zeros_kept c.latches given) ∙ same_own c false
 
 pub made_shows_same : (c d : Circuit) (choice : Option ℕ) (table : List ℕ) (lit : ℕ) → IsCircuit c → FormMade c choice (net d) table lit d.bads → d.latches ≡ form_latches c table lit
-    → (given : List (List Bool)) (vs ws : List Valuation) → IsTrace c (begins c given) (map (take c.inputs) given) vs → IsTrace d (replicate (length d.latches) false) given ws
-    → ShowSame c choice d true true vs ws
+    → (given : List (List Bool)) (vs ws : List Valuation) → IsCircuitTrace c (begins c given) (map (take c.inputs) given) vs → IsCircuitTrace d (replicate (length d.latches) false) given ws
+    → GoTogether c choice d true true vs ws
 made_shows_same c d choice table lit valid made latches given vs ws p q =
     let size : latch_count c ≡ length d.latches = sym made.latches in
     let zeros : replicate (length d.latches) false ≡ engine_bits c true true (begins c given) = ap (λ (k : ℕ). replicate k false) (sym size) ∙ sym (first given) in
-    frames_same c choice d table lit valid made latches true true (begins c given) given vs ws p (subst (λ (s : List Bool). IsTrace d s given ws) zeros q) (λ e. refl) (λ e. refl)
+    frames_same c choice d table lit valid made latches true true (begins c given) given vs ws p (subst (λ (s : List Bool). IsCircuitTrace d s given ws) zeros q) (λ e. refl) (λ e. refl)
   where
     first : (given : List (List Bool)) → engine_bits c true true (begins c given) ≡ replicate (latch_count c) false
     first [] = zeros_first c []

@@ -15,8 +15,8 @@ use Rattle.aiger.proofs.TraceLemmas.{bits_from-agree}
 use Rattle.gates.specs.Made.{MakesLiteral}
 use Rattle.gates.proofs.GrowthLemmas.{Grows-trans, Grows-weaker, Satisfies-earlier, IsDefined-grown, All-defined-grown}
 use Rattle.engine.specs.EngineForm.{free_count, input_count, chosen}
-use Rattle.gates.specs.Reads.{read, literal_of, GatesRead}
-use Rattle.engine.specs.Reads.{read_latches, LatchesRead, BadsRead, TableRead, started_literal, before_literal, bare_net, PropertiesRead, FormMade}
+use Rattle.gates.specs.Reads.{read, literal_in, GatesRead}
+use Rattle.engine.specs.Reads.{read_latches, LatchLiteralsRead, BadLiteralsRead, TableRead, started_literal, before_literal, bare_net, PropertiesRead, FormMade}
 
 -- the literals of variables that are there are defined
 pub doubles_defined : (n : Net) (a m : ℕ) → a + m ≤ suc (variables n) → All (IsDefined n) (map (λ k. 2 * k) (range_with_len a m))
@@ -33,7 +33,7 @@ read_middle xs (y ∷ ys) zs w =
 
 pub TableRead-made : (c : Circuit) (started : ℕ) (old mid new : Net) (inputs latches gates table : List ℕ) → IsCircuit c → c.inputs + 1 ≤ suc (variables old)
     → inputs ≡ map (λ k. 2 * k) (range_with_len 0 (c.inputs + 1))
-    → LatchesRead old mid (3 * free_count c.latches) c.latches (suc old.inputs) (suc c.inputs) started latches
+    → LatchLiteralsRead old mid (3 * free_count c.latches) c.latches (suc old.inputs) (suc c.inputs) started latches
     → GatesRead mid new (length (inputs ++ latches)) c.gates (inputs ++ latches) gates → table ≡ (inputs ++ latches) ++ gates
     → TableRead c started old new table
 TableRead-made c started old mid new inputs latches gates table valid fits is l g all =
@@ -65,11 +65,11 @@ TableRead-made c started old mid new inputs latches gates table valid fits is l 
 
 -- the same of numbers and lists that are equal
 pub LatchesRead-said : (old mid : Net) (ls ms : List Latch) (own own2 input input2 s : ℕ) (more : List ℕ) → ls ≡ ms → own ≡ own2 → input ≡ input2
-    → LatchesRead old mid (3 * free_count ls) ls own input s more → LatchesRead old mid (3 * free_count ms) ms own2 input2 s more
+    → LatchLiteralsRead old mid (3 * free_count ls) ls own input s more → LatchLiteralsRead old mid (3 * free_count ms) ms own2 input2 s more
 LatchesRead-said old mid ls ms own own2 input input2 s more e f g l =
-    subst (λ (x : List Latch). LatchesRead old mid (3 * free_count x) x own2 input2 s more) e
-    (subst (λ (x : ℕ). LatchesRead old mid (3 * free_count ls) ls x input2 s more) f
-    (subst (λ (x : ℕ). LatchesRead old mid (3 * free_count ls) ls own x s more) g l))
+    subst (λ (x : List Latch). LatchLiteralsRead old mid (3 * free_count x) x own2 input2 s more) e
+    (subst (λ (x : ℕ). LatchLiteralsRead old mid (3 * free_count ls) ls x input2 s more) f
+    (subst (λ (x : ℕ). LatchLiteralsRead old mid (3 * free_count ls) ls own x s more) g l))
 
 pub GatesRead-said : (mid new : Net) (gs hs : List Gate) (before front more : List ℕ) → gs ≡ hs → before ≡ front → GatesRead mid new (length before) gs before more → GatesRead mid new (length front) hs front more
 GatesRead-said mid new gs hs before front more e f g =
@@ -93,13 +93,13 @@ chosen_inside c choice table valid many k d within = let e = chosen_all (IsDefin
 -- the literals of the properties, from the one for the constraints and those for the bad properties
 pub PropertiesRead-made : (c : Circuit) (choice : Option ℕ) (before : ℕ) (old mid new : Net) (table first second constraints kept : List ℕ) (met : ℕ) (bads : List ℕ)
     → first ≡ table → second ≡ table → constraints ≡ c.constraints → kept ≡ chosen choice c.bads
-    → MakesLiteral old mid (length constraints) (λ v. literal_value v before && list_all (λ l. literal_value v (literal_of first l)) constraints) met
-    → BadsRead mid new second kept met bads → PropertiesRead c choice before old new table met bads
+    → MakesLiteral old mid (length constraints) (λ v. literal_value v before && list_all (λ l. literal_value v (literal_in first l)) constraints) met
+    → BadLiteralsRead mid new second kept met bads → PropertiesRead c choice before old new table met bads
 PropertiesRead-made c choice before old mid new table first second constraints kept met bads is_first is_second is_constraints is_kept made read_bads =
-    let m : MakesLiteral old mid (length c.constraints) (λ v. literal_value v before && list_all (λ l. literal_value v (literal_of table l)) c.constraints) met =
-    subst (λ (ls : List ℕ). MakesLiteral old mid (length ls) (λ v. literal_value v before && list_all (λ l. literal_value v (literal_of table l)) ls) met) is_constraints
-    (subst (λ (t : List ℕ). MakesLiteral old mid (length constraints) (λ v. literal_value v before && list_all (λ l. literal_value v (literal_of t l)) constraints) met) is_first made) in
-    let b : BadsRead mid new table (chosen choice c.bads) met bads = subst (λ (t : List ℕ). BadsRead mid new t (chosen choice c.bads) met bads) is_second (subst (λ (ls : List ℕ). BadsRead mid new second ls met bads) is_kept read_bads) in
+    let m : MakesLiteral old mid (length c.constraints) (λ v. literal_value v before && list_all (λ l. literal_value v (literal_in table l)) c.constraints) met =
+    subst (λ (ls : List ℕ). MakesLiteral old mid (length ls) (λ v. literal_value v before && list_all (λ l. literal_value v (literal_in table l)) ls) met) is_constraints
+    (subst (λ (t : List ℕ). MakesLiteral old mid (length constraints) (λ v. literal_value v before && list_all (λ l. literal_value v (literal_in t l)) constraints) met) is_first made) in
+    let b : BadLiteralsRead mid new table (chosen choice c.bads) met bads = subst (λ (t : List ℕ). BadLiteralsRead mid new t (chosen choice c.bads) met bads) is_second (subst (λ (ls : List ℕ). BadLiteralsRead mid new second ls met bads) is_kept read_bads) in
     let few = chosen_few choice c.bads in
     record {
       grows = Grows-weaker old new (length c.constraints + length (chosen choice c.bads)) (length c.constraints + length c.bads) (omega arith) (Grows-trans old mid new _ _ m.grows b.grows);

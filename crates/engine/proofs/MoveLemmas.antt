@@ -9,7 +9,7 @@ use Rattle.std.proofs.lemmas.List.Elements.{All-head, All-tail, All-nil, All-con
 use Rattle.aiger.specs.declared.circuit.Section.{Section}
 use Rattle.aiger.specs.declared.circuit.Section.TheVariants.{Input, Latch, Output, Bad, Constraint, Justice, Fair}
 use Rattle.aiger.specs.declared.fault.CircuitFault.TheVariants as fault
-use Rattle.aiger.specs.Circuit.{Circuit, IsCircuit, IsNamed, Place, NameMap, rank, place_cmp, section_count, name_of, with_name, name_refusal, IsName, is_name}
+use Rattle.aiger.specs.Circuit.{Circuit, IsCircuit, IsNamed, NamePlace, NameMap, rank, place_cmp, section_count, name_of, with_name, name_refusal, IsName, is_name}
 use Rattle.aiger.specs.Names.{is_printable}
 use Rattle.aiger.proofs.SectionNameLemmas.{name_of-with_name, name_of-other_position, name_of-other_section}
 use Rattle.engine.specs.Moves.{new_section, new_position, unnamed, is_before, NamesMoved}
@@ -43,8 +43,8 @@ name_test name n =
     rw (some, short) (printable_test name n.printable)
 
 entries_are_names : (c : Circuit) (es : NameMap) → All (IsNamed c) es → All (λ e. IsName e.1) es
-entries_are_names c [] a = All-nil (λ (e : Place × List ℕ). IsName e.1)
-entries_are_names c (e ∷ es) a = All-cons (λ (e : Place × List ℕ). IsName e.1) e es (All-head (IsNamed c) e es a).name (entries_are_names c es (All-tail (IsNamed c) e es a))
+entries_are_names c [] a = All-nil (λ (e : NamePlace × List ℕ). IsName e.1)
+entries_are_names c (e ∷ es) a = All-cons (λ (e : NamePlace × List ℕ). IsName e.1) e es (All-head (IsNamed c) e es a).name (entries_are_names c es (All-tail (IsNamed c) e es a))
 
 -- the names that a circuit has are names
 pub name_is_good : (c : Circuit) (s : Section) (k : ℕ) (name : List ℕ) → IsCircuit c → name_of c s k ≡ Some name → is_name name ≡ true

@@ -8,13 +8,13 @@ use Rattle.std.proofs.lemmas.List.Folds.{list_all-map}
 use Rattle.aiger.specs.declared.circuit.Latch.{Latch}
 use Rattle.aiger.specs.declared.circuit.Gate.{Gate}
 use Rattle.base.specs.Literal.{Valuation, literal_value}
-use Rattle.aiger.specs.Net.{Net, Satisfies, input_bits, latch_bits}
+use Rattle.aiger.specs.Net.{Net, Satisfies, net_input_bits, latch_bits}
 use Rattle.aiger.specs.declared.circuit.Section.{Section}
 use Rattle.aiger.specs.declared.circuit.Section.TheVariants as section
 use Rattle.aiger.specs.Circuit.{Circuit, IsCircuit, NameMap, net, section_count, name_of}
 use Rattle.aiger.proofs.SectionNameLemmas.{name_of-outside, same_names}
 use Rattle.engine.specs.Moves.{unnamed}
-use Rattle.aiger.specs.Trace.{AreInitial, IsTrace, next_state}
+use Rattle.aiger.specs.Trace.{AreInitial, IsCircuitTrace, next_latch_bits}
 use Rattle.base.specs.Shown.{Shown, rises_within}
 use Rattle.aiger.specs.Reachability.{circuit_shows, CanRiseInCircuit}
 use Rattle.engine.specs.Outputs.{HasOutputsAsBads, is_one_within, OutputCanBeOne}
@@ -26,24 +26,24 @@ same_net c d h =
     ∙ ap₂ (λ (ls : List Latch) (gs : List Gate). record { inputs = c.inputs; latches = length ls; gates = gs }) h.latches h.gates
 
 -- a trace of gates and latches is one of the same gates and latches
-trace_by : (c d : Circuit) (state : List Bool) (inputs : List (List Bool)) (vs : List Valuation) → net d ≡ net c → d.latches ≡ c.latches → IsTrace c state inputs vs → IsTrace d state inputs vs
+trace_by : (c d : Circuit) (state : List Bool) (inputs : List (List Bool)) (vs : List Valuation) → net d ≡ net c → d.latches ≡ c.latches → IsCircuitTrace c state inputs vs → IsCircuitTrace d state inputs vs
 trace_by c d state [] [] same latches t = tt
 trace_by c d state [] (v ∷ vs) same latches t = t
 trace_by c d state (input ∷ inputs) [] same latches t = t
 trace_by c d state (input ∷ inputs) (v ∷ vs) same latches t =
-    let next : next_state c v ≡ next_state d v = ap (map (λ (latch : Latch). literal_value v latch.next)) (sym latches) in (
+    let next : next_latch_bits c v ≡ next_latch_bits d v = ap (map (λ (latch : Latch). literal_value v latch.next)) (sym latches) in (
       record {
         gates = subst (λ (n : Net). Satisfies n v) (sym same) t.0.gates;
-        inputs = subst (λ (n : Net). input_bits n v ≡ input) (sym same) t.0.inputs;
+        inputs = subst (λ (n : Net). net_input_bits n v ≡ input) (sym same) t.0.inputs;
         latches = subst (λ (n : Net). latch_bits n v ≡ state) (sym same) t.0.latches;
       },
-      trace_by c d (next_state d v) inputs vs same latches (subst (λ (s : List Bool). IsTrace c s inputs vs) next t.1),
+      trace_by c d (next_latch_bits d v) inputs vs same latches (subst (λ (s : List Bool). IsCircuitTrace c s inputs vs) next t.1),
     )
 
-pub trace_after : (c d : Circuit) (state : List Bool) (inputs : List (List Bool)) (vs : List Valuation) → HasOutputsAsBads c d → IsTrace c state inputs vs → IsTrace d state inputs vs
+pub trace_after : (c d : Circuit) (state : List Bool) (inputs : List (List Bool)) (vs : List Valuation) → HasOutputsAsBads c d → IsCircuitTrace c state inputs vs → IsCircuitTrace d state inputs vs
 trace_after c d state inputs vs h t = trace_by c d state inputs vs (same_net c d h) h.latches t
 
-pub trace_before : (c d : Circuit) (state : List Bool) (inputs : List (List Bool)) (vs : List Valuation) → HasOutputsAsBads c d → IsTrace d state inputs vs → IsTrace c state inputs vs
+pub trace_before : (c d : Circuit) (state : List Bool) (inputs : List (List Bool)) (vs : List Valuation) → HasOutputsAsBads c d → IsCircuitTrace d state inputs vs → IsCircuitTrace c state inputs vs
 trace_before c d state inputs vs h t = trace_by d c state inputs vs (sym (same_net c d h)) (sym h.latches) t
 
 pub initial_after : (c d : Circuit) (state : List Bool) → HasOutputsAsBads c d → AreInitial c.latches state → AreInitial d.latches state

@@ -4,7 +4,7 @@ use Rattle.aiger.specs.declared.circuit.Section.{Section}
 use Rattle.aiger.specs.declared.circuit.Section.TheVariants as section
 use Rattle.aiger.specs.Circuit.{IsCircuit, section_count, name_of}
 use Rattle.engine.specs.Outputs.{HasOutputsAsBads}
-use Rattle.engine.specs.Worked.{conjunction, conjunction_bad, named, named_bad}
+use Rattle.engine.specs.Worked.{conjunction, conjunction_bad, named_circuit, named_bad}
 
 pub conjunction_has : IsCircuit conjunction → IsCircuit conjunction_bad → HasOutputsAsBads conjunction conjunction_bad
 conjunction_has c d =
@@ -23,7 +23,7 @@ conjunction_has c d =
       output_names = λ k inside. refl;
     }
 
-pub named_has : IsCircuit named → IsCircuit named_bad → HasOutputsAsBads named named_bad
+pub named_has : IsCircuit named_circuit → IsCircuit named_bad → HasOutputsAsBads named_circuit named_bad
 named_has c d =
     record {
       original = c;
@@ -40,7 +40,7 @@ named_has c d =
       output_names = moved;
     }
   where
-    kept : (s : Section) (k : ℕ) → s ≢ section.Output → k < section_count s named → name_of named_bad s k ≡ name_of named s k
+    kept : (s : Section) (k : ℕ) → s ≢ section.Output → k < section_count s named_circuit → name_of named_bad s k ≡ name_of named_circuit s k
     kept section.Input k apart inside = refl
     kept section.Latch k apart inside = refl
     kept section.Output k apart inside = absurd (apart refl)
@@ -50,6 +50,6 @@ named_has c d =
     kept section.Justice k apart inside = refl
     kept section.Fair k apart inside = refl
 
-    moved : (k : ℕ) → k < 1 → name_of named_bad section.Bad (1 + k) ≡ name_of named section.Output k
+    moved : (k : ℕ) → k < 1 → name_of named_bad section.Bad (1 + k) ≡ name_of named_circuit section.Output k
     moved zero inside = refl
     moved (suc k) inside = absurd (omega arith)

@@ -14,12 +14,12 @@ use Rattle.aiger.specs.declared.circuit.Reset.{Reset}
 use Rattle.aiger.specs.declared.circuit.Reset.TheVariants as reset
 use Rattle.base.specs.Literal.{Valuation, literal_value}
 use Rattle.aiger.specs.Circuit.{Circuit}
-use Rattle.aiger.specs.Trace.{AgreesWithReset, AreInitial, IsTrace, next_state}
+use Rattle.aiger.specs.Trace.{AgreesWithReset, AreInitial, IsCircuitTrace, next_latch_bits}
 use Rattle.base.specs.Shown.{rises_within}
 use Rattle.aiger.specs.Reachability.{circuit_shows, CanRiseInCircuit}
 use Rattle.aiger.proofs.NetLemmas.{length-bits_from}
 use Rattle.aiger.proofs.TraceLemmas.{trace_inputs}
-use Rattle.engine.specs.EngineForm.{taken_bits, free_count, first_bit, first_bits, begins, input_count, chosen, all_hold, ShowSame, IsEngineFormOf}
+use Rattle.engine.specs.EngineForm.{taken_bits, free_count, first_bit, first_bits, begins, input_count, chosen, all_hold, GoTogether, IsEngineFormOf}
 
 -- ---- initial bits
 
@@ -134,7 +134,7 @@ shown_bit f g b None e = refl
 shown_bit f g b (Some l) e = e l
 
 pub rises_alike : (c : Circuit) (choice : Option ℕ) (d : Circuit) (first met : Bool) (k j : ℕ) (vs ws : List Valuation)
-    → d.constraints ≡ [] → slice_get (chosen choice c.bads) j ≡ slice_get c.bads k → ShowSame c choice d first met vs ws
+    → d.constraints ≡ [] → slice_get (chosen choice c.bads) j ≡ slice_get c.bads k → GoTogether c choice d first met vs ws
     → rises_within j (map (circuit_shows d) ws) ≡ (met && rises_within k (map (circuit_shows c) vs))
 rises_alike c choice d first met k j [] [] none same h = no met
   where
@@ -162,7 +162,7 @@ rises_alike c choice d first met k j (v ∷ vs) (w ∷ ws) none same h =
 
 -- there is a trace of a circuit
 abbrev pub Exists : Circuit → Type 0
-Exists c = (state : List Bool) (inputs : List (List Bool)) → length state ≡ length c.latches → All (λ input. length input ≡ c.inputs) inputs → (vs : List Valuation) × IsTrace c state inputs vs
+Exists c = (state : List Bool) (inputs : List (List Bool)) → length state ≡ length c.latches → All (λ input. length input ≡ c.inputs) inputs → (vs : List Valuation) × IsCircuitTrace c state inputs vs
 
 -- the bits behind a circuit's own inputs
 abbrev more_bits : Circuit → List Bool → List Bool
@@ -185,10 +185,10 @@ begins_again c state input inputs h e =
 -- what a trace of a circuit from a first frame is in its engine form: input frames and frames that go together with it
 abbrev pub FormTrace : (c : Circuit) (choice : Option ℕ) (d : Circuit) (state : List Bool) (inputs : List (List Bool)) (vs : List Valuation) → Type 0
 FormTrace c choice d state inputs vs =
-    (given : List (List Bool)) × (ws : List Valuation) × (begins c given ≡ state) × (map (take c.inputs) given ≡ inputs) × IsTrace d (replicate (length d.latches) false) given ws × ShowSame c choice d true true vs ws
+    (given : List (List Bool)) × (ws : List Valuation) × (begins c given ≡ state) × (map (take c.inputs) given ≡ inputs) × IsCircuitTrace d (replicate (length d.latches) false) given ws × GoTogether c choice d true true vs ws
 
 pub form_trace : (c : Circuit) (choice : Option ℕ) (d : Circuit) → IsEngineFormOf c choice d → Exists d → (state input : List Bool) (inputs : List (List Bool)) (vs : List Valuation)
-    → AreInitial c.latches state → IsTrace c state (input ∷ inputs) vs → FormTrace c choice d state (input ∷ inputs) vs
+    → AreInitial c.latches state → IsCircuitTrace c state (input ∷ inputs) vs → FormTrace c choice d state (input ∷ inputs) vs
 form_trace c choice d form exists state input inputs vs initial t =
     let wide = trace_inputs c state (input ∷ inputs) vs t in
     let more : List Bool = more_bits c state in
@@ -197,11 +197,11 @@ form_trace c choice d form exists state input inputs vs initial t =
     let own : map (take c.inputs) given ≡ input ∷ inputs = taken_again c.inputs more (input ∷ inputs) wide in
     let count : c.inputs + length more ≡ d.inputs = more_count c state initial ∙ sym form.inputs in
     let there = exists (replicate (length d.latches) false) given (length-replicate (length d.latches) false) (more_lengths c.inputs d.inputs more (input ∷ inputs) count wide) in
-    let trace : IsTrace c (begins c given) (map (take c.inputs) given) vs =
-    subst (λ (s : List Bool). IsTrace c s (map (take c.inputs) given) vs) (sym begin) (subst (λ (i : List (List Bool)). IsTrace c state i vs) (sym own) t) in
+    let trace : IsCircuitTrace c (begins c given) (map (take c.inputs) given) vs =
+    subst (λ (s : List Bool). IsCircuitTrace c s (map (take c.inputs) given) vs) (sym begin) (subst (λ (i : List (List Bool)). IsCircuitTrace c state i vs) (sym own) t) in
     (given, there.0, begin, own, there.1, form.frames given vs there.0 trace there.1)
 
-go_on_as_long : (c : Circuit) (choice : Option ℕ) (d : Circuit) (first met : Bool) (vs ws : List Valuation) → ShowSame c choice d first met vs ws → length ws ≡ length vs
+go_on_as_long : (c : Circuit) (choice : Option ℕ) (d : Circuit) (first met : Bool) (vs ws : List Valuation) → GoTogether c choice d first met vs ws → length ws ≡ length vs
 go_on_as_long c choice d first met [] [] h = refl
 go_on_as_long c choice d first met [] (w ∷ ws) h = absurd h
 go_on_as_long c choice d first met (v ∷ vs) [] h = absurd h
@@ -210,7 +210,7 @@ go_on_as_long c choice d first met (v ∷ vs) (w ∷ ws) h = ap suc (go_on_as_lo
 pub rises_in_form : (c : Circuit) (choice : Option ℕ) (d : Circuit) (k j : ℕ) → IsEngineFormOf c choice d → slice_get (chosen choice c.bads) j ≡ slice_get c.bads k → Exists d → (h : CanRiseInCircuit c k) → (g : CanRiseInCircuit d j) × (length g.frames ≡ length h.frames)
 rises_in_form c choice d k j form same exists h = by h.inputs h.frames h.trace h.rises
   where
-    by : (inputs : List (List Bool)) (vs : List Valuation) → IsTrace c h.state inputs vs → rises_within k (map (circuit_shows c) vs) ≡ true → (g : CanRiseInCircuit d j) × (length g.frames ≡ length vs)
+    by : (inputs : List (List Bool)) (vs : List Valuation) → IsCircuitTrace c h.state inputs vs → rises_within k (map (circuit_shows c) vs) ≡ true → (g : CanRiseInCircuit d j) × (length g.frames ≡ length vs)
     by [] [] t r = absurd (cc)
     by [] (v ∷ vs) t r = absurd t
     by (input ∷ inputs) vs t r =
@@ -237,10 +237,10 @@ begins_initial c (input ∷ given) = first_initial c.latches (drop c.inputs inpu
 -- what input frames and frames of an engine form are in its circuit: initial bits, and a trace that goes together with them
 abbrev pub CircuitTrace : (c : Circuit) (choice : Option ℕ) (d : Circuit) (given : List (List Bool)) (ws : List Valuation) → Type 0
 CircuitTrace c choice d given ws =
-    AreInitial c.latches (begins c given) × (vs : List Valuation) × IsTrace c (begins c given) (map (take c.inputs) given) vs × ShowSame c choice d true true vs ws
+    AreInitial c.latches (begins c given) × (vs : List Valuation) × IsCircuitTrace c (begins c given) (map (take c.inputs) given) vs × GoTogether c choice d true true vs ws
 
 pub circuit_trace : (c : Circuit) (choice : Option ℕ) (d : Circuit) → IsEngineFormOf c choice d → Exists c → (given : List (List Bool)) (ws : List Valuation)
-    → IsTrace d (replicate (length d.latches) false) given ws → CircuitTrace c choice d given ws
+    → IsCircuitTrace d (replicate (length d.latches) false) given ws → CircuitTrace c choice d given ws
 circuit_trace c choice d form exists given ws t =
     let wide = trace_inputs d (replicate (length d.latches) false) given ws t in
     let le : c.inputs ≤ d.inputs = (let e = form.inputs in omega arith) in
@@ -250,7 +250,7 @@ circuit_trace c choice d form exists given ws t =
 pub rises_in_circuit : (c : Circuit) (choice : Option ℕ) (d : Circuit) (k j : ℕ) → IsEngineFormOf c choice d → slice_get (chosen choice c.bads) j ≡ slice_get c.bads k → Exists c → (h : CanRiseInCircuit d j) → (g : CanRiseInCircuit c k) × (length g.frames ≡ length h.frames)
 rises_in_circuit c choice d k j form same exists h =
     let zeros : h.state ≡ replicate (length d.latches) false = initial_zeros d.latches _ h.state form.resets h.initial in
-    let f = circuit_trace c choice d form exists h.inputs h.frames (subst (λ (s : List Bool). IsTrace d s h.inputs h.frames) zeros h.trace) in (
+    let f = circuit_trace c choice d form exists h.inputs h.frames (subst (λ (s : List Bool). IsCircuitTrace d s h.inputs h.frames) zeros h.trace) in (
       record {
         state = begins c h.inputs;
         inputs = map (take c.inputs) h.inputs;

@@ -9,7 +9,7 @@ use Rattle.aiger.specs.Net.{variables, Satisfies, AreOrdered}
 use Rattle.aiger.specs.Circuit.{Circuit, IsCircuit, HasFew, HasDefined, IsNamed, NameMap, place_cmp, net}
 use Rattle.engine.specs.EngineForm.{IsEngineFormOf}
 use Rattle.engine.specs.Reads.{FormMade}
-use Rattle.engine.specs.Worked.{toggler, toggler_form, stays_negated, keeper, keeper_form, begins_with_0, guarded, guarded_form, guarded_alone, either, second_form}
+use Rattle.engine.specs.Worked.{negated_toggler, toggler_form, stays_negated, keeper, keeper_form, begins_with_0, guarded, guarded_form, guarded_alone, either, second_form}
 use Rattle.engine.proofs.AssemblyLemmas.{assembled}
 
 -- a circuit without names, from the rest of what it keeps
@@ -41,7 +41,7 @@ mux_bit false b false = refl
 
 -- ---- forms
 
-toggler_made : FormMade toggler None (net toggler_form) (0 ∷ 5 ∷ []) 1 (5 ∷ [])
+toggler_made : FormMade negated_toggler None (net toggler_form) (0 ∷ 5 ∷ []) 1 (5 ∷ [])
 toggler_made =
     record {
       inputs = refl;
@@ -60,8 +60,8 @@ toggler_made =
       bads_are = λ w s. ap (λ (b : Bool). b ∷ []) (and_true (not (w 2)));
     }
 
-pub toggler_formed : IsCircuit toggler → IsCircuit toggler_form → IsEngineFormOf toggler None toggler_form
-toggler_formed c d = assembled toggler None toggler_form (0 ∷ 5 ∷ []) 1 c (record { no_justice = refl; no_fair = refl; has_bad = refl }) d toggler_made refl refl
+pub toggler_formed : IsCircuit negated_toggler → IsCircuit toggler_form → IsEngineFormOf negated_toggler None toggler_form
+toggler_formed c d = assembled negated_toggler None toggler_form (0 ∷ 5 ∷ []) 1 c (record { no_justice = refl; no_fair = refl; has_bad = refl }) d toggler_made refl refl
 
 keeper_made : FormMade keeper None (net keeper_form) (0 ∷ 13 ∷ []) 1 (13 ∷ [])
 keeper_made =
@@ -137,7 +137,7 @@ second_formed c d = assembled either (Some 1) second_form (0 ∷ 2 ∷ []) 1 c (
 differ : (let l : List Bool = false ∷ [] in l) ≡ true ∷ [] → ⊥
 differ e = absurd (cc)
 
-pub stays_negated_none : IsEngineFormOf toggler None stays_negated → ⊥
+pub stays_negated_none : IsEngineFormOf negated_toggler None stays_negated → ⊥
 stays_negated_none f =
     let given : List (List Bool) = (false ∷ []) ∷ (false ∷ []) ∷ [] in
     let h = f.frames given (below 2 ∷ below 0 ∷ []) (below 0 ∷ below 0 ∷ []) (record { gates = tt; inputs = refl; latches = refl }, (record { gates = tt; inputs = refl; latches = refl }, tt))

@@ -7,7 +7,7 @@ use Rattle.aiger.specs.declared.circuit.Reset.TheVariants.{Zero, One, Free}
 use Rattle.base.specs.Literal.{Valuation, literal_value}
 use Rattle.aiger.specs.Net.{latch_bits}
 use Rattle.aiger.specs.Circuit.{Circuit, IsCircuit, net}
-use Rattle.aiger.specs.Trace.{IsTrace}
+use Rattle.aiger.specs.Trace.{IsCircuitTrace}
 
 -- how many bits a latch's beginning takes from the inputs: one where it has no initial value
 abbrev pub taken_bits : Reset → ℕ
@@ -92,16 +92,16 @@ abbrev pub all_hold : Circuit → Valuation → Bool
 all_hold c v = list_all (literal_value v) c.constraints
 
 -- a frame of a circuit and one of its engine form go together; `met` says that all constraints held in the frames before
-pub record ShowsSame (c : Circuit) (choice : Option ℕ) (d : Circuit) (first met : Bool) (v w : Valuation) : Type 0 where
+pub record GoesTogether (c : Circuit) (choice : Option ℕ) (d : Circuit) (first met : Bool) (v w : Valuation) : Type 0 where
   pub latches : latch_bits (net d) w ≡ engine_bits c first met (latch_bits (net c) v)
   pub bads : map (literal_value w) d.bads ≡ map (λ l. literal_value v l && (met && all_hold c v)) (chosen choice c.bads)
 
 -- two traces are as long, and go together in each frame
-abbrev pub ShowSame : Circuit → Option ℕ → Circuit → Bool → Bool → List Valuation → List Valuation → Type 0
-ShowSame c choice d first met [] [] = Unit {0}
-ShowSame c choice d first met [] (w ∷ ws) = ⊥
-ShowSame c choice d first met (v ∷ vs) [] = ⊥
-ShowSame c choice d first met (v ∷ vs) (w ∷ ws) = ShowsSame c choice d first met v w × ShowSame c choice d false (met && all_hold c v) vs ws
+abbrev pub GoTogether : Circuit → Option ℕ → Circuit → Bool → Bool → List Valuation → List Valuation → Type 0
+GoTogether c choice d first met [] [] = Unit {0}
+GoTogether c choice d first met [] (w ∷ ws) = ⊥
+GoTogether c choice d first met (v ∷ vs) [] = ⊥
+GoTogether c choice d first met (v ∷ vs) (w ∷ ws) = GoesTogether c choice d first met v w × GoTogether c choice d false (met && all_hold c v) vs ws
 
 -- a circuit is the engine form of another one, with all its bad properties or a chosen one
 pub record IsEngineFormOf (c : Circuit) (choice : Option ℕ) (d : Circuit) : Type 0 where
@@ -124,5 +124,5 @@ pub record IsEngineFormOf (c : Circuit) (choice : Option ℕ) (d : Circuit) : Ty
   pub few_gates : length d.gates ≤ engine_cost c
   -- under all input frames, its trace and that of the circuit from the bits that the first frame gives go together
   pub frames : (given : List (List Bool)) (vs ws : List Valuation)
-      → IsTrace c (begins c given) (map (take c.inputs) given) vs → IsTrace d (replicate (length d.latches) false) given ws
-      → ShowSame c choice d true true vs ws
+      → IsCircuitTrace c (begins c given) (map (take c.inputs) given) vs → IsCircuitTrace d (replicate (length d.latches) false) given ws
+      → GoTogether c choice d true true vs ws

@@ -4,19 +4,19 @@ use Rattle.engine.specs.declared.fault.EngineFault.{EngineFault}
 use Rattle.engine.specs.declared.fault.EngineFault.TheVariants as fault
 
 -- the number that is printed for a refusal
-abbrev pub number_of : EngineFault → ℕ
-number_of fault.Justice = 140
-number_of fault.Fair = 141
-number_of fault.NoBad = 145
-number_of fault.NoSuchBad = 142
-number_of fault.TooBig = 143
-number_of fault.NoMemory = 144
+abbrev pub engine_fault_number : EngineFault → ℕ
+engine_fault_number fault.Justice = 140
+engine_fault_number fault.Fair = 141
+engine_fault_number fault.NoBad = 145
+engine_fault_number fault.NoSuchBad = 142
+engine_fault_number fault.TooBig = 143
+engine_fault_number fault.NoMemory = 144
 
 -- the name that is printed for a refusal
-abbrev pub name_of : EngineFault → List ℕ
-name_of fault.Justice = codes "Justice"
-name_of fault.Fair = codes "Fair"
-name_of fault.NoBad = codes "NoBad"
-name_of fault.NoSuchBad = codes "NoSuchBad"
-name_of fault.TooBig = codes "TooBig"
-name_of fault.NoMemory = codes "NoMemory"
+abbrev pub engine_fault_name : EngineFault → List ℕ
+engine_fault_name fault.Justice = codes "Justice"
+engine_fault_name fault.Fair = codes "Fair"
+engine_fault_name fault.NoBad = codes "NoBad"
+engine_fault_name fault.NoSuchBad = codes "NoSuchBad"
+engine_fault_name fault.TooBig = codes "TooBig"
+engine_fault_name fault.NoMemory = codes "NoMemory"

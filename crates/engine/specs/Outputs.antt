@@ -8,7 +8,7 @@ use Rattle.aiger.specs.declared.fault.CircuitFault.TheVariants.{TooBig}
 use Rattle.aiger.specs.Limits.{greatest_count}
 use Rattle.base.specs.Literal.{Valuation, literal_value}
 use Rattle.aiger.specs.Circuit.{Circuit, IsCircuit, section_count, name_of}
-use Rattle.aiger.specs.Trace.{AreInitial, IsTrace}
+use Rattle.aiger.specs.Trace.{AreInitial, IsCircuitTrace}
 
 -- a circuit has the outputs of another one as bad properties, and is else the same
 pub record HasOutputsAsBads (c d : Circuit) : Type 0 where
@@ -47,5 +47,5 @@ pub record OutputCanBeOne (c : Circuit) (k : ℕ) : Type 0 where
   pub inputs : List (List Bool)
   pub frames : List Valuation
   pub initial : AreInitial c.latches state
-  pub trace : IsTrace c state inputs frames
+  pub trace : IsCircuitTrace c state inputs frames
   pub one : is_one_within c k frames ≡ true

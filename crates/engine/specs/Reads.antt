@@ -8,7 +8,7 @@ use Rattle.base.specs.Literal.{Valuation, negation, literal_value}
 use Rattle.aiger.specs.Net.{Net, variables, IsDefined, Satisfies, bits_from}
 use Rattle.aiger.specs.Circuit.{Circuit, net, fresh_latch}
 use Rattle.gates.specs.Made.{Grows}
-use Rattle.gates.specs.Reads.{read, literal_of}
+use Rattle.gates.specs.Reads.{read, literal_in}
 use Rattle.engine.specs.declared.sizes.Sizes.{Sizes}
 use Rattle.engine.specs.EngineForm.{taken_bits, free_count, with_own, input_count, latch_count, engine_cost, chosen}
 
@@ -24,18 +24,18 @@ read_latches [] own input started w = []
 read_latches (l ∷ ls) own input started w = latch_value l.reset (w own) (w input) started ∷ read_latches ls (suc own) (input + taken_bits l.reset) started w
 
 -- literals that stand for latches
-pub record LatchesRead (old new : Net) (most : ℕ) (latches : List Latch) (own input started : ℕ) (more : List ℕ) : Type 0 where
+pub record LatchLiteralsRead (old new : Net) (most : ℕ) (latches : List Latch) (own input started : ℕ) (more : List ℕ) : Type 0 where
   pub grows : Grows old new most
   pub defined : All (IsDefined new) more
   pub many : length more ≡ length latches
   pub bits : (w : Valuation) → Satisfies new w → map (literal_value w) more ≡ read_latches latches own input (literal_value w started) w
 
 -- literals that are true where those of bad properties are and another one is
-pub record BadsRead (old new : Net) (table bads : List ℕ) (met : ℕ) (literals : List ℕ) : Type 0 where
+pub record BadLiteralsRead (old new : Net) (table bads : List ℕ) (met : ℕ) (literals : List ℕ) : Type 0 where
   pub grows : Grows old new (length bads)
   pub many : length literals ≡ length bads
   pub defined : All (IsDefined new) literals
-  pub bits : (w : Valuation) → Satisfies new w → map (literal_value w) literals ≡ map (λ l. literal_value w (literal_of table l) && literal_value w met) bads
+  pub bits : (w : Valuation) → Satisfies new w → map (literal_value w) literals ≡ map (λ l. literal_value w (literal_in table l) && literal_value w met) bads
 
 -- the literal that a latch of the form takes for one of the circuit, which takes the first one
 abbrev pub kept_literal : Reset → ℕ → ℕ
@@ -45,7 +45,7 @@ kept_literal Free l = l
 
 -- the latch that stands for a latch of the circuit
 abbrev pub kept_latch : List ℕ → Latch → Latch
-kept_latch table latch = record { next = kept_literal latch.reset (literal_of table latch.next); reset = Zero }
+kept_latch table latch = record { next = kept_literal latch.reset (literal_in table latch.next); reset = Zero }
 
 -- the latches of the form: those kept, one that takes true, one that takes what says that a constraint was 0; or one that stays 0
 abbrev pub form_latches : Circuit → List ℕ → ℕ → List Latch
@@ -94,8 +94,8 @@ pub record PropertiesRead (c : Circuit) (choice : Option ℕ) (before : ℕ) (ol
   pub met_defined : IsDefined new met
   pub bads_defined : All (IsDefined new) bads
   pub few_bads : length bads ≤ length c.bads
-  pub met_is : (w : Valuation) → Satisfies new w → literal_value w met ≡ (literal_value w before && list_all (λ l. literal_value w (literal_of table l)) c.constraints)
-  pub bads_are : (w : Valuation) → Satisfies new w → map (literal_value w) bads ≡ map (λ l. literal_value w (literal_of table l) && literal_value w met) (chosen choice c.bads)
+  pub met_is : (w : Valuation) → Satisfies new w → literal_value w met ≡ (literal_value w before && list_all (λ l. literal_value w (literal_in table l)) c.constraints)
+  pub bads_are : (w : Valuation) → Satisfies new w → map (literal_value w) bads ≡ map (λ l. literal_value w (literal_in table l) && literal_value w met) (chosen choice c.bads)
 
 -- what the gates of an engine form say: literals for the circuit's variables, one for "all constraints held so far", and those of the bad properties
 pub record FormMade (c : Circuit) (choice : Option ℕ) (n : Net) (table : List ℕ) (met : ℕ) (bads : List ℕ) : Type 0 where
@@ -111,5 +111,5 @@ pub record FormMade (c : Circuit) (choice : Option ℕ) (n : Net) (table : List 
   pub input_bits : (w : Valuation) → bits_from 1 c.inputs (read table w) ≡ bits_from 1 c.inputs w
   pub latch_bits : (w : Valuation) → Satisfies n w → bits_from (suc c.inputs) (length c.latches) (read table w) ≡ read_latches c.latches (suc n.inputs) (suc c.inputs) (literal_value w (started_literal c)) w
   pub gates : (w : Valuation) → Satisfies n w → Satisfies (net c) (read table w)
-  pub met_is : (w : Valuation) → Satisfies n w → literal_value w met ≡ (literal_value w (before_literal c) && list_all (λ l. literal_value w (literal_of table l)) c.constraints)
-  pub bads_are : (w : Valuation) → Satisfies n w → map (literal_value w) bads ≡ map (λ l. literal_value w (literal_of table l) && literal_value w met) (chosen choice c.bads)
+  pub met_is : (w : Valuation) → Satisfies n w → literal_value w met ≡ (literal_value w (before_literal c) && list_all (λ l. literal_value w (literal_in table l)) c.constraints)
+  pub bads_are : (w : Valuation) → Satisfies n w → map (literal_value w) bads ≡ map (λ l. literal_value w (literal_in table l) && literal_value w met) (chosen choice c.bads)

@@ -4,8 +4,8 @@ use Rattle.aiger.specs.declared.circuit.Reset.TheVariants.{Zero, One, Free}
 use Rattle.aiger.specs.Circuit.{Circuit, fresh_circuit}
 
 -- a latch that begins with 1 and takes its negation, bad where it is 1
-abbrev pub toggler : Circuit
-toggler = record (fresh_circuit 0 1) { latches = record { next = 3; reset = One } ∷ []; bads = 2 ∷ [] }
+abbrev pub negated_toggler : Circuit
+negated_toggler = record (fresh_circuit 0 1) { latches = record { next = 3; reset = One } ∷ []; bads = 2 ∷ [] }
 
 -- its form: an input that nothing reads, and a latch that is the negation
 abbrev pub toggler_form : Circuit
@@ -69,8 +69,8 @@ abbrev pub conjunction_bad : Circuit
 conjunction_bad = record conjunction { outputs = []; bads = 6 ∷ [] }
 
 -- the same circuit where the latch begins with 1 and the input is to be 1, with a bad property, the input, and with names
-abbrev pub named : Circuit
-named =
+abbrev pub named_circuit : Circuit
+named_circuit =
     record conjunction {
       latches = record { next = 2; reset = One } ∷ [];
       bads = 2 ∷ [];
@@ -80,4 +80,4 @@ named =
 
 -- its output is its second bad property
 abbrev pub named_bad : Circuit
-named_bad = record named { outputs = []; bads = 2 ∷ 6 ∷ []; names = ((3, 0), codes "low") ∷ ((3, 1), codes "out") ∷ [] }
+named_bad = record named_circuit { outputs = []; bads = 2 ∷ 6 ∷ []; names = ((3, 0), codes "low") ∷ ((3, 1), codes "out") ∷ [] }

@@ -1,6 +1,6 @@
 //! Why a circuit has no engine form.
 ghost use Rattle.std.specs.Prelude.{◌≡◌};
-ghost use Rattle.engine.specs.Faults.{number_of, name_of};
+ghost use Rattle.engine.specs.Faults.{engine_fault_number, engine_fault_name};
 
 use std::alloc::AllocError;
 use std::fmt;
@@ -26,7 +26,7 @@ pub enum EngineFault {
 impl EngineFault {
     /// The number that is printed for the fault.
     pub fn number(self) -> u32
-        ensures { result ≡ number_of self }
+        ensures { result ≡ engine_fault_number self }
     {
         match self {
             EngineFault::Justice => 140,
@@ -40,7 +40,7 @@ impl EngineFault {
 
     /// The name that is printed for the fault.
     pub fn name(self) -> &'static str
-        ensures { result.now ≡ name_of self }
+        ensures { result.now ≡ engine_fault_name self }
     {
         match self {
             EngineFault::Justice => "Justice",

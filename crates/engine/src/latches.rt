@@ -4,7 +4,7 @@ ghost use Rattle.aiger.specs.declared.circuit.Reset.TheVariants.{Zero};
 ghost use Rattle.base.specs.Literal.{variable, negation};
 ghost use Rattle.aiger.specs.Net.{IsDefined, variables};
 ghost use Rattle.aiger.specs.Circuit.{IsCircuit, net, with_latch, fresh_latch};
-ghost use Rattle.gates.specs.Reads.{literal_of};
+ghost use Rattle.gates.specs.Reads.{literal_in};
 ghost use Rattle.engine.specs.EngineForm.{latch_count};
 ghost use Rattle.engine.specs.Reads.{kept_literal, kept_latch, sizes_of, form_latches};
 
@@ -16,7 +16,7 @@ use gates::{Table, literal_of};
 /// The literal that a latch takes: the negation of its next where it is kept as its negation.
 fn kept_next(table: &Table, latch: Latch) -> Lit
     requires { variable latch.next < length table.now }
-    ensures { result ≡ kept_literal latch.reset (literal_of table.now latch.next) }
+    ensures { result ≡ kept_literal latch.reset (literal_in table.now latch.next) }
 {
     let next = literal_of(table, latch.next);
     match latch.reset {

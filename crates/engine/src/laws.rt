@@ -4,12 +4,12 @@ ghost use Rattle.aiger.specs.declared.circuit.Reset.TheVariants.{Zero};
 ghost use Rattle.aiger.specs.declared.fault.CircuitFault.TheVariants.{TooBig};
 ghost use Rattle.base.specs.Literal.{Valuation, literal_value};
 ghost use Rattle.aiger.specs.Circuit.{Circuit, IsCircuit};
-ghost use Rattle.aiger.specs.Trace.{IsTrace, AreInitial};
+ghost use Rattle.aiger.specs.Trace.{IsCircuitTrace, AreInitial};
 ghost use Rattle.aiger.specs.Reachability.{circuit_shows, CanRiseInCircuit};
-ghost use Rattle.engine.specs.EngineForm.{IsEngineFormOf, ShowSame, begins, chosen};
+ghost use Rattle.engine.specs.EngineForm.{IsEngineFormOf, GoTogether, begins, chosen};
 ghost use Rattle.engine.specs.Outputs.{HasOutputsAsBads, OutputCanBeOne, outputs_refusal};
 ghost use Rattle.engine.specs.Refusal.{engine_bound, engine_refusal};
-ghost use Rattle.engine.specs.Worked.{toggler, toggler_form, stays_negated, keeper, keeper_form, begins_with_0, guarded, guarded_form, guarded_alone, either, second_form, outputs_alone, conjunction, conjunction_bad, named, named_bad};
+ghost use Rattle.engine.specs.Worked.{negated_toggler, toggler_form, stays_negated, keeper, keeper_form, begins_with_0, guarded, guarded_form, guarded_alone, either, second_form, outputs_alone, conjunction, conjunction_bad, named_circuit, named_bad};
 ghost use Rattle.engine.specs.declared.fault.EngineFault.TheVariants as fault;
 
 /// A law: a bad property of a circuit can rise, in a frame up to which all constraints hold, exactly where that of its
@@ -37,19 +37,19 @@ pub fn rises_in_as_many_frames()
 /// of the form one of the circuit from initial bits.
 pub fn traces_go_together()
     ensures of_circuit { (c : Circuit) (choice : Option ℕ) (d : Circuit) → IsEngineFormOf c choice d
-        → (state input : List Bool) (inputs : List (List Bool)) (vs : List Valuation) → AreInitial c.latches state → IsTrace c state (input ∷ inputs) vs
+        → (state input : List Bool) (inputs : List (List Bool)) (vs : List Valuation) → AreInitial c.latches state → IsCircuitTrace c state (input ∷ inputs) vs
         → (given : List (List Bool)) × (ws : List Valuation) × (begins c given ≡ state) × (map (take c.inputs) given ≡ input ∷ inputs)
-        × IsTrace d (replicate (length d.latches) false) given ws × ShowSame c choice d true true vs ws }
+        × IsCircuitTrace d (replicate (length d.latches) false) given ws × GoTogether c choice d true true vs ws }
     ensures of_form { (c : Circuit) (choice : Option ℕ) (d : Circuit) → IsEngineFormOf c choice d
-        → (given : List (List Bool)) (ws : List Valuation) → IsTrace d (replicate (length d.latches) false) given ws
-        → AreInitial c.latches (begins c given) × (vs : List Valuation) × IsTrace c (begins c given) (map (take c.inputs) given) vs × ShowSame c choice d true true vs ws }
+        → (given : List (List Bool)) (ws : List Valuation) → IsCircuitTrace d (replicate (length d.latches) false) given ws
+        → AreInitial c.latches (begins c given) × (vs : List Valuation) × IsCircuitTrace c (begins c given) (map (take c.inputs) given) vs × GoTogether c choice d true true vs ws }
 {
     aiger::laws::exactly_one_trace();
 }
 
 /// Worked rows: the circuits of the rows on engine forms are circuits.
 pub fn worked_circuits()
-    ensures toggler { IsCircuit toggler × IsCircuit toggler_form }
+    ensures toggler { IsCircuit negated_toggler × IsCircuit toggler_form }
     ensures keeper { IsCircuit keeper × IsCircuit keeper_form }
     ensures guarded { IsCircuit guarded × IsCircuit guarded_form }
     ensures either { IsCircuit either × IsCircuit second_form }
@@ -60,8 +60,8 @@ pub fn worked_circuits()
 /// latch begins with 0 whatever the input, one in which a constraint counts in its own frame alone, and the form of the
 /// other property.
 pub fn worked_forms()
-    ensures toggler { IsEngineFormOf toggler None toggler_form }
-    ensures stays_negated { ¬ IsEngineFormOf toggler None stays_negated }
+    ensures toggler { IsEngineFormOf negated_toggler None toggler_form }
+    ensures stays_negated { ¬ IsEngineFormOf negated_toggler None stays_negated }
     ensures keeper { IsEngineFormOf keeper None keeper_form }
     ensures begins_with_0 { ¬ IsEngineFormOf keeper None begins_with_0 }
     ensures guarded { IsEngineFormOf guarded None guarded_form }
@@ -81,7 +81,7 @@ pub fn nothing_without_a_bad_property()
 
 /// Worked rows: the variables at most, and what is refused.
 pub fn worked_refusals()
-    ensures toggler_bound { engine_bound toggler ≡ 3 }
+    ensures toggler_bound { engine_bound negated_toggler ≡ 3 }
     ensures keeper_bound { engine_bound keeper ≡ 7 }
     ensures guarded_bound { engine_bound guarded ≡ 4 }
     ensures accepted { engine_refusal keeper None ≡ None }
@@ -101,7 +101,7 @@ pub fn worked_refusals()
 pub fn outputs_rise_as_bads()
     ensures initial { (c d : Circuit) → HasOutputsAsBads c d → (state : List Bool) → AreInitial c.latches state ↔ AreInitial d.latches state }
     ensures traces { (c d : Circuit) → HasOutputsAsBads c d
-        → (state : List Bool) (inputs : List (List Bool)) (vs : List Valuation) → IsTrace c state inputs vs ↔ IsTrace d state inputs vs }
+        → (state : List Bool) (inputs : List (List Bool)) (vs : List Valuation) → IsCircuitTrace c state inputs vs ↔ IsCircuitTrace d state inputs vs }
     // In each frame, and so in those of the traces.
     ensures outputs_shown { (c d : Circuit) → HasOutputsAsBads c d
         → (v : Valuation) (k : ℕ) → slice_get (circuit_shows d v).bads (length c.bads + k) ≡ slice_get (map (literal_value v) c.outputs) k }
@@ -120,7 +120,7 @@ pub fn one_circuit_has_outputs_as_bads()
 /// Worked rows: the circuits of the rows on outputs are circuits.
 pub fn worked_output_circuits()
     ensures conjunction { IsCircuit conjunction × IsCircuit conjunction_bad }
-    ensures named { IsCircuit named × IsCircuit named_bad }
+    ensures named { IsCircuit named_circuit × IsCircuit named_bad }
 {
     aiger::laws::circuit_with_a_name();
 }
@@ -130,21 +130,21 @@ pub fn worked_output_circuits()
 /// one that gives its name to the older bad property, one whose latch begins otherwise, and one without the constraint.
 pub fn worked_outputs()
     ensures conjunction { HasOutputsAsBads conjunction conjunction_bad }
-    ensures named { HasOutputsAsBads named named_bad }
+    ensures named { HasOutputsAsBads named_circuit named_bad }
     ensures is_kept { ¬ HasOutputsAsBads conjunction (record conjunction_bad { outputs = 6 ∷ [] }) }
-    ensures is_forgotten { ¬ HasOutputsAsBads named (record named_bad { bads = 2 ∷ [] }) }
-    ensures is_first { ¬ HasOutputsAsBads named (record named_bad { bads = 6 ∷ 2 ∷ [] }) }
-    ensures loses_its_name { ¬ HasOutputsAsBads named (record named_bad { names = ((3, 0), codes "low") ∷ [] }) }
-    ensures takes_a_name { ¬ HasOutputsAsBads named (record named_bad { names = ((3, 0), codes "out") ∷ ((3, 1), codes "low") ∷ [] }) }
-    ensures begins_otherwise { ¬ HasOutputsAsBads named (record named_bad { latches = record { next = 2; reset = Zero } ∷ [] }) }
-    ensures drops_the_constraint { ¬ HasOutputsAsBads named (record named_bad { constraints = [] }) }
+    ensures is_forgotten { ¬ HasOutputsAsBads named_circuit (record named_bad { bads = 2 ∷ [] }) }
+    ensures is_first { ¬ HasOutputsAsBads named_circuit (record named_bad { bads = 6 ∷ 2 ∷ [] }) }
+    ensures loses_its_name { ¬ HasOutputsAsBads named_circuit (record named_bad { names = ((3, 0), codes "low") ∷ [] }) }
+    ensures takes_a_name { ¬ HasOutputsAsBads named_circuit (record named_bad { names = ((3, 0), codes "out") ∷ ((3, 1), codes "low") ∷ [] }) }
+    ensures begins_otherwise { ¬ HasOutputsAsBads named_circuit (record named_bad { latches = record { next = 2; reset = Zero } ∷ [] }) }
+    ensures drops_the_constraint { ¬ HasOutputsAsBads named_circuit (record named_bad { constraints = [] }) }
 {
     worked_output_circuits();
 }
 
 /// Worked rows: what is refused.
 pub fn worked_output_refusals()
-    ensures accepted { outputs_refusal named ≡ None }
+    ensures accepted { outputs_refusal named_circuit ≡ None }
     ensures too_big { (c : Circuit) → length c.bads + length c.outputs ≡ 1073741825 → outputs_refusal c ≡ Some TooBig }
     ensures greatest { (c : Circuit) → length c.bads + length c.outputs ≡ 1073741824 → outputs_refusal c ≡ None }
 {}

@@ -3,7 +3,7 @@ ghost use Rattle.std.specs.Prelude.{◌≡◌, ◌+◌, ◌≤◌, suc, true, le
 ghost use Rattle.aiger.specs.Limits.{greatest_count};
 ghost use Rattle.aiger.specs.Net.{IsDefined, variables};
 ghost use Rattle.aiger.specs.Circuit.{net};
-ghost use Rattle.gates.specs.Made.{Refuses};
+ghost use Rattle.gates.specs.Made.{RefusesGate};
 ghost use Rattle.engine.specs.EngineForm.{has_chosen, engine_cost};
 ghost use Rattle.engine.specs.Reads.{sizes_of, started_literal, before_literal, bare_net, PropertiesRead, FormMade};
 ghost use Rattle.engine.specs.Refusal.{engine_bound};
@@ -68,7 +68,7 @@ fn make_properties<G: Gates>(
     requires many { length table ≡ suc (variables (net circuit.now)) }
     requires table { All (IsDefined (G.made g.old)) table }
     ensures ok { IfOk result (λ l. (l.table ≡ table) × PropertiesRead circuit.now choice before (G.made g.old) (G.made g.new) table l.met l.bads.items) }
-    ensures refused { IfErr result (Refuses (G.made g.old) (G.made g.new) (length circuit.now.constraints + length circuit.now.bads)) }
+    ensures refused { IfErr result (RefusesGate (G.made g.old) (G.made g.new) (length circuit.now.constraints + length circuit.now.bads)) }
 {
     let met = all_hold(g, &table, circuit.constraints(), before)?;
     let bads = bad_literals(alloc, g, &table, chosen(circuit, choice), met)?;
@@ -90,7 +90,7 @@ pub(crate) fn make<G: Gates>(
     requires small { engine_bound circuit.now ≤ greatest_count }
     requires has_bad { has_chosen choice circuit.now.bads ≡ true }
     ensures ok { IfOk result (λ l. FormMade circuit.now choice (G.made g.new) l.table l.met l.bads.items) }
-    ensures refused { IfErr result (Refuses (bare_net circuit.now) (G.made g.new) (engine_cost circuit.now)) }
+    ensures refused { IfErr result (RefusesGate (bare_net circuit.now) (G.made g.new) (engine_cost circuit.now)) }
 {
     let table = variable_literals(alloc, g, sizes.inputs, started(circuit, sizes), circuit)?;
     make_properties(alloc, g, circuit, choice, before(circuit, sizes), table)

@@ -2,8 +2,8 @@
 ghost use Rattle.std.specs.Prelude.{◌<◌, length, All, IfOk, IfErr};
 ghost use Rattle.base.specs.Literal.{variable};
 ghost use Rattle.aiger.specs.Net.{IsDefined};
-ghost use Rattle.gates.specs.Made.{Refuses};
-ghost use Rattle.engine.specs.Reads.{BadsRead};
+ghost use Rattle.gates.specs.Made.{RefusesGate};
+ghost use Rattle.engine.specs.Reads.{BadLiteralsRead};
 
 use aiger::Lit;
 use gates::{GateFault, Gates, Table, literal_of};
@@ -20,8 +20,8 @@ pub(crate) fn bad_literals<G: Gates>(
     requires inside { All (λ l. variable l < length table.now) bads.now }
     requires defined { All (IsDefined (G.made g.old)) table.now }
     requires met { IsDefined (G.made g.old) met }
-    ensures ok { IfOk result (λ literals. BadsRead (G.made g.old) (G.made g.new) table.now bads.now met literals.items) }
-    ensures refused { IfErr result (Refuses (G.made g.old) (G.made g.new) (length bads.now)) }
+    ensures ok { IfOk result (λ literals. BadLiteralsRead (G.made g.old) (G.made g.new) table.now bads.now met literals.items) }
+    ensures refused { IfErr result (RefusesGate (G.made g.old) (G.made g.new) (length bads.now)) }
 {
     let mut literals = Vec::new(alloc);
     for bad in bads {

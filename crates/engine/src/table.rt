@@ -2,7 +2,7 @@
 ghost use Rattle.std.specs.Prelude.{◌≡◌, ◌+◌, ◌*◌, ◌≤◌, length, IfOk, IfErr};
 ghost use Rattle.aiger.specs.Limits.{greatest_count};
 ghost use Rattle.aiger.specs.Net.{variables, IsDefined};
-ghost use Rattle.gates.specs.Made.{Refuses};
+ghost use Rattle.gates.specs.Made.{RefusesGate};
 ghost use Rattle.engine.specs.EngineForm.{free_count};
 ghost use Rattle.engine.specs.Reads.{TableRead};
 
@@ -26,7 +26,7 @@ pub(crate) fn variable_literals<G: Gates>(
     requires started { IsDefined (G.made g.old) started }
     requires small { variables (G.made g.old) ≤ greatest_count }
     ensures ok { IfOk result (λ table. TableRead circuit.now started (G.made g.old) (G.made g.new) table) }
-    ensures refused { IfErr result (Refuses (G.made g.old) (G.made g.new) (length circuit.now.gates + 3 * free_count circuit.now.latches)) }
+    ensures refused { IfErr result (RefusesGate (G.made g.old) (G.made g.new) (length circuit.now.gates + 3 * free_count circuit.now.latches)) }
 {
     let own = inputs + 1;
     let mut table = Table::new(alloc, circuit.inputs());

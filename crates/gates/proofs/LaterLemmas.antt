@@ -6,7 +6,7 @@ use Rattle.base.specs.Literal.{negation}
 use Rattle.aiger.specs.Net.{Net, IsDefined}
 use Rattle.aiger.proofs.NetLemmas.{IsDefined-negation}
 use Rattle.gates.specs.declared.fault.GateFault.{GateFault}
-use Rattle.gates.specs.Made.{Grows, MakesLiteral, MakesWord, Refuses, word_value}
+use Rattle.gates.specs.Made.{Grows, MakesLiteral, MakesWord, RefusesGate, word_value}
 use Rattle.gates.specs.Operands.{AreOperands}
 use Rattle.gates.proofs.GrowthLemmas.{Grows-weaker, IsDefined-grown, All-defined-grown}
 
@@ -27,7 +27,7 @@ AreOperands-later old new most greatest a b more operands = record {
 }
 
 -- a refusal with a greater bound
-pub Refuses-weaker : (old new : Net) (few most : ℕ) (e : GateFault) → few ≤ most → Refuses old new few e → Refuses old new most e
+pub Refuses-weaker : (old new : Net) (few most : ℕ) (e : GateFault) → few ≤ most → RefusesGate old new few e → RefusesGate old new most e
 Refuses-weaker old new few most e le r = record {
   grows = Grows-weaker old new few most le r.grows;
   too_big = λ is. let full = r.too_big is in omega arith;

@@ -5,7 +5,7 @@ use Rattle.aiger.specs.Net.{Net}
 use Rattle.base.proofs.LiteralLemmas.{literal_value-negation}
 use Rattle.aiger.proofs.NetLemmas.{IsDefined-negation}
 use Rattle.gates.specs.declared.fault.GateFault.{GateFault}
-use Rattle.gates.specs.Made.{Grows, MakesAnd, MakesLiteral, Refuses}
+use Rattle.gates.specs.Made.{Grows, MakesAnd, MakesLiteral, RefusesGate}
 use Rattle.gates.proofs.GrowthLemmas.{Grows-weaker, Grows-trans, Satisfies-earlier, variables-grown, IsDefined-grown}
 
 -- the and of two literals is such a literal
@@ -57,7 +57,7 @@ MakesLiteral-join a b c d m n k x y l f g h first second third =
     }
 
 -- a refusal behind gates that were made before
-pub Refuses-behind : (old mid new : Net) (m n most : ℕ) (e : GateFault) → m + n ≤ most → Grows old mid m → Refuses mid new n e → Refuses old new most e
+pub Refuses-behind : (old mid new : Net) (m n most : ℕ) (e : GateFault) → m + n ≤ most → Grows old mid m → RefusesGate mid new n e → RefusesGate old new most e
 Refuses-behind old mid new m n most e le before r = record {
   grows = Grows-weaker old new (m + n) most le (Grows-trans old mid new m n before r.grows);
   too_big = λ is. let more = variables-grown old mid m before in let full = r.too_big is in omega arith;

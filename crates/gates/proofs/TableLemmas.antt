@@ -16,10 +16,10 @@ use Rattle.aiger.proofs.TraceLemmas.{AgreeBelow, literal_value-agree}
 use Rattle.gates.specs.Made.{Grows, MakesAnd, MakesLiteral}
 use Rattle.gates.proofs.GrowthLemmas.{Grows-trans, Grows-weaker, Satisfies-earlier, All-defined-grown}
 use Rattle.gates.proofs.LiteralLemmas.{MakesLiteral-and, MakesLiteral-then, MakesLiteral-same}
-use Rattle.gates.specs.Reads.{read, literal_of, GatesRead}
+use Rattle.gates.specs.Reads.{read, literal_in, GatesRead}
 
 -- a literal that stands for one is defined
-pub IsDefined-literal_of : (n : Net) (table : List ℕ) (l : ℕ) → variable l < length table → All (IsDefined n) table → IsDefined n (literal_of table l)
+pub IsDefined-literal_of : (n : Net) (table : List ℕ) (l : ℕ) → variable l < length table → All (IsDefined n) table → IsDefined n (literal_in table l)
 IsDefined-literal_of n table l inside all = by (l % 2 == 0)
   where
     own : IsDefined n (get_or table (variable l) 0)
@@ -30,7 +30,7 @@ IsDefined-literal_of n table l inside all = by (l % 2 == 0)
     by false = IsDefined-negation n (get_or table (variable l) 0) own
 
 -- and says in a valuation what the literal says in the valuation of the circuit
-pub value-literal_of : (table : List ℕ) (w : Valuation) (l : ℕ) → get_or table 0 0 ≡ 0 → literal_value w (literal_of table l) ≡ literal_value (read table w) l
+pub value-literal_of : (table : List ℕ) (w : Valuation) (l : ℕ) → get_or table 0 0 ≡ 0 → literal_value w (literal_in table l) ≡ literal_value (read table w) l
 value-literal_of table w zero z = ap (literal_value w) z
 value-literal_of table w (suc zero) z = ap (λ (k : ℕ). literal_value w (negation k)) z
 value-literal_of table w (suc (suc l)) z =
@@ -42,17 +42,17 @@ and_again true b d = refl
 and_again false b d = refl
 
 -- one constraint more
-pub hold-more : (old mid new : Net) (table ls : List ℕ) (met i x l lit m : ℕ) → i < length ls → x ≡ get_or ls i x → lit ≡ literal_of table x
-    → MakesLiteral old mid i (λ v. literal_value v met && list_all (λ y. literal_value v (literal_of table y)) (take i ls)) l → MakesAnd mid new l lit m
-    → MakesLiteral old new (i + 1) (λ v. literal_value v met && list_all (λ y. literal_value v (literal_of table y)) (take (i + 1) ls)) m
+pub hold-more : (old mid new : Net) (table ls : List ℕ) (met i x l lit m : ℕ) → i < length ls → x ≡ get_or ls i x → lit ≡ literal_in table x
+    → MakesLiteral old mid i (λ v. literal_value v met && list_all (λ y. literal_value v (literal_in table y)) (take i ls)) l → MakesAnd mid new l lit m
+    → MakesLiteral old new (i + 1) (λ v. literal_value v met && list_all (λ y. literal_value v (literal_in table y)) (take (i + 1) ls)) m
 hold-more old mid new table ls met i x l lit m inside at is before made =
-    MakesLiteral-same old new (i + 1) (i + 1) m _ (λ v. literal_value v met && list_all (λ y. literal_value v (literal_of table y)) (take (i + 1) ls)) (omega arith)
+    MakesLiteral-same old new (i + 1) (i + 1) m _ (λ v. literal_value v met && list_all (λ y. literal_value v (literal_in table y)) (take (i + 1) ls)) (omega arith)
     (λ v.
-    and_again (literal_value v met) (list_all (λ y. literal_value v (literal_of table y)) (take i ls)) (literal_value v lit)
+    and_again (literal_value v met) (list_all (λ y. literal_value v (literal_in table y)) (take i ls)) (literal_value v lit)
     ∙ ap (λ b. literal_value v met && b)
-    (ap (λ (k : ℕ). list_all (λ y. literal_value v (literal_of table y)) (take i ls) && literal_value v k) (is ∙ ap (literal_of table) at)
-    ∙ sym (list_all_more (λ y. literal_value v (literal_of table y)) ls i x inside)))
-    (MakesLiteral-then old mid new i 1 l m (λ v. literal_value v met && list_all (λ y. literal_value v (literal_of table y)) (take i ls)) (λ v b. b && literal_value v lit) before (MakesLiteral-and mid new l lit m made))
+    (ap (λ (k : ℕ). list_all (λ y. literal_value v (literal_in table y)) (take i ls) && literal_value v k) (is ∙ ap (literal_in table) at)
+    ∙ sym (list_all_more (λ y. literal_value v (literal_in table y)) ls i x inside)))
+    (MakesLiteral-then old mid new i 1 l m (λ v. literal_value v met && list_all (λ y. literal_value v (literal_in table y)) (take i ls)) (λ v b. b && literal_value v lit) before (MakesLiteral-and mid new l lit m made))
 
 -- what satisfies gates up to a variable does so whatever is above it
 pub satisfied-agree : (first : ℕ) (gs : List Gate) (v w : Valuation) → 1 ≤ first → AreOrderedFrom first gs → AgreeBelow (first + length gs) v w → SatisfiesFrom first gs v → SatisfiesFrom first gs w
@@ -80,7 +80,7 @@ ordered-at first (suc i) (g ∷ gs) d h o =
 -- one gate more
 pub gates-more : (old mid new : Net) (gs : List Gate) (before more : List ℕ) (i : ℕ) (g : Gate) (a b m : ℕ)
     → AreOrderedFrom (length before) gs → 0 < length before → get_or before 0 0 ≡ 0 → i < length gs → g ≡ get_or gs i g
-    → a ≡ literal_of (before ++ more) g.rhs0 → b ≡ literal_of (before ++ more) g.rhs1
+    → a ≡ literal_in (before ++ more) g.rhs0 → b ≡ literal_in (before ++ more) g.rhs1
     → GatesRead old mid (length before) (take i gs) before more → MakesAnd mid new a b m
     → GatesRead old new (length before) (take (i + 1) gs) before (more ++ m ∷ [])
 gates-more old mid new gs before more i g a b m ordered some zeroed inside at is_a is_b done made =

@@ -4,11 +4,11 @@ use Rattle.gates.specs.declared.fault.GateFault.{GateFault}
 use Rattle.gates.specs.declared.fault.GateFault.TheVariants.{TooBig, NoMemory}
 
 -- the number that is printed for a refusal
-abbrev pub number_of : GateFault → ℕ
-number_of TooBig = 80
-number_of NoMemory = 81
+abbrev pub gate_fault_number : GateFault → ℕ
+gate_fault_number TooBig = 80
+gate_fault_number NoMemory = 81
 
 -- the name that is printed for a refusal
-abbrev pub name_of : GateFault → List ℕ
-name_of TooBig = codes "TooBig"
-name_of NoMemory = codes "NoMemory"
+abbrev pub gate_fault_name : GateFault → List ℕ
+gate_fault_name TooBig = codes "TooBig"
+gate_fault_name NoMemory = codes "NoMemory"

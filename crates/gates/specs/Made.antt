@@ -39,7 +39,7 @@ pub record MakesWord (old new : Net) (most width : ℕ) (meaning : Valuation →
   pub means : (v : Valuation) → Satisfies new v → word_value v bits ≡ meaning v
 
 -- a refused maker keeps the gates made so far; it says that the circuit is too big only where so many gates more may not fit
-pub record Refuses (old new : Net) (most : ℕ) (e : GateFault) : Type 0 where
+pub record RefusesGate (old new : Net) (most : ℕ) (e : GateFault) : Type 0 where
   pub grows : Grows old new most
   pub too_big : e ≡ fault.TooBig → greatest_count < variables old + most
 

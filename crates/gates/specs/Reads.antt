@@ -10,8 +10,8 @@ abbrev pub read : List ℕ → Valuation → Valuation
 read table w k = literal_value w (slice_index table k)
 
 -- the literal that stands for a literal of the circuit
-abbrev pub literal_of : List ℕ → ℕ → ℕ
-literal_of table l = if l % 2 == 0 then slice_index table (variable l) else negation (slice_index table (variable l))
+abbrev pub literal_in : List ℕ → ℕ → ℕ
+literal_in table l = if l % 2 == 0 then slice_index table (variable l) else negation (slice_index table (variable l))
 
 -- literals that stand for gates, behind those that stand for the variables below them
 pub record GatesRead (old new : Net) (first : ℕ) (gates : List Gate) (before more : List ℕ) : Type 0 where

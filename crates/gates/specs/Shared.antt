@@ -4,7 +4,7 @@ use Rattle.std.specs.List.{AllPairs}
 use Rattle.std.specs.Option.{option_map, option_or}
 use Rattle.aiger.specs.declared.circuit.Gate.{Gate}
 use Rattle.base.specs.Literal.{Valuation, variable, negation}
-use Rattle.aiger.specs.Net.{Net, Satisfies, input_bits, latch_bits}
+use Rattle.aiger.specs.Net.{Net, Satisfies, net_input_bits, latch_bits}
 use Rattle.gates.specs.Made.{AreSame}
 
 -- the and of two literals where it needs no gate: false of false and of a literal and its negation, the other one of true, and the one of two equal ones
@@ -45,7 +45,7 @@ pub record AreShared (gates : List Gate) : Type 0 where
 pub record HasValuation (n : Net) (inputs latches : List Bool) : Type 0 where
   pub valuation : Valuation
   pub gates : Satisfies n valuation
-  pub input_bits_are : input_bits n valuation ≡ inputs
+  pub input_bits_are : net_input_bits n valuation ≡ inputs
   pub latch_bits_are : latch_bits n valuation ≡ latches
 
 -- a net that any bits of inputs and latches have a valuation of

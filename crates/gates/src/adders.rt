@@ -4,7 +4,7 @@ ghost use Rattle.base.specs.Operator.{unary_value, binary_value};
 ghost use Rattle.aiger.specs.Net.{IsDefined};
 ghost use Rattle.base.specs.Literal.{negation};
 ghost use Rattle.gates.specs.Operands.{AreOperands};
-ghost use Rattle.gates.specs.Made.{MakesWord, Refuses, word_value};
+ghost use Rattle.gates.specs.Made.{MakesWord, RefusesGate, word_value};
 ghost use Rattle.gates.specs.Sums.{literal_number, MakesColumn, MakesSum};
 
 use crate::bit_lists::{negation, repeated};
@@ -37,7 +37,7 @@ fn half_adder<G: Gates>(g: &mut G, a: Lit, b: Lit) -> Result<Column, GateFault>
     requires left { IsDefined (G.made g.old) a }
     requires right { IsDefined (G.made g.old) b }
     ensures ok { IfOk result (λ c. MakesColumn (G.made g.old) (G.made g.new) 3 (λ v. literal_number v a + literal_number v b) c.sum c.carry) }
-    ensures refused { IfErr result (Refuses (G.made g.old) (G.made g.new) 3) }
+    ensures refused { IfErr result (RefusesGate (G.made g.old) (G.made g.new) 3) }
 {
     let both = g.and(a, b)?;
     let neither = g.and(a.not(), b.not())?;
@@ -50,7 +50,7 @@ fn adder_with_one<G: Gates>(g: &mut G, a: Lit, b: Lit) -> Result<Column, GateFau
     requires left { IsDefined (G.made g.old) a }
     requires right { IsDefined (G.made g.old) b }
     ensures ok { IfOk result (λ c. MakesColumn (G.made g.old) (G.made g.new) 4 (λ v. literal_number v a + literal_number v b + 1) c.sum c.carry) }
-    ensures refused { IfErr result (Refuses (G.made g.old) (G.made g.new) 4) }
+    ensures refused { IfErr result (RefusesGate (G.made g.old) (G.made g.new) 4) }
 {
     let two = half_adder(g, a, b)?;
     let carry = disjunction(g, a, b)?;
@@ -66,7 +66,7 @@ fn full_adder<G: Gates>(g: &mut G, a: Lit, b: Lit, c: Lit) -> Result<Column, Gat
     requires right { IsDefined (G.made g.old) b }
     requires carry { IsDefined (G.made g.old) c }
     ensures ok { IfOk result (λ column. MakesColumn (G.made g.old) (G.made g.new) 7 (λ v. literal_number v a + literal_number v b + literal_number v c) column.sum column.carry) }
-    ensures refused { IfErr result (Refuses (G.made g.old) (G.made g.new) 7) }
+    ensures refused { IfErr result (RefusesGate (G.made g.old) (G.made g.new) 7) }
 {
     if c == Lit::TRUE {
         return adder_with_one(g, a, b);
@@ -92,7 +92,7 @@ fn columns<G: Gates>(
     requires carry { IsDefined (G.made g.old) carry }
     requires inside { count ≤ length a.now }
     ensures ok { IfOk result (λ added. MakesSum (G.made g.old) (G.made g.new) (7 * count) (take count a.now) (take count b.now) carry added.sum.items added.into_top added.out) }
-    ensures refused { IfErr result (Refuses (G.made g.old) (G.made g.new) (7 * count)) }
+    ensures refused { IfErr result (RefusesGate (G.made g.old) (G.made g.new) (7 * count)) }
 {
     let mut sum = Bits::new();
     let mut into_top = carry;
@@ -114,7 +114,7 @@ pub fn add<G: Gates>(g: &mut G, a: &[Lit], b: &[Lit], carry: Lit) -> Result<Adde
     requires operands { AreOperands (G.made g.old) 128 a.now b.now }
     requires carry { IsDefined (G.made g.old) carry }
     ensures ok { IfOk result (λ added. MakesSum (G.made g.old) (G.made g.new) (9 * length a.now) a.now b.now carry added.sum.items added.into_top added.out) }
-    ensures refused { IfErr result (Refuses (G.made g.old) (G.made g.new) (9 * length a.now)) }
+    ensures refused { IfErr result (RefusesGate (G.made g.old) (G.made g.new) (9 * length a.now)) }
 {
     columns(g, a, b, carry, a.len())
 }
@@ -129,7 +129,7 @@ pub(crate) fn sum_bits<G: Gates>(
     requires operands { AreOperands (G.made g.old) 128 a.now b.now }
     requires carry { IsDefined (G.made g.old) carry }
     ensures ok { IfOk result (λ bits. let n = length a.now in MakesWord (G.made g.old) (G.made g.new) (9 * n) n (λ v. (word_value v a.now + word_value v b.now + literal_number v carry) % 2 ^ n) bits.items) }
-    ensures refused { IfErr result (Refuses (G.made g.old) (G.made g.new) (9 * length a.now)) }
+    ensures refused { IfErr result (RefusesGate (G.made g.old) (G.made g.new) (9 * length a.now)) }
 {
     let top = a.len() - 1;
     let low = columns(g, a, b, carry, top)?;
@@ -144,7 +144,7 @@ pub(crate) fn sum_bits<G: Gates>(
 pub(crate) fn difference<G: Gates>(g: &mut G, a: &[Lit], b: &[Lit]) -> Result<Added, GateFault>
     requires { AreOperands (G.made g.old) 128 a.now b.now }
     ensures ok { IfOk result (λ added. MakesSum (G.made g.old) (G.made g.new) (9 * length a.now) a.now (map negation b.now) 1 added.sum.items added.into_top added.out) }
-    ensures refused { IfErr result (Refuses (G.made g.old) (G.made g.new) (9 * length a.now)) }
+    ensures refused { IfErr result (RefusesGate (G.made g.old) (G.made g.new) (9 * length a.now)) }
 {
     add(g, a, negation(b).as_slice(), Lit::TRUE)
 }
@@ -153,7 +153,7 @@ pub(crate) fn difference<G: Gates>(g: &mut G, a: &[Lit], b: &[Lit]) -> Result<Ad
 pub(crate) fn add_bits<G: Gates>(g: &mut G, a: &[Lit], b: &[Lit]) -> Result<Bits, GateFault>
     requires { AreOperands (G.made g.old) 64 a.now b.now }
     ensures ok { IfOk result (λ bits. let n = length a.now in MakesWord (G.made g.old) (G.made g.new) (9 * n) n (λ v. binary_value Binary.Add n (word_value v a.now) (word_value v b.now)) bits.items) }
-    ensures refused { IfErr result (Refuses (G.made g.old) (G.made g.new) (9 * length a.now)) }
+    ensures refused { IfErr result (RefusesGate (G.made g.old) (G.made g.new) (9 * length a.now)) }
 {
     sum_bits(g, a, b, Lit::FALSE)
 }
@@ -162,7 +162,7 @@ pub(crate) fn add_bits<G: Gates>(g: &mut G, a: &[Lit], b: &[Lit]) -> Result<Bits
 pub(crate) fn sub_bits<G: Gates>(g: &mut G, a: &[Lit], b: &[Lit]) -> Result<Bits, GateFault>
     requires { AreOperands (G.made g.old) 64 a.now b.now }
     ensures ok { IfOk result (λ bits. let n = length a.now in MakesWord (G.made g.old) (G.made g.new) (9 * n) n (λ v. binary_value Binary.Sub n (word_value v a.now) (word_value v b.now)) bits.items) }
-    ensures refused { IfErr result (Refuses (G.made g.old) (G.made g.new) (9 * length a.now)) }
+    ensures refused { IfErr result (RefusesGate (G.made g.old) (G.made g.new) (9 * length a.now)) }
 {
     sum_bits(g, a, negation(b).as_slice(), Lit::TRUE)
 }
@@ -173,7 +173,7 @@ pub(crate) fn neg_bits<G: Gates>(g: &mut G, a: &[Lit]) -> Result<Bits, GateFault
     requires most { length a.now ≤ 64 }
     requires defined { All (IsDefined (G.made g.old)) a.now }
     ensures ok { IfOk result (λ bits. let n = length a.now in MakesWord (G.made g.old) (G.made g.new) (9 * n) n (λ v. unary_value Unary.Neg n (word_value v a.now)) bits.items) }
-    ensures refused { IfErr result (Refuses (G.made g.old) (G.made g.new) (9 * length a.now)) }
+    ensures refused { IfErr result (RefusesGate (G.made g.old) (G.made g.new) (9 * length a.now)) }
 {
     let sum = difference(g, repeated(Lit::FALSE, a.len()).as_slice(), a)?;
     Ok(sum.sum)
@@ -185,7 +185,7 @@ pub(crate) fn inc_bits<G: Gates>(g: &mut G, a: &[Lit]) -> Result<Bits, GateFault
     requires most { length a.now ≤ 64 }
     requires defined { All (IsDefined (G.made g.old)) a.now }
     ensures ok { IfOk result (λ bits. let n = length a.now in MakesWord (G.made g.old) (G.made g.new) (9 * n) n (λ v. unary_value Unary.Inc n (word_value v a.now)) bits.items) }
-    ensures refused { IfErr result (Refuses (G.made g.old) (G.made g.new) (9 * length a.now)) }
+    ensures refused { IfErr result (RefusesGate (G.made g.old) (G.made g.new) (9 * length a.now)) }
 {
     let sum = add(g, a, repeated(Lit::FALSE, a.len()).as_slice(), Lit::TRUE)?;
     Ok(sum.sum)
@@ -197,7 +197,7 @@ pub(crate) fn dec_bits<G: Gates>(g: &mut G, a: &[Lit]) -> Result<Bits, GateFault
     requires most { length a.now ≤ 64 }
     requires defined { All (IsDefined (G.made g.old)) a.now }
     ensures ok { IfOk result (λ bits. let n = length a.now in MakesWord (G.made g.old) (G.made g.new) (9 * n) n (λ v. unary_value Unary.Dec n (word_value v a.now)) bits.items) }
-    ensures refused { IfErr result (Refuses (G.made g.old) (G.made g.new) (9 * length a.now)) }
+    ensures refused { IfErr result (RefusesGate (G.made g.old) (G.made g.new) (9 * length a.now)) }
 {
     let negated = inc_bits(g, negation(a).as_slice())?;
     Ok(negation(negated.as_slice()))

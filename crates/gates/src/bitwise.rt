@@ -5,7 +5,7 @@ ghost use Rattle.base.specs.Operator.{ones, unary_value, binary_value};
 ghost use Rattle.aiger.specs.Net.{IsDefined};
 ghost use Rattle.base.specs.Literal.{literal_value};
 ghost use Rattle.gates.specs.Operands.{AreOperands};
-ghost use Rattle.gates.specs.Made.{MakesLiteral, MakesWord, Refuses, word_value};
+ghost use Rattle.gates.specs.Made.{MakesLiteral, MakesWord, RefusesGate, word_value};
 ghost use Rattle.gates.specs.Bound.{unary_bound, binary_bound};
 ghost use Rattle.gates.specs.Connect.{connected, connected_words, connected_bits, connective_bound, words_bound, reduction_by};
 
@@ -31,7 +31,7 @@ fn connect<G: Gates>(g: &mut G, by: Connective, a: Lit, b: Lit) -> Result<Lit, G
     requires left { IsDefined (G.made g.old) a }
     requires right { IsDefined (G.made g.old) b }
     ensures ok { IfOk result (MakesLiteral (G.made g.old) (G.made g.new) (connective_bound by) (λ v. connected by (literal_value v a) (literal_value v b))) }
-    ensures refused { IfErr result (Refuses (G.made g.old) (G.made g.new) (connective_bound by)) }
+    ensures refused { IfErr result (RefusesGate (G.made g.old) (G.made g.new) (connective_bound by)) }
 {
     match by {
         Connective::And => g.and(a, b),
@@ -49,7 +49,7 @@ pub(crate) fn connect_words<G: Gates>(
 ) -> Result<Bits, GateFault>
     requires { AreOperands (G.made g.old) 64 a.now b.now }
     ensures ok { IfOk result (λ bits. let n = length a.now in MakesWord (G.made g.old) (G.made g.new) (words_bound by n) n (λ v. connected_words by (word_value v a.now) (word_value v b.now)) bits.items) }
-    ensures refused { IfErr result (Refuses (G.made g.old) (G.made g.new) (words_bound by (length a.now))) }
+    ensures refused { IfErr result (RefusesGate (G.made g.old) (G.made g.new) (words_bound by (length a.now))) }
 {
     let mut bits = Bits::new();
     for i in 0..a.len() {
@@ -63,7 +63,7 @@ pub(crate) fn connect_bits<G: Gates>(g: &mut G, by: Connective, a: &[Lit]) -> Re
     requires most { length a.now ≤ 64 }
     requires defined { All (IsDefined (G.made g.old)) a.now }
     ensures ok { IfOk result (MakesLiteral (G.made g.old) (G.made g.new) (words_bound by (length a.now)) (λ v. connected_bits by (length a.now) (word_value v a.now))) }
-    ensures refused { IfErr result (Refuses (G.made g.old) (G.made g.new) (words_bound by (length a.now))) }
+    ensures refused { IfErr result (RefusesGate (G.made g.old) (G.made g.new) (words_bound by (length a.now))) }
 {
     let mut all = match by {
         Connective::And => Lit::TRUE,
@@ -84,7 +84,7 @@ pub(crate) fn connect_negated<G: Gates>(
 ) -> Result<Bits, GateFault>
     requires { AreOperands (G.made g.old) 64 a.now b.now }
     ensures ok { IfOk result (λ bits. let n = length a.now in MakesWord (G.made g.old) (G.made g.new) (words_bound by n) n (λ v. ones n - connected_words by (word_value v a.now) (word_value v b.now)) bits.items) }
-    ensures refused { IfErr result (Refuses (G.made g.old) (G.made g.new) (words_bound by (length a.now))) }
+    ensures refused { IfErr result (RefusesGate (G.made g.old) (G.made g.new) (words_bound by (length a.now))) }
 {
     let bits = connect_words(g, by, a, b)?;
     Ok(negation(bits.as_slice()))
@@ -95,7 +95,7 @@ pub(crate) fn reduction<G: Gates>(g: &mut G, by: Connective, a: &[Lit]) -> Resul
     requires most { length a.now ≤ 64 }
     requires defined { All (IsDefined (G.made g.old)) a.now }
     ensures ok { IfOk result (λ bits. let n = length a.now in MakesWord (G.made g.old) (G.made g.new) (unary_bound (reduction_by by) n) 1 (λ v. unary_value (reduction_by by) n (word_value v a.now)) bits.items) }
-    ensures refused { IfErr result (Refuses (G.made g.old) (G.made g.new) (unary_bound (reduction_by by) (length a.now))) }
+    ensures refused { IfErr result (RefusesGate (G.made g.old) (G.made g.new) (unary_bound (reduction_by by) (length a.now))) }
 {
     let lit = connect_bits(g, by, a)?;
     Ok(one_bit(lit))
@@ -108,7 +108,7 @@ pub(crate) fn reduction<G: Gates>(g: &mut G, by: Connective, a: &[Lit]) -> Resul
 pub fn equal<G: Gates>(g: &mut G, a: &[Lit], b: &[Lit]) -> Result<Lit, GateFault>
     requires { AreOperands (G.made g.old) 64 a.now b.now }
     ensures ok { IfOk result (MakesLiteral (G.made g.old) (G.made g.new) (binary_bound binary.Eq (length a.now)) (λ v. word_value v a.now == word_value v b.now)) }
-    ensures refused { IfErr result (Refuses (G.made g.old) (G.made g.new) (binary_bound binary.Eq (length a.now))) }
+    ensures refused { IfErr result (RefusesGate (G.made g.old) (G.made g.new) (binary_bound binary.Eq (length a.now))) }
 {
     let differing = connect_words(g, Connective::Xor, a, b)?;
     let differ = connect_bits(g, Connective::Or, differing.as_slice())?;
@@ -119,7 +119,7 @@ pub fn equal<G: Gates>(g: &mut G, a: &[Lit], b: &[Lit]) -> Result<Lit, GateFault
 pub(crate) fn eq<G: Gates>(g: &mut G, a: &[Lit], b: &[Lit]) -> Result<Bits, GateFault>
     requires { AreOperands (G.made g.old) 64 a.now b.now }
     ensures ok { IfOk result (λ bits. let n = length a.now in MakesWord (G.made g.old) (G.made g.new) (binary_bound binary.Eq n) 1 (λ v. binary_value binary.Eq n (word_value v a.now) (word_value v b.now)) bits.items) }
-    ensures refused { IfErr result (Refuses (G.made g.old) (G.made g.new) (binary_bound binary.Eq (length a.now))) }
+    ensures refused { IfErr result (RefusesGate (G.made g.old) (G.made g.new) (binary_bound binary.Eq (length a.now))) }
 {
     let lit = equal(g, a, b)?;
     Ok(one_bit(lit))
@@ -129,7 +129,7 @@ pub(crate) fn eq<G: Gates>(g: &mut G, a: &[Lit], b: &[Lit]) -> Result<Bits, Gate
 pub(crate) fn neq<G: Gates>(g: &mut G, a: &[Lit], b: &[Lit]) -> Result<Bits, GateFault>
     requires { AreOperands (G.made g.old) 64 a.now b.now }
     ensures ok { IfOk result (λ bits. let n = length a.now in MakesWord (G.made g.old) (G.made g.new) (binary_bound binary.Neq n) 1 (λ v. binary_value binary.Neq n (word_value v a.now) (word_value v b.now)) bits.items) }
-    ensures refused { IfErr result (Refuses (G.made g.old) (G.made g.new) (binary_bound binary.Neq (length a.now))) }
+    ensures refused { IfErr result (RefusesGate (G.made g.old) (G.made g.new) (binary_bound binary.Neq (length a.now))) }
 {
     let lit = equal(g, a, b)?;
     Ok(one_bit(lit.not()))
@@ -140,7 +140,7 @@ pub(crate) fn implies<G: Gates>(g: &mut G, a: &[Lit], b: &[Lit]) -> Result<Bits,
     requires bit { length a.now ≡ 1 }
     requires operands { AreOperands (G.made g.old) 64 a.now b.now }
     ensures ok { IfOk result (λ bits. MakesWord (G.made g.old) (G.made g.new) 1 1 (λ v. binary_value binary.Implies 1 (word_value v a.now) (word_value v b.now)) bits.items) }
-    ensures refused { IfErr result (Refuses (G.made g.old) (G.made g.new) 1) }
+    ensures refused { IfErr result (RefusesGate (G.made g.old) (G.made g.new) 1) }
 {
     let lit = disjunction(g, a[0].not(), b[0])?;
     Ok(one_bit(lit))

@@ -4,7 +4,7 @@ ghost use Rattle.base.specs.Operator.{unary_value, binary_value};
 ghost use Rattle.base.specs.Widths.{is_of_bits, unary_width, binary_width};
 ghost use Rattle.aiger.specs.Net.{IsDefined};
 ghost use Rattle.gates.specs.Operands.{AreOperands};
-ghost use Rattle.gates.specs.Made.{MakesWord, Refuses, word_value};
+ghost use Rattle.gates.specs.Made.{MakesWord, RefusesGate, word_value};
 ghost use Rattle.gates.specs.Bound.{unary_bound, binary_bound};
 
 use crate::adders::{add_bits, dec_bits, inc_bits, neg_bits, sub_bits};
@@ -30,7 +30,7 @@ pub fn unary_bits<G: Gates>(g: &mut G, op: Unary, a: &[Lit]) -> Result<Bits, Gat
     requires most { length a.now ≤ 64 }
     requires defined { All (IsDefined (G.made g.old)) a.now }
     ensures ok { IfOk result (λ bits. let n = length a.now in MakesWord (G.made g.old) (G.made g.new) (unary_bound op n) (unary_width op n) (λ v. unary_value op n (word_value v a.now)) bits.items) }
-    ensures refused { IfErr result (Refuses (G.made g.old) (G.made g.new) (unary_bound op (length a.now))) }
+    ensures refused { IfErr result (RefusesGate (G.made g.old) (G.made g.new) (unary_bound op (length a.now))) }
 {
     match op {
         Unary::Not => Ok(negation(a)),
@@ -52,7 +52,7 @@ pub fn binary_bits<G: Gates>(g: &mut G, op: Binary, a: &[Lit], b: &[Lit]) -> Res
     requires of_bits { is_of_bits op ≡ true → length a.now ≡ 1 }
     requires operands { AreOperands (G.made g.old) 64 a.now b.now }
     ensures ok { IfOk result (λ bits. let n = length a.now in MakesWord (G.made g.old) (G.made g.new) (binary_bound op n) (binary_width op n) (λ v. binary_value op n (word_value v a.now) (word_value v b.now)) bits.items) }
-    ensures refused { IfErr result (Refuses (G.made g.old) (G.made g.new) (binary_bound op (length a.now))) }
+    ensures refused { IfErr result (RefusesGate (G.made g.old) (G.made g.new) (binary_bound op (length a.now))) }
 {
     match op {
         Binary::Iff => connect_negated(g, Connective::Xor, a, b),

@@ -6,7 +6,7 @@ ghost use Rattle.base.specs.Widths.{binary_width};
 ghost use Rattle.aiger.specs.Net.{IsDefined};
 ghost use Rattle.gates.specs.Bound.{binary_bound};
 ghost use Rattle.gates.specs.Operands.{AreOperands};
-ghost use Rattle.gates.specs.Made.{MakesLiteral, MakesWord, Refuses, word_value};
+ghost use Rattle.gates.specs.Made.{MakesLiteral, MakesWord, RefusesGate, word_value};
 ghost use Rattle.gates.specs.Sums.{literal_number};
 ghost use Rattle.gates.specs.Tests.{is_comparison, with_top_negated};
 
@@ -24,7 +24,7 @@ pub(crate) fn less_column<G: Gates>(g: &mut G, a: Lit, b: Lit, below: Lit) -> Re
     requires right { IsDefined (G.made g.old) b }
     requires below { IsDefined (G.made g.old) below }
     ensures ok { IfOk result (MakesLiteral (G.made g.old) (G.made g.new) 4 (λ v. nat_lt (literal_number v a) (literal_number v b + literal_number v below))) }
-    ensures refused { IfErr result (Refuses (G.made g.old) (G.made g.new) 4) }
+    ensures refused { IfErr result (RefusesGate (G.made g.old) (G.made g.new) 4) }
 {
     let less = g.and(a.not(), b)?;
     if below == Lit::FALSE {
@@ -42,7 +42,7 @@ pub(crate) fn less_column<G: Gates>(g: &mut G, a: Lit, b: Lit, below: Lit) -> Re
 pub fn less<G: Gates>(g: &mut G, a: &[Lit], b: &[Lit]) -> Result<Lit, GateFault>
     requires { AreOperands (G.made g.old) 64 a.now b.now }
     ensures ok { IfOk result (MakesLiteral (G.made g.old) (G.made g.new) (6 * length a.now) (λ v. nat_lt (word_value v a.now) (word_value v b.now))) }
-    ensures refused { IfErr result (Refuses (G.made g.old) (G.made g.new) (6 * length a.now)) }
+    ensures refused { IfErr result (RefusesGate (G.made g.old) (G.made g.new) (6 * length a.now)) }
 {
     let mut below = Lit::FALSE;
     for i in 0..a.len() {
@@ -69,7 +69,7 @@ pub(crate) fn top_negated(a: &[Lit]) -> Bits
 fn signed_less<G: Gates>(g: &mut G, a: &[Lit], b: &[Lit]) -> Result<Lit, GateFault>
     requires { AreOperands (G.made g.old) 64 a.now b.now }
     ensures ok { IfOk result (let n = length a.now in MakesLiteral (G.made g.old) (G.made g.new) (6 * n) (λ v. int_lt (signed n (word_value v a.now)) (signed n (word_value v b.now)))) }
-    ensures refused { IfErr result (Refuses (G.made g.old) (G.made g.new) (6 * length a.now)) }
+    ensures refused { IfErr result (RefusesGate (G.made g.old) (G.made g.new) (6 * length a.now)) }
 {
     less(g, top_negated(a).as_slice(), top_negated(b).as_slice())
 }
@@ -79,7 +79,7 @@ fn comparison<G: Gates>(g: &mut G, op: Binary, a: &[Lit], b: &[Lit]) -> Result<L
     requires comparison { is_comparison op ≡ true }
     requires operands { AreOperands (G.made g.old) 64 a.now b.now }
     ensures ok { IfOk result (λ l. let n = length a.now in MakesWord (G.made g.old) (G.made g.new) (6 * n) 1 (λ v. binary_value op n (word_value v a.now) (word_value v b.now)) (l ∷ [])) }
-    ensures refused { IfErr result (Refuses (G.made g.old) (G.made g.new) (6 * length a.now)) }
+    ensures refused { IfErr result (RefusesGate (G.made g.old) (G.made g.new) (6 * length a.now)) }
 {
     match op {
         Binary::Ult => less(g, a, b),
@@ -104,7 +104,7 @@ pub(crate) fn comparison_bit<G: Gates>(
     requires comparison { is_comparison op ≡ true }
     requires operands { AreOperands (G.made g.old) 64 a.now b.now }
     ensures ok { IfOk result (λ bits. let n = length a.now in MakesWord (G.made g.old) (G.made g.new) (binary_bound op n) (binary_width op n) (λ v. binary_value op n (word_value v a.now) (word_value v b.now)) bits.items) }
-    ensures refused { IfErr result (Refuses (G.made g.old) (G.made g.new) (binary_bound op (length a.now))) }
+    ensures refused { IfErr result (RefusesGate (G.made g.old) (G.made g.new) (binary_bound op (length a.now))) }
 {
     let lit = comparison(g, op, a, b)?;
     Ok(one_bit(lit))

@@ -3,8 +3,8 @@ ghost use Rattle.std.specs.Prelude.{◌≡◌, ℕ, ◌+◌, ◌<◌, ◌&&◌, 
 ghost use Rattle.std.specs.List.{list_all};
 ghost use Rattle.base.specs.Literal.{variable, literal_value};
 ghost use Rattle.aiger.specs.Net.{IsDefined, AreOrderedFrom};
-ghost use Rattle.gates.specs.Made.{MakesAnd, MakesLiteral, Refuses};
-ghost use Rattle.gates.specs.Reads.{literal_of, GatesRead};
+ghost use Rattle.gates.specs.Made.{MakesAnd, MakesLiteral, RefusesGate};
+ghost use Rattle.gates.specs.Reads.{literal_in, GatesRead};
 
 use crate::fault::GateFault;
 use crate::maker::Gates;
@@ -16,7 +16,7 @@ use aiger::{Gate, Lit};
 /// Condition: the table has its variable.
 pub fn literal_of(table: &Table, lit: Lit) -> Lit
     requires { variable lit < length table.now }
-    ensures { result ≡ literal_of table.now lit }
+    ensures { result ≡ literal_in table.now lit }
 {
     let own = table.at(lit.var());
     if lit.number() % 2 == 0 {
@@ -37,7 +37,7 @@ pub fn push_gates<G: Gates>(g: &mut G, gates: &[Gate], table: &mut Table) -> Res
     requires ordered { AreOrderedFrom (length table.old) gates.now }
     requires defined { All (IsDefined (G.made g.old)) table.old }
     ensures ok { OnOk result ((more : List ℕ) × (table.new ≡ table.old ++ more) × GatesRead (G.made g.old) (G.made g.new) (length table.old) gates.now table.old more) }
-    ensures refused { IfErr result (Refuses (G.made g.old) (G.made g.new) (length gates.now)) }
+    ensures refused { IfErr result (RefusesGate (G.made g.old) (G.made g.new) (length gates.now)) }
 {
     for gate in gates {
         let lit = g.and(literal_of(table, gate.rhs0), literal_of(table, gate.rhs1))?;
@@ -54,8 +54,8 @@ fn held<G: Gates>(g: &mut G, table: &Table, constraint: Lit, met: Lit) -> Result
     requires inside { variable constraint < length table.now }
     requires defined { All (IsDefined (G.made g.old)) table.now }
     requires met { IsDefined (G.made g.old) met }
-    ensures ok { IfOk result (MakesAnd (G.made g.old) (G.made g.new) met (literal_of table.now constraint)) }
-    ensures refused { IfErr result (Refuses (G.made g.old) (G.made g.new) 1) }
+    ensures ok { IfOk result (MakesAnd (G.made g.old) (G.made g.new) met (literal_in table.now constraint)) }
+    ensures refused { IfErr result (RefusesGate (G.made g.old) (G.made g.new) 1) }
 {
     g.and(met, literal_of(table, constraint))
 }
@@ -73,8 +73,8 @@ pub fn all_hold<G: Gates>(
     requires inside { All (λ l. variable l < length table.now) constraints.now }
     requires defined { All (IsDefined (G.made g.old)) table.now }
     requires met { IsDefined (G.made g.old) met }
-    ensures ok { IfOk result (MakesLiteral (G.made g.old) (G.made g.new) (length constraints.now) (λ v. literal_value v met && list_all (λ l. literal_value v (literal_of table.now l)) constraints.now)) }
-    ensures refused { IfErr result (Refuses (G.made g.old) (G.made g.new) (length constraints.now)) }
+    ensures ok { IfOk result (MakesLiteral (G.made g.old) (G.made g.new) (length constraints.now) (λ v. literal_value v met && list_all (λ l. literal_value v (literal_in table.now l)) constraints.now)) }
+    ensures refused { IfErr result (RefusesGate (G.made g.old) (G.made g.new) (length constraints.now)) }
 {
     let mut met = met;
     for constraint in constraints {

@@ -5,7 +5,7 @@ ghost use Rattle.base.specs.Operator.{binary_value};
 ghost use Rattle.base.specs.declared.operators.Binary.TheVariants as binary;
 ghost use Rattle.aiger.specs.Net.{IsDefined};
 ghost use Rattle.gates.specs.Operands.{AreOperands};
-ghost use Rattle.gates.specs.Made.{MakesLiteral, MakesWord, Refuses, word_value};
+ghost use Rattle.gates.specs.Made.{MakesLiteral, MakesWord, RefusesGate, word_value};
 ghost use Rattle.gates.specs.Division.{MakesQuotientRow, MakesDivision};
 
 use crate::adders::difference;
@@ -41,7 +41,7 @@ pub(crate) fn has_bit_from<G: Gates>(g: &mut G, a: &[Lit], from: usize) -> Resul
     requires inside { from ≤ length a.now }
     requires defined { All (IsDefined (G.made g.old)) a.now }
     ensures ok { IfOk result (MakesLiteral (G.made g.old) (G.made g.new) (length a.now - from) (λ v. not (word_value v (drop from a.now) == 0))) }
-    ensures refused { IfErr result (Refuses (G.made g.old) (G.made g.new) (length a.now - from)) }
+    ensures refused { IfErr result (RefusesGate (G.made g.old) (G.made g.new) (length a.now - from)) }
 {
     let width = a.len();
     let mut some = Lit::FALSE;
@@ -62,7 +62,7 @@ fn next_row<G: Gates>(g: &mut G, dividend: &[Lit], b: &[Lit]) -> Result<Row, Gat
     requires left { All (IsDefined (G.made g.old)) dividend.now }
     requires right { All (IsDefined (G.made g.old)) b.now }
     ensures ok { IfOk result (λ row. MakesQuotientRow (G.made g.old) (G.made g.new) (12 * length b.now + 9) dividend.now b.now row.bit row.remainder.items) }
-    ensures refused { IfErr result (Refuses (G.made g.old) (G.made g.new) (12 * length b.now + 9)) }
+    ensures refused { IfErr result (RefusesGate (G.made g.old) (G.made g.new) (12 * length b.now + 9)) }
 {
     let width = dividend.len();
     let reduced = difference(g, dividend, &b[..width])?;
@@ -80,7 +80,7 @@ fn next_row<G: Gates>(g: &mut G, dividend: &[Lit], b: &[Lit]) -> Result<Row, Gat
 pub fn divide<G: Gates>(g: &mut G, a: &[Lit], b: &[Lit]) -> Result<Divided, GateFault>
     requires { AreOperands (G.made g.old) 64 a.now b.now }
     ensures ok { IfOk result (λ divided. let n = length a.now in MakesDivision (G.made g.old) (G.made g.new) (12 * (n * n) + 12 * n) a.now b.now divided.quotient.items divided.remainder.items) }
-    ensures refused { IfErr result (let n = length a.now in Refuses (G.made g.old) (G.made g.new) (12 * (n * n) + 12 * n)) }
+    ensures refused { IfErr result (let n = length a.now in RefusesGate (G.made g.old) (G.made g.new) (12 * (n * n) + 12 * n)) }
 {
     let width = a.len();
     let mut quotient = Bits::new();
@@ -102,7 +102,7 @@ pub fn divide<G: Gates>(g: &mut G, a: &[Lit], b: &[Lit]) -> Result<Divided, Gate
 pub(crate) fn udiv<G: Gates>(g: &mut G, a: &[Lit], b: &[Lit]) -> Result<Bits, GateFault>
     requires { AreOperands (G.made g.old) 64 a.now b.now }
     ensures ok { IfOk result (λ bits. let n = length a.now in MakesWord (G.made g.old) (G.made g.new) (12 * (n * n) + 12 * n) n (λ v. binary_value binary.Udiv n (word_value v a.now) (word_value v b.now)) bits.items) }
-    ensures refused { IfErr result (let n = length a.now in Refuses (G.made g.old) (G.made g.new) (12 * (n * n) + 12 * n)) }
+    ensures refused { IfErr result (let n = length a.now in RefusesGate (G.made g.old) (G.made g.new) (12 * (n * n) + 12 * n)) }
 {
     let divided = divide(g, a, b)?;
     Ok(divided.quotient)
@@ -112,7 +112,7 @@ pub(crate) fn udiv<G: Gates>(g: &mut G, a: &[Lit], b: &[Lit]) -> Result<Bits, Ga
 pub(crate) fn urem<G: Gates>(g: &mut G, a: &[Lit], b: &[Lit]) -> Result<Bits, GateFault>
     requires { AreOperands (G.made g.old) 64 a.now b.now }
     ensures ok { IfOk result (λ bits. let n = length a.now in MakesWord (G.made g.old) (G.made g.new) (12 * (n * n) + 12 * n) n (λ v. binary_value binary.Urem n (word_value v a.now) (word_value v b.now)) bits.items) }
-    ensures refused { IfErr result (let n = length a.now in Refuses (G.made g.old) (G.made g.new) (12 * (n * n) + 12 * n)) }
+    ensures refused { IfErr result (let n = length a.now in RefusesGate (G.made g.old) (G.made g.new) (12 * (n * n) + 12 * n)) }
 {
     let divided = divide(g, a, b)?;
     Ok(divided.remainder)

@@ -1,6 +1,6 @@
 //! The refusals of a gate maker.
 ghost use Rattle.std.specs.Prelude.{◌≡◌};
-ghost use Rattle.gates.specs.Faults.{number_of, name_of};
+ghost use Rattle.gates.specs.Faults.{gate_fault_number, gate_fault_name};
 
 use std::fmt;
 use thiserror::Error;
@@ -17,7 +17,7 @@ pub enum GateFault {
 impl GateFault {
     /// The number that is printed for the fault.
     pub fn number(self) -> u32
-        ensures { result ≡ number_of self }
+        ensures { result ≡ gate_fault_number self }
     {
         match self {
             GateFault::TooBig => 80,
@@ -27,7 +27,7 @@ impl GateFault {
 
     /// The name that is printed for the fault.
     pub fn name(self) -> &'static str
-        ensures { result.now ≡ name_of self }
+        ensures { result.now ≡ gate_fault_name self }
     {
         match self {
             GateFault::TooBig => "TooBig",

@@ -5,14 +5,14 @@ ghost use Rattle.base.specs.declared.operators.Unary.TheVariants as unary;
 ghost use Rattle.base.specs.declared.operators.Binary.TheVariants as binary;
 ghost use Rattle.aiger.specs.Circuit.{net};
 ghost use Rattle.base.specs.Literal.{literal_value};
-ghost use Rattle.aiger.specs.Worked.{one_gate};
+ghost use Rattle.aiger.specs.Worked.{one_gate_net};
 ghost use Rattle.gates.specs.declared.bitwise.Connective.TheVariants as by;
 ghost use Rattle.gates.specs.declared.bound.Op.TheVariants as op;
 ghost use Rattle.gates.specs.declared.fault.GateFault.TheVariants as fault;
 ghost use Rattle.gates.specs.Bound.{operator_bound};
 ghost use Rattle.gates.specs.Division.{reduced, MakesQuotientRow, MakesDivision};
 ghost use Rattle.gates.specs.Connect.{connected, connected_words, connected_bits, words_bound};
-ghost use Rattle.gates.specs.Made.{Grows, MakesAnd, MakesLiteral, MakesWord, Refuses, word_value};
+ghost use Rattle.gates.specs.Made.{Grows, MakesAnd, MakesLiteral, MakesWord, RefusesGate, word_value};
 ghost use Rattle.gates.specs.Operands.{AreOperands};
 ghost use Rattle.gates.specs.Sums.{literal_number, MakesColumn, MakesSum};
 ghost use Rattle.gates.specs.Shared.{folded_and, gate_of, standing_and, AreShared, HasValuation, HasValuations};
@@ -56,17 +56,17 @@ pub fn worked_bounds()
 /// Worked rows: a net grows by its gates and loses none, the gate of two inputs is their and, negated literals are
 /// the bits of the negated word, and a small net is never refused as too big.
 pub fn worked_nets()
-    ensures grows { Grows no_gate (one_gate 4 2) 1 }
-    ensures one_too_many { ¬ Grows no_gate (one_gate 4 2) 0 }
-    ensures gate_lost { ¬ Grows (one_gate 4 2) no_gate 1 }
-    ensures is_and { MakesAnd no_gate (one_gate 4 2) 2 4 6 }
-    ensures is_no_and { ¬ MakesAnd no_gate (one_gate 4 2) 2 4 2 }
+    ensures grows { Grows no_gate (one_gate_net 4 2) 1 }
+    ensures one_too_many { ¬ Grows no_gate (one_gate_net 4 2) 0 }
+    ensures gate_lost { ¬ Grows (one_gate_net 4 2) no_gate 1 }
+    ensures is_and { MakesAnd no_gate (one_gate_net 4 2) 2 4 6 }
+    ensures is_no_and { ¬ MakesAnd no_gate (one_gate_net 4 2) 2 4 2 }
     ensures constant { MakesAnd no_gate no_gate 2 0 0 }
     ensures is_literal { MakesLiteral no_gate no_gate 0 (λ v. not (literal_value v 2)) 3 }
     ensures is_no_literal { ¬ MakesLiteral no_gate no_gate 0 (λ v. literal_value v 2) 4 }
     ensures is_not { MakesWord no_gate no_gate 0 2 (λ v. unary_value unary.Not 2 (word_value v (2 ∷ 4 ∷ []))) (3 ∷ 5 ∷ []) }
-    ensures no_memory { Refuses no_gate no_gate 1 fault.NoMemory }
-    ensures too_big { ¬ Refuses no_gate no_gate 1 fault.TooBig }
+    ensures no_memory { RefusesGate no_gate no_gate 1 fault.NoMemory }
+    ensures too_big { ¬ RefusesGate no_gate no_gate 1 fault.TooBig }
 {}
 
 /// Worked rows: an input and the negation of another are operands; no literals are none, nor are lists of two lengths,
@@ -146,12 +146,12 @@ pub fn worked_sharing()
     ensures with_negation { folded_and 6 7 ≡ Some 0 }
     ensures with_itself { folded_and 8 8 ≡ Some 8 }
     ensures not_folded { folded_and 2 4 ≡ None }
-    ensures stands { standing_and (one_gate 4 2) 2 4 ≡ Some 6 }
-    ensures stands_not { standing_and (one_gate 4 2) 3 4 ≡ None }
-    ensures shared { AreShared (one_gate 4 2).gates }
-    ensures with_constant { ¬ AreShared (one_gate 4 1).gates }
-    ensures of_one_variable { ¬ AreShared (one_gate 3 2).gates }
+    ensures stands { standing_and (one_gate_net 4 2) 2 4 ≡ Some 6 }
+    ensures stands_not { standing_and (one_gate_net 4 2) 3 4 ≡ None }
+    ensures shared { AreShared (one_gate_net 4 2).gates }
+    ensures with_constant { ¬ AreShared (one_gate_net 4 1).gates }
+    ensures of_one_variable { ¬ AreShared (one_gate_net 3 2).gates }
     ensures twice { ¬ AreShared (gate_of 2 4 ∷ gate_of 4 2 ∷ []) }
-    ensures valuation { HasValuation (one_gate 4 2) (true ∷ false ∷ []) [] }
+    ensures valuation { HasValuation (one_gate_net 4 2) (true ∷ false ∷ []) [] }
     ensures no_valuation { ¬ HasValuations (record { inputs = 0; latches = 0; gates = gate_of 3 3 ∷ [] }) }
 {}

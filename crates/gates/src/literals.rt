@@ -3,7 +3,7 @@ ghost use Rattle.std.specs.Prelude.{IfOk, IfErr, ◌||◌, if◌then◌else◌};
 ghost use Rattle.aiger.specs.Net.{IsDefined};
 ghost use Rattle.base.specs.Literal.{literal_value};
 ghost use Rattle.gates.specs.Connect.{differ};
-ghost use Rattle.gates.specs.Made.{MakesLiteral, Refuses};
+ghost use Rattle.gates.specs.Made.{MakesLiteral, RefusesGate};
 
 use crate::fault::GateFault;
 use crate::maker::Gates;
@@ -17,7 +17,7 @@ pub fn disjunction<G: Gates>(g: &mut G, a: Lit, b: Lit) -> Result<Lit, GateFault
     requires left { IsDefined (G.made g.old) a }
     requires right { IsDefined (G.made g.old) b }
     ensures ok { IfOk result (MakesLiteral (G.made g.old) (G.made g.new) 1 (λ v. literal_value v a || literal_value v b)) }
-    ensures refused { IfErr result (Refuses (G.made g.old) (G.made g.new) 1) }
+    ensures refused { IfErr result (RefusesGate (G.made g.old) (G.made g.new) 1) }
 {
     let neither = g.and(a.not(), b.not())?;
     Ok(neither.not())
@@ -31,7 +31,7 @@ pub fn xor<G: Gates>(g: &mut G, a: Lit, b: Lit) -> Result<Lit, GateFault>
     requires left { IsDefined (G.made g.old) a }
     requires right { IsDefined (G.made g.old) b }
     ensures ok { IfOk result (MakesLiteral (G.made g.old) (G.made g.new) 3 (λ v. differ (literal_value v a) (literal_value v b))) }
-    ensures refused { IfErr result (Refuses (G.made g.old) (G.made g.new) 3) }
+    ensures refused { IfErr result (RefusesGate (G.made g.old) (G.made g.new) 3) }
 {
     let both = g.and(a, b)?;
     let neither = g.and(a.not(), b.not())?;
@@ -47,7 +47,7 @@ pub fn mux<G: Gates>(g: &mut G, c: Lit, t: Lit, e: Lit) -> Result<Lit, GateFault
     requires then { IsDefined (G.made g.old) t }
     requires otherwise { IsDefined (G.made g.old) e }
     ensures ok { IfOk result (MakesLiteral (G.made g.old) (G.made g.new) 3 (λ v. if literal_value v c then literal_value v t else literal_value v e)) }
-    ensures refused { IfErr result (Refuses (G.made g.old) (G.made g.new) 3) }
+    ensures refused { IfErr result (RefusesGate (G.made g.old) (G.made g.new) 3) }
 {
     if t == e {
         return Ok(t);

@@ -1,7 +1,7 @@
 //! The trait of gate makers.
 ghost use Rattle.std.specs.Prelude.{◌≡◌, IfOk, IfErr, OnErr};
 ghost use Rattle.aiger.specs.Net.{Net, IsDefined};
-ghost use Rattle.gates.specs.Made.{MakesAnd, Refuses};
+ghost use Rattle.gates.specs.Made.{MakesAnd, RefusesGate};
 
 use crate::fault::GateFault;
 use aiger::Lit;
@@ -24,5 +24,5 @@ pub trait Gates {
         requires right { IsDefined (made self.old) b }
         ensures ok { IfOk result (MakesAnd (made self.old) (made self.new) a b) }
         ensures err { OnErr result (made self.new ≡ made self.old) }
-        ensures refused { IfErr result (Refuses (made self.old) (made self.new) 1) };
+        ensures refused { IfErr result (RefusesGate (made self.old) (made self.new) 1) };
 }

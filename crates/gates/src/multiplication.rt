@@ -4,7 +4,7 @@ ghost use Rattle.base.specs.Operator.{binary_value};
 ghost use Rattle.base.specs.Literal.{Valuation, literal_value};
 ghost use Rattle.aiger.specs.Net.{Net, IsDefined};
 ghost use Rattle.gates.specs.Operands.{AreOperands};
-ghost use Rattle.gates.specs.Made.{MakesLiteral, MakesWord, Refuses, word_value};
+ghost use Rattle.gates.specs.Made.{MakesLiteral, MakesWord, RefusesGate, word_value};
 ghost use Rattle.gates.specs.Sums.{literal_number};
 
 use crate::adders::{add, sum_bits};
@@ -22,7 +22,7 @@ pub(crate) fn masked<G: Gates>(g: &mut G, a: &[Lit], lit: Lit) -> Result<Bits, G
     requires word { All (IsDefined (G.made g.old)) a.now }
     requires literal { IsDefined (G.made g.old) lit }
     ensures ok { IfOk result (λ bits. let n = length a.now in MakesWord (G.made g.old) (G.made g.new) n n (λ v. word_value v a.now * literal_number v lit) bits.items) }
-    ensures refused { IfErr result (Refuses (G.made g.old) (G.made g.new) (length a.now)) }
+    ensures refused { IfErr result (RefusesGate (G.made g.old) (G.made g.new) (length a.now)) }
 {
     let mut bits = Bits::new();
     for i in 0..a.len() {
@@ -58,7 +58,7 @@ fn with_row<G: Gates>(
     requires inside { place ≤ length a.now }
     requires literal { IsDefined (G.made g.old) lit }
     ensures ok { IfOk result (λ bits. let n = length a.now in MakesWord (G.made g.old) (G.made g.new) (10 * n) n (λ v. (word_value v sum.now + word_value v a.now * (2 ^ place * literal_number v lit)) % 2 ^ n) bits.items) }
-    ensures refused { IfErr result (Refuses (G.made g.old) (G.made g.new) (10 * length a.now)) }
+    ensures refused { IfErr result (RefusesGate (G.made g.old) (G.made g.new) (10 * length a.now)) }
 {
     let row = masked(g, raised(a, place).as_slice(), lit)?;
     sum_bits(g, sum, row.as_slice(), Lit::FALSE)
@@ -71,7 +71,7 @@ fn with_row<G: Gates>(
 pub fn mul<G: Gates>(g: &mut G, a: &[Lit], b: &[Lit]) -> Result<Bits, GateFault>
     requires { AreOperands (G.made g.old) 128 a.now b.now }
     ensures ok { IfOk result (λ bits. let n = length a.now in MakesWord (G.made g.old) (G.made g.new) (10 * (n * n)) n (λ v. word_value v a.now * word_value v b.now % 2 ^ n) bits.items) }
-    ensures refused { IfErr result (let n = length a.now in Refuses (G.made g.old) (G.made g.new) (10 * (n * n))) }
+    ensures refused { IfErr result (let n = length a.now in RefusesGate (G.made g.old) (G.made g.new) (10 * (n * n))) }
 {
     let mut product = masked(g, a, b[0])?;
     for place in 1..b.len() {
@@ -84,7 +84,7 @@ pub fn mul<G: Gates>(g: &mut G, a: &[Lit], b: &[Lit]) -> Result<Bits, GateFault>
 pub(crate) fn mul_bits<G: Gates>(g: &mut G, a: &[Lit], b: &[Lit]) -> Result<Bits, GateFault>
     requires { AreOperands (G.made g.old) 64 a.now b.now }
     ensures ok { IfOk result (λ bits. let n = length a.now in MakesWord (G.made g.old) (G.made g.new) (10 * (n * n)) n (λ v. binary_value Binary.Mul n (word_value v a.now) (word_value v b.now)) bits.items) }
-    ensures refused { IfErr result (let n = length a.now in Refuses (G.made g.old) (G.made g.new) (10 * (n * n))) }
+    ensures refused { IfErr result (let n = length a.now in RefusesGate (G.made g.old) (G.made g.new) (10 * (n * n))) }
 {
     mul(g, a, b)
 }
@@ -114,7 +114,7 @@ fn with_whole_row<G: Gates>(
     requires literal { IsDefined (G.made g.old) lit }
     ensures bits { IfOk result (λ product. let n = length a.now in MakesWord (G.made g.old) (G.made g.new) (12 * n) n (λ v. (word_value v so_far.now.bits.items + word_value v a.now * (2 ^ place * literal_number v lit)) % 2 ^ n) product.bits.items) }
     ensures lost { IfOk result (λ product. let n = length a.now in MakesLiteral (G.made g.old) (G.made g.new) (12 * n) (λ v. literal_value v so_far.now.lost || nat_le (2 ^ n) (word_value v so_far.now.bits.items + word_value v a.now * (2 ^ place * literal_number v lit))) product.lost) }
-    ensures refused { IfErr result (Refuses (G.made g.old) (G.made g.new) (12 * length a.now)) }
+    ensures refused { IfErr result (RefusesGate (G.made g.old) (G.made g.new) (12 * length a.now)) }
 {
     let row = masked(g, raised(a, place).as_slice(), lit)?;
     let sum = add(g, so_far.bits.as_slice(), row.as_slice(), Lit::FALSE)?;
@@ -133,7 +133,7 @@ pub(crate) fn whole_product<G: Gates>(g: &mut G, a: &[Lit], b: &[Lit]) -> Result
     requires { AreOperands (G.made g.old) 64 a.now b.now }
     ensures bits { IfOk result (λ product. let n = length a.now in MakesWord (G.made g.old) (G.made g.new) (12 * (n * n)) n (λ v. word_value v a.now * word_value v b.now % 2 ^ n) product.bits.items) }
     ensures lost { IfOk result (λ product. let n = length a.now in MakesLiteral (G.made g.old) (G.made g.new) (12 * (n * n)) (λ v. nat_le (2 ^ n) (word_value v a.now * word_value v b.now)) product.lost) }
-    ensures refused { IfErr result (let n = length a.now in Refuses (G.made g.old) (G.made g.new) (12 * (n * n))) }
+    ensures refused { IfErr result (let n = length a.now in RefusesGate (G.made g.old) (G.made g.new) (12 * (n * n))) }
 {
     let bits = masked(g, a, b[0])?;
     let mut product = Product {

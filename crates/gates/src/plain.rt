@@ -3,7 +3,7 @@ ghost use Rattle.std.specs.Prelude.{◌≡◌, ◌+◌, ◌*◌, ◌<◌, ◌≤
 ghost use Rattle.aiger.specs.Limits.{greatest_count};
 ghost use Rattle.aiger.specs.Net.{variables, IsDefined};
 ghost use Rattle.aiger.specs.Circuit.{net, with_gate};
-ghost use Rattle.gates.specs.Made.{MakesAnd, Refuses, gates_only};
+ghost use Rattle.gates.specs.Made.{MakesAnd, RefusesGate, gates_only};
 ghost use Rattle.gates.specs.Shared.{HasValuations};
 
 use crate::fault::GateFault;
@@ -85,7 +85,7 @@ impl Gates for PlainGates {
         requires right { IsDefined self.old b }
         ensures ok { IfOk result (MakesAnd self.old self.new a b) }
         ensures err { OnErr result (self.new ≡ self.old) }
-        ensures refused { IfErr result (Refuses self.old self.new 1) }
+        ensures refused { IfErr result (RefusesGate self.old self.new 1) }
         ensures own { IfOk result (λ l. l ≡ 2 * (variables self.old + 1)) }
         ensures too_big { IsErrOf result GateFault.TooBig ↔ (greatest_count < variables self.old + 1) }
     {

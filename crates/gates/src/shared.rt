@@ -6,7 +6,7 @@ ghost use Rattle.aiger.specs.Net.{variables, IsDefined};
 ghost use Rattle.aiger.specs.declared.circuit.Gate.{Gate};
 ghost use Rattle.aiger.specs.Circuit.{net};
 ghost use Rattle.gates.specs.Chains.{longest, AreFound, finds, is_pair};
-ghost use Rattle.gates.specs.Made.{MakesAnd, Refuses, gates_only};
+ghost use Rattle.gates.specs.Made.{MakesAnd, RefusesGate, gates_only};
 ghost use Rattle.gates.specs.Shared.{folded_and, gate_of, is_gate_of, gate_literal, standing_and, AreShared, HasValuations};
 
 use crate::chains::{Chains, Look};
@@ -177,7 +177,7 @@ impl Gates for HashGates {
         requires right { IsDefined self.old b }
         ensures ok { IfOk result (MakesAnd self.old self.new a b) }
         ensures err { OnErr result (self.new ≡ self.old) }
-        ensures refused { IfErr result (Refuses self.old self.new 1) }
+        ensures refused { IfErr result (RefusesGate self.old self.new 1) }
         ensures standing { (l : ℕ) → standing_and self.old a b ≡ Some l → (result ≡ Ok l) × (self.new ≡ self.old) }
         ensures fresh { standing_and self.old a b ≡ None → IfOk result (λ l. (self.new ≡ record self.old { gates = self.old.gates ++ gate_of a b ∷ [] }) × (l ≡ 2 * (variables self.old + 1))) }
         ensures too_big { IsErrOf result GateFault.TooBig ↔ ((standing_and self.old a b ≡ None) × (greatest_count < variables self.old + 1)) }

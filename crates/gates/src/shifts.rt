@@ -5,7 +5,7 @@ ghost use Rattle.base.specs.Literal.{Valuation};
 ghost use Rattle.aiger.specs.Net.{Net, IsDefined};
 ghost use Rattle.gates.specs.Bound.{binary_bound};
 ghost use Rattle.gates.specs.Operands.{AreOperands};
-ghost use Rattle.gates.specs.Made.{MakesWord, Refuses, word_value};
+ghost use Rattle.gates.specs.Made.{MakesWord, RefusesGate, word_value};
 ghost use Rattle.gates.specs.Tests.{is_shift, is_rotation, is_move};
 
 use crate::bit_lists::{append, repeated};
@@ -67,7 +67,7 @@ fn moved_in_turn<G: Gates>(
     requires defined { All (IsDefined (G.made g.old)) a.now }
     requires amount { All (IsDefined (G.made g.old)) amount.now }
     ensures ok { IfOk result (λ bits. let n = length a.now in MakesWord (G.made g.old) (G.made g.new) (3 * (n * length amount.now)) n (λ v. binary_value op n (word_value v a.now) (word_value v amount.now)) bits.items) }
-    ensures refused { IfErr result (Refuses (G.made g.old) (G.made g.new) (3 * (length a.now * length amount.now))) }
+    ensures refused { IfErr result (RefusesGate (G.made g.old) (G.made g.new) (3 * (length a.now * length amount.now))) }
 {
     let mut bits = moved(op, a, 0);
     for place in 0..amount.len() {
@@ -87,7 +87,7 @@ pub fn shift<G: Gates>(g: &mut G, op: Binary, a: &[Lit], b: &[Lit]) -> Result<Bi
     requires shifts { is_shift op ≡ true }
     requires operands { AreOperands (G.made g.old) 64 a.now b.now }
     ensures ok { IfOk result (λ bits. let n = length a.now in MakesWord (G.made g.old) (G.made g.new) (binary_bound op n) n (λ v. binary_value op n (word_value v a.now) (word_value v b.now)) bits.items) }
-    ensures refused { IfErr result (Refuses (G.made g.old) (G.made g.new) (binary_bound op (length a.now))) }
+    ensures refused { IfErr result (RefusesGate (G.made g.old) (G.made g.new) (binary_bound op (length a.now))) }
 {
     let width = a.len();
     let (low, high) = b.split_at(log_up(width as u64) as usize);
@@ -109,7 +109,7 @@ pub fn rotate<G: Gates>(g: &mut G, op: Binary, a: &[Lit], b: &[Lit]) -> Result<B
     requires rotates { is_rotation op ≡ true }
     requires operands { AreOperands (G.made g.old) 64 a.now b.now }
     ensures ok { IfOk result (λ bits. let n = length a.now in MakesWord (G.made g.old) (G.made g.new) (binary_bound op n) n (λ v. binary_value op n (word_value v a.now) (word_value v b.now)) bits.items) }
-    ensures refused { IfErr result (Refuses (G.made g.old) (G.made g.new) (binary_bound op (length a.now))) }
+    ensures refused { IfErr result (RefusesGate (G.made g.old) (G.made g.new) (binary_bound op (length a.now))) }
 {
     moved_in_turn(g, op, a, b)
 }

@@ -5,7 +5,7 @@ ghost use Rattle.base.specs.Signed.{signed};
 ghost use Rattle.base.specs.Literal.{literal_value};
 ghost use Rattle.aiger.specs.Net.{IsDefined};
 ghost use Rattle.gates.specs.Operands.{AreOperands};
-ghost use Rattle.gates.specs.Made.{MakesLiteral, MakesWord, Refuses, word_value};
+ghost use Rattle.gates.specs.Made.{MakesLiteral, MakesWord, RefusesGate, word_value};
 ghost use Rattle.gates.specs.Sums.{literal_number};
 ghost use Rattle.gates.specs.Connect.{differ};
 
@@ -25,7 +25,7 @@ fn divide_sizes<G: Gates>(g: &mut G, a: &[Lit], b: &[Lit]) -> Result<Divided, Ga
     requires { AreOperands (G.made g.old) 64 a.now b.now }
     ensures quotient { IfOk result (λ divided. let n = length a.now in MakesWord (G.made g.old) (G.made g.new) (12 * (n * n) + 36 * n) n (λ v. udiv n (unsigned_abs (signed n (word_value v a.now))) (unsigned_abs (signed n (word_value v b.now)))) divided.quotient.items) }
     ensures remainder { IfOk result (λ divided. let n = length a.now in MakesWord (G.made g.old) (G.made g.new) (12 * (n * n) + 36 * n) n (λ v. urem (unsigned_abs (signed n (word_value v a.now))) (unsigned_abs (signed n (word_value v b.now)))) divided.remainder.items) }
-    ensures refused { IfErr result (let n = length a.now in Refuses (G.made g.old) (G.made g.new) (12 * (n * n) + 36 * n)) }
+    ensures refused { IfErr result (let n = length a.now in RefusesGate (G.made g.old) (G.made g.new) (12 * (n * n) + 36 * n)) }
 {
     let dividend = size(g, a)?;
     let divisor = size(g, b)?;
@@ -40,7 +40,7 @@ fn divide_sizes<G: Gates>(g: &mut G, a: &[Lit], b: &[Lit]) -> Result<Divided, Ga
 pub fn sdiv<G: Gates>(g: &mut G, a: &[Lit], b: &[Lit]) -> Result<Bits, GateFault>
     requires { AreOperands (G.made g.old) 64 a.now b.now }
     ensures ok { IfOk result (λ bits. let n = length a.now in MakesWord (G.made g.old) (G.made g.new) (12 * (n * n) + 51 * n) n (λ v. binary_value Binary.Sdiv n (word_value v a.now) (word_value v b.now)) bits.items) }
-    ensures refused { IfErr result (let n = length a.now in Refuses (G.made g.old) (G.made g.new) (12 * (n * n) + 51 * n)) }
+    ensures refused { IfErr result (let n = length a.now in RefusesGate (G.made g.old) (G.made g.new) (12 * (n * n) + 51 * n)) }
 {
     let top = a.len() - 1;
     let divided = divide_sizes(g, a, b)?;
@@ -55,7 +55,7 @@ pub fn sdiv<G: Gates>(g: &mut G, a: &[Lit], b: &[Lit]) -> Result<Bits, GateFault
 pub fn srem<G: Gates>(g: &mut G, a: &[Lit], b: &[Lit]) -> Result<Bits, GateFault>
     requires { AreOperands (G.made g.old) 64 a.now b.now }
     ensures ok { IfOk result (λ bits. let n = length a.now in MakesWord (G.made g.old) (G.made g.new) (12 * (n * n) + 48 * n) n (λ v. binary_value Binary.Srem n (word_value v a.now) (word_value v b.now)) bits.items) }
-    ensures refused { IfErr result (let n = length a.now in Refuses (G.made g.old) (G.made g.new) (12 * (n * n) + 48 * n)) }
+    ensures refused { IfErr result (let n = length a.now in RefusesGate (G.made g.old) (G.made g.new) (12 * (n * n) + 48 * n)) }
 {
     let divided = divide_sizes(g, a, b)?;
     negated_where(g, a[a.len() - 1], divided.remainder.as_slice())
@@ -74,7 +74,7 @@ fn is_rounded_down<G: Gates>(
     requires left { IsDefined (G.made g.old) dividend_sign }
     requires right { IsDefined (G.made g.old) divisor_sign }
     ensures ok { IfOk result (MakesLiteral (G.made g.old) (G.made g.new) (length rest.now + 4) (λ v. not (word_value v rest.now == 0) && differ (literal_value v dividend_sign) (literal_value v divisor_sign))) }
-    ensures refused { IfErr result (Refuses (G.made g.old) (G.made g.new) (length rest.now + 4)) }
+    ensures refused { IfErr result (RefusesGate (G.made g.old) (G.made g.new) (length rest.now + 4)) }
 {
     let some = connect_bits(g, Connective::Or, rest)?;
     let other = xor(g, dividend_sign, divisor_sign)?;
@@ -86,7 +86,7 @@ fn added_where<G: Gates>(g: &mut G, lit: Lit, a: &[Lit], b: &[Lit]) -> Result<Bi
     requires operands { AreOperands (G.made g.old) 64 a.now b.now }
     requires literal { IsDefined (G.made g.old) lit }
     ensures ok { IfOk result (λ bits. let n = length a.now in MakesWord (G.made g.old) (G.made g.new) (10 * n) n (λ v. (word_value v a.now + word_value v b.now * literal_number v lit) % 2 ^ n) bits.items) }
-    ensures refused { IfErr result (Refuses (G.made g.old) (G.made g.new) (10 * length a.now)) }
+    ensures refused { IfErr result (RefusesGate (G.made g.old) (G.made g.new) (10 * length a.now)) }
 {
     let more = masked(g, b, lit)?;
     add_bits(g, a, more.as_slice())
@@ -100,7 +100,7 @@ fn added_where<G: Gates>(g: &mut G, lit: Lit, a: &[Lit], b: &[Lit]) -> Result<Bi
 pub fn smod<G: Gates>(g: &mut G, a: &[Lit], b: &[Lit]) -> Result<Bits, GateFault>
     requires { AreOperands (G.made g.old) 64 a.now b.now }
     ensures ok { IfOk result (λ bits. let n = length a.now in MakesWord (G.made g.old) (G.made g.new) (12 * (n * n) + 63 * n) n (λ v. binary_value Binary.Smod n (word_value v a.now) (word_value v b.now)) bits.items) }
-    ensures refused { IfErr result (let n = length a.now in Refuses (G.made g.old) (G.made g.new) (12 * (n * n) + 63 * n)) }
+    ensures refused { IfErr result (let n = length a.now in RefusesGate (G.made g.old) (G.made g.new) (12 * (n * n) + 63 * n)) }
 {
     let top = a.len() - 1;
     let rest = srem(g, a, b)?;

@@ -4,7 +4,7 @@ ghost use Rattle.base.specs.Operator.{unary_value};
 ghost use Rattle.base.specs.Signed.{signed};
 ghost use Rattle.base.specs.Literal.{literal_value};
 ghost use Rattle.aiger.specs.Net.{IsDefined};
-ghost use Rattle.gates.specs.Made.{MakesWord, Refuses, word_value};
+ghost use Rattle.gates.specs.Made.{MakesWord, RefusesGate, word_value};
 
 use crate::fault::GateFault;
 use crate::literals::{disjunction, xor};
@@ -25,7 +25,7 @@ pub(crate) fn negated_where<G: Gates>(
     requires literal { IsDefined (G.made g.old) negative }
     requires defined { All (IsDefined (G.made g.old)) a.now }
     ensures ok { IfOk result (λ bits. let n = length a.now in MakesWord (G.made g.old) (G.made g.new) (12 * n) n (λ v. if literal_value v negative then unary_value Unary.Neg n (word_value v a.now) else word_value v a.now) bits.items) }
-    ensures refused { IfErr result (Refuses (G.made g.old) (G.made g.new) (12 * length a.now)) }
+    ensures refused { IfErr result (RefusesGate (G.made g.old) (G.made g.new) (12 * length a.now)) }
 {
     let mut bits = Bits::new();
     let mut flips = Lit::FALSE;
@@ -44,7 +44,7 @@ pub(crate) fn size<G: Gates>(g: &mut G, a: &[Lit]) -> Result<Bits, GateFault>
     requires most { length a.now ≤ 64 }
     requires defined { All (IsDefined (G.made g.old)) a.now }
     ensures ok { IfOk result (λ bits. let n = length a.now in MakesWord (G.made g.old) (G.made g.new) (12 * n) n (λ v. unsigned_abs (signed n (word_value v a.now))) bits.items) }
-    ensures refused { IfErr result (Refuses (G.made g.old) (G.made g.new) (12 * length a.now)) }
+    ensures refused { IfErr result (RefusesGate (G.made g.old) (G.made g.new) (12 * length a.now)) }
 {
     negated_where(g, a[a.len() - 1], a)
 }

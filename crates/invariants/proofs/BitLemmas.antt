@@ -4,7 +4,7 @@ use Rattle.std.specs.List.{list_all, list_any}
 use Rattle.std.proofs.lemmas.Bool.{cases_Bool, and_parts}
 use Rattle.std.proofs.lemmas.List.Folds.{list_any_at}
 use Rattle.base.specs.Literal.{Valuation, literal_value}
-use Rattle.clauses.specs.Formula.{SatisfiesClause, Satisfies}
+use Rattle.clauses.specs.Formula.{SatisfiesClause, SatisfiesClauses}
 
 -- whether a clause, and each of some clauses, is satisfied
 abbrev pub clause_bit : Valuation → List ℕ → Bool
@@ -50,7 +50,7 @@ one_is false = refl
 clause_true : (a : Valuation) (clause : List ℕ) → SatisfiesClause a clause → clause_bit a clause ≡ true
 clause_true a clause sat = list_any_at (literal_value a) clause sat.0 0 sat.1 sat.2
 
-pub formula_true : (a : Valuation) (clauses : List (List ℕ)) → Satisfies a clauses → formula_bit a clauses ≡ true
+pub formula_true : (a : Valuation) (clauses : List (List ℕ)) → SatisfiesClauses a clauses → formula_bit a clauses ≡ true
 formula_true a [] sat = refl
 formula_true a (clause ∷ clauses) sat = ap₂ ◌&&◌ (clause_true a clause (sat 0 (omega arith))) (formula_true a clauses (λ k below. sat (suc k) (omega arith)))
 
@@ -64,7 +64,7 @@ clause_satisfied a (l ∷ ls) h =
     (suc rest.0, omega (arith, rest.1), rest.2))
     (cases_Bool (literal_value a l))
 
-pub formula_satisfied : (a : Valuation) (clauses : List (List ℕ)) → formula_bit a clauses ≡ true → Satisfies a clauses
+pub formula_satisfied : (a : Valuation) (clauses : List (List ℕ)) → formula_bit a clauses ≡ true → SatisfiesClauses a clauses
 formula_satisfied a [] h k below = absurd (omega arith)
 formula_satisfied a (clause ∷ clauses) h zero below = clause_satisfied a clause (and_parts (clause_bit a clause) (formula_bit a clauses) h).0
 formula_satisfied a (clause ∷ clauses) h (suc k) below = formula_satisfied a clauses (and_parts (clause_bit a clause) (formula_bit a clauses) h).1 k (omega arith)

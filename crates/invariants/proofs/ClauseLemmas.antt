@@ -10,10 +10,10 @@ use Rattle.aiger.specs.declared.circuit.Latch.{Latch}
 use Rattle.base.specs.Literal.{Valuation, literal_value, negation}
 use Rattle.aiger.specs.Net.{SatisfiesFrom, bits_from, latch_bits}
 use Rattle.aiger.specs.Circuit.{Circuit, net}
-use Rattle.aiger.specs.Trace.{next_state}
+use Rattle.aiger.specs.Trace.{next_latch_bits}
 use Rattle.base.proofs.LiteralLemmas.{literal_value-negation, literal_value-even, literal_value-odd}
 use Rattle.clauses.specs.Formula.{IsLiteral}
-use Rattle.invariants.specs.Invariants.{AreOver, state_bit, is_in, is_outside}
+use Rattle.invariants.specs.Invariants.{AreOver, state_bit, is_in_cube, is_outside}
 use Rattle.invariants.specs.Obligation.{over, gate_clauses, gates_clauses, now_literal, outside_clause, taken_literal, truth_variable, next_literal, next_clauses, nexts_clauses}
 use Rattle.invariants.proofs.BitLemmas.{formula_bit, clause_bit, or_not, not_or, not_or_self, two, three, two_all}
 
@@ -97,13 +97,13 @@ now_bit d a l h =
     ap (literal_value a) is ∙ (literal_value-odd a (suc d.inputs + (l / 2 - 1)) (omega arith) ∙ (ap not (sym at) ∙ sym (state_odd (latch_bits (net d) a) l ne))))
     (cases_eq (l % 2) 0)
 
-outside_bit : (d : Circuit) (a : Valuation) (cube : List ℕ) → All (IsLiteral (length d.latches)) cube → clause_bit a (outside_clause d cube) ≡ not (is_in (latch_bits (net d) a) cube)
+outside_bit : (d : Circuit) (a : Valuation) (cube : List ℕ) → All (IsLiteral (length d.latches)) cube → clause_bit a (outside_clause d cube) ≡ not (is_in_cube (latch_bits (net d) a) cube)
 outside_bit d a [] all = refl
 outside_bit d a (l ∷ ls) all =
     let own : literal_value a (negation (now_literal d l)) ≡ not (state_bit (latch_bits (net d) a) l) =
     literal_value-negation a (now_literal d l) ∙ ap not (now_bit d a l (All-head (IsLiteral (length d.latches)) l ls all)) in
     ap₂ ◌||◌ own (outside_bit d a ls (All-tail (IsLiteral (length d.latches)) l ls all))
-    ∙ or_not (state_bit (latch_bits (net d) a) l) (is_in (latch_bits (net d) a) ls)
+    ∙ or_not (state_bit (latch_bits (net d) a) l) (is_in_cube (latch_bits (net d) a) ls)
 
 -- the state is in no cube
 pub outside_bits : (d : Circuit) (a : Valuation) (cubes : List (List ℕ)) → AreOver (length d.latches) cubes → formula_bit a (map (outside_clause d) cubes) ≡ is_outside (latch_bits (net d) a) cubes
@@ -125,26 +125,26 @@ next_even d l e = grind (arith, nat_tests)
 pub next_odd : (d : Circuit) (l : ℕ) → l % 2 ≢ 0 → next_literal d l ≡ negation (over (truth_variable d) (taken_literal d (l / 2 - 1)))
 next_odd d l e = grind (arith, nat_tests)
 
-next_bit : (d : Circuit) (a : Valuation) (l : ℕ) → a (truth_variable d) ≡ true → literal_value a (next_literal d l) ≡ state_bit (next_state d a) l
+next_bit : (d : Circuit) (a : Valuation) (l : ℕ) → a (truth_variable d) ≡ true → literal_value a (next_literal d l) ≡ state_bit (next_latch_bits d a) l
 next_bit d a l on =
-    let taken : literal_value a (taken_literal d (l / 2 - 1)) ≡ get_or (next_state d a) (l / 2 - 1) false = taken_bit a d.latches (l / 2 - 1) in
+    let taken : literal_value a (taken_literal d (l / 2 - 1)) ≡ get_or (next_latch_bits d a) (l / 2 - 1) false = taken_bit a d.latches (l / 2 - 1) in
     ⊎_elim
     (λ (e : l % 2 ≡ 0).
-    ap (literal_value a) (next_even d l e) ∙ (over-value a (truth_variable d) (taken_literal d (l / 2 - 1)) (omega arith) on ∙ (taken ∙ sym (state_even (next_state d a) l e))))
+    ap (literal_value a) (next_even d l e) ∙ (over-value a (truth_variable d) (taken_literal d (l / 2 - 1)) (omega arith) on ∙ (taken ∙ sym (state_even (next_latch_bits d a) l e))))
     (λ (ne : l % 2 ≢ 0).
-    ap (literal_value a) (next_odd d l ne) ∙ (not-over a (truth_variable d) (taken_literal d (l / 2 - 1)) (omega arith) on ∙ (ap not taken ∙ sym (state_odd (next_state d a) l ne))))
+    ap (literal_value a) (next_odd d l ne) ∙ (not-over a (truth_variable d) (taken_literal d (l / 2 - 1)) (omega arith) on ∙ (ap not taken ∙ sym (state_odd (next_latch_bits d a) l ne))))
     (cases_eq (l % 2) 0)
 
 -- where the variable is true, the next state is in the cube
-next_bits : (d : Circuit) (a : Valuation) (v : ℕ) (cube : List ℕ) → 0 < v → a (truth_variable d) ≡ true → formula_bit a (next_clauses d v cube) ≡ (not (a v) || is_in (next_state d a) cube)
-next_bits d a v cube h on = by cube ∙ two_all (not (a v)) (state_bit (next_state d a)) cube
+next_bits : (d : Circuit) (a : Valuation) (v : ℕ) (cube : List ℕ) → 0 < v → a (truth_variable d) ≡ true → formula_bit a (next_clauses d v cube) ≡ (not (a v) || is_in_cube (next_latch_bits d a) cube)
+next_bits d a v cube h on = by cube ∙ two_all (not (a v)) (state_bit (next_latch_bits d a)) cube
   where
-    by : (ls : List ℕ) → formula_bit a (next_clauses d v ls) ≡ list_all (λ l. two (not (a v)) (state_bit (next_state d a) l)) ls
+    by : (ls : List ℕ) → formula_bit a (next_clauses d v ls) ≡ list_all (λ l. two (not (a v)) (state_bit (next_latch_bits d a) l)) ls
     by [] = refl
     by (l ∷ ls) = ap₂ ◌&&◌ (ap₂ two (literal_value-odd a v h) (next_bit d a l on)) (by ls)
 
 nexts_split : (d : Circuit) (a : Valuation) (v : ℕ) (cube : List ℕ) (cubes : List (List ℕ)) → 0 < v → a (truth_variable d) ≡ true
-    → formula_bit a (nexts_clauses d v (cube ∷ cubes)) ≡ ((not (a v) || is_in (next_state d a) cube) && formula_bit a (nexts_clauses d (suc v) cubes))
+    → formula_bit a (nexts_clauses d v (cube ∷ cubes)) ≡ ((not (a v) || is_in_cube (next_latch_bits d a) cube) && formula_bit a (nexts_clauses d (suc v) cubes))
 nexts_split d a v cube cubes h on =
     list_all-append (clause_bit a) (next_clauses d v cube) (nexts_clauses d (suc v) cubes)
     ∙ ap (λ (b : Bool). b && formula_bit a (nexts_clauses d (suc v) cubes)) (next_bits d a v cube h on)
@@ -158,12 +158,12 @@ from_more v count = let e : v + 1 ≡ suc v = omega arith in ap (λ (k : ℕ). (
 
 -- where the next state is in no cube, none of the variables is true
 pub nexts_hold : (d : Circuit) (a : Valuation) (v : ℕ) (cubes : List (List ℕ)) → 0 < v → a (truth_variable d) ≡ true → formula_bit a (nexts_clauses d v cubes) ≡ true
-    → is_outside (next_state d a) cubes ≡ true → clause_bit a (literals_from v (length cubes)) ≡ false
+    → is_outside (next_latch_bits d a) cubes ≡ true → clause_bit a (literals_from v (length cubes)) ≡ false
 nexts_hold d a v [] h on all out = refl
 nexts_hold d a v (cube ∷ cubes) h on all out =
-    let parts = and_parts (not (a v) || is_in (next_state d a) cube) (formula_bit a (nexts_clauses d (suc v) cubes)) (sym (nexts_split d a v cube cubes h on) ∙ all) in
-    let outs = and_parts (not (is_in (next_state d a) cube)) (is_outside (next_state d a) cubes) out in
-    let off : a v ≡ false = none_of (a v) (is_in (next_state d a) cube) parts.0 outs.0 in
+    let parts = and_parts (not (a v) || is_in_cube (next_latch_bits d a) cube) (formula_bit a (nexts_clauses d (suc v) cubes)) (sym (nexts_split d a v cube cubes h on) ∙ all) in
+    let outs = and_parts (not (is_in_cube (next_latch_bits d a) cube)) (is_outside (next_latch_bits d a) cubes) out in
+    let off : a v ≡ false = none_of (a v) (is_in_cube (next_latch_bits d a) cube) parts.0 outs.0 in
     ap (clause_bit a) (from_more v (length cubes)) ∙ ap₂ ◌||◌ (literal_value-even a v h ∙ off) (nexts_hold d a (suc v) cubes (omega arith) on parts.1 outs.1)
   where
     none_of : (b c : Bool) → (not b || c) ≡ true → not c ≡ true → b ≡ false
@@ -173,9 +173,9 @@ nexts_hold d a v (cube ∷ cubes) h on all out =
 
 -- each variable says whether the next state is in its cube
 abbrev pub TellNext : Circuit → Valuation → ℕ → List (List ℕ) → Type 0
-TellNext d a v cubes = (i : ℕ) → i < length cubes → a (v + i) ≡ is_in (next_state d a) (get_or cubes i [])
+TellNext d a v cubes = (i : ℕ) → i < length cubes → a (v + i) ≡ is_in_cube (next_latch_bits d a) (get_or cubes i [])
 
-tell_first : (d : Circuit) (a : Valuation) (v : ℕ) (cube : List ℕ) (cubes : List (List ℕ)) → TellNext d a v (cube ∷ cubes) → a v ≡ is_in (next_state d a) cube
+tell_first : (d : Circuit) (a : Valuation) (v : ℕ) (cube : List ℕ) (cubes : List (List ℕ)) → TellNext d a v (cube ∷ cubes) → a v ≡ is_in_cube (next_latch_bits d a) cube
 tell_first d a v cube cubes tell = let e : v ≡ v + 0 = omega arith in ap a e ∙ tell 0 (omega arith)
 
 tell_rest : (d : Circuit) (a : Valuation) (v : ℕ) (cube : List ℕ) (cubes : List (List ℕ)) → TellNext d a v (cube ∷ cubes) → TellNext d a (suc v) cubes
@@ -184,13 +184,13 @@ tell_rest d a v cube cubes tell i h = let e : suc v + i ≡ v + suc i = omega ar
 pub nexts_pass : (d : Circuit) (a : Valuation) (v : ℕ) (cubes : List (List ℕ)) → 0 < v → a (truth_variable d) ≡ true → TellNext d a v cubes → formula_bit a (nexts_clauses d v cubes) ≡ true
 nexts_pass d a v [] h on tell = refl
 nexts_pass d a v (cube ∷ cubes) h on tell =
-    let own : (not (a v) || is_in (next_state d a) cube) ≡ true =
-    ap (λ (b : Bool). not b || is_in (next_state d a) cube) (tell_first d a v cube cubes tell) ∙ not_or_self (is_in (next_state d a) cube) in
+    let own : (not (a v) || is_in_cube (next_latch_bits d a) cube) ≡ true =
+    ap (λ (b : Bool). not b || is_in_cube (next_latch_bits d a) cube) (tell_first d a v cube cubes tell) ∙ not_or_self (is_in_cube (next_latch_bits d a) cube) in
     nexts_split d a v cube cubes h on ∙ ap₂ ◌&&◌ own (nexts_pass d a (suc v) cubes (omega arith) on (tell_rest d a v cube cubes tell))
 
-pub some_next : (d : Circuit) (a : Valuation) (v : ℕ) (cubes : List (List ℕ)) → 0 < v → TellNext d a v cubes → clause_bit a (literals_from v (length cubes)) ≡ not (is_outside (next_state d a) cubes)
+pub some_next : (d : Circuit) (a : Valuation) (v : ℕ) (cubes : List (List ℕ)) → 0 < v → TellNext d a v cubes → clause_bit a (literals_from v (length cubes)) ≡ not (is_outside (next_latch_bits d a) cubes)
 some_next d a v [] h tell = refl
 some_next d a v (cube ∷ cubes) h tell =
     ap (clause_bit a) (from_more v (length cubes))
     ∙ (ap₂ ◌||◌ (literal_value-even a v h ∙ tell_first d a v cube cubes tell) (some_next d a (suc v) cubes (omega arith) (tell_rest d a v cube cubes tell))
-    ∙ not_or (is_in (next_state d a) cube) (is_outside (next_state d a) cubes))
+    ∙ not_or (is_in_cube (next_latch_bits d a) cube) (is_outside (next_latch_bits d a) cubes))

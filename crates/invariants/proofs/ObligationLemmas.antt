@@ -7,13 +7,13 @@ use Rattle.std.proofs.lemmas.List.Elements.{All-nil, All-cons, All-head, All-tai
 use Rattle.aiger.specs.declared.circuit.Gate.{Gate}
 use Rattle.aiger.specs.declared.circuit.Latch.{Latch}
 use Rattle.base.specs.Literal.{Valuation, literal_value}
-use Rattle.aiger.specs.Net.{Satisfies, SatisfiesFrom, AreOrderedFrom, IsDefined, input_bits, latch_bits}
+use Rattle.aiger.specs.Net.{Satisfies, SatisfiesFrom, AreOrderedFrom, IsDefined, net_input_bits, latch_bits}
 use Rattle.aiger.specs.Circuit.{Circuit, IsCircuit, net}
-use Rattle.aiger.specs.Trace.{IsFrame, next_state}
+use Rattle.aiger.specs.Trace.{IsCircuitFrame, next_latch_bits}
 use Rattle.base.proofs.LiteralLemmas.{literal_value-even, literal_value-odd}
 use Rattle.aiger.proofs.TraceLemmas.{AgreeBelow, literal_value-agree, bits_from-agree}
 use Rattle.clauses.specs.Formula.{IsUnsatisfiable}
-use Rattle.invariants.specs.Invariants.{AreOver, is_in, is_outside, bad_literal, Keeps, IsInductive}
+use Rattle.invariants.specs.Invariants.{AreOver, is_in_cube, is_outside, bad_literal, KeepsCubes, IsInductive}
 use Rattle.invariants.specs.Obligation.{truth_variable, rise_variable, cube_variable, over, gates_clauses, outside_clause, nexts_clauses, rise_clause, fails_clause, now_clauses, failing_clauses, obligation_clauses, obligation}
 use Rattle.invariants.proofs.BitLemmas.{formula_bit, clause_bit, formula_true, formula_satisfied, two, one_is, not_or_self}
 use Rattle.invariants.proofs.ClauseLemmas.{over-value, gates_hold, gates_pass, outside_bits, literals_from, nexts_hold, TellNext, nexts_pass, some_next}
@@ -78,9 +78,9 @@ none_rises false c h e = refl
 pub refuted : (d : Circuit) (cubes : List (List ℕ)) → AreOver (length d.latches) cubes → IsInductive d cubes → IsUnsatisfiable (obligation d cubes)
 refuted d cubes over inductive a sat =
     let p = parted d cubes a (formula_true a (obligation_clauses d cubes) sat) in
-    let frame : IsFrame d (latch_bits (net d) a) (input_bits (net d) a) a =
+    let frame : IsCircuitFrame d (latch_bits (net d) a) (net_input_bits (net d) a) a =
     record { gates = gates_hold a (truth_variable d) (suc (d.inputs + length d.latches)) d.gates (omega arith) (omega arith) p.truth p.gates; inputs = refl; latches = refl } in
-    let keeps : Keeps d cubes a = inductive (latch_bits (net d) a) (input_bits (net d) a) a frame (sym (outside_bits d a cubes over) ∙ p.outside) in
+    let keeps : KeepsCubes d cubes a = inductive (latch_bits (net d) a) (net_input_bits (net d) a) a frame (sym (outside_bits d a cubes over) ∙ p.outside) in
     let rise : a (rise_variable d) ≡ false = none_rises (a (rise_variable d)) (literal_value a (bad_literal d)) (sym (rise_bit d a p.truth) ∙ p.rise) keeps.safe in
     let none : clause_bit a (literals_from (cube_variable d) (length cubes)) ≡ false = nexts_hold d a (cube_variable d) cubes (omega arith) p.truth p.nexts keeps.outside in
     true≢false (sym p.fails ∙ (fails_bit d (length cubes) a ∙ ap₂ ◌||◌ rise none))
@@ -103,7 +103,7 @@ assigned d cubes v k =
     if nat_lt k (truth_variable d) then v k
     else (if k == truth_variable d then true
     else (if k == rise_variable d then literal_value v (bad_literal d)
-    else is_in (next_state d v) (get_or cubes (k - cube_variable d) [])))
+    else is_in_cube (next_latch_bits d v) (get_or cubes (k - cube_variable d) [])))
 
 assigned-below : (d : Circuit) (cubes : List (List ℕ)) (v : Valuation) (k : ℕ) → k < truth_variable d → v k ≡ assigned d cubes v k
 assigned-below d cubes v k h = grind (arith, nat_tests)
@@ -114,11 +114,11 @@ assigned-truth d cubes v = grind (arith, nat_tests)
 assigned-rise : (d : Circuit) (cubes : List (List ℕ)) (v : Valuation) → assigned d cubes v (rise_variable d) ≡ literal_value v (bad_literal d)
 assigned-rise d cubes v = grind (arith, nat_tests)
 
-assigned-cube : (d : Circuit) (cubes : List (List ℕ)) (v : Valuation) (i : ℕ) → assigned d cubes v (cube_variable d + i) ≡ is_in (next_state d v) (get_or cubes i [])
+assigned-cube : (d : Circuit) (cubes : List (List ℕ)) (v : Valuation) (i : ℕ) → assigned d cubes v (cube_variable d + i) ≡ is_in_cube (next_latch_bits d v) (get_or cubes i [])
 assigned-cube d cubes v i =
     let e : cube_variable d + i - cube_variable d ≡ i = omega arith in
-    let f : assigned d cubes v (cube_variable d + i) ≡ is_in (next_state d v) (get_or cubes (cube_variable d + i - cube_variable d) []) = grind (arith, nat_tests) in
-    f ∙ ap (λ (k : ℕ). is_in (next_state d v) (get_or cubes k [])) e
+    let f : assigned d cubes v (cube_variable d + i) ≡ is_in_cube (next_latch_bits d v) (get_or cubes (cube_variable d + i - cube_variable d) []) = grind (arith, nat_tests) in
+    f ∙ ap (λ (k : ℕ). is_in_cube (next_latch_bits d v) (get_or cubes k [])) e
 
 -- latches take the same bits where their literals say the same
 taken_alike : (bound : ℕ) (v w : Valuation) (ls : List Latch) → AgreeBelow bound v w → All (λ latch. latch.next < 2 * bound) ls
@@ -139,17 +139,17 @@ bad_below d [] all = omega arith
 bad_below d (b ∷ bads) all = let h : IsDefined (net d) b = All-head (IsDefined (net d)) b bads all in omega (arith, h)
 
 -- everything of the obligation but its last clause holds of a frame from a state in no cube, and the last one says whether the invariant is left
-framed : (d : Circuit) (cubes : List (List ℕ)) (state input : List Bool) (v : Valuation) → IsCircuit d → AreOver (length d.latches) cubes → IsFrame d state input v → is_outside state cubes ≡ true
-    → (literal_value v (bad_literal d) || not (is_outside (next_state d v) cubes)) ≡ true → formula_bit (assigned d cubes v) (obligation_clauses d cubes) ≡ true
+framed : (d : Circuit) (cubes : List (List ℕ)) (state input : List Bool) (v : Valuation) → IsCircuit d → AreOver (length d.latches) cubes → IsCircuitFrame d state input v → is_outside state cubes ≡ true
+    → (literal_value v (bad_literal d) || not (is_outside (next_latch_bits d v) cubes)) ≡ true → formula_bit (assigned d cubes v) (obligation_clauses d cubes) ≡ true
 framed d cubes state input v valid over frame out leaves =
     let a : Valuation = assigned d cubes v in
     let agree : AgreeBelow (truth_variable d) v a = λ k low high. assigned-below d cubes v k high in
     let on : a (truth_variable d) ≡ true = assigned-truth d cubes v in
     let gates : Satisfies (net d) a = satisfied_agree (suc (d.inputs + length d.latches)) d.gates v a (omega arith) valid.ordered (λ k low high. agree k low (omega arith)) frame.gates in
     let bits : latch_bits (net d) a ≡ state = sym (bits_from-agree (suc d.inputs) (length d.latches) v a (λ k low high. agree k (omega arith) (omega arith))) ∙ frame.latches in
-    let next : next_state d v ≡ next_state d a = taken_alike (truth_variable d) v a d.latches agree (defined_below d d.latches valid.defined.nexts) in
+    let next : next_latch_bits d v ≡ next_latch_bits d a = taken_alike (truth_variable d) v a d.latches agree (defined_below d d.latches valid.defined.nexts) in
     let bad : literal_value v (bad_literal d) ≡ literal_value a (bad_literal d) = literal_value-agree (truth_variable d) v a (bad_literal d) agree (bad_below d d.bads valid.defined.bads) in
-    let tell : TellNext d a (cube_variable d) cubes = λ i h. assigned-cube d cubes v i ∙ ap (λ (s : List Bool). is_in s (get_or cubes i [])) next in
+    let tell : TellNext d a (cube_variable d) cubes = λ i h. assigned-cube d cubes v i ∙ ap (λ (s : List Bool). is_in_cube s (get_or cubes i [])) next in
     let rise : a (rise_variable d) ≡ literal_value a (bad_literal d) = assigned-rise d cubes v ∙ bad in
     joined d cubes a (record {
       truth = on;
@@ -164,12 +164,12 @@ framed d cubes state input v valid over frame out leaves =
     })
 
 pub proved : (d : Circuit) (cubes : List (List ℕ)) → IsCircuit d → AreOver (length d.latches) cubes → IsUnsatisfiable (obligation d cubes) → IsInductive d cubes
-proved d cubes valid over unsat state input v frame out = by (literal_value v (bad_literal d)) (is_outside (next_state d v) cubes) refl refl
+proved d cubes valid over unsat state input v frame out = by (literal_value v (bad_literal d)) (is_outside (next_latch_bits d v) cubes) refl refl
   where
-    left : (literal_value v (bad_literal d) || not (is_outside (next_state d v) cubes)) ≡ true → ⊥
+    left : (literal_value v (bad_literal d) || not (is_outside (next_latch_bits d v) cubes)) ≡ true → ⊥
     left leaves = unsat (assigned d cubes v) (formula_satisfied (assigned d cubes v) (obligation_clauses d cubes) (framed d cubes state input v valid over frame out leaves))
 
-    by : (b m : Bool) → literal_value v (bad_literal d) ≡ b → is_outside (next_state d v) cubes ≡ m → Keeps d cubes v
-    by true m e f = absurd (left (ap (λ (x : Bool). x || not (is_outside (next_state d v) cubes)) e))
+    by : (b m : Bool) → literal_value v (bad_literal d) ≡ b → is_outside (next_latch_bits d v) cubes ≡ m → KeepsCubes d cubes v
+    by true m e f = absurd (left (ap (λ (x : Bool). x || not (is_outside (next_latch_bits d v) cubes)) e))
     by false true e f = record { safe = e; outside = f }
     by false false e f = absurd (left (ap₂ (λ (x y : Bool). x || not y) e f))

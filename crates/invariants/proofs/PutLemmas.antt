@@ -8,7 +8,7 @@ use Rattle.base.specs.Literal.{negation}
 use Rattle.clauses.specs.Formula.{Formula, IsLiteral}
 use Rattle.invariants.specs.Invariants.{AreOver}
 use Rattle.invariants.specs.Obligation.{over, gate_clauses, gates_clauses, outside_clause, next_literal, next_clauses, nexts_clauses, rise_variable, fails_clause}
-use Rattle.invariants.specs.Made.{Adds}
+use Rattle.invariants.specs.Made.{AddsClauses}
 use Rattle.invariants.proofs.ClauseLemmas.{literals_from, from_more}
 
 -- of all the clauses that are to be put behind those of a formula, these are left
@@ -33,7 +33,7 @@ pub leaves_front : (old new : Formula) (all rest front behind : List (List ℕ))
 leaves_front old new all rest front behind e l = over_front new.variables front behind (subst (AreOver new.variables) e l.literals)
 
 -- once they are put, the others are left
-pub leaves_less : (old mid new : Formula) (all rest front behind : List (List ℕ)) → rest ≡ front ++ behind → Leaves old mid all rest → Adds mid new front → Leaves old new all behind
+pub leaves_less : (old mid new : Formula) (all rest front behind : List (List ℕ)) → rest ≡ front ++ behind → Leaves old mid all rest → AddsClauses mid new front → Leaves old new all behind
 leaves_less old mid new all rest front behind e l adds =
     record {
       variables = adds.variables ∙ l.variables;
@@ -42,12 +42,12 @@ leaves_less old mid new all rest front behind e l adds =
       literals = subst (λ (n : ℕ). AreOver n behind) (sym adds.variables) (over_behind mid.variables front behind (subst (AreOver mid.variables) e l.literals));
     }
 
-pub leaves_none : (old new : Formula) (all rest : List (List ℕ)) → rest ≡ [] → Leaves old new all rest → Adds old new all
+pub leaves_none : (old new : Formula) (all rest : List (List ℕ)) → rest ≡ [] → Leaves old new all rest → AddsClauses old new all
 leaves_none old new all rest e l =
     record { variables = l.variables; clauses = sym (append-nil new.clauses) ∙ (ap (λ (cs : List (List ℕ)). new.clauses ++ cs) (sym e) ∙ l.clauses) }
 
 -- the last of those that are left
-pub leaves_last : (old mid new : Formula) (all rest : List (List ℕ)) → Leaves old mid all rest → Adds mid new rest → Adds old new all
+pub leaves_last : (old mid new : Formula) (all rest : List (List ℕ)) → Leaves old mid all rest → AddsClauses mid new rest → AddsClauses old new all
 leaves_last old mid new all rest l adds = record { variables = adds.variables ∙ l.variables; clauses = adds.clauses ∙ l.clauses }
 
 -- ---- the clauses of a gate
@@ -127,17 +127,17 @@ outsides_front old new all d k cubes cube clause h is e l =
     (leaves_front old new all (map (outside_clause d) (drop k cubes)) (outside_clause d cube ∷ []) (map (outside_clause d) (drop (k + 1) cubes)) (outsides_at d k cubes cube h is) l))
 
 pub outsides_less : (old mid new : Formula) (all : List (List ℕ)) (d : Circuit) (k : ℕ) (cubes : List (List ℕ)) (cube clause : List ℕ) → k < length cubes → cube ≡ get_or cubes k [] → clause ≡ outside_clause d cube
-    → Leaves old mid all (map (outside_clause d) (drop k cubes)) → Adds mid new (clause ∷ []) → Leaves old new all (map (outside_clause d) (drop (k + 1) cubes))
+    → Leaves old mid all (map (outside_clause d) (drop k cubes)) → AddsClauses mid new (clause ∷ []) → Leaves old new all (map (outside_clause d) (drop (k + 1) cubes))
 outsides_less old mid new all d k cubes cube clause h is e l adds =
     leaves_less old mid new all (map (outside_clause d) (drop k cubes)) (outside_clause d cube ∷ []) (map (outside_clause d) (drop (k + 1) cubes)) (outsides_at d k cubes cube h is) l
-    (subst (λ (c : List ℕ). Adds mid new (c ∷ [])) e adds)
+    (subst (λ (c : List ℕ). AddsClauses mid new (c ∷ [])) e adds)
 
 pub nexts_front : (old new : Formula) (all : List (List ℕ)) (d : Circuit) (v w k : ℕ) (cubes : List (List ℕ)) (cube : List ℕ) → w ≡ v + k → k < length cubes → cube ≡ get_or cubes k []
     → Leaves old new all (nexts_clauses d (v + k) (drop k cubes)) → AreOver new.variables (next_clauses d w cube)
 nexts_front old new all d v w k cubes cube e h is l = leaves_front old new all (nexts_clauses d (v + k) (drop k cubes)) (next_clauses d w cube) (nexts_clauses d (v + (k + 1)) (drop (k + 1) cubes)) (nexts_at d v w k cubes cube e h is) l
 
 pub nexts_less : (old mid new : Formula) (all : List (List ℕ)) (d : Circuit) (v w k : ℕ) (cubes : List (List ℕ)) (cube : List ℕ) → w ≡ v + k → k < length cubes → cube ≡ get_or cubes k []
-    → Leaves old mid all (nexts_clauses d (v + k) (drop k cubes)) → Adds mid new (next_clauses d w cube) → Leaves old new all (nexts_clauses d (v + (k + 1)) (drop (k + 1) cubes))
+    → Leaves old mid all (nexts_clauses d (v + k) (drop k cubes)) → AddsClauses mid new (next_clauses d w cube) → Leaves old new all (nexts_clauses d (v + (k + 1)) (drop (k + 1) cubes))
 nexts_less old mid new all d v w k cubes cube e h is l adds =
     leaves_less old mid new all (nexts_clauses d (v + k) (drop k cubes)) (next_clauses d w cube) (nexts_clauses d (v + (k + 1)) (drop (k + 1) cubes)) (nexts_at d v w k cubes cube e h is) l adds
 
@@ -149,15 +149,15 @@ next_front old new all d v k cube x r h e l =
     (leaves_front old new all (next_clauses d v (drop k cube)) (((2 * v + 1) ∷ next_literal d (get_or cube k x) ∷ []) ∷ []) (next_clauses d v (drop (k + 1) cube)) (next_at d v k cube x h) l))
 
 pub next_less : (old mid new : Formula) (all : List (List ℕ)) (d : Circuit) (v k : ℕ) (cube : List ℕ) (x r : ℕ) → k < length cube → r ≡ next_literal d (get_or cube k x)
-    → Leaves old mid all (next_clauses d v (drop k cube)) → Adds mid new (((2 * v + 1) ∷ r ∷ []) ∷ []) → Leaves old new all (next_clauses d v (drop (k + 1) cube))
+    → Leaves old mid all (next_clauses d v (drop k cube)) → AddsClauses mid new (((2 * v + 1) ∷ r ∷ []) ∷ []) → Leaves old new all (next_clauses d v (drop (k + 1) cube))
 next_less old mid new all d v k cube x r h e l adds =
     leaves_less old mid new all (next_clauses d v (drop k cube)) (((2 * v + 1) ∷ next_literal d (get_or cube k x) ∷ []) ∷ []) (next_clauses d v (drop (k + 1) cube)) (next_at d v k cube x h) l
-    (subst (λ (y : ℕ). Adds mid new (((2 * v + 1) ∷ y ∷ []) ∷ [])) e adds)
+    (subst (λ (y : ℕ). AddsClauses mid new (((2 * v + 1) ∷ y ∷ []) ∷ [])) e adds)
 
 -- a clause is put before the others
-pub first_put : (f g : Formula) (clause clause' : List ℕ) (rest : List (List ℕ)) → clause' ≡ clause → AreOver f.variables (clause ∷ rest) → Adds f g (clause' ∷ []) → Leaves f g (clause ∷ rest) rest
+pub first_put : (f g : Formula) (clause clause' : List ℕ) (rest : List (List ℕ)) → clause' ≡ clause → AreOver f.variables (clause ∷ rest) → AddsClauses f g (clause' ∷ []) → Leaves f g (clause ∷ rest) rest
 first_put f g clause clause' rest e all adds =
-    leaves_less f f g (clause ∷ rest) (clause ∷ rest) (clause ∷ []) rest refl (leaves_all f (clause ∷ rest) all) (subst (λ (c : List ℕ). Adds f g (c ∷ [])) e adds)
+    leaves_less f f g (clause ∷ rest) (clause ∷ rest) (clause ∷ []) rest refl (leaves_all f (clause ∷ rest) all) (subst (λ (c : List ℕ). AddsClauses f g (c ∷ [])) e adds)
 
 pub first_clause : (n : ℕ) (clause clause' : List ℕ) (rest : List (List ℕ)) → clause' ≡ clause → AreOver n (clause ∷ rest) → All (IsLiteral n) clause'
 first_clause n clause clause' rest e all = subst (All (IsLiteral n)) (sym e) (All-head (All (IsLiteral n)) clause rest all)

@@ -14,8 +14,8 @@ use Rattle.invariants.specs.declared.why.InvariantWhy.{InvariantWhy}
 use Rattle.invariants.specs.declared.why.InvariantWhy.TheVariants as why
 use Rattle.invariants.specs.declared.why.InvariantFault.{InvariantFault}
 use Rattle.invariants.specs.Invariants.{asks_one}
-use Rattle.invariants.specs.Reading.{Reading, is_part, part_of, cube_of, plain_cube, asking, cube_or_why, with_cube, admit, ended, read_lines}
-use Rattle.invariants.specs.Reader.{Lines, left, Gives, Agree}
+use Rattle.invariants.specs.Reading.{CubesReading, is_part, part_of, cube_of, plain_cube, asking, cube_or_why, with_cube, admit_cube_line, ended, read_cube_lines}
+use Rattle.invariants.specs.Reader.{Lines, cubes_left, GivesCubes, AgreeAsLines}
 
 -- ---- cubes
 
@@ -47,7 +47,7 @@ plain_inside n named width (Some parts) cube all e = by (list_all is_part parts)
     by false c e = absurd (cc)
 
 -- a cube that is refused is so for the why of its line, or for want of memory
-pub refused_cube : (n : ℕ) (named : List ℕ) (width : ℕ) (parts : Option (List ℕ)) (r : Reading) (cube : List ℕ) (e : InvariantWhy) → All (λ k. k < n) named → plain_cube named width parts ≡ Ok cube
+pub refused_cube : (n : ℕ) (named : List ℕ) (width : ℕ) (parts : Option (List ℕ)) (r : CubesReading) (cube : List ℕ) (e : InvariantWhy) → All (λ k. k < n) named → plain_cube named width parts ≡ Ok cube
     → ((asks_one cube ≡ false) × (e ≡ why.HoldsAtStart)) ⊎ ((asks_one cube ≡ true) × (((All (IsLiteral n) cube → ⊥) × (e ≡ why.NoSuchLatch)) ⊎ (All (IsLiteral n) cube × (e ≡ why.NoMemory))))
     → (e ≡ why.NoMemory) ⊎ (with_cube r (cube_or_why named width parts) ≡ Err e)
 refused_cube n named width parts r cube e all is (inl holds) =
@@ -59,51 +59,51 @@ refused_cube n named width parts r cube e all is (inr (asks, inr memory)) = inl 
 
 -- ---- lines
 
-line_of_text : (n : ℕ) (old : Lines) (line text rest : List ℕ) → IsLine line → text ≡ (line ++ 10 ∷ []) ++ rest → left n old text ≡ read_lines old.latches (line_after n) (admit old.latches old.reading line) (whole_lines rest) (unfinished rest)
+line_of_text : (n : ℕ) (old : Lines) (line text rest : List ℕ) → IsLine line → text ≡ (line ++ 10 ∷ []) ++ rest → cubes_left n old text ≡ read_cube_lines old.latches (line_after n) (admit_cube_line old.latches old.reading line) (whole_lines rest) (unfinished rest)
 line_of_text n old line text rest is e =
-    ap (left n old) (e ∙ append_assoc line (10 ∷ []) rest)
-    ∙ ap₂ (λ (ls : List (List ℕ)) (u : List ℕ). read_lines old.latches n (Ok old.reading) ls u) (whole_lines-line line rest is) (unfinished-line line rest)
+    ap (cubes_left n old) (e ∙ append_assoc line (10 ∷ []) rest)
+    ∙ ap₂ (λ (ls : List (List ℕ)) (u : List ℕ). read_cube_lines old.latches n (Ok old.reading) ls u) (whole_lines-line line rest is) (unfinished-line line rest)
 
 pub agree_line : (before after : Option (List ℕ)) (line : List ℕ) (n : ℕ) (old new : Lines) → IsLine line → Consumes before after (line ++ 10 ∷ []) → new.latches ≡ old.latches
-    → admit old.latches old.reading line ≡ Ok new.reading → Agree n old before (line_after n) new after
+    → admit_cube_line old.latches old.reading line ≡ Ok new.reading → AgreeAsLines n old before (line_after n) new after
 agree_line None after line n old new is takes same admits = tt
 agree_line (Some text) None line n old new is takes same admits = takes
 agree_line (Some text) (Some rest) line n old new is takes same admits =
     line_of_text n old line text rest is takes
-    ∙ (ap (λ (a : Result Reading InvariantWhy). read_lines old.latches (line_after n) a (whole_lines rest) (unfinished rest)) admits
-    ∙ ap (λ (l : ℕ). read_lines l (line_after n) (Ok new.reading) (whole_lines rest) (unfinished rest)) (sym same))
+    ∙ (ap (λ (a : Result CubesReading InvariantWhy). read_cube_lines old.latches (line_after n) a (whole_lines rest) (unfinished rest)) admits
+    ∙ ap (λ (l : ℕ). read_cube_lines l (line_after n) (Ok new.reading) (whole_lines rest) (unfinished rest)) (sym same))
 
-pub gives_fault : (before after : Option (List ℕ)) (line : List ℕ) (n : ℕ) (old : Lines) (e : InvariantWhy) → IsLine line → Consumes before after (line ++ 10 ∷ []) → admit old.latches old.reading line ≡ Err e
-    → Gives n old before (Err (record { line = line_after n; why = e }))
+pub gives_fault : (before after : Option (List ℕ)) (line : List ℕ) (n : ℕ) (old : Lines) (e : InvariantWhy) → IsLine line → Consumes before after (line ++ 10 ∷ []) → admit_cube_line old.latches old.reading line ≡ Err e
+    → GivesCubes n old before (Err (record { line = line_after n; why = e }))
 gives_fault None after line n old e is takes admits = tt
 gives_fault (Some text) None line n old e is takes admits = absurd takes
 gives_fault (Some text) (Some rest) line n old e is takes admits =
     line_of_text n old line text rest is takes
-    ∙ ap (λ (a : Result Reading InvariantWhy). read_lines old.latches (line_after n) a (whole_lines rest) (unfinished rest)) admits
+    ∙ ap (λ (a : Result CubesReading InvariantWhy). read_cube_lines old.latches (line_after n) a (whole_lines rest) (unfinished rest)) admits
 
 pub gives_last : (before after : Option (List ℕ)) (rest : List ℕ) (n : ℕ) (old : Lines) (answer : Result (List (List ℕ)) InvariantFault) → IsLine rest → IsAtEnd after → Keeps before (prepend_known rest after)
-    → ended (line_after n) (admit old.latches old.reading rest) ≡ answer → Gives n old before answer
+    → ended (line_after n) (admit_cube_line old.latches old.reading rest) ≡ answer → GivesCubes n old before answer
 gives_last None after rest n old answer is end keeps e = tt
 gives_last (Some text) None rest n old answer is end keeps e = absurd keeps
 gives_last (Some text) (Some more) rest n old answer is end keeps e =
     let whole : text ≡ rest = sym keeps ∙ (ap (λ (m : List ℕ). rest ++ m) end ∙ append-nil rest) in
-    ap (left n old) whole
-    ∙ (ap₂ (λ (ls : List (List ℕ)) (u : List ℕ). read_lines old.latches n (Ok old.reading) ls u) (whole_lines-last rest is) (unfinished-last rest is) ∙ e)
+    ap (cubes_left n old) whole
+    ∙ (ap₂ (λ (ls : List (List ℕ)) (u : List ℕ). read_cube_lines old.latches n (Ok old.reading) ls u) (whole_lines-last rest is) (unfinished-last rest is) ∙ e)
 
 -- ---- steps
 
-pub agree_trans : (a b c : Option (List ℕ)) (l m n : ℕ) (old mid new : Lines) → Agree l old a m mid b → Agree m mid b n new c → Agree l old a n new c
+pub agree_trans : (a b c : Option (List ℕ)) (l m n : ℕ) (old mid new : Lines) → AgreeAsLines l old a m mid b → AgreeAsLines m mid b n new c → AgreeAsLines l old a n new c
 agree_trans None b c l m n old mid new x y = tt
 agree_trans (Some s) None c l m n old mid new x y = absurd x
 agree_trans (Some s) (Some t) None l m n old mid new x y = absurd y
 agree_trans (Some s) (Some t) (Some u) l m n old mid new x y = x ∙ y
 
-pub agree_gives : (a b : Option (List ℕ)) (l m : ℕ) (old mid : Lines) (answer : Result (List (List ℕ)) InvariantFault) → Agree l old a m mid b → Gives m mid b answer → Gives l old a answer
+pub agree_gives : (a b : Option (List ℕ)) (l m : ℕ) (old mid : Lines) (answer : Result (List (List ℕ)) InvariantFault) → AgreeAsLines l old a m mid b → GivesCubes m mid b answer → GivesCubes l old a answer
 agree_gives None b l m old mid answer x y = tt
 agree_gives (Some s) None l m old mid answer x y = absurd x
 agree_gives (Some s) (Some t) l m old mid answer x y = x ∙ y
 
-pub agree_same : (a : Option (List ℕ)) (n : ℕ) (l : Lines) → Agree n l a n l (prepend_known [] a)
+pub agree_same : (a : Option (List ℕ)) (n : ℕ) (l : Lines) → AgreeAsLines n l a n l (prepend_known [] a)
 agree_same None n l = tt
 agree_same (Some s) n l = refl
 
@@ -114,25 +114,25 @@ whole_is true old new before after e a = a
 whole_is false old new before after e a = absurd (cc)
 
 pub step_agrees : (w : Bool) (old new : Held) (before after : Option (List ℕ)) (n m : ℕ) (p q : Lines) (line : List ℕ) → w ≡ true → Advances (Ok w) old new before after → line ≡ new.line → m ≡ line_after n
-    → q.latches ≡ p.latches → admit p.latches p.reading line ≡ Ok q.reading → Agree n p (prepend_known old.rest before) m q (prepend_known new.rest after)
+    → q.latches ≡ p.latches → admit_cube_line p.latches p.reading line ≡ Ok q.reading → AgreeAsLines n p (prepend_known old.rest before) m q (prepend_known new.rest after)
 step_agrees w old new before after n m p q line e a is next same admits =
     let found = whole_is w old new before after e a in
-    subst (λ (k : ℕ). Agree n p (prepend_known old.rest before) k q (prepend_known new.rest after)) (sym next)
-    (agree_line (prepend_known old.rest before) (prepend_known new.rest after) new.line n p q found.0 found.1 same (ap (admit p.latches p.reading) (sym is) ∙ admits))
+    subst (λ (k : ℕ). AgreeAsLines n p (prepend_known old.rest before) k q (prepend_known new.rest after)) (sym next)
+    (agree_line (prepend_known old.rest before) (prepend_known new.rest after) new.line n p q found.0 found.1 same (ap (admit_cube_line p.latches p.reading) (sym is) ∙ admits))
 
 pub step_fault : (w : Bool) (old new : Held) (before after : Option (List ℕ)) (n m : ℕ) (p : Lines) (line : List ℕ) (f : InvariantWhy) → w ≡ true → Advances (Ok w) old new before after → line ≡ new.line → m ≡ line_after n
-    → admit p.latches p.reading line ≡ Err f → Gives n p (prepend_known old.rest before) (Err (record { line = m; why = f }))
+    → admit_cube_line p.latches p.reading line ≡ Err f → GivesCubes n p (prepend_known old.rest before) (Err (record { line = m; why = f }))
 step_fault w old new before after n m p line f e a is next admits =
     let found = whole_is w old new before after e a in
-    subst (λ (k : ℕ). Gives n p (prepend_known old.rest before) (Err (record { line = k; why = f }))) (sym next)
-    (gives_fault (prepend_known old.rest before) (prepend_known new.rest after) new.line n p f found.0 found.1 (ap (admit p.latches p.reading) (sym is) ∙ admits))
+    subst (λ (k : ℕ). GivesCubes n p (prepend_known old.rest before) (Err (record { line = k; why = f }))) (sym next)
+    (gives_fault (prepend_known old.rest before) (prepend_known new.rest after) new.line n p f found.0 found.1 (ap (admit_cube_line p.latches p.reading) (sym is) ∙ admits))
 
 pub step_last : (w : Bool) (old new : Held) (before after : Option (List ℕ)) (n m : ℕ) (p : Lines) (rest : List ℕ) (answer : Result (List (List ℕ)) InvariantFault) → w ≡ false → Advances (Ok w) old new before after → rest ≡ new.rest → m ≡ line_after n
-    → ended m (admit p.latches p.reading rest) ≡ answer → Gives n p (prepend_known old.rest before) answer
+    → ended m (admit_cube_line p.latches p.reading rest) ≡ answer → GivesCubes n p (prepend_known old.rest before) answer
 step_last true old new before after n m p rest answer e a is next end = absurd (cc)
 step_last false old new before after n m p rest answer e a is next end =
     gives_last (prepend_known old.rest before) after new.rest n p answer a.0.0 a.0.1 a.1.0
-    (ap₂ (λ (k : ℕ) (r : List ℕ). ended k (admit p.latches p.reading r)) (sym next) (sym is) ∙ end)
+    (ap₂ (λ (k : ℕ) (r : List ℕ). ended k (admit_cube_line p.latches p.reading r)) (sym next) (sym is) ∙ end)
 
 pub ok_weaker : {A E : Type 0} (r : Result A E) (P Q : A → Type 0) → ((x : A) → P x → Q x) → IfOk r P → IfOk r Q
 ok_weaker (Ok x) P Q f h = f x h

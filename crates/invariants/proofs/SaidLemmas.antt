@@ -14,8 +14,8 @@ use Rattle.invariants.specs.declared.why.InvariantFault.{InvariantFault}
 use Rattle.invariants.specs.declared.why.InvariantWhy.{InvariantWhy}
 use Rattle.invariants.specs.declared.why.InvariantWhy.TheVariants as why
 use Rattle.invariants.specs.Invariants.{asks_one}
-use Rattle.invariants.specs.Reading.{words, sole, value_of, decimal_of, behind_key, names_of, is_part, part_of, cube_of, is_one, parts_of, asking, cube_or_why, Reading, at_start, with_width, with_outputs, with_count, with_names, with_output, with_cube, with_line, admit, is_ended, ended, read_lines, read_text}
-use Rattle.invariants.specs.Reader.{Gives, begun}
+use Rattle.invariants.specs.Reading.{line_words, sole, value_behind, decimal_of, behind_key, named_latches, is_part, part_of, cube_of, is_word_one, parts_of, asking, cube_or_why, CubesReading, at_start, with_width, with_outputs, with_count, with_names, with_output_name, with_cube, with_line, admit_cube_line, is_ended, ended, read_cube_lines, read_cubes}
+use Rattle.invariants.specs.Reader.{GivesCubes, lines_begun}
 use Rattle.invariants.specs.Texts.{is_told, names_line, NamesLatch, part_byte, part_literals, cube_line, cube_literals, Pla, pla_lines, SaysCubes}
 use Rattle.invariants.proofs.WordLemmas.{words-none, words-blank, words-some}
 use Rattle.invariants.proofs.SaidWordLemmas.{joined, words_joined, decimal_line, decimal_read, value_line, value_read}
@@ -65,21 +65,21 @@ parts_bare (None ∷ parts) = parts_bare parts
 parts_bare (Some true ∷ parts) = parts_bare parts
 parts_bare (Some false ∷ parts) = parts_bare parts
 
-sole_one : (more : List (List ℕ)) → is_one (sole more) ≡ true → more ≡ codes "1" ∷ []
+sole_one : (more : List (List ℕ)) → is_word_one (sole more) ≡ true → more ≡ codes "1" ∷ []
 sole_one [] e = absurd (cc)
 sole_one (word ∷ []) e = ap (λ (w : List ℕ). w ∷ []) ((bytes_eq-Decides word (codes "1")).0 e)
 sole_one (word ∷ next ∷ more) e = absurd (cc)
 
-bytes_line : (line bytes : List ℕ) → parts_of (words line) ≡ Some bytes → line ≡ bytes ++ codes " 1"
-bytes_line line bytes e = let some = words-some line in by some.0 some.1 (is_one (sole some.1)) some.2 refl (ap parts_of (sym some.2) ∙ e)
+bytes_line : (line bytes : List ℕ) → parts_of (line_words line) ≡ Some bytes → line ≡ bytes ++ codes " 1"
+bytes_line line bytes e = let some = words-some line in by some.0 some.1 (is_word_one (sole some.1)) some.2 refl (ap parts_of (sym some.2) ∙ e)
   where
-    by : (word : List ℕ) (more : List (List ℕ)) (b : Bool) → words line ≡ word ∷ more → is_one (sole more) ≡ b → (if b then Some word else None) ≡ Some bytes → line ≡ bytes ++ codes " 1"
+    by : (word : List ℕ) (more : List (List ℕ)) (b : Bool) → line_words line ≡ word ∷ more → is_word_one (sole more) ≡ b → (if b then Some word else None) ≡ Some bytes → line ≡ bytes ++ codes " 1"
     by word more true is one e =
         let same : word ≡ bytes = cc in
         sym (words_joined line) ∙ (ap joined (is ∙ ap (λ (ws : List (List ℕ)). word ∷ ws) (sole_one more one)) ∙ ap (λ (w : List ℕ). w ++ codes " 1") same)
     by word more false is one e = absurd (cc)
 
-line_bytes : (bytes : List ℕ) → HasNone 32 bytes → parts_of (words (bytes ++ codes " 1")) ≡ Some bytes
+line_bytes : (bytes : List ℕ) → HasNone 32 bytes → parts_of (line_words (bytes ++ codes " 1")) ≡ Some bytes
 line_bytes bytes none = ap parts_of (words-blank bytes (codes "1") none ∙ ap (λ (ws : List (List ℕ)). bytes ∷ ws) (words-none (codes "1") refl))
 
 -- what a line says that is read as a cube
@@ -90,10 +90,10 @@ record SaysCube (named : List ℕ) (width : ℕ) (line cube : List ℕ) : Type 0
   pub literals : cube ≡ cube_literals named parts
   pub asks : asks_one cube ≡ true
 
-cube_said : (named : List ℕ) (width : ℕ) (line cube : List ℕ) → cube_or_why named width (parts_of (words line)) ≡ Ok cube → SaysCube named width line cube
-cube_said named width line cube e = by (parts_of (words line)) refl e
+cube_said : (named : List ℕ) (width : ℕ) (line cube : List ℕ) → cube_or_why named width (parts_of (line_words line)) ≡ Ok cube → SaysCube named width line cube
+cube_said named width line cube e = by (parts_of (line_words line)) refl e
   where
-    made : (bytes found : List ℕ) (asks : Bool) → parts_of (words line) ≡ Some bytes → list_all is_part bytes ≡ true → (length bytes == width) ≡ true → cube_of named bytes ≡ found → asks_one found ≡ asks
+    made : (bytes found : List ℕ) (asks : Bool) → parts_of (line_words line) ≡ Some bytes → list_all is_part bytes ≡ true → (length bytes == width) ≡ true → cube_of named bytes ≡ found → asks_one found ≡ asks
         → (if asks then Ok found else Err why.HoldsAtStart) ≡ Ok cube → SaysCube named width line cube
     made bytes found true is all many own asks e =
         let back = bytes_back bytes all in
@@ -107,20 +107,20 @@ cube_said named width line cube e = by (parts_of (words line)) refl e
         }
     made bytes found false is all many own asks e = absurd (cc)
 
-    told : (bytes : List ℕ) (all many : Bool) → parts_of (words line) ≡ Some bytes → list_all is_part bytes ≡ all → (length bytes == width) ≡ many
+    told : (bytes : List ℕ) (all many : Bool) → parts_of (line_words line) ≡ Some bytes → list_all is_part bytes ≡ all → (length bytes == width) ≡ many
         → asking (if not all then Err why.BadCube else (if many then Ok (cube_of named bytes) else Err why.WrongLength)) ≡ Ok cube → SaysCube named width line cube
     told bytes true true is all many e = made bytes (cube_of named bytes) (asks_one (cube_of named bytes)) is all many refl refl e
     told bytes true false is all many e = absurd (cc)
     told bytes false many is all n e = absurd (cc)
 
-    by : (o : Option (List ℕ)) → parts_of (words line) ≡ o → cube_or_why named width o ≡ Ok cube → SaysCube named width line cube
+    by : (o : Option (List ℕ)) → parts_of (line_words line) ≡ o → cube_or_why named width o ≡ Ok cube → SaysCube named width line cube
     by None is e = absurd (cc)
     by (Some bytes) is e = told bytes (list_all is_part bytes) (length bytes == width) is refl refl e
 
 yes : (m n : ℕ) → m ≡ n → (m == n) ≡ true
 yes m n e = grind (arith, nat_tests)
 
-cube_read : (named : List ℕ) (width : ℕ) (parts : List (Option Bool)) → length parts ≡ width → asks_one (cube_literals named parts) ≡ true → cube_or_why named width (parts_of (words (cube_line parts))) ≡ Ok (cube_literals named parts)
+cube_read : (named : List ℕ) (width : ℕ) (parts : List (Option Bool)) → length parts ≡ width → asks_one (cube_literals named parts) ≡ true → cube_or_why named width (parts_of (line_words (cube_line parts))) ≡ Ok (cube_literals named parts)
 cube_read named width parts wide asks =
     let bytes : List ℕ = map part_byte parts in
     ap (cube_or_why named width) (line_bytes bytes (parts_bare parts))
@@ -131,7 +131,7 @@ cube_read named width parts wide asks =
 
 -- ---- the lines that tell something, after a reading
 
-abbrev tells : ℕ → Result Reading InvariantWhy → List (List ℕ) → Option (List (List ℕ))
+abbrev tells : ℕ → Result CubesReading InvariantWhy → List (List ℕ) → Option (List (List ℕ))
 tells latches (Err e) lines = None
 tells latches (Ok r) [] = if is_ended r.expected then Some r.cubes else None
 tells latches (Ok r) (line ∷ more) = tells latches (with_line r.expected latches r line) more
@@ -140,14 +140,14 @@ some_told : {A : Type 0} (x y : A) → Some x ≡ Some y → x ≡ y
 some_told x y e = cc
 
 -- behind the end nothing is told
-nothing_behind : (latches : ℕ) (r : Reading) (lines cubes : List (List ℕ)) → r.expected ≡ expect.Nothing → tells latches (Ok r) lines ≡ Some cubes → (lines ≡ []) × (r.cubes ≡ cubes)
+nothing_behind : (latches : ℕ) (r : CubesReading) (lines cubes : List (List ℕ)) → r.expected ≡ expect.Nothing → tells latches (Ok r) lines ≡ Some cubes → (lines ≡ []) × (r.cubes ≡ cubes)
 nothing_behind latches r [] cubes is e = (refl, some_told r.cubes cubes (ap (λ (x : Expected). if is_ended x then Some r.cubes else None) (sym is) ∙ e))
 nothing_behind latches r (line ∷ more) cubes is e = let none : None ≡ Some cubes = ap (λ (x : Expected). tells latches (with_line x latches r line) more) (sym is) ∙ e in absurd (cc)
 
-abbrev at_cubes : ℕ → ℕ → List ℕ → List (List ℕ) → Reading
+abbrev at_cubes : ℕ → ℕ → List ℕ → List (List ℕ) → CubesReading
 at_cubes width left named cubes = record { expected = expect.Cubes; width = width; left = left; named = named; cubes = cubes }
 
-abbrev at_end : ℕ → ℕ → List ℕ → List (List ℕ) → Reading
+abbrev at_end : ℕ → ℕ → List ℕ → List (List ℕ) → CubesReading
 at_end width left named cubes = record { expected = expect.Nothing; width = width; left = left; named = named; cubes = cubes }
 
 -- what the lines of cubes and the end say, behind the cubes before
@@ -171,7 +171,7 @@ rows_said latches width left named before (line ∷ more) cubes e =
     Back : Type 0
     Back = (cube : List ℕ) → tells latches (Ok (at_cubes width (pred left) named (before ++ cube ∷ []))) more ≡ Some cubes → SaysRows named width (pred left) (before ++ cube ∷ []) more cubes
 
-    one : Back → (c : Result (List ℕ) InvariantWhy) → cube_or_why named width (parts_of (words line)) ≡ c → (left == 0) ≡ false → tells latches (with_cube (at_cubes width left named before) c) more ≡ Some cubes
+    one : Back → (c : Result (List ℕ) InvariantWhy) → cube_or_why named width (parts_of (line_words line)) ≡ c → (left == 0) ≡ false → tells latches (with_cube (at_cubes width left named before) c) more ≡ Some cubes
         → SaysRows named width left before (line ∷ more) cubes
     one back (Err why) is some e = absurd (cc)
     one back (Ok cube) is some e =
@@ -187,7 +187,7 @@ rows_said latches width left named before (line ∷ more) cubes e =
         }
 
     by : Back → (end none : Bool) → bytes_eq line (codes ".e") ≡ end → (left == 0) ≡ none
-        → tells latches (if end then (if none then Ok (at_end width left named before) else Err why.WrongCubes) else (if none then Err why.WrongCubes else with_cube (at_cubes width left named before) (cube_or_why named width (parts_of (words line))))) more ≡ Some cubes
+        → tells latches (if end then (if none then Ok (at_end width left named before) else Err why.WrongCubes) else (if none then Err why.WrongCubes else with_cube (at_cubes width left named before) (cube_or_why named width (parts_of (line_words line))))) more ≡ Some cubes
         → SaysRows named width left before (line ∷ more) cubes
     by back true true is some e =
         let rest = nothing_behind latches (at_end width left named before) more cubes refl e in
@@ -201,7 +201,7 @@ rows_said latches width left named before (line ∷ more) cubes e =
         }
     by back true false is some e = absurd (cc)
     by back false true is some e = absurd (cc)
-    by back false false is some e = one back (cube_or_why named width (parts_of (words line))) refl some e
+    by back false false is some e = one back (cube_or_why named width (parts_of (line_words line))) refl some e
 
 none_left : (n : ℕ) → (suc n == 0) ≡ false
 none_left n = grind (arith, nat_tests)
@@ -221,24 +221,24 @@ rows_read latches width named before (parts ∷ rows) wide ask =
     let more : List (List ℕ) = map cube_line rows ++ codes ".e" ∷ [] in
     let cube : List ℕ = cube_literals named parts in
     let asks = and_parts (asks_one cube) (list_all asks_one (map (cube_literals named) rows)) ask in
-    ap (λ (x : Bool). tells latches (if x then (if suc (length rows) == 0 then Ok (at_end width (suc (length rows)) named before) else Err why.WrongCubes) else (if suc (length rows) == 0 then Err why.WrongCubes else with_cube r (cube_or_why named width (parts_of (words (cube_line parts)))))) more) (longer parts)
-    ∙ (ap (λ (x : Bool). tells latches (if x then Err why.WrongCubes else with_cube r (cube_or_why named width (parts_of (words (cube_line parts))))) more) (none_left (length rows))
+    ap (λ (x : Bool). tells latches (if x then (if suc (length rows) == 0 then Ok (at_end width (suc (length rows)) named before) else Err why.WrongCubes) else (if suc (length rows) == 0 then Err why.WrongCubes else with_cube r (cube_or_why named width (parts_of (line_words (cube_line parts)))))) more) (longer parts)
+    ∙ (ap (λ (x : Bool). tells latches (if x then Err why.WrongCubes else with_cube r (cube_or_why named width (parts_of (line_words (cube_line parts))))) more) (none_left (length rows))
     ∙ (ap (λ (c : Result (List ℕ) InvariantWhy). tells latches (with_cube r c) more) (cube_read named width parts (All-head (λ (ps : List (Option Bool)). length ps ≡ width) parts rows wide) asks.0)
     ∙ (rows_read latches width named (before ++ cube ∷ []) rows (All-tail (λ (ps : List (Option Bool)). length ps ≡ width) parts rows wide) asks.1
     ∙ ap Some (append_assoc before (cube ∷ []) (map (cube_literals named) rows)))))
 
 -- ---- the lines before the cubes
 
-abbrev at_outputs : ℕ → Reading
+abbrev at_outputs : ℕ → CubesReading
 at_outputs width = record { expected = expect.Outputs; width = width; left = 0; named = []; cubes = [] }
 
-abbrev at_count : ℕ → Reading
+abbrev at_count : ℕ → CubesReading
 at_count width = record { expected = expect.Count; width = width; left = 0; named = []; cubes = [] }
 
-abbrev at_names : ℕ → ℕ → Reading
+abbrev at_names : ℕ → ℕ → CubesReading
 at_names width left = record { expected = expect.Names; width = width; left = left; named = []; cubes = [] }
 
-abbrev at_output : ℕ → ℕ → List ℕ → Reading
+abbrev at_output : ℕ → ℕ → List ℕ → CubesReading
 at_output width left named = record { expected = expect.Output; width = width; left = left; named = named; cubes = [] }
 
 -- the lines of a text say cubes
@@ -267,9 +267,9 @@ all_said latches text width count output line named n m more cubes lines w c lat
 output_on : (latches : ℕ) (text width count names named : List ℕ) (n m : ℕ) (lines cubes : List (List ℕ)) → filter is_told (all_lines text) ≡ (codes ".i " ++ width) ∷ codes ".o 1" ∷ (codes ".p " ++ count) ∷ names ∷ lines
     → number_of width ≡ Some n → number_of count ≡ Some m → SaysLatches latches n names named → tells latches (Ok (at_output n m named)) lines ≡ Some cubes → SaysCubes latches text cubes
 output_on latches text width count names named n m [] cubes is w c own e = absurd (cc)
-output_on latches text width count names named n m (line ∷ more) cubes is w c own e = by (value_of (codes ".ob") line) refl e
+output_on latches text width count names named n m (line ∷ more) cubes is w c own e = by (value_behind (codes ".ob") line) refl e
   where
-    by : (o : Option (List ℕ)) → value_of (codes ".ob") line ≡ o → tells latches (with_output (at_output n m named) o) more ≡ Some cubes → SaysCubes latches text cubes
+    by : (o : Option (List ℕ)) → value_behind (codes ".ob") line ≡ o → tells latches (with_output_name (at_output n m named) o) more ≡ Some cubes → SaysCubes latches text cubes
     by None found e = absurd (cc)
     by (Some output) found e =
         let word = value_line (codes ".ob") line output found in
@@ -279,18 +279,18 @@ output_on latches text width count names named n m (line ∷ more) cubes is w c 
 names_on : (latches : ℕ) (text width count : List ℕ) (n m : ℕ) (lines cubes : List (List ℕ)) → filter is_told (all_lines text) ≡ (codes ".i " ++ width) ∷ codes ".o 1" ∷ (codes ".p " ++ count) ∷ lines
     → number_of width ≡ Some n → number_of count ≡ Some m → tells latches (Ok (at_names n m)) lines ≡ Some cubes → SaysCubes latches text cubes
 names_on latches text width count n m [] cubes is w c e = absurd (cc)
-names_on latches text width count n m (line ∷ more) cubes is w c e = by (names_of latches n (behind_key (codes ".ilb") (words line))) refl e
+names_on latches text width count n m (line ∷ more) cubes is w c e = by (named_latches latches n (behind_key (codes ".ilb") (line_words line))) refl e
   where
-    by : (r : Result (List ℕ) InvariantWhy) → names_of latches n (behind_key (codes ".ilb") (words line)) ≡ r → tells latches (with_names (at_names n m) r) more ≡ Some cubes → SaysCubes latches text cubes
+    by : (r : Result (List ℕ) InvariantWhy) → named_latches latches n (behind_key (codes ".ilb") (line_words line)) ≡ r → tells latches (with_names (at_names n m) r) more ≡ Some cubes → SaysCubes latches text cubes
     by (Err why) found e = absurd (cc)
     by (Ok named) found e = output_on latches text width count line named n m more cubes is w c (latches_said latches n line named found) e
 
 count_on : (latches : ℕ) (text width : List ℕ) (n : ℕ) (lines cubes : List (List ℕ)) → filter is_told (all_lines text) ≡ (codes ".i " ++ width) ∷ codes ".o 1" ∷ lines
     → number_of width ≡ Some n → tells latches (Ok (at_count n)) lines ≡ Some cubes → SaysCubes latches text cubes
 count_on latches text width n [] cubes is w e = absurd (cc)
-count_on latches text width n (line ∷ more) cubes is w e = by (decimal_of (value_of (codes ".p") line)) refl e
+count_on latches text width n (line ∷ more) cubes is w e = by (decimal_of (value_behind (codes ".p") line)) refl e
   where
-    by : (o : Option ℕ) → decimal_of (value_of (codes ".p") line) ≡ o → tells latches (with_count (at_count n) o) more ≡ Some cubes → SaysCubes latches text cubes
+    by : (o : Option ℕ) → decimal_of (value_behind (codes ".p") line) ≡ o → tells latches (with_count (at_count n) o) more ≡ Some cubes → SaysCubes latches text cubes
     by None found e = absurd (cc)
     by (Some m) found e =
         let word = decimal_line (codes ".p") line m found in
@@ -299,23 +299,23 @@ count_on latches text width n (line ∷ more) cubes is w e = by (decimal_of (val
 outputs_on : (latches : ℕ) (text width : List ℕ) (n : ℕ) (lines cubes : List (List ℕ)) → filter is_told (all_lines text) ≡ (codes ".i " ++ width) ∷ lines
     → number_of width ≡ Some n → tells latches (Ok (at_outputs n)) lines ≡ Some cubes → SaysCubes latches text cubes
 outputs_on latches text width n [] cubes is w e = absurd (cc)
-outputs_on latches text width n (line ∷ more) cubes is w e = by (value_of (codes ".o") line) refl e
+outputs_on latches text width n (line ∷ more) cubes is w e = by (value_behind (codes ".o") line) refl e
   where
-    one : (word : List ℕ) (b : Bool) → value_of (codes ".o") line ≡ Some word → bytes_eq word (codes "1") ≡ b → tells latches (if b then Ok (at_count n) else Err why.BadOutputs) more ≡ Some cubes → SaysCubes latches text cubes
+    one : (word : List ℕ) (b : Bool) → value_behind (codes ".o") line ≡ Some word → bytes_eq word (codes "1") ≡ b → tells latches (if b then Ok (at_count n) else Err why.BadOutputs) more ≡ Some cubes → SaysCubes latches text cubes
     one word true found same e =
         let own : line ≡ codes ".o 1" = (value_line (codes ".o") line word found).0 ∙ ap (λ (x : List ℕ). codes ".o " ++ x) ((bytes_eq-Decides word (codes "1")).0 same) in
         count_on latches text width n more cubes (is ∙ ap (λ (l : List ℕ). (codes ".i " ++ width) ∷ l ∷ more) own) w e
     one word false found same e = absurd (cc)
 
-    by : (o : Option (List ℕ)) → value_of (codes ".o") line ≡ o → tells latches (with_outputs (at_outputs n) o) more ≡ Some cubes → SaysCubes latches text cubes
+    by : (o : Option (List ℕ)) → value_behind (codes ".o") line ≡ o → tells latches (with_outputs (at_outputs n) o) more ≡ Some cubes → SaysCubes latches text cubes
     by None found e = absurd (cc)
     by (Some word) found e = one word (bytes_eq word (codes "1")) found refl e
 
 lines_said : (latches : ℕ) (text : List ℕ) (lines cubes : List (List ℕ)) → filter is_told (all_lines text) ≡ lines → tells latches (Ok at_start) lines ≡ Some cubes → SaysCubes latches text cubes
 lines_said latches text [] cubes is e = absurd (cc)
-lines_said latches text (line ∷ more) cubes is e = by (decimal_of (value_of (codes ".i") line)) refl e
+lines_said latches text (line ∷ more) cubes is e = by (decimal_of (value_behind (codes ".i") line)) refl e
   where
-    by : (o : Option ℕ) → decimal_of (value_of (codes ".i") line) ≡ o → tells latches (with_width at_start o) more ≡ Some cubes → SaysCubes latches text cubes
+    by : (o : Option ℕ) → decimal_of (value_behind (codes ".i") line) ≡ o → tells latches (with_width at_start o) more ≡ Some cubes → SaysCubes latches text cubes
     by None found e = absurd (cc)
     by (Some n) found e = let word = decimal_line (codes ".i") line n found in outputs_on latches text word.0 n more cubes (is ∙ ap (λ (l : List ℕ). l ∷ more) word.1) word.2 e
 
@@ -332,7 +332,7 @@ lines_read latches pla named names there once width count output parts ask =
     ap (λ (o : Option ℕ). tells latches (with_width at_start o) (codes ".o 1" ∷ (codes ".p " ++ pla.count) ∷ from_names)) (decimal_read (codes ".i") pla.width n refl width)
     ∙ (ap (λ (o : Option ℕ). tells latches (with_count (at_count n) o) from_names) (decimal_read (codes ".p") pla.count m refl count)
     ∙ (ap (λ (r : Result (List ℕ) InvariantWhy). tells latches (with_names (at_names n m) r) from_output) (latches_read latches n pla.names named names there once refl)
-    ∙ (ap (λ (o : Option (List ℕ)). tells latches (with_output (at_output n m named) o) rows) (value_read (codes ".ob") pla.output refl output)
+    ∙ (ap (λ (o : Option (List ℕ)). tells latches (with_output_name (at_output n m named) o) rows) (value_read (codes ".ob") pla.output refl output)
     ∙ rows_read latches n named [] pla.cubes parts ask)))
 
 -- ---- the text
@@ -347,7 +347,7 @@ unfolding read_of
 read_back (Ok found) cubes e = ap Ok (some_told found cubes e)
 read_back (Err why) cubes e = absurd (cc)
 
-ended_told : (latches number : ℕ) (a : Result Reading InvariantWhy) → read_of (ended number a) ≡ tells latches a []
+ended_told : (latches number : ℕ) (a : Result CubesReading InvariantWhy) → read_of (ended number a) ≡ tells latches a []
 unfolding read_of
 ended_told latches number (Err e) = refl
 ended_told latches number (Ok r) = by (is_ended r.expected)
@@ -357,7 +357,7 @@ ended_told latches number (Ok r) = by (is_ended r.expected)
     by false = refl
 
 -- a line is passed over where it tells nothing
-told_more : (latches : ℕ) (r : Reading) (line : List ℕ) (rest : List (List ℕ)) → tells latches (admit latches r line) (filter is_told rest) ≡ tells latches (Ok r) (filter is_told (line ∷ rest))
+told_more : (latches : ℕ) (r : CubesReading) (line : List ℕ) (rest : List (List ℕ)) → tells latches (admit_cube_line latches r line) (filter is_told rest) ≡ tells latches (Ok r) (filter is_told (line ∷ rest))
 told_more latches r [] rest = refl
 told_more latches r (b ∷ bs) rest = by (b == 35)
   where
@@ -365,34 +365,34 @@ told_more latches r (b ∷ bs) rest = by (b == 35)
     by true = refl
     by false = refl
 
-lines_told : (latches number : ℕ) (a : Result Reading InvariantWhy) (lines : List (List ℕ)) (last : List ℕ) → read_of (read_lines latches number a lines last) ≡ tells latches a (filter is_told (lines ++ last ∷ []))
+lines_told : (latches number : ℕ) (a : Result CubesReading InvariantWhy) (lines : List (List ℕ)) (last : List ℕ) → read_of (read_cube_lines latches number a lines last) ≡ tells latches a (filter is_told (lines ++ last ∷ []))
 unfolding read_of
 lines_told latches number (Err e) lines last = refl
-lines_told latches number (Ok r) [] last = ended_told latches (line_after number) (admit latches r last) ∙ told_more latches r last []
-lines_told latches number (Ok r) (line ∷ more) last = lines_told latches (line_after number) (admit latches r line) more last ∙ told_more latches r line (more ++ last ∷ [])
+lines_told latches number (Ok r) [] last = ended_told latches (line_after number) (admit_cube_line latches r last) ∙ told_more latches r last []
+lines_told latches number (Ok r) (line ∷ more) last = lines_told latches (line_after number) (admit_cube_line latches r line) more last ∙ told_more latches r line (more ++ last ∷ [])
 
 -- an end without a byte tells nothing
 same_lines : (lines : List (List ℕ)) (last : List ℕ) → filter is_told (lines ++ last ∷ []) ≡ filter is_told (lines ++ (if is_nothing last then [] else last ∷ []))
 same_lines lines [] = filter-append is_told lines ([] ∷ []) ∙ sym (filter-append is_told lines [])
 same_lines lines (b ∷ bs) = refl
 
-text_told : (latches : ℕ) (text : List ℕ) → read_of (read_text latches text) ≡ tells latches (Ok at_start) (filter is_told (all_lines text))
+text_told : (latches : ℕ) (text : List ℕ) → read_of (read_cubes latches text) ≡ tells latches (Ok at_start) (filter is_told (all_lines text))
 text_told latches text = lines_told latches 0 (Ok at_start) (whole_lines text) (unfinished text) ∙ ap (tells latches (Ok at_start)) (same_lines (whole_lines text) (unfinished text))
 
-pub said : (latches : ℕ) (text : List ℕ) (cubes : List (List ℕ)) → SaysCubes latches text cubes → read_text latches text ≡ Ok cubes
+pub said : (latches : ℕ) (text : List ℕ) (cubes : List (List ℕ)) → SaysCubes latches text cubes → read_cubes latches text ≡ Ok cubes
 said latches text cubes says =
-    read_back (read_text latches text) cubes
+    read_back (read_cubes latches text) cubes
     (text_told latches text
     ∙ (ap (tells latches (Ok at_start)) says.lines
     ∙ (lines_read latches says.pla says.named says.names says.there says.once says.width says.count says.output says.parts (ap (list_all asks_one) (sym says.are_cubes) ∙ says.ask)
     ∙ ap Some (sym says.are_cubes))))
 
-pub read : (latches : ℕ) (text : List ℕ) (cubes : List (List ℕ)) → read_text latches text ≡ Ok cubes → SaysCubes latches text cubes
+pub read : (latches : ℕ) (text : List ℕ) (cubes : List (List ℕ)) → read_cubes latches text ≡ Ok cubes → SaysCubes latches text cubes
 unfolding read_of
 read latches text cubes e = lines_said latches text (filter is_told (all_lines text)) cubes refl (sym (text_told latches text) ∙ ap read_of e)
 
 -- the same of known bytes, before which nothing was read
-pub gives_said : (latches : ℕ) (known : Option (List ℕ)) (cubes : List (List ℕ)) → Gives 0 (begun latches) known (Ok cubes) → IfSome known (λ text. SaysCubes latches text cubes)
+pub gives_said : (latches : ℕ) (known : Option (List ℕ)) (cubes : List (List ℕ)) → GivesCubes 0 (lines_begun latches) known (Ok cubes) → IfSome known (λ text. SaysCubes latches text cubes)
 gives_said latches None cubes e = tt
 gives_said latches (Some text) cubes e = read latches text cubes e
 

@@ -11,7 +11,7 @@ use Rattle.base.specs.Decimals.{is_digit, are_digits, is_decimal, is_nothing, ca
 use Rattle.base.proofs.DecimalLemmas.{digits_without}
 use Rattle.invariants.specs.declared.why.InvariantWhy.{InvariantWhy}
 use Rattle.invariants.specs.declared.why.InvariantWhy.TheVariants as why
-use Rattle.invariants.specs.Reading.{without_zeros, latch_of, with_latch, then_named, counted, names_of, words, behind_key}
+use Rattle.invariants.specs.Reading.{without_zeros, latch_named, with_named_latch, then_named, counted, named_latches, line_words, behind_key}
 use Rattle.invariants.specs.Texts.{NamesLatch, names_line}
 use Rattle.invariants.proofs.SaidWordLemmas.{joined, words_joined, words_of_joined, key_first, behind_first}
 
@@ -84,7 +84,7 @@ no_digits = refl
 abbrev pub name_of : List ℕ → List ℕ
 name_of digits = codes "lo" ++ digits
 
-pub latch_name : (word : List ℕ) (k : ℕ) → latch_of word ≡ Some k → (digits : List ℕ) × (word ≡ name_of digits) × NamesLatch digits k
+pub latch_name : (word : List ℕ) (k : ℕ) → latch_named word ≡ Some k → (digits : List ℕ) × (word ≡ name_of digits) × NamesLatch digits k
 latch_name [] k e = absurd (cc)
 latch_name (b ∷ []) k e = absurd (cc)
 latch_name (b ∷ c ∷ digits) k e = by (b == 108 && c == 111) refl e
@@ -101,7 +101,7 @@ latch_name (b ∷ c ∷ digits) k e = by (b == 108 && c == 111) refl e
         (digits, ap (λ (x : ℕ). x ∷ c ∷ digits) l ∙ ap (λ (x : ℕ). 108 ∷ x ∷ digits) o, some digits e)
     by false is e = absurd (cc)
 
-pub latch_read : (digits : List ℕ) (k : ℕ) → NamesLatch digits k → latch_of (name_of digits) ≡ Some k
+pub latch_read : (digits : List ℕ) (k : ℕ) → NamesLatch digits k → latch_named (name_of digits) ≡ Some k
 latch_read [] k is = absurd (is.0 refl)
 latch_read (d ∷ ds) k is = zeros_number d ds ∙ is.1
 
@@ -139,7 +139,7 @@ pub names_said : (latches : ℕ) (before : List ℕ) (more : List (List ℕ)) (n
 names_said latches before [] named e =
     let same : before ≡ named = cc in
     record { names = []; own = []; words = refl; all = sym (append-nil before ∙ same); say = tt; there = All-nil (λ (k : ℕ). k < latches); once = λ h. subst (IsDistinct nat_eq) same h }
-names_said latches before (word ∷ more) named e = by (λ k. names_said latches (before ++ k ∷ []) more named) (latch_of word) refl e
+names_said latches before (word ∷ more) named e = by (λ k. names_said latches (before ++ k ∷ []) more named) (latch_named word) refl e
   where
     Back : Type 0
     Back = (k : ℕ) → then_named latches (Ok (before ++ k ∷ [])) more ≡ Ok named → SaysNames latches (before ++ k ∷ []) more named
@@ -147,7 +147,7 @@ names_said latches before (word ∷ more) named e = by (λ k. names_said latches
     ended : (why : InvariantWhy) → then_named latches (Err why) more ≡ Ok named → SaysNames latches before (word ∷ more) named
     ended why e = absurd (cc)
 
-    taken : Back → (k : ℕ) (a b : Bool) → latch_of word ≡ Some k → nat_lt k latches ≡ a → list_any (nat_eq k) before ≡ b
+    taken : Back → (k : ℕ) (a b : Bool) → latch_named word ≡ Some k → nat_lt k latches ≡ a → list_any (nat_eq k) before ≡ b
         → then_named latches (if not a then Err why.NoSuchLatch else (if b then Err why.NamedTwice else Ok (before ++ k ∷ []))) more ≡ Ok named → SaysNames latches before (word ∷ more) named
     taken back k false b is inside twice e = ended why.NoSuchLatch e
     taken back k true true is inside twice e = ended why.NamedTwice e
@@ -164,7 +164,7 @@ names_said latches before (word ∷ more) named e = by (λ k. names_said latches
           once = λ h. rest.once (IsDistinct-push nat_eq_equiv before k h twice);
         }
 
-    by : Back → (o : Option ℕ) → latch_of word ≡ o → then_named latches (with_latch latches before o) more ≡ Ok named → SaysNames latches before (word ∷ more) named
+    by : Back → (o : Option ℕ) → latch_named word ≡ o → then_named latches (with_named_latch latches before o) more ≡ Ok named → SaysNames latches before (word ∷ more) named
     by back None is e = ended why.BadNames e
     by back (Some k) is e = taken back k (nat_lt k latches) (list_any (nat_eq k) before) is refl refl e
 
@@ -178,7 +178,7 @@ names_read latches before (digits ∷ names) (k ∷ own) say there once =
     let inside : nat_lt k latches ≡ true = true_lt k latches (All-head (λ (j : ℕ). j < latches) k own there) in
     let new : list_any (nat_eq k) before ≡ false = apart before own k once in
     let all : (before ++ k ∷ []) ++ own ≡ before ++ k ∷ own = append_assoc before (k ∷ []) own in
-    ap (λ (o : Option ℕ). then_named latches (with_latch latches before o) more) (latch_read digits k say.0)
+    ap (λ (o : Option ℕ). then_named latches (with_named_latch latches before o) more) (latch_read digits k say.0)
     ∙ (ap (λ (x : Bool). then_named latches (if not x then Err why.NoSuchLatch else (if list_any (nat_eq k) before then Err why.NamedTwice else Ok (before ++ k ∷ []))) more) inside
     ∙ (ap (λ (x : Bool). then_named latches (if x then Err why.NamedTwice else Ok (before ++ k ∷ [])) more) new
     ∙ (names_read latches (before ++ k ∷ []) names own say.1 (All-tail (λ (j : ℕ). j < latches) k own there) (subst (IsDistinct nat_eq) (sym all) once)
@@ -211,10 +211,10 @@ none_distinct : IsDistinct nat_eq []
 unfolding IsDistinct
 none_distinct = tt
 
-pub latches_said : (latches width : ℕ) (line named : List ℕ) → names_of latches width (behind_key (codes ".ilb") (words line)) ≡ Ok named → SaysLatches latches width line named
-latches_said latches width line named e = by (behind_key (codes ".ilb") (words line)) refl e
+pub latches_said : (latches width : ℕ) (line named : List ℕ) → named_latches latches width (behind_key (codes ".ilb") (line_words line)) ≡ Ok named → SaysLatches latches width line named
+latches_said latches width line named e = by (behind_key (codes ".ilb") (line_words line)) refl e
   where
-    told : (more : List (List ℕ)) (found : List ℕ) (b : Bool) → words line ≡ codes ".ilb" ∷ more → then_named latches (Ok []) more ≡ Ok found → (length found == width) ≡ b
+    told : (more : List (List ℕ)) (found : List ℕ) (b : Bool) → line_words line ≡ codes ".ilb" ∷ more → then_named latches (Ok []) more ≡ Ok found → (length found == width) ≡ b
         → (if b then Ok found else Err why.WrongNames) ≡ Ok named → SaysLatches latches width line named
     told more found true ws is many e =
         let same : found ≡ named = cc in
@@ -230,21 +230,21 @@ latches_said latches width line named e = by (behind_key (codes ".ilb") (words l
         }
     told more found false ws is many e = absurd (cc)
 
-    all_of : (more : List (List ℕ)) (r : Result (List ℕ) InvariantWhy) → words line ≡ codes ".ilb" ∷ more → then_named latches (Ok []) more ≡ r → counted width r ≡ Ok named → SaysLatches latches width line named
+    all_of : (more : List (List ℕ)) (r : Result (List ℕ) InvariantWhy) → line_words line ≡ codes ".ilb" ∷ more → then_named latches (Ok []) more ≡ r → counted width r ≡ Ok named → SaysLatches latches width line named
     all_of more (Err why) ws is e = absurd (cc)
     all_of more (Ok found) ws is e = told more found (length found == width) ws is refl e
 
-    by : (o : Option (List (List ℕ))) → behind_key (codes ".ilb") (words line) ≡ o → names_of latches width o ≡ Ok named → SaysLatches latches width line named
+    by : (o : Option (List (List ℕ))) → behind_key (codes ".ilb") (line_words line) ≡ o → named_latches latches width o ≡ Ok named → SaysLatches latches width line named
     by None is e = absurd (cc)
-    by (Some more) is e = all_of more (then_named latches (Ok []) more) (key_first (codes ".ilb") (words line) more is) refl e
+    by (Some more) is e = all_of more (then_named latches (Ok []) more) (key_first (codes ".ilb") (line_words line) more is) refl e
 
 pub latches_read : (latches width : ℕ) (names : List (List ℕ)) (named : List ℕ) → AllZip NamesLatch names named → All (λ k. k < latches) named → IsDistinct nat_eq named → length named ≡ width
-    → names_of latches width (behind_key (codes ".ilb") (words (names_line names))) ≡ Ok named
+    → named_latches latches width (behind_key (codes ".ilb") (line_words (names_line names))) ≡ Ok named
 latches_read latches width names named say there once many =
     let more : List (List ℕ) = map name_of names in
-    let ws : words (names_line names) ≡ codes ".ilb" ∷ more = ap words (sym (joined_names names)) ∙ words_of_joined (codes ".ilb") more refl (names_bare names named say) in
-    ap (λ (x : List (List ℕ)). names_of latches width (behind_key (codes ".ilb") x)) ws
-    ∙ (ap (names_of latches width) (behind_first (codes ".ilb") more)
+    let ws : line_words (names_line names) ≡ codes ".ilb" ∷ more = ap line_words (sym (joined_names names)) ∙ words_of_joined (codes ".ilb") more refl (names_bare names named say) in
+    ap (λ (x : List (List ℕ)). named_latches latches width (behind_key (codes ".ilb") x)) ws
+    ∙ (ap (named_latches latches width) (behind_first (codes ".ilb") more)
     ∙ (ap (counted width) (names_read latches [] names named say there once)
     ∙ ap (λ (b : Bool). if b then Ok named else Err why.WrongNames) (yes (length named) width many)))
   where

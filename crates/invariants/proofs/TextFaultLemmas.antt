@@ -8,7 +8,7 @@ use Rattle.invariants.specs.declared.why.InvariantWhy.{InvariantWhy}
 use Rattle.invariants.specs.declared.why.InvariantWhy.TheVariants as why
 use Rattle.invariants.specs.declared.why.InvariantFault.{InvariantFault}
 use Rattle.invariants.specs.Invariants.{asks_one}
-use Rattle.invariants.specs.Reading.{words, behind_key, value_of, decimal_of, is_one, latch_of, with_latch, then_named, counted, names_of, is_part, cube_of, parts_of, plain_cube, asking, cube_or_why, Reading, with_width, with_outputs, with_count, with_names, with_output, with_cube, with_cube_or_end, with_line, is_passed, admit, is_ended, ended}
+use Rattle.invariants.specs.Reading.{line_words, behind_key, value_behind, decimal_of, is_word_one, latch_named, with_named_latch, then_named, counted, named_latches, is_part, cube_of, parts_of, plain_cube, asking, cube_or_why, CubesReading, with_width, with_outputs, with_count, with_names, with_output_name, with_cube, with_cube_or_end, with_line, is_skipped, admit_cube_line, is_ended, ended}
 
 -- a why is not that the source failed
 abbrev IsOfText : InvariantWhy → Type 0
@@ -23,7 +23,7 @@ either : {T : Type 0} (b : Bool) (x y : Result T InvariantWhy) → IsTold x → 
 either true x y p q = p
 either false x y p q = q
 
-told_latch : (latches : ℕ) (named : List ℕ) (o : Option ℕ) → IsTold (with_latch latches named o)
+told_latch : (latches : ℕ) (named : List ℕ) (o : Option ℕ) → IsTold (with_named_latch latches named o)
 told_latch latches named None = tt
 told_latch latches named (Some k) =
     either (not (nat_lt k latches)) (Err why.NoSuchLatch) (if list_any (nat_eq k) named then Err why.NamedTwice else Ok (named ++ k ∷ [])) tt
@@ -32,13 +32,13 @@ told_latch latches named (Some k) =
 told_named : (latches : ℕ) (r : Result (List ℕ) InvariantWhy) (more : List (List ℕ)) → IsTold r → IsTold (then_named latches r more)
 told_named latches (Err e) more p = p
 told_named latches (Ok named) [] p = tt
-told_named latches (Ok named) (word ∷ more) p = told_named latches (with_latch latches named (latch_of word)) more (told_latch latches named (latch_of word))
+told_named latches (Ok named) (word ∷ more) p = told_named latches (with_named_latch latches named (latch_named word)) more (told_latch latches named (latch_named word))
 
 told_counted : (width : ℕ) (r : Result (List ℕ) InvariantWhy) → IsTold r → IsTold (counted width r)
 told_counted width (Err e) p = p
 told_counted width (Ok named) p = either (length named == width) (Ok named) (Err why.WrongNames) tt tt
 
-told_names : (latches width : ℕ) (o : Option (List (List ℕ))) → IsTold (names_of latches width o)
+told_names : (latches width : ℕ) (o : Option (List (List ℕ))) → IsTold (named_latches latches width o)
 told_names latches width None = tt
 told_names latches width (Some more) = told_counted width (then_named latches (Ok []) more) (told_named latches (Ok []) more tt)
 
@@ -52,57 +52,57 @@ told_asking : (r : Result (List ℕ) InvariantWhy) → IsTold r → IsTold (aski
 told_asking (Err e) p = p
 told_asking (Ok cube) p = either (asks_one cube) (Ok cube) (Err why.HoldsAtStart) tt tt
 
-told_width : (r : Reading) (o : Option ℕ) → IsTold (with_width r o)
+told_width : (r : CubesReading) (o : Option ℕ) → IsTold (with_width r o)
 told_width r None = tt
 told_width r (Some n) = tt
 
-told_outputs : (r : Reading) (o : Option (List ℕ)) → IsTold (with_outputs r o)
-told_outputs r o = either (is_one o) (Ok (record r { expected = expect.Count })) (Err why.BadOutputs) tt tt
+told_outputs : (r : CubesReading) (o : Option (List ℕ)) → IsTold (with_outputs r o)
+told_outputs r o = either (is_word_one o) (Ok (record r { expected = expect.Count })) (Err why.BadOutputs) tt tt
 
-told_count : (r : Reading) (o : Option ℕ) → IsTold (with_count r o)
+told_count : (r : CubesReading) (o : Option ℕ) → IsTold (with_count r o)
 told_count r None = tt
 told_count r (Some n) = tt
 
-told_with_names : (r : Reading) (named : Result (List ℕ) InvariantWhy) → IsTold named → IsTold (with_names r named)
+told_with_names : (r : CubesReading) (named : Result (List ℕ) InvariantWhy) → IsTold named → IsTold (with_names r named)
 told_with_names r (Err e) p = p
 told_with_names r (Ok named) p = tt
 
-told_output : (r : Reading) (o : Option (List ℕ)) → IsTold (with_output r o)
+told_output : (r : CubesReading) (o : Option (List ℕ)) → IsTold (with_output_name r o)
 told_output r None = tt
 told_output r (Some word) = tt
 
-told_cube : (r : Reading) (cube : Result (List ℕ) InvariantWhy) → IsTold cube → IsTold (with_cube r cube)
+told_cube : (r : CubesReading) (cube : Result (List ℕ) InvariantWhy) → IsTold cube → IsTold (with_cube r cube)
 told_cube r (Err e) p = p
 told_cube r (Ok cube) p = tt
 
-told_cube_or_end : (r : Reading) (line : List ℕ) → IsTold (with_cube_or_end r line)
+told_cube_or_end : (r : CubesReading) (line : List ℕ) → IsTold (with_cube_or_end r line)
 told_cube_or_end r line =
-    let cube : Result (List ℕ) InvariantWhy = cube_or_why r.named r.width (parts_of (words line)) in
+    let cube : Result (List ℕ) InvariantWhy = cube_or_why r.named r.width (parts_of (line_words line)) in
     either (bytes_eq line (codes ".e")) (if r.left == 0 then Ok (record r { expected = expect.Nothing }) else Err why.WrongCubes) (if r.left == 0 then Err why.WrongCubes else with_cube r cube)
     (either (r.left == 0) (Ok (record r { expected = expect.Nothing })) (Err why.WrongCubes) tt tt)
     (either (r.left == 0) (Err why.WrongCubes) (with_cube r cube) tt
-    (told_cube r cube (told_asking (plain_cube r.named r.width (parts_of (words line))) (told_plain r.named r.width (parts_of (words line))))))
+    (told_cube r cube (told_asking (plain_cube r.named r.width (parts_of (line_words line))) (told_plain r.named r.width (parts_of (line_words line))))))
 
-told_line : (x : Expected) (latches : ℕ) (r : Reading) (line : List ℕ) → IsTold (with_line x latches r line)
-told_line expect.Inputs latches r line = told_width r (decimal_of (value_of (codes ".i") line))
-told_line expect.Outputs latches r line = told_outputs r (value_of (codes ".o") line)
-told_line expect.Count latches r line = told_count r (decimal_of (value_of (codes ".p") line))
-told_line expect.Names latches r line = let o = behind_key (codes ".ilb") (words line) in told_with_names r (names_of latches r.width o) (told_names latches r.width o)
-told_line expect.Output latches r line = told_output r (value_of (codes ".ob") line)
+told_line : (x : Expected) (latches : ℕ) (r : CubesReading) (line : List ℕ) → IsTold (with_line x latches r line)
+told_line expect.Inputs latches r line = told_width r (decimal_of (value_behind (codes ".i") line))
+told_line expect.Outputs latches r line = told_outputs r (value_behind (codes ".o") line)
+told_line expect.Count latches r line = told_count r (decimal_of (value_behind (codes ".p") line))
+told_line expect.Names latches r line = let o = behind_key (codes ".ilb") (line_words line) in told_with_names r (named_latches latches r.width o) (told_names latches r.width o)
+told_line expect.Output latches r line = told_output r (value_behind (codes ".ob") line)
 told_line expect.Cubes latches r line = told_cube_or_end r line
 told_line expect.Nothing latches r line = tt
 
-told_admit : (latches : ℕ) (r : Reading) (line : List ℕ) → IsTold (admit latches r line)
-told_admit latches r line = either (is_passed line) (Ok r) (with_line r.expected latches r line) tt (told_line r.expected latches r line)
+told_admit : (latches : ℕ) (r : CubesReading) (line : List ℕ) → IsTold (admit_cube_line latches r line)
+told_admit latches r line = either (is_skipped line) (Ok r) (with_line r.expected latches r line) tt (told_line r.expected latches r line)
 
 no_device : (e : InvariantWhy) → IsOfText e → e ≡ why.Device → ⊥
 no_device e p is = subst IsOfText is p
 
 -- a why of a line is not that the source failed
-pub line_is_of_text : (latches : ℕ) (r : Reading) (line : List ℕ) (e : InvariantWhy) → admit latches r line ≡ Err e → e ≡ why.Device → ⊥
+pub line_is_of_text : (latches : ℕ) (r : CubesReading) (line : List ℕ) (e : InvariantWhy) → admit_cube_line latches r line ≡ Err e → e ≡ why.Device → ⊥
 line_is_of_text latches r line e told is = no_device e (subst IsTold told (told_admit latches r line)) is
 
-ended_told : (number : ℕ) (r : Result Reading InvariantWhy) (e : InvariantFault) → IsTold r → ended number r ≡ Err e → IsOfText e.why
+ended_told : (number : ℕ) (r : Result CubesReading InvariantWhy) (e : InvariantFault) → IsTold r → ended number r ≡ Err e → IsOfText e.why
 ended_told number (Err w) e p is = let same : w ≡ e.why = ap (λ (x : Result (List (List ℕ)) InvariantFault). why_of w x) is in subst IsOfText same p
   where
     why_of : InvariantWhy → Result (List (List ℕ)) InvariantFault → InvariantWhy
@@ -115,5 +115,5 @@ ended_told number (Ok r) e p is = by (is_ended r.expected) is
     by false is = let same : why.CutOff ≡ e.why = cc in subst IsOfText same tt
 
 -- and neither is that of its end
-pub end_is_of_text : (latches number : ℕ) (r : Reading) (line : List ℕ) (e : InvariantFault) → ended number (admit latches r line) ≡ Err e → e.why ≡ why.Device → ⊥
-end_is_of_text latches number r line e told is = no_device e.why (ended_told number (admit latches r line) e (told_admit latches r line) told) is
+pub end_is_of_text : (latches number : ℕ) (r : CubesReading) (line : List ℕ) (e : InvariantFault) → ended number (admit_cube_line latches r line) ≡ Err e → e.why ≡ why.Device → ⊥
+end_is_of_text latches number r line e told is = no_device e.why (ended_told number (admit_cube_line latches r line) e (told_admit latches r line) told) is

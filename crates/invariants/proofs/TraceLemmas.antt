@@ -10,11 +10,11 @@ use Rattle.aiger.specs.declared.circuit.Reset.{Reset}
 use Rattle.aiger.specs.declared.circuit.Reset.TheVariants.{Zero}
 use Rattle.base.specs.Literal.{Valuation, literal_value}
 use Rattle.aiger.specs.Circuit.{Circuit, IsCircuit}
-use Rattle.aiger.specs.Trace.{AgreesWithReset, AreInitial, IsTrace, next_state}
+use Rattle.aiger.specs.Trace.{AgreesWithReset, AreInitial, IsCircuitTrace, next_latch_bits}
 use Rattle.base.specs.Shown.{rises_within}
 use Rattle.aiger.specs.Reachability.{circuit_shows, CanRiseInCircuit}
 use Rattle.clauses.specs.Formula.{IsUnsatisfiable}
-use Rattle.invariants.specs.Invariants.{AreOver, state_bit, is_in, is_outside, asks_one, bad_literal, IsInductive}
+use Rattle.invariants.specs.Invariants.{AreOver, state_bit, is_in_cube, is_outside, asks_one, bad_literal, IsInductive}
 use Rattle.invariants.specs.Obligation.{obligation}
 use Rattle.invariants.proofs.ClauseLemmas.{state_even}
 use Rattle.invariants.proofs.ObligationLemmas.{proved}
@@ -37,11 +37,11 @@ and_none true = refl
 and_none false = refl
 
 -- a cube that asks for a 1 does not hold where all latches are 0
-not_at_start : (n : ℕ) (cube : List ℕ) → asks_one cube ≡ true → is_in (replicate n false) cube ≡ false
+not_at_start : (n : ℕ) (cube : List ℕ) → asks_one cube ≡ true → is_in_cube (replicate n false) cube ≡ false
 not_at_start n [] h = absurd (cc)
 not_at_start n (l ∷ ls) h =
     ⊎_elim
-    (λ (e : l % 2 ≡ 0). ap (λ (b : Bool). b && is_in (replicate n false) ls) (state_even (replicate n false) l e ∙ zero_at n (l / 2 - 1)))
+    (λ (e : l % 2 ≡ 0). ap (λ (b : Bool). b && is_in_cube (replicate n false) ls) (state_even (replicate n false) l e ∙ zero_at n (l / 2 - 1)))
     (λ (ne : l % 2 ≢ 0).
     let rest : asks_one ls ≡ true = ap (λ (b : Bool). b || asks_one ls) (sym (asked_odd l ne)) ∙ h in
     ap (λ (b : Bool). state_bit (replicate n false) l && b) (not_at_start n ls rest) ∙ and_none (state_bit (replicate n false) l))
@@ -55,17 +55,17 @@ outside_at_start n (cube ∷ cubes) h =
 
 -- ---- traces
 
-kept_safe : (d : Circuit) (cubes : List (List ℕ)) → IsInductive d cubes → (state : List Bool) (inputs : List (List Bool)) (vs : List Valuation) → is_outside state cubes ≡ true → IsTrace d state inputs vs
+kept_safe : (d : Circuit) (cubes : List (List ℕ)) → IsInductive d cubes → (state : List Bool) (inputs : List (List Bool)) (vs : List Valuation) → is_outside state cubes ≡ true → IsCircuitTrace d state inputs vs
     → All (λ v. literal_value v (bad_literal d) ≡ false) vs
 kept_safe d cubes inductive state [] [] out t = All-nil (λ (v : Valuation). literal_value v (bad_literal d) ≡ false)
 kept_safe d cubes inductive state [] (v ∷ vs) out t = absurd t
 kept_safe d cubes inductive state (input ∷ inputs) [] out t = absurd t
 kept_safe d cubes inductive state (input ∷ inputs) (v ∷ vs) out t =
     let keeps = inductive state input v t.0 out in
-    All-cons (λ (w : Valuation). literal_value w (bad_literal d) ≡ false) v vs keeps.safe (kept_safe d cubes inductive (next_state d v) inputs vs keeps.outside t.1)
+    All-cons (λ (w : Valuation). literal_value w (bad_literal d) ≡ false) v vs keeps.safe (kept_safe d cubes inductive (next_latch_bits d v) inputs vs keeps.outside t.1)
 
 pub safe_frames : (d : Circuit) (cubes : List (List ℕ)) → IsCircuit d → AreOver (length d.latches) cubes → list_all asks_one cubes ≡ true → IsUnsatisfiable (obligation d cubes)
-    → (inputs : List (List Bool)) (vs : List Valuation) → IsTrace d (replicate (length d.latches) false) inputs vs → All (λ v. literal_value v (bad_literal d) ≡ false) vs
+    → (inputs : List (List Bool)) (vs : List Valuation) → IsCircuitTrace d (replicate (length d.latches) false) inputs vs → All (λ v. literal_value v (bad_literal d) ≡ false) vs
 safe_frames d cubes valid over ask unsat inputs vs t =
     kept_safe d cubes (proved d cubes valid over unsat) (replicate (length d.latches) false) inputs vs (outside_at_start (length d.latches) cubes ask) t
 
@@ -96,7 +96,7 @@ pub cannot_rise : (d : Circuit) (cubes : List (List ℕ)) → IsCircuit d → Ar
     → All (λ latch. latch.reset ≡ Zero) d.latches → CanRiseInCircuit d 0 → ⊥
 cannot_rise d cubes valid over ask unsat zeros rise =
     let start : rise.state ≡ replicate (length d.latches) false = initial_zeros d.latches rise.state zeros rise.initial in
-    let trace : IsTrace d (replicate (length d.latches) false) rise.inputs rise.frames = subst (λ (s : List Bool). IsTrace d s rise.inputs rise.frames) start rise.trace in
+    let trace : IsCircuitTrace d (replicate (length d.latches) false) rise.inputs rise.frames = subst (λ (s : List Bool). IsCircuitTrace d s rise.inputs rise.frames) start rise.trace in
     true≢false (sym rise.rises ∙ never_rises d rise.frames (safe_frames d cubes valid over ask unsat rise.inputs rise.frames trace))
 
 pub zero_resets : (ls : List Latch) (n : ℕ) → map (λ latch. latch.reset) ls ≡ replicate n Zero → All (λ latch. latch.reset ≡ Zero) ls

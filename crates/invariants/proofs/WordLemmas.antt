@@ -7,16 +7,16 @@ use Rattle.std.proofs.lemmas.List.{drop_more, length-drop, length-set, length-re
 use Rattle.std.proofs.lemmas.List.Folds.{list_any-append}
 use Rattle.base.specs.Lines.{HasNone, onto_first}
 use Rattle.invariants.specs.Reader.{has_zero, Marks}
-use Rattle.invariants.specs.Reading.{words, sole, without_zeros, part_of, cube_of}
+use Rattle.invariants.specs.Reading.{line_words, sole, without_zeros, part_of, cube_of}
 use Rattle.invariants.proofs.PutLemmas.{drop_end}
 
 -- ---- words
 
-pub words_other : (b : ℕ) (bs : List ℕ) → (b == 32) ≡ false → words (b ∷ bs) ≡ onto_first b (words bs)
-words_other b bs e = ap (λ (x : Bool). if x then [] ∷ words bs else onto_first b (words bs)) e
+pub words_other : (b : ℕ) (bs : List ℕ) → (b == 32) ≡ false → line_words (b ∷ bs) ≡ onto_first b (line_words bs)
+words_other b bs e = ap (λ (x : Bool). if x then [] ∷ line_words bs else onto_first b (line_words bs)) e
 
 -- a line without a blank is one word
-pub words-none : (line : List ℕ) → HasNone 32 line → words line ≡ line ∷ []
+pub words-none : (line : List ℕ) → HasNone 32 line → line_words line ≡ line ∷ []
 words-none [] none = refl
 words-none (b ∷ bs) none =
     ⊎_elim
@@ -27,7 +27,7 @@ words-none (b ∷ bs) none =
     (cases_Bool (b == 32))
 
 -- a word, a blank, and what stands behind it
-pub words-blank : (front behind : List ℕ) → HasNone 32 front → words (front ++ 32 ∷ behind) ≡ front ∷ words behind
+pub words-blank : (front behind : List ℕ) → HasNone 32 front → line_words (front ++ 32 ∷ behind) ≡ front ∷ line_words behind
 words-blank [] behind none = refl
 words-blank (b ∷ bs) behind none =
     ⊎_elim
@@ -37,16 +37,16 @@ words-blank (b ∷ bs) behind none =
     words_other b (bs ++ 32 ∷ behind) off ∙ ap (onto_first b) (words-blank bs behind rest))
     (cases_Bool (b == 32))
 
-pub words-some : (line : List ℕ) → (word : List ℕ) × (more : List (List ℕ)) × (words line ≡ word ∷ more)
+pub words-some : (line : List ℕ) → (word : List ℕ) × (more : List (List ℕ)) × (line_words line ≡ word ∷ more)
 words-some [] = ([], [], refl)
 words-some (b ∷ bs) =
     ⊎_elim
-    (λ (on : (b == 32) ≡ true). ([], words bs, ap (λ (x : Bool). if x then [] ∷ words bs else onto_first b (words bs)) on))
+    (λ (on : (b == 32) ≡ true). ([], line_words bs, ap (λ (x : Bool). if x then [] ∷ line_words bs else onto_first b (line_words bs)) on))
     (λ (off : (b == 32) ≡ false). let rest = words-some bs in (b ∷ rest.0, rest.1, words_other b bs off ∙ ap (onto_first b) rest.2))
     (cases_Bool (b == 32))
 
 -- no one word where there is a blank
-pub sole-blank : (front behind : List ℕ) → HasNone 32 front → sole (words (front ++ 32 ∷ behind)) ≡ None
+pub sole-blank : (front behind : List ℕ) → HasNone 32 front → sole (line_words (front ++ 32 ∷ behind)) ≡ None
 sole-blank front behind none =
     let rest = words-some behind in
     ap sole (words-blank front behind none ∙ ap (λ (ws : List (List ℕ)). front ∷ ws) rest.2)

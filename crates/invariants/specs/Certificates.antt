@@ -8,7 +8,7 @@ use Rattle.engine.specs.EngineForm.{IsEngineFormOf}
 use Rattle.engine.specs.Refusal.{engine_refusal, AnswersForm}
 use Rattle.clauses.specs.declared.judgement.Judgement.{Judgement}
 use Rattle.clauses.specs.Formula.{Formula}
-use Rattle.clauses.specs.Judgements.{Judges}
+use Rattle.clauses.specs.Judgements.{JudgesProof}
 use Rattle.invariants.specs.declared.why.InvariantWhy.{InvariantWhy}
 use Rattle.invariants.specs.declared.why.InvariantWhy.TheVariants as why
 use Rattle.invariants.specs.declared.claim_fault.ClaimFault.{ClaimFault}
@@ -17,7 +17,7 @@ use Rattle.invariants.specs.declared.certificate_fault.CertificateFault.{Certifi
 use Rattle.invariants.specs.declared.certificate_fault.CertificateFault.TheVariants as certificate
 use Rattle.invariants.specs.Invariants.{AreOver, asks_one}
 use Rattle.invariants.specs.Obligation.{obligation}
-use Rattle.invariants.specs.Reading.{Reads}
+use Rattle.invariants.specs.Reading.{ReadsCubes}
 use Rattle.invariants.specs.Refusal.{obligation_refusal, RefusesObligation}
 use Rattle.invariants.specs.Texts.{SaysCubes}
 
@@ -51,7 +51,7 @@ pub record IsOwed (c : Circuit) (k : ℕ) (invariant : Option (List ℕ)) (f : F
 pub record IsJudgedProof (f : Formula) (proof : Option (List ℕ)) (j : Judgement) : Type 0 where
   pub text : List ℕ
   pub is_text : IfSome proof (λ all. all ≡ text)
-  pub judged : Judges f text j
+  pub judged : JudgesProof f text j
 
 -- a certificate of a bad property of a circuit is judged so: its proof is, over the formula that its invariant owes
 pub record IsCertified (c : Circuit) (k : ℕ) (invariant proof : Option (List ℕ)) (j : Judgement) : Type 0 where
@@ -64,7 +64,7 @@ pub record IsCertified (c : Circuit) (k : ℕ) (invariant proof : Option (List �
 -- why an invariant owes none over a circuit: its text is not read, or there is no obligation of its cubes
 abbrev pub OwesNoneOver : Circuit → Option (List ℕ) → ClaimFault → Type 0
 OwesNoneOver d invariant (claim.Form e) = ⊥
-OwesNoneOver d invariant (claim.Invariant e) = (e.why ≡ why.NoMemory) ⊎ ((e ≡ record { line = 0; why = why.Device }) ⊎ Reads (length d.latches) invariant (Err e))
+OwesNoneOver d invariant (claim.Invariant e) = (e.why ≡ why.NoMemory) ⊎ ((e ≡ record { line = 0; why = why.Device }) ⊎ ReadsCubes (length d.latches) invariant (Err e))
 OwesNoneOver d invariant (claim.Obligation e) = (cubes : List (List ℕ)) × AreCubes d invariant cubes × RefusesObligation {T = Unit {0}} (Err e) (obligation_refusal d cubes)
 
 -- the circuit has the engine form, and over that the invariant owes none
@@ -79,12 +79,12 @@ OwesNone c k invariant (claim.Form e) = AnswersForm {T = Unit {0}} (Err e) (engi
 OwesNone c k invariant e = OwesNoneOverForm c k invariant e
 
 -- an invariant's count of failures, before and after a reading that ends so: one more where the source failed, and else as before
-abbrev pub CountsWhy : InvariantWhy → ℕ → ℕ → Type 0
-CountsWhy why.Device old new = HasRisen old new
-CountsWhy _ old new = new ≡ old
+abbrev pub CountsInvariantWhy : InvariantWhy → ℕ → ℕ → Type 0
+CountsInvariantWhy why.Device old new = HasRisen old new
+CountsInvariantWhy _ old new = new ≡ old
 
 abbrev pub CountsClaim : {T : Type 0} → Result T ClaimFault → ℕ → ℕ → Type 0
-CountsClaim (Err (claim.Invariant e)) old new = CountsWhy e.why old new
+CountsClaim (Err (claim.Invariant e)) old new = CountsInvariantWhy e.why old new
 CountsClaim _ old new = new ≡ old
 
 -- something is so where there is no engine form
@@ -100,10 +100,10 @@ pub record OwesSome (c : Circuit) (k : ℕ) (invariant : Option (List ℕ)) : Ty
   pub is_owed : IsOwed c k invariant formula
 
 -- why a certificate is not judged: its invariant owes no formula; or it owes one, and its proof is not judged, since a growth was refused or the source failed
-abbrev pub IsNotJudged : Circuit → ℕ → Option (List ℕ) → CertificateFault → Type 0
-IsNotJudged c k invariant (certificate.Claim e) = OwesNone c k invariant e
-IsNotJudged c k invariant (certificate.Judge e) = OwesSome c k invariant
-IsNotJudged c k invariant certificate.Device = OwesSome c k invariant
+abbrev pub IsUnjudged : Circuit → ℕ → Option (List ℕ) → CertificateFault → Type 0
+IsUnjudged c k invariant (certificate.Claim e) = OwesNone c k invariant e
+IsUnjudged c k invariant (certificate.Judge e) = OwesSome c k invariant
+IsUnjudged c k invariant certificate.Device = OwesSome c k invariant
 
 -- a fault is none of the invariant
 abbrev pub IsOfProof : CertificateFault → Type 0

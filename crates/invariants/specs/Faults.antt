@@ -1,7 +1,7 @@
 -- What is printed of what is wrong with the text of an invariant, of why it is not read, of why there is no obligation, and of why a certificate is not judged: a
 -- number, a space and a name; and the line of the text that is meant.
 use Rattle.std.specs.Prelude.{ℕ, List, Option, None, Some, codes}
-use Rattle.engine.specs.Faults.{number_of as engine_number, name_of as engine_name}
+use Rattle.engine.specs.Faults.{engine_fault_number as engine_number, engine_fault_name as engine_name}
 use Rattle.clauses.specs.Faults.{clause_number, clause_name}
 use Rattle.invariants.specs.declared.why.InvariantWhy.{InvariantWhy}
 use Rattle.invariants.specs.declared.why.InvariantWhy.TheVariants as why
@@ -13,42 +13,42 @@ use Rattle.invariants.specs.declared.certificate_fault.CertificateFault.{Certifi
 use Rattle.invariants.specs.declared.certificate_fault.CertificateFault.TheVariants as certificate
 
 -- the number that is printed for what is wrong
-abbrev pub why_number : InvariantWhy → ℕ
-why_number why.BadInputs = 180
-why_number why.BadOutputs = 181
-why_number why.BadCount = 182
-why_number why.BadNames = 183
-why_number why.NoSuchLatch = 184
-why_number why.NamedTwice = 185
-why_number why.WrongNames = 186
-why_number why.BadOutput = 187
-why_number why.BadCube = 188
-why_number why.WrongLength = 189
-why_number why.HoldsAtStart = 190
-why_number why.WrongCubes = 191
-why_number why.BehindEnd = 192
-why_number why.CutOff = 193
-why_number why.NoMemory = 194
-why_number why.Device = 195
+abbrev pub invariant_why_number : InvariantWhy → ℕ
+invariant_why_number why.BadInputs = 180
+invariant_why_number why.BadOutputs = 181
+invariant_why_number why.BadCount = 182
+invariant_why_number why.BadNames = 183
+invariant_why_number why.NoSuchLatch = 184
+invariant_why_number why.NamedTwice = 185
+invariant_why_number why.WrongNames = 186
+invariant_why_number why.BadOutput = 187
+invariant_why_number why.BadCube = 188
+invariant_why_number why.WrongLength = 189
+invariant_why_number why.HoldsAtStart = 190
+invariant_why_number why.WrongCubes = 191
+invariant_why_number why.BehindEnd = 192
+invariant_why_number why.CutOff = 193
+invariant_why_number why.NoMemory = 194
+invariant_why_number why.Device = 195
 
 -- and the name
-abbrev pub why_name : InvariantWhy → List ℕ
-why_name why.BadInputs = codes "BadInputs"
-why_name why.BadOutputs = codes "BadOutputs"
-why_name why.BadCount = codes "BadCount"
-why_name why.BadNames = codes "BadNames"
-why_name why.NoSuchLatch = codes "NoSuchLatch"
-why_name why.NamedTwice = codes "NamedTwice"
-why_name why.WrongNames = codes "WrongNames"
-why_name why.BadOutput = codes "BadOutput"
-why_name why.BadCube = codes "BadCube"
-why_name why.WrongLength = codes "WrongLength"
-why_name why.HoldsAtStart = codes "HoldsAtStart"
-why_name why.WrongCubes = codes "WrongCubes"
-why_name why.BehindEnd = codes "BehindEnd"
-why_name why.CutOff = codes "CutOff"
-why_name why.NoMemory = codes "NoMemory"
-why_name why.Device = codes "Device"
+abbrev pub invariant_why_name : InvariantWhy → List ℕ
+invariant_why_name why.BadInputs = codes "BadInputs"
+invariant_why_name why.BadOutputs = codes "BadOutputs"
+invariant_why_name why.BadCount = codes "BadCount"
+invariant_why_name why.BadNames = codes "BadNames"
+invariant_why_name why.NoSuchLatch = codes "NoSuchLatch"
+invariant_why_name why.NamedTwice = codes "NamedTwice"
+invariant_why_name why.WrongNames = codes "WrongNames"
+invariant_why_name why.BadOutput = codes "BadOutput"
+invariant_why_name why.BadCube = codes "BadCube"
+invariant_why_name why.WrongLength = codes "WrongLength"
+invariant_why_name why.HoldsAtStart = codes "HoldsAtStart"
+invariant_why_name why.WrongCubes = codes "WrongCubes"
+invariant_why_name why.BehindEnd = codes "BehindEnd"
+invariant_why_name why.CutOff = codes "CutOff"
+invariant_why_name why.NoMemory = codes "NoMemory"
+invariant_why_name why.Device = codes "Device"
 
 -- the number that is printed for why there is no obligation
 abbrev pub obligation_number : ObligationFault → ℕ
@@ -63,13 +63,13 @@ obligation_name fault.NoMemory = codes "NoMemory"
 -- the number that is printed for why an invariant owes no formula
 abbrev pub claim_number : ClaimFault → ℕ
 claim_number (claim.Form e) = engine_number e
-claim_number (claim.Invariant e) = why_number e.why
+claim_number (claim.Invariant e) = invariant_why_number e.why
 claim_number (claim.Obligation e) = obligation_number e
 
 -- and the name
 abbrev pub claim_name : ClaimFault → List ℕ
 claim_name (claim.Form e) = engine_name e
-claim_name (claim.Invariant e) = why_name e.why
+claim_name (claim.Invariant e) = invariant_why_name e.why
 claim_name (claim.Obligation e) = obligation_name e
 
 -- the line of the invariant's text that is meant, if one is

@@ -2,6 +2,6 @@
 use Rattle.std.specs.Prelude.{◌≡◌, ℕ, List, ◌++◌}
 use Rattle.clauses.specs.Formula.{Formula}
 
-pub record Adds (old new : Formula) (more : List (List ℕ)) : Type 0 where
+pub record AddsClauses (old new : Formula) (more : List (List ℕ)) : Type 0 where
   pub variables : new.variables ≡ old.variables
   pub clauses : new.clauses ≡ old.clauses ++ more

@@ -6,12 +6,12 @@ use Rattle.base.specs.declared.sources.ReadAllFault.{ReadAllFault}
 use Rattle.base.specs.declared.sources.ReadAllFault.TheVariants as all
 use Rattle.invariants.specs.declared.why.InvariantFault.{InvariantFault}
 use Rattle.invariants.specs.declared.why.InvariantWhy.TheVariants as why
-use Rattle.invariants.specs.Reading.{words, Reading, at_start, read_lines}
+use Rattle.invariants.specs.Reading.{line_words, CubesReading, at_start, read_cube_lines}
 
 -- the words behind the first blank, where there is one
 abbrev pub words_behind : Option (List ℕ) → List (List ℕ)
 words_behind None = []
-words_behind (Some rest) = words rest
+words_behind (Some rest) = line_words rest
 
 -- how many bytes stand behind the first blank, and the blank
 abbrev pub bytes_behind : Option (List ℕ) → ℕ
@@ -30,27 +30,27 @@ pub record Marks (latches : ℕ) (marks : List Bool) (named : List ℕ) : Type 0
 -- a count of latches, and what the lines so far say over them
 pub record Lines : Type 0 where
   pub latches : ℕ
-  pub reading : Reading
+  pub reading : CubesReading
 
 -- what the lines so far, of which the last has this number, and known bytes behind them give
-abbrev pub left : ℕ → Lines → List ℕ → Result (List (List ℕ)) InvariantFault
-left number l text = read_lines l.latches number (Ok l.reading) (whole_lines text) (unfinished text)
+abbrev pub cubes_left : ℕ → Lines → List ℕ → Result (List (List ℕ)) InvariantFault
+cubes_left number l text = read_cube_lines l.latches number (Ok l.reading) (whole_lines text) (unfinished text)
 
-abbrev pub Gives : ℕ → Lines → Option (List ℕ) → Result (List (List ℕ)) InvariantFault → Type 0
-Gives number l None answer = Unit {0}
-Gives number l (Some text) answer = left number l text ≡ answer
+abbrev pub GivesCubes : ℕ → Lines → Option (List ℕ) → Result (List (List ℕ)) InvariantFault → Type 0
+GivesCubes number l None answer = Unit {0}
+GivesCubes number l (Some text) answer = cubes_left number l text ≡ answer
 
 -- known bytes before lines were taken and those behind them give the same
-abbrev pub Agree : ℕ → Lines → Option (List ℕ) → ℕ → Lines → Option (List ℕ) → Type 0
-Agree n old None m new after = Unit {0}
-Agree n old (Some text) m new None = ⊥
-Agree n old (Some text) m new (Some rest) = left n old text ≡ left m new rest
+abbrev pub AgreeAsLines : ℕ → Lines → Option (List ℕ) → ℕ → Lines → Option (List ℕ) → Type 0
+AgreeAsLines n old None m new after = Unit {0}
+AgreeAsLines n old (Some text) m new None = ⊥
+AgreeAsLines n old (Some text) m new (Some rest) = cubes_left n old text ≡ cubes_left m new rest
 
 -- before the first line of a text over so many latches
-abbrev pub begun : ℕ → Lines
-begun latches = record { latches = latches; reading = at_start }
+abbrev pub lines_begun : ℕ → Lines
+lines_begun latches = record { latches = latches; reading = at_start }
 
 -- the fault where a source could not be read
-abbrev pub unread_fault : ReadAllFault → InvariantFault
-unread_fault all.Device = record { line = 0; why = why.Device }
-unread_fault all.NoMemory = record { line = 0; why = why.NoMemory }
+abbrev pub unread_invariant_fault : ReadAllFault → InvariantFault
+unread_invariant_fault all.Device = record { line = 0; why = why.Device }
+unread_invariant_fault all.NoMemory = record { line = 0; why = why.NoMemory }

@@ -16,9 +16,9 @@ use Rattle.invariants.specs.Invariants.{asks_one}
 -- ---- words
 
 -- the words of a line: a blank stands between two of them, and they may have no byte
-abbrev pub words : List ℕ → List (List ℕ)
-words [] = [] ∷ []
-words (b ∷ bs) = if b == 32 then [] ∷ words bs else onto_first b (words bs)
+abbrev pub line_words : List ℕ → List (List ℕ)
+line_words [] = [] ∷ []
+line_words (b ∷ bs) = if b == 32 then [] ∷ line_words bs else onto_first b (line_words bs)
 
 -- the words behind the first, where that is a key
 abbrev pub behind_key : List ℕ → List (List ℕ) → Option (List (List ℕ))
@@ -36,8 +36,8 @@ abbrev pub sole_behind : Option (List (List ℕ)) → Option (List ℕ)
 sole_behind None = None
 sole_behind (Some more) = sole more
 
-abbrev pub value_of : List ℕ → List ℕ → Option (List ℕ)
-value_of key line = sole_behind (behind_key key (words line))
+abbrev pub value_behind : List ℕ → List ℕ → Option (List ℕ)
+value_behind key line = sole_behind (behind_key key (line_words line))
 
 -- the decimal behind a key
 abbrev pub decimal_of : Option (List ℕ) → Option ℕ
@@ -53,15 +53,15 @@ without_zeros (b ∷ []) = b ∷ []
 without_zeros (b ∷ c ∷ more) = if b == 48 then without_zeros (c ∷ more) else b ∷ c ∷ more
 
 -- the latch that a name says
-abbrev pub latch_of : List ℕ → Option ℕ
-latch_of [] = None
-latch_of (b ∷ []) = None
-latch_of (b ∷ c ∷ digits) = if b == 108 && c == 111 then number_of (without_zeros digits) else None
+abbrev pub latch_named : List ℕ → Option ℕ
+latch_named [] = None
+latch_named (b ∷ []) = None
+latch_named (b ∷ c ∷ digits) = if b == 108 && c == 111 then number_of (without_zeros digits) else None
 
 -- a latch more, of so many, behind those named before; or why not
-abbrev pub with_latch : ℕ → List ℕ → Option ℕ → Result (List ℕ) InvariantWhy
-with_latch latches named None = Err why.BadNames
-with_latch latches named (Some k) =
+abbrev pub with_named_latch : ℕ → List ℕ → Option ℕ → Result (List ℕ) InvariantWhy
+with_named_latch latches named None = Err why.BadNames
+with_named_latch latches named (Some k) =
     if not (nat_lt k latches) then Err why.NoSuchLatch
     else (if list_any (nat_eq k) named then Err why.NamedTwice else Ok (named ++ k ∷ []))
 
@@ -69,7 +69,7 @@ with_latch latches named (Some k) =
 abbrev pub then_named : ℕ → Result (List ℕ) InvariantWhy → List (List ℕ) → Result (List ℕ) InvariantWhy
 then_named latches (Err e) more = Err e
 then_named latches (Ok named) [] = Ok named
-then_named latches (Ok named) (word ∷ more) = then_named latches (with_latch latches named (latch_of word)) more
+then_named latches (Ok named) (word ∷ more) = then_named latches (with_named_latch latches named (latch_named word)) more
 
 -- so many names
 abbrev pub counted : ℕ → Result (List ℕ) InvariantWhy → Result (List ℕ) InvariantWhy
@@ -77,9 +77,9 @@ counted width (Err e) = Err e
 counted width (Ok named) = if length named == width then Ok named else Err why.WrongNames
 
 -- the latches that the line of the names says
-abbrev pub names_of : ℕ → ℕ → Option (List (List ℕ)) → Result (List ℕ) InvariantWhy
-names_of latches width None = Err why.BadNames
-names_of latches width (Some more) = counted width (then_named latches (Ok []) more)
+abbrev pub named_latches : ℕ → ℕ → Option (List (List ℕ)) → Result (List ℕ) InvariantWhy
+named_latches latches width None = Err why.BadNames
+named_latches latches width (Some more) = counted width (then_named latches (Ok []) more)
 
 -- ---- cubes
 
@@ -98,14 +98,14 @@ cube_of (k ∷ named) [] = []
 cube_of (k ∷ named) (b ∷ bytes) = part_of k b ++ cube_of named bytes
 
 -- a word is `1`
-abbrev pub is_one : Option (List ℕ) → Bool
-is_one None = false
-is_one (Some word) = bytes_eq word (codes "1")
+abbrev pub is_word_one : Option (List ℕ) → Bool
+is_word_one None = false
+is_word_one (Some word) = bytes_eq word (codes "1")
 
 -- the bytes of a cube, before a blank and `1`
 abbrev pub parts_of : List (List ℕ) → Option (List ℕ)
 parts_of [] = None
-parts_of (parts ∷ more) = if is_one (sole more) then Some parts else None
+parts_of (parts ∷ more) = if is_word_one (sole more) then Some parts else None
 
 -- a cube of these bytes, or what is wrong with them
 abbrev pub plain_cube : List ℕ → ℕ → Option (List ℕ) → Result (List ℕ) InvariantWhy
@@ -125,7 +125,7 @@ cube_or_why named width parts = asking (plain_cube named width parts)
 -- ---- lines
 
 -- what the lines so far say: what is expected next, the counts of latches and of the cubes that are left, the latches that are named, and the cubes
-pub record Reading : Type 0 where
+pub record CubesReading : Type 0 where
   pub expected : Expected
   pub width : ℕ
   pub left : ℕ
@@ -133,56 +133,56 @@ pub record Reading : Type 0 where
   pub cubes : List (List ℕ)
 
 -- before the first line
-abbrev pub at_start : Reading
+abbrev pub at_start : CubesReading
 at_start = record { expected = expect.Inputs; width = 0; left = 0; named = []; cubes = [] }
 
-abbrev pub with_width : Reading → Option ℕ → Result Reading InvariantWhy
+abbrev pub with_width : CubesReading → Option ℕ → Result CubesReading InvariantWhy
 with_width r None = Err why.BadInputs
 with_width r (Some n) = Ok (record r { expected = expect.Outputs; width = n })
 
-abbrev pub with_outputs : Reading → Option (List ℕ) → Result Reading InvariantWhy
-with_outputs r word = if is_one word then Ok (record r { expected = expect.Count }) else Err why.BadOutputs
+abbrev pub with_outputs : CubesReading → Option (List ℕ) → Result CubesReading InvariantWhy
+with_outputs r word = if is_word_one word then Ok (record r { expected = expect.Count }) else Err why.BadOutputs
 
-abbrev pub with_count : Reading → Option ℕ → Result Reading InvariantWhy
+abbrev pub with_count : CubesReading → Option ℕ → Result CubesReading InvariantWhy
 with_count r None = Err why.BadCount
 with_count r (Some n) = Ok (record r { expected = expect.Names; left = n })
 
-abbrev pub with_names : Reading → Result (List ℕ) InvariantWhy → Result Reading InvariantWhy
+abbrev pub with_names : CubesReading → Result (List ℕ) InvariantWhy → Result CubesReading InvariantWhy
 with_names r (Err e) = Err e
 with_names r (Ok named) = Ok (record r { expected = expect.Output; named = named })
 
-abbrev pub with_output : Reading → Option (List ℕ) → Result Reading InvariantWhy
-with_output r None = Err why.BadOutput
-with_output r (Some word) = Ok (record r { expected = expect.Cubes })
+abbrev pub with_output_name : CubesReading → Option (List ℕ) → Result CubesReading InvariantWhy
+with_output_name r None = Err why.BadOutput
+with_output_name r (Some word) = Ok (record r { expected = expect.Cubes })
 
-abbrev pub with_cube : Reading → Result (List ℕ) InvariantWhy → Result Reading InvariantWhy
+abbrev pub with_cube : CubesReading → Result (List ℕ) InvariantWhy → Result CubesReading InvariantWhy
 with_cube r (Err e) = Err e
 with_cube r (Ok cube) = Ok (record r { left = pred r.left; cubes = r.cubes ++ cube ∷ [] })
 
 -- a cube while some are left, and then the end
-abbrev pub with_cube_or_end : Reading → List ℕ → Result Reading InvariantWhy
+abbrev pub with_cube_or_end : CubesReading → List ℕ → Result CubesReading InvariantWhy
 with_cube_or_end r line =
     if bytes_eq line (codes ".e")
     then (if r.left == 0 then Ok (record r { expected = expect.Nothing }) else Err why.WrongCubes)
-    else (if r.left == 0 then Err why.WrongCubes else with_cube r (cube_or_why r.named r.width (parts_of (words line))))
+    else (if r.left == 0 then Err why.WrongCubes else with_cube r (cube_or_why r.named r.width (parts_of (line_words line))))
 
 -- what a line says, by what is expected
-abbrev pub with_line : Expected → ℕ → Reading → List ℕ → Result Reading InvariantWhy
-with_line expect.Inputs latches r line = with_width r (decimal_of (value_of (codes ".i") line))
-with_line expect.Outputs latches r line = with_outputs r (value_of (codes ".o") line)
-with_line expect.Count latches r line = with_count r (decimal_of (value_of (codes ".p") line))
-with_line expect.Names latches r line = with_names r (names_of latches r.width (behind_key (codes ".ilb") (words line)))
-with_line expect.Output latches r line = with_output r (value_of (codes ".ob") line)
+abbrev pub with_line : Expected → ℕ → CubesReading → List ℕ → Result CubesReading InvariantWhy
+with_line expect.Inputs latches r line = with_width r (decimal_of (value_behind (codes ".i") line))
+with_line expect.Outputs latches r line = with_outputs r (value_behind (codes ".o") line)
+with_line expect.Count latches r line = with_count r (decimal_of (value_behind (codes ".p") line))
+with_line expect.Names latches r line = with_names r (named_latches latches r.width (behind_key (codes ".ilb") (line_words line)))
+with_line expect.Output latches r line = with_output_name r (value_behind (codes ".ob") line)
 with_line expect.Cubes latches r line = with_cube_or_end r line
 with_line expect.Nothing latches r line = Err why.BehindEnd
 
 -- a line that is passed over
-abbrev pub is_passed : List ℕ → Bool
-is_passed [] = true
-is_passed (b ∷ bs) = b == 35
+abbrev pub is_skipped : List ℕ → Bool
+is_skipped [] = true
+is_skipped (b ∷ bs) = b == 35
 
-abbrev pub admit : ℕ → Reading → List ℕ → Result Reading InvariantWhy
-admit latches r line = if is_passed line then Ok r else with_line r.expected latches r line
+abbrev pub admit_cube_line : ℕ → CubesReading → List ℕ → Result CubesReading InvariantWhy
+admit_cube_line latches r line = if is_skipped line then Ok r else with_line r.expected latches r line
 
 -- ---- texts
 
@@ -197,21 +197,21 @@ is_ended expect.Cubes = false
 is_ended expect.Nothing = true
 
 -- the cubes, where the text ends in the line of this number
-abbrev pub ended : ℕ → Result Reading InvariantWhy → Result (List (List ℕ)) InvariantFault
+abbrev pub ended : ℕ → Result CubesReading InvariantWhy → Result (List (List ℕ)) InvariantFault
 ended number (Err e) = Err (record { line = number; why = e })
 ended number (Ok r) = if is_ended r.expected then Ok r.cubes else Err (record { line = number; why = why.CutOff })
 
 -- what lines give, and what the text has behind them, after a line of this number and what it said
-abbrev pub read_lines : ℕ → ℕ → Result Reading InvariantWhy → List (List ℕ) → List ℕ → Result (List (List ℕ)) InvariantFault
-read_lines latches number (Err e) lines last = Err (record { line = number; why = e })
-read_lines latches number (Ok r) [] last = ended (line_after number) (admit latches r last)
-read_lines latches number (Ok r) (line ∷ more) last = read_lines latches (line_after number) (admit latches r line) more last
+abbrev pub read_cube_lines : ℕ → ℕ → Result CubesReading InvariantWhy → List (List ℕ) → List ℕ → Result (List (List ℕ)) InvariantFault
+read_cube_lines latches number (Err e) lines last = Err (record { line = number; why = e })
+read_cube_lines latches number (Ok r) [] last = ended (line_after number) (admit_cube_line latches r last)
+read_cube_lines latches number (Ok r) (line ∷ more) last = read_cube_lines latches (line_after number) (admit_cube_line latches r line) more last
 
 -- what a text reads as, over a circuit of so many latches
-abbrev pub read_text : ℕ → List ℕ → Result (List (List ℕ)) InvariantFault
-read_text latches text = read_lines latches 0 (Ok at_start) (whole_lines text) (unfinished text)
+abbrev pub read_cubes : ℕ → List ℕ → Result (List (List ℕ)) InvariantFault
+read_cubes latches text = read_cube_lines latches 0 (Ok at_start) (whole_lines text) (unfinished text)
 
 -- what bytes read as, where they are known
-abbrev pub Reads : ℕ → Option (List ℕ) → Result (List (List ℕ)) InvariantFault → Type 0
-Reads latches None answer = Unit {0}
-Reads latches (Some text) answer = read_text latches text ≡ answer
+abbrev pub ReadsCubes : ℕ → Option (List ℕ) → Result (List (List ℕ)) InvariantFault → Type 0
+ReadsCubes latches None answer = Unit {0}
+ReadsCubes latches (Some text) answer = read_cubes latches text ≡ answer

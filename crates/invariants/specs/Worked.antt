@@ -5,8 +5,8 @@ use Rattle.aiger.specs.Circuit.{Circuit}
 use Rattle.aiger.specs.Worked.{toggler}
 
 -- one latch that begins with 0 and takes itself, and is bad where it is 1
-abbrev pub keeper : Circuit
-keeper = record toggler { latches = record { next = 2; reset = Zero } ∷ [] }
+abbrev pub kept_zero : Circuit
+kept_zero = record toggler { latches = record { next = 2; reset = Zero } ∷ [] }
 
 -- an input, two latches and a gate: the first latch takes the gate of the input and the second latch negated, the second one 1; bad is the negation of the
 -- first latch

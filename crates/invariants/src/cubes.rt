@@ -2,7 +2,7 @@
 ghost use Rattle.std.specs.Prelude.{◌≡◌, ◌⊎◌, ◌<◌, ◌++◌, All, Ok, Err, IfErr, OnOk, option_copied};
 ghost use Rattle.std.specs.List.{list_all};
 ghost use Rattle.invariants.specs.declared.why.InvariantWhy.TheVariants as why;
-ghost use Rattle.invariants.specs.Reading.{words, is_part, part_of, cube_of, parts_of, plain_cube};
+ghost use Rattle.invariants.specs.Reading.{line_words, is_part, part_of, cube_of, parts_of, plain_cube};
 
 use crate::why::InvariantWhy;
 use crate::words::{first_word, is_word, sole};
@@ -18,7 +18,7 @@ fn are_parts(parts: &[u8]) -> bool
 
 /// The bytes of a cube, before a blank and `1`.
 fn parts_of(line: &[u8]) -> Option<&[u8]>
-    ensures { option_copied result ≡ parts_of (words line.now) }
+    ensures { option_copied result ≡ parts_of (line_words line.now) }
 {
     let (parts, behind) = first_word(line);
     match sole(behind) {
@@ -71,8 +71,8 @@ pub(crate) fn read_cube(
     cube: &mut Vec<u32>,
 ) -> Result<(), InvariantWhy>
     requires { All (λ k. k < 2147483647) named.now }
-    ensures ok { OnOk result (plain_cube named.now width (parts_of (words line.now)) ≡ Ok cube.new.items) }
-    ensures err { IfErr result (λ e. (e ≡ why.NoMemory) ⊎ (plain_cube named.now width (parts_of (words line.now)) ≡ Err e)) }
+    ensures ok { OnOk result (plain_cube named.now width (parts_of (line_words line.now)) ≡ Ok cube.new.items) }
+    ensures err { IfErr result (λ e. (e ≡ why.NoMemory) ⊎ (plain_cube named.now width (parts_of (line_words line.now)) ≡ Err e)) }
 {
     let parts = match parts_of(line) {
         None => return Err(InvariantWhy::BadCube),

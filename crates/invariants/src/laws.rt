@@ -4,20 +4,20 @@ ghost use Rattle.std.specs.List.{list_all};
 ghost use Rattle.aiger.specs.declared.circuit.Reset.TheVariants.{Zero};
 ghost use Rattle.base.specs.Literal.{Valuation, literal_value};
 ghost use Rattle.aiger.specs.Circuit.{Circuit, IsCircuit};
-ghost use Rattle.aiger.specs.Trace.{IsTrace};
+ghost use Rattle.aiger.specs.Trace.{IsCircuitTrace};
 ghost use Rattle.aiger.specs.Reachability.{CanRiseInCircuit};
 ghost use Rattle.aiger.specs.Worked.{toggler};
 ghost use Rattle.engine.specs.EngineForm.{IsEngineFormOf};
 ghost use Rattle.clauses.specs.declared.judgement.Judgement.{Judgement};
 ghost use Rattle.clauses.specs.declared.judgement.Judgement.TheVariants as judgement;
 ghost use Rattle.clauses.specs.Formula.{IsFormula, IsUnsatisfiable};
-ghost use Rattle.clauses.specs.Judgements.{Judges};
+ghost use Rattle.clauses.specs.Judgements.{JudgesProof};
 ghost use Rattle.invariants.specs.Certificates.{IsCertified};
 ghost use Rattle.invariants.specs.Invariants.{AreOver, asks_one, bad_literal, IsInductive};
 ghost use Rattle.invariants.specs.Obligation.{obligation};
-ghost use Rattle.invariants.specs.Reading.{read_text};
+ghost use Rattle.invariants.specs.Reading.{read_cubes};
 ghost use Rattle.invariants.specs.Texts.{SaysCubes};
-ghost use Rattle.invariants.specs.Worked.{keeper, gated, first_is_one, one_and_zero};
+ghost use Rattle.invariants.specs.Worked.{kept_zero, gated, first_is_one, one_and_zero};
 ghost use Rattle.invariants.specs.declared.why.InvariantWhy.TheVariants as why;
 
 /// A law: an obligation is unsatisfiable exactly where no step enters its cubes from outside, and the bad property does not
@@ -36,7 +36,7 @@ pub fn obligation_is_a_formula()
 /// trace from latches that are 0; so it cannot rise where all latches begin with 0.
 pub fn bad_property_never_rises()
     ensures frames { (d : Circuit) (cubes : List (List ℕ)) → IsCircuit d → AreOver (length d.latches) cubes → list_all asks_one cubes ≡ true → IsUnsatisfiable (obligation d cubes)
-        → (inputs : List (List Bool)) (vs : List Valuation) → IsTrace d (replicate (length d.latches) false) inputs vs → All (λ v. literal_value v (bad_literal d) ≡ false) vs }
+        → (inputs : List (List Bool)) (vs : List Valuation) → IsCircuitTrace d (replicate (length d.latches) false) inputs vs → All (λ v. literal_value v (bad_literal d) ≡ false) vs }
     ensures circuit { (d : Circuit) (cubes : List (List ℕ)) → IsCircuit d → AreOver (length d.latches) cubes → list_all asks_one cubes ≡ true → IsUnsatisfiable (obligation d cubes)
         → All (λ latch. latch.reset ≡ Zero) d.latches → ¬ CanRiseInCircuit d 0 }
 {}
@@ -46,7 +46,7 @@ pub fn bad_property_never_rises()
 /// circuit's constraints hold, in no trace from initial bits that agree with its resets.
 pub fn proved_property_never_rises()
     ensures { (c : Circuit) (k : ℕ) (d : Circuit) (cubes : List (List ℕ)) (text : List ℕ) (line : ℕ) → IsEngineFormOf c (Some k) d → AreOver (length d.latches) cubes → list_all asks_one cubes ≡ true
-        → Judges (obligation d cubes) text (judgement.Derived line) → ¬ CanRiseInCircuit c k }
+        → JudgesProof (obligation d cubes) text (judgement.Derived line) → ¬ CanRiseInCircuit c k }
 {
     clauses::laws::derived_is_unsatisfiable();
     engine::laws::bad_properties_rise_alike();
@@ -70,8 +70,8 @@ pub fn one_judgement_of_a_certificate()
 
 /// A law: a text is read as some cubes exactly where it says them.
 pub fn cubes_are_read_where_said()
-    ensures said { (latches : ℕ) (text : List ℕ) (cubes : List (List ℕ)) → SaysCubes latches text cubes → read_text latches text ≡ Ok cubes }
-    ensures read { (latches : ℕ) (text : List ℕ) (cubes : List (List ℕ)) → read_text latches text ≡ Ok cubes → SaysCubes latches text cubes }
+    ensures said { (latches : ℕ) (text : List ℕ) (cubes : List (List ℕ)) → SaysCubes latches text cubes → read_cubes latches text ≡ Ok cubes }
+    ensures read { (latches : ℕ) (text : List ℕ) (cubes : List (List ℕ)) → read_cubes latches text ≡ Ok cubes → SaysCubes latches text cubes }
 {}
 
 /// A law: a text says at most one list of cubes.
@@ -92,8 +92,8 @@ pub fn worked_obligations()
 /// Worked rows: that a latch is 1 is never reached where it stays as it is, and the cube of it shows so; no cube does not,
 /// and neither does the cube where the latch toggles.
 pub fn worked_invariants()
-    ensures keeps { IsInductive keeper (first_is_one ∷ []) }
-    ensures no_cube { ¬ IsInductive keeper [] }
+    ensures keeps { IsInductive kept_zero (first_is_one ∷ []) }
+    ensures no_cube { ¬ IsInductive kept_zero [] }
     ensures enters { ¬ IsInductive toggler (first_is_one ∷ []) }
     ensures asks { list_all asks_one (first_is_one ∷ one_and_zero ∷ []) ≡ true }
     ensures holds_at_start { asks_one (3 ∷ 5 ∷ []) ≡ false }
@@ -107,25 +107,25 @@ pub fn worked_sayings()
 
 /// Worked rows: texts over circuits of two and twelve latches, and what they read as.
 pub fn worked_texts()
-    ensures two { read_text 2 (codes "# by hand\n.i 2\n.o 1\n.p 2\n.ilb lo0 lo1\n.ob inv\n10 1\n-1 1\n.e\n\n") ≡ Ok ((2 ∷ 5 ∷ []) ∷ (4 ∷ []) ∷ []) }
+    ensures two { read_cubes 2 (codes "# by hand\n.i 2\n.o 1\n.p 2\n.ilb lo0 lo1\n.ob inv\n10 1\n-1 1\n.e\n\n") ≡ Ok ((2 ∷ 5 ∷ []) ∷ (4 ∷ []) ∷ []) }
     // A latch is known by its name, and not by its place.
-    ensures named { read_text 12 (codes ".i 2\n.o 1\n.p 1\n.ilb lo11 lo00\n.ob inv\n10 1\n.e") ≡ Ok ((24 ∷ 3 ∷ []) ∷ []) }
-    ensures none { read_text 12 (codes ".i 0\n.o 1\n.p 0\n.ilb\n.ob inv\n.e\n") ≡ Ok [] }
+    ensures named { read_cubes 12 (codes ".i 2\n.o 1\n.p 1\n.ilb lo11 lo00\n.ob inv\n10 1\n.e") ≡ Ok ((24 ∷ 3 ∷ []) ∷ []) }
+    ensures none { read_cubes 12 (codes ".i 0\n.o 1\n.p 0\n.ilb\n.ob inv\n.e\n") ≡ Ok [] }
     // What is wrong, and where.
-    ensures inputs { read_text 2 (codes "\n.i x\n") ≡ Err (record { line = 2; why = why.BadInputs }) }
-    ensures outputs { read_text 2 (codes ".i 2\n.o 2\n") ≡ Err (record { line = 2; why = why.BadOutputs }) }
-    ensures count { read_text 2 (codes ".i 2\n.o 1\n.p 01\n") ≡ Err (record { line = 3; why = why.BadCount }) }
-    ensures names { read_text 2 (codes ".i 2\n.o 1\n.p 1\n.ilb lo0 li1\n") ≡ Err (record { line = 4; why = why.BadNames }) }
-    ensures no_latch { read_text 2 (codes ".i 2\n.o 1\n.p 1\n.ilb lo0 lo2\n") ≡ Err (record { line = 4; why = why.NoSuchLatch }) }
-    ensures twice { read_text 2 (codes ".i 2\n.o 1\n.p 1\n.ilb lo0 lo00\n") ≡ Err (record { line = 4; why = why.NamedTwice }) }
-    ensures few_names { read_text 2 (codes ".i 2\n.o 1\n.p 1\n.ilb lo0\n") ≡ Err (record { line = 4; why = why.WrongNames }) }
-    ensures output { read_text 2 (codes ".i 1\n.o 1\n.p 1\n.ilb lo0\n.ob\n") ≡ Err (record { line = 5; why = why.BadOutput }) }
-    ensures byte { read_text 2 (codes ".i 1\n.o 1\n.p 1\n.ilb lo0\n.ob inv\n2 1\n.e\n") ≡ Err (record { line = 6; why = why.BadCube }) }
-    ensures no_output { read_text 2 (codes ".i 1\n.o 1\n.p 1\n.ilb lo0\n.ob inv\n1 0\n.e\n") ≡ Err (record { line = 6; why = why.BadCube }) }
-    ensures long { read_text 2 (codes ".i 1\n.o 1\n.p 1\n.ilb lo0\n.ob inv\n1- 1\n.e\n") ≡ Err (record { line = 6; why = why.WrongLength }) }
-    ensures at_start { read_text 2 (codes ".i 1\n.o 1\n.p 1\n.ilb lo0\n.ob inv\n0 1\n.e\n") ≡ Err (record { line = 6; why = why.HoldsAtStart }) }
-    ensures few_cubes { read_text 2 (codes ".i 1\n.o 1\n.p 1\n.ilb lo0\n.ob inv\n.e\n") ≡ Err (record { line = 6; why = why.WrongCubes }) }
-    ensures many_cubes { read_text 2 (codes ".i 1\n.o 1\n.p 0\n.ilb lo0\n.ob inv\n1 1\n.e\n") ≡ Err (record { line = 6; why = why.WrongCubes }) }
-    ensures behind { read_text 2 (codes ".i 0\n.o 1\n.p 0\n.ilb\n.ob inv\n.e\n# end\n1\n") ≡ Err (record { line = 8; why = why.BehindEnd }) }
-    ensures cut_off { read_text 2 (codes ".i 1\n.o 1\n.p 1\n.ilb lo0\n.ob inv\n1 1\n") ≡ Err (record { line = 7; why = why.CutOff }) }
+    ensures inputs { read_cubes 2 (codes "\n.i x\n") ≡ Err (record { line = 2; why = why.BadInputs }) }
+    ensures outputs { read_cubes 2 (codes ".i 2\n.o 2\n") ≡ Err (record { line = 2; why = why.BadOutputs }) }
+    ensures count { read_cubes 2 (codes ".i 2\n.o 1\n.p 01\n") ≡ Err (record { line = 3; why = why.BadCount }) }
+    ensures names { read_cubes 2 (codes ".i 2\n.o 1\n.p 1\n.ilb lo0 li1\n") ≡ Err (record { line = 4; why = why.BadNames }) }
+    ensures no_latch { read_cubes 2 (codes ".i 2\n.o 1\n.p 1\n.ilb lo0 lo2\n") ≡ Err (record { line = 4; why = why.NoSuchLatch }) }
+    ensures twice { read_cubes 2 (codes ".i 2\n.o 1\n.p 1\n.ilb lo0 lo00\n") ≡ Err (record { line = 4; why = why.NamedTwice }) }
+    ensures few_names { read_cubes 2 (codes ".i 2\n.o 1\n.p 1\n.ilb lo0\n") ≡ Err (record { line = 4; why = why.WrongNames }) }
+    ensures output { read_cubes 2 (codes ".i 1\n.o 1\n.p 1\n.ilb lo0\n.ob\n") ≡ Err (record { line = 5; why = why.BadOutput }) }
+    ensures byte { read_cubes 2 (codes ".i 1\n.o 1\n.p 1\n.ilb lo0\n.ob inv\n2 1\n.e\n") ≡ Err (record { line = 6; why = why.BadCube }) }
+    ensures no_output { read_cubes 2 (codes ".i 1\n.o 1\n.p 1\n.ilb lo0\n.ob inv\n1 0\n.e\n") ≡ Err (record { line = 6; why = why.BadCube }) }
+    ensures long { read_cubes 2 (codes ".i 1\n.o 1\n.p 1\n.ilb lo0\n.ob inv\n1- 1\n.e\n") ≡ Err (record { line = 6; why = why.WrongLength }) }
+    ensures at_start { read_cubes 2 (codes ".i 1\n.o 1\n.p 1\n.ilb lo0\n.ob inv\n0 1\n.e\n") ≡ Err (record { line = 6; why = why.HoldsAtStart }) }
+    ensures few_cubes { read_cubes 2 (codes ".i 1\n.o 1\n.p 1\n.ilb lo0\n.ob inv\n.e\n") ≡ Err (record { line = 6; why = why.WrongCubes }) }
+    ensures many_cubes { read_cubes 2 (codes ".i 1\n.o 1\n.p 0\n.ilb lo0\n.ob inv\n1 1\n.e\n") ≡ Err (record { line = 6; why = why.WrongCubes }) }
+    ensures behind { read_cubes 2 (codes ".i 0\n.o 1\n.p 0\n.ilb\n.ob inv\n.e\n# end\n1\n") ≡ Err (record { line = 8; why = why.BehindEnd }) }
+    ensures cut_off { read_cubes 2 (codes ".i 1\n.o 1\n.p 1\n.ilb lo0\n.ob inv\n1 1\n") ≡ Err (record { line = 7; why = why.CutOff }) }
 {}

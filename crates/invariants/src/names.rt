@@ -1,7 +1,7 @@
 //! The latches that the line of the names says.
 ghost use Rattle.std.specs.Prelude.{◌≡◌, ℕ, ◌<◌, ◌≤◌, length, List, [], All, Ok, Err, IfOk, IfErr, OnOk, codes, ◌⊎◌, option_copied};
 ghost use Rattle.invariants.specs.declared.why.InvariantWhy.TheVariants as why;
-ghost use Rattle.invariants.specs.Reading.{words, behind_key, without_zeros, latch_of, with_latch, then_named, names_of};
+ghost use Rattle.invariants.specs.Reading.{line_words, behind_key, without_zeros, latch_named, with_named_latch, then_named, named_latches};
 ghost use Rattle.invariants.specs.Reader.{Marks, words_behind, has_zero};
 
 use crate::why::InvariantWhy;
@@ -31,7 +31,7 @@ fn without_zeros(digits: &[u8]) -> &[u8]
 
 /// The latch that a name says, counted from 0.
 fn latch_of(word: &[u8]) -> Option<u64>
-    ensures { result ≡ latch_of word.now }
+    ensures { result ≡ latch_named word.now }
 {
     match word {
         [first, second, digits @ ..] => {
@@ -53,10 +53,10 @@ fn push_name(
     word: &[u8],
 ) -> Result<(), InvariantWhy>
     requires { Marks latches marks.old named.old.items }
-    ensures ok { OnOk result (with_latch latches named.old.items (latch_of word.now) ≡ Ok named.new.items) }
+    ensures ok { OnOk result (with_named_latch latches named.old.items (latch_named word.now) ≡ Ok named.new.items) }
     ensures marks { OnOk result (Marks latches marks.new named.new.items) }
     ensures inside { OnOk result (All (λ k. k < latches) named.old.items → All (λ k. k < latches) named.new.items) }
-    ensures err { IfErr result (λ e. (e ≡ why.NoMemory) ⊎ (with_latch latches named.old.items (latch_of word.now) ≡ Err e)) }
+    ensures err { IfErr result (λ e. (e ≡ why.NoMemory) ⊎ (with_named_latch latches named.old.items (latch_named word.now) ≡ Err e)) }
 {
     let latch = match latch_of(word) {
         None => return Err(InvariantWhy::BadNames),
@@ -105,8 +105,8 @@ pub(crate) fn read_names(
     line: &[u8],
 ) -> Result<Vec<u32>, InvariantWhy>
     ensures inside { IfOk result (λ named. All (λ k. k < latches) named.items) }
-    ensures ok { IfOk result (λ named. names_of latches width (behind_key (codes ".ilb") (words line.now)) ≡ Ok named.items) }
-    ensures err { IfErr result (λ e. (e ≡ why.NoMemory) ⊎ (names_of latches width (behind_key (codes ".ilb") (words line.now)) ≡ Err e)) }
+    ensures ok { IfOk result (λ named. named_latches latches width (behind_key (codes ".ilb") (line_words line.now)) ≡ Ok named.items) }
+    ensures err { IfErr result (λ e. (e ≡ why.NoMemory) ⊎ (named_latches latches width (behind_key (codes ".ilb") (line_words line.now)) ≡ Err e)) }
 {
     let (first, behind) = first_word(line);
     if !is_word(first, b".ilb") {

@@ -6,7 +6,7 @@ ghost use Rattle.base.specs.Literal.{negation};
 ghost use Rattle.clauses.specs.Formula.{IsLiteral};
 ghost use Rattle.invariants.specs.Invariants.{AreOver, bad_literal};
 ghost use Rattle.invariants.specs.Obligation.{over, gate_clauses, gates_clauses, now_literal, outside_clause, truth_variable, rise_variable, cube_variable, next_literal, next_clauses, nexts_clauses, fails_clause, now_clauses, failing_clauses, obligation_clauses, obligation};
-ghost use Rattle.invariants.specs.Made.{Adds};
+ghost use Rattle.invariants.specs.Made.{AddsClauses};
 ghost use Rattle.invariants.specs.Refusal.{obligation_refusal, RefusesObligation};
 
 use crate::fault::ObligationFault;
@@ -43,7 +43,7 @@ fn over(truth: u32, lit: Lit) -> u32
 /// Adds a clause over the formula's variables.
 fn put(formula: &mut Formula, clause: &[u32]) -> Result<(), ClauseFault>
     requires { All (IsLiteral formula.old.variables) clause.now }
-    ensures { OnOk result (Adds formula.old formula.new (clause.now ∷ [])) }
+    ensures { OnOk result (AddsClauses formula.old formula.new (clause.now ∷ [])) }
 {
     match formula.push(clause) {
         Ok(()) => Ok(()),
@@ -57,7 +57,7 @@ fn put_gate(formula: &mut Formula, truth: u32, variable: u32, gate: Gate) -> Res
     requires few { truth ≤ 2147483646 }
     requires below { variable < truth }
     requires literals { AreOver formula.old.variables (gate_clauses truth variable gate) }
-    ensures { OnOk result (Adds formula.old formula.new (gate_clauses truth variable gate)) }
+    ensures { OnOk result (AddsClauses formula.old formula.new (gate_clauses truth variable gate)) }
 {
     let first = over(truth, gate.rhs0);
     let second = over(truth, gate.rhs1);
@@ -71,7 +71,7 @@ fn put_gates(formula: &mut Formula, truth: u32, circuit: &Circuit) -> Result<(),
     requires truth { truth ≡ truth_variable circuit.now }
     requires few { truth ≤ 2147483646 }
     requires literals { AreOver formula.old.variables (gates_clauses truth (suc (circuit.now.inputs + length circuit.now.latches)) circuit.now.gates) }
-    ensures { OnOk result (Adds formula.old formula.new (gates_clauses truth (suc (circuit.now.inputs + length circuit.now.latches)) circuit.now.gates)) }
+    ensures { OnOk result (AddsClauses formula.old formula.new (gates_clauses truth (suc (circuit.now.inputs + length circuit.now.latches)) circuit.now.gates)) }
 {
     let gates = circuit.gates();
     let first = truth - gates.len() as u32;
@@ -106,7 +106,7 @@ fn put_outsides(
 ) -> Result<(), ClauseFault>
     requires latches { invariant.now.latches ≡ length circuit.now.latches }
     requires literals { AreOver formula.old.variables (map (outside_clause circuit.now) invariant.now.cubes) }
-    ensures { OnOk result (Adds formula.old formula.new (map (outside_clause circuit.now) invariant.now.cubes)) }
+    ensures { OnOk result (AddsClauses formula.old formula.new (map (outside_clause circuit.now) invariant.now.cubes)) }
 {
     let mut clause = Vec::new(alloc);
     for place in 0..invariant.cube_count() {
@@ -141,7 +141,7 @@ fn put_next(
     requires few { variable ≤ 2147483646 }
     requires inside { All (IsLiteral (length circuit.now.latches)) cube.now }
     requires literals { AreOver formula.old.variables (next_clauses circuit.now variable cube.now) }
-    ensures { OnOk result (Adds formula.old formula.new (next_clauses circuit.now variable cube.now)) }
+    ensures { OnOk result (AddsClauses formula.old formula.new (next_clauses circuit.now variable cube.now)) }
 {
     let truth = circuit.variables() + 1;
     for literal in cube {
@@ -162,7 +162,7 @@ fn put_nexts(
     requires latches { invariant.now.latches ≡ length circuit.now.latches }
     requires few { rise_variable circuit.now + length invariant.now.cubes ≤ 2147483646 }
     requires literals { AreOver formula.old.variables (nexts_clauses circuit.now (cube_variable circuit.now) invariant.now.cubes) }
-    ensures { OnOk result (Adds formula.old formula.new (nexts_clauses circuit.now (cube_variable circuit.now) invariant.now.cubes)) }
+    ensures { OnOk result (AddsClauses formula.old formula.new (nexts_clauses circuit.now (cube_variable circuit.now) invariant.now.cubes)) }
 {
     let first = circuit.variables() + 3;
     for place in 0..invariant.cube_count() {
@@ -210,7 +210,7 @@ fn put_now(
 ) -> Result<(), ClauseFault>
     requires latches { invariant.now.latches ≡ length circuit.now.latches }
     requires literals { AreOver formula.old.variables (now_clauses circuit.now invariant.now.cubes) }
-    ensures { OnOk result (Adds formula.old formula.new (now_clauses circuit.now invariant.now.cubes)) }
+    ensures { OnOk result (AddsClauses formula.old formula.new (now_clauses circuit.now invariant.now.cubes)) }
 {
     let truth = circuit.variables() + 1;
     put(formula, &[2 * truth])?;
@@ -228,7 +228,7 @@ fn put_failing(
     requires latches { invariant.now.latches ≡ length circuit.now.latches }
     requires few { rise_variable circuit.now + length invariant.now.cubes ≤ 2147483646 }
     requires literals { AreOver formula.old.variables (failing_clauses circuit.now invariant.now.cubes) }
-    ensures { OnOk result (Adds formula.old formula.new (failing_clauses circuit.now invariant.now.cubes)) }
+    ensures { OnOk result (AddsClauses formula.old formula.new (failing_clauses circuit.now invariant.now.cubes)) }
 {
     let truth = circuit.variables() + 1;
     let rise = truth + 1;
@@ -250,7 +250,7 @@ fn put_all(
     requires latches { invariant.now.latches ≡ length circuit.now.latches }
     requires few { rise_variable circuit.now + length invariant.now.cubes ≤ 2147483646 }
     requires literals { AreOver formula.old.variables (obligation_clauses circuit.now invariant.now.cubes) }
-    ensures { OnOk result (Adds formula.old formula.new (obligation_clauses circuit.now invariant.now.cubes)) }
+    ensures { OnOk result (AddsClauses formula.old formula.new (obligation_clauses circuit.now invariant.now.cubes)) }
 {
     put_now(alloc, formula, circuit, invariant)?;
     put_failing(alloc, formula, circuit, invariant)

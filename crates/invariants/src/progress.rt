@@ -2,7 +2,7 @@
 ghost use Rattle.std.specs.Prelude.{◌≡◌, ◌⊎◌, ◌<◌, [], true, false, Ok, Err, IfOk, IfErr, OnOk};
 ghost use Rattle.invariants.specs.declared.why.InvariantWhy.TheVariants as why;
 ghost use Rattle.invariants.specs.declared.expected.Expected.TheVariants as expect;
-ghost use Rattle.invariants.specs.Reading.{Reading, words, decimal_of, value_of, parts_of, cube_or_why, with_cube, is_passed, is_ended, with_line, admit, at_start};
+ghost use Rattle.invariants.specs.Reading.{CubesReading, line_words, decimal_of, value_behind, parts_of, cube_or_why, with_cube, is_skipped, is_ended, with_line, admit_cube_line, at_start};
 ghost use Rattle.invariants.specs.Reader.{Lines};
 
 use crate::cubes::read_cube;
@@ -41,7 +41,7 @@ impl Model for Progress {
 
 /// The decimal behind a key.
 fn decimal_of(line: &[u8], key: &[u8]) -> Option<u64>
-    ensures { result ≡ decimal_of (value_of key.now line.now) }
+    ensures { result ≡ decimal_of (value_behind key.now line.now) }
 {
     match value_of(line, key) {
         None => None,
@@ -51,7 +51,7 @@ fn decimal_of(line: &[u8], key: &[u8]) -> Option<u64>
 
 /// Whether a line is passed over.
 fn is_passed(line: &[u8]) -> bool
-    ensures { result ≡ is_passed line.now }
+    ensures { result ≡ is_skipped line.now }
 {
     match line {
         [] => true,
@@ -77,9 +77,9 @@ impl Progress {
 
     /// Takes a line.
     pub(crate) fn take(&mut self, alloc: Global, line: &[u8]) -> Result<(), InvariantWhy>
-        ensures ok { OnOk result (admit self.old.latches self.old.reading line.now ≡ Ok self.new.reading) }
+        ensures ok { OnOk result (admit_cube_line self.old.latches self.old.reading line.now ≡ Ok self.new.reading) }
         ensures latches { self.new.latches ≡ self.old.latches }
-        ensures err { IfErr result (λ e. (e ≡ why.NoMemory) ⊎ (admit self.old.latches self.old.reading line.now ≡ Err e)) }
+        ensures err { IfErr result (λ e. (e ≡ why.NoMemory) ⊎ (admit_cube_line self.old.latches self.old.reading line.now ≡ Err e)) }
     {
         if is_passed(line) {
             return Ok(());
@@ -199,9 +199,9 @@ impl Progress {
     /// Takes the line of a cube.
     fn push_cube(&mut self, line: &[u8]) -> Result<(), InvariantWhy>
         requires { 0 < self.old.reading.left }
-        ensures ok { OnOk result (with_cube self.old.reading (cube_or_why self.old.reading.named self.old.reading.width (parts_of (words line.now))) ≡ Ok self.new.reading) }
+        ensures ok { OnOk result (with_cube self.old.reading (cube_or_why self.old.reading.named self.old.reading.width (parts_of (line_words line.now))) ≡ Ok self.new.reading) }
         ensures latches { self.new.latches ≡ self.old.latches }
-        ensures err { IfErr result (λ e. (e ≡ why.NoMemory) ⊎ (with_cube self.old.reading (cube_or_why self.old.reading.named self.old.reading.width (parts_of (words line.now))) ≡ Err e)) }
+        ensures err { IfErr result (λ e. (e ≡ why.NoMemory) ⊎ (with_cube self.old.reading (cube_or_why self.old.reading.named self.old.reading.width (parts_of (line_words line.now))) ≡ Err e)) }
     {
         let _ = self.kept.latches();
         match read_cube(self.named.as_slice(), self.width, line, &mut self.cube) {

@@ -3,8 +3,8 @@ ghost use Rattle.std.specs.Prelude.{◌≡◌, ◌≢◌, ◌⊎◌, ℕ, ◌<�
 ghost use Rattle.std.specs.Io.KnownBytes.{IsAtEnd};
 ghost use Rattle.base.specs.Device.{HasRisen};
 ghost use Rattle.invariants.specs.declared.why.InvariantWhy.TheVariants as why;
-ghost use Rattle.invariants.specs.Reading.{admit, ended, Reads};
-ghost use Rattle.invariants.specs.Reader.{unread_fault};
+ghost use Rattle.invariants.specs.Reading.{admit_cube_line, ended, ReadsCubes};
+ghost use Rattle.invariants.specs.Reader.{unread_invariant_fault};
 ghost use Rattle.invariants.specs.Texts.{SaysCubes};
 
 use crate::kept::Invariant;
@@ -15,7 +15,7 @@ use std::alloc::Global;
 
 /// The fault where a source could not be read.
 fn unread(cause: ReadAllFault) -> InvariantFault
-    ensures { result ≡ unread_fault cause }
+    ensures { result ≡ unread_invariant_fault cause }
 {
     let why = match cause {
         ReadAllFault::Device => InvariantWhy::Device,
@@ -31,9 +31,9 @@ fn finish(
     number: u64,
     last: &[u8],
 ) -> Result<Invariant, InvariantFault>
-    ensures ok { IfOk result (λ v. ended number (admit progress.latches progress.reading last.now) ≡ Ok v.cubes) }
+    ensures ok { IfOk result (λ v. ended number (admit_cube_line progress.latches progress.reading last.now) ≡ Ok v.cubes) }
     ensures latches { IfOk result (λ v. v.latches ≡ progress.latches) }
-    ensures err { IfErr result (λ e. (e.why ≡ why.NoMemory) ⊎ (ended number (admit progress.latches progress.reading last.now) ≡ Err e)) }
+    ensures err { IfErr result (λ e. (e.why ≡ why.NoMemory) ⊎ (ended number (admit_cube_line progress.latches progress.reading last.now) ≡ Err e)) }
     ensures line { IfErr result (λ e. e.line ≡ number) }
 {
     let mut progress = progress;
@@ -59,12 +59,12 @@ pub fn read_invariant<S: Source>(
     source: &mut S,
 ) -> Result<Invariant, InvariantFault>
     requires { latches < 2147483647 }
-    ensures reads { IfOk result (λ v. Reads latches (S.to_come source.old) (Ok v.cubes)) }
+    ensures reads { IfOk result (λ v. ReadsCubes latches (S.to_come source.old) (Ok v.cubes)) }
     ensures says { IfOk result (λ v. IfSome (S.to_come source.old) (λ text. SaysCubes latches text v.cubes)) }
     ensures latches { IfOk result (λ v. v.latches ≡ latches) }
     ensures end { OnOk result (IsAtEnd (S.to_come source.new)) }
     ensures counted { OnOk result (S.failures source.new ≡ S.failures source.old) }
-    ensures fault { IfErr result (λ e. (e.why ≡ why.NoMemory) ⊎ ((e ≡ record { line = 0; why = why.Device }) ⊎ Reads latches (S.to_come source.old) (Err e))) }
+    ensures fault { IfErr result (λ e. (e.why ≡ why.NoMemory) ⊎ ((e ≡ record { line = 0; why = why.Device }) ⊎ ReadsCubes latches (S.to_come source.old) (Err e))) }
     ensures device { IfErr result (λ e. e ≡ record { line = 0; why = why.Device } → HasRisen (S.failures source.old) (S.failures source.new)) }
     ensures unfailed { IfErr result (λ e. e ≢ record { line = 0; why = why.Device } → S.failures source.new ≡ S.failures source.old) }
     ensures apart { IfErr result (λ e. e.why ≡ why.Device → e ≡ record { line = 0; why = why.Device }) }

@@ -1,6 +1,6 @@
 //! What is wrong with the text of an invariant, or why it is not read.
 ghost use Rattle.std.specs.Prelude.{◌≡◌};
-ghost use Rattle.invariants.specs.Faults.{why_number, why_name};
+ghost use Rattle.invariants.specs.Faults.{invariant_why_number, invariant_why_name};
 
 use std::fmt;
 use thiserror::Error;
@@ -45,7 +45,7 @@ pub enum InvariantWhy {
 impl InvariantWhy {
     /// The number that is printed for it.
     pub fn number(self) -> u32
-        ensures { result ≡ why_number self }
+        ensures { result ≡ invariant_why_number self }
     {
         match self {
             InvariantWhy::BadInputs => 180,
@@ -69,7 +69,7 @@ impl InvariantWhy {
 
     /// The name that is printed for it.
     pub fn name(self) -> &'static str
-        ensures { result.now ≡ why_name self }
+        ensures { result.now ≡ invariant_why_name self }
     {
         match self {
             InvariantWhy::BadInputs => "BadInputs",

@@ -1,7 +1,7 @@
 //! The words of a line.
 ghost use Rattle.std.specs.Prelude.{◌≡◌, ◌<◌, ◌∷◌, length, IfSome, option_copied};
 ghost use Rattle.std.specs.Str.{bytes_eq};
-ghost use Rattle.invariants.specs.Reading.{words, sole, value_of};
+ghost use Rattle.invariants.specs.Reading.{line_words, sole, value_behind};
 ghost use Rattle.invariants.specs.Reader.{words_behind};
 
 use base::cut_at;
@@ -15,7 +15,7 @@ pub(crate) fn is_word(word: &[u8], own: &[u8]) -> bool
 
 /// The first word of a line, and what stands behind the blank after it, if there is one.
 pub(crate) fn first_word(line: &[u8]) -> (&[u8], Option<&[u8]>)
-    ensures words { words line.now ≡ result.0.now ∷ words_behind (option_copied result.1) }
+    ensures words { line_words line.now ≡ result.0.now ∷ words_behind (option_copied result.1) }
     ensures shorter { IfSome (option_copied result.1) (λ rest. length rest < length line.now) }
 {
     match cut_at(line, b' ') {
@@ -26,7 +26,7 @@ pub(crate) fn first_word(line: &[u8]) -> (&[u8], Option<&[u8]>)
 
 /// The one word of some bytes, which is all of them.
 fn sole_word(bytes: &[u8]) -> Option<&[u8]>
-    ensures { option_copied result ≡ sole (words bytes.now) }
+    ensures { option_copied result ≡ sole (line_words bytes.now) }
 {
     match cut_at(bytes, b' ') {
         None => Some(bytes),
@@ -46,7 +46,7 @@ pub(crate) fn sole(behind: Option<&[u8]>) -> Option<&[u8]>
 
 /// The one word behind a key, where the line is these two.
 pub(crate) fn value_of<'a>(line: &'a [u8], key: &[u8]) -> Option<&'a [u8]>
-    ensures { option_copied result ≡ value_of key.now line.now }
+    ensures { option_copied result ≡ value_behind key.now line.now }
 {
     let (first, behind) = first_word(line);
     if is_word(first, key) {

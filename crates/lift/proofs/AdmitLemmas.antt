@@ -15,8 +15,8 @@ use Rattle.witness.specs.Readings.{lines_read}
 use Rattle.witness.specs.BitAdmits.{claim_at, bits_at, BitPlace, AtHeader, AtClaim, AtInitial, AtFirst, AtLater, AtDone, BitRead, after_claim, after_initial, after_frame, bit_admit_at, bit_admit, bit_reader}
 use Rattle.witness.proofs.BitReadLemmas.{bits_are_line, claim_is_line}
 use Rattle.restore.proofs.BitPlaceLemmas.{PlaceAt, place_of_lines}
-use Rattle.lift.specs.Lifted.{piece, line_bits, initial_piece, frame_piece}
-use Rattle.lift.specs.Kept.{KeptLine, Keeps, kept_frame, kept_piece, IsFrameOrEnd, IsAdmitted}
+use Rattle.lift.specs.Lifted.{piece, bits_of_line, initial_piece, frame_piece}
+use Rattle.lift.specs.Kept.{KeptLine, KeepsLine, kept_frame, kept_piece, IsFrameOrEnd, IsAdmitted}
 use Rattle.lift.proofs.KeptLemmas.{kept_line_bits}
 
 -- ---- what the line is
@@ -82,14 +82,14 @@ value_of_decimal n small =
       | inr e ↦ absurd (cc (e.1))
     ]
 
-kept_claim : (k : KeptLine) (line : List ℕ) (i : ℕ) → i < 2 ^ 64 → line ≡ claim i → Keeps k line → claim k.number ∷ [] ≡ line ∷ []
+kept_claim : (k : KeptLine) (line : List ℕ) (i : ℕ) → i < 2 ^ 64 → line ≡ claim i → KeepsLine k line → claim k.number ∷ [] ≡ line ∷ []
 kept_claim k line i small is h =
-    let said : Keeps k (claim i) = subst (Keeps k) is h in
+    let said : KeepsLine k (claim i) = subst (KeepsLine k) is h in
     let number : k.number ≡ i = said.number refl (decimal_digits i small) ∙ value_of_decimal i small in
     ap (λ (n : ℕ). claim n ∷ []) number ∙ ap (λ (l : List ℕ). l ∷ []) (sym is)
 
-kept_frame_is : (named : Bool) (items : List Item) (c : Circuit) (n : ℕ) (line : List ℕ) (k : KeptLine) (b : Bool) → bytes_eq line (codes ".") ≡ b → IsFrameOrEnd c line b → Keeps k line → c.inputs ≤ length k.bits
-    → kept_frame named items n k ≡ cond b (line ∷ []) (frame_piece named items n (line_bits line))
+kept_frame_is : (named : Bool) (items : List Item) (c : Circuit) (n : ℕ) (line : List ℕ) (k : KeptLine) (b : Bool) → bytes_eq line (codes ".") ≡ b → IsFrameOrEnd c line b → KeepsLine k line → c.inputs ≤ length k.bits
+    → kept_frame named items n k ≡ cond b (line ∷ []) (frame_piece named items n (bits_of_line line))
 kept_frame_is named items c n line k true is h keeps fits =
     let dot : line ≡ codes "." = (bytes_eq-Decides line (codes ".")).0 is in
     let first : (k.first == 46) ≡ true = ap (λ (b : ℕ). b == 46) (keeps.first ∙ ap (λ (l : List ℕ). get_or l 0 0) dot) in
@@ -98,7 +98,7 @@ kept_frame_is named items c n line k false is h keeps fits =
     let first : (k.first == 46) ≡ false = ap (λ (b : ℕ). b == 46) keeps.first ∙ h.1 in
     rw first (ap (frame_piece named items n) (kept_line_bits k line keeps (omega (arith, h.0, fits))))
 
-pub kept_is_piece : (named : Bool) (items : List Item) (c : Circuit) (n : ℕ) (line : List ℕ) (k : KeptLine) → length c.bads < 2 ^ 64 → IsAdmitted c n line → Keeps k line → length c.latches ≤ length k.bits → c.inputs ≤ length k.bits
+pub kept_is_piece : (named : Bool) (items : List Item) (c : Circuit) (n : ℕ) (line : List ℕ) (k : KeptLine) → length c.bads < 2 ^ 64 → IsAdmitted c n line → KeepsLine k line → length c.latches ≤ length k.bits → c.inputs ≤ length k.bits
     → kept_piece named items n k ≡ piece named items n line
 kept_is_piece named items c zero line k small is keeps latches inputs = refl
 kept_is_piece named items c (suc zero) line k small is keeps latches inputs = kept_claim k line is.0 (omega (arith, small, is.1.1)) is.1.0 keeps

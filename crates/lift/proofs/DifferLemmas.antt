@@ -16,7 +16,7 @@ use Rattle.btor2.proofs.IdLemmas.{state_item}
 use Rattle.aiger.specs.declared.circuit.Latch.{Latch}
 use Rattle.aiger.specs.declared.circuit.Reset.{Reset}
 use Rattle.aiger.specs.declared.circuit.Reset.TheVariants as reset
-use Rattle.blast.specs.Leaves.{of_kind, leaf_bits, leaf_resets, resets_of_word, reset_of_bit, state_bits, state_resets}
+use Rattle.blast.specs.Leaves.{given_by_kind, leaf_bits, leaf_resets, resets_of_word, reset_of_bit, state_bits, state_resets}
 use Rattle.witness.specs.Judgements.{differs, first_different}
 use Rattle.witness.specs.BitJudgements.{differs_from_reset, first_reset_differing}
 use Rattle.lift.specs.Verdicts.{owners, latch_states}
@@ -128,10 +128,10 @@ belongs_behind n i k os (Some l) p h = (h.0, n + h.1, omega (arith, h.2), later_
 -- ---- the states in their order
 
 abbrev resets_in : List Item → List Item → List Reset
-resets_in items xs = of_kind (takes_carried items) (leaf_resets items) xs
+resets_in items xs = given_by_kind (takes_carried items) (leaf_resets items) xs
 
 abbrev bits_in : List Item → Frame → List Item → List Bool
-bits_in items f xs = of_kind (takes_carried items) (leaf_bits items f) xs
+bits_in items f xs = given_by_kind (takes_carried items) (leaf_bits items f) xs
 
 abbrev different : List Item → Frame → Item → Bool
 different items f x = differs (init_word items x.id) (f x.id)
@@ -208,11 +208,11 @@ states_belong items f k index (x ∷ xs) inits fits =
     by false e rest = carried_belongs items f k index x xs inits (fits x.id) rest
 
 -- of the states among all items
-states_alone : {A : Type 0} (items : List Item) (give : Item → List A) (xs : List Item) → of_kind (is_carried_state items) give xs ≡ of_kind (takes_carried items) give (leaves_of is_state xs)
+states_alone : {A : Type 0} (items : List Item) (give : Item → List A) (xs : List Item) → given_by_kind (is_carried_state items) give xs ≡ given_by_kind (takes_carried items) give (leaves_of is_state xs)
 states_alone items give [] = refl
 states_alone items give (x ∷ xs) = ap (λ l. (if is_carried_state items x then give x else []) ++ l) (states_alone items give xs) ∙ by (is_state x.body)
   where
-    by : (b : Bool) → (if b && takes_carried items x then give x else []) ++ of_kind (takes_carried items) give (leaves_of is_state xs) ≡ of_kind (takes_carried items) give (if b then x ∷ leaves_of is_state xs else leaves_of is_state xs)
+    by : (b : Bool) → (if b && takes_carried items x then give x else []) ++ given_by_kind (takes_carried items) give (leaves_of is_state xs) ≡ given_by_kind (takes_carried items) give (if b then x ∷ leaves_of is_state xs else leaves_of is_state xs)
     by true = refl
     by false = refl
 

@@ -15,14 +15,14 @@ use Rattle.engine.specs.EngineForm.{input_count}
 use Rattle.rises.specs.FirstRises.{AreBitFirstRises}
 use Rattle.restore.specs.declared.fault.RestoreFault.{RestoreFault}
 use Rattle.restore.specs.Accepted.{FindsAgain}
-use Rattle.restore.specs.Answers.{WritesAllBut, WritesOwed, WritesAll}
+use Rattle.restore.specs.Answers.{WritesAllBut, WritesOwedLines, WritesAll}
 use Rattle.restore.specs.Faults.{is_of_text}
 use Rattle.restore.specs.FormWitness.{form_restored_text, FormJudges, TakesRestored}
 use Rattle.restore.specs.Pieces.{Restorer, Owed, owed}
-use Rattle.restore.specs.Reading.{read_text}
+use Rattle.restore.specs.Reading.{read_found}
 use Rattle.restore.specs.Restored.{restored_text}
 use Rattle.restore.specs.Taking.{IsPutInPieces}
-use Rattle.lift.specs.EngineLifting.{engine_lifted_text, FindsInModel, form_lifted_text, KeepsFormVerdict, FindsWitnessInModel, Over, LiftsOver, lifted_over, Restores, LiftsRestored, LiftsForm}
+use Rattle.lift.specs.EngineLifting.{engine_lifted_text, FindsInModel, form_lifted_text, KeepsFormVerdict, FindsWitnessInModel, Over, LiftsOver, lifted_over, BeginsToRestore, LiftsRestored, LiftsForm}
 use Rattle.lift.specs.Lifted.{lifted_with}
 use Rattle.lift.specs.Stands.{Lifter, LiftsWith}
 use Rattle.lift.specs.Verdicts.{KeepsVerdictIn}
@@ -47,13 +47,13 @@ found_in_model items c text written n w lines says keeps one =
 
 -- what the text is lifted to, and its fault
 abbrev lifted_owed : Bool → List Item → Circuit → ℕ → List ℕ → Owed
-lifted_owed named items c k text = record { bytes = engine_lifted_text named items c k text; fault = (read_text (input_count c) text).fault }
+lifted_owed named items c k text = record { bytes = engine_lifted_text named items c k text; fault = (read_found (input_count c) text).fault }
 
 abbrev restored_owed : Circuit → ℕ → List ℕ → Owed
-restored_owed c k text = record { bytes = restored_text c k text; fault = (read_text (input_count c) text).fault }
+restored_owed c k text = record { bytes = restored_text c k text; fault = (read_found (input_count c) text).fault }
 
 abbrev TakesOver : Result (Unit {0}) RestoreFault → Bool → List Item → Circuit → ℕ → Lifter → Option (List ℕ) → Option (List ℕ) → List ℕ → Type 0
-TakesOver r named items c k after old new text = WritesOwed r (lifted_owed named items c k text) old new × OnOk r (LiftsWith named items c after (restored_text c k text))
+TakesOver r named items c k after old new text = WritesOwedLines r (lifted_owed named items c k text) old new × OnOk r (LiftsWith named items c after (restored_text c k text))
 
 abbrev WritesOver : Result (Unit {0}) RestoreFault → Restorer → Lifter → Lifter → Option (List ℕ) → Option (List ℕ) → List ℕ → Type 0
 WritesOver r first before after old new text = (o : Over) → IsPutInPieces lifted_over → LiftsOver o before [] → WritesAll LiftsOver lifted_over r (owed first text) o after old new
@@ -65,7 +65,7 @@ Finishes after j = (named : Bool) (items : List Item) (c : Circuit) (text : List
 abbrev Notes : Lifter → List (Option ℕ) → Type 0
 Notes after firsts = (named : Bool) (items : List Item) (c : Circuit) (text : List ℕ) → LiftsWith named items c after text → named ≡ true → AreBitFirstRises c text firsts
 
-module _ (source : Option (List ℕ)) (named : Bool) (items : List Item) (c : Circuit) (k : ℕ) (first : Restorer) (before after : Lifter) (old new : Option (List ℕ)) (is : Restores c k first) (lifts : LiftsWith named items c before []) where
+module _ (source : Option (List ℕ)) (named : Bool) (items : List Item) (c : Circuit) (k : ℕ) (first : Restorer) (before after : Lifter) (old new : Option (List ℕ)) (is : BeginsToRestore c k first) (lifts : LiftsWith named items c before []) where
   taken : (r : Result (Unit {0}) RestoreFault) → IfSome source (WritesOver r first before after old new) → IfSome source (TakesOver r named items c k after old new)
   taken r writes =
       if_some_then source (WritesOver r first before after old new) (TakesOver r named items c k after old new)
@@ -80,7 +80,7 @@ module _ (source : Option (List ℕ)) (named : Bool) (items : List Item) (c : Ci
       record {
         judged = judged;
         rises = λ on. if_some_then source (TakesOver (Ok u) named items c k after old new) (λ text. AreBitFirstRises c (restored_text c k text) firsts) (λ text t. notes named items c (restored_text c k text) t.1 on) all;
-        right = if_some_then source (TakesOver (Ok u) named items c k after old new) (λ text. (read_text (input_count c) text).fault ≡ None) (λ text t. t.0.0) all;
+        right = if_some_then source (TakesOver (Ok u) named items c k after old new) (λ text. (read_found (input_count c) text).fault ≡ None) (λ text t. t.0.0) all;
         kept = if_some_then source (λ text. BitJudges c (restored_text c k text) j) (λ text. KeepsVerdictIn items c (restored_text c k text) (engine_lifted_text named items c k text) j) (λ text h. keeps (restored_text c k text) j h) judged;
         written = if_some_then source (TakesOver (Ok u) named items c k after old new) (λ text. Appends old new (engine_lifted_text named items c k text)) (λ text t. t.0.1) all;
         found = if_some_then source (λ text. BitJudges c (restored_text c k text) j) (λ text. FindsAgain c k text j) finds judged;
@@ -101,7 +101,7 @@ module _ (source : Option (List ℕ)) (named : Bool) (items : List Item) (c : Ci
         written = tt;
         found = tt;
         in_model = tt;
-        faulty = λ kind. if_some_then source (λ text. WritesAllBut true e (lifted_owed named items c k text) old new) (λ text. (read_text (input_count c) text).fault ≡ Some e) (λ text t. t.0) (but true kind);
+        faulty = λ kind. if_some_then source (λ text. WritesAllBut true e (lifted_owed named items c k text) old new) (λ text. (read_found (input_count c) text).fault ≡ Some e) (λ text t. t.0) (but true kind);
         before = λ kind. if_some_then source (λ text. WritesAllBut true e (lifted_owed named items c k text) old new) (λ text. Appends old new (engine_lifted_text named items c k text)) (λ text t. t.1) (but true kind);
         beginning = λ kind. but false kind;
       }

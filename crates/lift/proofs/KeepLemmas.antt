@@ -15,11 +15,11 @@ use Rattle.btor2.proofs.InitLemmas.{init_word_below, inits_hold}
 use Rattle.base.specs.Literal.{Valuation}
 use Rattle.aiger.specs.declared.circuit.Section.TheVariants as section
 use Rattle.aiger.specs.Circuit.{Circuit}
-use Rattle.aiger.specs.Trace.{IsTrace as IsCircuitTrace}
+use Rattle.aiger.specs.Trace.{IsCircuitTrace}
 use Rattle.aiger.specs.Reachability.{circuit_shows}
 use Rattle.aiger.proofs.SectionNameLemmas.{length-section_names}
 use Rattle.blast.specs.Cost.{carried_width}
-use Rattle.blast.specs.Leaves.{by_body, of_kind, own_name, input_bits, state_bits}
+use Rattle.blast.specs.Leaves.{by_body, given_by_kind, own_name, input_bits, state_bits}
 use Rattle.blast.specs.Lowering.{Lowers}
 use Rattle.blast.proofs.LowerAssembly.{length-state_resets}
 use Rattle.blast.proofs.ReachLemmas.{shows_equal}
@@ -87,12 +87,12 @@ at_least (line ∷ lines) = omega (arith, one_line_more line (text_of_lines line
 
 -- ---- as many bad properties
 
-bads_named : (xs : List Item) → length (of_kind (by_body is_bad) own_name xs) ≡ length (filter (λ (y : Item). is_bad y.body) xs)
+bads_named : (xs : List Item) → length (given_by_kind (by_body is_bad) own_name xs) ≡ length (filter (λ (y : Item). is_bad y.body) xs)
 bads_named [] = refl
 bads_named (x ∷ xs) = by (is_bad x.body) (bads_named xs)
   where
-    by : (b : Bool) → length (of_kind (by_body is_bad) own_name xs) ≡ length (filter (λ (y : Item). is_bad y.body) xs)
-        → length ((if b then own_name x else []) ++ of_kind (by_body is_bad) own_name xs) ≡ length (if b then x ∷ filter (λ (y : Item). is_bad y.body) xs else filter (λ (y : Item). is_bad y.body) xs)
+    by : (b : Bool) → length (given_by_kind (by_body is_bad) own_name xs) ≡ length (filter (λ (y : Item). is_bad y.body) xs)
+        → length ((if b then own_name x else []) ++ given_by_kind (by_body is_bad) own_name xs) ≡ length (if b then x ∷ filter (λ (y : Item). is_bad y.body) xs else filter (λ (y : Item). is_bad y.body) xs)
     by true rest = ap suc rest
     by false rest = rest
 

@@ -11,8 +11,8 @@ use Rattle.witness.specs.declared.bit_scan.Scan.{Scan}
 use Rattle.witness.specs.Admits.{is_value_byte}
 use Rattle.witness.specs.BitScans.{Scans, behind_first, scan_more}
 use Rattle.witness.proofs.BitScanLemmas.{scans_more}
-use Rattle.lift.specs.Lifted.{line_bits}
-use Rattle.lift.specs.Kept.{KeptLine, Keeps, kept_more, kept_bits}
+use Rattle.lift.specs.Lifted.{bits_of_line}
+use Rattle.lift.specs.Kept.{KeptLine, KeepsLine, kept_more, line_bits_kept}
 
 -- ---- numbers
 
@@ -46,17 +46,17 @@ digits_before rest b all = (and_parts (are_digits rest) (are_digits (b ∷ [])) 
 
 -- ---- lines
 
-pub keeps_nothing : (bits : List Bool) → Keeps (record { bits = bits; count = 0; first = 0; number = 0 }) []
+pub keeps_nothing : (bits : List Bool) → KeepsLine (record { bits = bits; count = 0; first = 0; number = 0 }) []
 keeps_nothing bits = record { bits = λ few. refl; count = omega arith; first = refl; number = λ head all. capped_value-nil }
 
-bits_more : (k : KeptLine) (line : List ℕ) (b : ℕ) → Keeps k line → length line + 1 ≤ length (kept_more k b).bits → take (length line + 1) (kept_more k b).bits ≡ line_bits line ++ (b == 49) ∷ []
+bits_more : (k : KeptLine) (line : List ℕ) (b : ℕ) → KeepsLine k line → length line + 1 ≤ length (kept_more k b).bits → take (length line + 1) (kept_more k b).bits ≡ bits_of_line line ++ (b == 49) ∷ []
 bits_more k line b h few =
     elim (cases_Bool (nat_lt k.count (length k.bits))) [
       | inl fits ↦
           let short : length line + 1 ≤ length (set k.bits k.count (b == 49)) = rw fits at few in
           let room : length line < length k.bits = omega (arith, short, length-set k.bits k.count (b == 49)) in
           let at : k.count ≡ length line = omega (arith, h.count, room) in
-          let front : take (length line) k.bits ≡ line_bits line = h.bits (omega (arith, room)) in
+          let front : take (length line) k.bits ≡ bits_of_line line = h.bits (omega (arith, room)) in
           rw (fits, at) (take-set_at k.bits (length line) (length line + 1) (b == 49) refl room ∙ ap (λ (l : List Bool). l ++ (b == 49) ∷ []) front)
       | inr full ↦
           let short : length line + 1 ≤ length k.bits = rw full at few in
@@ -71,7 +71,7 @@ room_more k b =
       | inr full ↦ rw full refl
     ]
 
-count_more : (k : KeptLine) (line : List ℕ) (b : ℕ) → Keeps k line → (kept_more k b).count ≡ min (length line + 1) (length k.bits + 1)
+count_more : (k : KeptLine) (line : List ℕ) (b : ℕ) → KeepsLine k line → (kept_more k b).count ≡ min (length line + 1) (length k.bits + 1)
 count_more k line b h =
     elim (cases_Bool (nat_lt k.count (length k.bits))) [
       | inl fits ↦ rw fits (omega (arith, h.count, ltb-true k.count (length k.bits) fits))
@@ -82,7 +82,7 @@ count_more k line b h =
           ]
     ]
 
-first_more : (k : KeptLine) (line : List ℕ) (b : ℕ) → Keeps k line → (kept_more k b).first ≡ get_or (line ++ b ∷ []) 0 0
+first_more : (k : KeptLine) (line : List ℕ) (b : ℕ) → KeepsLine k line → (kept_more k b).first ≡ get_or (line ++ b ∷ []) 0 0
 first_more k [] b h =
     let none : k.count ≡ 0 = omega (arith, h.count) in
     rw none refl
@@ -91,7 +91,7 @@ first_more k (a ∷ rest) b h =
     let not_none : (k.count == 0) ≡ false = ne_eqb k.count 0 (λ e. omega (arith, some, e)) in
     rw not_none h.first
 
-number_of_more : (k : KeptLine) (line : List ℕ) (b : ℕ) → Keeps k line → get_or (line ++ b ∷ []) 0 98 ≡ 98 → are_digits (behind_first (line ++ b ∷ [])) ≡ true → (kept_more k b).number ≡ capped_value (behind_first (line ++ b ∷ []))
+number_of_more : (k : KeptLine) (line : List ℕ) (b : ℕ) → KeepsLine k line → get_or (line ++ b ∷ []) 0 98 ≡ 98 → are_digits (behind_first (line ++ b ∷ [])) ≡ true → (kept_more k b).number ≡ capped_value (behind_first (line ++ b ∷ []))
 number_of_more k [] b h head all =
     let none : k.count ≡ 0 = omega (arith, h.count) in
     rw none (h.number refl refl)
@@ -102,7 +102,7 @@ number_of_more k (a ∷ rest) b h head all =
     rw (not_none, claims) (ap (λ (n : ℕ). number_more n b) (h.number head (digits_before rest b all)) ∙ value_behind a rest b all)
 
 -- a byte more
-pub keeps_more : (k : KeptLine) (line : List ℕ) (b : ℕ) → Keeps k line → Keeps (kept_more k b) (line ++ b ∷ [])
+pub keeps_more : (k : KeptLine) (line : List ℕ) (b : ℕ) → KeepsLine k line → KeepsLine (kept_more k b) (line ++ b ∷ [])
 keeps_more k line b h =
     let long : length (line ++ b ∷ []) ≡ length line + 1 = length-append line (b ∷ []) in
     record {
@@ -115,14 +115,14 @@ keeps_more k line b h =
     }
 
 -- the bits of a line that fits
-pub kept_line_bits : (k : KeptLine) (line : List ℕ) → Keeps k line → length line ≤ length k.bits → kept_bits k ≡ line_bits line
+pub kept_line_bits : (k : KeptLine) (line : List ℕ) → KeepsLine k line → length line ≤ length k.bits → line_bits_kept k ≡ bits_of_line line
 kept_line_bits k line h fits =
     let at : k.count ≡ length line = omega (arith, h.count, fits) in
     ap (λ (n : ℕ). take n k.bits) at ∙ h.bits fits
 
 -- a byte more of a piece
-pub keeps_front : (k more : KeptLine) (line bytes : List ℕ) (i b d : ℕ) → Keeps k (line ++ take i bytes) → more ≡ kept_more k b → b ≡ get_or bytes i d → i < length bytes → Keeps more (line ++ take (i + 1) bytes)
+pub keeps_front : (k more : KeptLine) (line bytes : List ℕ) (i b d : ℕ) → KeepsLine k (line ++ take i bytes) → more ≡ kept_more k b → b ≡ get_or bytes i d → i < length bytes → KeepsLine more (line ++ take (i + 1) bytes)
 keeps_front k more line bytes i b d h e at lt =
     let grown : line ++ take (i + 1) bytes ≡ (line ++ take i bytes) ++ b ∷ [] =
     ap (λ (l : List ℕ). line ++ l) ((take_at_read bytes i d lt).1 ∙ ap (λ (x : ℕ). take i bytes ++ x ∷ []) (sym at)) ∙ sym (append_assoc line (take i bytes) (b ∷ [])) in
-    subst (Keeps more) (sym grown) (subst (λ (x : KeptLine). Keeps x ((line ++ take i bytes) ++ b ∷ [])) (sym e) (keeps_more k (line ++ take i bytes) b h))
+    subst (KeepsLine more) (sym grown) (subst (λ (x : KeptLine). KeepsLine x ((line ++ take i bytes) ++ b ∷ [])) (sym e) (keeps_more k (line ++ take i bytes) b h))

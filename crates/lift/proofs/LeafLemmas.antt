@@ -10,7 +10,7 @@ use Rattle.btor2.specs.Leaves.{list_of, kind_of, is_leaf_at, leaf_width}
 use Rattle.btor2.specs.Check.{IsWellFormed}
 use Rattle.btor2.specs.Trace.{bits_of}
 use Rattle.btor2.proofs.LeafLemmas.{item_behind, bits_of-at, leaf_at}
-use Rattle.lift.specs.Lifted.{word_line, word_lines, input_lines, carried_lines, free_lines}
+use Rattle.lift.specs.Lifted.{word_line, word_lines, lifted_input_lines, carried_lines, free_lines}
 use Rattle.lift.specs.Kept.{taken_line, placed_lines, leaf_lines}
 
 -- one leaf
@@ -45,7 +45,7 @@ placed_from l takes name items before (x ∷ xs) n index bits is e w agree =
         (word_lines items takes name (suc index) (filter (λ (y : Item). list_of l y.body) xs)) (leaf_at items l n x at ∙ agree x own) (bits_of-at items n x w at) (rest (suc index))
     by false own rest = rest index bits
 
-pub inputs_placed : (items : List Item) (name : Item → Option (List ℕ)) (bits : List Bool) → IsWellFormed items → leaf_lines leaves.Inputs items name bits ≡ text_of_lines (input_lines items name bits)
+pub inputs_placed : (items : List Item) (name : Item → Option (List ℕ)) (bits : List Bool) → IsWellFormed items → leaf_lines leaves.Inputs items name bits ≡ text_of_lines (lifted_input_lines items name bits)
 inputs_placed items name bits w = placed_from leaves.Inputs (λ x. true) name items [] items 0 0 bits refl refl w (λ x own. own)
 
 pub carried_placed : (items : List Item) (name : Item → Option (List ℕ)) (bits : List Bool) → IsWellFormed items → leaf_lines leaves.Carried items name bits ≡ text_of_lines (carried_lines items name bits)

@@ -14,11 +14,11 @@ use Rattle.btor2.specs.Leaves.{kind_width}
 use Rattle.btor2.specs.Lists.{of_kind as leaves_of}
 use Rattle.blast.specs.Leaves.{by_body}
 use Rattle.blast.specs.Cost.{input_width, free_width, given_width, carried_width}
-use Rattle.witness.specs.Texts.{Shape, Assignment, shape_of, has_free, is_free_index, claim, assignment_line, assignment_lines, states_lines, frame_lines, witness_lines, are_distinct, IsAssignment, IsPart, IsFreePart, IsLater, AreFrames, IsWitness}
+use Rattle.witness.specs.Texts.{Shape, Assignment, shape_of, has_free, is_free_index, claim, assignment_line, assignment_lines, states_lines, frame_lines, witness_lines, are_distinct, IsAssignment, IsPart, IsFreePart, IsLaterFrame, AreFrames, IsWitness}
 use Rattle.witness.specs.BitTexts.{BitWitness, bit_line, bit_witness_lines}
 use Rattle.witness.proofs.PieceLemmas.{bits_of_digits}
 use Rattle.witness.proofs.BitReadLemmas.{bits_are_no_end}
-use Rattle.lift.specs.Lifted.{names, input_lines, carried_lines, free_lines, initial_piece, free_piece, frame_piece, line_bits, piece, lifted_lines}
+use Rattle.lift.specs.Lifted.{names, lifted_input_lines, carried_lines, free_lines, initial_piece, free_piece, frame_piece, bits_of_line, piece, lifted_lines}
 use Rattle.lift.proofs.AssignedLemmas.{any_leaf, takes_free, takes_carried, assigned_inputs, assigned_carried, assigned_free, later_parts, later_frames, lifted_frames, lifted_witness, are_names, assigned_lines, assigned_fit, indices, assigned_distinct, both_distinct, flag_of_index, free_flags, carried_flags}
 use Rattle.lift.proofs.PutLemmas.{hash}
 
@@ -61,7 +61,7 @@ AreWide items frames = AllByRecursion (λ bs. length bs ≡ given_width items) f
 
 -- ---- the lines of words
 
-inputs_written : (items : List Item) (name : Item → Option (List ℕ)) (bs : List Bool) → length bs ≡ given_width items → assignment_lines (shape_of items).inputs (assigned_inputs items name bs) ≡ input_lines items name bs
+inputs_written : (items : List Item) (name : Item → Option (List ℕ)) (bs : List Bool) → length bs ≡ given_width items → assignment_lines (shape_of items).inputs (assigned_inputs items name bs) ≡ lifted_input_lines items name bs
 inputs_written items name bs h = assigned_lines items any_leaf name (shape_of items).inputs [] 0 (leaves_of is_input items) bs (refl, refl) (inputs_enough items bs h)
 
 free_written : (items : List Item) (name : Item → Option (List ℕ)) (bs : List Bool) → length bs ≡ given_width items → assignment_lines (shape_of items).states (assigned_free items name (drop (input_width items) bs)) ≡ free_lines items name (drop (input_width items) bs)
@@ -73,7 +73,7 @@ carried_written items name bs h = assigned_lines items (takes_carried items) nam
 -- ---- the lines of frames
 
 frame_is : (named : Bool) (items : List Item) (k : ℕ) (bs : List Bool) → piece named items (suc (suc (suc k))) (bit_line bs) ≡ frame_piece named items k bs
-frame_is named items k bs = ap (λ (b : Bool). if b then bit_line bs ∷ [] else frame_piece named items k (line_bits (bit_line bs))) (bits_are_no_end bs) ∙ ap (frame_piece named items k) (bits_of_digits bs)
+frame_is named items k bs = ap (λ (b : Bool). if b then bit_line bs ∷ [] else frame_piece named items k (bits_of_line (bit_line bs))) (bits_are_no_end bs) ∙ ap (frame_piece named items k) (bits_of_digits bs)
 
 later_states : (named : Bool) (items : List Item) (k : ℕ) (bs : List Bool) → length bs ≡ given_width items → states_lines (shape_of items).states (suc k) (later_parts named items (suc k) bs).states ≡ free_piece named items (suc k) (drop (input_width items) bs)
 later_states named items k bs h = by (has_free (shape_of items))
@@ -159,16 +159,16 @@ first_states named items initial bs few h =
           ∙ both_distinct (indices (assigned_carried items (names named 0) initial)) (indices (assigned_free items (names named 0) behind)) (assigned_distinct items (takes_carried items) (names named 0) 0 (leaves_of is_state items) initial) (assigned_distinct items (takes_free items) (names named 0) 0 (leaves_of is_state items) behind) (apart items (names named 0) initial behind);
     }
 
-later_is : (named : Bool) (k : ℕ) (items : List Item) (bs : List Bool) → length bs ≡ given_width items → IsLater (shape_of items) (later_parts named items k bs)
+later_is : (named : Bool) (k : ℕ) (items : List Item) (bs : List Bool) → length bs ≡ given_width items → IsLaterFrame (shape_of items) (later_parts named items k bs)
 later_is named k items bs h = record { states = by (has_free (shape_of items)) refl; inputs = inputs_part named k items bs h }
   where
     by : (b : Bool) → has_free (shape_of items) ≡ b → IfSome (if b then Some (assigned_free items (names named k) (drop (input_width items) bs)) else None) (IsFreePart (shape_of items))
     by true some = record { some = some; part = free_part named k items bs h; free = All-from_recursion (λ (a : Assignment). is_free_index (shape_of items) a.index ≡ true) (assigned_free items (names named k) (drop (input_width items) bs)) (free_flags items (names named k) (drop (input_width items) bs)) }
     by false none = tt
 
-all_later : (named : Bool) (k : ℕ) (items : List Item) (frames : List (List Bool)) → AreWide items frames → All (IsLater (shape_of items)) (later_frames named items k frames)
-all_later named k items [] h = All-nil (IsLater (shape_of items))
-all_later named k items (bs ∷ more) h = All-cons (IsLater (shape_of items)) (later_parts named items k bs) (later_frames named items (suc k) more) (later_is named k items bs h.0) (all_later named (suc k) items more h.1)
+all_later : (named : Bool) (k : ℕ) (items : List Item) (frames : List (List Bool)) → AreWide items frames → All (IsLaterFrame (shape_of items)) (later_frames named items k frames)
+all_later named k items [] h = All-nil (IsLaterFrame (shape_of items))
+all_later named k items (bs ∷ more) h = All-cons (IsLaterFrame (shape_of items)) (later_parts named items k bs) (later_frames named items (suc k) more) (later_is named k items bs h.0) (all_later named (suc k) items more h.1)
 
 pub lifted_is_witness : (named : Bool) (items : List Item) (w : BitWitness) → w.claim < (shape_of items).bads → w.frames ≢ [] → length w.initial ≡ carried_width items → AreWide items w.frames → IsWitness (shape_of items) (lifted_witness named items w)
 lifted_is_witness named items w below some few given =

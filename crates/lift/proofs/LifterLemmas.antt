@@ -14,7 +14,7 @@ use Rattle.witness.specs.BitAdmits.{admitted_lines, bit_reader}
 use Rattle.witness.proofs.TextEndLemmas.{whole_lines-part, unfinished-part, whole_lines-end, unfinished-line_end}
 use Rattle.rises.specs.Notes.{NotesBits}
 use Rattle.lift.specs.Lifted.{piece, lifted_with}
-use Rattle.lift.specs.Kept.{Keeps, kept_piece}
+use Rattle.lift.specs.Kept.{KeepsLine, kept_piece}
 use Rattle.lift.specs.Stands.{Lifter, LiftsWith, admitted_piece}
 use Rattle.lift.proofs.LineLemmas.{lifted_of, line_more, lifted_by_lines, lifted_begins}
 use Rattle.lift.proofs.AdmitLemmas.{is_admitted, kept_is_piece}
@@ -26,14 +26,14 @@ same_lifted named items c text bytes is =
     lifted_by_lines named items c (text ++ bytes) ∙ ap (λ (ls : List (List ℕ)). text_of_lines (lifted_of named items c ls)) (whole_lines-part text bytes is) ∙ sym (lifted_by_lines named items c text)
 
 pub lifts_bytes : (named : Bool) (items : List Item) (c : Circuit) (text bytes : List ℕ) (before after : Lifter) → IsLine bytes → LiftsWith named items c before text → after.items ≡ before.items → after.named ≡ before.named
-    → NotesBits named c after.noter (text ++ bytes) → ((line : List ℕ) → Keeps before.kept line → Keeps after.kept (line ++ bytes)) → length after.kept.bits ≡ length before.kept.bits → LiftsWith named items c after (text ++ bytes)
+    → NotesBits named c after.noter (text ++ bytes) → ((line : List ℕ) → KeepsLine before.kept line → KeepsLine after.kept (line ++ bytes)) → length after.kept.bits ≡ length before.kept.bits → LiftsWith named items c after (text ++ bytes)
 lifts_bytes named items c text bytes before after is h same same_names notes keeps room =
     record {
       circuit = h.circuit;
       model = same ∙ h.model;
       naming = same_names ∙ h.naming;
       notes = notes;
-      kept = subst (Keeps after.kept) (sym (unfinished-part text bytes is)) (keeps (unfinished text) h.kept);
+      kept = subst (KeepsLine after.kept) (sym (unfinished-part text bytes is)) (keeps (unfinished text) h.kept);
       latches = omega (arith, h.latches, room);
       inputs = omega (arith, h.inputs, room);
     }
@@ -61,7 +61,7 @@ record Holds (named : Bool) (items : List Item) (c : Circuit) (l : Lifter) (line
   circuit : IsCircuit c
   model : l.items ≡ items
   naming : l.named ≡ named
-  kept : Keeps l.kept line
+  kept : KeepsLine l.kept line
   latches : length c.latches ≤ length l.kept.bits
   inputs : c.inputs ≤ length l.kept.bits
 
@@ -104,13 +104,13 @@ module _ {T E : Type 0} (r : Result T E) (named : Bool) (items : List Item) (c :
   abbrev put : List ℕ
   put = text_of_lines (admitted_piece (not (now == number)) mid number)
 
-  held_line : IsLine line → LiftsWith named items c before text → mid.items ≡ before.items → mid.named ≡ before.named → Keeps mid.kept (unfinished text ++ line) → length mid.kept.bits ≡ length before.kept.bits → Holds named items c mid (unfinished (text ++ line))
+  held_line : IsLine line → LiftsWith named items c before text → mid.items ≡ before.items → mid.named ≡ before.named → KeepsLine mid.kept (unfinished text ++ line) → length mid.kept.bits ≡ length before.kept.bits → Holds named items c mid (unfinished (text ++ line))
   held_line is h same same_names keeps room =
       record {
         circuit = h.circuit;
         model = same ∙ h.model;
         naming = same_names ∙ h.naming;
-        kept = subst (Keeps mid.kept) (sym (unfinished-part text line is)) keeps;
+        kept = subst (KeepsLine mid.kept) (sym (unfinished-part text line is)) keeps;
         latches = omega (arith, h.latches, room);
         inputs = omega (arith, h.inputs, room);
       }
@@ -126,8 +126,8 @@ module _ {T E : Type 0} (r : Result T E) (named : Bool) (items : List Item) (c :
       ∙ (sym (lifted_end named items c (text ++ line) mid h) ∙ ap (lifted_with named items c) joined))
 
   -- a line with its end
-  pub line_takes : IsLine line → LiftsWith named items c before text → Sent start old (lifted_with named items c text) kept → mid.items ≡ before.items → mid.named ≡ before.named → Keeps mid.kept (unfinished text ++ line) → length mid.kept.bits ≡ length before.kept.bits
-      → number ≡ admitted_lines c text → now ≡ admitted_lines c whole → Puts r old new kept left put → after.items ≡ before.items → after.named ≡ before.named → NotesBits named c after.noter whole → Keeps after.kept [] → length after.kept.bits ≡ length mid.kept.bits
+  pub line_takes : IsLine line → LiftsWith named items c before text → Sent start old (lifted_with named items c text) kept → mid.items ≡ before.items → mid.named ≡ before.named → KeepsLine mid.kept (unfinished text ++ line) → length mid.kept.bits ≡ length before.kept.bits
+      → number ≡ admitted_lines c text → now ≡ admitted_lines c whole → Puts r old new kept left put → after.items ≡ before.items → after.named ≡ before.named → NotesBits named c after.noter whole → KeepsLine after.kept [] → length after.kept.bits ≡ length mid.kept.bits
       → MatchResult r (λ x. LiftsWith named items c after whole × Sent start new (lifted_with named items c whole) left) (λ e. AppendsBeginning start new (lifted_with named items c whole))
   line_takes is h sent same same_names keeps room n m puts items_same names_same notes nothing after_room =
       let lifts : LiftsWith named items c after whole = record {
@@ -135,7 +135,7 @@ module _ {T E : Type 0} (r : Result T E) (named : Bool) (items : List Item) (c :
         model = items_same ∙ h.model;
         naming = names_same ∙ h.naming;
         notes = notes;
-        kept = subst (Keeps after.kept) (sym (unfinished-line_end text line)) nothing;
+        kept = subst (KeepsLine after.kept) (sym (unfinished-line_end text line)) nothing;
         latches = omega (arith, h.latches, room, after_room);
         inputs = omega (arith, h.inputs, room, after_room);
       } in

@@ -19,8 +19,8 @@ use Rattle.btor2.specs.Check.{IsWellFormed}
 use Rattle.blast.specs.Cost.{input_width}
 use Rattle.witness.specs.Texts.{digit, symbol_part, shape_of, has_free}
 use Rattle.witness.proofs.ShapeLemmas.{free_at_places}
-use Rattle.lift.specs.Lifted.{names, word_line, initial_piece, free_piece, frame_piece, input_lines}
-use Rattle.lift.specs.Kept.{KeptLine, kept_bits, kept_frame, kept_piece, taken_line, placed_lines, leaf_lines}
+use Rattle.lift.specs.Lifted.{names, word_line, initial_piece, free_piece, frame_piece, lifted_input_lines}
+use Rattle.lift.specs.Kept.{KeptLine, line_bits_kept, kept_frame, kept_piece, taken_line, placed_lines, leaf_lines}
 use Rattle.lift.proofs.LeafLemmas.{inputs_placed, carried_placed, free_placed}
 
 -- the digits of a word, of which the highest is left
@@ -64,7 +64,7 @@ no_free named items (suc k) bits some none = rw none refl
 pub frame_parts : (named : Bool) (items : List Item) (frame : ℕ) (bits : List Bool) → IsWellFormed items
     → text_of_lines (frame_piece named items frame bits) ≡ text_of_lines (free_piece named items frame (drop (input_width items) bits)) ++ (((64 ∷ []) ++ (decimal frame ++ 10 ∷ [])) ++ leaf_lines leaves.Inputs items (names named frame) bits)
 frame_parts named items frame bits w =
-    flat_map-append (λ line. line ++ 10 ∷ []) (free_piece named items frame (drop (input_width items) bits)) ((64 ∷ decimal frame) ∷ input_lines items (names named frame) bits)
+    flat_map-append (λ line. line ++ 10 ∷ []) (free_piece named items frame (drop (input_width items) bits)) ((64 ∷ decimal frame) ∷ lifted_input_lines items (names named frame) bits)
     ∙ ap (λ (l : List ℕ). text_of_lines (free_piece named items frame (drop (input_width items) bits)) ++ (((64 ∷ decimal frame) ++ 10 ∷ []) ++ l)) (sym (inputs_placed items (names named frame) bits w))
 
 -- the piece by the number of the line
@@ -74,7 +74,7 @@ piece_of_header named items n k e = ap (λ (m : ℕ). text_of_lines (kept_piece 
 pub piece_of_claim : (named : Bool) (items : List Item) (n : ℕ) (k : KeptLine) → n ≡ 1 → text_of_lines (kept_piece named items n k) ≡ (98 ∷ []) ++ (decimal k.number ++ 10 ∷ [])
 piece_of_claim named items n k e = ap (λ (m : ℕ). text_of_lines (kept_piece named items m k)) e ∙ append-nil ((98 ∷ decimal k.number) ++ 10 ∷ [])
 
-pub piece_of_initial : (named : Bool) (items : List Item) (n : ℕ) (k : KeptLine) → n ≡ 2 → text_of_lines (kept_piece named items n k) ≡ text_of_lines (initial_piece named items (kept_bits k))
+pub piece_of_initial : (named : Bool) (items : List Item) (n : ℕ) (k : KeptLine) → n ≡ 2 → text_of_lines (kept_piece named items n k) ≡ text_of_lines (initial_piece named items (line_bits_kept k))
 piece_of_initial named items n k e = ap (λ (m : ℕ). text_of_lines (kept_piece named items m k)) e
 
 pub piece_of_frame : (named : Bool) (items : List Item) (n : ℕ) (k : KeptLine) → (n ≡ 0 → ⊥) → (n ≡ 1 → ⊥) → (n ≡ 2 → ⊥) → text_of_lines (kept_piece named items n k) ≡ text_of_lines (kept_frame named items (n - 3) k)

@@ -4,15 +4,15 @@ use Rattle.base.specs.Device.{HasRisen}
 use Rattle.lift.specs.declared.fault.LiftFault.{LiftFault}
 use Rattle.lift.specs.declared.fault.LiftFault.TheVariants as fault
 
-abbrev pub fault_number : LiftFault → ℕ
-fault_number fault.Read = 130
-fault_number fault.Write = 131
-fault_number fault.NoMemory = 132
+abbrev pub lift_fault_number : LiftFault → ℕ
+lift_fault_number fault.Read = 130
+lift_fault_number fault.Write = 131
+lift_fault_number fault.NoMemory = 132
 
-abbrev pub fault_name : LiftFault → List ℕ
-fault_name fault.Read = codes "Read"
-fault_name fault.Write = codes "Write"
-fault_name fault.NoMemory = codes "NoMemory"
+abbrev pub lift_fault_name : LiftFault → List ℕ
+lift_fault_name fault.Read = codes "Read"
+lift_fault_name fault.Write = codes "Write"
+lift_fault_name fault.NoMemory = codes "NoMemory"
 
 -- the source failed once where that is answered, the sink where that is, and else neither
 abbrev pub CountsLift : {J : Type 0} → Result J LiftFault → ℕ → ℕ → ℕ → ℕ → Type 0

@@ -6,7 +6,7 @@ use Rattle.base.specs.Lines.{whole_lines}
 use Rattle.btor2.specs.declared.item.Item.{Item}
 use Rattle.base.specs.Literal.{Valuation}
 use Rattle.aiger.specs.Circuit.{Circuit}
-use Rattle.aiger.specs.Trace.{IsTrace}
+use Rattle.aiger.specs.Trace.{IsCircuitTrace}
 use Rattle.engine.specs.EngineForm.{input_count, IsEngineFormOf}
 use Rattle.witness.specs.declared.judgement.Judgement.{Judgement}
 use Rattle.witness.specs.declared.judgement.Judgement.TheVariants as judgement
@@ -20,7 +20,7 @@ use Rattle.restore.specs.Counterexample.{HasProperty, place_in, first_bad}
 use Rattle.restore.specs.Faults.{is_of_text}
 use Rattle.restore.specs.FormWitness.{form_restored_text, FormJudges, IsFoundAgain}
 use Rattle.restore.specs.Pieces.{Restorer, owed}
-use Rattle.restore.specs.Reading.{whole, read_text}
+use Rattle.restore.specs.Reading.{whole, read_found}
 use Rattle.restore.specs.Restored.{restored_text}
 use Rattle.lift.specs.Lifted.{lifted_with}
 use Rattle.lift.specs.Stands.{Lifter, LiftsWith}
@@ -34,7 +34,7 @@ engine_lifted_text named items c k text = lifted_with named items c (restored_te
 abbrev pub FindsInModel : Bool → List Item → Circuit → ℕ → List ℕ → Type 0
 FindsInModel named items c k text =
     (choice : Option ℕ) (d : Circuit) (given : List (List Bool)) (ws : List Valuation) (n : ℕ) → IsEngineFormOf c choice d → HasProperty choice k
-    → read_text (input_count c) text ≡ whole given → length given + 4 ≤ most_lines → IsTrace d (replicate (length d.latches) false) given ws → first_bad d (place_in choice k) ws ≡ Some n
+    → read_found (input_count c) text ≡ whole given → length given + 4 ≤ most_lines → IsCircuitTrace d (replicate (length d.latches) false) given ws → first_bad d (place_in choice k) ws ≡ Some n
     → length (whole_lines (engine_lifted_text named items c k text)) ≤ most_lines
     → Judges items (engine_lifted_text named items c k text) (judgement.Accepted (n + 1))
 
@@ -75,19 +75,19 @@ lifted_over o text = lifted_with o.named o.items o.circuit text
 -- ---- what is told of a source
 
 -- a restorer at the begin of a text, with this claim
-abbrev pub Restores : Circuit → ℕ → Restorer → Type 0
-Restores c k r = (text : List ℕ) → owed r text ≡ record { bytes = restored_text c k text; fault = (read_text (input_count c) text).fault }
+abbrev pub BeginsToRestore : Circuit → ℕ → Restorer → Type 0
+BeginsToRestore c k r = (text : List ℕ) → owed r text ≡ record { bytes = restored_text c k text; fault = (read_found (input_count c) text).fault }
 
 -- what is told of the text of a counterexample, of which these bytes are known: a judgement, and first rises where words are lifted with names; and what was written of it
 pub record LiftsRestored (r : Result (Judgement × List (Option ℕ)) RestoreFault) (named : Bool) (items : List Item) (c : Circuit) (k : ℕ) (source old new : Option (List ℕ)) : Type 0 where
   pub judged : IfOk r (λ told. IfSome source (λ text. BitJudges c (restored_text c k text) told.0))
   pub rises : named ≡ true → IfOk r (λ told. IfSome source (λ text. AreBitFirstRises c (restored_text c k text) told.1))
-  pub right : OnOk r (IfSome source (λ text. (read_text (input_count c) text).fault ≡ None))
+  pub right : OnOk r (IfSome source (λ text. (read_found (input_count c) text).fault ≡ None))
   pub kept : IfOk r (λ told. IfSome source (λ text. KeepsVerdictIn items c (restored_text c k text) (engine_lifted_text named items c k text) told.0))
   pub written : OnOk r (IfSome source (λ text. Appends old new (engine_lifted_text named items c k text)))
   pub found : IfOk r (λ told. IfSome source (λ text. FindsAgain c k text told.0))
   pub in_model : OnOk r (IfSome source (λ text. FindsInModel named items c k text))
-  pub faulty : IfErr r (λ e. is_of_text e.why ≡ true → IfSome source (λ text. (read_text (input_count c) text).fault ≡ Some e))
+  pub faulty : IfErr r (λ e. is_of_text e.why ≡ true → IfSome source (λ text. (read_found (input_count c) text).fault ≡ Some e))
   pub before : IfErr r (λ e. is_of_text e.why ≡ true → IfSome source (λ text. Appends old new (engine_lifted_text named items c k text)))
   pub beginning : IfErr r (λ e. is_of_text e.why ≡ false → IfSome source (λ text. AppendsBeginning old new (engine_lifted_text named items c k text)))
 

@@ -9,7 +9,7 @@ use Rattle.btor2.specs.Leaves.{list_of, is_leaf_at, leaf_width}
 use Rattle.aiger.specs.Circuit.{Circuit}
 use Rattle.witness.specs.Texts.{claim}
 use Rattle.witness.specs.BitScans.{behind_first}
-use Rattle.lift.specs.Lifted.{word_line, line_bits, initial_piece, frame_piece}
+use Rattle.lift.specs.Lifted.{word_line, bits_of_line, initial_piece, frame_piece}
 
 -- as many bits as fit, how many bytes there are, at most one more than fit, the first of them, and the number that the others write, where the first is a `b`
 pub record KeptLine : Type 0 where
@@ -19,8 +19,8 @@ pub record KeptLine : Type 0 where
   pub number : ℕ
 
 -- it is kept of these bytes
-pub record Keeps (k : KeptLine) (line : List ℕ) : Type 0 where
-  pub bits : length line ≤ length k.bits → take (length line) k.bits ≡ line_bits line
+pub record KeepsLine (k : KeptLine) (line : List ℕ) : Type 0 where
+  pub bits : length line ≤ length k.bits → take (length line) k.bits ≡ bits_of_line line
   pub count : k.count ≡ min (length line) (length k.bits + 1)
   pub first : k.first ≡ slice_index_or line 0 0
   pub number : slice_index_or line 0 98 ≡ 98 → are_digits (behind_first line) ≡ true → k.number ≡ capped_value (behind_first line)
@@ -36,18 +36,18 @@ kept_more k byte =
     }
 
 -- as many of the bits as there are bytes
-abbrev pub kept_bits : KeptLine → List Bool
-kept_bits k = take k.count k.bits
+abbrev pub line_bits_kept : KeptLine → List Bool
+line_bits_kept k = take k.count k.bits
 
 -- the piece of the line that is kept, where it is that of a frame, or the end
 abbrev pub kept_frame : Bool → List Item → ℕ → KeptLine → List (List ℕ)
-kept_frame named items n k = if k.first == 46 then codes "." ∷ [] else frame_piece named items n (kept_bits k)
+kept_frame named items n k = if k.first == 46 then codes "." ∷ [] else frame_piece named items n (line_bits_kept k)
 
 -- the piece of the line that is kept, where it is admitted behind so many others
 abbrev pub kept_piece : Bool → List Item → ℕ → KeptLine → List (List ℕ)
 kept_piece named items zero k = codes "sat" ∷ []
 kept_piece named items (suc zero) k = claim k.number ∷ []
-kept_piece named items (suc (suc zero)) k = initial_piece named items (kept_bits k)
+kept_piece named items (suc (suc zero)) k = initial_piece named items (line_bits_kept k)
 kept_piece named items (suc (suc (suc n))) k = kept_frame named items n k
 
 -- a line in the place of a frame is the end, or has as many bytes as there are inputs, of which the first is no `.`

@@ -42,8 +42,8 @@ word_lines items takes name index (x ∷ xs) bits =
     else word_lines items takes name (suc index) xs bits
 
 -- of all inputs, of the states that are carried from frame to frame, and of those that are free; an index counts all inputs, or all states, in file order
-abbrev pub input_lines : List Item → (Item → Option (List ℕ)) → List Bool → List (List ℕ)
-input_lines items name bits = word_lines items (λ x. true) name 0 (filter (λ x. is_input x.body) items) bits
+abbrev pub lifted_input_lines : List Item → (Item → Option (List ℕ)) → List Bool → List (List ℕ)
+lifted_input_lines items name bits = word_lines items (λ x. true) name 0 (filter (λ x. is_input x.body) items) bits
 
 abbrev pub carried_lines : List Item → (Item → Option (List ℕ)) → List Bool → List (List ℕ)
 carried_lines items name bits = word_lines items (λ x. not (is_free items x.id)) name 0 (filter (λ x. is_state x.body) items) bits
@@ -64,18 +64,18 @@ free_piece named items (suc k) bits = if has_free (shape_of items) then (35 ∷ 
 
 -- of the bits of a frame: those of the inputs come first, and then those of the free states
 abbrev pub frame_piece : Bool → List Item → ℕ → List Bool → List (List ℕ)
-frame_piece named items k bits = free_piece named items k (drop (input_width items) bits) ++ (64 ∷ decimal k) ∷ input_lines items (names named k) bits
+frame_piece named items k bits = free_piece named items k (drop (input_width items) bits) ++ (64 ∷ decimal k) ∷ lifted_input_lines items (names named k) bits
 
 -- the bits of a line
-abbrev pub line_bits : List ℕ → List Bool
-line_bits line = map (λ b. b == 49) line
+abbrev pub bits_of_line : List ℕ → List Bool
+bits_of_line line = map (λ b. b == 49) line
 
 -- the piece of a line behind so many others: the status, the claim, the initial bits, then a frame each, and the end
 abbrev pub piece : Bool → List Item → ℕ → List ℕ → List (List ℕ)
 piece named items zero line = codes "sat" ∷ []
 piece named items (suc zero) line = line ∷ []
-piece named items (suc (suc zero)) line = initial_piece named items (line_bits line)
-piece named items (suc (suc (suc k))) line = if bytes_eq line (codes ".") then line ∷ [] else frame_piece named items k (line_bits line)
+piece named items (suc (suc zero)) line = initial_piece named items (bits_of_line line)
+piece named items (suc (suc (suc k))) line = if bytes_eq line (codes ".") then line ∷ [] else frame_piece named items k (bits_of_line line)
 
 -- ---- a whole text
 

@@ -8,7 +8,7 @@ use Rattle.aiger.specs.Circuit.{Circuit, IsCircuit}
 use Rattle.rises.specs.declared.bit_noter.BitNoter.{BitNoter}
 use Rattle.rises.specs.Notes.{NotesBits}
 use Rattle.lift.specs.Lifted.{lifted_with}
-use Rattle.lift.specs.Kept.{KeptLine, Keeps, kept_piece}
+use Rattle.lift.specs.Kept.{KeptLine, KeepsLine, kept_piece}
 
 -- the model, whether words are lifted with names, whether the model has a free state, a judge that notes first rises where words are lifted with names, and what is kept of the line that has not ended
 pub record Lifter : Type 0 where
@@ -24,7 +24,7 @@ pub record LiftsWith (named : Bool) (items : List Item) (c : Circuit) (l : Lifte
   pub model : l.items ≡ items
   pub naming : l.named ≡ named
   pub notes : NotesBits named c l.noter text
-  pub kept : Keeps l.kept (unfinished text)
+  pub kept : KeepsLine l.kept (unfinished text)
   pub latches : length c.latches ≤ length l.kept.bits
   pub inputs : c.inputs ≤ length l.kept.bits
 
@@ -34,7 +34,7 @@ admitted_piece admitted l number = if admitted then kept_piece l.named l.items n
 
 -- Of what a sink was given since it had the first bytes: the lifted text of a text was put, but for a rest that is kept. A call that takes bytes behind the
 -- text puts what is lifted of them; at a fault a beginning of the lifted text was written.
-pub record Takes {T E : Type 0} (r : Result T E) (old new : Option (List ℕ)) (kept left : List ℕ) (before after : Lifter) (bytes : List ℕ) : Type 0 where
+pub record TakesLine {T E : Type 0} (r : Result T E) (old new : Option (List ℕ)) (kept left : List ℕ) (before after : Lifter) (bytes : List ℕ) : Type 0 where
   pub takes : {named : Bool} → (items : List Item) (c : Circuit) (text : List ℕ) (start : Option (List ℕ)) → LiftsWith named items c before text → Sent start old (lifted_with named items c text) kept
       → MatchResult r
       (λ x. LiftsWith named items c after (text ++ bytes) × Sent start new (lifted_with named items c (text ++ bytes)) left)

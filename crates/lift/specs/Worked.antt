@@ -5,15 +5,15 @@ use Rattle.btor2.specs.declared.item.Body.TheVariants as body
 use Rattle.btor2.specs.Worked.{line}
 use Rattle.aiger.specs.declared.circuit.Reset.TheVariants as reset
 use Rattle.aiger.specs.Circuit.{Circuit}
-use Rattle.blast.specs.Worked.{named}
+use Rattle.blast.specs.Worked.{named_item}
 
 -- the state takes the highest bit of the input, and is bad where it is 1
 abbrev pub high_bit : List Item
 high_bit =
     line 1 (body.Sort 3)
     ∷ line 2 (body.Sort 1)
-    ∷ named 3 (codes "x") (body.Input 1)
-    ∷ named 4 (codes "s") (body.State 2)
+    ∷ named_item 3 (codes "x") (body.Input 1)
+    ∷ named_item 4 (codes "s") (body.State 2)
     ∷ line 5 (body.Slice 2 3 2 2)
     ∷ line 6 (body.Next 2 4 5)
     ∷ line 7 (body.Bad 4)

@@ -12,9 +12,9 @@ ghost use Rattle.restore.specs.Accepted.{FindsAgain};
 ghost use Rattle.restore.specs.Answers.{CountsRestore};
 ghost use Rattle.restore.specs.Faults.{is_of_text};
 ghost use Rattle.restore.specs.Pieces.{is_written};
-ghost use Rattle.restore.specs.Reading.{read_text};
+ghost use Rattle.restore.specs.Reading.{read_found};
 ghost use Rattle.restore.specs.Restored.{restored_text};
-ghost use Rattle.lift.specs.EngineLifting.{engine_lifted_text, FindsInModel, Restores, LiftsRestored};
+ghost use Rattle.lift.specs.EngineLifting.{engine_lifted_text, FindsInModel, BeginsToRestore, LiftsRestored};
 ghost use Rattle.lift.specs.Stands.{LiftsWith};
 ghost use Rattle.lift.specs.Verdicts.{KeepsVerdictIn};
 
@@ -38,7 +38,7 @@ fn lift_pieces<S: Source, K: Sink>(
 ) -> Result<(Judgement, FirstRises), RestoreFault>
     requires unread { restorer.old.reader.rest ≡ [] }
     requires begins { is_written restorer.old.stage ≡ false }
-    ensures lifts { (named : Bool) (items : List Item) (c : Circuit) (k : ℕ) → Lowers items c → k < length c.bads → Restores c k restorer.old → LiftsWith named items c lifter.entry []
+    ensures lifts { (named : Bool) (items : List Item) (c : Circuit) (k : ℕ) → Lowers items c → k < length c.bads → BeginsToRestore c k restorer.old → LiftsWith named items c lifter.entry []
         → LiftsRestored result named items c k (S.to_come source.old) (K.written sink.old) (K.written sink.new) }
     ensures apart { IfErr result (λ e. is_of_text e.why ≡ false → e.line ≡ 0) }
     ensures end { OnOk result (IsAtEnd (S.to_come source.new)) }
@@ -76,7 +76,7 @@ pub fn lift_restored_with_rises<S: Source, K: Sink>(
     ensures judged { IfOk result (λ told. IfSome (S.to_come source.old) (λ text. BitJudges circuit.now (restored_text circuit.now claim text) told.0)) }
     // and what stands beside it, with names, are the first rises of that text
     ensures rises { named ≡ true → IfOk result (λ told. IfSome (S.to_come source.old) (λ text. AreBitFirstRises circuit.now (restored_text circuit.now claim text) told.1)) }
-    ensures right { OnOk result (IfSome (S.to_come source.old) (λ text. (read_text (input_count circuit.now) text).fault ≡ None)) }
+    ensures right { OnOk result (IfSome (S.to_come source.old) (λ text. (read_found (input_count circuit.now) text).fault ≡ None)) }
     // what is judged of what is written over the model is the same verdict
     ensures kept { IfOk result (λ told. IfSome (S.to_come source.old) (λ text. KeepsVerdictIn model.now circuit.now (restored_text circuit.now claim text) (engine_lifted_text named model.now circuit.now claim text) told.0)) }
     ensures written { OnOk result (IfSome (S.to_come source.old) (λ text. Appends (K.written sink.old) (K.written sink.new) (engine_lifted_text named model.now circuit.now claim text))) }
@@ -84,7 +84,7 @@ pub fn lift_restored_with_rises<S: Source, K: Sink>(
     ensures found { IfOk result (λ told. IfSome (S.to_come source.old) (λ text. FindsAgain circuit.now claim text told.0)) }
     ensures in_model { OnOk result (IfSome (S.to_come source.old) (λ text. FindsInModel named model.now circuit.now claim text)) }
     // a fault of the text is its own, and what the lines before it give was written; at any other a beginning was
-    ensures faulty { IfErr result (λ e. is_of_text e.why ≡ true → IfSome (S.to_come source.old) (λ text. (read_text (input_count circuit.now) text).fault ≡ Some e)) }
+    ensures faulty { IfErr result (λ e. is_of_text e.why ≡ true → IfSome (S.to_come source.old) (λ text. (read_found (input_count circuit.now) text).fault ≡ Some e)) }
     ensures before { IfErr result (λ e. is_of_text e.why ≡ true → IfSome (S.to_come source.old) (λ text. Appends (K.written sink.old) (K.written sink.new) (engine_lifted_text named model.now circuit.now claim text))) }
     ensures beginning { IfErr result (λ e. is_of_text e.why ≡ false → IfSome (S.to_come source.old) (λ text. AppendsBeginning (K.written sink.old) (K.written sink.new) (engine_lifted_text named model.now circuit.now claim text))) }
     ensures apart { IfErr result (λ e. is_of_text e.why ≡ false → e.line ≡ 0) }
@@ -122,7 +122,7 @@ pub fn lift_restored<S: Source, K: Sink>(
     requires claim { claim < length circuit.now.bads }
     // the judgement is that over the circuit of what the text is restored to, with which nothing is wrong
     ensures judged { IfOk result (λ judgement. IfSome (S.to_come source.old) (λ text. BitJudges circuit.now (restored_text circuit.now claim text) judgement)) }
-    ensures right { OnOk result (IfSome (S.to_come source.old) (λ text. (read_text (input_count circuit.now) text).fault ≡ None)) }
+    ensures right { OnOk result (IfSome (S.to_come source.old) (λ text. (read_found (input_count circuit.now) text).fault ≡ None)) }
     // what is judged of what is written over the model is the same verdict
     ensures kept { IfOk result (λ judgement. IfSome (S.to_come source.old) (λ text. KeepsVerdictIn model.now circuit.now (restored_text circuit.now claim text) (engine_lifted_text named model.now circuit.now claim text) judgement)) }
     ensures written { OnOk result (IfSome (S.to_come source.old) (λ text. Appends (K.written sink.old) (K.written sink.new) (engine_lifted_text named model.now circuit.now claim text))) }
@@ -130,7 +130,7 @@ pub fn lift_restored<S: Source, K: Sink>(
     ensures found { IfOk result (λ judgement. IfSome (S.to_come source.old) (λ text. FindsAgain circuit.now claim text judgement)) }
     ensures in_model { OnOk result (IfSome (S.to_come source.old) (λ text. FindsInModel named model.now circuit.now claim text)) }
     // a fault of the text is its own, and what the lines before it give was written; at any other a beginning was
-    ensures faulty { IfErr result (λ e. is_of_text e.why ≡ true → IfSome (S.to_come source.old) (λ text. (read_text (input_count circuit.now) text).fault ≡ Some e)) }
+    ensures faulty { IfErr result (λ e. is_of_text e.why ≡ true → IfSome (S.to_come source.old) (λ text. (read_found (input_count circuit.now) text).fault ≡ Some e)) }
     ensures before { IfErr result (λ e. is_of_text e.why ≡ true → IfSome (S.to_come source.old) (λ text. Appends (K.written sink.old) (K.written sink.new) (engine_lifted_text named model.now circuit.now claim text))) }
     ensures beginning { IfErr result (λ e. is_of_text e.why ≡ false → IfSome (S.to_come source.old) (λ text. AppendsBeginning (K.written sink.old) (K.written sink.new) (engine_lifted_text named model.now circuit.now claim text))) }
     ensures apart { IfErr result (λ e. is_of_text e.why ≡ false → e.line ≡ 0) }

@@ -1,6 +1,6 @@
 //! Why no judgement is answered.
 ghost use Rattle.std.specs.Prelude.{◌≡◌};
-ghost use Rattle.lift.specs.Answers.{fault_number, fault_name};
+ghost use Rattle.lift.specs.Answers.{lift_fault_number, lift_fault_name};
 
 use std::fmt;
 use thiserror::Error;
@@ -19,7 +19,7 @@ pub enum LiftFault {
 impl LiftFault {
     /// The number that is printed for the fault.
     pub fn number(self) -> u32
-        ensures { result ≡ fault_number self }
+        ensures { result ≡ lift_fault_number self }
     {
         match self {
             LiftFault::Read => 130,
@@ -30,7 +30,7 @@ impl LiftFault {
 
     /// The name that is printed for the fault.
     pub fn name(self) -> &'static str
-        ensures { result.now ≡ fault_name self }
+        ensures { result.now ≡ lift_fault_name self }
     {
         match self {
             LiftFault::Read => "Read",

@@ -1,7 +1,7 @@
 //! What is kept of a line of a witness until it is admitted.
 ghost use Rattle.std.specs.Prelude.{◌≡◌, ℕ, ◌+◌, nat_lt, List, [], ◌∷◌, ◌++◌, IfOk, if◌then◌else◌, length, slice_set};
 ghost use Rattle.base.specs.Decimals.{is_digit, number_more};
-ghost use Rattle.lift.specs.Kept.{Keeps, kept_more, kept_bits};
+ghost use Rattle.lift.specs.Kept.{KeepsLine, kept_more, line_bits_kept};
 
 use std::alloc::{AllocError, Global};
 use std::marker::Model;
@@ -54,7 +54,7 @@ impl KeptLine {
     ///
     /// Error: where the growth was refused.
     pub(crate) fn new(alloc: Global, room: usize) -> Result<KeptLine, AllocError>
-        ensures keeps { IfOk result (λ k. Keeps k []) }
+        ensures keeps { IfOk result (λ k. KeepsLine k []) }
         ensures room { IfOk result (λ k. length k.bits ≡ room) }
     {
         let bits = vec![in alloc; false; room]?;
@@ -68,7 +68,7 @@ impl KeptLine {
 
     /// The next line begins.
     pub(crate) fn clear(&mut self)
-        ensures keeps { Keeps self.new [] }
+        ensures keeps { KeepsLine self.new [] }
         ensures room { length self.new.bits ≡ length self.old.bits }
     {
         self.count = 0;
@@ -102,7 +102,7 @@ impl KeptLine {
 
     /// Takes bytes one by one.
     pub(crate) fn take(&mut self, bytes: &[u8])
-        ensures keeps { (line : List ℕ) → Keeps self.old line → Keeps self.new (line ++ bytes.now) }
+        ensures keeps { (line : List ℕ) → KeepsLine self.old line → KeepsLine self.new (line ++ bytes.now) }
         ensures room { length self.new.bits ≡ length self.old.bits }
     {
         for byte in bytes {
@@ -112,7 +112,7 @@ impl KeptLine {
 
     /// The bits that are kept.
     pub(crate) fn bits(&self) -> &[bool]
-        ensures { result.now ≡ kept_bits self.now }
+        ensures { result.now ≡ line_bits_kept self.now }
     {
         let count = self.count.min(self.bits.len());
         let (bits, _) = self.bits.split_at(count);

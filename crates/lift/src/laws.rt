@@ -3,7 +3,7 @@ ghost use Rattle.std.specs.Prelude.{◌≡◌, ◌↔◌, ◌≤◌, ℕ, true, 
 ghost use Rattle.base.specs.Device.{BeginsWith};
 ghost use Rattle.base.specs.Lines.{whole_lines};
 ghost use Rattle.btor2.specs.declared.item.Item.{Item};
-ghost use Rattle.btor2.specs.Worked.{toggler};
+ghost use Rattle.btor2.specs.Worked.{toggler_model};
 ghost use Rattle.aiger.specs.Circuit.{Circuit};
 ghost use Rattle.aiger.specs.Worked.{toggler as toggling_circuit};
 ghost use Rattle.blast.specs.Lowering.{Lowers};
@@ -70,7 +70,7 @@ pub fn names_mean_nothing()
 /// Worked rows: of a state of one bit, of a state of two bits whose word is written the highest first, of a faulty line, of
 /// which no piece is lifted, of an input of three bits, and of a free state, which has a part of its own in each frame.
 pub fn worked_liftings()
-    ensures toggles { lifted_text toggler toggling_circuit (codes "1\nb0\n0\n\n\n.\n") ≡ codes "sat\nb0\n#0\n0 0\n@0\n@1\n.\n" }
+    ensures toggles { lifted_text toggler_model toggling_circuit (codes "1\nb0\n0\n\n\n.\n") ≡ codes "sat\nb0\n#0\n0 0\n@0\n@1\n.\n" }
     ensures highest_first { lifted_text named_keeper keeper_circuit (codes "1\nb0\n01\n\n.\n") ≡ codes "sat\nb0\n#0\n0 10\n@0\n.\n" }
     ensures faulty { lifted_text named_keeper keeper_circuit (codes "1\nb0\n01\nz\n") ≡ codes "sat\nb0\n#0\n0 10\n" }
     ensures inputs { lifted_text high_bit high_bit_circuit (codes "1\nb0\n0\n001\n000\n.\n") ≡ codes "sat\nb0\n#0\n0 0\n@0\n0 100\n@1\n0 000\n.\n" }
@@ -85,7 +85,7 @@ pub fn worked_liftings()
 pub fn worked_names()
     ensures inputs { named_text high_bit high_bit_circuit (codes "1\nb0\n0\n001\n000\n.\n") ≡ codes "sat\nb0\n#0\n0 0 s@0\n@0\n0 100 x@0\n@1\n0 000 x@1\n.\n" }
     ensures free { named_text named_follower follower_circuit (codes "1\nb0\n0\n01\n00\n.\n") ≡ codes "sat\nb0\n#0\n1 0 s@0\n0 1 f@0\n@0\n0 0 x@0\n#1\n0 0 f@1\n@1\n0 0 x@1\n.\n" }
-    ensures none { named_text toggler toggling_circuit (codes "1\nb0\n0\n\n.\n") ≡ codes "sat\nb0\n#0\n0 0\n@0\n.\n" }
+    ensures none { named_text toggler_model toggling_circuit (codes "1\nb0\n0\n\n.\n") ≡ codes "sat\nb0\n#0\n0 0\n@0\n.\n" }
     ensures fits { name_in_frame 9 (replicate 253 65) ≡ Some (replicate 253 65 ++ codes "@9") }
     ensures too_long { name_in_frame 10 (replicate 253 65) ≡ None }
 {}

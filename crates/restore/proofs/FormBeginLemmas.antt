@@ -8,7 +8,7 @@ use Rattle.base.specs.Lines.{text_of_lines, whole_lines, unfinished}
 use Rattle.base.proofs.LineLemmas.{whole_lines-lines, lines_are_lines}
 use Rattle.base.specs.Literal.{Valuation}
 use Rattle.aiger.specs.Circuit.{Circuit}
-use Rattle.aiger.specs.Trace.{next_state}
+use Rattle.aiger.specs.Trace.{next_latch_bits}
 use Rattle.engine.specs.EngineForm.{begins, all_hold}
 use Rattle.witness.specs.declared.why.Why.{Why}
 use Rattle.witness.specs.BitTexts.{bit_line}
@@ -16,7 +16,7 @@ use Rattle.witness.specs.Readings.{lines_read, reading}
 use Rattle.witness.specs.BitAdmits.{claim_at, BitPlace, AtHeader, AtClaim, AtInitial, AtFirst, AtLater, AtDone, BitRead, after_claim, bit_admit_at, bit_admit, bit_reader, is_done}
 use Rattle.restore.specs.Frames.{frame_of}
 use Rattle.restore.specs.Restored.{rises_in, own_inputs, cut_inputs, written_frames, opening}
-use Rattle.restore.specs.FormWitness.{property_of, frame_lines, last_line, read_restored, form_restored_text}
+use Rattle.restore.specs.FormWitness.{property_of, restored_frame_lines, last_line, read_restored, form_restored_text}
 use Rattle.witness.proofs.TextEndLemmas.{lines_behind_text}
 use Rattle.restore.proofs.BitPlaceLemmas.{line_more}
 use Rattle.restore.proofs.FormLineLemmas.{status_line, initial_line, end_line, frame_line}
@@ -27,11 +27,11 @@ cut_more : (c : Circuit) (k : ℕ) (met : Bool) (state : List Bool) (xs ys : Lis
 cut_more c k met state [] ys = (cut_inputs c k met state ys, refl)
 cut_more c k met state (x ∷ xs) ys =
     let v : Valuation = frame_of c state x in
-    by (rises_in c k met v) (cut_more c k (met && all_hold c v) (next_state c v) xs ys)
+    by (rises_in c k met v) (cut_more c k (met && all_hold c v) (next_latch_bits c v) xs ys)
   where
-    by : (b : Bool) → (rest : List (List Bool)) × (cut_inputs c k (met && all_hold c (frame_of c state x)) (next_state c (frame_of c state x)) xs ++ rest ≡ cut_inputs c k (met && all_hold c (frame_of c state x)) (next_state c (frame_of c state x)) (xs ++ ys))
+    by : (b : Bool) → (rest : List (List Bool)) × (cut_inputs c k (met && all_hold c (frame_of c state x)) (next_latch_bits c (frame_of c state x)) xs ++ rest ≡ cut_inputs c k (met && all_hold c (frame_of c state x)) (next_latch_bits c (frame_of c state x)) (xs ++ ys))
         → (rest : List (List Bool))
-        × ((x ∷ (if b then [] else cut_inputs c k (met && all_hold c (frame_of c state x)) (next_state c (frame_of c state x)) xs)) ++ rest ≡ x ∷ (if b then [] else cut_inputs c k (met && all_hold c (frame_of c state x)) (next_state c (frame_of c state x)) (xs ++ ys)))
+        × ((x ∷ (if b then [] else cut_inputs c k (met && all_hold c (frame_of c state x)) (next_latch_bits c (frame_of c state x)) xs)) ++ rest ≡ x ∷ (if b then [] else cut_inputs c k (met && all_hold c (frame_of c state x)) (next_latch_bits c (frame_of c state x)) (xs ++ ys)))
     by true later = ([], refl)
     by false later = (later.0, ap (λ (l : List (List Bool)). x ∷ l) later.1)
 
@@ -39,8 +39,8 @@ map_behind : {A B : Type 0} (f : A → B) (xs ys : List A) → map f xs ++ map f
 map_behind f [] ys = refl
 map_behind f (x ∷ xs) ys = ap (λ l. f x ∷ l) (map_behind f xs ys)
 
-lines_begin : (c : Circuit) (k : ℕ) (given more : List (List Bool)) → (rest : List (List ℕ)) × (frame_lines c k given ++ rest ≡ frame_lines c k (given ++ more))
-lines_begin c k [] more = (frame_lines c k more, refl)
+lines_begin : (c : Circuit) (k : ℕ) (given more : List (List Bool)) → (rest : List (List ℕ)) × (restored_frame_lines c k given ++ rest ≡ restored_frame_lines c k (given ++ more))
+lines_begin c k [] more = (restored_frame_lines c k more, refl)
 lines_begin c k (bits ∷ given) more =
     let cut = cut_more c k true (begins c (bits ∷ given)) (own_inputs c (bits ∷ given)) (own_inputs c more) in
     let all : written_frames c k (bits ∷ given) ++ cut.0 ≡ written_frames c k (bits ∷ (given ++ more)) = cut.1 ∙ ap (cut_inputs c k true (begins c (bits ∷ given))) (map_behind (take c.inputs) (bits ∷ given) more) in (
@@ -63,7 +63,7 @@ abbrev IsEarly : BitRead → Type 0
 IsEarly r = NoFrames r.place r.frames
 
 nothing_restored : (c : Circuit) (choice : Option ℕ) (r : BitRead) → r.frames ≡ [] → is_done r.place ≡ false → read_restored c choice r ≡ []
-nothing_restored c choice r none going = ap₂ (λ (fs : List (List Bool)) (b : Bool). text_of_lines (frame_lines c (property_of choice r.claim) fs ++ last_line b)) none going
+nothing_restored c choice r none going = ap₂ (λ (fs : List (List Bool)) (b : Bool). text_of_lines (restored_frame_lines c (property_of choice r.claim) fs ++ last_line b)) none going
 
 begins_nothing : (c : Circuit) (choice : Option ℕ) (r next : BitRead) → r.frames ≡ [] → is_done r.place ≡ false → BeginsWith (read_restored c choice next) (read_restored c choice r)
 begins_nothing c choice r next none going = (read_restored c choice next, ap (λ (t : List ℕ). t ++ read_restored c choice next) (nothing_restored c choice r none going))
@@ -76,8 +76,8 @@ claimed : (r next : BitRead) (o : Result ℕ Why) → r.frames ≡ [] → after_
 claimed r next (Ok i) none h = let e : record r { place = AtInitial; claim = i } ≡ next = cc in subst IsEarly e none
 claimed r next (Err w) none h = absurd cc
 
-so_far : (c : Circuit) (choice : Option ℕ) (r : BitRead) → is_done r.place ≡ false → read_restored c choice r ≡ text_of_lines (frame_lines c (property_of choice r.claim) r.frames)
-so_far c choice r going = ap (λ (b : Bool). text_of_lines (frame_lines c (property_of choice r.claim) r.frames ++ last_line b)) going ∙ ap text_of_lines (append-nil (frame_lines c (property_of choice r.claim) r.frames))
+so_far : (c : Circuit) (choice : Option ℕ) (r : BitRead) → is_done r.place ≡ false → read_restored c choice r ≡ text_of_lines (restored_frame_lines c (property_of choice r.claim) r.frames)
+so_far c choice r going = ap (λ (b : Bool). text_of_lines (restored_frame_lines c (property_of choice r.claim) r.frames ++ last_line b)) going ∙ ap text_of_lines (append-nil (restored_frame_lines c (property_of choice r.claim) r.frames))
 
 goes : (c : Circuit) (choice : Option ℕ) (d : Circuit) (r next : BitRead) (line : List ℕ) (place : BitPlace) → r.place ≡ place → NoFrames place r.frames → bit_admit_at d r line place ≡ Ok next → Goes c choice r next
 goes c choice d r next line AtHeader at none h =
@@ -93,12 +93,12 @@ goes c choice d r next line AtFirst at none h = elim (cases_Bool (bytes_eq line 
 ]
 goes c choice d r next line AtLater at none h =
     let k : ℕ = property_of choice r.claim in
-    let now : read_restored c choice r ≡ text_of_lines (frame_lines c k r.frames) = so_far c choice r (ap is_done at) in
+    let now : read_restored c choice r ≡ text_of_lines (restored_frame_lines c k r.frames) = so_far c choice r (ap is_done at) in
     elim (cases_Bool (bytes_eq line (codes "."))) [
       | inl end ↦
           let e = end_line d r next line 4 AtLater (omega arith) end (omega arith) h in
           record {
-            begins = (codes ".\n", ap (λ (t : List ℕ). t ++ codes ".\n") now ∙ sym (flat_map-append (λ l. l ++ 10 ∷ []) (frame_lines c k r.frames) (codes "." ∷ [])) ∙ ap (read_restored c choice) (sym e.0));
+            begins = (codes ".\n", ap (λ (t : List ℕ). t ++ codes ".\n") now ∙ sym (flat_map-append (λ l. l ++ 10 ∷ []) (restored_frame_lines c k r.frames) (codes "." ∷ [])) ∙ ap (read_restored c choice) (sym e.0));
             early = subst IsEarly (sym e.0) tt;
           }
       | inr other ↦
@@ -108,8 +108,8 @@ goes c choice d r next line AtLater at none h =
           record {
             begins = (
               text_of_lines more.0,
-              ap (λ (t : List ℕ). t ++ text_of_lines more.0) now ∙ sym (flat_map-append (λ l. l ++ 10 ∷ []) (frame_lines c k r.frames) more.0)
-                  ∙ ap text_of_lines (more.1 ∙ sym (append-nil (frame_lines c k (r.frames ++ bits ∷ [])))) ∙ ap (read_restored c choice) (sym f.0.says),
+              ap (λ (t : List ℕ). t ++ text_of_lines more.0) now ∙ sym (flat_map-append (λ l. l ++ 10 ∷ []) (restored_frame_lines c k r.frames) more.0)
+                  ∙ ap text_of_lines (more.1 ∙ sym (append-nil (restored_frame_lines c k (r.frames ++ bits ∷ [])))) ∙ ap (read_restored c choice) (sym f.0.says),
             );
             early = subst IsEarly (sym f.0.says) tt;
           }

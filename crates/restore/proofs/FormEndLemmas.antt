@@ -9,24 +9,24 @@ use Rattle.engine.specs.EngineForm.{input_count}
 use Rattle.witness.specs.declared.judgement.Judgement.{Judgement}
 use Rattle.witness.specs.BitAdmits.{is_done}
 use Rattle.witness.specs.BitJudgements.{BitJudges}
-use Rattle.witness.specs.BitStands.{BitJudge, StandsFor}
+use Rattle.witness.specs.BitStands.{BitJudge, StandsForBits}
 use Rattle.witness.proofs.FeedLemmas.{if_some_then}
 use Rattle.restore.specs.declared.fault.RestoreFault.{RestoreFault}
 use Rattle.restore.specs.declared.fault.RestoreWhy.TheVariants as why
 use Rattle.restore.specs.declared.stage.Stage.{Stage}
 use Rattle.restore.specs.declared.stage.Stage.TheVariants as stage
-use Rattle.restore.specs.Answers.{CountsRestore, PutsAllBut, PutsOwed, WritesAllBut, WritesOwed}
+use Rattle.restore.specs.Answers.{CountsRestore, PutsAllBut, PutsOwed, WritesAllBut, WritesOwedLines}
 use Rattle.restore.specs.Faults.{is_of_text}
 use Rattle.restore.specs.Pieces.{Restorer, Owed, owed_at, is_reading}
 use Rattle.restore.specs.Restored.{restored_lines}
 use Rattle.restore.specs.Taking.{IsPutInPieces}
 use Rattle.restore.specs.FormSteps.{read_of, FormHolds, IsClaimed, ReadsClaim, Owing, WritesFormAll}
-use Rattle.restore.specs.FormWitness.{property_of, frame_lines, last_line, form_restored_text, TakesRestored}
+use Rattle.restore.specs.FormWitness.{property_of, restored_frame_lines, last_line, form_restored_text, TakesRestored}
 
 -- before a frame nothing is restored
 pub nothing_yet : (c : Circuit) (choice : Option ℕ) (d : Circuit) (text : List ℕ) → (read_of d text).frames ≡ [] → is_done (read_of d text).place ≡ false → form_restored_text c choice d text ≡ []
 unfolding form_restored_text
-nothing_yet c choice d text none going = ap₂ (λ (fs : List (List Bool)) (b : Bool). text_of_lines (frame_lines c (property_of choice (read_of d text).claim) fs ++ last_line b)) none going
+nothing_yet c choice d text none going = ap₂ (λ (fs : List (List Bool)) (b : Bool). text_of_lines (restored_frame_lines c (property_of choice (read_of d text).claim) fs ++ last_line b)) none going
 
 owing_nothing : (c : Circuit) (k : ℕ) (r : Restorer) → r.play.circuit ≡ c → r.play.claim ≡ k → length r.reader.frame ≡ input_count c → r.stage ≡ stage.Start → Owing c k r []
 owing_nothing c k r circuit claim width start = record {
@@ -56,11 +56,11 @@ module _ {O V : Type 0} (stands : O → V → List ℕ → Type 0) (put_for : O 
 
   abbrev Puts : Result (Unit {0}) RestoreFault → Option (List ℕ) → Type 0
   Puts r whole = MatchResult r
-      (λ x. IfSome whole (λ text. StandsFor d judge text × (stands o after (form_restored_text c choice d text) × Sent old mid (put_for o (form_restored_text c choice d text)) left)))
+      (λ x. IfSome whole (λ text. StandsForBits d judge text × (stands o after (form_restored_text c choice d text) × Sent old mid (put_for o (form_restored_text c choice d text)) left)))
       (λ e. IfSome whole (λ text. AppendsBeginning old mid (put_for o (form_restored_text c choice d text))))
 
   pub then_written : (told result : Result (Unit {0}) RestoreFault) (whole : Option (List ℕ)) → Puts told whole → IfErr told (λ e. is_of_text e.why ≡ false × (e.line ≡ 0))
-      → ((more : Owed) (start : Option (List ℕ)) → PutsOwed told more start mid left → WritesOwed result more start new) → OnOk result (IsOk told) → IfErr result (λ e. is_of_text e.why ≡ false × (e.line ≡ 0))
+      → ((more : Owed) (start : Option (List ℕ)) → PutsOwed told more start mid left → WritesOwedLines result more start new) → OnOk result (IsOk told) → IfErr result (λ e. is_of_text e.why ≡ false × (e.line ≡ 0))
       → WritesFormAll stands put_for result c choice d o whole old new after judge
   then_written (Ok u) (Ok v) None puts apart writes right other = tt
   then_written (Ok u) (Err e) None puts apart writes right other = tt
@@ -103,10 +103,10 @@ nothing_written (Some text) old f = ([], (f text, refl), Appends-nil old)
 -- ---- and judged
 
 module _ {O V : Type 0} (stands : O → V → List ℕ → Type 0) (put_for : O → List ℕ → List ℕ) (c : Circuit) (choice : Option ℕ) (d : Circuit) (o : O) (judge : BitJudge) (after : V) (known old new : Option (List ℕ)) where
-  pub then_judged : (r : Result (Unit {0}) RestoreFault) (over : Judgement) → WritesFormAll stands put_for r c choice d o known old new after judge → ((text : List ℕ) → StandsFor d judge text → BitJudges d text over)
+  pub then_judged : (r : Result (Unit {0}) RestoreFault) (over : Judgement) → WritesFormAll stands put_for r c choice d o known old new after judge → ((text : List ℕ) → StandsForBits d judge text → BitJudges d text over)
       → OnOk r (IfSome known (TakesRestored stands put_for (Ok over) c choice d o after old new))
   then_judged (Ok u) over writes finish =
-      if_some_then known (λ text. StandsFor d judge text × (stands o after (form_restored_text c choice d text) × Appends old new (put_for o (form_restored_text c choice d text))))
+      if_some_then known (λ text. StandsForBits d judge text × (stands o after (form_restored_text c choice d text) × Appends old new (put_for o (form_restored_text c choice d text))))
       (TakesRestored stands put_for (Ok over) c choice d o after old new) (λ text t. (finish text t.0, t.1)) writes
   then_judged (Err e) over writes finish = tt
 

@@ -6,7 +6,7 @@ use Rattle.base.specs.Device.{Sent, AppendsBeginning}
 use Rattle.base.specs.Lines.{IsLine}
 use Rattle.base.proofs.DeviceLemmas.{beginning_longer}
 use Rattle.aiger.specs.Circuit.{Circuit}
-use Rattle.witness.specs.BitStands.{BitJudge, StandsFor}
+use Rattle.witness.specs.BitStands.{BitJudge, StandsForBits}
 use Rattle.restore.specs.declared.fault.RestoreFault.{RestoreFault}
 use Rattle.restore.specs.Pieces.{Restorer}
 use Rattle.restore.specs.Taking.{IsPutInPieces}
@@ -49,12 +49,12 @@ module _ {O V : Type 0} (stands : O → V → List ℕ → Type 0) (put_for : O 
 
   -- all were taken
   pub given_all : (first known after' old now : Option (List ℕ)) (kept left : List ℕ) (before taker : V) (j1 j2 j3 : BitJudge) (r1 r2 : Restorer) (rest : List ℕ) → Given first known old now kept left before taker j1 j2 r1 r2
-      → IsLine rest → IsAtEnd after' → Keeps known (prepend_known rest after') → ((d : Circuit) (text : List ℕ) → StandsFor d j2 text → StandsFor d j3 (text ++ rest))
+      → IsLine rest → IsAtEnd after' → Keeps known (prepend_known rest after') → ((d : Circuit) (text : List ℕ) → StandsForBits d j2 text → StandsForBits d j3 (text ++ rest))
       → TakesFormAll {T = Unit {0}} {E = RestoreFault} stands put_for (Ok tt) first old now kept left before taker j1 j3 r1
   given_all first known after' old now kept left before taker j1 j2 j3 r1 r2 rest g is end keeps feeds = λ c choice d o whole front start laws valid wide consumes holds h s.
       let one = g c choice d o whole front start laws valid wide consumes holds h s in
       let same = same_restored c choice d one.0 rest is in
-      Consumes-whole whole after' (one.0 ++ rest) (λ text. StandsFor d j3 text × (stands o taker (form_restored_text c choice d text) × Sent start now (put_for o (form_restored_text c choice d text)) left))
+      Consumes-whole whole after' (one.0 ++ rest) (λ text. StandsForBits d j3 text × (stands o taker (form_restored_text c choice d text) × Sent start now (put_for o (form_restored_text c choice d text)) left))
       (prepended whole after' one.0 rest (Consumes-kept whole known (prepend_known rest after') one.0 one.1.0 keeps)) end
       (feeds d one.0 one.1.1.0.at.stands, subst (λ (t : List ℕ). stands o taker t × Sent start now (put_for o t) left) (sym same) one.1.1.1)
 

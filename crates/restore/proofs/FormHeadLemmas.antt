@@ -5,7 +5,7 @@ use Rattle.base.specs.Lines.{IsLine}
 use Rattle.aiger.specs.Circuit.{Circuit, IsCircuit}
 use Rattle.witness.specs.Texts.{claim}
 use Rattle.witness.specs.BitAdmits.{BitRead, admitted_lines, is_done}
-use Rattle.witness.specs.BitStands.{BitJudge, StandsFor}
+use Rattle.witness.specs.BitStands.{BitJudge, StandsForBits}
 use Rattle.witness.proofs.TextEndLemmas.{unfinished-line_end}
 use Rattle.restore.specs.FormSteps.{read_of, FormAt, IsHead, IsClaimed}
 use Rattle.restore.proofs.FormLineLemmas.{Same, More, read_more, claim_line, status_line}
@@ -30,7 +30,7 @@ added d text line is (inl s) =
     absurd (cc (is, same))
 added d text line is (inr m) = m
 
-module _ (d : Circuit) (judge judge' : BitJudge) (text line : List ℕ) (valid : IsCircuit d) (is_line : IsLine line) (head : IsHead d judge text) (stands : StandsFor d judge' (text ++ (line ++ 10 ∷ []))) where
+module _ (d : Circuit) (judge judge' : BitJudge) (text line : List ℕ) (valid : IsCircuit d) (is_line : IsLine line) (head : IsHead d judge text) (stands : StandsForBits d judge' (text ++ (line ++ 10 ∷ []))) where
   abbrev more : List ℕ
   more = text ++ (line ++ 10 ∷ [])
 

@@ -8,7 +8,7 @@ use Rattle.base.specs.Lines.{IsLine, text_of_lines}
 use Rattle.aiger.specs.Circuit.{Circuit}
 use Rattle.engine.specs.EngineForm.{input_count}
 use Rattle.witness.specs.BitAdmits.{BitPlace, BitRead, admitted_lines, is_done}
-use Rattle.witness.specs.BitStands.{BitJudge, StandsFor}
+use Rattle.witness.specs.BitStands.{BitJudge, StandsForBits}
 use Rattle.witness.proofs.TextEndLemmas.{unfinished-line_end}
 use Rattle.restore.specs.declared.fault.RestoreFault.{RestoreFault}
 use Rattle.restore.specs.declared.stage.Stage.{Stage}
@@ -16,8 +16,8 @@ use Rattle.restore.specs.declared.stage.Stage.TheVariants as stage
 use Rattle.restore.specs.Reading.{line_bits}
 use Rattle.restore.specs.Pieces.{Restorer, is_reading, with_frame, with_found_at, is_taken_at}
 use Rattle.restore.specs.Taking.{TakesPiece}
-use Rattle.restore.specs.FormSteps.{read_of, FormAt, FormHolds, Owing, with_line, frame_pieces_at, frame_put, frame_taken, settled, stage_behind}
-use Rattle.restore.specs.FormWitness.{property_of, frame_lines, last_line, read_restored, form_restored_text}
+use Rattle.restore.specs.FormSteps.{read_of, FormAt, FormHolds, Owing, with_frame_line, frame_pieces_at, frame_put, frame_taken, settled, stage_behind}
+use Rattle.restore.specs.FormWitness.{property_of, restored_frame_lines, last_line, read_restored, form_restored_text}
 use Rattle.restore.proofs.FormLineLemmas.{Same, More, read_more, initial_line, end_line, frame_line}
 use Rattle.restore.proofs.FormHeadLemmas.{IsAdmitted, passed, added}
 use Rattle.restore.proofs.FormOwingLemmas.{Steps, owing_taken, owing_passed}
@@ -58,7 +58,7 @@ by_read c choice d text = refl
 abbrev whole_line : List ℕ → List ℕ → List ℕ
 whole_line text line = text ++ (line ++ 10 ∷ [])
 
-module _ (c : Circuit) (choice : Option ℕ) (d : Circuit) (judge judge' : BitJudge) (r : Restorer) (text line : List ℕ) (wide : d.inputs ≡ input_count c) (is_line : IsLine line) (holds : FormHolds c choice d judge r text) (stands : StandsFor d judge' (text ++ (line ++ 10 ∷ []))) where
+module _ (c : Circuit) (choice : Option ℕ) (d : Circuit) (judge judge' : BitJudge) (r : Restorer) (text line : List ℕ) (wide : d.inputs ≡ input_count c) (is_line : IsLine line) (holds : FormHolds c choice d judge r text) (stands : StandsForBits d judge' (text ++ (line ++ 10 ∷ []))) where
   abbrev more : List ℕ
   more = whole_line text line
 
@@ -99,7 +99,7 @@ module _ (c : Circuit) (choice : Option ℕ) (d : Circuit) (judge judge' : BitJu
         now_holds = record { at = at; many = longer m; owing = subst (λ (x : BitRead). Owing c (property_of choice x.claim) r x.frames) (sym i.1.0) holds.owing };
         put =
             append-nil (form_restored_text c choice d text) ∙ by_read c choice d text
-            ∙ ap (λ (p : BitPlace). text_of_lines (frame_lines c k (read_of d text).frames ++ last_line (is_done p))) i.1.1
+            ∙ ap (λ (p : BitPlace). text_of_lines (restored_frame_lines c k (read_of d text).frames ++ last_line (is_done p))) i.1.1
             ∙ ap (read_restored c choice) (sym i.1.0) ∙ sym (by_read c choice d more);
       }
 
@@ -107,10 +107,10 @@ module _ (c : Circuit) (choice : Option ℕ) (d : Circuit) (judge judge' : BitJu
   many_of other = let many = holds.many in omega (arith, many, other)
 
   -- while the last line is not read
-  so_far : is_done (read_of d text).place ≡ false → form_restored_text c choice d text ≡ text_of_lines (frame_lines c k (read_of d text).frames)
+  so_far : is_done (read_of d text).place ≡ false → form_restored_text c choice d text ≡ text_of_lines (restored_frame_lines c k (read_of d text).frames)
   so_far going =
-      by_read c choice d text ∙ ap (λ (b : Bool). text_of_lines (frame_lines c k (read_of d text).frames ++ last_line b)) going
-      ∙ ap text_of_lines (append-nil (frame_lines c k (read_of d text).frames))
+      by_read c choice d text ∙ ap (λ (b : Bool). text_of_lines (restored_frame_lines c k (read_of d text).frames ++ last_line b)) going
+      ∙ ap text_of_lines (append-nil (restored_frame_lines c k (read_of d text).frames))
 
   -- the last line
   pub goes_end : IsAdmitted d text line true → (admitted_lines d text ≡ 2 → ⊥) → bytes_eq line (codes ".") ≡ true → Goes r (codes ".\n")
@@ -121,15 +121,15 @@ module _ (c : Circuit) (choice : Option ℕ) (d : Circuit) (judge judge' : BitJu
         now_holds = record { at = at; many = longer m; owing = subst (λ (x : BitRead). Owing c (property_of choice x.claim) r x.frames) (sym e.0) holds.owing };
         put =
             ap (λ (t : List ℕ). t ++ codes ".\n") (so_far e.1)
-            ∙ sym (flat_map-append (λ l. l ++ 10 ∷ []) (frame_lines c k (read_of d text).frames) (codes "." ∷ []))
+            ∙ sym (flat_map-append (λ l. l ++ 10 ∷ []) (restored_frame_lines c k (read_of d text).frames) (codes "." ∷ []))
             ∙ ap (read_restored c choice) (sym e.0) ∙ sym (by_read c choice d more);
       }
 
   -- a frame
   framed : (bits : List Bool) → length bits ≡ input_count c → bits ≡ line_bits line → (b : Bool) → is_taken_at r.stage r ≡ b
-      → Steps c k (if b then settled (with_line r line) else with_line r line) (read_of d text).frames bits (if b then frame_pieces_at (with_line r line).stage (with_line r line) else [])
-  framed bits many is true t = subst (λ (bs : List Bool). Steps c k (settled (with_line r line)) (read_of d text).frames bs (frame_pieces_at (with_line r line).stage (with_line r line))) (sym is) (owing_taken c k r (read_of d text).frames (line_bits line) holds.owing (sym (ap length is) ∙ many) t)
-  framed bits many is false t = subst (λ (bs : List Bool). Steps c k (with_line r line) (read_of d text).frames bs []) (sym is) (owing_passed c k r (read_of d text).frames (line_bits line) holds.owing (sym (ap length is) ∙ many) t)
+      → Steps c k (if b then settled (with_frame_line r line) else with_frame_line r line) (read_of d text).frames bits (if b then frame_pieces_at (with_frame_line r line).stage (with_frame_line r line) else [])
+  framed bits many is true t = subst (λ (bs : List Bool). Steps c k (settled (with_frame_line r line)) (read_of d text).frames bs (frame_pieces_at (with_frame_line r line).stage (with_frame_line r line))) (sym is) (owing_taken c k r (read_of d text).frames (line_bits line) holds.owing (sym (ap length is) ∙ many) t)
+  framed bits many is false t = subst (λ (bs : List Bool). Steps c k (with_frame_line r line) (read_of d text).frames bs []) (sym is) (owing_passed c k r (read_of d text).frames (line_bits line) holds.owing (sym (ap length is) ∙ many) t)
 
   pub goes_frame : IsAdmitted d text line true → (admitted_lines d text ≡ 2 → ⊥) → bytes_eq line (codes ".") ≡ false → (length line ≡ length r.reader.frame) × Goes (frame_taken r line) (frame_put r line)
   goes_frame is other end =
@@ -141,7 +141,7 @@ module _ (c : Circuit) (choice : Option ℕ) (d : Circuit) (judge judge' : BitJu
           now_holds = record { at = at; many = longer m; owing = subst (λ (x : BitRead). Owing c (property_of choice x.claim) (frame_taken r line) x.frames) (sym f.0.says) s.owing };
           put =
               ap (λ (t : List ℕ). t ++ frame_put r line) (so_far f.1) ∙ sym s.put
-              ∙ ap text_of_lines (sym (append-nil (frame_lines c k ((read_of d text).frames ++ line_bits line ∷ []))))
+              ∙ ap text_of_lines (sym (append-nil (restored_frame_lines c k ((read_of d text).frames ++ line_bits line ∷ []))))
               ∙ ap (read_restored c choice) (sym f.0.says) ∙ sym (by_read c choice d more);
         },
       )

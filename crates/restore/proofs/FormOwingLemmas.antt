@@ -11,8 +11,8 @@ use Rattle.restore.specs.declared.stage.Stage.TheVariants as stage
 use Rattle.restore.specs.Reading.{Found, read_before}
 use Rattle.restore.specs.Restored.{opening, written_frames, restored_lines}
 use Rattle.restore.specs.Pieces.{Restorer, Owed, owed_at, is_reading, head, frames_text, with_frame, with_first, with_found_at, is_taken_at}
-use Rattle.restore.specs.FormSteps.{with_bits, frame_pieces_at, settled, behind_frames, Owing}
-use Rattle.restore.specs.FormWitness.{frame_lines}
+use Rattle.restore.specs.FormSteps.{with_frame_bits, frame_pieces_at, settled, behind_frames, Owing}
+use Rattle.restore.specs.FormWitness.{restored_frame_lines}
 use Rattle.restore.proofs.PieceStepLemmas.{first_more, later_more, passed_over, end_owed}
 
 abbrev some_fault : RestoreFault
@@ -25,7 +25,7 @@ abbrev text_with : Circuit → ℕ → List (List Bool) → Found → List ℕ
 text_with c k given found = text_of_lines (restored_lines c k (behind_frames given found))
 
 abbrev pub front : Circuit → ℕ → List (List Bool) → List ℕ
-front c k given = text_of_lines (frame_lines c k given)
+front c k given = text_of_lines (restored_frame_lines c k given)
 
 -- with nothing behind them, and no last line
 front_alone : (c : Circuit) (k : ℕ) (given : List (List Bool)) → text_with c k given no_more ≡ front c k given
@@ -63,31 +63,31 @@ three a b c d e =
 
 module _ (c : Circuit) (k : ℕ) (r : Restorer) (given : List (List Bool)) (bits : List Bool) (o : Owing c k r given) (many : length bits ≡ input_count c) where
   abbrev taken : Restorer
-  taken = with_found_at r.stage (with_bits r bits)
+  taken = with_found_at r.stage (with_frame_bits r bits)
 
   pub owing_taken : is_taken_at r.stage r ≡ true → Steps c k (settled taken) given bits (frame_pieces_at taken.stage taken)
   owing_taken t = by r.stage refl o.reads t
     where
       by : (s : Stage) → r.stage ≡ s → is_reading s ≡ true → is_taken_at s r ≡ true
-          → Steps c k (settled (with_found_at r.stage (with_bits r bits))) given bits (frame_pieces_at (with_found_at r.stage (with_bits r bits)).stage (with_found_at r.stage (with_bits r bits)))
+          → Steps c k (settled (with_found_at r.stage (with_frame_bits r bits))) given bits (frame_pieces_at (with_found_at r.stage (with_frame_bits r bits)).stage (with_found_at r.stage (with_frame_bits r bits)))
       by stage.Start at reads t =
-          let w : Restorer = with_first (with_bits r bits) in
+          let w : Restorer = with_first (with_frame_bits r bits) in
           rw at (steps c k (settled w) given bits (head w.play.claim ++ (w.initial ++ w.line)) o.circuit many refl
           (λ found.
           subst (λ (s : Stage). text_with c k given (read_before bits found) ≡ front c k given ++ (owed_at s r (read_before bits found)).bytes) at (o.later (read_before bits found))
-          ∙ ap (λ (x : Owed). front c k given ++ x.bytes) (first_more (with_bits r bits) found)
+          ∙ ap (λ (x : Owed). front c k given ++ x.bytes) (first_more (with_frame_bits r bits) found)
           ∙ three (front c k given) (head w.play.claim) w.initial w.line (frames_text w.play w.risen found)))
       by stage.Frame at reads t = frame r.risen refl t
         where
-          frame : (b : Bool) → r.risen ≡ b → not b ≡ true → Steps c k (settled (with_found_at r.stage (with_bits r bits))) given bits (frame_pieces_at (with_found_at r.stage (with_bits r bits)).stage (with_found_at r.stage (with_bits r bits)))
+          frame : (b : Bool) → r.risen ≡ b → not b ≡ true → Steps c k (settled (with_found_at r.stage (with_frame_bits r bits))) given bits (frame_pieces_at (with_found_at r.stage (with_frame_bits r bits)).stage (with_found_at r.stage (with_frame_bits r bits)))
           frame true is h = absurd (cc)
           frame false is h =
-              let w : Restorer = record (with_frame (with_bits r bits)) { stage = stage.Frame } in
-              let same : with_found_at r.stage (with_bits r bits) ≡ w = ap (λ (s : Stage). with_found_at s (with_bits r bits)) at ∙ ap (λ (b : Bool). if b then with_bits r bits else w) is in
+              let w : Restorer = record (with_frame (with_frame_bits r bits)) { stage = stage.Frame } in
+              let same : with_found_at r.stage (with_frame_bits r bits) ≡ w = ap (λ (s : Stage). with_found_at s (with_frame_bits r bits)) at ∙ ap (λ (b : Bool). if b then with_frame_bits r bits else w) is in
               rw same (steps c k (settled w) given bits w.line o.circuit many refl
               (λ found.
               subst (λ (s : Stage). text_with c k given (read_before bits found) ≡ front c k given ++ (owed_at s r (read_before bits found)).bytes) at (o.later (read_before bits found))
-              ∙ ap (λ (x : Owed). front c k given ++ x.bytes) (later_more (with_bits r bits) found is)
+              ∙ ap (λ (x : Owed). front c k given ++ x.bytes) (later_more (with_frame_bits r bits) found is)
               ∙ sym (append_assoc (front c k given) w.line (frames_text w.play w.risen found))))
       by stage.Head at reads t = absurd (cc)
       by stage.Initial at reads t = absurd (cc)
@@ -97,14 +97,14 @@ module _ (c : Circuit) (k : ℕ) (r : Restorer) (given : List (List Bool)) (bits
   pub owing_passed : is_taken_at r.stage r ≡ false → Steps c k taken given bits []
   owing_passed t = by r.stage refl o.reads t
     where
-      by : (s : Stage) → r.stage ≡ s → is_reading s ≡ true → is_taken_at s r ≡ false → Steps c k (with_found_at r.stage (with_bits r bits)) given bits []
+      by : (s : Stage) → r.stage ≡ s → is_reading s ≡ true → is_taken_at s r ≡ false → Steps c k (with_found_at r.stage (with_frame_bits r bits)) given bits []
       by stage.Start at reads t = absurd (cc)
       by stage.Frame at reads t = frame r.risen refl t
         where
-          frame : (b : Bool) → r.risen ≡ b → not b ≡ false → Steps c k (with_found_at r.stage (with_bits r bits)) given bits []
+          frame : (b : Bool) → r.risen ≡ b → not b ≡ false → Steps c k (with_found_at r.stage (with_frame_bits r bits)) given bits []
           frame false is h = absurd (cc)
           frame true is h =
-              let w : Restorer = with_bits r bits in
+              let w : Restorer = with_frame_bits r bits in
               let same : with_found_at r.stage w ≡ w = ap (λ (s : Stage). with_found_at s w) at ∙ ap (λ (b : Bool). if b then w else record (with_frame w) { stage = stage.Frame }) is in
               rw same (steps c k w given bits [] o.circuit many o.reads
               (λ found.

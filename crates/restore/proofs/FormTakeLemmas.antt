@@ -8,7 +8,7 @@ use Rattle.base.proofs.DeviceLemmas.{beginning_longer}
 use Rattle.aiger.specs.Circuit.{Circuit, IsCircuit}
 use Rattle.witness.specs.Readings.{reading}
 use Rattle.witness.specs.BitAdmits.{is_done, BitRead}
-use Rattle.witness.specs.BitStands.{BitJudge, StandsFor}
+use Rattle.witness.specs.BitStands.{BitJudge, StandsForBits}
 use Rattle.restore.specs.declared.fault.RestoreFault.{RestoreFault}
 use Rattle.restore.specs.FormSteps.{read_of, IsHead, IsHeadOrClaimed, ReadsClaim}
 use Rattle.restore.specs.Taking.{TakesPiece, IsPutInPieces}
@@ -70,9 +70,9 @@ begins_at None rest none = tt
 begins_at (Some xs) rest none = ap (λ (r : List ℕ). r ++ xs) (sym none)
 
 abbrev pub HeadGiven : Option (List ℕ) → Option (List ℕ) → BitJudge → BitJudge → Type 0
-HeadGiven source known begun judge = (d : Circuit) → IsCircuit d → StandsFor d begun [] → (front : List ℕ) × (Consumes source known front × IsHead d judge front)
+HeadGiven source known begun judge = (d : Circuit) → IsCircuit d → StandsForBits d begun [] → (front : List ℕ) × (Consumes source known front × IsHead d judge front)
 
-nothing_read : (d : Circuit) (judge : BitJudge) → StandsFor d judge [] → IsHead d judge []
+nothing_read : (d : Circuit) (judge : BitJudge) → StandsForBits d judge [] → IsHead d judge []
 unfolding reading
 nothing_read d judge h = record { at = record { stands = h; whole = refl }; few = omega arith; no_frame = refl; not_done = refl }
 
@@ -88,17 +88,17 @@ head_more source known now begun judge next line claimed none given consumes tak
     (g.0 ++ (line ++ 10 ∷ []), (Consumes-trans source known now g.0 (line ++ 10 ∷ []) g.1.0 consumes, subst (IsHeadOrClaimed d next (g.0 ++ (line ++ 10 ∷ []))) none (takes d g.0 valid g.1.1)))
 
 pub head_ends : (source known now : Option (List ℕ)) (begun judge next : BitJudge) (line : List ℕ) (claimed : Option ℕ) → claimed ≢ None → HeadGiven source known begun judge → Consumes known now (line ++ 10 ∷ []) → TakesHead judge next line claimed
-    → (d : Circuit) → IsCircuit d → StandsFor d begun [] → ReadsClaim (Ok claimed) d source now next
+    → (d : Circuit) → IsCircuit d → StandsForBits d begun [] → ReadsClaim (Ok claimed) d source now next
 head_ends source known now begun judge next line None some given consumes takes = absurd (some refl)
 head_ends source known now begun judge next line (Some j) some given consumes takes = λ d valid h.
     let g = given d valid h in
     (g.0 ++ (line ++ 10 ∷ []), (Consumes-trans source known now g.0 (line ++ 10 ∷ []) g.1.0 consumes, takes d g.0 valid g.1.1))
 
 pub head_only : (source known after : Option (List ℕ)) (begun judge next : BitJudge) (rest : List ℕ) (now : Option (List ℕ)) → HeadGiven source known begun judge → IsLine rest → IsAtEnd after → Keeps known (prepend_known rest after)
-    → ((d : Circuit) (text : List ℕ) → StandsFor d judge text → StandsFor d next (text ++ rest)) → (d : Circuit) → IsCircuit d → StandsFor d begun [] → ReadsClaim (Ok None) d source now next
+    → ((d : Circuit) (text : List ℕ) → StandsForBits d judge text → StandsForBits d next (text ++ rest)) → (d : Circuit) → IsCircuit d → StandsForBits d begun [] → ReadsClaim (Ok None) d source now next
 head_only source known after begun judge next rest now given is end keeps feeds d valid h =
     let g = given d valid h in
     let same = same_read d g.0 rest is in
-    Consumes-whole source after (g.0 ++ rest) (λ text. StandsFor d next text × (((read_of d text).frames ≡ []) × (is_done (read_of d text).place ≡ false)))
+    Consumes-whole source after (g.0 ++ rest) (λ text. StandsForBits d next text × (((read_of d text).frames ≡ []) × (is_done (read_of d text).place ≡ false)))
     (prepended source after g.0 rest (Consumes-kept source known (prepend_known rest after) g.0 g.1.0 keeps)) end
     (feeds d g.0 g.1.1.at.stands, (ap (λ (r : BitRead). r.frames) same ∙ g.1.1.no_frame, ap (λ (r : BitRead). is_done r.place) same ∙ g.1.1.not_done))

@@ -12,8 +12,8 @@ use Rattle.aiger.specs.declared.circuit.Latch.{Latch}
 use Rattle.aiger.specs.declared.circuit.Reset.TheVariants as reset
 use Rattle.base.specs.Literal.{Valuation, literal_value}
 use Rattle.aiger.specs.Circuit.{Circuit, IsCircuit}
-use Rattle.aiger.specs.Trace.{IsTrace}
-use Rattle.engine.specs.EngineForm.{begins, input_count, chosen, has_chosen, ShowSame, IsEngineFormOf}
+use Rattle.aiger.specs.Trace.{IsCircuitTrace}
+use Rattle.engine.specs.EngineForm.{begins, input_count, chosen, has_chosen, GoTogether, IsEngineFormOf}
 use Rattle.witness.specs.declared.judgement.Judgement.{Judgement}
 use Rattle.witness.specs.declared.judgement.Judgement.TheVariants as judgement
 use Rattle.witness.specs.declared.why.Why.{Why}
@@ -29,7 +29,7 @@ use Rattle.witness.proofs.JudgedLemmas.{accepted_reads}
 use Rattle.witness.proofs.ShownLemmas.{bits_verdict}
 use Rattle.restore.specs.Counterexample.{HasProperty, place_in, first_bad}
 use Rattle.restore.specs.Restored.{opening, written_frames, restored_witness}
-use Rattle.restore.specs.FormWitness.{property_of, frame_lines, last_line, read_restored, form_restored_text, told_of, FormJudges, IsFoundAgain}
+use Rattle.restore.specs.FormWitness.{property_of, restored_frame_lines, last_line, read_restored, form_restored_text, told_of, FormJudges, IsFoundAgain}
 use Rattle.witness.proofs.BitReadLemmas.{many_lines}
 use Rattle.restore.proofs.RiseLemmas.{says_of, accepted_of}
 use Rattle.restore.proofs.RestoredLemmas as frames
@@ -80,9 +80,9 @@ reset_of (Some k) breach risen claim frames m h = absurd cc
 -- ---- properties of the form
 
 abbrev pub HasTraces : Type 0
-HasTraces = (c : Circuit) (state : List Bool) (inputs : List (List Bool)) → IsCircuit c → length state ≡ length c.latches → All (λ input. length input ≡ c.inputs) inputs → (vs : List Valuation) × IsTrace c state inputs vs
+HasTraces = (c : Circuit) (state : List Bool) (inputs : List (List Bool)) → IsCircuit c → length state ≡ length c.latches → All (λ input. length input ≡ c.inputs) inputs → (vs : List Valuation) × IsCircuitTrace c state inputs vs
 
-shown_bads : (c : Circuit) (choice : Option ℕ) (d : Circuit) (first met : Bool) (given : List (List Bool)) (state : List Bool) (vs ws : List Valuation) → given ≢ [] → IsTrace d state given ws → ShowSame c choice d first met vs ws → length d.bads ≡ length (chosen choice c.bads)
+shown_bads : (c : Circuit) (choice : Option ℕ) (d : Circuit) (first met : Bool) (given : List (List Bool)) (state : List Bool) (vs ws : List Valuation) → given ≢ [] → IsCircuitTrace d state given ws → GoTogether c choice d first met vs ws → length d.bads ≡ length (chosen choice c.bads)
 shown_bads c choice d first met [] state vs ws some t same = absurd (some refl)
 shown_bads c choice d first met (bits ∷ given) state vs [] some t same = absurd t
 shown_bads c choice d first met (bits ∷ given) state [] (w ∷ ws) some t same = absurd same
@@ -114,7 +114,7 @@ claims_below c choice d j traces form below =
 
 -- ---- all together
 
-lines_of : (c : Circuit) (k : ℕ) (given : List (List Bool)) → given ≢ [] → frame_lines c k given ++ last_line true ≡ bit_witness_lines (restored_witness c k given)
+lines_of : (c : Circuit) (k : ℕ) (given : List (List Bool)) → given ≢ [] → restored_frame_lines c k given ++ last_line true ≡ bit_witness_lines (restored_witness c k given)
 lines_of c k [] some = absurd (some refl)
 lines_of c k (bits ∷ given) some = append_assoc (opening c k (bits ∷ given)) (map bit_line (written_frames c k (bits ∷ given))) (last_line true)
 
@@ -128,7 +128,7 @@ unfolding form_restored_text
 restored_as c choice d text r is some =
     let whole = read_of_ok d text r is in
     ap (read_restored c choice) whole.0
-    ∙ ap (λ (b : Bool). text_of_lines (frame_lines c (property_of choice r.claim) r.frames ++ last_line b)) whole.1
+    ∙ ap (λ (b : Bool). text_of_lines (restored_frame_lines c (property_of choice r.claim) r.frames ++ last_line b)) whole.1
     ∙ ap text_of_lines (lines_of c (property_of choice r.claim) r.frames some)
 
 pub found_again : (c : Circuit) (choice : Option ℕ) (d : Circuit) (text : List ℕ) (m : ℕ) → ((c : Circuit) (text : List ℕ) (r : BitRead) → IsCircuit c → read_bit_text c text ≡ Ok r → BitSays c text (bit_witness_of r)) → HasTraces
@@ -144,7 +144,7 @@ found_again c choice d text m said traces form accepted =
     let verdict = reset_of (first_reset_differing 0 d.latches w.initial) (breach_from (first_bit_violated d) 0 ws) (bit_rises d w.claim ws) w.claim (length ws) m
         (read.judged ws trace.1 ∙ sym (bits_verdict d (first_reset_differing 0 d.latches w.initial) w.claim ws says.valid.claim)) in
     let zeros : w.initial ≡ replicate (length d.latches) false = all_zero 0 _ d.latches w.initial form.resets says.valid.initial verdict.0 in
-    let begun : IsTrace d (replicate (length d.latches) false) w.frames ws = subst (λ (s : List Bool). IsTrace d s w.frames ws) zeros trace.1 in
+    let begun : IsCircuitTrace d (replicate (length d.latches) false) w.frames ws = subst (λ (s : List Bool). IsCircuitTrace d s w.frames ws) zeros trace.1 in
     let wide : All (λ bits. length bits ≡ input_count c) w.frames = subst (λ (n : ℕ). All (λ bits. length bits ≡ n) w.frames) form.inputs says.valid.frames in
     let own = traces c (begins c w.frames) (map (take c.inputs) w.frames) form.original (frames.begins_length c w.frames) (frames.own_inputs c.inputs (input_count c) w.frames (omega arith) wide) in
     let many = shown_bads c choice d true true w.frames (replicate (length d.latches) false) own.0 ws some begun (form.frames w.frames own.0 ws own.1 begun) in

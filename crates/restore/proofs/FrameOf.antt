@@ -8,7 +8,7 @@ use Rattle.aiger.specs.declared.circuit.Latch.{Latch}
 use Rattle.base.specs.Literal.{Valuation, literal_value}
 use Rattle.aiger.specs.Net.{SatisfiesFrom, AreOrderedFrom, bits_from}
 use Rattle.aiger.specs.Circuit.{Circuit, IsCircuit}
-use Rattle.aiger.specs.Trace.{IsFrame, IsTrace, next_state}
+use Rattle.aiger.specs.Trace.{IsCircuitFrame, IsCircuitTrace, next_latch_bits}
 use Rattle.aiger.proofs.TraceLemmas.{AgreeBelow, literal_value-agree, bits_from-agree}
 use Rattle.restore.specs.Frames.{with_bit, with_bits, with_gates, frame_of, trace_from}
 
@@ -52,7 +52,7 @@ gates-satisfied first (g ∷ gates) v o =
     let h : w first ≡ gate_bit g v = gates-below (suc first) gates (with_bit v first (gate_bit g v)) first (omega arith) ∙ bit-same v first (gate_bit g v) in
     (h ∙ cc, gates-satisfied (suc first) gates (with_bit v first (gate_bit g v)) o.2)
 
-pub frame_is : (c : Circuit) (state input : List Bool) → IsCircuit c → length state ≡ length c.latches → length input ≡ c.inputs → IsFrame c state input (frame_of c state input)
+pub frame_is : (c : Circuit) (state input : List Bool) → IsCircuit c → length state ≡ length c.latches → length input ≡ c.inputs → IsCircuitFrame c state input (frame_of c state input)
 unfolding frame_of
 frame_is c state input valid s i =
     let inner : Valuation = with_bits 1 input (λ k. false) in
@@ -67,11 +67,11 @@ frame_is c state input valid s i =
       latches = f ∙ (ap (λ n. bits_from (suc c.inputs) n base) (sym s) ∙ bits_from-bits (suc c.inputs) state inner);
     }
 
-pub trace_is : (c : Circuit) (state : List Bool) (inputs : List (List Bool)) → IsCircuit c → length state ≡ length c.latches → All (λ input. length input ≡ c.inputs) inputs → IsTrace c state inputs (trace_from c state inputs)
+pub trace_is : (c : Circuit) (state : List Bool) (inputs : List (List Bool)) → IsCircuit c → length state ≡ length c.latches → All (λ input. length input ≡ c.inputs) inputs → IsCircuitTrace c state inputs (trace_from c state inputs)
 trace_is c state [] valid s all = tt
 trace_is c state (input ∷ inputs) valid s all =
     let v : Valuation = frame_of c state input in
-    let n : length (next_state c v) ≡ length c.latches = length-map c.latches (λ (latch : Latch). literal_value v latch.next) in (
+    let n : length (next_latch_bits c v) ≡ length c.latches = length-map c.latches (λ (latch : Latch). literal_value v latch.next) in (
       frame_is c state input valid s (All-head (λ (x : List Bool). length x ≡ c.inputs) input inputs all),
-      trace_is c (next_state c v) inputs valid n (All-tail (λ (x : List Bool). length x ≡ c.inputs) input inputs all),
+      trace_is c (next_latch_bits c v) inputs valid n (All-tail (λ (x : List Bool). length x ≡ c.inputs) input inputs all),
     )

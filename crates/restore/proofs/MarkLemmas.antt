@@ -9,7 +9,7 @@ use Rattle.base.specs.Held.{Held, Advances}
 use Rattle.base.proofs.LineLemmas.{whole_lines-line, unfinished-line, whole_lines-last, unfinished-last}
 use Rattle.restore.specs.Reading.{before_mark}
 use Rattle.restore.specs.Marks.{CutsAtMark, FindsLine}
-use Rattle.restore.specs.Steps.{Takes}
+use Rattle.restore.specs.Steps.{TakesFound}
 use Rattle.restore.proofs.ReadingLemmas.{before_front}
 
 -- ---- the mark
@@ -33,7 +33,7 @@ in_front : (line rest : List ℕ) → IsLine line → all_lines (line ++ 10 ∷ 
 in_front line rest is = ap₂ (λ (w : List (List ℕ)) (u : List ℕ). w ++ line_of u) (whole_lines-line line rest is) (unfinished-line line rest)
 
 -- a whole line was found
-pub whole_takes : (a b : Option (List ℕ)) (whole line : List ℕ) (last : Bool) → IsLine whole → Consumes a b (whole ++ 10 ∷ []) → CutsAtMark whole last line → Takes line last a b
+pub whole_takes : (a b : Option (List ℕ)) (whole line : List ℕ) (last : Bool) → IsLine whole → Consumes a b (whole ++ 10 ∷ []) → CutsAtMark whole last line → TakesFound line last a b
 whole_takes None b whole line last is took cut = tt
 whole_takes (Some text) None whole line last is took cut = absurd took
 whole_takes (Some text) (Some rest) whole line false is took cut =
@@ -56,7 +56,7 @@ last_line rest line true is cut =
     ap (λ (t : List ℕ). all_lines (before_mark t)) cut.1.0 ∙ ap all_lines (marked line cut.0 cut.1.1) ∙ alone line (front_is_line line cut.0 (subst IsLine cut.1.0 is))
 
 -- no whole line was found
-pub rest_takes : (a b : Option (List ℕ)) (rest line : List ℕ) (is_marked : Bool) → IsLine rest → IsAtEnd b → Keeps a (prepend_known rest b) → CutsAtMark rest is_marked line → Takes line true a (prepend_known rest b)
+pub rest_takes : (a b : Option (List ℕ)) (rest line : List ℕ) (is_marked : Bool) → IsLine rest → IsAtEnd b → Keeps a (prepend_known rest b) → CutsAtMark rest is_marked line → TakesFound line true a (prepend_known rest b)
 rest_takes None b rest line is_marked is end kept cut = tt
 rest_takes (Some text) None rest line is_marked is end kept cut = absurd kept
 rest_takes (Some text) (Some more) rest line is_marked is end kept cut =
@@ -64,7 +64,7 @@ rest_takes (Some text) (Some more) rest line is_marked is end kept cut =
     ap (λ (t : List ℕ). all_lines (before_mark t)) same ∙ last_line rest line is_marked is cut
 
 -- a line was found, or what is unfinished
-pub found_takes : (old new : Held) (before after : Option (List ℕ)) (whole : Bool) (line : List ℕ) (last : Bool) → Advances (Ok whole) old new before after → FindsLine new whole line last → Takes line last (prepend_known old.rest before) (prepend_known new.rest after)
+pub found_takes : (old new : Held) (before after : Option (List ℕ)) (whole : Bool) (line : List ℕ) (last : Bool) → Advances (Ok whole) old new before after → FindsLine new whole line last → TakesFound line last (prepend_known old.rest before) (prepend_known new.rest after)
 found_takes old new before after true line last step found = whole_takes (prepend_known old.rest before) (prepend_known new.rest after) new.line line last step.0 step.1 found
 found_takes old new before after false line last step found =
-    subst (λ (l : Bool). Takes line l (prepend_known old.rest before) (prepend_known new.rest after)) (sym found.0) (rest_takes (prepend_known old.rest before) after new.rest line found.1.0 step.0.0 step.0.1 step.1.0 found.1.1)
+    subst (λ (l : Bool). TakesFound line l (prepend_known old.rest before) (prepend_known new.rest after)) (sym found.0) (rest_takes (prepend_known old.rest before) after new.rest line found.1.0 step.0.0 step.0.1 step.1.0 found.1.1)

@@ -8,8 +8,8 @@ use Rattle.restore.specs.declared.stage.Stage.{Stage}
 use Rattle.restore.specs.declared.stage.Stage.TheVariants as stage
 use Rattle.restore.specs.Reading.{Found, read_before}
 use Rattle.restore.specs.Restored.{own_inputs, cut_inputs, closing}
-use Rattle.restore.specs.Steps.{left}
-use Rattle.restore.specs.Pieces.{Play, Restorer, played, rises_with, begun, frames_text, Owed, ahead, owed_at, owed, piece, own_frame, head, rank, with_frame, with_first, with_later, with_found_at, is_taken_at, is_reading}
+use Rattle.restore.specs.Steps.{frames_to_come}
+use Rattle.restore.specs.Pieces.{Play, Restorer, played, rises_with, restorer_begun, frames_text, Owed, ahead, owed_at, owed, piece_held, own_frame, head, pieces_left, with_frame, with_first, with_later, with_found_at, is_taken_at, is_reading}
 
 abbrev with_bytes : Option RestoreFault → List ℕ → Owed
 with_bytes fault bytes = record { bytes = bytes; fault = fault }
@@ -34,10 +34,10 @@ head_more : (k : ℕ) (rest : List ℕ) → (codes "1" ++ 10 ∷ []) ++ ((claim 
 head_more k rest =
     ap (λ (t : List ℕ). (codes "1" ++ 10 ∷ []) ++ (t ++ rest)) (sym (append-nil (claim k ++ 10 ∷ []))) ∙ sym (append_assoc (codes "1" ++ 10 ∷ []) ((claim k ++ 10 ∷ []) ++ []) rest)
 
-pub first_more : (r : Restorer) (found : Found) → owed_at stage.Start r (read_before r.reader.frame found) ≡ ahead (piece (with_first r)) (owed_at stage.Head (with_first r) found)
+pub first_more : (r : Restorer) (found : Found) → owed_at stage.Start r (read_before r.reader.frame found) ≡ ahead (piece_held (with_first r)) (owed_at stage.Head (with_first r) found)
 first_more r found =
     let bits : List Bool = r.reader.frame in
-    let p : Play = begun r.play bits in
+    let p : Play = restorer_begun r.play bits in
     let initial : List ℕ = bit_line p.begins ++ 10 ∷ [] in
     let tail : frames_text p false (read_before bits found) ≡ (bit_line (own_frame r) ++ 10 ∷ []) ++ frames_text (played p (own_frame r)) (rises_with p (own_frame r)) found = frames_more p bits found in
     ap (with_bytes found.fault)
@@ -69,12 +69,12 @@ end_owed r stage.Done fault h = absurd (cc)
 -- ---- a frame that was found
 
 pub take_yes : (r : Restorer) (s : Stage) (rest : List ℕ) → is_reading s ≡ true → is_taken_at s r ≡ true
-    → owed_at s r (read_before r.reader.frame (left r.reader rest)) ≡ ahead (piece (with_found_at s r)) (owed (with_found_at s r) rest)
-take_yes r stage.Start rest h t = first_more r (left r.reader rest)
+    → owed_at s r (read_before r.reader.frame (frames_to_come r.reader rest)) ≡ ahead (piece_held (with_found_at s r)) (owed (with_found_at s r) rest)
+take_yes r stage.Start rest h t = first_more r (frames_to_come r.reader rest)
 take_yes r stage.Frame rest h t =
     let not_yet : r.risen ≡ false = by r.risen t in
     let is : with_later r ≡ record (with_frame r) { stage = stage.Frame } = ap (λ (b : Bool). if b then r else record (with_frame r) { stage = stage.Frame }) not_yet in
-    later_more r (left r.reader rest) not_yet ∙ ap (λ (n : Restorer). ahead (piece n) (owed n rest)) (sym is)
+    later_more r (frames_to_come r.reader rest) not_yet ∙ ap (λ (n : Restorer). ahead (piece_held n) (owed n rest)) (sym is)
   where
     by : (b : Bool) → not b ≡ true → b ≡ false
     by true e = absurd (cc)
@@ -107,7 +107,7 @@ stays r stage.Done h t = absurd (cc)
 -- the reader stays, there are at most two pieces behind the frame's first one, and the last line does not come
 pub record Taken (r now : Restorer) : Type 0 where
   pub reader : now.reader ≡ r.reader
-  pub few : rank now.stage ≤ 3
+  pub few : pieces_left now.stage ≤ 3
   pub not_last : now.stage ≢ stage.End
 
 pub taken_is : (r : Restorer) (s : Stage) → is_reading s ≡ true → is_taken_at s r ≡ true → Taken r (with_found_at s r)
@@ -122,7 +122,7 @@ taken_is r stage.Initial h t = absurd (cc)
 taken_is r stage.End h t = absurd (cc)
 taken_is r stage.Done h t = absurd (cc)
 
-pub reading_rank : (s : Stage) → is_reading s ≡ true → (1 ≤ rank s) × (s ≢ stage.End)
+pub reading_rank : (s : Stage) → is_reading s ≡ true → (1 ≤ pieces_left s) × (s ≢ stage.End)
 reading_rank stage.Start h = (omega arith, λ e. absurd (cc))
 reading_rank stage.Frame h = (omega arith, λ e. absurd (cc))
 reading_rank stage.Head h = absurd (cc)

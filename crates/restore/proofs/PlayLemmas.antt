@@ -1,7 +1,7 @@
 -- A run in the frame that is computed.
 use Rattle.std.proofs.Common.{◌≡◌, ℕ, Bool, true, List, length, sym, ap, subst, ◌∙◌}
 use Rattle.aiger.specs.Circuit.{Circuit, IsCircuit}
-use Rattle.aiger.specs.Trace.{IsFrame}
+use Rattle.aiger.specs.Trace.{IsCircuitFrame}
 use Rattle.runs.specs.CircuitRun.{CircuitRun, IsFrameNow}
 use Rattle.restore.specs.Frames.{frame_of}
 use Rattle.restore.proofs.FrameOf.{frame_is}
@@ -15,6 +15,6 @@ pub settled_now : (c : Circuit) (r given : CircuitRun) (steps : ℕ) (input : Li
     → (settled : CircuitRun) → settled ≡ record given { settled = true; steps = steps } → IsFrameNow settled (frame_of c r.latches input)
 settled_now c r given steps input valid circuit states many same latches inputs settled is =
     subst (λ (q : CircuitRun). IsFrameNow q (frame_of c r.latches input)) (sym is)
-    (subst (λ (k : Circuit). IsFrame k given.latches given.inputs (frame_of c r.latches input)) (sym (same ∙ circuit))
-    (subst (λ (l : List Bool). IsFrame c l given.inputs (frame_of c r.latches input)) (sym latches)
-    (subst (λ (l : List Bool). IsFrame c r.latches l (frame_of c r.latches input)) (sym inputs) (frame_is c r.latches input valid states many))))
+    (subst (λ (k : Circuit). IsCircuitFrame k given.latches given.inputs (frame_of c r.latches input)) (sym (same ∙ circuit))
+    (subst (λ (l : List Bool). IsCircuitFrame c l given.inputs (frame_of c r.latches input)) (sym latches)
+    (subst (λ (l : List Bool). IsCircuitFrame c r.latches l (frame_of c r.latches input)) (sym inputs) (frame_is c r.latches input valid states many))))

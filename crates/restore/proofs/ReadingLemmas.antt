@@ -12,8 +12,8 @@ use Rattle.witness.specs.BitTexts.{bit_line}
 use Rattle.restore.specs.declared.fault.RestoreFault.{RestoreFault}
 use Rattle.restore.specs.declared.fault.RestoreWhy.{RestoreWhy}
 use Rattle.restore.specs.declared.fault.RestoreWhy.TheVariants.{NoFrame, NoBit, WrongLength}
-use Rattle.restore.specs.Counterexample.{IsClosed, IsEnd, joined, SaysFrames}
-use Rattle.restore.specs.Reading.{before_mark, initial_why, frame_why, line_bits, Found, whole, faulty, read_before, unless_wrong, read_frames, read_lines, read_text}
+use Rattle.restore.specs.Counterexample.{IsEndOfLine, IsEndOfFrames, lines_joined, SaysFrames}
+use Rattle.restore.specs.Reading.{before_mark, initial_why, frame_why, line_bits, Found, whole, faulty, read_before, unless_wrong, read_frames, read_found_lines, read_found}
 
 -- ---- lines of bits
 
@@ -125,40 +125,40 @@ HasLast [] = ⊥
 HasLast (line ∷ []) = 0 < length line
 HasLast (line ∷ next ∷ more) = HasLast (next ∷ more)
 
-joined_text : (line : List ℕ) (lines : List (List ℕ)) → joined (line ∷ lines) ++ 10 ∷ [] ≡ text_of_lines (line ∷ lines)
+joined_text : (line : List ℕ) (lines : List (List ℕ)) → lines_joined (line ∷ lines) ++ 10 ∷ [] ≡ text_of_lines (line ∷ lines)
 joined_text line [] = sym (append-nil (line ++ 10 ∷ []))
 joined_text line (next ∷ more) =
-    append_assoc line (10 ∷ joined (next ∷ more)) (10 ∷ []) ∙ ap (λ (t : List ℕ). line ++ 10 ∷ t) (joined_text next more) ∙ sym (append_assoc line (10 ∷ []) (text_of_lines (next ∷ more)))
+    append_assoc line (10 ∷ lines_joined (next ∷ more)) (10 ∷ []) ∙ ap (λ (t : List ℕ). line ++ 10 ∷ t) (joined_text next more) ∙ sym (append_assoc line (10 ∷ []) (text_of_lines (next ∷ more)))
 
-lines_closed : (line : List ℕ) (lines : List (List ℕ)) → EachLine (line ∷ lines) → all_lines (joined (line ∷ lines) ++ 10 ∷ []) ≡ line ∷ lines
+lines_closed : (line : List ℕ) (lines : List (List ℕ)) → EachLine (line ∷ lines) → all_lines (lines_joined (line ∷ lines) ++ 10 ∷ []) ≡ line ∷ lines
 lines_closed line lines each =
     ap all_lines (joined_text line lines)
     ∙ ap₂ (λ (w : List (List ℕ)) (u : List ℕ). w ++ line_of u) (lines_of_text (line ∷ lines) each) (unfinished_of_text (line ∷ lines))
     ∙ append-nil (line ∷ lines)
 
-lines_open : (line : List ℕ) (lines : List (List ℕ)) → EachLine (line ∷ lines) → HasLast (line ∷ lines) → all_lines (joined (line ∷ lines)) ≡ line ∷ lines
+lines_open : (line : List ℕ) (lines : List (List ℕ)) → EachLine (line ∷ lines) → HasLast (line ∷ lines) → all_lines (lines_joined (line ∷ lines)) ≡ line ∷ lines
 lines_open line [] each last = ap₂ (λ (w : List (List ℕ)) (u : List ℕ). w ++ line_of u) (whole_lines-last line each.0) (unfinished-last line each.0) ∙ there line last
   where
     there : (line : List ℕ) → 0 < length line → line_of line ≡ line ∷ []
     there [] h = absurd (omega arith)
     there (b ∷ bs) h = refl
 lines_open line (next ∷ more) each last =
-    ap₂ (λ (w : List (List ℕ)) (u : List ℕ). w ++ line_of u) (whole_lines-line line (joined (next ∷ more)) each.0) (unfinished-line line (joined (next ∷ more)))
+    ap₂ (λ (w : List (List ℕ)) (u : List ℕ). w ++ line_of u) (whole_lines-line line (lines_joined (next ∷ more)) each.0) (unfinished-line line (lines_joined (next ∷ more)))
     ∙ ap (λ (l : List (List ℕ)). line ∷ l) (lines_open next more each.1 last)
 
-joined_more : (lines : List (List ℕ)) (rest : List ℕ) → text_of_lines lines ++ rest ≡ joined (lines ++ rest ∷ [])
+joined_more : (lines : List (List ℕ)) (rest : List ℕ) → text_of_lines lines ++ rest ≡ lines_joined (lines ++ rest ∷ [])
 joined_more [] rest = refl
 joined_more (line ∷ []) rest = append_assoc (line ++ 10 ∷ []) [] rest ∙ append_assoc line (10 ∷ []) rest
 joined_more (line ∷ next ∷ more) rest =
     append_assoc (line ++ 10 ∷ []) (text_of_lines (next ∷ more)) rest ∙ append_assoc line (10 ∷ []) (text_of_lines (next ∷ more) ++ rest) ∙ ap (λ (t : List ℕ). line ++ 10 ∷ t) (joined_more (next ∷ more) rest)
 
 -- a text with these lines is these lines, with the end of the last one or without
-lines_back : (text line : List ℕ) (lines : List (List ℕ)) → all_lines text ≡ line ∷ lines → (text ≡ joined (line ∷ lines)) ⊎ (text ≡ joined (line ∷ lines) ++ 10 ∷ [])
+lines_back : (text line : List ℕ) (lines : List (List ℕ)) → all_lines text ≡ line ∷ lines → (text ≡ lines_joined (line ∷ lines)) ⊎ (text ≡ lines_joined (line ∷ lines) ++ 10 ∷ [])
 lines_back text line lines h = by (whole_lines text) (unfinished text) (parts_of_text text) h
   where
-    by : (whole : List (List ℕ)) (rest : List ℕ) → text_of_lines whole ++ rest ≡ text → whole ++ line_of rest ≡ line ∷ lines → (text ≡ joined (line ∷ lines)) ⊎ (text ≡ joined (line ∷ lines) ++ 10 ∷ [])
+    by : (whole : List (List ℕ)) (rest : List ℕ) → text_of_lines whole ++ rest ≡ text → whole ++ line_of rest ≡ line ∷ lines → (text ≡ lines_joined (line ∷ lines)) ⊎ (text ≡ lines_joined (line ∷ lines) ++ 10 ∷ [])
     by whole [] parts h = inr (sym parts ∙ append-nil (text_of_lines whole) ∙ ap text_of_lines (sym (append-nil whole) ∙ h) ∙ sym (joined_text line lines))
-    by whole (b ∷ rest) parts h = inl (sym parts ∙ joined_more whole (b ∷ rest) ∙ ap joined h)
+    by whole (b ∷ rest) parts h = inl (sym parts ∙ joined_more whole (b ∷ rest) ∙ ap lines_joined h)
 
 -- ---- the mark
 
@@ -168,18 +168,18 @@ before_front (b ∷ front) rest h =
     let parts = or_parts (b == 35) (list_any (λ c. c == 35) front) h in
     rw (parts.0, before_front front rest parts.1) refl
 
-before_end : (end : List ℕ) → IsEnd end → (before_mark end ≡ []) ⊎ (before_mark end ≡ 10 ∷ [])
+before_end : (end : List ℕ) → IsEndOfFrames end → (before_mark end ≡ []) ⊎ (before_mark end ≡ 10 ∷ [])
 before_end [] h = inl refl
 before_end (b ∷ rest) (inl mark) = inl (ap (λ (c : ℕ). before_mark (c ∷ rest)) mark)
 before_end (b ∷ []) (inr ends) = inr (ap (λ (c : ℕ). before_mark (c ∷ [])) ends.0)
 before_end (b ∷ d ∷ rest) (inr ends) = inr (ap₂ (λ (c e : ℕ). before_mark (c ∷ e ∷ rest)) ends.0 ends.1)
 
-joined_none : (lines : List (List ℕ)) → AllByRecursion (HasNone 35) lines → HasNone 35 (joined lines)
+joined_none : (lines : List (List ℕ)) → AllByRecursion (HasNone 35) lines → HasNone 35 (lines_joined lines)
 joined_none [] each = refl
 joined_none (line ∷ []) each = each.0
-joined_none (line ∷ next ∷ more) each = list_any-append (λ c. c == 35) line (10 ∷ joined (next ∷ more)) ∙ rw (each.0, joined_none (next ∷ more) each.1) refl
+joined_none (line ∷ next ∷ more) each = list_any-append (λ c. c == 35) line (10 ∷ lines_joined (next ∷ more)) ∙ rw (each.0, joined_none (next ∷ more) each.1) refl
 
-mark_parts : (text : List ℕ) → (rest : List ℕ) × ((text ≡ before_mark text ++ rest) × IsClosed rest)
+mark_parts : (text : List ℕ) → (rest : List ℕ) × ((text ≡ before_mark text ++ rest) × IsEndOfLine rest)
 mark_parts [] = ([], (refl, tt))
 mark_parts (b ∷ bs) =
     elim (cases_Bool (b == 35)) [
@@ -197,43 +197,43 @@ last_given : (width : ℕ) (first : List ℕ) (bits : List Bool) (given : List (
 last_given width first bits [] some all = let e = All-head (λ (b : List Bool). length b ≡ width) bits [] all in omega (arith, length-map bits digit)
 last_given width first bits (next ∷ given) some all = last_given width (bit_line bits) next given some (All-tail (λ (b : List Bool). length b ≡ width) bits (next ∷ given) all)
 
-pub said : (width : ℕ) (text : List ℕ) (given : List (List Bool)) → 0 < width → SaysFrames width text given → read_text width text ≡ whole given
+pub said : (width : ℕ) (text : List ℕ) (given : List (List Bool)) → 0 < width → SaysFrames width text given → read_found width text ≡ whole given
 said width text [] some s = absurd (s.some_frame refl)
 said width text (bits ∷ given) some s =
     let first : List ℕ = replicate s.zeros 48 in
     let lines : List (List ℕ) = map bit_line (bits ∷ given) in
     let none = joined_none (first ∷ lines) (zeros_have_none 35 refl s.zeros, each_given 35 refl refl (bits ∷ given)) in
     let each : EachLine (first ∷ lines) = (zeros_have_none 10 refl s.zeros, each_given 10 refl refl (bits ∷ given)) in
-    let front : before_mark text ≡ joined (first ∷ lines) ++ before_mark s.end = ap before_mark s.whole ∙ before_front (joined (first ∷ lines)) s.end none in
+    let front : before_mark text ≡ lines_joined (first ∷ lines) ++ before_mark s.end = ap before_mark s.whole ∙ before_front (lines_joined (first ∷ lines)) s.end none in
     let all : all_lines (before_mark text) ≡ first ∷ lines =
     ap all_lines front
     ∙ ⊎_elim
-    (λ (e : before_mark s.end ≡ []). ap (λ (t : List ℕ). all_lines (joined (first ∷ lines) ++ t)) e ∙ ap all_lines (append-nil (joined (first ∷ lines))) ∙ lines_open first lines each (last_given width first bits given some s.frames))
-    (λ (e : before_mark s.end ≡ 10 ∷ []). ap (λ (t : List ℕ). all_lines (joined (first ∷ lines) ++ t)) e ∙ lines_closed first lines each)
+    (λ (e : before_mark s.end ≡ []). ap (λ (t : List ℕ). all_lines (lines_joined (first ∷ lines) ++ t)) e ∙ ap all_lines (append-nil (lines_joined (first ∷ lines))) ∙ lines_open first lines each (last_given width first bits given some s.frames))
+    (λ (e : before_mark s.end ≡ 10 ∷ []). ap (λ (t : List ℕ). all_lines (lines_joined (first ∷ lines) ++ t)) e ∙ lines_closed first lines each)
     (before_end s.end s.ends) in
-    ap (read_lines width) all ∙ ap₂ (unless_wrong 1) (initial_right s.zeros) (frames_right width 2 (bits ∷ given) s.frames)
+    ap (read_found_lines width) all ∙ ap₂ (unless_wrong 1) (initial_right s.zeros) (frames_right width 2 (bits ∷ given) s.frames)
 
-closed_end : (rest : List ℕ) → IsClosed rest → IsEnd rest
+closed_end : (rest : List ℕ) → IsEndOfLine rest → IsEndOfFrames rest
 closed_end [] h = tt
 closed_end (b ∷ rest) h = inl h
 
-pub read : (width : ℕ) (text : List ℕ) (given : List (List Bool)) → read_text width text ≡ whole given → SaysFrames width text given
+pub read : (width : ℕ) (text : List ℕ) (given : List (List Bool)) → read_found width text ≡ whole given → SaysFrames width text given
 read width text given h = by (all_lines (before_mark text)) refl h
   where
-    parts : (rest : List ℕ) × ((text ≡ before_mark text ++ rest) × IsClosed rest)
+    parts : (rest : List ℕ) × ((text ≡ before_mark text ++ rest) × IsEndOfLine rest)
     parts = mark_parts text
 
     made : (line : List ℕ) (lines : List (List ℕ)) → all_lines (before_mark text) ≡ line ∷ lines → line ≡ replicate (length line) 48 → lines ≡ map bit_line given → given ≢ [] → All (λ bits. length bits ≡ width) given → SaysFrames width text given
     made line lines is zeroes are some all =
-        let same : joined (line ∷ lines) ≡ joined (replicate (length line) 48 ∷ map bit_line given) = ap₂ (λ (l : List ℕ) (ls : List (List ℕ)). joined (l ∷ ls)) zeroes are in
+        let same : lines_joined (line ∷ lines) ≡ lines_joined (replicate (length line) 48 ∷ map bit_line given) = ap₂ (λ (l : List ℕ) (ls : List (List ℕ)). lines_joined (l ∷ ls)) zeroes are in
         ⊎_elim
-        (λ (e : before_mark text ≡ joined (line ∷ lines)).
+        (λ (e : before_mark text ≡ lines_joined (line ∷ lines)).
         let says : SaysFrames width text given = record { zeros = length line; end = parts.0; whole = parts.1.0 ∙ ap (λ (t : List ℕ). t ++ parts.0) (e ∙ same); some_frame = some; frames = all; ends = closed_end parts.0 parts.1.1 } in says)
-        (λ (e : before_mark text ≡ joined (line ∷ lines) ++ 10 ∷ []).
+        (λ (e : before_mark text ≡ lines_joined (line ∷ lines) ++ 10 ∷ []).
         let says : SaysFrames width text given = record {
           zeros = length line;
           end = 10 ∷ parts.0;
-          whole = parts.1.0 ∙ ap (λ (t : List ℕ). t ++ parts.0) (e ∙ ap (λ (t : List ℕ). t ++ 10 ∷ []) same) ∙ append_assoc (joined (replicate (length line) 48 ∷ map bit_line given)) (10 ∷ []) parts.0;
+          whole = parts.1.0 ∙ ap (λ (t : List ℕ). t ++ parts.0) (e ∙ ap (λ (t : List ℕ). t ++ 10 ∷ []) same) ∙ append_assoc (lines_joined (replicate (length line) 48 ∷ map bit_line given)) (10 ∷ []) parts.0;
           some_frame = some;
           frames = all;
           ends = inr (refl, parts.1.1);
@@ -251,7 +251,7 @@ read width text given h = by (all_lines (before_mark text)) refl h
     no_frame None h = not_whole [] given (record { line = 2; why = NoFrame }) h
     no_frame (Some why) h = not_whole [] given (record { line = 1; why = why }) h
 
-    by : (lines : List (List ℕ)) → all_lines (before_mark text) ≡ lines → read_lines width lines ≡ whole given → SaysFrames width text given
+    by : (lines : List (List ℕ)) → all_lines (before_mark text) ≡ lines → read_found_lines width lines ≡ whole given → SaysFrames width text given
     by [] is h = absurd (not_whole [] given (record { line = 1; why = NoFrame }) h)
     by (line ∷ []) is h = absurd (no_frame (initial_why line) h)
     by (line ∷ next ∷ more) is h = by_why line next more (initial_why line) is refl h

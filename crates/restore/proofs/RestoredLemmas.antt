@@ -11,9 +11,9 @@ use Rattle.aiger.specs.declared.circuit.Reset.{Reset}
 use Rattle.aiger.specs.declared.circuit.Reset.TheVariants as reset
 use Rattle.base.specs.Literal.{Valuation, literal_value}
 use Rattle.aiger.specs.Circuit.{Circuit}
-use Rattle.aiger.specs.Trace.{IsTrace}
+use Rattle.aiger.specs.Trace.{IsCircuitTrace}
 use Rattle.aiger.proofs.TraceLemmas.{trace_length}
-use Rattle.engine.specs.EngineForm.{taken_bits, first_bit, first_bits, begins, chosen, has_chosen, all_hold, ShowSame, IsEngineFormOf}
+use Rattle.engine.specs.EngineForm.{taken_bits, first_bit, first_bits, begins, chosen, has_chosen, all_hold, GoTogether, IsEngineFormOf}
 use Rattle.witness.specs.declared.judgement.Judgement.TheVariants as judgement
 use Rattle.witness.specs.Judgements.{violated_at}
 use Rattle.witness.specs.BitTexts.{IsBitWitness}
@@ -76,7 +76,7 @@ pub record Shows (c : Circuit) (k : ℕ) (met : Bool) (n : ℕ) (vs : List Valua
   pub unbroken : breach_from (first_bit_violated c) n vs ≡ None
   pub rises : bit_rises c k vs ≡ true
 
-shows_last : (c : Circuit) (k : ℕ) (d : Circuit) (first met : Bool) (n : ℕ) (vs ws : List Valuation) → k < length c.bads → ShowSame c (Some k) d first met vs ws → ends_bad d ws ≡ true → Shows c k met n vs
+shows_last : (c : Circuit) (k : ℕ) (d : Circuit) (first met : Bool) (n : ℕ) (vs ws : List Valuation) → k < length c.bads → GoTogether c (Some k) d first met vs ws → ends_bad d ws ≡ true → Shows c k met n vs
 shows_last c k d first met n [] [] there same bad = absurd (cc)
 shows_last c k d first met n [] (w ∷ ws) there same bad = absurd same
 shows_last c k d first met n (v ∷ vs) [] there same bad = absurd same
@@ -94,7 +94,7 @@ shows_last c k d first met n (v ∷ u ∷ vs) (w ∷ x ∷ ws) there same bad =
     record { before = more.0; unbroken = unbroken_more c n v (u ∷ vs) more.1 rest.unbroken; rises = or_right (literal_value v (slice_index c.bads k)) (bit_rises c k (u ∷ vs)) rest.rises }
 
 pub accepted : (c : Circuit) (k : ℕ) (d : Circuit) (given : List (List Bool)) (ws : List Valuation) → IsEngineFormOf c (Some k) d
-    → IsTrace d (replicate (length d.latches) false) given ws → ends_bad d ws ≡ true → JudgesBits c (restored c k given) (judgement.Accepted (length given))
+    → IsCircuitTrace d (replicate (length d.latches) false) given ws → ends_bad d ws ≡ true → JudgesBits c (restored c k given) (judgement.Accepted (length given))
 accepted c k d given ws form t bad vs own =
     let shows = shows_last c k d true true 0 vs ws (is_there k c.bads form.has_bad) (form.frames given vs ws own t) bad in
     let many : length vs ≡ length given = trace_length c (begins c given) (map (take c.inputs) given) vs own ∙ length-map given (take c.inputs) in

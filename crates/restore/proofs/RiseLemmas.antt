@@ -7,9 +7,9 @@ use Rattle.std.proofs.lemmas.List.Elements.{All-nil, All-cons, All-head, All-tai
 use Rattle.base.specs.Lines.{text_of_lines}
 use Rattle.base.specs.Literal.{Valuation, literal_value}
 use Rattle.aiger.specs.Circuit.{Circuit}
-use Rattle.aiger.specs.Trace.{IsTrace}
+use Rattle.aiger.specs.Trace.{IsCircuitTrace}
 use Rattle.aiger.proofs.TraceLemmas.{trace_length, trace_taken}
-use Rattle.engine.specs.EngineForm.{begins, input_count, all_hold, chosen, ShowsSame, ShowSame, IsEngineFormOf}
+use Rattle.engine.specs.EngineForm.{begins, input_count, all_hold, chosen, GoesTogether, GoTogether, IsEngineFormOf}
 use Rattle.witness.specs.declared.judgement.Judgement.TheVariants as judgement
 use Rattle.witness.specs.Texts.{claim, most_lines}
 use Rattle.witness.specs.BitTexts.{bit_witness_lines, BitSays}
@@ -18,7 +18,7 @@ use Rattle.witness.proofs.AcceptLemmas.{judged_bits}
 use Rattle.witness.proofs.ShownLemmas.{bits_verdict}
 use Rattle.witness.proofs.BitReadLemmas.{many_lines}
 use Rattle.restore.specs.Counterexample.{HasProperty, place_in, first_bad}
-use Rattle.restore.specs.Reading.{Found, whole, read_text}
+use Rattle.restore.specs.Reading.{Found, whole, read_found}
 use Rattle.restore.specs.Frames.{trace_from}
 use Rattle.restore.specs.Restored.{rises_in, up_to_rise, own_inputs, written_frames, restored_witness, restored_lines, restored_text}
 use Rattle.restore.proofs.FrameOf.{trace_is}
@@ -78,11 +78,11 @@ says_of c k text given below some all few spelled =
       few = omega (arith, many, fewer, as_many, few);
     }
 
-spells : (c : Circuit) (k : ℕ) (text : List ℕ) (given : List (List Bool)) → given ≢ [] → read_text (input_count c) text ≡ whole given → restored_text c k text ≡ text_of_lines (bit_witness_lines (restored_witness c k given))
+spells : (c : Circuit) (k : ℕ) (text : List ℕ) (given : List (List Bool)) → given ≢ [] → read_found (input_count c) text ≡ whole given → restored_text c k text ≡ text_of_lines (bit_witness_lines (restored_witness c k given))
 unfolding restored_text
 spells c k text given some is = ap (λ (found : Found). text_of_lines (restored_lines c k found)) is ∙ ap text_of_lines (lines_of c k given some)
 
-pub says : (c : Circuit) (k : ℕ) (text : List ℕ) (given : List (List Bool)) → k < length c.bads → read_text (input_count c) text ≡ whole given → length given + 4 ≤ most_lines → BitSays c (restored_text c k text) (restored_witness c k given)
+pub says : (c : Circuit) (k : ℕ) (text : List ℕ) (given : List (List Bool)) → k < length c.bads → read_found (input_count c) text ≡ whole given → length given + 4 ≤ most_lines → BitSays c (restored_text c k text) (restored_witness c k given)
 says c k text given below is few =
     let said = read (input_count c) text given is in
     says_of c k (restored_text c k text) given below said.some_frame said.frames few (spells c k text given said.some_frame is)
@@ -107,7 +107,7 @@ module _ (c : Circuit) (choice : Option ℕ) (k : ℕ) (d : Circuit) (has : HasP
           let one : chosen (Some j) c.bads ≡ get_or c.bads k 0 ∷ [] = ap (λ (m : ℕ). chosen (Some m) c.bads) h ∙ frames.chosen_at k c.bads below in
           (0, (refl, (rw one (omega arith), ap (λ (bs : List ℕ). get_or (map g bs) 0 false) one)))
 
-  bad_same : (first met : Bool) (v w : Valuation) → ShowsSame c choice d first met v w → is_bad w ≡ rises_in c k met v
+  bad_same : (first met : Bool) (v w : Valuation) → GoesTogether c choice d first met v w → is_bad w ≡ rises_in c k met v
   bad_same first met v w s =
       let g : ℕ → Bool = λ l. literal_value v l && (met && all_hold c v) in
       let at = kept_at g in
@@ -121,7 +121,7 @@ module _ (c : Circuit) (choice : Option ℕ) (k : ℕ) (d : Circuit) (has : HasP
     inside : n - m < length ws
     cut : up_to_rise c k met vs xs ≡ take (suc (n - m)) xs
 
-  cut_at : {A : Type 0} (first met : Bool) (m n : ℕ) (vs ws : List Valuation) (xs : List A) → ShowSame c choice d first met vs ws → length xs ≡ length vs → position_from is_bad m ws ≡ Some n → Cut met m n vs ws xs
+  cut_at : {A : Type 0} (first met : Bool) (m n : ℕ) (vs ws : List Valuation) (xs : List A) → GoTogether c choice d first met vs ws → length xs ≡ length vs → position_from is_bad m ws ≡ Some n → Cut met m n vs ws xs
   cut_at first met m n [] [] xs same many at = absurd (cc)
   cut_at first met m n [] (w ∷ ws) xs same many at = absurd same
   cut_at first met m n (v ∷ vs) [] xs same many at = absurd same
@@ -146,7 +146,7 @@ module _ (c : Circuit) (choice : Option ℕ) (k : ℕ) (d : Circuit) (has : HasP
       ]
 
   -- the frames of the circuit where the form is bad in the last of its frames, and in none before
-  shows : (first met : Bool) (m n q : ℕ) (vs ws : List Valuation) → ShowSame c choice d first met vs ws → position_from is_bad m ws ≡ Some n → length ws ≡ suc (n - m) → frames.Shows c k met q vs
+  shows : (first met : Bool) (m n q : ℕ) (vs ws : List Valuation) → GoTogether c choice d first met vs ws → position_from is_bad m ws ≡ Some n → length ws ≡ suc (n - m) → frames.Shows c k met q vs
   shows first met m n q [] [] same at many = absurd (cc)
   shows first met m n q [] (w ∷ ws) same at many = absurd same
   shows first met m n q (v ∷ vs) [] same at many = absurd same
@@ -165,7 +165,7 @@ module _ (c : Circuit) (choice : Option ℕ) (k : ℕ) (d : Circuit) (has : HasP
             record { before = more.0; unbroken = frames.unbroken_more c q v vs more.1 rest.unbroken; rises = or_right (literal_value v (get_or c.bads k 0)) _ rest.rises }
       ]
     where
-      last : (vs ws : List Valuation) → ShowSame c choice d false (met && all_hold c v) vs ws → length ws ≡ 0 → rises_in c k met v ≡ true → frames.Shows c k met q (v ∷ vs)
+      last : (vs ws : List Valuation) → GoTogether c choice d false (met && all_hold c v) vs ws → length ws ≡ 0 → rises_in c k met v ≡ true → frames.Shows c k met q (v ∷ vs)
       last [] [] same none own =
           let parts = and_parts (literal_value v (get_or c.bads k 0)) (met && all_hold c v) own in
           let more = and_parts met (all_hold c v) parts.1 in
@@ -205,13 +205,13 @@ begins_taken c n (bits ∷ given) = refl
 pub accepted_of : (c : Circuit) (choice : Option ℕ) (k : ℕ) (d : Circuit) (text : List ℕ) (given : List (List Bool)) (ws : List Valuation) (n : ℕ)
     → IsEngineFormOf c choice d → HasProperty choice k → k < length c.bads → given ≢ [] → All (λ bits. length bits ≡ input_count c) given → length given + 4 ≤ most_lines
     → text ≡ text_of_lines (bit_witness_lines (restored_witness c k given))
-    → IsTrace d (replicate (length d.latches) false) given ws → first_bad d (place_in choice k) ws ≡ Some n
+    → IsCircuitTrace d (replicate (length d.latches) false) given ws → first_bad d (place_in choice k) ws ≡ Some n
     → BitJudges c text (judgement.Accepted (n + 1))
 accepted_of c choice k d text given ws n form has below some wide_all few spelled trace at =
     let inputs : List (List Bool) = own_inputs c given in
     let vs : List Valuation = trace_from c (begins c given) inputs in
     let all = wide c given wide_all in
-    let own : IsTrace c (begins c given) inputs vs = trace_is c (begins c given) inputs form.original (frames.begins_length c given) all in
+    let own : IsCircuitTrace c (begins c given) inputs vs = trace_is c (begins c given) inputs form.original (frames.begins_length c given) all in
     let many : length inputs ≡ length vs = sym (trace_length c (begins c given) inputs vs own) in
     let ends = cut_at c choice k d has below true true 0 n vs ws inputs (form.frames given vs ws own trace) many at in
     let inside = ends.inside in
@@ -221,7 +221,7 @@ accepted_of c choice k d text given ws n form has below some wide_all few spelle
     let at_end : first_bad d (place_in choice k) (take (suc n) ws) ≡ Some n = subst (λ (m : ℕ). first_bad d (place_in choice k) (take (suc m) ws) ≡ Some n) zero_less (position_taken c choice k d has below 0 n ws at ends.above) in
     let long : length (take (suc n) ws) ≡ suc n = length-take-le (suc n) ws (omega (arith, inside)) in
     let judged : JudgesBits c (restored_witness c k given) (judgement.Accepted (suc n)) = λ us t.
-    let t' : IsTrace c (begins c cut) (own_inputs c cut) us = subst (λ (l : List (List Bool)). IsTrace c (begins c cut) l us) written (subst (λ (s : List Bool). IsTrace c s (written_frames c k given) us) (begins_taken c n given) t) in
+    let t' : IsCircuitTrace c (begins c cut) (own_inputs c cut) us = subst (λ (l : List (List Bool)). IsCircuitTrace c (begins c cut) l us) written (subst (λ (s : List Bool). IsCircuitTrace c s (written_frames c k given) us) (begins_taken c n given) t) in
     let last = trace_taken d (replicate (length d.latches) false) given ws (suc n) trace in
     let shown = shows c choice k d has below true true 0 n 0 us (take (suc n) ws) (form.frames cut us (take (suc n) ws) t' last) at_end (long ∙ ap suc (sym zero_less)) in
     let as_many : length us ≡ suc n = trace_length c (begins c cut) (own_inputs c cut) us t' ∙ length-map cut (take c.inputs) ∙ sym (trace_length d (replicate (length d.latches) false) cut (take (suc n) ws) last) ∙ long in
@@ -231,8 +231,8 @@ accepted_of c choice k d text given ws n form has below some wide_all few spelle
     (subst (λ (m : ℕ). JudgesBits c (restored_witness c k given) (judgement.Accepted m)) one judged)
 
 pub accepted : (c : Circuit) (choice : Option ℕ) (k : ℕ) (d : Circuit) (text : List ℕ) (given : List (List Bool)) (ws : List Valuation) (n : ℕ)
-    → IsEngineFormOf c choice d → HasProperty choice k → k < length c.bads → read_text (input_count c) text ≡ whole given → length given + 4 ≤ most_lines
-    → IsTrace d (replicate (length d.latches) false) given ws → first_bad d (place_in choice k) ws ≡ Some n
+    → IsEngineFormOf c choice d → HasProperty choice k → k < length c.bads → read_found (input_count c) text ≡ whole given → length given + 4 ≤ most_lines
+    → IsCircuitTrace d (replicate (length d.latches) false) given ws → first_bad d (place_in choice k) ws ≡ Some n
     → BitJudges c (restored_text c k text) (judgement.Accepted (n + 1))
 accepted c choice k d text given ws n form has below is few trace at =
     let said = read (input_count c) text given is in

@@ -9,9 +9,9 @@ use Rattle.restore.specs.declared.place.Place.{Place}
 use Rattle.restore.specs.declared.place.Place.TheVariants as place
 use Rattle.base.specs.Lines.{all_lines}
 use Rattle.restore.specs.Reading.{before_mark, initial_why, whole}
-use Rattle.restore.specs.Steps.{Reader, is_open, IsOfText, read_at, left, Agree, Gives, StepsOn, Tells, lines_from, given_by, Takes}
+use Rattle.restore.specs.Steps.{FramesReader, may_follow, IsTextFault, read_at, frames_to_come, AgreeAsGiven, GivesFound, StepsOn, TellsNoFrame, lines_from, given_by, TakesFound}
 
-pub initial_of_text : (line : List ℕ) (n : ℕ) (w : RestoreWhy) → initial_why line ≡ Some w → IsOfText (record { line = n; why = w })
+pub initial_of_text : (line : List ℕ) (n : ℕ) (w : RestoreWhy) → initial_why line ≡ Some w → IsTextFault (record { line = n; why = w })
 initial_of_text [] n w h = absurd (cc)
 initial_of_text (b ∷ line) n w h =
     elim (cases_Bool (b == 48)) [
@@ -24,39 +24,39 @@ initial_of_text (b ∷ line) n w h =
     ]
 
 -- a line was taken
-pub agree_by : (a b : Option (List ℕ)) (line : List ℕ) (last found : Bool) (old new : Reader) → Takes line last a b
+pub agree_by : (a b : Option (List ℕ)) (line : List ℕ) (last found : Bool) (old new : FramesReader) → TakesFound line last a b
     → ((more : List (List ℕ)) → read_at old.place (length old.frame) (lines_from line last more) ≡ given_by found new.frame (read_at new.place (length new.frame) more))
-    → Agree (left old) (λ rest. given_by found new.frame (left new rest)) a b
+    → AgreeAsGiven (frames_to_come old) (λ rest. given_by found new.frame (frames_to_come new rest)) a b
 agree_by None b line last found old new takes reads = tt
 agree_by (Some text) None line last found old new takes reads = absurd takes
 agree_by (Some text) (Some rest) line last found old new takes reads =
     ap (read_at old.place (length old.frame)) takes ∙ reads (all_lines (before_mark rest))
 
 -- where no line may follow, no byte counts
-closed_gives : (r : Reader) (xs ys : List ℕ) → is_open r.place ≡ false → left r xs ≡ left r ys
+closed_gives : (r : FramesReader) (xs ys : List ℕ) → may_follow r.place ≡ false → frames_to_come r xs ≡ frames_to_come r ys
 closed_gives r xs ys closed = by r.place (length r.frame) (all_lines (before_mark xs)) (all_lines (before_mark ys)) closed
   where
-    by : (p : Place) (width : ℕ) (l m : List (List ℕ)) → is_open p ≡ false → read_at p width l ≡ read_at p width m
+    by : (p : Place) (width : ℕ) (l m : List (List ℕ)) → may_follow p ≡ false → read_at p width l ≡ read_at p width m
     by place.Start width l m closed = absurd (cc)
     by place.First width l m closed = absurd (cc)
     by (place.Going n) width l m closed = absurd (cc)
     by place.Ended width l m closed = refl
     by (place.Failed e) width l m closed = refl
 
-gives_closed : (a b : Option (List ℕ)) (old now : Reader) → Agree (left old) (left now) a b → is_open now.place ≡ false → Gives old a (left now [])
+gives_closed : (a b : Option (List ℕ)) (old now : FramesReader) → AgreeAsGiven (frames_to_come old) (frames_to_come now) a b → may_follow now.place ≡ false → GivesFound old a (frames_to_come now [])
 gives_closed None b old now same closed = tt
 gives_closed (Some x) None old now same closed = absurd same
 gives_closed (Some x) (Some y) old now same closed = same ∙ closed_gives now y [] closed
 
-gives_none : (a b : Option (List ℕ)) (old now : Reader) → Agree (left old) (left now) a b → now.place ≡ place.Ended → Gives old a (whole [])
+gives_none : (a b : Option (List ℕ)) (old now : FramesReader) → AgreeAsGiven (frames_to_come old) (frames_to_come now) a b → now.place ≡ place.Ended → GivesFound old a (whole [])
 gives_none None b old now same ended = tt
 gives_none (Some x) None old now same ended = absurd same
 gives_none (Some x) (Some y) old now same ended = same ∙ ap (λ (p : Place). read_at p (length now.frame) (all_lines (before_mark y))) ended
 
 -- the reading is at its end
-pub ends_steps : (r : Result Bool RestoreFault) (old now : Reader) (p : Place) (a b c end : Option (List ℕ)) (fails failed : ℕ) → Agree (left old) (left now) a b → is_open now.place ≡ false → now.place ≡ p
+pub ends_steps : (r : Result Bool RestoreFault) (old now : FramesReader) (p : Place) (a b c end : Option (List ℕ)) (fails failed : ℕ) → AgreeAsGiven (frames_to_come old) (frames_to_come now) a b → may_follow now.place ≡ false → now.place ≡ p
     → IfOk r (λ more. (more ≡ false) × ((p ≡ place.Ended) × (IsAtEnd end × (failed ≡ fails))))
-    → IfErr r (λ e. Tells e p end fails failed)
+    → IfErr r (λ e. TellsNoFrame e p end fails failed)
     → StepsOn r old now a c
 ends_steps (Ok true) old now p a b c end fails failed same closed at none fault = absurd (let e = none.0 in cc)
 ends_steps (Ok false) old now p a b c end fails failed same closed at none fault = (at ∙ none.1.0, gives_none a b old now same (at ∙ none.1.0))

@@ -2,17 +2,17 @@
 use Rattle.std.specs.Prelude.{◌≡◌, ℕ, ◌+◌, ◌≤◌, Bool, false, List, length, replicate, Option, Some}
 use Rattle.base.specs.Literal.{Valuation}
 use Rattle.aiger.specs.Circuit.{Circuit}
-use Rattle.aiger.specs.Trace.{IsTrace}
+use Rattle.aiger.specs.Trace.{IsCircuitTrace}
 use Rattle.engine.specs.EngineForm.{input_count, IsEngineFormOf}
 use Rattle.witness.specs.declared.judgement.Judgement.{Judgement}
 use Rattle.witness.specs.declared.judgement.Judgement.TheVariants as judgement
 use Rattle.witness.specs.Texts.{most_lines}
 use Rattle.restore.specs.Counterexample.{HasProperty, place_in, first_bad}
-use Rattle.restore.specs.Reading.{whole, read_text}
+use Rattle.restore.specs.Reading.{whole, read_found}
 
 -- A judgement over a circuit of what a text is restored to: where the text's frames make the property of an engine form 1 in a frame, it is accepted, with the frames up to and with the first such one.
 abbrev pub FindsAgain : Circuit → ℕ → List ℕ → Judgement → Type 0
 FindsAgain c k text j =
     (choice : Option ℕ) (d : Circuit) (given : List (List Bool)) (ws : List Valuation) (n : ℕ) → IsEngineFormOf c choice d → HasProperty choice k
-    → read_text (input_count c) text ≡ whole given → length given + 4 ≤ most_lines → IsTrace d (replicate (length d.latches) false) given ws → first_bad d (place_in choice k) ws ≡ Some n
+    → read_found (input_count c) text ≡ whole given → length given + 4 ≤ most_lines → IsCircuitTrace d (replicate (length d.latches) false) given ws → first_bad d (place_in choice k) ws ≡ Some n
     → j ≡ judgement.Accepted (n + 1)

@@ -7,29 +7,29 @@ use Rattle.witness.specs.BitTexts.{BitWitness, bit_line}
 use Rattle.engine.specs.EngineForm.{begins}
 
 -- a line's end, or nothing of it, where the text ends: a mark ends it too, whatever stands behind
-abbrev pub IsClosed : List ℕ → Type 0
-IsClosed [] = Unit {0}
-IsClosed (b ∷ rest) = b ≡ 35
+abbrev pub IsEndOfLine : List ℕ → Type 0
+IsEndOfLine [] = Unit {0}
+IsEndOfLine (b ∷ rest) = b ≡ 35
 
 -- what may stand behind the bits of the last frame: nothing, the end of its line, or a mark there or at the begin of the next line
-abbrev pub IsEnd : List ℕ → Type 0
-IsEnd [] = Unit {0}
-IsEnd (b ∷ rest) = (b ≡ 35) ⊎ ((b ≡ 10) × IsClosed rest)
+abbrev pub IsEndOfFrames : List ℕ → Type 0
+IsEndOfFrames [] = Unit {0}
+IsEndOfFrames (b ∷ rest) = (b ≡ 35) ⊎ ((b ≡ 10) × IsEndOfLine rest)
 
 -- lines, with a line's end between two of them
-abbrev pub joined : List (List ℕ) → List ℕ
-joined [] = []
-joined (line ∷ []) = line
-joined (line ∷ next ∷ more) = line ++ 10 ∷ joined (next ∷ more)
+abbrev pub lines_joined : List (List ℕ) → List ℕ
+lines_joined [] = []
+lines_joined (line ∷ []) = line
+lines_joined (line ∷ next ∷ more) = line ++ 10 ∷ lines_joined (next ∷ more)
 
 -- a text says these input frames, each of so many bits: a line of initial bits, of whatever number and all 0, then the frames, and the end
 pub record SaysFrames (width : ℕ) (text : List ℕ) (given : List (List Bool)) : Type 0 where
   pub zeros : ℕ
   pub end : List ℕ
-  pub whole : text ≡ joined (replicate zeros 48 ∷ map bit_line given) ++ end
+  pub whole : text ≡ lines_joined (replicate zeros 48 ∷ map bit_line given) ++ end
   pub some_frame : given ≢ []
   pub frames : All (λ bits. length bits ≡ width) given
-  pub ends : IsEnd end
+  pub ends : IsEndOfFrames end
 
 -- what input frames of an engine form are of its circuit: a witness with the bits that the latches begin with by the first frame, and the circuit's own inputs of each
 abbrev pub restored : Circuit → ℕ → List (List Bool) → BitWitness

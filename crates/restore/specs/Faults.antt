@@ -4,24 +4,24 @@ use Rattle.restore.specs.declared.fault.RestoreWhy.{RestoreWhy}
 use Rattle.restore.specs.declared.fault.RestoreWhy.TheVariants.{NoFrame, InitialOne, NoBit, WrongLength, NoMemory, Device, Write}
 
 -- the number that is printed for what is wrong
-abbrev pub why_number : RestoreWhy → ℕ
-why_number NoFrame = 150
-why_number InitialOne = 151
-why_number NoBit = 152
-why_number WrongLength = 153
-why_number NoMemory = 154
-why_number Device = 155
-why_number Write = 156
+abbrev pub restore_why_number : RestoreWhy → ℕ
+restore_why_number NoFrame = 150
+restore_why_number InitialOne = 151
+restore_why_number NoBit = 152
+restore_why_number WrongLength = 153
+restore_why_number NoMemory = 154
+restore_why_number Device = 155
+restore_why_number Write = 156
 
 -- and the name
-abbrev pub why_name : RestoreWhy → List ℕ
-why_name NoFrame = codes "NoFrame"
-why_name InitialOne = codes "InitialOne"
-why_name NoBit = codes "NoBit"
-why_name WrongLength = codes "WrongLength"
-why_name NoMemory = codes "NoMemory"
-why_name Device = codes "Device"
-why_name Write = codes "Write"
+abbrev pub restore_why_name : RestoreWhy → List ℕ
+restore_why_name NoFrame = codes "NoFrame"
+restore_why_name InitialOne = codes "InitialOne"
+restore_why_name NoBit = codes "NoBit"
+restore_why_name WrongLength = codes "WrongLength"
+restore_why_name NoMemory = codes "NoMemory"
+restore_why_name Device = codes "Device"
+restore_why_name Write = codes "Write"
 
 -- whether it is wrong with a text: neither with its source, nor with what is written to, nor for want of memory
 abbrev pub is_of_text : RestoreWhy → Bool

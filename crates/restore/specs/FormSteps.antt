@@ -7,7 +7,7 @@ use Rattle.aiger.specs.Circuit.{Circuit, IsCircuit}
 use Rattle.engine.specs.EngineForm.{input_count}
 use Rattle.witness.specs.Readings.{reading}
 use Rattle.witness.specs.BitAdmits.{BitRead, bit_reader, admitted_lines, is_done}
-use Rattle.witness.specs.BitStands.{BitJudge, StandsFor}
+use Rattle.witness.specs.BitStands.{BitJudge, StandsForBits}
 use Rattle.restore.specs.declared.fault.RestoreFault.{RestoreFault}
 use Rattle.restore.specs.declared.stage.Stage.{Stage}
 use Rattle.restore.specs.declared.stage.Stage.TheVariants as stage
@@ -15,13 +15,13 @@ use Rattle.restore.specs.Reading.{Found, line_bits}
 use Rattle.restore.specs.Restored.{restored_lines}
 use Rattle.restore.specs.Pieces.{Restorer, owed_at, is_reading, head, piece_at, with_found_at, is_taken_at}
 use Rattle.restore.specs.Taking.{IsPutInPieces}
-use Rattle.restore.specs.FormWitness.{property_of, frame_lines, form_restored_text}
+use Rattle.restore.specs.FormWitness.{property_of, restored_frame_lines, form_restored_text}
 
 -- ---- the restorer
 
 -- with the frame of these bits
-abbrev pub with_bits : Restorer → List Bool → Restorer
-with_bits r bits = record r { reader = record r.reader { frame = bits } }
+abbrev pub with_frame_bits : Restorer → List Bool → Restorer
+with_frame_bits r bits = record r { reader = record r.reader { frame = bits } }
 
 -- where it has taken a frame: all that is to be written of it, and where the writing is then
 abbrev pub frame_pieces_at : Stage → Restorer → List ℕ
@@ -36,14 +36,14 @@ abbrev pub settled : Restorer → Restorer
 settled r = record r { stage = stage_behind r.stage }
 
 -- with the frame of a line: all that is to be written of it, and how it stands then
-abbrev pub with_line : Restorer → List ℕ → Restorer
-with_line r line = with_found_at r.stage (with_bits r (line_bits line))
+abbrev pub with_frame_line : Restorer → List ℕ → Restorer
+with_frame_line r line = with_found_at r.stage (with_frame_bits r (line_bits line))
 
 abbrev pub frame_put : Restorer → List ℕ → List ℕ
-frame_put r line = if is_taken_at r.stage r then frame_pieces_at (with_line r line).stage (with_line r line) else []
+frame_put r line = if is_taken_at r.stage r then frame_pieces_at (with_frame_line r line).stage (with_frame_line r line) else []
 
 abbrev pub frame_taken : Restorer → List ℕ → Restorer
-frame_taken r line = if is_taken_at r.stage r then settled (with_line r line) else with_line r line
+frame_taken r line = if is_taken_at r.stage r then settled (with_frame_line r line) else with_frame_line r line
 
 -- frames before those that are found
 abbrev pub behind_frames : List (List Bool) → Found → Found
@@ -54,7 +54,7 @@ pub record Owing (c : Circuit) (k : ℕ) (r : Restorer) (given : List (List Bool
   pub circuit : r.play.circuit ≡ c
   pub width : length r.reader.frame ≡ input_count c
   pub reads : is_reading r.stage ≡ true
-  pub later : (found : Found) → text_of_lines (restored_lines c k (behind_frames given found)) ≡ text_of_lines (frame_lines c k given) ++ (owed_at r.stage r found).bytes
+  pub later : (found : Found) → text_of_lines (restored_lines c k (behind_frames given found)) ≡ text_of_lines (restored_frame_lines c k given) ++ (owed_at r.stage r found).bytes
 
 -- ---- the text
 
@@ -63,7 +63,7 @@ read_of d text = (reading (bit_reader d) text).read
 
 -- a judge over the form stands for whole lines
 pub record FormAt (d : Circuit) (judge : BitJudge) (text : List ℕ) : Type 0 where
-  pub stands : StandsFor d judge text
+  pub stands : StandsForBits d judge text
   pub whole : unfinished text ≡ []
 
 -- before the claim
@@ -95,7 +95,7 @@ pub record FormHolds (c : Circuit) (choice : Option ℕ) (d : Circuit) (judge : 
 -- what the lines up to the claim of a source are: it claims so much, and the bytes behind are to come; or it was read to its end, and is restored to nothing; or it could not be read
 abbrev pub ReadsClaim : Result (Option ℕ) RestoreFault → Circuit → Option (List ℕ) → Option (List ℕ) → BitJudge → Type 0
 ReadsClaim (Ok (Some j)) d known now judge = (front : List ℕ) × (Consumes known now front × IsClaimed d judge front j)
-ReadsClaim (Ok None) d known now judge = IfSome known (λ text. StandsFor d judge text × (((read_of d text).frames ≡ []) × (is_done (read_of d text).place ≡ false)))
+ReadsClaim (Ok None) d known now judge = IfSome known (λ text. StandsForBits d judge text × (((read_of d text).frames ≡ []) × (is_done (read_of d text).place ≡ false)))
 ReadsClaim (Err e) d known now judge = Unit {0}
 
 -- Of what a sink was given since it had the first bytes: what is put for what a text is restored to was put, but for a rest that is kept. A call that takes more bytes
@@ -124,12 +124,12 @@ TakesFormAll {O = O} stands put_for r first old new kept left before after judge
     (c : Circuit) (choice : Option ℕ) (d : Circuit) (o : O) (whole : Option (List ℕ)) (front : List ℕ) (start : Option (List ℕ)) → IsPutInPieces put_for → IsCircuit d → d.inputs ≡ input_count c → Consumes whole first front
     → FormHolds c choice d judge restorer front → stands o before (form_restored_text c choice d front) → Sent start old (put_for o (form_restored_text c choice d front)) kept
     → MatchResult r
-    (λ x. IfSome whole (λ text. StandsFor d judge' text × (stands o after (form_restored_text c choice d text) × Sent start new (put_for o (form_restored_text c choice d text)) left)))
+    (λ x. IfSome whole (λ text. StandsForBits d judge' text × (stands o after (form_restored_text c choice d text) × Sent start new (put_for o (form_restored_text c choice d text)) left)))
     (λ e. IfSome whole (λ text. AppendsBeginning start new (put_for o (form_restored_text c choice d text))))
 
 -- the same of a text that begins a taker's, and written
 abbrev pub WritesFormAll : {T E O V : Type 0} → (O → V → List ℕ → Type 0) → (O → List ℕ → List ℕ) → Result T E → Circuit → Option ℕ → Circuit → O → Option (List ℕ) → Option (List ℕ) → Option (List ℕ) → V → BitJudge → Type 0
 WritesFormAll stands put_for r c choice d o whole old new after judge =
     MatchResult r
-    (λ x. IfSome whole (λ text. StandsFor d judge text × (stands o after (form_restored_text c choice d text) × Appends old new (put_for o (form_restored_text c choice d text)))))
+    (λ x. IfSome whole (λ text. StandsForBits d judge text × (stands o after (form_restored_text c choice d text) × Appends old new (put_for o (form_restored_text c choice d text)))))
     (λ e. IfSome whole (λ text. AppendsBeginning old new (put_for o (form_restored_text c choice d text))))

@@ -5,7 +5,7 @@ use Rattle.base.specs.Device.{AppendsBeginning}
 use Rattle.base.specs.Lines.{text_of_lines, whole_lines}
 use Rattle.base.specs.Literal.{Valuation}
 use Rattle.aiger.specs.Circuit.{Circuit}
-use Rattle.aiger.specs.Trace.{IsTrace}
+use Rattle.aiger.specs.Trace.{IsCircuitTrace}
 use Rattle.witness.specs.declared.judgement.Judgement.{Judgement}
 use Rattle.witness.specs.declared.judgement.Judgement.TheVariants as judgement
 use Rattle.witness.specs.Judgements.{JudgesAs}
@@ -23,8 +23,8 @@ property_of None j = j
 property_of (Some k) j = k
 
 -- the lines before the last that frames of the form are restored to
-abbrev pub frame_lines : Circuit → ℕ → List (List Bool) → List (List ℕ)
-frame_lines c k given = opening c k given ++ map bit_line (written_frames c k given)
+abbrev pub restored_frame_lines : Circuit → ℕ → List (List Bool) → List (List ℕ)
+restored_frame_lines c k given = opening c k given ++ map bit_line (written_frames c k given)
 
 -- the last line, where that of the witness was read
 abbrev pub last_line : Bool → List (List ℕ)
@@ -33,7 +33,7 @@ last_line false = []
 
 -- what admitted lines are restored to, by what they say
 abbrev pub read_restored : Circuit → Option ℕ → BitRead → List ℕ
-read_restored c choice r = text_of_lines (frame_lines c (property_of choice r.claim) r.frames ++ last_line (is_done r.place))
+read_restored c choice r = text_of_lines (restored_frame_lines c (property_of choice r.claim) r.frames ++ last_line (is_done r.place))
 
 -- what a text is restored to, a witness of the form with all bad properties or the chosen one: what its lines before the faulty one are, or all. Where it makes no claim no line is admitted, and it is restored to nothing
 unfoldable pub form_restored_text : Circuit → Option ℕ → Circuit → List ℕ → List ℕ
@@ -48,7 +48,7 @@ pub record IsFoundAgain (c : Circuit) (choice : Option ℕ) (d : Circuit) (text 
   pub witness : BitWitness
   pub says : BitSays d text witness
   pub trace : List Valuation
-  pub is_trace : IsTrace d (replicate (length d.latches) false) witness.frames trace
+  pub is_trace : IsCircuitTrace d (replicate (length d.latches) false) witness.frames trace
   pub last : ℕ
   pub first : first_bad d witness.claim trace ≡ Some last
   pub restored : BitSays c (form_restored_text c choice d text) (restored_witness c (property_of choice witness.claim) witness.frames)

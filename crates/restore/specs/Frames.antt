@@ -3,7 +3,7 @@ use Rattle.std.specs.Prelude.{ℕ, suc, ◌+◌, Bool, false, ◌&&◌, ◌==◌
 use Rattle.aiger.specs.declared.circuit.Gate.{Gate}
 use Rattle.base.specs.Literal.{Valuation, literal_value}
 use Rattle.aiger.specs.Circuit.{Circuit}
-use Rattle.aiger.specs.Trace.{next_state}
+use Rattle.aiger.specs.Trace.{next_latch_bits}
 
 -- a valuation with another bit at one variable
 abbrev pub with_bit : Valuation → ℕ → Bool → Valuation
@@ -27,4 +27,4 @@ frame_of c state input =
 -- the trace of a circuit from the bits that its latches begin with
 abbrev pub trace_from : Circuit → List Bool → List (List Bool) → List Valuation
 trace_from c state [] = []
-trace_from c state (input ∷ more) = frame_of c state input ∷ trace_from c (next_state c (frame_of c state input)) more
+trace_from c state (input ∷ more) = frame_of c state input ∷ trace_from c (next_latch_bits c (frame_of c state input)) more

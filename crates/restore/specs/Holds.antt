@@ -3,7 +3,7 @@ use Rattle.std.specs.Prelude.{◌≡◌, ℕ, ◌+◌, ◌<◌, List, length}
 use Rattle.aiger.specs.Circuit.{Circuit, IsCircuit}
 use Rattle.runs.specs.CircuitRun.{CircuitRun}
 use Rattle.engine.specs.EngineForm.{input_count}
-use Rattle.restore.specs.Steps.{Reader}
+use Rattle.restore.specs.Steps.{FramesReader}
 use Rattle.restore.specs.Pieces.{Play, head}
 
 -- its run is of the circuit, and as many bits are there as it has latches and inputs; the claimed bad property is there
@@ -16,7 +16,7 @@ pub record HoldsPlay (c : Circuit) (run : CircuitRun) (k first : ℕ) : Type 0 w
   pub claim : k < length c.bads
 
 -- frames have as many bits as the circuit's engine form has inputs; there are the first two lines, and room for the two others
-pub record HoldsLines (reader : Reader) (play : Play) (opening : List ℕ) (one other : ℕ) : Type 0 where
+pub record HoldsLines (reader : FramesReader) (play : Play) (opening : List ℕ) (one other : ℕ) : Type 0 where
   pub width : length reader.frame ≡ input_count play.circuit
   pub head : opening ≡ head play.claim
   pub initial : one ≡ length play.circuit.latches + 1

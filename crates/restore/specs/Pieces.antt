@@ -2,7 +2,7 @@
 use Rattle.std.specs.Prelude.{◌≡◌, ℕ, Bool, ◌+◌, ◌*◌, true, false, not, ◌&&◌, List, [], ◌∷◌, ◌++◌, Option, None, Some, Result, Ok, Err, codes, take, drop, map, if◌then◌else◌, IfSome, ◌⊎◌}
 use Rattle.base.specs.Lines.{text_of_lines}
 use Rattle.aiger.specs.Circuit.{Circuit}
-use Rattle.aiger.specs.Trace.{next_state}
+use Rattle.aiger.specs.Trace.{next_latch_bits}
 use Rattle.engine.specs.EngineForm.{all_hold, first_bits}
 use Rattle.witness.specs.Texts.{claim}
 use Rattle.witness.specs.BitTexts.{bit_line}
@@ -12,7 +12,7 @@ use Rattle.restore.specs.declared.stage.Stage.TheVariants as stage
 use Rattle.restore.specs.Frames.{frame_of}
 use Rattle.restore.specs.Reading.{Found}
 use Rattle.restore.specs.Restored.{rises_in, own_inputs, cut_inputs, closing, restored_lines}
-use Rattle.restore.specs.Steps.{Reader, left, Agree, IsUnread, IsOfText, is_open, frames_left}
+use Rattle.restore.specs.Steps.{FramesReader, frames_to_come, AgreeAsGiven, IsUnread, IsTextFault, may_follow, frames_left}
 
 -- a circuit in the frame that follows: its claimed bad property, the bits of its latches, whether all constraints held in the frames before, and the bits that the latches began with
 pub record Play : Type 0 where
@@ -23,13 +23,13 @@ pub record Play : Type 0 where
   pub begins : List Bool
 
 -- it begins with the first frame of its engine form
-abbrev pub begun : Play → List Bool → Play
-begun p frame = record p { state = first_bits p.circuit.latches (drop p.circuit.inputs frame); met = true; begins = first_bits p.circuit.latches (drop p.circuit.inputs frame) }
+abbrev pub restorer_begun : Play → List Bool → Play
+restorer_begun p frame = record p { state = first_bits p.circuit.latches (drop p.circuit.inputs frame); met = true; begins = first_bits p.circuit.latches (drop p.circuit.inputs frame) }
 
 -- one frame later
 abbrev pub played : Play → List Bool → Play
 played p input =
-    record p { state = next_state p.circuit (frame_of p.circuit p.state input); met = p.met && all_hold p.circuit (frame_of p.circuit p.state input) }
+    record p { state = next_latch_bits p.circuit (frame_of p.circuit p.state input); met = p.met && all_hold p.circuit (frame_of p.circuit p.state input) }
 
 -- whether the claimed property rises in the frame of these inputs
 abbrev pub rises_with : Play → List Bool → Bool
@@ -37,7 +37,7 @@ rises_with p input = rises_in p.circuit p.claim p.met (frame_of p.circuit p.stat
 
 -- a reader of frames, the circuit in the frame that follows and whether the claimed property rose in one before, where the writing is, and the lines of the latches' first bits and of the frame that was found last
 pub record Restorer : Type 0 where
-  pub reader : Reader
+  pub reader : FramesReader
   pub play : Play
   pub risen : Bool
   pub stage : Stage
@@ -54,7 +54,7 @@ with_frame r =
 
 -- where it is the first one, the latches begin by it, and their line is kept
 abbrev pub with_beginning : Restorer → Restorer
-with_beginning r = record r { play = begun r.play r.reader.frame; initial = bit_line (begun r.play r.reader.frame).begins ++ 10 ∷ [] }
+with_beginning r = record r { play = restorer_begun r.play r.reader.frame; initial = bit_line (restorer_begun r.play r.reader.frame).begins ++ 10 ∷ [] }
 
 abbrev pub with_first : Restorer → Restorer
 with_first r = record (with_frame (with_beginning r)) { stage = stage.Head }
@@ -97,8 +97,8 @@ piece_at stage.Frame r = r.line
 piece_at stage.End r = text_of_lines (codes "." ∷ [])
 piece_at stage.Done r = []
 
-abbrev pub piece : Restorer → List ℕ
-piece r = piece_at r.stage r
+abbrev pub piece_held : Restorer → List ℕ
+piece_held r = piece_at r.stage r
 
 -- what is written of frames to come
 abbrev pub frames_text : Play → Bool → Found → List ℕ
@@ -115,8 +115,8 @@ abbrev pub ahead : List ℕ → Owed → Owed
 ahead bytes owed = record owed { bytes = bytes ++ owed.bytes }
 
 -- nothing more
-abbrev pub nothing : Owed
-nothing = record { bytes = []; fault = None }
+abbrev pub nothing_owed : Owed
+nothing_owed = record { bytes = []; fault = None }
 
 -- what is still owed behind what is to be written now, where this is still found
 abbrev pub owed_at : Stage → Restorer → Found → Owed
@@ -124,12 +124,12 @@ owed_at stage.Start r found = record { bytes = text_of_lines (restored_lines r.p
 owed_at stage.Head r found = record { bytes = r.initial ++ (r.line ++ frames_text r.play r.risen found); fault = found.fault }
 owed_at stage.Initial r found = record { bytes = r.line ++ frames_text r.play r.risen found; fault = found.fault }
 owed_at stage.Frame r found = record { bytes = frames_text r.play r.risen found; fault = found.fault }
-owed_at stage.End r found = nothing
-owed_at stage.Done r found = nothing
+owed_at stage.End r found = nothing_owed
+owed_at stage.Done r found = nothing_owed
 
 -- and where these bytes are to come
 abbrev pub owed : Restorer → List ℕ → Owed
-owed r text = owed_at r.stage r (left r.reader text)
+owed r text = owed_at r.stage r (frames_to_come r.reader text)
 
 -- of known bytes this is owed
 abbrev pub Owes : Restorer → Option (List ℕ) → Owed → Type 0
@@ -137,24 +137,24 @@ Owes r known more = IfSome known (λ text. owed r text ≡ more)
 
 -- nothing is lost: what was owed is so now, of which the bytes to come are no part once no line may follow
 abbrev pub KeepsAll : Restorer → Restorer → Option (List ℕ) → Option (List ℕ) → Type 0
-KeepsAll old new before after = Agree (owed old) (owed new) before after ⊎ ((is_open new.reader.place ≡ false) × Owes old before (owed new []))
+KeepsAll old new before after = AgreeAsGiven (owed old) (owed new) before after ⊎ ((may_follow new.reader.place ≡ false) × Owes old before (owed new []))
 
 -- a step of a restorer: what was owed is the piece that it has now and what is owed now; or there is none, and none was left; or a fault is told, of the source, and nothing is lost, or of the text, and it was all that was left
 abbrev pub HandsOn : Result Bool RestoreFault → Restorer → Restorer → Option (List ℕ) → Option (List ℕ) → Type 0
 HandsOn (Ok true) old new before after =
-    Agree (owed old) (λ rest. ahead (piece new) (owed new rest)) before after ⊎ ((new.stage ≡ stage.End) × Owes old before (ahead (piece new) nothing))
-HandsOn (Ok false) old new before after = (new.stage ≡ stage.Done) × Owes old before nothing
+    AgreeAsGiven (owed old) (λ rest. ahead (piece_held new) (owed new rest)) before after ⊎ ((new.stage ≡ stage.End) × Owes old before (ahead (piece_held new) nothing_owed))
+HandsOn (Ok false) old new before after = (new.stage ≡ stage.Done) × Owes old before nothing_owed
 HandsOn (Err e) old new before after =
-    (IsUnread e × KeepsAll old new before after) ⊎ (IsOfText e × Owes old before (record { bytes = []; fault = Some e }))
+    (IsUnread e × KeepsAll old new before after) ⊎ (IsTextFault e × Owes old before (record { bytes = []; fault = Some e }))
 
 -- at most how many pieces more there are: three with the first frame, one with each other one, and the last line
-abbrev pub rank : Stage → ℕ
-rank stage.Start = 1
-rank stage.Head = 3
-rank stage.Initial = 2
-rank stage.Frame = 1
-rank stage.End = 0
-rank stage.Done = 0
+abbrev pub pieces_left : Stage → ℕ
+pieces_left stage.Start = 1
+pieces_left stage.Head = 3
+pieces_left stage.Initial = 2
+pieces_left stage.Frame = 1
+pieces_left stage.End = 0
+pieces_left stage.Done = 0
 
 abbrev pub steps_left : Restorer → ℕ → ℕ
-steps_left r calls = rank r.stage + 3 * frames_left r.reader calls
+steps_left r calls = pieces_left r.stage + 3 * frames_left r.reader calls

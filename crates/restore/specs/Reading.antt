@@ -58,10 +58,10 @@ read_some width [] = faulty [] (record { line = 2; why = NoFrame })
 read_some width (line ∷ more) = read_frames width 2 (line ∷ more)
 
 -- the initial bits and the frames
-abbrev pub read_lines : ℕ → List (List ℕ) → Found
-read_lines width [] = faulty [] (record { line = 1; why = NoFrame })
-read_lines width (line ∷ more) = unless_wrong 1 (initial_why line) (read_some width more)
+abbrev pub read_found_lines : ℕ → List (List ℕ) → Found
+read_found_lines width [] = faulty [] (record { line = 1; why = NoFrame })
+read_found_lines width (line ∷ more) = unless_wrong 1 (initial_why line) (read_some width more)
 
 -- what a text reads as, where each frame has so many bits
-abbrev pub read_text : ℕ → List ℕ → Found
-read_text width text = read_lines width (all_lines (before_mark text))
+abbrev pub read_found : ℕ → List ℕ → Found
+read_found width text = read_found_lines width (all_lines (before_mark text))

@@ -8,7 +8,7 @@ use Rattle.witness.specs.Texts.{claim}
 use Rattle.witness.specs.BitTexts.{BitWitness, bit_line}
 use Rattle.restore.specs.declared.fault.RestoreFault.{RestoreFault}
 use Rattle.restore.specs.Frames.{trace_from}
-use Rattle.restore.specs.Reading.{Found, read_text}
+use Rattle.restore.specs.Reading.{Found, read_found}
 
 -- bad property k rises in a frame: it is 1, and all constraints hold, as they did in the frames before, which `met` says
 abbrev pub rises_in : Circuit → ℕ → Bool → Valuation → Bool
@@ -54,4 +54,4 @@ restored_lines c k found = opening c k found.frames ++ (map bit_line (written_fr
 
 -- what a text is restored to: where a line of it is faulty, what the lines before it give, and no last line
 unfoldable pub restored_text : Circuit → ℕ → List ℕ → List ℕ
-restored_text c k text = text_of_lines (restored_lines c k (read_text (input_count c) text))
+restored_text c k text = text_of_lines (restored_lines c k (read_found (input_count c) text))

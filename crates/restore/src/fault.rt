@@ -1,6 +1,6 @@
 //! What is wrong with a text of a counterexample, or why it is not read or restored.
 ghost use Rattle.std.specs.Prelude.{◌≡◌};
-ghost use Rattle.restore.specs.Faults.{why_number, why_name, is_of_text};
+ghost use Rattle.restore.specs.Faults.{restore_why_number, restore_why_name, is_of_text};
 
 use std::alloc::AllocError;
 use std::fmt;
@@ -28,7 +28,7 @@ pub enum RestoreWhy {
 impl RestoreWhy {
     /// The number that is printed for it.
     pub fn number(self) -> u32
-        ensures { result ≡ why_number self }
+        ensures { result ≡ restore_why_number self }
     {
         match self {
             RestoreWhy::NoFrame => 150,
@@ -53,7 +53,7 @@ impl RestoreWhy {
 
     /// The name that is printed for it.
     pub fn name(self) -> &'static str
-        ensures { result.now ≡ why_name self }
+        ensures { result.now ≡ restore_why_name self }
     {
         match self {
             RestoreWhy::NoFrame => "NoFrame",

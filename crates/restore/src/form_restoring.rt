@@ -10,7 +10,7 @@ ghost use Rattle.witness.specs.declared.judgement.Judgement.{Judgement};
 ghost use Rattle.witness.specs.Texts.{claim};
 ghost use Rattle.witness.specs.BitAdmits.{admitted_lines};
 ghost use Rattle.witness.specs.BitJudgements.{BitJudges};
-ghost use Rattle.witness.specs.BitStands.{StandsFor};
+ghost use Rattle.witness.specs.BitStands.{StandsForBits};
 ghost use Rattle.restore.specs.declared.fault.RestoreWhy.TheVariants as why;
 ghost use Rattle.restore.specs.declared.stage.Stage.TheVariants as stage;
 ghost use Rattle.restore.specs.Answers.{CountsRestore};
@@ -33,8 +33,8 @@ use witness::{BitJudge, Judgement};
 
 /// Feeds a judge with a whole line, and answers whether it is admitted.
 fn admits(judge: &mut BitJudge<'_>, line: &[u8]) -> bool
-    ensures judged { (d : Circuit) (text : List ℕ) → StandsFor d judge.old text → StandsFor d judge.new (text ++ (line.now ++ 10 ∷ [])) }
-    ensures admitted { (d : Circuit) (text : List ℕ) → StandsFor d judge.old text → result ≡ not (admitted_lines d (text ++ (line.now ++ 10 ∷ [])) == admitted_lines d text) }
+    ensures judged { (d : Circuit) (text : List ℕ) → StandsForBits d judge.old text → StandsForBits d judge.new (text ++ (line.now ++ 10 ∷ [])) }
+    ensures admitted { (d : Circuit) (text : List ℕ) → StandsForBits d judge.old text → result ≡ not (admitted_lines d (text ++ (line.now ++ 10 ∷ [])) == admitted_lines d text) }
 {
     let number = judge.admitted_lines();
     judge.feed(line);
@@ -81,7 +81,7 @@ fn read_claim<S: Source>(
     source: &mut S,
 ) -> Result<Option<usize>, RestoreFault>
     requires { lines.old.rest ≡ [] }
-    ensures reads { (d : Circuit) → IsCircuit d → StandsFor d judge.old [] → ReadsClaim result d (S.to_come source.old) (prepend_known lines.new.rest (S.to_come source.new)) judge.new }
+    ensures reads { (d : Circuit) → IsCircuit d → StandsForBits d judge.old [] → ReadsClaim result d (S.to_come source.old) (prepend_known lines.new.rest (S.to_come source.new)) judge.new }
     ensures end { IfOk result (λ claim. claim ≡ None → IsAtEnd (S.to_come source.new)) }
     ensures counted { (written : ℕ) → CountsRestore result (S.failures source.old) (S.failures source.new) written written }
     ensures line { IfErr result (λ e. is_of_text e.why ≡ false × (e.line ≡ 0)) }
@@ -299,8 +299,8 @@ fn take_all<S: Source, T: Taker, K: Sink>(
     sink: &mut K,
 ) -> Result<(), RestoreFault>
     requires is_form { IsEngineFormOf circuit.now choice form.now }
-    requires begins { StandsFor form.now judge.old [] }
-    ensures takes { (over : Judgement) (o : T.Over) → IsPutInPieces T.put_for → ((text : List ℕ) → StandsFor form.now judge.new text → BitJudges form.now text over) → T.stands o taker.old []
+    requires begins { StandsForBits form.now judge.old [] }
+    ensures takes { (over : Judgement) (o : T.Over) → IsPutInPieces T.put_for → ((text : List ℕ) → StandsForBits form.now judge.new text → BitJudges form.now text over) → T.stands o taker.old []
         → OnOk result (IfSome (S.to_come source.old) (TakesRestored T.stands T.put_for (Ok over) circuit.now choice form.now o taker.new (K.written sink.old) (K.written sink.new))) }
     ensures beginning { (o : T.Over) → IsPutInPieces T.put_for → T.stands o taker.old [] → OnErr result (IfSome (S.to_come source.old) (λ text. AppendsBeginning (K.written sink.old) (K.written sink.new) (T.put_for o (form_restored_text circuit.now choice form.now text)))) }
     ensures end { OnOk result (IsAtEnd (S.to_come source.new)) }

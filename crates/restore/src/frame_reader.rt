@@ -5,7 +5,7 @@ ghost use Rattle.base.specs.Device.{HasRisen};
 ghost use Rattle.restore.specs.declared.fault.RestoreWhy.TheVariants as why;
 ghost use Rattle.restore.specs.declared.place.Place.TheVariants.{Start, Ended};
 ghost use Rattle.restore.specs.Reading.{line_bits};
-ghost use Rattle.restore.specs.Steps.{Reader, is_open, left, given_by, Agree, IsUnread, StepsOn, Tells, FailsByText, frames_left};
+ghost use Rattle.restore.specs.Steps.{FramesReader, may_follow, frames_to_come, given_by, AgreeAsGiven, IsUnread, StepsOn, TellsNoFrame, FailsByText, frames_left};
 
 use crate::fault::RestoreFault;
 use crate::marks::{found_line, unread};
@@ -26,7 +26,7 @@ pub struct FrameReader {
 }
 
 impl Model for FrameReader {
-    ghost Value = { Reader };
+    ghost Value = { FramesReader };
 
     ghost view = { λ r. record { frame = r.progress.bits.items; place = r.progress.place; rest = r.lines.rest } };
 
@@ -87,12 +87,12 @@ impl FrameReader {
 
     /// Takes the next line, and answers whether it is a frame.
     fn take_line<S: Source>(&mut self, source: &mut S) -> Result<bool, RestoreFault>
-        requires { is_open self.old.place ≡ true }
-        ensures found { IfOk result (λ is_frame. Agree (left self.old) (λ rest. given_by is_frame self.new.frame (left self.new rest)) (prepend_known self.old.rest (S.to_come source.old)) (prepend_known self.new.rest (S.to_come source.new))) }
+        requires { may_follow self.old.place ≡ true }
+        ensures found { IfOk result (λ is_frame. AgreeAsGiven (frames_to_come self.old) (λ rest. given_by is_frame self.new.frame (frames_to_come self.new rest)) (prepend_known self.old.rest (S.to_come source.old)) (prepend_known self.new.rest (S.to_come source.new))) }
         ensures ends { OnOk result (frames_left self.new (S.calls_left source.new) < frames_left self.old (S.calls_left source.old)) }
         ensures width { length self.new.frame ≡ length self.old.frame }
         ensures counted { OnOk result (S.failures source.new ≡ S.failures source.old) }
-        ensures unread { IfErr result (λ e. IsUnread e × Agree (left self.old) (left self.new) (prepend_known self.old.rest (S.to_come source.old)) (prepend_known self.new.rest (S.to_come source.new))) }
+        ensures unread { IfErr result (λ e. IsUnread e × AgreeAsGiven (frames_to_come self.old) (frames_to_come self.new) (prepend_known self.old.rest (S.to_come source.old)) (prepend_known self.new.rest (S.to_come source.new))) }
         ensures device { IfErr result (λ e. e.why ≡ why.Device → HasRisen (S.failures source.old) (S.failures source.new)) }
         ensures memory { IfErr result (λ e. e.why ≢ why.Device → S.failures source.new ≡ S.failures source.old) }
     {
@@ -107,10 +107,10 @@ impl FrameReader {
 
 /// Reads the rest of a source, and then tells the fault that was found, or that there is no frame more.
 fn end<S: Source>(place: Place, source: &mut S) -> Result<bool, RestoreFault>
-    requires closed { is_open place ≡ false }
+    requires closed { may_follow place ≡ false }
     requires text { FailsByText place }
     ensures none { IfOk result (λ more. (more ≡ false) × ((place ≡ Ended) × (IsAtEnd (S.to_come source.new) × (S.failures source.new ≡ S.failures source.old)))) }
-    ensures fault { IfErr result (λ e. Tells e place (S.to_come source.new) (S.failures source.old) (S.failures source.new)) }
+    ensures fault { IfErr result (λ e. TellsNoFrame e place (S.to_come source.new) (S.failures source.old) (S.failures source.new)) }
 {
     if let Err(DeviceFault::Failed) = skip_all(source) {
         return Err(unread(ReadAllFault::Device));

@@ -1,7 +1,7 @@
 //! The lines of a source, up to a mark.
 ghost use Rattle.std.specs.Prelude.{◌≡◌};
 ghost use Rattle.restore.specs.Marks.{FindsLine, CutsAtMark};
-ghost use Rattle.restore.specs.Steps.{unread_fault};
+ghost use Rattle.restore.specs.Steps.{unread_found_fault};
 
 use crate::fault::{RestoreFault, RestoreWhy};
 use base::{LineReader, ReadAllFault, Source, cut_at};
@@ -11,7 +11,7 @@ const MARK: u8 = b'#';
 
 /// What is wrong where a source could not be read to its end.
 pub(crate) fn unread(cause: ReadAllFault) -> RestoreFault
-    ensures { result ≡ unread_fault cause }
+    ensures { result ≡ unread_found_fault cause }
 {
     let why = match cause {
         ReadAllFault::Device => RestoreWhy::Device,

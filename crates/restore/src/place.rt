@@ -2,7 +2,7 @@
 ghost use Rattle.std.specs.Prelude.{◌≡◌, ℕ, false, List, []};
 ghost use Rattle.restore.specs.declared.fault.RestoreWhy.TheVariants as why;
 ghost use Rattle.restore.specs.declared.place.Place.TheVariants.{Failed};
-ghost use Rattle.restore.specs.Steps.{is_open, read_at, FailsByText};
+ghost use Rattle.restore.specs.Steps.{may_follow, read_at, FailsByText};
 
 use crate::fault::{RestoreFault, RestoreWhy};
 
@@ -24,7 +24,7 @@ pub enum Place {
 impl Place {
     /// Whether a line may follow.
     pub(crate) fn is_open(self) -> bool
-        ensures { result ≡ is_open self }
+        ensures { result ≡ may_follow self }
     {
         match self {
             Place::Start | Place::First | Place::Going(_) => true,
@@ -34,7 +34,7 @@ impl Place {
 
     /// The place where no line follows.
     pub(crate) fn at_end(self) -> Place
-        ensures closed { is_open result ≡ false }
+        ensures closed { may_follow result ≡ false }
         ensures text { FailsByText self → FailsByText result }
         ensures reads { (width : ℕ) (more : List (List ℕ)) → read_at self width [] ≡ read_at result width more }
     {

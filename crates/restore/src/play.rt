@@ -3,7 +3,7 @@ ghost use Rattle.std.specs.Prelude.{◌≡◌, ◌<◌, ◌≤◌, ◌&&◌, tru
 ghost use Rattle.base.specs.Literal.{Valuation};
 ghost use Rattle.runs.specs.CircuitRun.{IsFrameNow};
 ghost use Rattle.engine.specs.EngineForm.{all_hold};
-ghost use Rattle.restore.specs.Pieces.{begun, played, rises_with};
+ghost use Rattle.restore.specs.Pieces.{restorer_begun, played, rises_with};
 
 use crate::digits::write_first_bits;
 use aiger::Circuit;
@@ -127,7 +127,7 @@ impl<'c> Play<'c> {
     /// Begins with the frame of its engine form that comes first.
     pub(crate) fn begin(&mut self, frame: &[bool])
         requires { self.old.circuit.inputs ≤ length frame.now }
-        ensures { self.new ≡ begun self.old frame.now }
+        ensures { self.new ≡ restorer_begun self.old frame.now }
     {
         let (_, given) = frame.split_at(self.circuit.inputs() as usize);
         write_first_bits(self.circuit.latches(), given, self.begins.as_mut_slice());

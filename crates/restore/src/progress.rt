@@ -2,8 +2,8 @@
 ghost use Rattle.std.specs.Prelude.{◌≡◌, ℕ, true, false, List, ◌∷◌, length, IfOk, ◌==◌, ◌||◌};
 ghost use Rattle.std.specs.List.{list_all};
 ghost use Rattle.restore.specs.declared.place.Place.TheVariants.{Start};
-ghost use Rattle.restore.specs.Reading.{initial_why, frame_why, line_bits, read_frames, read_lines};
-ghost use Rattle.restore.specs.Steps.{is_open, read_at, behind, lines_from, given_by, ReadsFrame, FailsByText};
+ghost use Rattle.restore.specs.Reading.{initial_why, frame_why, line_bits, read_frames, read_found_lines};
+ghost use Rattle.restore.specs.Steps.{may_follow, read_at, later_lines, lines_from, given_by, ReadsFrame, FailsByText};
 
 use crate::fault::{RestoreFault, RestoreWhy};
 use crate::place::Place;
@@ -65,9 +65,9 @@ fn read_frame(line: &[u8], bits: &mut [bool]) -> Result<(), RestoreWhy>
 
 /// The place behind a line of initial bits, which may be the last line.
 fn behind_initial(line: &[u8], is_last: bool) -> Place
-    ensures closed { is_last ≡ true → is_open result ≡ false }
+    ensures closed { is_last ≡ true → may_follow result ≡ false }
     ensures text { FailsByText result }
-    ensures reads { (width : ℕ) (more : List (List ℕ)) → read_lines width (line.now ∷ behind is_last more) ≡ read_at result width more }
+    ensures reads { (width : ℕ) (more : List (List ℕ)) → read_found_lines width (line.now ∷ later_lines is_last more) ≡ read_at result width more }
 {
     match initial_why(line) {
         Some(why) => Place::Failed(RestoreFault { line: 1, why }),
@@ -114,8 +114,8 @@ impl Progress {
 
     /// Takes the line of a frame, which may be the last line, and answers whether it is a frame.
     fn take_frame(&mut self, number: u64, line: &[u8], is_last: bool) -> bool
-        ensures reads { (more : List (List ℕ)) → read_frames (length self.old.bits.items) number (line.now ∷ behind is_last more) ≡ given_by result self.new.bits.items (read_at self.new.place (length self.new.bits.items) more) }
-        ensures closed { is_last ≡ true → is_open self.new.place ≡ false }
+        ensures reads { (more : List (List ℕ)) → read_frames (length self.old.bits.items) number (line.now ∷ later_lines is_last more) ≡ given_by result self.new.bits.items (read_at self.new.place (length self.new.bits.items) more) }
+        ensures closed { is_last ≡ true → may_follow self.new.place ≡ false }
         ensures text { FailsByText self.new.place }
         ensures width { length self.new.bits.items ≡ length self.old.bits.items }
     {
@@ -137,9 +137,9 @@ impl Progress {
 
     /// Takes a line, which may be the last one, and answers whether it is a frame. A last line without a byte is none.
     pub(crate) fn take(&mut self, line: &[u8], is_last: bool) -> bool
-        requires { is_open self.old.place ≡ true }
+        requires { may_follow self.old.place ≡ true }
         ensures reads { (more : List (List ℕ)) → read_at self.old.place (length self.old.bits.items) (lines_from line.now is_last more) ≡ given_by result self.new.bits.items (read_at self.new.place (length self.new.bits.items) more) }
-        ensures closed { is_last ≡ true → is_open self.new.place ≡ false }
+        ensures closed { is_last ≡ true → may_follow self.new.place ≡ false }
         ensures text { FailsByText self.new.place }
         ensures width { length self.new.bits.items ≡ length self.old.bits.items }
     {

@@ -6,10 +6,10 @@ ghost use Rattle.restore.specs.declared.fault.RestoreWhy.TheVariants as why;
 ghost use Rattle.restore.specs.declared.place.Place.TheVariants as place;
 ghost use Rattle.restore.specs.declared.stage.Stage.TheVariants as stage;
 ghost use Rattle.engine.specs.EngineForm.{input_count};
-ghost use Rattle.restore.specs.FormSteps.{with_bits, frame_pieces_at, settled, stage_behind};
-ghost use Rattle.restore.specs.Reading.{line_bits, read_text};
+ghost use Rattle.restore.specs.FormSteps.{with_frame_bits, frame_pieces_at, settled, stage_behind};
+ghost use Rattle.restore.specs.Reading.{line_bits, read_found};
 ghost use Rattle.restore.specs.Restored.{restored_text};
-ghost use Rattle.restore.specs.Pieces.{piece, owed, is_reading, is_written, with_frame, with_first, with_later, with_found_at, is_taken_at, HandsOn, steps_left};
+ghost use Rattle.restore.specs.Pieces.{piece_held, owed, is_reading, is_written, with_frame, with_first, with_later, with_found_at, is_taken_at, HandsOn, steps_left};
 ghost use Rattle.restore.specs.Steps.{StepsOn, frames_left};
 
 use crate::digits::write_line;
@@ -67,7 +67,7 @@ impl<'c> Restorer<'c> {
         claim: usize,
     ) -> Result<Restorer<'c>, AllocError>
         requires { claim < length circuit.now.bads }
-        ensures restores { IfOk result (λ r. (text : List ℕ) → owed r text ≡ record { bytes = restored_text circuit.now claim text; fault = (read_text (input_count circuit.now) text).fault }) }
+        ensures restores { IfOk result (λ r. (text : List ℕ) → owed r text ≡ record { bytes = restored_text circuit.now claim text; fault = (read_found (input_count circuit.now) text).fault }) }
         ensures unread { IfOk result (λ r. r.reader.rest ≡ []) }
         ensures begins { IfOk result (λ r. is_written r.stage ≡ false) }
     {
@@ -106,7 +106,7 @@ impl<'c> Restorer<'c> {
 
     /// The bytes that are to be written now: those of the piece that was made last.
     pub fn piece(&self) -> &[u8]
-        ensures { result.now ≡ piece self.now }
+        ensures { result.now ≡ piece_held self.now }
     {
         match self.stage {
             Stage::Start | Stage::Done => b"",
@@ -238,7 +238,7 @@ impl<'c> Restorer<'c> {
     pub(crate) fn take_line(&mut self, line: &[u8]) -> bool
         requires { is_reading self.old.stage ≡ true }
         ensures other { length line.now ≢ length self.old.reader.frame → (result ≡ false) × (self.new ≡ self.old) }
-        ensures takes { length line.now ≡ length self.old.reader.frame → (self.new ≡ with_found_at self.old.stage (with_bits self.old (line_bits line.now))) × (result ≡ is_taken_at self.old.stage self.old) }
+        ensures takes { length line.now ≡ length self.old.reader.frame → (self.new ≡ with_found_at self.old.stage (with_frame_bits self.old (line_bits line.now))) × (result ≡ is_taken_at self.old.stage self.old) }
         ensures reads { result ≡ false → is_reading self.new.stage ≡ true }
         ensures goes_on { result ≡ true → is_reading (stage_behind self.new.stage) ≡ true }
     {
@@ -252,7 +252,7 @@ impl<'c> Restorer<'c> {
     /// Whether the first two lines are to be written now.
     pub(crate) fn is_at_head(&self) -> bool
         ensures head { result ≡ true → self.now.stage ≡ stage.Head }
-        ensures other { result ≡ false → frame_pieces_at self.now.stage self.now ≡ piece self.now }
+        ensures other { result ≡ false → frame_pieces_at self.now.stage self.now ≡ piece_held self.now }
         ensures stays { result ≡ false → settled self.now ≡ self.now }
     {
         matches!(self.stage, Stage::Head)

@@ -6,10 +6,10 @@ ghost use Rattle.engine.specs.EngineForm.{input_count};
 ghost use Rattle.witness.specs.BitJudgements.{BitJudges};
 ghost use Rattle.restore.specs.declared.fault.RestoreWhy.TheVariants as why;
 ghost use Rattle.restore.specs.Accepted.{FindsAgain};
-ghost use Rattle.restore.specs.Answers.{CountsRestore, PutsOwed, WritesOwed, TakesAll, WritesAll};
+ghost use Rattle.restore.specs.Answers.{CountsRestore, PutsOwed, WritesOwedLines, TakesAllOwed, WritesAll};
 ghost use Rattle.restore.specs.Faults.{is_of_text};
 ghost use Rattle.restore.specs.Pieces.{Owed, owed, is_written};
-ghost use Rattle.restore.specs.Reading.{read_text};
+ghost use Rattle.restore.specs.Reading.{read_found};
 ghost use Rattle.restore.specs.Restored.{restored_text};
 ghost use Rattle.restore.specs.Taking.{TakesPiece, IsPutInPieces};
 
@@ -54,7 +54,7 @@ fn hand_on_all<S: Source, T: Taker, K: Sink>(
     requires unread { restorer.old.reader.rest ≡ [] }
     requires unsent { outbox.old ≡ [] }
     requires begins { is_written restorer.old.stage ≡ false }
-    ensures takes { IfSome (S.to_come source.old) (λ text. (o : T.Over) → IsPutInPieces T.put_for → T.stands o taker.old [] → TakesAll T.stands T.put_for result (owed restorer.old text) o taker.new (K.written sink.old) (K.written sink.new) outbox.new) }
+    ensures takes { IfSome (S.to_come source.old) (λ text. (o : T.Over) → IsPutInPieces T.put_for → T.stands o taker.old [] → TakesAllOwed T.stands T.put_for result (owed restorer.old text) o taker.new (K.written sink.old) (K.written sink.new) outbox.new) }
     ensures end { OnOk result (IsAtEnd (S.to_come source.new)) }
     ensures read_on { IfErr result (λ e. is_of_text e.why ≡ true → IsAtEnd (S.to_come source.new)) }
     ensures line { IfErr result (λ e. is_of_text e.why ≡ false → e.line ≡ 0) }
@@ -89,7 +89,7 @@ pub(crate) fn end<K: Sink>(
     outbox: &mut Outbox,
     sink: &mut K,
 ) -> Result<(), RestoreFault>
-    ensures writes { (more : Owed) (start : Option (List ℕ)) → PutsOwed told more start (K.written sink.old) outbox.old → WritesOwed result more start (K.written sink.new) }
+    ensures writes { (more : Owed) (start : Option (List ℕ)) → PutsOwed told more start (K.written sink.old) outbox.old → WritesOwedLines result more start (K.written sink.new) }
     ensures same { IfErr result (λ e. (told ≡ Err e) ⊎ (e ≡ record { line = 0; why = why.Write })) }
     ensures right { OnOk result (IsOk told) }
     ensures counted { (old new before : ℕ) → CountsRestore told old new before (K.failures sink.old) → CountsRestore result old new before (K.failures sink.new) }
@@ -156,11 +156,11 @@ pub fn restore<S: Source, K: Sink>(
     // the judgement is that of what was written, and that is all that the text is restored to, with which nothing is wrong
     ensures judged { IfOk result (λ judgement. IfSome (S.to_come source.old) (λ text. BitJudges circuit.now (restored_text circuit.now claim text) judgement)) }
     ensures written { OnOk result (IfSome (S.to_come source.old) (λ text. Appends (K.written sink.old) (K.written sink.new) (restored_text circuit.now claim text))) }
-    ensures right { OnOk result (IfSome (S.to_come source.old) (λ text. (read_text (input_count circuit.now) text).fault ≡ None)) }
+    ensures right { OnOk result (IfSome (S.to_come source.old) (λ text. (read_found (input_count circuit.now) text).fault ≡ None)) }
     // where the text's frames make the claimed property of an engine form 1, that is accepted, and ends with the first such frame
     ensures found { IfOk result (λ judgement. IfSome (S.to_come source.old) (λ text. FindsAgain circuit.now claim text judgement)) }
     // a fault of the text is its own, and what the lines before it give was written; at any other a beginning was
-    ensures faulty { IfErr result (λ e. is_of_text e.why ≡ true → IfSome (S.to_come source.old) (λ text. (read_text (input_count circuit.now) text).fault ≡ Some e)) }
+    ensures faulty { IfErr result (λ e. is_of_text e.why ≡ true → IfSome (S.to_come source.old) (λ text. (read_found (input_count circuit.now) text).fault ≡ Some e)) }
     ensures before { IfErr result (λ e. is_of_text e.why ≡ true → IfSome (S.to_come source.old) (λ text. Appends (K.written sink.old) (K.written sink.new) (restored_text circuit.now claim text))) }
     ensures beginning { IfErr result (λ e. is_of_text e.why ≡ false → IfSome (S.to_come source.old) (λ text. AppendsBeginning (K.written sink.old) (K.written sink.new) (restored_text circuit.now claim text))) }
     ensures apart { IfErr result (λ e. is_of_text e.why ≡ false → e.line ≡ 0) }

@@ -33,11 +33,11 @@ pub trait Taker {
 
 /// A judge of witnesses takes them, and they are put as they are.
 impl<'a> Taker for BitJudge<'a> {
-    ghost use Rattle.witness.specs.BitStands.{StandsFor};
+    ghost use Rattle.witness.specs.BitStands.{StandsForBits};
 
     ghost Over = { Circuit };
 
-    ghost stands = { StandsFor };
+    ghost stands = { StandsForBits };
 
     ghost put_for = { λ c text. text };
 

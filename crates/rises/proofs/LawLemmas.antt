@@ -18,7 +18,7 @@ use Rattle.btor2.specs.Reachability.{nodes_of, model_shows}
 use Rattle.base.specs.Literal.{Valuation}
 use Rattle.aiger.specs.Circuit.{Circuit, IsCircuit}
 use Rattle.aiger.specs.Reachability.{circuit_shows}
-use Rattle.aiger.specs.Trace.{SameTrace as SameBitTrace}
+use Rattle.aiger.specs.Trace.{SameCircuitTrace as SameBitTrace}
 use Rattle.witness.specs.declared.judgement.Judgement.TheVariants as judgement
 use Rattle.witness.specs.Texts.{shape_of}
 use Rattle.witness.specs.Readings.{text_read}

@@ -13,16 +13,16 @@ use Rattle.btor2.specs.Trace.{Frame, IsTrace}
 use Rattle.btor2.specs.Reachability.{nodes_of, model_shows}
 use Rattle.base.specs.Literal.{Valuation}
 use Rattle.aiger.specs.Circuit.{Circuit}
-use Rattle.aiger.specs.Trace.{IsTrace as IsBitTrace}
+use Rattle.aiger.specs.Trace.{IsCircuitTrace as IsBitTrace}
 use Rattle.aiger.specs.Reachability.{circuit_shows}
 use Rattle.witness.specs.Texts.{shape_of}
 use Rattle.witness.specs.Readings.{reading}
 use Rattle.witness.specs.Admits.{Read, witness_of}
 use Rattle.witness.specs.Judgements.{initial_words, given_frames, words_of}
 use Rattle.witness.specs.ClosedWords.{IsClosedTrace, said_in, closed_word_frames}
-use Rattle.witness.specs.WordStands.{StandsFor}
+use Rattle.witness.specs.WordStands.{StandsForWitness}
 use Rattle.witness.specs.BitAdmits.{BitRead, closed_frames}
-use Rattle.witness.specs.BitStands.{StandsFor as StandsForBits}
+use Rattle.witness.specs.BitStands.{StandsForBits}
 use Rattle.witness.specs.Reached.{word_claimed, word_reached, bits_said_in, IsClosedBitTrace, bit_claimed, bit_reached}
 use Rattle.witness.proofs.ClosedLemmas.{part_closes_none}
 use Rattle.witness.proofs.GrowthLemmas.{Grows, Same, More, words_grow, bits_grow, bits_part}
@@ -69,7 +69,7 @@ unfolding reading
 none_yet items [] t = refl
 none_yet items (f ∷ fs) t = absurd t
 
-pub words_none : (items : List Item) (n : WordNoter) (count : ℕ) → count ≡ length (nodes_of is_bad items) → StandsFor items n.judge [] → n.firsts ≡ replicate count None → NotesWords items n []
+pub words_none : (items : List Item) (n : WordNoter) (count : ℕ) → count ≡ length (nodes_of is_bad items) → StandsForWitness items n.judge [] → n.firsts ≡ replicate count None → NotesWords items n []
 words_none items n count many stands is =
     record {
       judge = stands;
@@ -84,7 +84,7 @@ abbrev IsTraceOfRead : List Item → Read → List Frame → Type 0
 IsTraceOfRead items r fs = IsTrace items (initial_words items (words_of (witness_of r))) (given_frames items (words_of (witness_of r))) fs
 
 -- bytes that end no line
-pub words_part : (items : List Item) (text bytes : List ℕ) (before after : WordNoter) → IsLine bytes → NotesWords items before text → StandsFor items after.judge (text ++ bytes) → after.firsts ≡ before.firsts → NotesWords items after (text ++ bytes)
+pub words_part : (items : List Item) (text bytes : List ℕ) (before after : WordNoter) → IsLine bytes → NotesWords items before text → StandsForWitness items after.judge (text ++ bytes) → after.firsts ≡ before.firsts → NotesWords items after (text ++ bytes)
 words_part items text bytes before after line h stands same =
     let said : said_in items (text ++ bytes) ≡ said_in items text = part_closes_none items text bytes line in
     record {
@@ -98,7 +98,7 @@ words_part items text bytes before after line h stands same =
 shown_more : {F : Type 0} (shows : F → Shown) (fs front : List F) (f : F) → fs ≡ front ++ f ∷ [] → map shows fs ≡ map shows front ++ shows f ∷ []
 shown_more shows fs front f is = ap (map shows) is ∙ map-append shows front (f ∷ [])
 
-module _ (items : List Item) (text line : List ℕ) (before after : WordNoter) (one_line : IsLine line) (h : NotesWords items before text) (stands : StandsFor items after.judge (text ++ (line ++ 10 ∷ [])))
+module _ (items : List Item) (text line : List ℕ) (before after : WordNoter) (one_line : IsLine line) (h : NotesWords items before text) (stands : StandsForWitness items after.judge (text ++ (line ++ 10 ∷ [])))
     (number now : ℕ) (n : number ≡ closed_word_frames (shape_of items) text) (m : now ≡ closed_word_frames (shape_of items) (text ++ (line ++ 10 ∷ []))) where
   abbrev whole : List ℕ
   whole = text ++ (line ++ 10 ∷ [])

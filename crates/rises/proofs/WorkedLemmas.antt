@@ -5,13 +5,13 @@ use Rattle.base.specs.declared.operators.Unary.TheVariants as unary
 use Rattle.base.specs.declared.operators.Binary.TheVariants as binary
 use Rattle.btor2.specs.Trace.{Frame, IsFrame, IsTrace, next_state}
 use Rattle.btor2.specs.Reachability.{model_shows}
-use Rattle.btor2.specs.Worked.{counter, toggler}
+use Rattle.btor2.specs.Worked.{counter, toggler_model}
 use Rattle.base.specs.Literal.{Valuation}
-use Rattle.aiger.specs.Trace.{IsTrace as IsBitTrace}
+use Rattle.aiger.specs.Trace.{IsCircuitTrace as IsBitTrace}
 use Rattle.aiger.specs.Reachability.{circuit_shows}
 use Rattle.witness.specs.Judgements.{FrameWords, Words, initial_words, given_words, given_frames}
 use Rattle.rises.specs.FirstRises.{first_rise}
-use Rattle.rises.specs.Worked.{either, either_input}
+use Rattle.rises.specs.Worked.{input_and_negation, either_input}
 
 abbrev no_words : FrameWords
 no_words = record { states = []; inputs = [] }
@@ -49,7 +49,7 @@ counter_rises (a ∷ b ∷ c ∷ d ∷ more) t =
     let one : d 9 ≡ 1 = at_3.1 in
     rw (zero_0, zero_1, zero_2, one) refl
 
-pub toggler_rises : (fs : List Frame) → IsTrace toggler (initial_words toggler two_frames) (given_frames toggler two_frames) fs → first_rise (map (model_shows toggler) fs) 0 ≡ Some 1
+pub toggler_rises : (fs : List Frame) → IsTrace toggler_model (initial_words toggler_model two_frames) (given_frames toggler_model two_frames) fs → first_rise (map (model_shows toggler_model) fs) 0 ≡ Some 1
 toggler_rises [] t = absurd t
 toggler_rises (f ∷ []) t = absurd t.1
 toggler_rises (f ∷ g ∷ more) t =
@@ -58,7 +58,7 @@ toggler_rises (f ∷ g ∷ more) t =
     let second : g 3 ≡ 1 = t.1.0.1.1.0 ∙ negated in
     rw (first, second) refl
 
-pub toggler_cut : (fs : List Frame) → IsTrace toggler (initial_words toggler one_frame) (given_frames toggler one_frame) fs → first_rise (map (model_shows toggler) fs) 0 ≡ None
+pub toggler_cut : (fs : List Frame) → IsTrace toggler_model (initial_words toggler_model one_frame) (given_frames toggler_model one_frame) fs → first_rise (map (model_shows toggler_model) fs) 0 ≡ None
 toggler_cut [] t = refl
 toggler_cut (f ∷ []) t = let first : f 3 ≡ 0 = t.0.1.1.0 in rw first refl
 toggler_cut (f ∷ g ∷ more) t = absurd t.1
@@ -68,11 +68,11 @@ abbrev pub low_then_high : List ℕ → Words
 low_then_high claims = record { claims = claims; frames = record { states = []; inputs = (0, 0) ∷ [] } ∷ record { states = []; inputs = (0, 1) ∷ [] } ∷ [] }
 
 pub record EitherRises (fs : List Frame) : Type 0 where
-  pub first : first_rise (map (model_shows either) fs) 0 ≡ Some 1
-  pub second : first_rise (map (model_shows either) fs) 1 ≡ Some 0
-  pub third : first_rise (map (model_shows either) fs) 2 ≡ None
+  pub first : first_rise (map (model_shows input_and_negation) fs) 0 ≡ Some 1
+  pub second : first_rise (map (model_shows input_and_negation) fs) 1 ≡ Some 0
+  pub third : first_rise (map (model_shows input_and_negation) fs) 2 ≡ None
 
-pub either_rises : (claims : List ℕ) (fs : List Frame) → IsTrace either (initial_words either (low_then_high claims)) (given_frames either (low_then_high claims)) fs → EitherRises fs
+pub either_rises : (claims : List ℕ) (fs : List Frame) → IsTrace input_and_negation (initial_words input_and_negation (low_then_high claims)) (given_frames input_and_negation (low_then_high claims)) fs → EitherRises fs
 either_rises claims [] t = absurd t
 either_rises claims (f ∷ []) t = absurd t.1
 either_rises claims (f ∷ g ∷ []) t =

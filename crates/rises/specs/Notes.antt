@@ -5,8 +5,8 @@ use Rattle.btor2.specs.declared.item.Item.{Item}
 use Rattle.btor2.specs.Trace.{Frame}
 use Rattle.aiger.specs.Circuit.{Circuit}
 use Rattle.witness.specs.ClosedWords.{IsClosedTrace}
-use Rattle.witness.specs.WordStands.{StandsFor}
-use Rattle.witness.specs.BitStands.{StandsFor as StandsForBits}
+use Rattle.witness.specs.WordStands.{StandsForWitness}
+use Rattle.witness.specs.BitStands.{StandsForBits}
 use Rattle.rises.specs.FirstRises.{word_first_rises, AreBitFirstRises}
 use Rattle.rises.specs.declared.word_noter.WordNoter.{WordNoter}
 use Rattle.rises.specs.declared.bit_noter.BitNoter.{BitNoter}
@@ -29,7 +29,7 @@ IsNoted reached frame before after = (k : ℕ) → slice_get after k ≡ option_
 
 -- what is held is of a text over a model: the judge stands for it, and what is noted are its first rises
 pub record NotesWords (items : List Item) (n : WordNoter) (text : List ℕ) : Type 0 where
-  pub judge : StandsFor items n.judge text
+  pub judge : StandsForWitness items n.judge text
   pub firsts : (fs : List Frame) → IsClosedTrace items text fs → n.firsts ≡ word_first_rises items text fs
 
 -- the same over a circuit, where notes are taken; and where none are, the judge stands for it

@@ -8,8 +8,8 @@ use Rattle.aiger.specs.Circuit.{Circuit}
 use Rattle.witness.specs.Worked.{one_input}
 
 -- an input of one bit and its negation: the first bad property is 1 where the input is, the second where it is not, and the third nowhere
-abbrev pub either : List Item
-either =
+abbrev pub input_and_negation : List Item
+input_and_negation =
     line 1 (body.Sort 1)
     ∷ line 2 (body.Input 1)
     ∷ line 3 (body.Unary unary.Not 1 2)

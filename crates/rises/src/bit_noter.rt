@@ -6,7 +6,7 @@ ghost use Rattle.aiger.specs.Circuit.{Circuit};
 ghost use Rattle.witness.specs.BitAdmits.{admitted_lines};
 ghost use Rattle.witness.specs.BitJudgements.{BitJudges};
 ghost use Rattle.witness.specs.Reached.{IsClosedBitTrace, bit_reached};
-ghost use Rattle.witness.specs.BitStands.{StandsFor};
+ghost use Rattle.witness.specs.BitStands.{StandsForBits};
 ghost use Rattle.rises.specs.FirstRises.{AreBitFirstRises};
 ghost use Rattle.rises.specs.Notes.{EndsLine, IsNoted, NotesBits};
 
@@ -29,7 +29,7 @@ pub struct BitNoter<'a> {
 
 /// Notes the frame that was closed last of each claim that is reached and had none.
 fn note(judge: &BitJudge<'_>, firsts: &mut FirstRises, frame: u64)
-    ensures { (c : Circuit) (text : List ℕ) (vs : List Valuation) → StandsFor c judge.now text → IsClosedBitTrace c text vs → IsNoted (bit_reached c text vs) frame firsts.old firsts.new }
+    ensures { (c : Circuit) (text : List ℕ) (vs : List Valuation) → StandsForBits c judge.now text → IsClosedBitTrace c text vs → IsNoted (bit_reached c text vs) frame firsts.old firsts.new }
 {
     for position in 0..firsts.len() {
         firsts.note(position, judge.has_reached(position), frame);

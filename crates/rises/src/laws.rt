@@ -4,7 +4,7 @@ ghost use Rattle.btor2.specs.declared.item.Item.{Item};
 ghost use Rattle.btor2.specs.Items.{is_bad};
 ghost use Rattle.btor2.specs.Check.{IsWellFormed};
 ghost use Rattle.btor2.specs.Trace.{Frame};
-ghost use Rattle.btor2.specs.Worked.{counter, toggler};
+ghost use Rattle.btor2.specs.Worked.{counter, toggler_model};
 ghost use Rattle.base.specs.Literal.{Valuation};
 ghost use Rattle.aiger.specs.Circuit.{Circuit, IsCircuit};
 ghost use Rattle.witness.specs.declared.judgement.Judgement.TheVariants as judgement;
@@ -14,7 +14,7 @@ ghost use Rattle.witness.specs.ClosedWords.{IsClosedTrace};
 ghost use Rattle.witness.specs.BitJudgements.{BitJudges};
 ghost use Rattle.witness.specs.Reached.{word_claimed, IsClosedBitTrace, bit_claimed};
 ghost use Rattle.rises.specs.FirstRises.{word_first_rises, bit_first_rises};
-ghost use Rattle.rises.specs.Worked.{either, either_input};
+ghost use Rattle.rises.specs.Worked.{input_and_negation, either_input};
 
 /// A law: where a text over a well-formed model is accepted, each bad property that it claims is there and rises first in one
 /// of its frames; whatever is judged, none is told to rise that is not claimed.
@@ -56,22 +56,22 @@ pub fn exactly_one_bit_list()
 pub fn worked_counters()
     ensures counts { (fs : List Frame) → IsClosedTrace counter (codes "sat\nb0\n@0\n@1\n@2\n@3\n@4\n@5\n@6\n@7\n.\n") fs
         → word_first_rises counter (codes "sat\nb0\n@0\n@1\n@2\n@3\n@4\n@5\n@6\n@7\n.\n") fs ≡ Some 3 ∷ [] }
-    ensures toggles { (fs : List Frame) → IsClosedTrace toggler (codes "sat\nb0\n@0\n@1\n.\n") fs
-        → word_first_rises toggler (codes "sat\nb0\n@0\n@1\n.\n") fs ≡ Some 1 ∷ [] }
-    ensures cut { (fs : List Frame) → IsClosedTrace toggler (codes "sat\nb0\n@0\n@1\n@3\n") fs
-        → word_first_rises toggler (codes "sat\nb0\n@0\n@1\n@3\n") fs ≡ None ∷ [] }
-    ensures no_claim { (fs : List Frame) → IsClosedTrace toggler (codes "unsat\n") fs → word_first_rises toggler (codes "unsat\n") fs ≡ None ∷ [] }
+    ensures toggles { (fs : List Frame) → IsClosedTrace toggler_model (codes "sat\nb0\n@0\n@1\n.\n") fs
+        → word_first_rises toggler_model (codes "sat\nb0\n@0\n@1\n.\n") fs ≡ Some 1 ∷ [] }
+    ensures cut { (fs : List Frame) → IsClosedTrace toggler_model (codes "sat\nb0\n@0\n@1\n@3\n") fs
+        → word_first_rises toggler_model (codes "sat\nb0\n@0\n@1\n@3\n") fs ≡ None ∷ [] }
+    ensures no_claim { (fs : List Frame) → IsClosedTrace toggler_model (codes "unsat\n") fs → word_first_rises toggler_model (codes "unsat\n") fs ≡ None ∷ [] }
 {}
 
 /// Worked rows: over a model where the first bad property is an input, the second its negation, and the third is never 1,
 /// claims that rise in different frames, one that never does, and bad properties that are not claimed.
 pub fn worked_claims()
-    ensures all { (fs : List Frame) → IsClosedTrace either (codes "sat\nb0 b1 b2\n@0\n0 0\n@1\n0 1\n.\n") fs
-        → word_first_rises either (codes "sat\nb0 b1 b2\n@0\n0 0\n@1\n0 1\n.\n") fs ≡ Some 1 ∷ Some 0 ∷ None ∷ [] }
-    ensures first { (fs : List Frame) → IsClosedTrace either (codes "sat\nb0\n@0\n0 0\n@1\n0 1\n.\n") fs
-        → word_first_rises either (codes "sat\nb0\n@0\n0 0\n@1\n0 1\n.\n") fs ≡ Some 1 ∷ None ∷ None ∷ [] }
-    ensures second { (fs : List Frame) → IsClosedTrace either (codes "sat\nb2 b1\n@0\n0 0\n@1\n0 1\n.\n") fs
-        → word_first_rises either (codes "sat\nb2 b1\n@0\n0 0\n@1\n0 1\n.\n") fs ≡ None ∷ Some 0 ∷ None ∷ [] }
+    ensures all { (fs : List Frame) → IsClosedTrace input_and_negation (codes "sat\nb0 b1 b2\n@0\n0 0\n@1\n0 1\n.\n") fs
+        → word_first_rises input_and_negation (codes "sat\nb0 b1 b2\n@0\n0 0\n@1\n0 1\n.\n") fs ≡ Some 1 ∷ Some 0 ∷ None ∷ [] }
+    ensures first { (fs : List Frame) → IsClosedTrace input_and_negation (codes "sat\nb0\n@0\n0 0\n@1\n0 1\n.\n") fs
+        → word_first_rises input_and_negation (codes "sat\nb0\n@0\n0 0\n@1\n0 1\n.\n") fs ≡ Some 1 ∷ None ∷ None ∷ [] }
+    ensures second { (fs : List Frame) → IsClosedTrace input_and_negation (codes "sat\nb2 b1\n@0\n0 0\n@1\n0 1\n.\n") fs
+        → word_first_rises input_and_negation (codes "sat\nb2 b1\n@0\n0 0\n@1\n0 1\n.\n") fs ≡ None ∷ Some 0 ∷ None ∷ [] }
 {}
 
 /// Worked rows: over a circuit where the first bad property is an input, and the second its negation, the claim that rises

@@ -8,7 +8,7 @@ ghost use Rattle.runs.specs.Refusal.{AnswersNew};
 ghost use Rattle.witness.specs.Judgements.{Judges};
 ghost use Rattle.witness.specs.ClosedWords.{IsClosedTrace};
 ghost use Rattle.witness.specs.Reached.{word_reached};
-ghost use Rattle.witness.specs.WordStands.{StandsFor};
+ghost use Rattle.witness.specs.WordStands.{StandsForWitness};
 ghost use Rattle.rises.specs.FirstRises.{word_first_rises};
 ghost use Rattle.rises.specs.Notes.{EndsLine, IsNoted, NotesWords};
 
@@ -29,7 +29,7 @@ pub(crate) struct WordNoter<'a> {
 
 /// Notes the frame that was closed last of each claim that is reached and had none.
 fn note(judge: &WordJudge<'_>, firsts: &mut FirstRises, frame: u64)
-    ensures { (items : List Item) (text : List ℕ) (fs : List Frame) → StandsFor items judge.now text → IsClosedTrace items text fs → IsNoted (word_reached items text fs) frame firsts.old firsts.new }
+    ensures { (items : List Item) (text : List ℕ) (fs : List Frame) → StandsForWitness items judge.now text → IsClosedTrace items text fs → IsNoted (word_reached items text fs) frame firsts.old firsts.new }
 {
     for position in 0..firsts.len() {
         firsts.note(position, judge.has_reached(position), frame);

@@ -12,7 +12,7 @@ use Rattle.btor2.proofs.ModelLemmas.{IsNextOf-from_value}
 use Rattle.btor2.proofs.TraceLemmas.{frame_exists}
 use Rattle.runs.specs.declared.nodes.Node.{Node}
 use Rattle.btor2.specs.Lists.{of_kind}
-use Rattle.runs.specs.Frames.{has_value, is_leaf, is_constant, ids_of, rank, given, given_leaves}
+use Rattle.runs.specs.Frames.{has_value, is_leaf, is_constant, ids_of, kind_rank, given_at, given_leaves}
 use Rattle.runs.specs.Run.{zeros}
 use Rattle.runs.specs.Nodes.{slot, words_at, word_where, IsInside}
 use Rattle.runs.specs.Holds.{next_slot, LeavesFit, ConstantsStand, HoldsFrame, Keeps}
@@ -23,10 +23,10 @@ use Rattle.runs.proofs.InvariantLemmas.{leaf-nth, slot-nth, slots-once, slots-ap
 
 -- the place of an item of a kind among its slots
 pub slot-own : (test : Body → Bool) (items : List Item) (id : ℕ) (y : Item) → find_item items id ≡ Some y → test y.body ≡ true
-    → (rank test items id < length (slots_of test items)) × (get_or (slots_of test items) (rank test items id) 0 ≡ slot items id)
+    → (kind_rank test items id < length (slots_of test items)) × (get_or (slots_of test items) (kind_rank test items id) 0 ≡ slot items id)
 slot-own test items id y found is =
-    let inside : rank test items id < length (ids_of test items) = omega (arith, rank-below test items id y found is, length-ids test items) in
-    (omega (arith, length-slots_of test items), slot-nth test items (rank test items id) inside ∙ ap (slot items) (ids-rank test items id y found is))
+    let inside : kind_rank test items id < length (ids_of test items) = omega (arith, rank-below test items id y found is, length-ids test items) in
+    (omega (arith, length-slots_of test items), slot-nth test items (kind_rank test items id) inside ∙ ap (slot items) (ids-rank test items id y found is))
 
 -- slots are places of now-values
 pub slots-inside : (test : Body → Bool) (items : List Item) (n : ℕ) → IsWellFormed items → ((b : Body) → test b ≡ true → is_leaf b ≡ true) → n ≡ length (of_kind has_value items) → All (λ p. p < n) (slots_of test items)
@@ -94,7 +94,7 @@ next_state-fits items f id w fits = by (next_value items id) refl
 
 pub record AfterAdvance (items : List Item) (nodes : List Node) (slots states inputs : List ℕ) (nexts : List (Option ℕ)) (bads constraints values next_values values' : List ℕ) : Type 0 where
   pub keeps : Keeps items nodes slots states inputs nexts bads constraints values' next_values false
-  pub next_words : (f : Frame) → IsFrame items (given is_state items (words_at values states)) (given_leaves items (words_at values states) (words_at values inputs)) f → words_at values' states ≡ map (next_state items f) (ids_of is_state items)
+  pub next_words : (f : Frame) → IsFrame items (given_at is_state items (words_at values states)) (given_leaves items (words_at values states) (words_at values inputs)) f → words_at values' states ≡ map (next_state items f) (ids_of is_state items)
   pub no_inputs : words_at values' inputs ≡ zeros items
 
 module _ (items : List Item) (nodes : List Node) (slots states inputs : List ℕ) (nexts : List (Option ℕ)) (bads constraints values next_values : List ℕ) (settled : Bool) (k : Keeps items nodes slots states inputs nexts bads constraints values next_values settled)
@@ -133,7 +133,7 @@ module _ (items : List Item) (nodes : List Node) (slots states inputs : List ℕ
       state_moved : (id : ℕ) (y : Item) → find_item items id ≡ Some y → is_state y.body ≡ true → get_or cleared (slot items id) 0 ≡ word_where values (next_slot items id)
       state_moved id y found is =
           let at = slot-own is_state items id y found is in
-          let r = rank is_state items id in
+          let r = kind_rank is_state items id in
           let own : get_or states r 0 ≡ slot items id = ap (λ (l : List ℕ). get_or l r 0) k.are_states ∙ at.1 in
           let inside : r < length states = omega (arith, at.0, ap length k.are_states) in
           let there : r < length (ids_of is_state items) = omega (arith, at.0, length-slots_of is_state items) in
@@ -149,12 +149,12 @@ module _ (items : List Item) (nodes : List Node) (slots states inputs : List ℕ
       input_cleared : (id : ℕ) (y : Item) → find_item items id ≡ Some y → is_input y.body ≡ true → get_or cleared (slot items id) 0 ≡ 0
       input_cleared id y found is =
           let at = slot-own is_input items id y found is in
-          let r = rank is_input items id in
+          let r = kind_rank is_input items id in
           let own : get_or inputs r 0 ≡ slot items id = ap (λ (l : List ℕ). get_or l r 0) k.are_inputs ∙ at.1 in
           ap (λ (p : ℕ). get_or cleared p 0) (sym own) ∙ clear_words r (omega (arith, at.0, ap length k.are_inputs))
 
       -- in the run's frame it is the word that the state has next
-      state_next : (f : Frame) → IsFrame items (given is_state items (words_at values states)) (given_leaves items (words_at values states) (words_at values inputs)) f → (id : ℕ) (y : Item) → find_item items id ≡ Some y → is_state y.body ≡ true
+      state_next : (f : Frame) → IsFrame items (given_at is_state items (words_at values states)) (given_leaves items (words_at values states) (words_at values inputs)) f → (id : ℕ) (y : Item) → find_item items id ≡ Some y → is_state y.body ≡ true
           → get_or cleared (slot items id) 0 ≡ next_state items f id
       state_next f frame id y found is = state_moved id y found is ∙ next_slot-word items values f id k.well_formed (k.frame done f frame)
 
@@ -162,8 +162,8 @@ module _ (items : List Item) (nodes : List Node) (slots states inputs : List ℕ
       leaves_fit id y found leaf =
           leaf_cases (get_or cleared (slot items id) 0 < 2 ^ bits_of items id) y.body leaf
           (λ is.
-          let some = frame_exists items (given is_state items (words_at values (slots_of is_state items))) (given_leaves items (words_at values (slots_of is_state items)) (words_at values (slots_of is_input items))) k.well_formed in
-          let frame : IsFrame items (given is_state items (words_at values states)) (given_leaves items (words_at values states) (words_at values inputs)) some.0 = rw (k.are_states, k.are_inputs) some.1 in
+          let some = frame_exists items (given_at is_state items (words_at values (slots_of is_state items))) (given_leaves items (words_at values (slots_of is_state items)) (words_at values (slots_of is_input items))) k.well_formed in
+          let frame : IsFrame items (given_at is_state items (words_at values states)) (given_leaves items (words_at values states) (words_at values inputs)) some.0 = rw (k.are_states, k.are_inputs) some.1 in
           subst (λ (w : ℕ). w < 2 ^ bits_of items id) (sym (state_next some.0 frame id y found is)) (next_state-fits items some.0 id k.well_formed (frame_fits items k.well_formed values k.many_nodes k.leaves some.0 some.1)))
           (λ is. subst (λ (w : ℕ). w < 2 ^ bits_of items id) (sym (input_cleared id y found is)) (pow_pos (bits_of items id)))
 

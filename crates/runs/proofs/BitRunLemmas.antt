@@ -4,11 +4,11 @@ use Rattle.std.proofs.lemmas.List.{length-map, length-set, length-replicate, get
 use Rattle.aiger.specs.declared.circuit.Latch.{Latch}
 use Rattle.aiger.specs.declared.circuit.Reset.TheVariants.{Zero}
 use Rattle.base.specs.Literal.{Valuation, variable, literal_value}
-use Rattle.aiger.specs.Net.{variables, IsDefined, SatisfiesFrom, input_bits, latch_bits}
+use Rattle.aiger.specs.Net.{variables, IsDefined, SatisfiesFrom, net_input_bits, latch_bits}
 use Rattle.aiger.specs.Circuit.{Circuit, IsCircuit, net}
-use Rattle.aiger.specs.Trace.{IsFrame, SameFrame, next_state}
+use Rattle.aiger.specs.Trace.{IsCircuitFrame, SameCircuitFrame, next_latch_bits}
 use Rattle.aiger.proofs.TraceLemmas.{literal_value-agree, bits_from-agree, SameFrame-from_bits}
-use Rattle.runs.specs.CircuitRun.{CircuitRun, first_bit, first_bits, no_inputs}
+use Rattle.runs.specs.CircuitRun.{CircuitRun, reset_bit, reset_bits, no_inputs}
 use Rattle.runs.specs.CircuitHolds.{valuation_of, KeepsBits}
 use Rattle.runs.proofs.BitPassLemmas.{bits_from-is, bits_from-set}
 
@@ -22,7 +22,7 @@ abbrev pub latches_in : Circuit → List Bool → List Bool
 latches_in c bits = latch_bits (net c) (valuation_of bits)
 
 abbrev pub inputs_in : Circuit → List Bool → List Bool
-inputs_in c bits = input_bits (net c) (valuation_of bits)
+inputs_in c bits = net_input_bits (net c) (valuation_of bits)
 
 pub inputs_agree : (c : Circuit) (bits bits' : List Bool) → ((p : ℕ) → 1 ≤ p → p ≤ c.inputs → valuation_of bits' p ≡ valuation_of bits p) → inputs_in c bits' ≡ inputs_in c bits
 inputs_agree c bits bits' same = bits_from-agree 1 c.inputs (valuation_of bits') (valuation_of bits) (λ p low high. same p low (omega arith))
@@ -39,10 +39,10 @@ module _ (c : Circuit) (bits next_bits : List Bool) (settled : Bool) (k : KeepsB
   nexts_inside j d h = defined_inside _ (k.valid.defined.nexts j d h)
 
   -- its bit is that of the frame that the run is in
-  pub literal_now : settled ≡ true → (v : Valuation) → IsFrame c (latches_in c bits) (inputs_in c bits) v → (l : ℕ) → IsDefined (net c) l → literal_value (valuation_of bits) l ≡ literal_value v l
+  pub literal_now : settled ≡ true → (v : Valuation) → IsCircuitFrame c (latches_in c bits) (inputs_in c bits) v → (l : ℕ) → IsDefined (net c) l → literal_value (valuation_of bits) l ≡ literal_value v l
   literal_now done v frame l d =
-      let own : IsFrame c (latches_in c bits) (inputs_in c bits) (valuation_of bits) = record { gates = k.gates done; inputs = refl; latches = refl } in
-      let same : SameFrame c (valuation_of bits) v = SameFrame-from_bits c (latches_in c bits) (inputs_in c bits) (valuation_of bits) v k.valid own frame in
+      let own : IsCircuitFrame c (latches_in c bits) (inputs_in c bits) (valuation_of bits) = record { gates = k.gates done; inputs = refl; latches = refl } in
+      let same : SameCircuitFrame c (valuation_of bits) v = SameFrame-from_bits c (latches_in c bits) (inputs_in c bits) (valuation_of bits) v k.valid own frame in
       literal_value-agree (suc (variables (net c))) (valuation_of bits) v l (λ p low high. same p low (omega arith)) (omega arith)
 
   -- a bit set for a latch, or for an input
@@ -102,7 +102,7 @@ module _ (c : Circuit) (bits next_bits : List Bool) (settled : Bool) (k : KeepsB
   -- the latches moved and the inputs cleared: `put` are the bits between
   pub record AfterAdvance (next_bits' bits' : List Bool) : Type 0 where
     pub keeps : KeepsBits c bits' next_bits' false
-    pub latches : (v : Valuation) → IsFrame c (latches_in c bits) (inputs_in c bits) v → latches_in c bits' ≡ next_state c v
+    pub latches : (v : Valuation) → IsCircuitFrame c (latches_in c bits) (inputs_in c bits) v → latches_in c bits' ≡ next_latch_bits c v
     pub inputs : inputs_in c bits' ≡ no_inputs c
 
   pub advance_keeps : settled ≡ true → (next_bits' put bits' : List Bool) (first : ℕ) → first ≡ 1 + c.inputs
@@ -120,7 +120,7 @@ module _ (c : Circuit) (bits next_bits : List Bool) (settled : Bool) (k : KeepsB
           gates = λ e. absurd (cc);
         };
         latches = λ v frame.
-            bits_from-is (suc c.inputs) (length c.latches) (valuation_of bits') (next_state c v) (length-map c.latches (λ (l : Latch). literal_value v l.next)) (λ j within.
+            bits_from-is (suc c.inputs) (length c.latches) (valuation_of bits') (next_latch_bits c v) (length-map c.latches (λ (l : Latch). literal_value v l.next)) (λ j within.
             let d : Latch = get_or c.latches j (record { next = 0; reset = Zero }) in
             let same : suc c.inputs + j ≡ first + j = omega arith in
             others (suc c.inputs + j) (omega arith) ∙ ap (valuation_of put) same ∙ puts j (omega (arith, as_many, k.many_latches)) ∙ taken j d within
@@ -132,11 +132,11 @@ module _ (c : Circuit) (bits next_bits : List Bool) (settled : Bool) (k : KeepsB
 -- The bits of a new run: 0 each, and then those of the resets.
 pub record Starts (c : Circuit) (next_bits bits : List Bool) : Type 0 where
   pub keeps : KeepsBits c bits next_bits false
-  pub latches : latches_in c bits ≡ first_bits c.latches
+  pub latches : latches_in c bits ≡ reset_bits c.latches
   pub inputs : inputs_in c bits ≡ no_inputs c
 
 pub starts : (c : Circuit) (blank next_bits bits : List Bool) (first : ℕ) → IsCircuit c → first ≡ 1 + c.inputs → blank ≡ replicate (variables (net c) + 1) false
-    → ((j : ℕ) (d : Latch) → j < length c.latches → get_or next_bits j false ≡ first_bit (get_or c.latches j d).reset) → length next_bits ≡ length c.latches
+    → ((j : ℕ) (d : Latch) → j < length c.latches → get_or next_bits j false ≡ reset_bit (get_or c.latches j d).reset) → length next_bits ≡ length c.latches
     → ((j : ℕ) → j < length next_bits → get_or bits (first + j) false ≡ get_or next_bits j false) → ((p : ℕ) → p < first → get_or bits p false ≡ get_or blank p false) → length bits ≡ length blank → Starts c next_bits bits
 starts c blank next_bits bits first valid at are_false taken as_many puts below many =
     let are_zero : (p : ℕ) → p < first → get_or bits p false ≡ false =
@@ -149,9 +149,9 @@ starts c blank next_bits bits first valid at are_false taken as_many puts below 
         constant = are_zero 0 (omega arith);
         gates = λ e. absurd (cc);
       };
-      latches = bits_from-is (suc c.inputs) (length c.latches) (valuation_of bits) (first_bits c.latches) (length-map c.latches (λ (l : Latch). first_bit l.reset)) (λ j within.
+      latches = bits_from-is (suc c.inputs) (length c.latches) (valuation_of bits) (reset_bits c.latches) (length-map c.latches (λ (l : Latch). reset_bit l.reset)) (λ j within.
           let d : Latch = get_or c.latches j (record { next = 0; reset = Zero }) in
           let same : suc c.inputs + j ≡ first + j = omega arith in
-          ap (valuation_of bits) same ∙ puts j (omega (arith, as_many)) ∙ taken j d within ∙ sym (get_or-map (λ (l : Latch). first_bit l.reset) c.latches j d false within));
+          ap (valuation_of bits) same ∙ puts j (omega (arith, as_many)) ∙ taken j d within ∙ sym (get_or-map (λ (l : Latch). reset_bit l.reset) c.latches j d false within));
       inputs = bits_from-is 1 c.inputs (valuation_of bits) (no_inputs c) (length-replicate c.inputs false) (λ j within. are_zero (1 + j) (omega arith) ∙ sym (get_or-replicate c.inputs j false false within));
     }

@@ -9,14 +9,14 @@ use Rattle.btor2.specs.Items.{find_item, is_state, is_input, is_free}
 use Rattle.btor2.specs.Check.{IsWellFormed}
 use Rattle.btor2.specs.Trace.{Frame, state_word, LineHolds, LinesHold, IsFrame}
 use Rattle.btor2.proofs.ModelLemmas.{IsIn, find_item-in}
-use Rattle.runs.specs.Frames.{is_leaf, ids_of, rank, given, given_leaves}
+use Rattle.runs.specs.Frames.{is_leaf, ids_of, kind_rank, given_at, given_leaves}
 use Rattle.runs.proofs.RankLemmas.{rank-below, ids-rank, length-ids, state_leaf, input_leaf, either_word}
 use Rattle.runs.proofs.InvariantLemmas.{leaf-nth}
 
-pub given-map : (test : Body → Bool) (items : List Item) (g : Frame) (id : ℕ) (x : Item) → find_item items id ≡ Some x → test x.body ≡ true → given test items (map g (ids_of test items)) id ≡ g id
+pub given-map : (test : Body → Bool) (items : List Item) (g : Frame) (id : ℕ) (x : Item) → find_item items id ≡ Some x → test x.body ≡ true → given_at test items (map g (ids_of test items)) id ≡ g id
 given-map test items g id x found is =
-    let inside : rank test items id < length (ids_of test items) = omega (arith, rank-below test items id x found is, length-ids test items) in
-    get_or-map g (ids_of test items) (rank test items id) 0 0 inside ∙ ap g (ids-rank test items id x found is)
+    let inside : kind_rank test items id < length (ids_of test items) = omega (arith, rank-below test items id x found is, length-ids test items) in
+    get_or-map g (ids_of test items) (kind_rank test items id) 0 0 inside ∙ ap g (ids-rank test items id x found is)
 
 -- a line says the same from other words that it has in common
 line_given : (items : List Item) (state state' input input' f : Frame) (id : ℕ) (b : Body) → (is_state b ≡ true → state_word items state input id ≡ state_word items state' input' id) → (is_input b ≡ true → input id ≡ input' id)
@@ -36,7 +36,7 @@ lines_given items state state' input input' f before (x ∷ xs) e of_states of_i
 
 module _ (items : List Item) (state input f : Frame) (w : IsWellFormed items) where
   abbrev pub states_given : Frame
-  states_given = given is_state items (map (state_word items state input) (ids_of is_state items))
+  states_given = given_at is_state items (map (state_word items state input) (ids_of is_state items))
 
   abbrev pub leaves_given : Frame
   leaves_given = given_leaves items (map (state_word items state input) (ids_of is_state items)) (map input (ids_of is_input items))
@@ -77,6 +77,6 @@ set-map test items g k word leaf w h =
     let a = leaf-nth test items j w leaf inside in
     let b = leaf-nth test items k w leaf h in
     let other : nat_eq (get_or (ids_of test items) j 0) (get_or (ids_of test items) k 0) ≡ false =
-    ne_eqb (get_or (ids_of test items) j 0) (get_or (ids_of test items) k 0) (λ same. ne (sym a.own_rank ∙ ap (rank test items) same ∙ b.own_rank)) in
+    ne_eqb (get_or (ids_of test items) j 0) (get_or (ids_of test items) k 0) (λ same. ne (sym a.own_rank ∙ ap (kind_rank test items) same ∙ b.own_rank)) in
     get_or-set_other (map g (ids_of test items)) k j word 0 ne ∙ get_or-map g (ids_of test items) j 0 0 inside ∙ sym (read ∙ ap (λ (b : Bool). cond b word (g (get_or (ids_of test items) j 0))) other))
     (cases_eq j k))

@@ -12,9 +12,9 @@ use Rattle.btor2.specs.Trace.{Frame, bits_of, IsFrame}
 use Rattle.btor2.proofs.AppendLemmas.{some_of}
 use Rattle.btor2.proofs.ModelLemmas.{node_width-at}
 use Rattle.runs.specs.declared.nodes.Node.{Node}
-use Rattle.runs.specs.Frames.{has_value, is_leaf, ids_of, rank, given, given_leaves}
+use Rattle.runs.specs.Frames.{has_value, is_leaf, ids_of, kind_rank, given_at, given_leaves}
 use Rattle.runs.specs.Run.{Run}
-use Rattle.runs.specs.Nodes.{slot, nodes_of, words_at, NodesFit, settled_values}
+use Rattle.runs.specs.Nodes.{slot, run_nodes, words_at, NodesFit, settled_values}
 use Rattle.runs.specs.Holds.{LeavesFit, ConstantsStand, Keeps}
 use Rattle.runs.proofs.RankLemmas.{state_is_leaf, input_is_leaf, leaf_has_value, no_state_is_input, rank-below, slot-one, constant_apart, nth, nth-found, nth-rank, length-ids, length-places}
 use Rattle.runs.proofs.PlaceLemmas.{width_there}
@@ -29,7 +29,7 @@ run_same items states states' inputs inputs' settled steps steps' e d h = rw (e,
 
 -- the frame of words of the states and of the inputs
 abbrev FrameOf : List Item → List ℕ → List ℕ → Frame → Type 0
-FrameOf items states inputs f = IsFrame items (given is_state items states) (given_leaves items states inputs) f
+FrameOf items states inputs f = IsFrame items (given_at is_state items states) (given_leaves items states inputs) f
 
 -- Settling.
 
@@ -47,7 +47,7 @@ module _ (items : List Item) (nodes : List Node) (slots states inputs : List ℕ
 
   pub settle_keeps : (values' : List ℕ) → values' ≡ settled_values nodes values → AfterSettle items nodes slots states inputs nexts bads constraints values next_values values'
   settle_keeps values' v =
-      let own : values' ≡ settled_values (nodes_of items items) values = v ∙ ap (λ (ns : List Node). settled_values ns values) k.are_nodes in
+      let own : values' ≡ settled_values (run_nodes items items) values = v ∙ ap (λ (ns : List Node). settled_values ns values) k.are_nodes in
       let of_states : words_at values' states ≡ words_at values states = rw (own, k.are_states) (pass_words items k.well_formed values k.many_nodes k.leaves k.constants is_state state_is_leaf) in
       let of_inputs : words_at values' inputs ≡ words_at values inputs = rw (own, k.are_inputs) (pass_words items k.well_formed values k.many_nodes k.leaves k.constants is_input input_is_leaf) in
       record {
@@ -87,7 +87,7 @@ pub record Leaf (test : Body → Bool) (items : List Item) (k id : ℕ) : Type 0
   pub found : find_item items id ≡ Some item
   pub is : test item.body ≡ true
   pub has : has_value item.body ≡ true
-  pub own_rank : rank test items id ≡ k
+  pub own_rank : kind_rank test items id ≡ k
   pub inside : slot items id < length (of_kind has_value items)
 
 pub leaf-nth : (test : Body → Bool) (items : List Item) (k : ℕ) → IsWellFormed items → ((b : Body) → test b ≡ true → is_leaf b ≡ true) → k < length (ids_of test items)
@@ -112,7 +112,7 @@ slots-once test items i j w leaf h l e =
     let a = leaf-nth test items i w leaf h in
     let b = leaf-nth test items j w leaf l in
     let same = slot-one items _ _ a.item b.item a.found a.has b.found b.has (sym (slot-nth test items i h) ∙ e ∙ slot-nth test items j l) in
-    sym a.own_rank ∙ ap (rank test items) same ∙ b.own_rank
+    sym a.own_rank ∙ ap (kind_rank test items) same ∙ b.own_rank
 
 -- and those of states and inputs are apart
 pub slots-apart : (items : List Item) (i j : ℕ) → IsWellFormed items → i < length (ids_of is_state items) → j < length (ids_of is_input items) → get_or (slots_of is_state items) i 0 ≡ get_or (slots_of is_input items) j 0 → ⊥

@@ -9,7 +9,7 @@ use Rattle.btor2.specs.Items.{find_item, is_input, is_state, names_state}
 use Rattle.btor2.specs.Check.{IsWellFormed}
 use Rattle.btor2.specs.Lists.{places, of_kind}
 use Rattle.btor2.proofs.ModelLemmas.{IsIn, IsAccepted-at, find_item-in}
-use Rattle.runs.specs.Frames.{has_value, is_leaf, is_constant, ids_of, rank, given, given_leaves}
+use Rattle.runs.specs.Frames.{has_value, is_leaf, is_constant, ids_of, kind_rank, given_at, given_leaves}
 use Rattle.runs.specs.Nodes.{slot, words_at}
 
 -- what a kind's leaves are
@@ -67,50 +67,50 @@ more_found true n id y ys e = e
 more_found false n id y ys e = e
 
 -- an item whose id none before it has stands behind all of its kind before it
-pub rank-own : (test : Body → Bool) (before after : List Item) (x : Item) → find_item before x.id ≡ None → rank test (before ++ x ∷ after) x.id ≡ length (of_kind test before)
+pub rank-own : (test : Body → Bool) (before after : List Item) (x : Item) → find_item before x.id ≡ None → kind_rank test (before ++ x ∷ after) x.id ≡ length (of_kind test before)
 rank-own test [] after x h = rw (eq-eqb x.id x.id refl) refl
 rank-own test (y ∷ ys) after x h =
     elim (nat_eq x.id y.id)
     as (λ b. cond b (Some y) (find_item ys x.id) ≡ None
-    → cond b 0 (cond (test y.body) (suc (rank test (ys ++ x ∷ after) x.id)) (rank test (ys ++ x ∷ after) x.id)) ≡ length (cond (test y.body) (y ∷ of_kind test ys) (of_kind test ys))) [
+    → cond b 0 (cond (test y.body) (suc (kind_rank test (ys ++ x ∷ after) x.id)) (kind_rank test (ys ++ x ∷ after) x.id)) ≡ length (cond (test y.body) (y ∷ of_kind test ys) (of_kind test ys))) [
       | true ↦ λ e. absurd (none-some y (sym e))
-      | false ↦ λ e. more_length (test y.body) (rank test (ys ++ x ∷ after) x.id) y (of_kind test ys) (rank-own test ys after x e)
+      | false ↦ λ e. more_length (test y.body) (kind_rank test (ys ++ x ∷ after) x.id) y (of_kind test ys) (rank-own test ys after x e)
     ] h
 
 -- items behind it do not count
-pub rank-append : (test : Body → Bool) (before more : List Item) (id : ℕ) (y : Item) → find_item before id ≡ Some y → rank test (before ++ more) id ≡ rank test before id
+pub rank-append : (test : Body → Bool) (before more : List Item) (id : ℕ) (y : Item) → find_item before id ≡ Some y → kind_rank test (before ++ more) id ≡ kind_rank test before id
 rank-append test [] more id y h = absurd (none-some y h)
 rank-append test (x ∷ xs) more id y h =
     elim (nat_eq id x.id)
     as (λ b. cond b (Some x) (find_item xs id) ≡ Some y
-    → cond b 0 (cond (test x.body) (suc (rank test (xs ++ more) id)) (rank test (xs ++ more) id)) ≡ cond b 0 (cond (test x.body) (suc (rank test xs id)) (rank test xs id))) [
+    → cond b 0 (cond (test x.body) (suc (kind_rank test (xs ++ more) id)) (kind_rank test (xs ++ more) id)) ≡ cond b 0 (cond (test x.body) (suc (kind_rank test xs id)) (kind_rank test xs id))) [
       | true ↦ λ e. refl
       | false ↦ λ e. ap (λ (n : ℕ). cond (test x.body) (suc n) n) (rank-append test xs more id y e)
     ] h
 
 -- an item of the kind counts itself
-pub rank-below : (test : Body → Bool) (items : List Item) (id : ℕ) (y : Item) → find_item items id ≡ Some y → test y.body ≡ true → rank test items id < length (of_kind test items)
+pub rank-below : (test : Body → Bool) (items : List Item) (id : ℕ) (y : Item) → find_item items id ≡ Some y → test y.body ≡ true → kind_rank test items id < length (of_kind test items)
 rank-below test [] id y h is = absurd (none-some y h)
 rank-below test (x ∷ xs) id y h is =
     elim (nat_eq id x.id)
     as (λ b. cond b (Some x) (find_item xs id) ≡ Some y
-    → cond b 0 (cond (test x.body) (suc (rank test xs id)) (rank test xs id)) < length (cond (test x.body) (x ∷ of_kind test xs) (of_kind test xs))) [
+    → cond b 0 (cond (test x.body) (suc (kind_rank test xs id)) (kind_rank test xs id)) < length (cond (test x.body) (x ∷ of_kind test xs) (of_kind test xs))) [
       | true ↦ λ e. let own : test x.body ≡ true = ap (λ (z : Item). test z.body) (same_Some x y e) ∙ is in rw own (omega arith)
-      | false ↦ λ e. more_below (test x.body) (rank test xs id) x (of_kind test xs) (rank-below test xs id y e is)
+      | false ↦ λ e. more_below (test x.body) (kind_rank test xs id) x (of_kind test xs) (rank-below test xs id y e is)
     ] h
 
 -- and its id stands there among those of the kind
-pub ids-rank : (test : Body → Bool) (items : List Item) (id : ℕ) (y : Item) → find_item items id ≡ Some y → test y.body ≡ true → get_or (ids_of test items) (rank test items id) 0 ≡ id
+pub ids-rank : (test : Body → Bool) (items : List Item) (id : ℕ) (y : Item) → find_item items id ≡ Some y → test y.body ≡ true → get_or (ids_of test items) (kind_rank test items id) 0 ≡ id
 ids-rank test [] id y h is = absurd (none-some y h)
 ids-rank test (x ∷ xs) id y h is =
     here (λ e. ids-rank test xs id y e is) (nat_eq id x.id) refl h
   where
-    here : (find_item xs id ≡ Some y → get_or (ids_of test xs) (rank test xs id) 0 ≡ id) → (b : Bool) → nat_eq id x.id ≡ b → cond b (Some x) (find_item xs id) ≡ Some y
-        → get_or (map (λ (z : Item). z.id) (cond (test x.body) (x ∷ of_kind test xs) (of_kind test xs))) (cond b 0 (cond (test x.body) (suc (rank test xs id)) (rank test xs id))) 0 ≡ id
+    here : (find_item xs id ≡ Some y → get_or (ids_of test xs) (kind_rank test xs id) 0 ≡ id) → (b : Bool) → nat_eq id x.id ≡ b → cond b (Some x) (find_item xs id) ≡ Some y
+        → get_or (map (λ (z : Item). z.id) (cond (test x.body) (x ∷ of_kind test xs) (of_kind test xs))) (cond b 0 (cond (test x.body) (suc (kind_rank test xs id)) (kind_rank test xs id))) 0 ≡ id
     here behind true same e =
         let own : test x.body ≡ true = ap (λ (z : Item). test z.body) (same_Some x y e) ∙ is in
         rw own (sym (eqb-true id x.id same))
-    here behind false other e = more_found (test x.body) (rank test xs id) id x (of_kind test xs) (behind e)
+    here behind false other e = more_found (test x.body) (kind_rank test xs id) id x (of_kind test xs) (behind e)
 
 -- nodes with one place are one
 pub slot-one : (items : List Item) (i j : ℕ) (x y : Item) → find_item items i ≡ Some x → has_value x.body ≡ true → find_item items j ≡ Some y → has_value y.body ≡ true
@@ -191,18 +191,18 @@ pub nth-found : (test : Body → Bool) (items : List Item) (k : ℕ) (x : Item) 
 nth-found test items k x w n = find_item-in items x w (nth-in test items k x n)
 
 -- a kind's k-th item is of rank k in it, and stands behind the nodes before it
-pub nth-rank : (test other : Body → Bool) (items : List Item) (k : ℕ) (x : Item) → IsWellFormed items → (n : IsNth test items k x) → rank other items x.id ≡ length (of_kind other n.before)
+pub nth-rank : (test other : Body → Bool) (items : List Item) (k : ℕ) (x : Item) → IsWellFormed items → (n : IsNth test items k x) → kind_rank other items x.id ≡ length (of_kind other n.before)
 nth-rank test other items k x w n =
-    ap (λ (l : List Item). rank other l x.id) n.splits ∙ rank-own other n.before n.after x (IsAccepted-at items x w (nth-in test items k x n)).fresh
+    ap (λ (l : List Item). kind_rank other l x.id) n.splits ∙ rank-own other n.before n.after x (IsAccepted-at items x w (nth-in test items k x n)).fresh
 
 -- the given word of an item is the one at its place
 pub given-at : (test : Body → Bool) (items : List Item) (values : List ℕ) (id : ℕ) (y : Item) → find_item items id ≡ Some y → test y.body ≡ true
-    → given test items (words_at values (map (slot items) (ids_of test items))) id ≡ get_or values (slot items id) 0
+    → given_at test items (words_at values (map (slot items) (ids_of test items))) id ≡ get_or values (slot items id) 0
 given-at test items values id y found is =
-    let below : rank test items id < length (ids_of test items) = omega (arith, rank-below test items id y found is, length-ids test items) in
-    let below' : rank test items id < length (map (slot items) (ids_of test items)) = omega (arith, length-map (ids_of test items) (slot items)) in
-    get_or-map (λ (k : ℕ). get_or values k 0) (map (slot items) (ids_of test items)) (rank test items id) 0 0 below'
-    ∙ ap (λ (k : ℕ). get_or values k 0) (get_or-map (slot items) (ids_of test items) (rank test items id) 0 0 below ∙ ap (slot items) (ids-rank test items id y found is))
+    let below : kind_rank test items id < length (ids_of test items) = omega (arith, rank-below test items id y found is, length-ids test items) in
+    let below' : kind_rank test items id < length (map (slot items) (ids_of test items)) = omega (arith, length-map (ids_of test items) (slot items)) in
+    get_or-map (λ (k : ℕ). get_or values k 0) (map (slot items) (ids_of test items)) (kind_rank test items id) 0 0 below'
+    ∙ ap (λ (k : ℕ). get_or values k 0) (get_or-map (slot items) (ids_of test items) (kind_rank test items id) 0 0 below ∙ ap (slot items) (ids-rank test items id y found is))
 
 -- what is found as a state is named as one, and what is found as an input is not
 not_state : (b : Body) → is_input b ≡ true → is_state b ≡ false
@@ -218,12 +218,12 @@ named_by items id y b found is =
     by false = refl
 
 -- in the frame of words of states and inputs a state has that of its list, and so has an input
-pub state_leaf : (items : List Item) (states inputs : List ℕ) (id : ℕ) (y : Item) → find_item items id ≡ Some y → is_state y.body ≡ true → given_leaves items states inputs id ≡ given is_state items states id
-state_leaf items states inputs id y found is = ap (λ (b : Bool). cond b (given is_state items states id) (given is_input items inputs id)) (named_by items id y true found is)
+pub state_leaf : (items : List Item) (states inputs : List ℕ) (id : ℕ) (y : Item) → find_item items id ≡ Some y → is_state y.body ≡ true → given_leaves items states inputs id ≡ given_at is_state items states id
+state_leaf items states inputs id y found is = ap (λ (b : Bool). cond b (given_at is_state items states id) (given_at is_input items inputs id)) (named_by items id y true found is)
 
-pub input_leaf : (items : List Item) (states inputs : List ℕ) (id : ℕ) (y : Item) → find_item items id ≡ Some y → is_input y.body ≡ true → given_leaves items states inputs id ≡ given is_input items inputs id
+pub input_leaf : (items : List Item) (states inputs : List ℕ) (id : ℕ) (y : Item) → find_item items id ≡ Some y → is_input y.body ≡ true → given_leaves items states inputs id ≡ given_at is_input items inputs id
 input_leaf items states inputs id y found is =
-    ap (λ (b : Bool). cond b (given is_state items states id) (given is_input items inputs id)) (named_by items id y false found (not_state y.body is))
+    ap (λ (b : Bool). cond b (given_at is_state items states id) (given_at is_input items inputs id)) (named_by items id y false found (not_state y.body is))
 
 -- one of two words that are the same
 pub either_word : (b : Bool) (x y word : ℕ) → x ≡ word → y ≡ word → cond b y x ≡ word

@@ -11,7 +11,7 @@ use Rattle.btor2.proofs.AppendLemmas.{some_of, then_parts, is_some_from}
 use Rattle.btor2.proofs.AcceptedLemmas.{Each}
 use Rattle.btor2.proofs.ModelLemmas.{find_item-at}
 use Rattle.runs.specs.declared.nodes.Node.{Node}
-use Rattle.runs.specs.Frames.{has_value, given, given_leaves}
+use Rattle.runs.specs.Frames.{has_value, given_at, given_leaves}
 use Rattle.runs.specs.Run.{property_id}
 use Rattle.runs.specs.Nodes.{slot, words_at}
 use Rattle.runs.specs.Holds.{Keeps}
@@ -23,7 +23,7 @@ use Rattle.runs.proofs.StateLemmas.{nth-get}
 -- what is read at a place of the now-values is the word of a node in the run's frame
 pub record Reads (items : List Item) (states inputs values : List ℕ) (place id : ℕ) : Type 0 where
   pub inside : place < length values
-  pub word : (f : Frame) → IsFrame items (given is_state items (words_at values states)) (given_leaves items (words_at values states) (words_at values inputs)) f → get_or values place 0 ≡ f id
+  pub word : (f : Frame) → IsFrame items (given_at is_state items (words_at values states)) (given_leaves items (words_at values states) (words_at values inputs)) f → get_or values place 0 ≡ f id
 
 module _ (items : List Item) (nodes : List Node) (slots states inputs : List ℕ) (nexts : List (Option ℕ)) (bads constraints values next_values : List ℕ) (settled : Bool) (k : Keeps items nodes slots states inputs nexts bads constraints values next_values settled)
     (done : settled ≡ true) where

@@ -14,7 +14,7 @@ use Rattle.runs.specs.declared.nodes.Node.{Node}
 use Rattle.runs.specs.declared.nodes.Operator.{Operator}
 use Rattle.btor2.specs.Lists.{of_kind}
 use Rattle.runs.specs.Frames.{has_value, is_leaf, is_constant}
-use Rattle.runs.specs.Nodes.{slot, operator_of, with_node, nodes_of, operator_value, OperatorFits, NodesFit, settled_values}
+use Rattle.runs.specs.Nodes.{slot, operator_of, with_node, run_nodes, operator_value, OperatorFits, NodesFit, settled_values}
 use Rattle.runs.specs.Holds.{ConstantsStand, HoldsFrame}
 use Rattle.runs.proofs.RankLemmas.{rank-below, slot-one}
 use Rattle.runs.proofs.NodeLemmas.{HoldsAmong, node_gives}
@@ -46,12 +46,12 @@ operator_has_value items (body.Ite s c t e) o h = refl
 operator_has_value items _ o h = absurd (none-some o h)
 
 -- operators are nodes with a value
-pub few_nodes : (items rest : List Item) → length (nodes_of items rest) ≤ length (of_kind has_value rest)
+pub few_nodes : (items rest : List Item) → length (run_nodes items rest) ≤ length (of_kind has_value rest)
 few_nodes items [] = omega arith
 few_nodes items (x ∷ xs) = by (operator_of items x.body) refl (has_value x.body) refl (few_nodes items xs)
   where
-    by : (p : Option Operator) → operator_of items x.body ≡ p → (b : Bool) → has_value x.body ≡ b → length (nodes_of items xs) ≤ length (of_kind has_value xs)
-        → length (with_node (slot items x.id) p (nodes_of items xs)) ≤ length (cond b (x ∷ of_kind has_value xs) (of_kind has_value xs))
+    by : (p : Option Operator) → operator_of items x.body ≡ p → (b : Bool) → has_value x.body ≡ b → length (run_nodes items xs) ≤ length (of_kind has_value xs)
+        → length (with_node (slot items x.id) p (run_nodes items xs)) ≤ length (cond b (x ∷ of_kind has_value xs) (of_kind has_value xs))
     by None e true has rest = omega arith
     by None e false has rest = rest
     by (Some o) e true has rest = omega arith
@@ -102,9 +102,9 @@ module _ (items : List Item) (x : Item) (o : Operator) (values : List ℕ) (foun
       other_kept id y there has_y (λ e. none-some y (sym fresh ∙ ap (find_item before) (sym e) ∙ old)) ∙ held id y old has_y)
 
   -- a pass that begins with it
-  step_operator : (f : Frame) (xs : List Item) → slot items x.id < length values → OperatorFits o values → Settles items f (nodes_of items xs) with_word → Settles items f (nodes_of items (x ∷ xs)) values
+  step_operator : (f : Frame) (xs : List Item) → slot items x.id < length values → OperatorFits o values → Settles items f (run_nodes items xs) with_word → Settles items f (run_nodes items (x ∷ xs)) values
   step_operator f xs inside fits rest =
-      subst (λ (p : Option Operator). Settles items f (with_node (slot items x.id) p (nodes_of items xs)) values) (sym is) (record {
+      subst (λ (p : Option Operator). Settles items f (with_node (slot items x.id) p (run_nodes items xs)) values) (sym is) (record {
         fit = (inside, fits, rest.fit);
         holds = rest.holds;
         stays = λ id y found_y has_y none. rest.stays id y found_y has_y none ∙ stays_set id y found_y has_y none;
@@ -117,7 +117,7 @@ line_at items state input f (y ∷ ys) after x h = line_at items state input f y
 
 module _ (items : List Item) (whole : IsWellFormed items) (state input f : Frame) (frame : IsFrame items state input f) (fits : (id : ℕ) → is_some (node_width items id) ≡ true → f id < 2 ^ bits_of items id) (start : List ℕ)
     (leaves : (y : Item) → IsIn items y → is_leaf y.body ≡ true → get_or start (slot items y.id) 0 ≡ f y.id) (constants : ConstantsStand items start) where
-  settle_from : (before rest : List Item) → items ≡ before ++ rest → (values : List ℕ) → length values ≡ length (of_kind has_value items) → HoldsAmong items before values f → Stays items start values → Settles items f (nodes_of items rest) values
+  settle_from : (before rest : List Item) → items ≡ before ++ rest → (values : List ℕ) → length values ≡ length (of_kind has_value items) → HoldsAmong items before values f → Stays items start values → Settles items f (run_nodes items rest) values
   settle_from before [] splits values many held stays =
       let none : before ++ [] ≡ before = rw append-nil refl in
       record { fit = tt; holds = subst (λ (l : List Item). HoldsAmong items l values f) (sym (splits ∙ none)) held; stays = λ id y found has none. refl; many = refl }
@@ -136,7 +136,7 @@ module _ (items : List Item) (whole : IsWellFormed items) (state input f : Frame
       in
       elim (operator_of items x.body)
       as (λ p. operator_of items x.body ≡ p → (has_value x.body ≡ true → MatchOption p (get_or values (slot items x.id) 0 ≡ f x.id) (λ o. OperatorFits o values × (operator_value o values ≡ f x.id)))
-      → Settles items f (nodes_of items (x ∷ xs)) values) [
+      → Settles items f (run_nodes items (x ∷ xs)) values) [
         | Some o ↦ λ is word.
             let has = operator_has_value items x.body o is in
             let inside : slot items x.id < length values = omega (arith, many, rank-below has_value items x.id x found has) in
@@ -146,9 +146,9 @@ module _ (items : List Item) (whole : IsWellFormed items) (state input f : Frame
             (set_holds items x o values found is before xs f splits accepted.fresh inside (word has).1 held)
             (λ id y found_y has_y none. stays_set items x o values found is id y found_y has_y none ∙ stays id y found_y has_y none))
         | None ↦ λ none word.
-            subst (λ (p : Option Operator). Settles items f (with_node (slot items x.id) p (nodes_of items xs)) values) (sym none)
+            subst (λ (p : Option Operator). Settles items f (with_node (slot items x.id) p (run_nodes items xs)) values) (sym none)
             (settle_from (before ++ x ∷ []) xs next values many (holds_more items before x values f word held) stays)
       ] refl gives
 
-  pub settle_all : length start ≡ length (of_kind has_value items) → Settles items f (nodes_of items items) start
+  pub settle_all : length start ≡ length (of_kind has_value items) → Settles items f (run_nodes items items) start
   settle_all many = settle_from [] items refl start many (λ id y found has. absurd (none-some y found)) (λ id y found has none. refl)

@@ -12,9 +12,9 @@ use Rattle.btor2.specs.Lists.{places, of_kind}
 use Rattle.btor2.specs.Trace.{bits_of}
 use Rattle.btor2.proofs.ModelLemmas.{IsInitOf, IsInitOf-from_value}
 use Rattle.runs.specs.declared.nodes.Node.{Node}
-use Rattle.runs.specs.Frames.{has_value, ids_of, rank}
+use Rattle.runs.specs.Frames.{has_value, ids_of, kind_rank}
 use Rattle.runs.specs.Run.{property_id, first_word, zeros}
-use Rattle.runs.specs.Nodes.{slot, nodes_of, standing_word, words_at}
+use Rattle.runs.specs.Nodes.{slot, run_nodes, standing_word, words_at}
 use Rattle.runs.specs.Holds.{next_slot, LeavesFit, ConstantsStand, Keeps}
 use Rattle.runs.proofs.RankLemmas.{state_is_leaf, input_is_leaf, leaf_has_value, constant_has_value, rank-below, ids-rank, nth, nth-found, length-ids, length-places, leaf_cases}
 use Rattle.runs.proofs.PlaceLemmas.{place_inside, map_read}
@@ -85,7 +85,7 @@ pub record Starts (items : List Item) (nodes : List Node) (slots states inputs :
 -- the lists that a run is made of
 pub record NewLists (items : List Item) (nodes : List Node) (slots states inputs : List ℕ) (nexts : List (Option ℕ)) (bads constraints words next_values : List ℕ) : Type 0 where
   pub well_formed : IsWellFormed items
-  pub are_nodes : nodes ≡ nodes_of items items
+  pub are_nodes : nodes ≡ run_nodes items items
   pub are_slots : slots ≡ map (λ x. slot items x.id) items
   pub are_states : states ≡ slots_of is_state items
   pub are_inputs : inputs ≡ slots_of is_input items
@@ -112,7 +112,7 @@ module _ (items : List Item) (nodes : List Node) (slots states inputs : List ℕ
     state_word : (id : ℕ) (y : Item) → find_item items id ≡ Some y → is_state y.body ≡ true → get_or values (slot items id) 0 ≡ first_word items id
     state_word id y found is =
         let at = slot-own is_state items id y found is in
-        let r = rank is_state items id in
+        let r = kind_rank is_state items id in
         let there : r < length (ids_of is_state items) = omega (arith, at.0, length-slots_of is_state items) in
         let inside : r < length states = omega (arith, at.0, ap length m.are_states) in
         ap (λ (p : ℕ). get_or values p 0) (sym (ap (λ (l : List ℕ). get_or l r 0) m.are_states ∙ at.1)) ∙ sym (get_or-map (λ (p : ℕ). get_or values p 0) states r 0 0 inside)
@@ -121,7 +121,7 @@ module _ (items : List Item) (nodes : List Node) (slots states inputs : List ℕ
     input_word : (id : ℕ) (y : Item) → find_item items id ≡ Some y → is_input y.body ≡ true → get_or values (slot items id) 0 ≡ 0
     input_word id y found is =
         let at = slot-own is_input items id y found is in
-        let r = rank is_input items id in
+        let r = kind_rank is_input items id in
         let there : r < length (ids_of is_input items) = omega (arith, at.0, length-slots_of is_input items) in
         let apart : (j : ℕ) → j < length states → get_or states j 0 ≢ slot items id = λ j l e.
         slots-apart items j r m.well_formed (omega (arith, ap length m.are_states, length-slots_of is_state items)) there (ap (λ (list : List ℕ). get_or list j 0) (sym m.are_states) ∙ e ∙ sym at.1) in

@@ -14,7 +14,7 @@ use Rattle.btor2.proofs.ModelLemmas.{IsIn-from_place, IsAccepted-at, IsNextOf-fr
 use Rattle.runs.specs.Frames.{has_value, ids_of}
 use Rattle.runs.specs.declared.nodes.Node.{Node}
 use Rattle.runs.specs.declared.nodes.Operator.{Operator}
-use Rattle.runs.specs.Nodes.{slot, operator_of, with_node, nodes_of}
+use Rattle.runs.specs.Nodes.{slot, operator_of, with_node, run_nodes}
 use Rattle.runs.specs.Run.{first_word}
 use Rattle.runs.proofs.RankLemmas.{IsNth, nth, length-ids, rank-own}
 use Rattle.runs.proofs.PlaceLemmas.{NodePlace, node_place, no_place}
@@ -76,19 +76,19 @@ pub made_same : {B : Type 0} (f : Item → B) (items : List Item) (front : List 
 made_same f items front k x d h e has so_far = so_far ∙ sym (ap (map f) (node_same items k x d h e has))
 
 -- the nodes among them that are operators
-nodes_of-append : (items before : List Item) (x : Item) → nodes_of items (before ++ x ∷ []) ≡ nodes_of items before ++ with_node (slot items x.id) (operator_of items x.body) []
+nodes_of-append : (items before : List Item) (x : Item) → run_nodes items (before ++ x ∷ []) ≡ run_nodes items before ++ with_node (slot items x.id) (operator_of items x.body) []
 nodes_of-append items [] x = refl
 nodes_of-append items (y ∷ ys) x = by (operator_of items y.body) (nodes_of-append items ys x)
   where
-    by : (o : Option Operator) → nodes_of items (ys ++ x ∷ []) ≡ nodes_of items ys ++ with_node (slot items x.id) (operator_of items x.body) []
-        → with_node (slot items y.id) o (nodes_of items (ys ++ x ∷ [])) ≡ with_node (slot items y.id) o (nodes_of items ys) ++ with_node (slot items x.id) (operator_of items x.body) []
+    by : (o : Option Operator) → run_nodes items (ys ++ x ∷ []) ≡ run_nodes items ys ++ with_node (slot items x.id) (operator_of items x.body) []
+        → with_node (slot items y.id) o (run_nodes items (ys ++ x ∷ [])) ≡ with_node (slot items y.id) o (run_nodes items ys) ++ with_node (slot items x.id) (operator_of items x.body) []
     by None e = e
     by (Some o) e = ap (λ (l : List Node). record { place = slot items y.id; operator = o } ∷ l) e
 
-pub nodes_of-more : (items list : List Item) (k : ℕ) (x d : Item) → k < length list → x ≡ get_or list k d → nodes_of items (take (k + 1) list) ≡ nodes_of items (take k list) ++ with_node (slot items x.id) (operator_of items x.body) []
+pub nodes_of-more : (items list : List Item) (k : ℕ) (x d : Item) → k < length list → x ≡ get_or list k d → run_nodes items (take (k + 1) list) ≡ run_nodes items (take k list) ++ with_node (slot items x.id) (operator_of items x.body) []
 nodes_of-more items list k x d h e =
-    ap (nodes_of items) (take_more list k d h) ∙ nodes_of-append items (take k list) (get_or list k d)
-    ∙ ap (λ (y : Item). nodes_of items (take k list) ++ with_node (slot items y.id) (operator_of items y.body) []) (sym e)
+    ap (run_nodes items) (take_more list k d h) ∙ nodes_of-append items (take k list) (get_or list k d)
+    ∙ ap (λ (y : Item). run_nodes items (take k list) ++ with_node (slot items y.id) (operator_of items y.body) []) (sym e)
 
 -- the item that a loop over all items is at
 pub item_at : (items list : List Item) (k : ℕ) (x : Item) → list ≡ items → k < length list → x ≡ get_or list k x → slice_get items k ≡ Some x

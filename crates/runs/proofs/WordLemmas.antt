@@ -10,8 +10,8 @@ use Rattle.btor2.specs.Trace.{Frame, bits_of, LineHolds, LinesHold, IsFrame, Sta
 use Rattle.btor2.proofs.ModelLemmas.{IsIn, find_item-in}
 use Rattle.btor2.proofs.TraceLemmas.{words_fit_frame, frame_exists}
 use Rattle.btor2.specs.Lists.{of_kind}
-use Rattle.runs.specs.Frames.{has_value, is_leaf, ids_of, given, given_leaves}
-use Rattle.runs.specs.Nodes.{slot, nodes_of, words_at, NodesFit, settled_values}
+use Rattle.runs.specs.Frames.{has_value, is_leaf, ids_of, given_at, given_leaves}
+use Rattle.runs.specs.Nodes.{slot, run_nodes, words_at, NodesFit, settled_values}
 use Rattle.runs.specs.Holds.{LeavesFit, ConstantsStand, HoldsFrame}
 use Rattle.runs.proofs.RankLemmas.{state_is_leaf, leaf_has_value, constant_has_value, nth, nth-found, length-ids, given-at, leaf_cases, state_leaf, input_leaf, either_word}
 use Rattle.runs.proofs.SettleLemmas.{leaf_no_operator, constant_no_operator, Settles, line_at, settle_all}
@@ -74,7 +74,7 @@ leaf_word items state input f id word _ leaf h of_state of_input = absurd (cc)
 
 module _ (items : List Item) (w : IsWellFormed items) (values : List ℕ) (many : length values ≡ length (of_kind has_value items)) (leaves : LeavesFit items values) where
   abbrev pub states_now : Frame
-  states_now = given is_state items (words_at values (slots_of is_state items))
+  states_now = given_at is_state items (words_at values (slots_of is_state items))
 
   abbrev pub inputs_now : Frame
   inputs_now = given_leaves items (words_at values (slots_of is_state items)) (words_at values (slots_of is_input items))
@@ -111,15 +111,15 @@ module _ (items : List Item) (w : IsWellFormed items) (values : List ℕ) (many 
   frame_fits f frame = words_fit_frame items states_now inputs_now f w states_now-fit inputs_now-fit frame
 
   module _ (constants : ConstantsStand items values) where
-    settles : (f : Frame) → IsFrame items states_now inputs_now f → Settles items f (nodes_of items items) values
+    settles : (f : Frame) → IsFrame items states_now inputs_now f → Settles items f (run_nodes items items) values
     settles f frame = settle_all items w states_now inputs_now f frame (frame_fits f frame) values (leaf_now f frame) constants many
 
     -- the pass over the nodes
-    pub pass_fits : NodesFit (nodes_of items items) values
+    pub pass_fits : NodesFit (run_nodes items items) values
     pass_fits = let some = frame_exists items states_now inputs_now w in (settles some.0 some.1).fit
 
     abbrev pub after_pass : List ℕ
-    after_pass = settled_values (nodes_of items items) values
+    after_pass = settled_values (run_nodes items items) values
 
     pub pass_many : length after_pass ≡ length values
     pass_many = let some = frame_exists items states_now inputs_now w in (settles some.0 some.1).many

@@ -1,7 +1,7 @@
 -- What a run of a circuit keeps.
 use Rattle.std.specs.Prelude.{◌≡◌, ◌+◌, Bool, true, false, List, length, slice_index_or}
 use Rattle.base.specs.Literal.{Valuation}
-use Rattle.aiger.specs.Net.{variables, Satisfies, input_bits, latch_bits}
+use Rattle.aiger.specs.Net.{variables, Satisfies, net_input_bits, latch_bits}
 use Rattle.aiger.specs.Circuit.{Circuit, IsCircuit, net}
 use Rattle.runs.specs.declared.bit_run.BitRun.TheInside.{Inside}
 use Rattle.runs.specs.CircuitRun.{CircuitRun}
@@ -16,7 +16,7 @@ circuit_run_of r =
     record {
       circuit = r.circuit.now;
       latches = latch_bits (net r.circuit.now) (valuation_of r.bits.items);
-      inputs = input_bits (net r.circuit.now) (valuation_of r.bits.items);
+      inputs = net_input_bits (net r.circuit.now) (valuation_of r.bits.items);
       settled = r.settled;
       steps = r.tally;
     }

@@ -7,7 +7,7 @@ use Rattle.aiger.specs.declared.circuit.Reset.TheVariants.{Zero, One, Free}
 use Rattle.base.specs.Literal.{Valuation}
 use Rattle.aiger.specs.Net.{variables}
 use Rattle.aiger.specs.Circuit.{Circuit, net}
-use Rattle.aiger.specs.Trace.{IsFrame}
+use Rattle.aiger.specs.Trace.{IsCircuitFrame}
 
 -- The bits of the latches and of the inputs are in order. It is settled where no bit was set since the last settling and
 -- the run has not advanced since. The steps are all that it has taken.
@@ -20,16 +20,16 @@ pub record CircuitRun : Type 0 where
 
 -- the frame that the run is in
 abbrev pub IsFrameNow : CircuitRun → Valuation → Type 0
-IsFrameNow r v = IsFrame r.circuit r.latches r.inputs v
+IsFrameNow r v = IsCircuitFrame r.circuit r.latches r.inputs v
 
 -- the bit that a latch begins with: that of its reset, or 0 where it has no initial value
-abbrev pub first_bit : Reset → Bool
-first_bit Zero = false
-first_bit One = true
-first_bit Free = false
+abbrev pub reset_bit : Reset → Bool
+reset_bit Zero = false
+reset_bit One = true
+reset_bit Free = false
 
-abbrev pub first_bits : List Latch → List Bool
-first_bits latches = map (λ l. first_bit l.reset) latches
+abbrev pub reset_bits : List Latch → List Bool
+reset_bits latches = map (λ l. reset_bit l.reset) latches
 
 -- the bits of inputs that were not set: 0 each
 abbrev pub no_inputs : Circuit → List Bool
@@ -40,7 +40,7 @@ abbrev pub circuit_start : Circuit → CircuitRun
 circuit_start c =
     record {
       circuit = c;
-      latches = first_bits c.latches;
+      latches = reset_bits c.latches;
       inputs = no_inputs c;
       settled = false;
       steps = 0;

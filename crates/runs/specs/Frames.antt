@@ -32,14 +32,14 @@ abbrev pub ids_of : (Body → Bool) → List Item → List ℕ
 ids_of test items = map (λ x. x.id) (of_kind test items)
 
 -- how many items that pass a test stand before the one with an id
-abbrev pub rank : (Body → Bool) → List Item → ℕ → ℕ
-rank test [] id = 0
-rank test (x ∷ xs) id = if id == x.id then 0 else (if test x.body then suc (rank test xs id) else rank test xs id)
+abbrev pub kind_rank : (Body → Bool) → List Item → ℕ → ℕ
+kind_rank test [] id = 0
+kind_rank test (x ∷ xs) id = if id == x.id then 0 else (if test x.body then suc (kind_rank test xs id) else kind_rank test xs id)
 
 -- the frame of given words for the items of a kind: the k-th of them has the k-th word
-abbrev pub given : (Body → Bool) → List Item → List ℕ → Frame
-given test items words id = slice_index words (rank test items id)
+abbrev pub given_at : (Body → Bool) → List Item → List ℕ → Frame
+given_at test items words id = slice_index words (kind_rank test items id)
 
 -- the frame of given words for the states and for the inputs
 abbrev pub given_leaves : List Item → List ℕ → List ℕ → Frame
-given_leaves items states inputs id = if names_state items id then given is_state items states id else given is_input items inputs id
+given_leaves items states inputs id = if names_state items id then given_at is_state items states id else given_at is_input items inputs id

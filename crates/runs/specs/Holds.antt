@@ -8,9 +8,9 @@ use Rattle.runs.specs.declared.nodes.Node.{Node}
 use Rattle.runs.specs.declared.resolving.Slots.{Slots}
 use Rattle.runs.specs.declared.word_run.WordRun.TheInside.{Inside}
 use Rattle.btor2.specs.Lists.{of_kind}
-use Rattle.runs.specs.Frames.{has_value, is_leaf, is_constant, ids_of, given, given_leaves}
+use Rattle.runs.specs.Frames.{has_value, is_leaf, is_constant, ids_of, given_at, given_leaves}
 use Rattle.runs.specs.Run.{Run, property_id}
-use Rattle.runs.specs.Nodes.{slot, nodes_of, standing_word, words_at}
+use Rattle.runs.specs.Nodes.{slot, run_nodes, standing_word, words_at}
 
 -- what contracts see of a run
 abbrev pub run_of : Inside → Run
@@ -54,7 +54,7 @@ HoldsFrame items values f = (id : ℕ) (y : Item) → find_item items id ≡ Som
 -- is settled.
 pub record Keeps (items : List Item) (nodes : List Node) (slots states inputs : List ℕ) (nexts : List (Option ℕ)) (bads constraints values next_values : List ℕ) (settled : Bool) : Type 0 where
   pub well_formed : IsWellFormed items
-  pub are_nodes : nodes ≡ nodes_of items items
+  pub are_nodes : nodes ≡ run_nodes items items
   pub are_slots : slots ≡ map (λ x. slot items x.id) items
   pub are_states : states ≡ map (slot items) (ids_of is_state items)
   pub are_inputs : inputs ≡ map (slot items) (ids_of is_input items)
@@ -65,7 +65,7 @@ pub record Keeps (items : List Item) (nodes : List Node) (slots states inputs : 
   pub many_states : length next_values ≡ length (of_kind is_state items)
   pub leaves : LeavesFit items values
   pub constants : ConstantsStand items values
-  pub frame : settled ≡ true → (f : Frame) → IsFrame items (given is_state items (words_at values states)) (given_leaves items (words_at values states) (words_at values inputs)) f
+  pub frame : settled ≡ true → (f : Frame) → IsFrame items (given_at is_state items (words_at values states)) (given_leaves items (words_at values states) (words_at values inputs)) f
       → HoldsFrame items values f
 
 abbrev pub IsRun : Inside → Type 0

@@ -15,12 +15,12 @@ use Rattle.runs.specs.declared.nodes.Wider.{Wider}
 use Rattle.runs.specs.declared.nodes.Wider.TheVariants as wider
 use Rattle.runs.specs.declared.nodes.Pair.{Pair}
 use Rattle.runs.specs.declared.nodes.Pair.TheVariants as pair
-use Rattle.runs.specs.Frames.{has_value, rank}
+use Rattle.runs.specs.Frames.{has_value, kind_rank}
 use Rattle.runs.specs.Run.{property_at}
 
 -- the place of the node with an id among the now-values
 abbrev pub slot : List Item → ℕ → ℕ
-slot items id = rank has_value items id
+slot items id = kind_rank has_value items id
 
 -- the slot of the node that the property at a place names
 abbrev pub property_slot : List Item → ℕ → ℕ
@@ -42,9 +42,9 @@ abbrev pub with_node : ℕ → Option Operator → List Node → List Node
 with_node place None nodes = nodes
 with_node place (Some o) nodes = record { place = place; operator = o } ∷ nodes
 
-abbrev pub nodes_of : List Item → List Item → List Node
-nodes_of items [] = []
-nodes_of items (x ∷ xs) = with_node (slot items x.id) (operator_of items x.body) (nodes_of items xs)
+abbrev pub run_nodes : List Item → List Item → List Node
+run_nodes items [] = []
+run_nodes items (x ∷ xs) = with_node (slot items x.id) (operator_of items x.body) (run_nodes items xs)
 
 -- the word that a constant gives, and 0 for other lines
 abbrev pub standing_word : List Item → Body → ℕ
@@ -83,13 +83,13 @@ SingleFits (single.Unary op w a) values = IsWordAt values w a
 SingleFits (single.Slice w a u l) values = IsWordAt values w a × (l ≤ u) × (u < w)
 SingleFits (single.Wider o) values = WiderFits o values
 
-abbrev pub PairFits : Pair → List ℕ → Type 0
-PairFits (pair.Binary op w a b) values = IsWordAt values w a × IsWordAt values w b
-PairFits (pair.Concat m a n b) values = IsWordAt values m a × IsWordAt values n b × (m + n ≤ 64)
+abbrev pub PairHasWords : Pair → List ℕ → Type 0
+PairHasWords (pair.Binary op w a b) values = IsWordAt values w a × IsWordAt values w b
+PairHasWords (pair.Concat m a n b) values = IsWordAt values m a × IsWordAt values n b × (m + n ≤ 64)
 
 abbrev pub OperatorFits : Operator → List ℕ → Type 0
 OperatorFits (operator.Single o) values = SingleFits o values
-OperatorFits (operator.Pair o) values = PairFits o values
+OperatorFits (operator.Pair o) values = PairHasWords o values
 OperatorFits (operator.Ite w c t e) values = IsWordAt values 1 c × IsWordAt values w t × IsWordAt values w e
 
 -- the now-values after some nodes have given their words, one after another

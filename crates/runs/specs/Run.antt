@@ -8,7 +8,7 @@ use Rattle.btor2.specs.declared.item.Body.TheVariants as body
 use Rattle.btor2.specs.Items.{is_input, is_state, init_word}
 use Rattle.btor2.specs.Trace.{Frame, IsFrame}
 use Rattle.btor2.specs.Lists.{of_kind}
-use Rattle.runs.specs.Frames.{has_value, ids_of, given, given_leaves}
+use Rattle.runs.specs.Frames.{has_value, ids_of, given_at, given_leaves}
 
 -- The words of the states and of the inputs are in file order. It is settled where no word was set since the last settling and
 -- the run has not advanced since. The steps are all that it has taken.
@@ -21,7 +21,7 @@ pub record Run : Type 0 where
 
 -- the words of its states by their ids, and the words of its states and of its inputs
 abbrev pub state_words : Run → Frame
-state_words r = given is_state r.items r.states
+state_words r = given_at is_state r.items r.states
 
 abbrev pub leaf_words : Run → Frame
 leaf_words r = given_leaves r.items r.states r.inputs

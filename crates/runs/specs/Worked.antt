@@ -5,8 +5,8 @@ use Rattle.base.specs.Literal.{Valuation}
 use Rattle.aiger.specs.Circuit.{Circuit}
 
 -- two inputs, their AND gate, and it as an output
-abbrev pub conjunction : Circuit
-conjunction =
+abbrev pub and_gate : Circuit
+and_gate =
     record {
       inputs = 2;
       latches = [];

@@ -3,7 +3,7 @@ ghost use Rattle.std.specs.Prelude.{◌≡◌, ℕ, ◌+◌, ◌<◌, ◌≤◌,
 ghost use Rattle.base.specs.Steps.{one_more, more_steps};
 ghost use Rattle.base.specs.Literal.{variable, literal_value};
 ghost use Rattle.aiger.specs.Net.{AreOrderedFrom, SatisfiesFrom};
-ghost use Rattle.runs.specs.CircuitRun.{first_bit};
+ghost use Rattle.runs.specs.CircuitRun.{reset_bit};
 ghost use Rattle.runs.specs.CircuitHolds.{valuation_of};
 
 use aiger::{Gate, Latch, Lit, Reset};
@@ -68,7 +68,7 @@ pub(crate) fn take_nexts(latches: &[Latch], bits: &[bool], taken: &mut [bool], t
 
 /// The bit that a latch begins with.
 fn first_bit(reset: Reset) -> bool
-    ensures { result ≡ first_bit reset }
+    ensures { result ≡ reset_bit reset }
 {
     match reset {
         Reset::One => true,
@@ -79,7 +79,7 @@ fn first_bit(reset: Reset) -> bool
 /// Takes the bits that the latches begin with.
 pub(crate) fn take_first_bits(latches: &[Latch], taken: &mut [bool])
     requires as_many { length taken.old ≡ length latches.now }
-    ensures taken { (k : ℕ) (d : Latch) → k < length latches.now → slice_index_or taken.new k false ≡ first_bit (slice_index_or latches.now k d).reset }
+    ensures taken { (k : ℕ) (d : Latch) → k < length latches.now → slice_index_or taken.new k false ≡ reset_bit (slice_index_or latches.now k d).reset }
     ensures as_many { length taken.new ≡ length taken.old }
 {
     for (k, latch) in latches.iter().enumerate() {

@@ -4,7 +4,7 @@ ghost use Rattle.base.specs.Steps.{more_steps};
 ghost use Rattle.base.specs.Literal.{Valuation, literal_value};
 ghost use Rattle.aiger.specs.Net.{IsDefined};
 ghost use Rattle.aiger.specs.Circuit.{net};
-ghost use Rattle.aiger.specs.Trace.{next_state};
+ghost use Rattle.aiger.specs.Trace.{next_latch_bits};
 ghost use Rattle.runs.specs.CircuitRun.{IsFrameNow, circuit_start, no_inputs, settle_steps, circuit_held};
 
 use crate::bit_passes::{
@@ -167,7 +167,7 @@ impl<'a> BitRun<'a> {
     /// Condition: the run is settled.
     pub fn advance(&mut self)
         requires { self.old.settled ≡ true }
-        ensures latches { (v : Valuation) → IsFrameNow self.old v → self.new.latches ≡ next_state self.old.circuit v }
+        ensures latches { (v : Valuation) → IsFrameNow self.old v → self.new.latches ≡ next_latch_bits self.old.circuit v }
         ensures others { self.new ≡ record self.old { latches = self.new.latches; inputs = no_inputs self.old.circuit; settled = false; steps = more_steps (length self.old.circuit.latches) self.old.steps } }
     {
         let inputs = self.circuit.inputs() as usize;

@@ -4,7 +4,7 @@ ghost use Rattle.base.specs.Steps.{one_more};
 ghost use Rattle.btor2.specs.Items.{node_width};
 ghost use Rattle.btor2.specs.Check.{IsWellFormed};
 ghost use Rattle.btor2.specs.Trace.{bits_of};
-ghost use Rattle.runs.specs.Nodes.{slot, operator_of, operator_value, OperatorFits, single_value, SingleFits, wider_value, WiderFits, pair_value, PairFits};
+ghost use Rattle.runs.specs.Nodes.{slot, operator_of, operator_value, OperatorFits, single_value, SingleFits, wider_value, WiderFits, pair_value, PairHasWords};
 
 use base::{Binary, Tally, Unary, Width};
 use btor2::{Body, Item, Model};
@@ -138,7 +138,7 @@ fn single_word(operator: Single, values: &[u64], tally: &mut Tally) -> u64
 
 /// The word that an operator of two operands gives from the now-values. One step.
 fn pair_word(operator: Pair, values: &[u64], tally: &mut Tally) -> u64
-    requires { PairFits operator values.now }
+    requires { PairHasWords operator values.now }
     ensures value { result ≡ pair_value operator values.now }
     ensures step { tally.new ≡ one_more tally.old }
 {

@@ -4,7 +4,7 @@ ghost use Rattle.btor2.specs.Items.{is_state};
 ghost use Rattle.btor2.specs.Check.{IsWellFormed};
 ghost use Rattle.btor2.specs.Lists.{places, of_kind};
 ghost use Rattle.runs.specs.Frames.{has_value, ids_of};
-ghost use Rattle.runs.specs.Nodes.{slot, nodes_of, standing_word, property_slot};
+ghost use Rattle.runs.specs.Nodes.{slot, run_nodes, standing_word, property_slot};
 ghost use Rattle.runs.specs.Holds.{next_slot, AreSlotsOf};
 ghost use Rattle.runs.specs.Run.{first_word, property_at};
 
@@ -44,7 +44,7 @@ pub(crate) fn resolved_nodes(
     slots: &[usize],
 ) -> Result<Vec<Node>, AllocError>
     requires { slots.now ≡ map (λ x. slot model.now x.id) model.now }
-    ensures { IfOk result (λ v. v.items ≡ nodes_of model.now model.now) }
+    ensures { IfOk result (λ v. v.items ≡ run_nodes model.now model.now) }
 {
     let items = model.items();
     let mut nodes = Vec::new(alloc);

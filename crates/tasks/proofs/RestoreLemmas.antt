@@ -10,7 +10,7 @@ use Rattle.witness.specs.BitJudgements.{BitJudges}
 use Rattle.restore.specs.declared.fault.RestoreFault.{RestoreFault}
 use Rattle.restore.specs.Accepted.{FindsAgain}
 use Rattle.restore.specs.Faults.{is_of_text}
-use Rattle.restore.specs.Reading.{read_text}
+use Rattle.restore.specs.Reading.{read_found}
 use Rattle.restore.specs.FormWitness.{form_restored_text, FormJudges, FindsWitnessAgain}
 use Rattle.restore.specs.Restored.{restored_text}
 use Rattle.tasks.specs.declared.answers.Answer.{Answer}
@@ -24,8 +24,8 @@ use Rattle.tasks.specs.Restoring.{IsAnswerOf, IsWhole, TellsVerdict}
 pub answer_of : (r : Result Judgement RestoreFault) (c : Circuit) (claim : ℕ) (found : Option (List ℕ))
     → IfOk r (λ j. IfSome found (λ text. BitJudges c (restored_text c claim text) j))
     → IfOk r (λ j. IfSome found (λ text. FindsAgain c claim text j))
-    → OnOk r (IfSome found (λ text. (read_text (input_count c) text).fault ≡ None))
-    → IfErr r (λ e. is_of_text e.why ≡ true → IfSome found (λ text. (read_text (input_count c) text).fault ≡ Some e))
+    → OnOk r (IfSome found (λ text. (read_found (input_count c) text).fault ≡ None))
+    → IfErr r (λ e. is_of_text e.why ≡ true → IfSome found (λ text. (read_found (input_count c) text).fault ≡ Some e))
     → IsAnswerOf c claim found r
 answer_of (Ok j) c claim found judged again right first = (right, (judged, again))
 answer_of (Err e) c claim found judged again right first = first

@@ -20,7 +20,7 @@ use Rattle.reached.specs.Accepted.{Reaches, ReachesInCircuit}
 use Rattle.btor2text.specs.Spelling.{IsModelOf}
 use Rattle.aigertext.specs.Spelling.{IsCircuitText}
 use Rattle.tasks.specs.Done.{IsJudged, IsJudgedByName, IsJudgedOver, IsJudgedOverByName, IsSo, Judged, judgement_line}
-use Rattle.tasks.specs.Subjects.{bad_item_said, bad_name_said, first_said, firsts_said, item_said, name_said, numbered_item, said_by_name, says_item}
+use Rattle.tasks.specs.Subjects.{bad_item_said, bad_name_said, first_said, firsts_said, item_line, name_said, numbered_item, said_by_name, says_item}
 
 -- ---- the item with a number
 
@@ -134,7 +134,7 @@ judged (Err e) known witness before now items verdict text valid each is reaches
 pub judged_by_name : (r : Result Answer Refusal) (known witness before now told told' : Option (List ℕ)) (items : List Item) (verdict : Judgement) (firsts : List (Option ℕ))
     → IsModelOf known items → IsWellFormed items → first_init_without_next items items ≡ None → IfSome witness (λ text. Judges items text verdict) → ((text : List ℕ) → Judges items text verdict → Reaches items text verdict)
     → IfSome witness (λ text. (fs : List Frame) → IsClosedTrace items text fs → firsts ≡ word_first_rises items text fs)
-    → OnOk r (Appends before now (judgement_line verdict)) → OnOk r (Appends told told' (said_by_name (item_said items) (bad_item_said items) firsts verdict)) → IfOk r (λ a. IsSo a verdict)
+    → OnOk r (Appends before now (judgement_line verdict)) → OnOk r (Appends told told' (said_by_name (item_line items) (bad_item_said items) firsts verdict)) → IfOk r (λ a. IsSo a verdict)
     → IfOk r (Judged (IsJudgedByName known witness before now told told'))
 judged_by_name (Ok a) known witness before now told told' items verdict firsts text valid each is reaches rises line subject so = record {
   verdict = verdict;

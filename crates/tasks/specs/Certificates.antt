@@ -11,7 +11,7 @@ use Rattle.clauses.specs.declared.judgement.Judgement.{Judgement}
 use Rattle.clauses.specs.declared.judgement.Judgement.TheVariants as verdict
 use Rattle.clauses.specs.Formula.{Formula}
 use Rattle.clauses.specs.FormulaTexts.{formula_text}
-use Rattle.clauses.specs.Printed.{why_number, why_name}
+use Rattle.clauses.specs.Printed.{proof_why_number, proof_why_name}
 use Rattle.invariants.specs.Certificates.{IsCertified, IsOwed}
 use Rattle.tasks.specs.declared.answers.Answer.{Answer}
 use Rattle.tasks.specs.declared.answers.Answer.TheVariants as answer
@@ -31,17 +31,17 @@ pub record LowersFirst (first : Option (List ℕ)) (c : Circuit) : Type 0 where
   pub lowers : Lowers items c
 
 -- the first text is of a circuit
-pub record IsFirst (first : Option (List ℕ)) (c : Circuit) : Type 0 where
+pub record IsFirstCircuit (first : Option (List ℕ)) (c : Circuit) : Type 0 where
   pub is_circuit : IsCircuit c
   pub text : IsCircuitText first c
 
 -- the circuit that the first text gives: one that lowers its model, or its own
-abbrev pub Gives : Given → Option (List ℕ) → Circuit → Type 0
-Gives given.Model first c = LowersFirst first c
-Gives given.Circuit first c = IsFirst first c
+abbrev pub GivesCircuit : Given → Option (List ℕ) → Circuit → Type 0
+GivesCircuit given.Model first c = LowersFirst first c
+GivesCircuit given.Circuit first c = IsFirstCircuit first c
 
 -- a bad property of what the first text gives, of the model or of the circuit, rises in no frame up to which its constraints hold
-abbrev pub NeverRises : (g : Given) → (first : Option (List ℕ)) → (c : Circuit) → Gives g first c → ℕ → Type 0
+abbrev pub NeverRises : (g : Given) → (first : Option (List ℕ)) → (c : Circuit) → GivesCircuit g first c → ℕ → Type 0
 NeverRises given.Model first c gives k = ¬ CanRise gives.items k
 NeverRises given.Circuit first c gives k = ¬ CanRiseInCircuit c k
 
@@ -50,7 +50,7 @@ pub record WritesOwed (g : Given) (choice : Option ℕ) (first second before now
   pub circuit : Circuit
   pub claim : ℕ
   pub formula : Formula
-  pub gives : Gives g first circuit
+  pub gives : GivesCircuit g first circuit
   pub is_claim : IsClaim choice circuit claim
   pub is_owed : IsOwed circuit claim second formula
   pub appends : Appends before now (formula_text formula)
@@ -59,7 +59,7 @@ pub record WritesOwed (g : Given) (choice : Option ℕ) (first second before now
 abbrev pub verdict_line : ℕ → Judgement → List ℕ
 verdict_line claim (verdict.Derived line) = codes "holds: b" ++ (decimal claim ++ codes "\n")
 verdict_line claim (verdict.NotImplied line) = codes "not implied line " ++ (decimal line ++ codes "\n")
-verdict_line claim (verdict.Malformed line why) = codes "malformed line " ++ (decimal line ++ (codes ": " ++ (decimal (why_number why) ++ (codes " " ++ (why_name why ++ codes "\n")))))
+verdict_line claim (verdict.Malformed line why) = codes "malformed line " ++ (decimal line ++ (codes ": " ++ (decimal (proof_why_number why) ++ (codes " " ++ (proof_why_name why ++ codes "\n")))))
 verdict_line claim verdict.NotDerived = codes "not derived\n"
 
 -- a proof derives
@@ -82,7 +82,7 @@ pub record Certifies (g : Given) (choice : Option ℕ) (first second third befor
   pub circuit : Circuit
   pub claim : ℕ
   pub judgement : Judgement
-  pub gives : Gives g first circuit
+  pub gives : GivesCircuit g first circuit
   pub is_claim : IsClaim choice circuit claim
   pub certified : IsCertified circuit claim second third judgement
   pub so : IsSoDerived a judgement
@@ -90,7 +90,7 @@ pub record Certifies (g : Given) (choice : Option ℕ) (first second third befor
   pub line : Appends before now (verdict_line claim judgement)
 
 -- the line that says which bad property of what the first text gives has a number: the line of the model, or the name in the circuit
-abbrev pub given_said : (g : Given) → (first : Option (List ℕ)) → (c : Circuit) → Gives g first c → ℕ → List ℕ
+abbrev pub given_said : (g : Given) → (first : Option (List ℕ)) → (c : Circuit) → GivesCircuit g first c → ℕ → List ℕ
 given_said given.Model first c gives k = bad_item_said gives.items k
 given_said given.Circuit first c gives k = bad_name_said c k
 
@@ -105,7 +105,7 @@ read_said r k = said_of r.model r.circuit k
 
 -- what was read is what the first text gives, and says of its bad properties what that says
 pub record IsRead (g : Given) (first : Option (List ℕ)) (r : Read) : Type 0 where
-  pub gives : Gives g first r.circuit
+  pub gives : GivesCircuit g first r.circuit
   pub says : (k : ℕ) → read_said r k ≡ given_said g first r.circuit gives k
 
 -- a certificate is judged so, and what was told is the line that says which bad property holds; none where that is not judged

@@ -18,8 +18,8 @@ use Rattle.engine.specs.EngineForm.{IsEngineFormOf, input_count}
 use Rattle.engine.specs.Refusal.{engine_refusal}
 use Rattle.restore.specs.declared.fault.RestoreFault.{RestoreFault}
 use Rattle.restore.specs.Accepted.{FindsAgain}
-use Rattle.restore.specs.Faults.{why_number, why_name}
-use Rattle.restore.specs.Reading.{read_text}
+use Rattle.restore.specs.Faults.{restore_why_number, restore_why_name}
+use Rattle.restore.specs.Reading.{read_found}
 use Rattle.restore.specs.FormWitness.{form_restored_text, FormJudges, FindsWitnessAgain}
 use Rattle.restore.specs.Restored.{restored_text}
 use Rattle.witness.specs.declared.judgement.Judgement.{Judgement}
@@ -36,13 +36,13 @@ use Rattle.wave.specs.declared.scope.Shown.{Shown}
 use Rattle.witness.specs.Printed.{judgement_text}
 use Rattle.tidy.specs.Tidied.{tidied}
 use Rattle.vectors.specs.declared.lines.Vector.{Vector}
-use Rattle.vectors.specs.Vectors.{AreVectorsOf, IsRight, numbered, differing, report}
+use Rattle.vectors.specs.Vectors.{AreVectorsOf, IsRight, numbered, lines_that_differ, report}
 use Rattle.btor2text.specs.Spelling.{IsModelOf}
 use Rattle.aigertext.specs.Spelling.{IsCircuitText}
 use Rattle.tasks.specs.Claims.{IsClaim}
 use Rattle.tasks.specs.declared.answers.Answer.{Answer}
 use Rattle.tasks.specs.declared.answers.Answer.TheVariants as answer
-use Rattle.tasks.specs.Subjects.{bad_item_said, bad_name_said, item_said, name_said, said_by_name}
+use Rattle.tasks.specs.Subjects.{bad_item_said, bad_name_said, item_line, name_said, said_by_name}
 
 -- a judgement is that the witness is accepted
 abbrev pub IsAccepted : Judgement → Type 0
@@ -99,7 +99,7 @@ counts_line items =
     ++ codes " constraints\n")))))))))
 
 -- all that was to come is a text of some model, and what was written is the writer's text of it and the line of its counts
-pub record Shows (known before now : Option (List ℕ)) : Type 0 where
+pub record ShowsModel (known before now : Option (List ℕ)) : Type 0 where
   pub items : List Item
   pub text : IsModelOf known items
   pub well_formed : IsWellFormed items
@@ -178,7 +178,7 @@ pub record IsRestored (choice : Option ℕ) (circuit found before now : Option (
 
 -- no line of a counterexample over the engine form of a circuit is faulty, and what it is restored to is judged so over the circuit: accepted, where the form's bad property is 1; what was told is the line of that judgement, and what is said behind it
 pub record IsRestoredSo (said : Judgement → List ℕ) (c : Circuit) (claim : ℕ) (found told told' : Option (List ℕ)) (verdict : Judgement) : Type 0 where
-  pub right : IfSome found (λ text. (read_text (input_count c) text).fault ≡ None)
+  pub right : IfSome found (λ text. (read_found (input_count c) text).fault ≡ None)
   pub judged : IfSome found (λ text. BitJudges c (restored_text c claim text) verdict)
   pub again : IfSome found (λ text. FindsAgain c claim text verdict)
   pub line : Appends told told' (judgement_line verdict ++ said verdict)
@@ -196,12 +196,12 @@ pub record IsFormRestored (choice : Option ℕ) (circuit found before now told t
 
 -- the line of the first faulty line of a counterexample
 abbrev pub malformed_line : RestoreFault → List ℕ
-malformed_line e = codes "malformed line " ++ (decimal e.line ++ (codes ": " ++ (decimal (why_number e.why) ++ (codes " " ++ (why_name e.why ++ codes "\n")))))
+malformed_line e = codes "malformed line " ++ (decimal e.line ++ (codes ": " ++ (decimal (restore_why_number e.why) ++ (codes " " ++ (restore_why_name e.why ++ codes "\n")))))
 
 -- this is the first faulty line of a counterexample over the engine form of a circuit, and it was told
 pub record IsMalformed (c : Circuit) (found told told' : Option (List ℕ)) : Type 0 where
   pub fault : RestoreFault
-  pub first : IfSome found (λ text. (read_text (input_count c) text).fault ≡ Some fault)
+  pub first : IfSome found (λ text. (read_found (input_count c) text).fault ≡ Some fault)
   pub line : Appends told told' (malformed_line fault)
 
 -- what was told of a counterexample, and whether it is accepted
@@ -228,8 +228,8 @@ pub record Agree (known before now : Option (List ℕ)) : Type 0 where
 pub record Differ (known before now : Option (List ℕ)) : Type 0 where
   pub vectors : List Vector
   pub text : IfSome known (λ text. AreVectorsOf text vectors)
-  pub some : differing (numbered 1 vectors) ≢ []
-  pub appends : Appends before now (report (differing (numbered 1 vectors)) (length vectors))
+  pub some : lines_that_differ (numbered 1 vectors) ≢ []
+  pub appends : Appends before now (report (lines_that_differ (numbered 1 vectors)) (length vectors))
 
 -- all vectors are right, or at least one is not, as an answer says
 abbrev pub Compares : Option (List ℕ) → Option (List ℕ) → Option (List ℕ) → Answer → Type 0
@@ -243,7 +243,7 @@ pub record IsJudgedByName (model witness before now told told' : Option (List �
   pub judged : IsJudged model witness before now verdict
   pub firsts : List (Option ℕ)
   pub rises : IfSome witness (λ text. (fs : List Frame) → IsClosedTrace judged.items text fs → firsts ≡ word_first_rises judged.items text fs)
-  pub subject : Appends told told' (said_by_name (item_said judged.items) (bad_item_said judged.items) firsts verdict)
+  pub subject : Appends told told' (said_by_name (item_line judged.items) (bad_item_said judged.items) firsts verdict)
 
 -- The same over a circuit.
 pub record IsJudgedOverByName (circuit witness before now told told' : Option (List ℕ)) (verdict : Judgement) : Type 0 where

@@ -2,12 +2,12 @@
 use Rattle.std.specs.Prelude.{ℕ, Bool, not, ◌&&◌, ◌==◌, List, [], ◌∷◌, nat_le, if◌then◌else◌}
 
 -- a byte behind another is part of no control character: none of ASCII's, and none of those that UTF-8 writes as 194 and a byte from 128 to 159
-abbrev pub is_plain : ℕ → ℕ → Bool
-is_plain before b = (nat_le 32 b && not (b == 127)) && not (before == 194 && (nat_le 128 b && nat_le b 159))
+abbrev pub is_plain_byte : ℕ → ℕ → Bool
+is_plain_byte before b = (nat_le 32 b && not (b == 127)) && not (before == 194 && (nat_le 128 b && nat_le b 159))
 
 -- a byte behind another as lines tell it: `?` where it is not plain
 abbrev pub told_byte : ℕ → ℕ → ℕ
-told_byte before b = if is_plain before b then b else 63
+told_byte before b = if is_plain_byte before b then b else 63
 
 -- bytes behind another as lines tell them
 abbrev pub harmless_behind : ℕ → List ℕ → List ℕ

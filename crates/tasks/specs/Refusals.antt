@@ -7,21 +7,21 @@ use Rattle.btor2.specs.Check.{IsWellFormed}
 use Rattle.btor2.specs.Lists.{first_init_without_next}
 use Rattle.btor2text.specs.FirstFault.{IsFaultOf}
 use Rattle.aiger.specs.Circuit.{Circuit}
-use Rattle.aiger.specs.Refusal.{fault_number, fault_name}
-use Rattle.btor2text.specs.Whys.{printed_number, name_of}
-use Rattle.aigertext.specs.AsciiReading.{IsFaultOf as IsCircuitFaultOf}
-use Rattle.aigertext.specs.Whys.{why_number, why_name}
+use Rattle.aiger.specs.Refusal.{circuit_fault_number, circuit_fault_name}
+use Rattle.btor2text.specs.Whys.{printed_number, line_why_name}
+use Rattle.aigertext.specs.AsciiReading.{IsAsciiFaultOf as IsCircuitFaultOf}
+use Rattle.aigertext.specs.Whys.{circuit_why_number, circuit_why_name}
 use Rattle.blast.specs.declared.fault.LowerFault.{LowerFault}
 use Rattle.blast.specs.declared.fault.LowerFault.TheVariants as lower
 use Rattle.blast.specs.Faults.{lower_number, lower_name}
 use Rattle.blast.specs.Refusal.{lowering_refusal}
-use Rattle.engine.specs.Faults.{number_of as engine_number, name_of as engine_name}
+use Rattle.engine.specs.Faults.{engine_fault_number as engine_number, engine_fault_name as engine_name}
 use Rattle.engine.specs.Refusal.{engine_refusal}
 use Rattle.engine.specs.declared.fault.EngineFault.{EngineFault}
 use Rattle.vectors.specs.Vectors.{IsFirstBad}
 use Rattle.invariants.specs.Certificates.{AreCubes, IsFormFor}
-use Rattle.invariants.specs.Faults.{why_number as invariant_number, why_name as invariant_name, obligation_number, obligation_name}
-use Rattle.invariants.specs.Reading.{Reads}
+use Rattle.invariants.specs.Faults.{invariant_why_number as invariant_number, invariant_why_name as invariant_name, obligation_number, obligation_name}
+use Rattle.invariants.specs.Reading.{ReadsCubes}
 use Rattle.invariants.specs.Refusal.{obligation_refusal}
 use Rattle.witness.specs.Answers.{judge_number, judge_name}
 use Rattle.witness.specs.declared.fault.JudgeFault.TheVariants as judge
@@ -35,7 +35,7 @@ use Rattle.tasks.specs.declared.refusals.Refusal.{Refusal}
 use Rattle.tasks.specs.declared.refusals.Refusal.TheVariants as refusal
 use Rattle.orders.specs.declared.tasks.Given.{Given}
 use Rattle.orders.specs.declared.tasks.Given.TheVariants as given
-use Rattle.tasks.specs.Certificates.{Gives}
+use Rattle.tasks.specs.Certificates.{GivesCircuit}
 use Rattle.tasks.specs.Names.{harmless}
 use Rattle.btor2text.specs.Spelling.{IsModelOf}
 use Rattle.tasks.specs.Claims.{IsClaim}
@@ -47,8 +47,8 @@ abbrev pub about : List ℕ → List ℕ → List ℕ
 about file says = file ++ (codes ": " ++ says)
 
 -- what is said of a place, which is counted
-abbrev pub at : List ℕ → ℕ → List ℕ → List ℕ
-at counted n says = counted ++ (decimal n ++ (codes ": " ++ says))
+abbrev pub place_said : List ℕ → ℕ → List ℕ → List ℕ
+place_said counted n says = counted ++ (decimal n ++ (codes ": " ++ says))
 
 -- a number and a name, which end a line
 abbrev pub numbered_name : ℕ → List ℕ → List ℕ
@@ -56,26 +56,26 @@ numbered_name number name = decimal number ++ (codes " " ++ (name ++ codes "\n")
 
 -- what is said of an item of a file: a number and a name
 abbrev pub item_said : ℕ → ℕ → List ℕ → List ℕ
-item_said id number name = at (codes "item ") id (numbered_name number name)
+item_said id number name = place_said (codes "item ") id (numbered_name number name)
 
 -- what is said of the item that a lowering is refused for, or of the model as a whole
 abbrev pub at_item : LowerFault → List ℕ → List ℕ
-at_item (lower.Justice id) says = at (codes "item ") id says
-at_item (lower.Fair id) says = at (codes "item ") id says
-at_item (lower.NoNext id) says = at (codes "item ") id says
+at_item (lower.Justice id) says = place_said (codes "item ") id says
+at_item (lower.Fair id) says = place_said (codes "item ") id says
+at_item (lower.NoNext id) says = place_said (codes "item ") id says
 at_item _ says = says
 
 -- what is said of a file that has a fault
 abbrev pub fault_said : Fault → List ℕ
-fault_said (fault.Model e) = at (codes "line ") e.line (numbered_name (printed_number e.why) (name_of e.why))
-fault_said (fault.Circuit e) = at (codes "byte ") e.place (numbered_name (why_number e.why) (why_name e.why))
+fault_said (fault.Model e) = place_said (codes "line ") e.line (numbered_name (printed_number e.why) (line_why_name e.why))
+fault_said (fault.Circuit e) = place_said (codes "byte ") e.place (numbered_name (circuit_why_number e.why) (circuit_why_name e.why))
 fault_said (fault.Lowering e) = at_item e (numbered_name (lower_number e) (lower_name e))
-fault_said (fault.Outputs e) = numbered_name (fault_number e) (fault_name e)
+fault_said (fault.Outputs e) = numbered_name (circuit_fault_number e) (circuit_fault_name e)
 fault_said (fault.Engine e) = numbered_name (engine_number e) (engine_name e)
-fault_said (fault.Invariant e) = at (codes "line ") e.line (numbered_name (invariant_number e.why) (invariant_name e.why))
+fault_said (fault.Invariant e) = place_said (codes "line ") e.line (numbered_name (invariant_number e.why) (invariant_name e.why))
 fault_said (fault.Obligation e) = numbered_name (obligation_number e) (obligation_name e)
 fault_said (fault.NoNext id) = item_said id (judge_number (judge.NoNext id)) (judge_name (judge.NoNext id))
-fault_said (fault.Vector n) = at (codes "line ") n (codes "bad vector\n")
+fault_said (fault.Vector n) = place_said (codes "line ") n (codes "bad vector\n")
 fault_said (fault.Unchosen claimed.Found) = codes "--bad K says which bad property rises: the K that the engine form was made for, or of a form of all, that of ABC's Output K of miter\n"
 fault_said (fault.Unchosen claimed.Certified) = codes "--bad K says which bad property holds: the K that the engine form of the invariant was made for\n"
 
@@ -201,7 +201,7 @@ IsNotGiven given.Circuit known f = IsNoCircuit known f
 -- the first text gives a circuit, and this is the first that speaks against an engine form of it
 pub record GivesWithoutForm (g : Given) (choice : Option ℕ) (known : Option (List ℕ)) (e : EngineFault) : Type 0 where
   pub circuit : Circuit
-  pub gives : Gives g known circuit
+  pub gives : GivesCircuit g known circuit
   pub first : engine_refusal circuit choice ≡ Some e
 
 -- the first text gives no circuit, or one that has no such engine form
@@ -213,7 +213,7 @@ IsNotForEngines g choice known f = IsNotGiven g known f
 pub record GivesNoForm (g : Given) (choice : Option ℕ) (known : Option (List ℕ)) (e : EngineFault) : Type 0 where
   pub circuit : Circuit
   pub claim : ℕ
-  pub gives : Gives g known circuit
+  pub gives : GivesCircuit g known circuit
   pub is_claim : IsClaim choice circuit claim
   pub first : engine_refusal circuit (Some claim) ≡ Some e
 
@@ -226,7 +226,7 @@ IsUnclaimed c circuit _ = ⊥
 -- the first text gives a circuit without a bad property, none is chosen, and this is the first that speaks against an engine form of it
 pub record GivesNoBad (g : Given) (choice : Option ℕ) (known : Option (List ℕ)) (e : EngineFault) : Type 0 where
   pub circuit : Circuit
-  pub gives : Gives g known circuit
+  pub gives : GivesCircuit g known circuit
   pub unchosen : choice ≡ None
   pub none : circuit.bads ≡ []
   pub first : engine_refusal circuit None ≡ Some e
@@ -234,7 +234,7 @@ pub record GivesNoBad (g : Given) (choice : Option ℕ) (known : Option (List �
 -- the first text gives a circuit that has several bad properties, and none is chosen
 pub record GivesUnchosen (g : Given) (choice : Option ℕ) (known : Option (List ℕ)) : Type 0 where
   pub circuit : Circuit
-  pub gives : Gives g known circuit
+  pub gives : GivesCircuit g known circuit
   pub unchosen : choice ≡ None
   pub several : 1 < length circuit.bads
 
@@ -248,7 +248,7 @@ IsNotClaimed c g choice known f = IsNotGiven g known f
 
 -- a text is no invariant over a circuit, and this is the fault of its first faulty line; or there is no obligation of its cubes
 abbrev pub IsFaultyOver : Circuit → Option (List ℕ) → Fault → Type 0
-IsFaultyOver d invariant (fault.Invariant e) = Reads (length d.latches) invariant (Err e)
+IsFaultyOver d invariant (fault.Invariant e) = ReadsCubes (length d.latches) invariant (Err e)
 IsFaultyOver d invariant (fault.Obligation e) = (cubes : List (List ℕ)) × AreCubes d invariant cubes × (obligation_refusal d cubes ≡ Some e)
 IsFaultyOver d invariant _ = ⊥
 
@@ -262,6 +262,6 @@ pub record IsFaultyFor (c : Circuit) (k : ℕ) (invariant : Option (List ℕ)) (
 pub record IsFaultyInvariant (g : Given) (choice : Option ℕ) (first second : Option (List ℕ)) (f : Fault) : Type 0 where
   pub circuit : Circuit
   pub claim : ℕ
-  pub gives : Gives g first circuit
+  pub gives : GivesCircuit g first circuit
   pub is_claim : IsClaim choice circuit claim
   pub faulty : IsFaultyFor circuit claim second f

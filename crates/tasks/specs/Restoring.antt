@@ -8,7 +8,7 @@ use Rattle.witness.specs.BitJudgements.{BitJudges}
 use Rattle.restore.specs.declared.fault.RestoreFault.{RestoreFault}
 use Rattle.restore.specs.Accepted.{FindsAgain}
 use Rattle.restore.specs.Faults.{is_of_text}
-use Rattle.restore.specs.Reading.{read_text}
+use Rattle.restore.specs.Reading.{read_found}
 use Rattle.restore.specs.Restored.{restored_text}
 use Rattle.tasks.specs.declared.answers.Answer.{Answer}
 use Rattle.tasks.specs.declared.answers.Answer.TheVariants as answer
@@ -17,8 +17,8 @@ use Rattle.tasks.specs.Done.{IsSo, judgement_line, malformed_line}
 -- what a restoring answers: the judgement of what was restored, or the first faulty line
 abbrev pub IsAnswerOf : Circuit → ℕ → Option (List ℕ) → Result Judgement RestoreFault → Type 0
 IsAnswerOf c claim found (Ok j) =
-    IfSome found (λ text. (read_text (input_count c) text).fault ≡ None) × (IfSome found (λ text. BitJudges c (restored_text c claim text) j) × IfSome found (λ text. FindsAgain c claim text j))
-IsAnswerOf c claim found (Err e) = is_of_text e.why ≡ true → IfSome found (λ text. (read_text (input_count c) text).fault ≡ Some e)
+    IfSome found (λ text. (read_found (input_count c) text).fault ≡ None) × (IfSome found (λ text. BitJudges c (restored_text c claim text) j) × IfSome found (λ text. FindsAgain c claim text j))
+IsAnswerOf c claim found (Err e) = is_of_text e.why ≡ true → IfSome found (λ text. (read_found (input_count c) text).fault ≡ Some e)
 
 -- what was told of a judgement, and whether it is that the witness is accepted
 abbrev pub TellsVerdict : Result Judgement RestoreFault → Answer → Option (List ℕ) → Option (List ℕ) → Type 0

@@ -45,11 +45,11 @@ abbrev pub bad_item_said : List Item → ℕ → List ℕ
 bad_item_said items k = says_item (codes "b") k (numbered_item is_bad items k)
 
 -- the line that says what a judgement over a model is about; none where it tells no number of a thing
-abbrev pub item_said : List Item → Judgement → List ℕ
-item_said items (judgement.NotReached claim) = bad_item_said items claim
-item_said items (judgement.Violated frame constraint) = says_item (codes "constraint ") constraint (numbered_item is_constraint items constraint)
-item_said items (judgement.InitDiffers index) = says_item (codes "state ") index (numbered_item is_state items index)
-item_said items _ = []
+abbrev pub item_line : List Item → Judgement → List ℕ
+item_line items (judgement.NotReached claim) = bad_item_said items claim
+item_line items (judgement.Violated frame constraint) = says_item (codes "constraint ") constraint (numbered_item is_constraint items constraint)
+item_line items (judgement.InitDiffers index) = says_item (codes "state ") index (numbered_item is_state items index)
+item_line items _ = []
 
 -- ---- over a circuit
 
@@ -73,7 +73,7 @@ name_said c _ = []
 -- the line that says what a judgement over the circuit of a model is about: the line of the model, and of a latch the name
 abbrev pub lifted_said : List Item → Circuit → Judgement → List ℕ
 lifted_said items c (judgement.InitDiffers index) = name_said c (judgement.InitDiffers index)
-lifted_said items c j = item_said items j
+lifted_said items c j = item_line items j
 
 -- ---- of a certificate
 
@@ -111,7 +111,7 @@ said_by_name said bad firsts j = said j ++ where_accepted j (firsts_said bad 0 f
 
 -- the line that says what a judgement is about
 abbrev pub subject_said : Subject → Judgement → List ℕ
-subject_said (subject.Model m) j = item_said m.now j
+subject_said (subject.Model m) j = item_line m.now j
 subject_said (subject.Circuit c) j = name_said c.now j
 subject_said (subject.Lowered m c) j = lifted_said m.now c.now j
 

@@ -6,7 +6,7 @@ ghost use Rattle.std.specs.String.{string_bytes};
 ghost use Rattle.btor2text.specs.Writing.{written};
 ghost use Rattle.blast.specs.Conversion.{Converts};
 ghost use Rattle.btor2text.specs.Spelling.{IsModelOf};
-ghost use Rattle.tasks.specs.Done.{IsJudged, IsJudgedByName, Judged, Shows, TellsCost, counts_line, cost_lines};
+ghost use Rattle.tasks.specs.Done.{IsJudged, IsJudgedByName, Judged, ShowsModel, TellsCost, counts_line, cost_lines};
 ghost use Rattle.tasks.specs.Refusals.{IsNoModel, IsNotJudged, IsNotLowered};
 ghost use Rattle.tasks.specs.Statuses.{Counts, ErrUntold, IfInput, IsOfNoInput};
 
@@ -107,7 +107,7 @@ pub fn check_model_by_name<B: Source, O: Sink, E: Sink>(
 
 /// Writes a model in the writer's form and the line of its counts.
 pub fn show<O: Sink>(alloc: Global, model: &Model, out: &mut O) -> Result<Answer, Refusal>
-    ensures done { (known : Option (List ℕ)) → IsModelOf known model.now → OnOk result (Shows known (O.written out.old) (O.written out.new)) }
+    ensures done { (known : Option (List ℕ)) → IsModelOf known model.now → OnOk result (ShowsModel known (O.written out.old) (O.written out.new)) }
     ensures answer { IfOk result (λ answer. answer ≡ Answer.Done) }
     ensures no_input { IsOfNoInput result }
     ensures counted { (f s e : ℕ) → Counts result f f s s (O.failures out.old) (O.failures out.new) e e }

@@ -3,7 +3,7 @@
 ghost use Rattle.std.specs.Prelude.{◌≡◌, true, OnOk};
 ghost use Rattle.std.specs.Io.KnownBytes.{Appends};
 ghost use Rattle.base.specs.Device.{CountsFaults};
-ghost use Rattle.tasks.specs.Names.{harmless, is_plain, told_byte};
+ghost use Rattle.tasks.specs.Names.{harmless, is_plain_byte, told_byte};
 
 use base::{DeviceFault, Sink, write_all};
 
@@ -15,7 +15,7 @@ const BEFORE_CONTROL: u8 = 194;
 
 /// Whether a byte behind another is part of no control character.
 fn is_plain(before: u8, byte: u8) -> bool
-    ensures { result ≡ is_plain before byte }
+    ensures { result ≡ is_plain_byte before byte }
 {
     (byte >= 32 && byte != 127) && !(before == BEFORE_CONTROL && (byte >= 128 && byte <= 159))
 }

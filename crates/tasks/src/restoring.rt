@@ -8,7 +8,7 @@ ghost use Rattle.tasks.specs.declared.answers.Answer.TheVariants as answer_is;
 ghost use Rattle.orders.specs.declared.tasks.Given.TheVariants as given_is;
 ghost use Rattle.tasks.specs.declared.refusals.Refusal.TheVariants as refusal;
 ghost use Rattle.tasks.specs.declared.refusals.Fault.TheVariants as fault_is;
-ghost use Rattle.restore.specs.Answers.{CountsRestore, CountsWhy};
+ghost use Rattle.restore.specs.Answers.{CountsRestore, CountsRestoreWhy};
 ghost use Rattle.restore.specs.Faults.{is_of_text};
 ghost use Rattle.aigertext.specs.Spelling.{IsCircuitText};
 ghost use Rattle.tasks.specs.Claims.{IsClaim};
@@ -105,7 +105,7 @@ fn tell_fault<E: Sink>(alloc: Global, fault: &RestoreFault, err: &mut E) -> Resu
     ensures answer { IfOk result (λ answer. answer ≡ answer_is.NotAccepted) }
     ensures no_input { IsOfNoInput result }
     ensures untold { ErrUntold result (err.new ≡ err.old) }
-    ensures counted { (f s s' o o' : ℕ) → CountsWhy fault.now.why s s' o o' → Counts result f f s s' o o' (E.failures err.old) (E.failures err.new) }
+    ensures counted { (f s s' o o' : ℕ) → CountsRestoreWhy fault.now.why s s' o o' → Counts result f f s s' o o' (E.failures err.old) (E.failures err.new) }
 {
     match fault.why {
         RestoreWhy::Device => Err(Refusal::Failed(Device::Second)),

@@ -5,7 +5,7 @@ ghost use Rattle.std.specs.Io.KnownBytes.{Appends};
 ghost use Rattle.base.specs.Device.{CountsFaults};
 ghost use Rattle.btor2.specs.declared.item.Body.{Body};
 ghost use Rattle.btor2.specs.Lists.{places};
-ghost use Rattle.tasks.specs.Subjects.{bad_item_said, bad_name_said, bad_said, first_said, firsts_said, frame_said, item_said, lifted_said, line_said, name_said, numbered_item, said_by_name, says, says_item, says_name, subject_said, symbol_said, where_named};
+ghost use Rattle.tasks.specs.Subjects.{bad_item_said, bad_name_said, bad_said, first_said, firsts_said, frame_said, item_line, lifted_said, line_said, name_said, numbered_item, said_by_name, says, says_item, says_name, subject_said, symbol_said, where_named};
 
 use aiger::{Circuit, Section};
 use base::{DeviceFault, Sink, write_all};
@@ -149,7 +149,7 @@ fn tell_item_said<E: Sink>(
     judgement: &Judgement,
     err: &mut E,
 ) -> Result<(), DeviceFault>
-    ensures written { OnOk result (Appends (E.written err.old) (E.written err.new) (item_said model.now judgement.now)) }
+    ensures written { OnOk result (Appends (E.written err.old) (E.written err.new) (item_line model.now judgement.now)) }
     ensures counted { CountsFaults result (E.failures err.old) (E.failures err.new) }
 {
     match judgement {

@@ -11,7 +11,7 @@ use Rattle.tidy.specs.declared.line.Word.{Word}
 use Rattle.tidy.specs.declared.line.Word.TheVariants as word
 use Rattle.tidy.specs.declared.line.Line.{Line}
 use Rattle.tidy.specs.declared.line.Line.TheVariants as line
-use Rattle.tidy.specs.Words.{is_blank, plain, begins, begins_digit}
+use Rattle.tidy.specs.Words.{is_gap, plain, begins_with, begins_digit}
 use Rattle.tidy.specs.Tidied.{Stand, is_progress, behind_words}
 use Rattle.tidy.specs.Steps.{said_first, said_more, spelled, spelled_line, later, first_kept, first_in_front, first_line, first_place, line_more, place_more, new_line}
 use Rattle.tidy.proofs.WordLemmas.{in_word, in_gap, plain_blank, in_word_byte, in_gap_byte, plain_byte, digit_behind}
@@ -45,8 +45,8 @@ fits p l = not (is_held l) || is_front p
 
 record IsOther (words : List ℕ) : Type 0 where
   pub some : is_nothing words ≡ false
-  pub comment : begins 59 words ≡ false
-  pub c : begins 99 words ≡ false
+  pub comment : begins_with 59 words ≡ false
+  pub c : begins_with 99 words ≡ false
   pub progress : is_progress words ≡ false
   pub sat : bytes_eq words (codes "sat") ≡ false
   pub one : bytes_eq words (codes "1") ≡ false
@@ -110,7 +110,7 @@ Keeps k p l b bs = behind_words (standing k p) (words_left l (b ∷ bs)) ≡ beh
 
 word_keeps : (k : ℕ) (p : Place) (s : Said) (w : Word) (b : ℕ) (bs : List ℕ) → Keeps k p (line.Kept s w false) b bs
 word_keeps k p s w b bs =
-    elim (cases_Bool (is_blank b)) [
+    elim (cases_Bool (is_gap b)) [
       | inl blank ↦ rw blank refl
       | inr byte ↦
           ap (λ (l : List ℕ). behind_words (standing k p) (spelled s ++ l)) (in_word_byte place.Front w b bs byte)
@@ -119,7 +119,7 @@ word_keeps k p s w b bs =
 
 gap_keeps : (k : ℕ) (p : Place) (s : Said) (w : Word) (b : ℕ) (bs : List ℕ) → Keeps k p (line.Kept s w true) b bs
 gap_keeps k p s w b bs =
-    elim (cases_Bool (is_blank b)) [
+    elim (cases_Bool (is_gap b)) [
       | inl blank ↦ rw blank refl
       | inr byte ↦
           ap (λ (l : List ℕ). behind_words (standing k p) (spelled s ++ l)) (in_gap_byte place.Front w b bs byte)
@@ -153,7 +153,7 @@ held_keeps k p b bs f =
       | inl digit ↦ rw digit (u_digit k p (in_word place.Front word.First (b ∷ bs)) f (digit_behind place.Front word.First b bs refl ∙ digit))
       | inr other ↦
           u_other k p (in_word place.Front word.First (b ∷ bs)) (digit_behind place.Front word.First b bs refl ∙ other)
-          ∙ elim (cases_Bool (is_blank b)) [
+          ∙ elim (cases_Bool (is_gap b)) [
             | inl blank ↦ rw (other, blank) refl
             | inr byte ↦
                 ap (λ (l : List ℕ). behind_words (standing k p) (63 ∷ l)) (in_word_byte place.Front word.First b bs byte)
@@ -282,7 +282,7 @@ first_keeps k place.Over b bs = kept_first k place.Over b (in_word place.Front w
 
 empty_keeps : (k : ℕ) (p : Place) (b : ℕ) (bs : List ℕ) → Keeps k p line.Empty b bs
 empty_keeps k p b bs =
-    elim (cases_Bool (is_blank b)) [
+    elim (cases_Bool (is_gap b)) [
       | inl blank ↦ ap (behind_words (standing k p)) (plain_blank b bs blank) ∙ rw blank refl
       | inr byte ↦ ap (behind_words (standing k p)) (plain_byte place.Front b bs (λ w. refl) byte) ∙ rw byte (first_keeps k p b bs)
     ]
@@ -320,12 +320,12 @@ first_fits place.Passed b = refl
 first_fits place.Over b = refl
 
 pub fits_more : (p : Place) (l : Line) (b : ℕ) → fits (place_more p l b) (line_more p l b) ≡ true
-fits_more p line.Empty b = elim (cases_Bool (is_blank b)) [ inl blank ↦ rw blank refl | inr byte ↦ rw byte (first_fits p b) ]
+fits_more p line.Empty b = elim (cases_Bool (is_gap b)) [ inl blank ↦ rw blank refl | inr byte ↦ rw byte (first_fits p b) ]
 fits_more p line.Copied b = refl
 fits_more p line.Gone b = refl
-fits_more p line.Held b = either_fits p (is_digit b) line.Gone (line.Kept said.Other word.First (is_blank b)) refl refl
-fits_more p (line.Kept s w false) b = either_fits p (is_blank b) (line.Kept s w true) (line.Kept (said_more s b) w false) refl refl
-fits_more p (line.Kept s w true) b = either_fits p (is_blank b) (line.Kept s w true) (line.Kept said.Other (later w) false) refl refl
+fits_more p line.Held b = either_fits p (is_digit b) line.Gone (line.Kept said.Other word.First (is_gap b)) refl refl
+fits_more p (line.Kept s w false) b = either_fits p (is_gap b) (line.Kept s w true) (line.Kept (said_more s b) w false) refl refl
+fits_more p (line.Kept s w true) b = either_fits p (is_gap b) (line.Kept s w true) (line.Kept said.Other (later w) false) refl refl
 
 pub new_fits : (p : Place) → fits p (new_line p) ≡ true
 new_fits place.Front = refl

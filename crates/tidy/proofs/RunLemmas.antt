@@ -10,8 +10,8 @@ use Rattle.tidy.specs.declared.line.Word.{Word}
 use Rattle.tidy.specs.declared.line.Line.{Line}
 use Rattle.tidy.specs.declared.line.Line.TheVariants as line
 use Rattle.tidy.specs.declared.tidier.Tidier.{Tidier}
-use Rattle.tidy.specs.Words.{is_blank}
-use Rattle.tidy.specs.Steps.{takes_x, changed, behind_bytes, bytes_written, line_more, place_more, is_plain, IsRun}
+use Rattle.tidy.specs.Words.{is_gap}
+use Rattle.tidy.specs.Steps.{takes_x, changed, behind_bytes, bytes_written, line_more, place_more, is_plain, IsTidying}
 
 abbrev at : ℕ → Place → Line → Tidier
 at k p l = record { skip = k; place = p; line = l }
@@ -41,12 +41,12 @@ gone_written p (b ∷ bs) is = let parts = or_parts (b == 10) _ is in rw parts.0
 
 -- ---- bytes of a word
 
-plain_blank : (takes : Bool) (b : ℕ) → is_plain takes b ≡ true → is_blank b ≡ false
-plain_blank takes b h = not-true (is_blank b) (and_parts (not (is_blank b)) _ h).0
+plain_blank : (takes : Bool) (b : ℕ) → is_plain takes b ≡ true → is_gap b ≡ false
+plain_blank takes b h = not-true (is_gap b) (and_parts (not (is_gap b)) _ h).0
 
 plain_same : (p : Place) (w : Word) (b : ℕ) → is_plain (takes_x p w) b ≡ true → changed p w b ≡ b
 plain_same p w b h =
-    elim (and_cases (takes_x p w) (b == 120) (not-true _ (and_parts (not (is_blank b)) _ h).1)) [
+    elim (and_cases (takes_x p w) (b == 120) (not-true _ (and_parts (not (is_gap b)) _ h).1)) [
       | inl off ↦ rw off refl
       | inr off ↦
           elim (cases_Bool (takes_x p w)) [
@@ -77,19 +77,19 @@ kept_written p w (b ∷ bs) is all =
 is_skipping : (n : ℕ) → (suc n == 0) ≡ false
 is_skipping n = ne_eqb (suc n) 0 (λ e. absurd (omega arith))
 
-copied_at : (k : ℕ) (p : Place) (bytes : List ℕ) → IsLine bytes → IsRun (at k p line.Copied) bytes
+copied_at : (k : ℕ) (p : Place) (bytes : List ℕ) → IsLine bytes → IsTidying (at k p line.Copied) bytes
 copied_at zero p bytes is = record { behind = copied_behind zero p bytes is; written = copied_written p bytes is }
 copied_at (suc n) p bytes is = record { behind = copied_behind (suc n) p bytes is; written = rw (is_skipping n) (hidden n p line.Copied bytes is) }
 
-gone_at : (k : ℕ) (p : Place) (bytes : List ℕ) → IsLine bytes → IsRun (at k p line.Gone) bytes
+gone_at : (k : ℕ) (p : Place) (bytes : List ℕ) → IsLine bytes → IsTidying (at k p line.Gone) bytes
 gone_at zero p bytes is = record { behind = gone_behind zero p bytes is; written = gone_written p bytes is }
 gone_at (suc n) p bytes is = record { behind = gone_behind (suc n) p bytes is; written = rw (is_skipping n) (hidden n p line.Gone bytes is) }
 
-kept_at : (k : ℕ) (p : Place) (w : Word) (bytes : List ℕ) → IsLine bytes → list_all (is_plain (takes_x p w)) bytes ≡ true → IsRun (at k p (line.Kept said.Other w false)) bytes
+kept_at : (k : ℕ) (p : Place) (w : Word) (bytes : List ℕ) → IsLine bytes → list_all (is_plain (takes_x p w)) bytes ≡ true → IsTidying (at k p (line.Kept said.Other w false)) bytes
 kept_at zero p w bytes is all = record { behind = kept_behind zero p w bytes is all; written = kept_written p w bytes is all }
 kept_at (suc n) p w bytes is all = record { behind = kept_behind (suc n) p w bytes is all; written = rw (is_skipping n) (hidden n p (line.Kept said.Other w false) bytes is) }
 
-nothing_at : (k : ℕ) (p : Place) (l : Line) → IsRun (at k p l) []
+nothing_at : (k : ℕ) (p : Place) (l : Line) → IsTidying (at k p l) []
 nothing_at zero p line.Empty = record { behind = refl; written = refl }
 nothing_at zero p line.Copied = record { behind = refl; written = refl }
 nothing_at zero p line.Gone = record { behind = refl; written = refl }
@@ -98,19 +98,19 @@ nothing_at zero p (line.Kept s w g) = record { behind = refl; written = refl }
 nothing_at (suc n) p l = record { behind = refl; written = rw (is_skipping n) refl }
 
 -- a tidier whose line is known so
-pub copied_run : (t : Tidier) (bytes : List ℕ) → t.line ≡ line.Copied → IsLine bytes → IsRun t bytes
-copied_run t bytes e is = subst (λ (l : Line). IsRun (at t.skip t.place l) bytes) (sym e) (copied_at t.skip t.place bytes is)
+pub copied_run : (t : Tidier) (bytes : List ℕ) → t.line ≡ line.Copied → IsLine bytes → IsTidying t bytes
+copied_run t bytes e is = subst (λ (l : Line). IsTidying (at t.skip t.place l) bytes) (sym e) (copied_at t.skip t.place bytes is)
 
-pub gone_run : (t : Tidier) (bytes : List ℕ) → t.line ≡ line.Gone → IsLine bytes → IsRun t bytes
-gone_run t bytes e is = subst (λ (l : Line). IsRun (at t.skip t.place l) bytes) (sym e) (gone_at t.skip t.place bytes is)
+pub gone_run : (t : Tidier) (bytes : List ℕ) → t.line ≡ line.Gone → IsLine bytes → IsTidying t bytes
+gone_run t bytes e is = subst (λ (l : Line). IsTidying (at t.skip t.place l) bytes) (sym e) (gone_at t.skip t.place bytes is)
 
 pub kept_run : (t : Tidier) (s : Said) (w : Word) (gap : Bool) (bytes : List ℕ) → t.line ≡ line.Kept s w gap → s ≡ said.Other → gap ≡ false → IsLine bytes → list_all (is_plain (takes_x t.place w)) bytes ≡ true
-    → IsRun t bytes
+    → IsTidying t bytes
 kept_run t s w gap bytes e other none is all =
-    subst (λ (l : Line). IsRun (at t.skip t.place l) bytes) (sym (e ∙ ap (λ (o : Said). line.Kept o w gap) other ∙ ap (λ (g : Bool). line.Kept said.Other w g) none))
+    subst (λ (l : Line). IsTidying (at t.skip t.place l) bytes) (sym (e ∙ ap (λ (o : Said). line.Kept o w gap) other ∙ ap (λ (g : Bool). line.Kept said.Other w g) none))
     (kept_at t.skip t.place w bytes is all)
 
-pub no_run : (t : Tidier) → IsRun t []
+pub no_run : (t : Tidier) → IsTidying t []
 no_run t = nothing_at t.skip t.place t.line
 
 -- a front of a line is one

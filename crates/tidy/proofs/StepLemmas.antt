@@ -9,7 +9,7 @@ use Rattle.tidy.specs.declared.line.Word.{Word}
 use Rattle.tidy.specs.declared.line.Word.TheVariants as word
 use Rattle.tidy.specs.declared.line.Line.{Line}
 use Rattle.tidy.specs.declared.line.Line.TheVariants as line
-use Rattle.tidy.specs.Words.{is_blank, pieces, words, plain, begins, begins_digit}
+use Rattle.tidy.specs.Words.{is_gap, word_pieces, words, plain, begins_with, begins_digit}
 use Rattle.tidy.specs.Tidied.{front_line, tidied_line, closed_by, zero_x}
 use Rattle.tidy.specs.Steps.{takes_x, changed, first_in_front, first_line, first_place, first_bytes, line_more, place_more, bytes_more, held_bytes, end_bytes, new_line}
 use Rattle.tidy.proofs.WordLemmas.{in_word, in_gap, IsPlain, words_blank, plain_blank, unindented_blank, unindented_byte, all_words_byte, next_of, behind_gap, joined_zero, joined_value, plain_byte, digit_behind}
@@ -40,7 +40,7 @@ abbrev Steps : List ℕ → Place → Line → ℕ → List ℕ → Type 0
 Steps e p l b bs = closed_by e (left_of p l (b ∷ bs)) ≡ bytes_more p l b ++ closed_by e (left_of (place_more p l b) (line_more p l b) bs)
 
 -- a blank behind blanks
-blank_left : (p : Place) (b : ℕ) (bs : List ℕ) → is_blank b ≡ true → empty_left p (b ∷ bs) ≡ empty_left p bs
+blank_left : (p : Place) (b : ℕ) (bs : List ℕ) → is_gap b ≡ true → empty_left p (b ∷ bs) ≡ empty_left p bs
 blank_left place.Front b bs h = rw (plain_blank b bs h, unindented_blank b bs h) refl
 blank_left place.Between b bs h = rw (plain_blank b bs h, unindented_blank b bs h) refl
 blank_left place.Claims b bs h = rw (plain_blank b bs h) refl
@@ -55,7 +55,7 @@ blank_left place.Passed b bs h = rw (plain_blank b bs h) refl
 blank_left place.Over b bs h = rw (plain_blank b bs h) refl
 
 -- a first byte
-zero_first : (p : Place) (b : ℕ) (bs : List ℕ) → ((w : Word) → takes_x p w ≡ true) → is_blank b ≡ false → map zero_x (plain (b ∷ bs)) ≡ changed p word.First b ∷ in_word p word.First bs
+zero_first : (p : Place) (b : ℕ) (bs : List ℕ) → ((w : Word) → takes_x p w ≡ true) → is_gap b ≡ false → map zero_x (plain (b ∷ bs)) ≡ changed p word.First b ∷ in_word p word.First bs
 zero_first p b bs h byte = joined_zero p (words (b ∷ bs)) h ∙ all_words_byte p b bs byte
 
 held_first : (e : List ℕ) (p : Place) (bs : List ℕ) → IsPlain p → closed_by e (if begins_digit (in_word p word.First bs) then None else Some (117 ∷ in_word p word.First bs)) ≡ closed_by e (held_left p bs)
@@ -63,7 +63,7 @@ held_first e p [] h = refl
 held_first e p (b ∷ bs) h = rw (digit_behind p word.First b bs (h word.First)) refl
 
 -- in front of a status line
-front_first : (e : List ℕ) (p : Place) (b : ℕ) (bs : List ℕ) → IsPlain p → is_blank b ≡ false
+front_first : (e : List ℕ) (p : Place) (b : ℕ) (bs : List ℕ) → IsPlain p → is_gap b ≡ false
     → closed_by e (front_line (b ∷ bs)) ≡ first_bytes p b (first_in_front b) ++ closed_by e (left_of p (first_in_front b) bs)
 front_first e p b bs h byte =
     rw (plain_byte p b bs h byte, unindented_byte b bs byte)
@@ -76,7 +76,7 @@ front_first e p b bs h byte =
           ]
     ])
 
-first_left : (e : List ℕ) (p : Place) (b : ℕ) (bs : List ℕ) → is_blank b ≡ false
+first_left : (e : List ℕ) (p : Place) (b : ℕ) (bs : List ℕ) → is_gap b ≡ false
     → closed_by e (empty_left p (b ∷ bs)) ≡ first_bytes p b (first_line p b) ++ closed_by e (left_of (first_place p b) (first_line p b) bs)
 first_left e place.Front b bs byte = front_first e place.Front b bs (λ w. refl) byte
 first_left e place.Between b bs byte =
@@ -84,7 +84,7 @@ first_left e place.Between b bs byte =
       | inl c ↦ rw (plain_byte place.Between b bs (λ w. refl) byte, c) refl
       | inr other ↦
           rw other
-          (rw (ap (begins 99) (plain_byte place.Between b bs (λ w. refl) byte) ∙ other) (front_first e place.Between b bs (λ w. refl) byte))
+          (rw (ap (begins_with 99) (plain_byte place.Between b bs (λ w. refl) byte) ∙ other) (front_first e place.Between b bs (λ w. refl) byte))
     ]
 first_left e place.Claims b bs byte =
     elim (cases_Bool (b == 59)) [
@@ -114,29 +114,29 @@ held_step e p b bs =
     elim (cases_Bool (is_digit b)) [
       | inl digit ↦ rw digit refl
       | inr other ↦
-          elim (cases_Bool (is_blank b)) [
+          elim (cases_Bool (is_gap b)) [
             | inl blank ↦ rw (other, blank) refl
-            | inr byte ↦ rw (other, byte, next_of p word.First b (pieces bs)) refl
+            | inr byte ↦ rw (other, byte, next_of p word.First b (word_pieces bs)) refl
           ]
     ]
 
 word_step : (e : List ℕ) (p : Place) (s : Said) (w : Word) (b : ℕ) (bs : List ℕ) → Steps e p (line.Kept s w false) b bs
 word_step e p s w b bs =
-    elim (cases_Bool (is_blank b)) [
+    elim (cases_Bool (is_gap b)) [
       | inl blank ↦ rw blank refl
-      | inr byte ↦ rw (byte, next_of p w b (pieces bs)) refl
+      | inr byte ↦ rw (byte, next_of p w b (word_pieces bs)) refl
     ]
 
 gap_step : (e : List ℕ) (p : Place) (s : Said) (w : Word) (b : ℕ) (bs : List ℕ) → Steps e p (line.Kept s w true) b bs
 gap_step e p s w b bs =
-    elim (cases_Bool (is_blank b)) [
+    elim (cases_Bool (is_gap b)) [
       | inl blank ↦ rw blank refl
-      | inr byte ↦ rw (byte, behind_gap p w b (pieces bs)) refl
+      | inr byte ↦ rw (byte, behind_gap p w b (word_pieces bs)) refl
     ]
 
 empty_step : (e : List ℕ) (p : Place) (b : ℕ) (bs : List ℕ) → Steps e p line.Empty b bs
 empty_step e p b bs =
-    elim (cases_Bool (is_blank b)) [
+    elim (cases_Bool (is_gap b)) [
       | inl blank ↦ rw blank (ap (closed_by e) (blank_left p b bs blank))
       | inr byte ↦ rw byte (first_left e p b bs byte)
     ]

@@ -10,7 +10,7 @@ use Rattle.base.proofs.LineLemmas.{EachLine, lines_are_lines, unfinished_is_line
 use Rattle.tidy.specs.declared.place.Place.{Place}
 use Rattle.tidy.specs.declared.line.Line.{Line}
 use Rattle.tidy.specs.declared.tidier.Tidier.{Tidier}
-use Rattle.tidy.specs.Tidied.{Stand, at_front, behind_words, behind, closed_by, shown, written_line, tidied_lines, tidied}
+use Rattle.tidy.specs.Tidied.{Stand, at_front, behind_words, behind, closed_by, shown, tidy_line, tidied_lines, tidied}
 use Rattle.tidy.specs.Steps.{spelled_line, line_more, place_more, bytes_more, new_line, at_line, stand_of, behind_byte, byte_written, behind_bytes, bytes_written, last_written, TakesAll}
 use Rattle.tidy.proofs.ByteLemmas.{behind_bytes-append, bytes_written-append, shown-append}
 use Rattle.tidy.proofs.TakenLemmas.{written_end}
@@ -58,7 +58,7 @@ line_behind k p l (b ∷ bs) is f =
 
 -- ---- lines from their begin
 
-whole_written : (s : Stand) (line : List ℕ) → IsLine line → bytes_written (at_line s) (line ++ 10 ∷ []) ≡ written_line (10 ∷ []) s line
+whole_written : (s : Stand) (line : List ℕ) → IsLine line → bytes_written (at_line s) (line ++ 10 ∷ []) ≡ tidy_line (10 ∷ []) s line
 whole_written s line is =
     bytes_written-append (at_line s) line (10 ∷ [])
     ∙ ap (λ (x : List ℕ). bytes_written (at_line s) line ++ x) (written_end (behind_bytes (at_line s) line))
@@ -70,7 +70,7 @@ whole_behind s line is =
     behind_bytes-append (at_line s) line (10 ∷ [])
     ∙ ap at_line (line_behind s.skip s.place (new_line s.place) line is (new_fits s.place) ∙ new_words s.skip s.place line)
 
-last_line : (s : Stand) (rest : List ℕ) → IsLine rest → bytes_written (at_line s) rest ++ last_written (behind_bytes (at_line s) rest) ≡ written_line [] s rest
+last_line : (s : Stand) (rest : List ℕ) → IsLine rest → bytes_written (at_line s) rest ++ last_written (behind_bytes (at_line s) rest) ≡ tidy_line [] s rest
 last_line s rest is =
     line_written false s.skip s.place (new_line s.place) rest is
     ∙ ap (λ (o : Option (List ℕ)). shown s.skip (closed_by [] o)) (new_left s.place rest)
@@ -91,7 +91,7 @@ lines_written s (line ∷ lines) rest each is =
     ap (λ (l : List ℕ). all_written l (at_line s)) (append_assoc (line ++ 10 ∷ []) (text_of_lines lines) rest)
     ∙ written_on (at_line s) (line ++ 10 ∷ []) (text_of_lines lines ++ rest)
     ∙ ap₂ (λ (x : List ℕ) (u : Tidier). x ++ all_written (text_of_lines lines ++ rest) u) (whole_written s line each.0) (whole_behind s line each.0)
-    ∙ ap (λ (x : List ℕ). written_line (10 ∷ []) s line ++ x) (lines_written (behind s line) lines rest each.1 is)
+    ∙ ap (λ (x : List ℕ). tidy_line (10 ∷ []) s line ++ x) (lines_written (behind s line) lines rest each.1 is)
 
 pub text_written : (pick : ℕ) (text : List ℕ) → all_written text (at_line (at_front pick)) ≡ tidied pick text
 unfolding tidied

@@ -7,7 +7,7 @@ use Rattle.tidy.specs.declared.place.Place.{Place}
 use Rattle.tidy.specs.declared.place.Place.TheVariants as place
 use Rattle.tidy.specs.declared.line.Word.{Word}
 use Rattle.tidy.specs.declared.line.Word.TheVariants as word
-use Rattle.tidy.specs.Words.{is_blank, onto_piece, pieces, words, joined, plain, unindented, begins_digit}
+use Rattle.tidy.specs.Words.{is_gap, onto_piece, word_pieces, words, joined, plain, unindented, begins_digit}
 use Rattle.tidy.specs.Tidied.{zero_x, zero_value}
 use Rattle.tidy.specs.Steps.{later, takes_x, changed}
 
@@ -30,7 +30,7 @@ in_pieces p w [] = []
 in_pieces p w (v ∷ vs) = map (changed p w) v ++ spaced p w (some_words vs)
 
 abbrev pub in_word : Place → Word → List ℕ → List ℕ
-in_word p w bytes = in_pieces p w (pieces bytes)
+in_word p w bytes = in_pieces p w (word_pieces bytes)
 
 abbrev pub in_gap : Place → Word → List ℕ → List ℕ
 in_gap p w bytes = spaced p w (words bytes)
@@ -49,38 +49,38 @@ pub behind_gap : (p : Place) (w : Word) (b : ℕ) (ps : List (List ℕ)) → spa
 behind_gap p w b [] = refl
 behind_gap p w b (v ∷ vs) = refl
 
-pub pieces_blank : (b : ℕ) (bs : List ℕ) → is_blank b ≡ true → pieces (b ∷ bs) ≡ [] ∷ pieces bs
+pub pieces_blank : (b : ℕ) (bs : List ℕ) → is_gap b ≡ true → word_pieces (b ∷ bs) ≡ [] ∷ word_pieces bs
 pieces_blank b bs h = rw h refl
 
-pub pieces_byte : (b : ℕ) (bs : List ℕ) → is_blank b ≡ false → pieces (b ∷ bs) ≡ onto_piece b (pieces bs)
+pub pieces_byte : (b : ℕ) (bs : List ℕ) → is_gap b ≡ false → word_pieces (b ∷ bs) ≡ onto_piece b (word_pieces bs)
 pieces_byte b bs h = rw h refl
 
-pub words_blank : (b : ℕ) (bs : List ℕ) → is_blank b ≡ true → words (b ∷ bs) ≡ words bs
+pub words_blank : (b : ℕ) (bs : List ℕ) → is_gap b ≡ true → words (b ∷ bs) ≡ words bs
 words_blank b bs h = ap some_words (pieces_blank b bs h)
 
-pub plain_blank : (b : ℕ) (bs : List ℕ) → is_blank b ≡ true → plain (b ∷ bs) ≡ plain bs
+pub plain_blank : (b : ℕ) (bs : List ℕ) → is_gap b ≡ true → plain (b ∷ bs) ≡ plain bs
 plain_blank b bs h = ap joined (words_blank b bs h)
 
-pub unindented_blank : (b : ℕ) (bs : List ℕ) → is_blank b ≡ true → unindented (b ∷ bs) ≡ unindented bs
+pub unindented_blank : (b : ℕ) (bs : List ℕ) → is_gap b ≡ true → unindented (b ∷ bs) ≡ unindented bs
 unindented_blank b bs h = rw h refl
 
-pub unindented_byte : (b : ℕ) (bs : List ℕ) → is_blank b ≡ false → unindented (b ∷ bs) ≡ b ∷ bs
+pub unindented_byte : (b : ℕ) (bs : List ℕ) → is_gap b ≡ false → unindented (b ∷ bs) ≡ b ∷ bs
 unindented_byte b bs h = rw h refl
 
-pub all_words_byte : (p : Place) (b : ℕ) (bs : List ℕ) → is_blank b ≡ false → all_words p (words (b ∷ bs)) ≡ changed p word.First b ∷ in_word p word.First bs
-all_words_byte p b bs h = ap (λ (ps : List (List ℕ)). all_words p (some_words ps)) (pieces_byte b bs h) ∙ first_of p b (pieces bs)
+pub all_words_byte : (p : Place) (b : ℕ) (bs : List ℕ) → is_gap b ≡ false → all_words p (words (b ∷ bs)) ≡ changed p word.First b ∷ in_word p word.First bs
+all_words_byte p b bs h = ap (λ (ps : List (List ℕ)). all_words p (some_words ps)) (pieces_byte b bs h) ∙ first_of p b (word_pieces bs)
 
-pub in_word_blank : (p : Place) (w : Word) (b : ℕ) (bs : List ℕ) → is_blank b ≡ true → in_word p w (b ∷ bs) ≡ in_gap p w bs
+pub in_word_blank : (p : Place) (w : Word) (b : ℕ) (bs : List ℕ) → is_gap b ≡ true → in_word p w (b ∷ bs) ≡ in_gap p w bs
 in_word_blank p w b bs h = ap (in_pieces p w) (pieces_blank b bs h)
 
-pub in_word_byte : (p : Place) (w : Word) (b : ℕ) (bs : List ℕ) → is_blank b ≡ false → in_word p w (b ∷ bs) ≡ changed p w b ∷ in_word p w bs
-in_word_byte p w b bs h = ap (in_pieces p w) (pieces_byte b bs h) ∙ next_of p w b (pieces bs)
+pub in_word_byte : (p : Place) (w : Word) (b : ℕ) (bs : List ℕ) → is_gap b ≡ false → in_word p w (b ∷ bs) ≡ changed p w b ∷ in_word p w bs
+in_word_byte p w b bs h = ap (in_pieces p w) (pieces_byte b bs h) ∙ next_of p w b (word_pieces bs)
 
-pub in_gap_blank : (p : Place) (w : Word) (b : ℕ) (bs : List ℕ) → is_blank b ≡ true → in_gap p w (b ∷ bs) ≡ in_gap p w bs
+pub in_gap_blank : (p : Place) (w : Word) (b : ℕ) (bs : List ℕ) → is_gap b ≡ true → in_gap p w (b ∷ bs) ≡ in_gap p w bs
 in_gap_blank p w b bs h = ap (spaced p w) (words_blank b bs h)
 
-pub in_gap_byte : (p : Place) (w : Word) (b : ℕ) (bs : List ℕ) → is_blank b ≡ false → in_gap p w (b ∷ bs) ≡ 32 ∷ changed p (later w) b ∷ in_word p (later w) bs
-in_gap_byte p w b bs h = ap (λ (ps : List (List ℕ)). spaced p w (some_words ps)) (pieces_byte b bs h) ∙ behind_gap p w b (pieces bs)
+pub in_gap_byte : (p : Place) (w : Word) (b : ℕ) (bs : List ℕ) → is_gap b ≡ false → in_gap p w (b ∷ bs) ≡ 32 ∷ changed p (later w) b ∷ in_word p (later w) bs
+in_gap_byte p w b bs h = ap (λ (ps : List (List ℕ)). spaced p w (some_words ps)) (pieces_byte b bs h) ∙ behind_gap p w b (word_pieces bs)
 
 -- ---- the words of a line as the definition has them
 
@@ -135,14 +135,14 @@ joined_value (w ∷ v ∷ vs) =
 same_byte : (p : Place) (w : Word) (b : ℕ) → takes_x p w ≡ false → changed p w b ≡ b
 same_byte p w b none = rw none refl
 
-pub plain_byte : (p : Place) (b : ℕ) (bs : List ℕ) → IsPlain p → is_blank b ≡ false → plain (b ∷ bs) ≡ b ∷ in_word p word.First bs
+pub plain_byte : (p : Place) (b : ℕ) (bs : List ℕ) → IsPlain p → is_gap b ≡ false → plain (b ∷ bs) ≡ b ∷ in_word p word.First bs
 plain_byte p b bs h byte = joined_plain p (words (b ∷ bs)) h ∙ all_words_byte p b bs byte ∙ ap (λ (c : ℕ). c ∷ in_word p word.First bs) (same_byte p word.First b (h word.First))
 
 no_digit : (p : Place) (w : Word) (vs : List (List ℕ)) → begins_digit (spaced p w vs) ≡ false
 no_digit p w [] = refl
 no_digit p w (v ∷ vs) = refl
 
-blank_no_digit : (b : ℕ) → is_blank b ≡ true → is_digit b ≡ false
+blank_no_digit : (b : ℕ) → is_gap b ≡ true → is_digit b ≡ false
 blank_no_digit b h =
     elim (or_cases (b == 32) _ h) [
       | inl space ↦ ap is_digit (eqb-true b 32 space)
@@ -152,7 +152,7 @@ blank_no_digit b h =
 -- the first byte behind `u` is a digit where it is in the line
 pub digit_behind : (p : Place) (w : Word) (b : ℕ) (bs : List ℕ) → takes_x p w ≡ false → begins_digit (in_word p w (b ∷ bs)) ≡ is_digit b
 digit_behind p w b bs none =
-    elim (cases_Bool (is_blank b)) [
+    elim (cases_Bool (is_gap b)) [
       | inl blank ↦ ap begins_digit (in_word_blank p w b bs blank) ∙ (no_digit p w (words bs) ∙ sym (blank_no_digit b blank))
       | inr byte ↦ ap begins_digit (in_word_byte p w b bs byte) ∙ ap is_digit (same_byte p w b none)
     ]

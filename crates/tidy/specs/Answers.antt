@@ -4,13 +4,13 @@ use Rattle.base.specs.Device.{HasRisen}
 use Rattle.tidy.specs.declared.fault.TidyFault.{TidyFault}
 use Rattle.tidy.specs.declared.fault.TidyFault.TheVariants as fault
 
-abbrev pub fault_number : TidyFault → ℕ
-fault_number fault.Read = 200
-fault_number fault.Write = 201
+abbrev pub tidy_fault_number : TidyFault → ℕ
+tidy_fault_number fault.Read = 200
+tidy_fault_number fault.Write = 201
 
-abbrev pub fault_name : TidyFault → List ℕ
-fault_name fault.Read = codes "Read"
-fault_name fault.Write = codes "Write"
+abbrev pub tidy_fault_name : TidyFault → List ℕ
+tidy_fault_name fault.Read = codes "Read"
+tidy_fault_name fault.Write = codes "Write"
 
 -- the source failed once where that is answered, the sink where that is, and else neither
 abbrev pub CountsTidy : {T : Type 0} → Result T TidyFault → ℕ → ℕ → ℕ → ℕ → Type 0

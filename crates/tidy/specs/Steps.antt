@@ -13,7 +13,7 @@ use Rattle.tidy.specs.declared.line.Line.TheVariants as line
 use Rattle.tidy.specs.declared.tidier.Tidier.{Tidier}
 use Rattle.tidy.specs.declared.tidier.Emitted.{Emitted}
 use Rattle.tidy.specs.declared.tidier.Emitted.TheVariants as emitted
-use Rattle.tidy.specs.Words.{is_blank}
+use Rattle.tidy.specs.Words.{is_gap}
 use Rattle.tidy.specs.Tidied.{Stand, behind_words, zero_x, shown}
 
 -- ---- what words say
@@ -86,24 +86,24 @@ first_bytes p b _ = []
 
 -- the line with a byte more, its place, and the bytes that are written then
 abbrev pub line_more : Place → Line → ℕ → Line
-line_more p line.Empty b = if is_blank b then line.Empty else first_line p b
+line_more p line.Empty b = if is_gap b then line.Empty else first_line p b
 line_more p line.Copied b = line.Copied
 line_more p line.Gone b = line.Gone
-line_more p line.Held b = if is_digit b then line.Gone else line.Kept said.Other word.First (is_blank b)
+line_more p line.Held b = if is_digit b then line.Gone else line.Kept said.Other word.First (is_gap b)
 line_more p (line.Kept s w gap) b =
-    if is_blank b then line.Kept s w true else (if gap then line.Kept said.Other (later w) false else line.Kept (said_more s b) w false)
+    if is_gap b then line.Kept s w true else (if gap then line.Kept said.Other (later w) false else line.Kept (said_more s b) w false)
 
 abbrev pub place_more : Place → Line → ℕ → Place
-place_more p line.Empty b = if is_blank b then p else first_place p b
+place_more p line.Empty b = if is_gap b then p else first_place p b
 place_more p _ b = p
 
 abbrev pub bytes_more : Place → Line → ℕ → List ℕ
-bytes_more p line.Empty b = if is_blank b then [] else first_bytes p b (first_line p b)
+bytes_more p line.Empty b = if is_gap b then [] else first_bytes p b (first_line p b)
 bytes_more p line.Copied b = b ∷ []
 bytes_more p line.Gone b = []
-bytes_more p line.Held b = if is_digit b then [] else (if is_blank b then 117 ∷ [] else 117 ∷ changed p word.First b ∷ [])
+bytes_more p line.Held b = if is_digit b then [] else (if is_gap b then 117 ∷ [] else 117 ∷ changed p word.First b ∷ [])
 bytes_more p (line.Kept s w gap) b =
-    if is_blank b then [] else (if gap then 32 ∷ changed p (later w) b ∷ [] else changed p w b ∷ [])
+    if is_gap b then [] else (if gap then 32 ∷ changed p (later w) b ∷ [] else changed p w b ∷ [])
 
 -- ---- the end of a line
 
@@ -139,14 +139,14 @@ at_line s = record { skip = s.skip; place = s.place; line = new_line s.place }
 abbrev pub stand_of : Tidier → Stand
 stand_of t = record { skip = t.skip; place = t.place }
 
-abbrev pub behind_line : Tidier → Tidier
-behind_line t = at_line (behind_words (stand_of t) (spelled_line t.line))
+abbrev pub behind_tidied : Tidier → Tidier
+behind_tidied t = at_line (behind_words (stand_of t) (spelled_line t.line))
 
 -- ---- bytes of a text
 
 abbrev pub behind_byte : Tidier → ℕ → Tidier
 behind_byte t b =
-    if b == 10 then behind_line t else record { skip = t.skip; place = place_more t.place t.line b; line = line_more t.place t.line b }
+    if b == 10 then behind_tidied t else record { skip = t.skip; place = place_more t.place t.line b; line = line_more t.place t.line b }
 
 abbrev pub byte_written : Tidier → ℕ → List ℕ
 byte_written t b = shown t.skip (if b == 10 then end_bytes t.place t.line else bytes_more t.place t.line b)
@@ -179,13 +179,13 @@ emitted_bytes (emitted.Pair b c) = b ∷ c ∷ []
 abbrev pub is_hidden : Tidier → Bool
 is_hidden t = not (t.skip == 0) || is_gone t.line
 
-pub record IsRun (t : Tidier) (bytes : List ℕ) : Type 0 where
+pub record IsTidying (t : Tidier) (bytes : List ℕ) : Type 0 where
   pub behind : behind_bytes t bytes ≡ t
   pub written : bytes_written t bytes ≡ if is_hidden t then [] else bytes
 
 -- a byte of a word that is written as it is, where `x` may become `0`
 abbrev pub is_plain : Bool → ℕ → Bool
-is_plain takes b = not (is_blank b) && not (takes && (b == 120))
+is_plain takes b = not (is_gap b) && not (takes && (b == 120))
 
 -- what a tidier does with all bytes of a source: it puts what is written for them, but for a rest that is kept; at a fault a beginning of
 -- that has gone out

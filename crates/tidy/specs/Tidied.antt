@@ -6,7 +6,7 @@ use Rattle.base.specs.Decimals.{is_nothing}
 use Rattle.base.specs.Lines.{whole_lines, unfinished}
 use Rattle.tidy.specs.declared.place.Place.{Place}
 use Rattle.tidy.specs.declared.place.Place.TheVariants as place
-use Rattle.tidy.specs.Words.{words, joined, plain, unindented, begins, begins_digit}
+use Rattle.tidy.specs.Words.{words, joined, plain, unindented, begins_with, begins_digit}
 
 -- ---- where a line stands
 
@@ -26,7 +26,7 @@ is_progress (b ∷ bs) = (b == 117) && begins_digit bs
 
 -- what stands in front of a status line: nothing, a comment, or a line of progress
 abbrev pub is_in_front : List ℕ → Bool
-is_in_front words = is_nothing words || (begins 59 words || is_progress words)
+is_in_front words = is_nothing words || (begins_with 59 words || is_progress words)
 
 -- behind a line that claims nothing, or that begins no witness
 abbrev pub passed : ℕ → Place
@@ -38,19 +38,19 @@ abbrev pub behind_status : ℕ → List ℕ → Place
 behind_status skip words = if bytes_eq words (codes "sat") then place.Claims else (if bytes_eq words (codes "1") then place.BitClaim else passed skip)
 
 -- the place behind a line of these words, where it is no end
-abbrev pub next_place : ℕ → Place → List ℕ → Place
-next_place skip place.Front words = if is_in_front words then place.Front else behind_status skip words
-next_place skip place.Between words = if begins 99 words then place.Over else (if is_in_front words then place.Between else behind_status skip words)
-next_place skip place.Claims words = if is_nothing words || begins 59 words then place.Claims else place.Parts
-next_place skip place.Parts words = place.Parts
-next_place skip place.BitClaim words = if is_nothing words then place.BitClaim else place.Initial
-next_place skip place.Initial words = place.First
-next_place skip place.First words = if is_nothing words then place.Empties else place.Frames
-next_place skip place.Frames words = place.Frames
-next_place skip place.Empties words = place.Empties
-next_place skip place.Skipped words = place.Skipped
-next_place skip place.Passed words = place.Passed
-next_place skip place.Over words = place.Over
+abbrev pub place_after : ℕ → Place → List ℕ → Place
+place_after skip place.Front words = if is_in_front words then place.Front else behind_status skip words
+place_after skip place.Between words = if begins_with 99 words then place.Over else (if is_in_front words then place.Between else behind_status skip words)
+place_after skip place.Claims words = if is_nothing words || begins_with 59 words then place.Claims else place.Parts
+place_after skip place.Parts words = place.Parts
+place_after skip place.BitClaim words = if is_nothing words then place.BitClaim else place.Initial
+place_after skip place.Initial words = place.First
+place_after skip place.First words = if is_nothing words then place.Empties else place.Frames
+place_after skip place.Frames words = place.Frames
+place_after skip place.Empties words = place.Empties
+place_after skip place.Skipped words = place.Skipped
+place_after skip place.Passed words = place.Passed
+place_after skip place.Over words = place.Over
 
 -- where the line `.` ends a witness, or what stands in the place of one that is passed over
 abbrev pub may_end : Place → Bool
@@ -68,7 +68,7 @@ behind_end (suc n) = record { skip = n; place = place.Between }
 
 abbrev pub behind_words : Stand → List ℕ → Stand
 behind_words s words =
-    if may_end s.place && bytes_eq words (codes ".") then behind_end s.skip else record { skip = s.skip; place = next_place s.skip s.place words }
+    if may_end s.place && bytes_eq words (codes ".") then behind_end s.skip else record { skip = s.skip; place = place_after s.skip s.place words }
 
 -- behind a line
 abbrev pub behind : Stand → List ℕ → Stand
@@ -89,14 +89,14 @@ zero_value (w ∷ v ∷ more) = w ∷ map zero_x v ∷ more
 -- a line in front of a status line: a comment keeps its bytes, and an empty line or one of progress goes
 abbrev pub front_line : List ℕ → Option (List ℕ)
 front_line line =
-    if begins 59 (plain line) then Some (unindented line) else (if is_nothing (plain line) || is_progress (plain line) then None else Some (plain line))
+    if begins_with 59 (plain line) then Some (unindented line) else (if is_nothing (plain line) || is_progress (plain line) then None else Some (plain line))
 
 -- what is written of a line at a place, without its end; nothing where the line goes. (Of a witness that is passed over no line is shown, whatever stands here.)
 abbrev pub tidied_line : Place → List ℕ → Option (List ℕ)
 tidied_line place.Front line = front_line line
-tidied_line place.Between line = if begins 99 (plain line) then None else front_line line
-tidied_line place.Claims line = if is_nothing (plain line) || begins 59 (plain line) then None else Some (plain line)
-tidied_line place.Parts line = if is_nothing (plain line) || begins 59 (plain line) then None else Some (joined (zero_value (words line)))
+tidied_line place.Between line = if begins_with 99 (plain line) then None else front_line line
+tidied_line place.Claims line = if is_nothing (plain line) || begins_with 59 (plain line) then None else Some (plain line)
+tidied_line place.Parts line = if is_nothing (plain line) || begins_with 59 (plain line) then None else Some (joined (zero_value (words line)))
 tidied_line place.BitClaim line = if is_nothing (plain line) then None else Some (plain line)
 tidied_line place.Initial line = Some (map zero_x (plain line))
 tidied_line place.First line = Some (map zero_x (plain line))
@@ -116,15 +116,15 @@ abbrev pub shown : ℕ → List ℕ → List ℕ
 shown zero bytes = bytes
 shown (suc n) bytes = []
 
-abbrev pub written_line : List ℕ → Stand → List ℕ → List ℕ
-written_line end' s line = shown s.skip (closed_by end' (tidied_line s.place line))
+abbrev pub tidy_line : List ℕ → Stand → List ℕ → List ℕ
+tidy_line end' s line = shown s.skip (closed_by end' (tidied_line s.place line))
 
 -- ---- a whole text
 
 -- of whole lines, each with its end, and of the bytes behind them
 abbrev pub tidied_lines : Stand → List (List ℕ) → List ℕ → List ℕ
-tidied_lines s [] rest = written_line [] s rest
-tidied_lines s (line ∷ lines) rest = written_line (10 ∷ []) s line ++ tidied_lines (behind s line) lines rest
+tidied_lines s [] rest = tidy_line [] s rest
+tidied_lines s (line ∷ lines) rest = tidy_line (10 ∷ []) s line ++ tidied_lines (behind s line) lines rest
 
 -- the strict text of the witness that is wanted, from 1
 unfoldable pub tidied : ℕ → List ℕ → List ℕ

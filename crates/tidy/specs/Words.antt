@@ -3,21 +3,21 @@
 use Rattle.std.specs.Prelude.{ℕ, Bool, false, not, ◌||◌, ◌==◌, List, [], ◌∷◌, ◌++◌, filter, flat_map, if◌then◌else◌}
 use Rattle.base.specs.Decimals.{is_nothing, is_digit}
 
-abbrev pub is_blank : ℕ → Bool
-is_blank b = (b == 32) || ((b == 9) || (b == 13))
+abbrev pub is_gap : ℕ → Bool
+is_gap b = (b == 32) || ((b == 9) || (b == 13))
 
 -- what stands between blanks: nothing between two neighbours, and nothing in front of a first and behind a last one
 abbrev pub onto_piece : ℕ → List (List ℕ) → List (List ℕ)
 onto_piece b [] = (b ∷ []) ∷ []
 onto_piece b (p ∷ ps) = (b ∷ p) ∷ ps
 
-abbrev pub pieces : List ℕ → List (List ℕ)
-pieces [] = [] ∷ []
-pieces (b ∷ bs) = if is_blank b then [] ∷ pieces bs else onto_piece b (pieces bs)
+abbrev pub word_pieces : List ℕ → List (List ℕ)
+word_pieces [] = [] ∷ []
+word_pieces (b ∷ bs) = if is_gap b then [] ∷ word_pieces bs else onto_piece b (word_pieces bs)
 
 -- the words of a line
 abbrev pub words : List ℕ → List (List ℕ)
-words line = filter (λ p. not (is_nothing p)) (pieces line)
+words line = filter (λ p. not (is_nothing p)) (word_pieces line)
 
 -- words with one space between, and the words of a line so
 abbrev pub joined : List (List ℕ) → List ℕ
@@ -30,12 +30,12 @@ plain line = joined (words line)
 -- a line from its first word on
 abbrev pub unindented : List ℕ → List ℕ
 unindented [] = []
-unindented (b ∷ bs) = if is_blank b then unindented bs else b ∷ bs
+unindented (b ∷ bs) = if is_gap b then unindented bs else b ∷ bs
 
 -- the first byte is this one
-abbrev pub begins : ℕ → List ℕ → Bool
-begins b [] = false
-begins b (c ∷ cs) = c == b
+abbrev pub begins_with : ℕ → List ℕ → Bool
+begins_with b [] = false
+begins_with b (c ∷ cs) = c == b
 
 -- a digit stands first
 abbrev pub begins_digit : List ℕ → Bool

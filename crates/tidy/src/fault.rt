@@ -1,6 +1,6 @@
 //! Why a text is not tidied to its end.
 ghost use Rattle.std.specs.Prelude.{◌≡◌};
-ghost use Rattle.tidy.specs.Answers.{fault_number, fault_name};
+ghost use Rattle.tidy.specs.Answers.{tidy_fault_number, tidy_fault_name};
 
 use std::fmt;
 use thiserror::Error;
@@ -17,7 +17,7 @@ pub enum TidyFault {
 impl TidyFault {
     /// The number that is printed for the fault.
     pub fn number(self) -> u32
-        ensures { result ≡ fault_number self }
+        ensures { result ≡ tidy_fault_number self }
     {
         match self {
             TidyFault::Read => 200,
@@ -27,7 +27,7 @@ impl TidyFault {
 
     /// The name that is printed for the fault.
     pub fn name(self) -> &'static str
-        ensures { result.now ≡ fault_name self }
+        ensures { result.now ≡ tidy_fault_name self }
     {
         match self {
             TidyFault::Read => "Read",

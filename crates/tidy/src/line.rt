@@ -1,7 +1,7 @@
 //! A line of the text of a witness, byte by byte.
 ghost use Rattle.std.specs.Prelude.{◌≡◌, ◌==◌, ◌||◌, true, false};
 ghost use Rattle.base.specs.Decimals.{is_digit};
-ghost use Rattle.tidy.specs.Words.{is_blank};
+ghost use Rattle.tidy.specs.Words.{is_gap};
 ghost use Rattle.tidy.specs.Tidied.{zero_x};
 ghost use Rattle.tidy.specs.Steps.{said_first, said_more, later, takes_x, changed, first_line, first_place, first_kept, first_in_front, line_more, place_more};
 ghost use Rattle.tidy.specs.declared.place.Place.TheVariants as place;
@@ -52,7 +52,7 @@ pub(crate) enum Line {
 
 /// Whether a byte is a blank.
 pub(crate) fn is_blank(byte: u8) -> bool
-    ensures { result ≡ is_blank byte }
+    ensures { result ≡ is_gap byte }
 {
     byte == b' ' || byte == b'\t' || byte == b'\r'
 }

@@ -8,9 +8,9 @@ ghost use Rattle.base.specs.Lines.{IsLine};
 ghost use Rattle.base.specs.Pieces.{Puts};
 ghost use Rattle.tidy.specs.declared.line.Line.TheVariants as line;
 ghost use Rattle.tidy.specs.declared.line.Said.{Said as SaidSpec};
-ghost use Rattle.tidy.specs.Words.{is_blank};
-ghost use Rattle.tidy.specs.Tidied.{at_front, is_in_front, behind_status, next_place, may_end, shown};
-ghost use Rattle.tidy.specs.Steps.{spelled_line, first_line, first_bytes, bytes_more, keeps_empty, is_kept, is_gone, is_hidden, is_plain, held_bytes, end_bytes, new_line, at_line, behind_line, behind_byte, byte_written, behind_bytes, bytes_written, last_written, IsRun, emitted_bytes};
+ghost use Rattle.tidy.specs.Words.{is_gap};
+ghost use Rattle.tidy.specs.Tidied.{at_front, is_in_front, behind_status, place_after, may_end, shown};
+ghost use Rattle.tidy.specs.Steps.{spelled_line, first_line, first_bytes, bytes_more, keeps_empty, is_kept, is_gone, is_hidden, is_plain, held_bytes, end_bytes, new_line, at_line, behind_tidied, behind_byte, byte_written, behind_bytes, bytes_written, last_written, IsTidying, emitted_bytes};
 
 use crate::line::{
     Line, Said, Word, changed, first_line, is_blank, is_digit, later, line_more, place_more,
@@ -199,7 +199,7 @@ fn behind_front(skip: u64, place: Place, line: Line) -> Place
 
 /// The place behind a line that is no end.
 fn next_place(skip: u64, place: Place, line: Line) -> Place
-    ensures { result ≡ next_place skip place (spelled_line line) }
+    ensures { result ≡ place_after skip place (spelled_line line) }
 {
     match (place, line) {
         (Place::Front | Place::Between, _) => behind_front(skip, place, line),
@@ -248,7 +248,7 @@ impl Tidier {
     fn run(self, bytes: &[u8]) -> usize
         requires { IsLine bytes.now }
         ensures within { result ≤ length bytes.now }
-        ensures run { IsRun self (take result bytes.now) }
+        ensures run { IsTidying self (take result bytes.now) }
     {
         match self.line {
             Line::Copied | Line::Gone => bytes.len(),
@@ -262,7 +262,7 @@ impl Tidier {
         requires is_line { IsLine bytes.now }
         requires line { self.line ≡ line.Kept said word gap }
         ensures within { result ≤ length bytes.now }
-        ensures run { IsRun self (take result bytes.now) }
+        ensures run { IsTidying self (take result bytes.now) }
     {
         if gap {
             return 0;
@@ -280,7 +280,7 @@ impl Tidier {
         sink: &mut K,
         run: &[u8],
     ) -> Result<(), DeviceFault>
-        requires { IsRun self run.now }
+        requires { IsTidying self run.now }
         ensures puts { Puts result (K.written sink.old) (K.written sink.new) outbox.old outbox.new (bytes_written self run.now) }
         ensures failures { CountsFaults result (K.failures sink.old) (K.failures sink.new) }
     {
@@ -374,7 +374,7 @@ impl Tidier {
 
     /// The tidier behind the end of the line.
     fn behind_line(self) -> Tidier
-        ensures { result ≡ behind_line self }
+        ensures { result ≡ behind_tidied self }
     {
         let (skip, place) = if !is_end(self.place, self.line) {
             (self.skip, next_place(self.skip, self.place, self.line))
@@ -392,7 +392,7 @@ impl Tidier {
 
     /// Takes the end of the line.
     fn take_end<K: Sink>(&mut self, outbox: &mut Outbox, sink: &mut K) -> Result<(), DeviceFault>
-        ensures behind { OnOk result (self.new ≡ behind_line self.old) }
+        ensures behind { OnOk result (self.new ≡ behind_tidied self.old) }
         ensures puts { Puts result (K.written sink.old) (K.written sink.new) outbox.old outbox.new (shown self.old.skip (end_bytes self.old.place self.old.line)) }
         ensures failures { CountsFaults result (K.failures sink.old) (K.failures sink.new) }
     {

@@ -14,7 +14,7 @@ use Rattle.witness.proofs.BitReadLemmas.{bits_are_a_line}
 use Rattle.tidy.specs.declared.place.Place.{Place}
 use Rattle.tidy.specs.declared.place.Place.TheVariants as place
 use Rattle.tidy.specs.Words.{plain}
-use Rattle.tidy.specs.Tidied.{Stand, zero_x, behind_words, behind, closed_by, written_line, tidied_lines, tidied}
+use Rattle.tidy.specs.Tidied.{Stand, zero_x, behind_words, behind, closed_by, tidy_line, tidied_lines, tidied}
 use Rattle.tidy_laws.proofs.PlainLemmas.{plain_word, digits_no_blank, marked_word, zero_digits}
 
 abbrev pub at : Place → Stand
@@ -39,7 +39,7 @@ no_end (true ∷ bits) = refl
 no_end (false ∷ bits) = refl
 
 -- a line that is written as it is, and what stands behind it
-pub same_line : (s t : Stand) (line : List ℕ) (lines : List (List ℕ)) → written_line (10 ∷ []) s line ≡ line ++ 10 ∷ [] → behind s line ≡ t → tidied_lines t lines [] ≡ text_of_lines lines
+pub same_line : (s t : Stand) (line : List ℕ) (lines : List (List ℕ)) → tidy_line (10 ∷ []) s line ≡ line ++ 10 ∷ [] → behind s line ≡ t → tidied_lines t lines [] ≡ text_of_lines lines
     → tidied_lines s (line ∷ lines) [] ≡ text_of_lines (line ∷ lines)
 same_line s t line lines written place rest =
     ap₂ (λ (x : List ℕ) (u : Stand). x ++ tidied_lines u lines []) written place ∙ ap (λ (l : List ℕ). (line ++ 10 ∷ []) ++ l) rest
@@ -49,7 +49,7 @@ zero_written : (bits : List Bool) → closed_by (10 ∷ []) (Some (map zero_x (p
 zero_written bits = ap (λ (l : List ℕ). l ++ 10 ∷ []) (zero_bits bits)
 
 -- and where none is
-some_written : (b : Bool) (bits : List Bool) → written_line (10 ∷ []) (at place.Frames) (bit_line (b ∷ bits)) ≡ bit_line (b ∷ bits) ++ 10 ∷ []
+some_written : (b : Bool) (bits : List Bool) → tidy_line (10 ∷ []) (at place.Frames) (bit_line (b ∷ bits)) ≡ bit_line (b ∷ bits) ++ 10 ∷ []
 some_written b bits =
     ap (λ (w : List ℕ). closed_by (10 ∷ []) (if is_nothing w then None else Some (map zero_x w))) (plain_bits (b ∷ bits))
     ∙ ap (λ (l : List ℕ). l ++ 10 ∷ []) (zero_digits (bit_line (b ∷ bits)) (bits_are_digits (b ∷ bits)))
@@ -85,7 +85,7 @@ all_frames n ((b ∷ bs) ∷ frames) some all =
 
 -- ---- all lines
 
-claim_written : (i : ℕ) → i < 2 ^ 64 → written_line (10 ∷ []) (at place.BitClaim) (claim i) ≡ claim i ++ 10 ∷ []
+claim_written : (i : ℕ) → i < 2 ^ 64 → tidy_line (10 ∷ []) (at place.BitClaim) (claim i) ≡ claim i ++ 10 ∷ []
 claim_written i lt =
     ap (λ (w : List ℕ). closed_by (10 ∷ []) (if is_nothing w then None else Some w)) (plain_word (claim i) (marked_word 98 i (omega arith) lt).none)
 

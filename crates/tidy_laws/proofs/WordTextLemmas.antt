@@ -19,15 +19,15 @@ use Rattle.btor2.proofs.ModelLemmas.{width_of_body-range}
 use Rattle.base.proofs.BitLemmas.{length-bits}
 use Rattle.btor2.specs.Symbols.{is_printed, is_symbol}
 use Rattle.btor2.proofs.SymbolLemmas.{symbol_printed}
-use Rattle.witness.specs.Texts.{Shape, shape_of, widths_of, digit, Assignment, Parts, Witness, binary, symbol_part, assignment_line, assignment_lines, claim, claims_line, states_lines, frame_lines, witness_lines, is_comment, IsAssignment, IsPart, IsFreePart, IsFirst, IsLater, AreFrames, most_lines, Says}
+use Rattle.witness.specs.Texts.{Shape, shape_of, widths_of, digit, Assignment, Parts, Witness, binary, symbol_part, assignment_line, assignment_lines, claim, claims_line, states_lines, frame_lines, witness_lines, is_comment, IsAssignment, IsPart, IsFreePart, IsFirstFrame, IsLaterFrame, AreFrames, most_lines, Says}
 use Rattle.witness.proofs.PieceLemmas.{binary_digits}
 use Rattle.witness.proofs.AssignmentLemmas.{assignment_line_is_line, claims_line_is_line}
 use Rattle.witness.proofs.ReadLemmas.{IsSmall, frames_have_lines}
 use Rattle.witness.proofs.FitLemmas.{shape_is_small}
 use Rattle.witness.proofs.ShapeLemmas.{HasBits, states_have_bits, inputs_have_bits, each_has_width, widths_at_places, length-widths}
 use Rattle.tidy.specs.declared.place.Place.TheVariants as place
-use Rattle.tidy.specs.Words.{words, joined, plain, begins}
-use Rattle.tidy.specs.Tidied.{Stand, zero_value, is_progress, behind_words, behind, closed_by, written_line, tidied_lines, tidied}
+use Rattle.tidy.specs.Words.{words, joined, plain, begins_with}
+use Rattle.tidy.specs.Tidied.{Stand, zero_value, is_progress, behind_words, behind, closed_by, tidy_line, tidied_lines, tidied}
 use Rattle.tidy_laws.proofs.PlainLemmas.{IsWord, words_word, words_cut, plain_word, none_blank, digits_no_blank, some_bytes, decimal_word, marked_word, zero_digits}
 use Rattle.tidy_laws.proofs.BitTextLemmas.{at, same_line, text_same}
 use Rattle.tidy.proofs.WordLemmas.{plain_byte}
@@ -40,12 +40,12 @@ pub record IsPartLine (line : List ℕ) : Type 0 where
   pub plain_is : plain line ≡ line
   pub value : joined (zero_value (words line)) ≡ line
   pub some : is_nothing line ≡ false
-  pub comment : begins 59 line ≡ false
+  pub comment : begins_with 59 line ≡ false
   pub end' : bytes_eq line (codes ".") ≡ false
 
-part_written : (line : List ℕ) → IsPartLine line → written_line (10 ∷ []) (at place.Parts) line ≡ line ++ 10 ∷ []
+part_written : (line : List ℕ) → IsPartLine line → tidy_line (10 ∷ []) (at place.Parts) line ≡ line ++ 10 ∷ []
 part_written line is =
-    ap (λ (w : List ℕ). closed_by (10 ∷ []) (if is_nothing w || begins 59 w then None else Some (joined (zero_value (words line))))) is.plain_is
+    ap (λ (w : List ℕ). closed_by (10 ∷ []) (if is_nothing w || begins_with 59 w then None else Some (joined (zero_value (words line))))) is.plain_is
     ∙ rw (is.some, is.comment) (ap (λ (l : List ℕ). l ++ 10 ∷ []) is.value)
 
 behind_part : (line : List ℕ) → IsPartLine line → behind (at place.Parts) line ≡ at place.Parts
@@ -90,7 +90,7 @@ hash_line k lt =
 -- bytes that begin with a digit
 record BeginsDigit (line : List ℕ) : Type 0 where
   pub some : is_nothing line ≡ false
-  pub comment : begins 59 line ≡ false
+  pub comment : begins_with 59 line ≡ false
   pub end' : bytes_eq line (codes ".") ≡ false
 
 digits_first : (digits rest : List ℕ) → are_digits digits ≡ true → is_nothing digits ≡ false → BeginsDigit (digits ++ rest)
@@ -171,7 +171,7 @@ record IsSound (shape : Shape) : Type 0 where
   pub states : HaveBits shape.states
   pub inputs : HaveBits shape.inputs
 
-frames_same : (shape : Shape) (k : ℕ) (frames : List Parts) → IsSound shape → k + length frames ≤ 2 ^ 62 → AllByRecursion (IsFirst shape) frames → ArePartLines (frame_lines shape k frames)
+frames_same : (shape : Shape) (k : ℕ) (frames : List Parts) → IsSound shape → k + length frames ≤ 2 ^ 62 → AllByRecursion (IsFirstFrame shape) frames → ArePartLines (frame_lines shape k frames)
 frames_same shape k [] sound few all = tt
 frames_same shape k (parts ∷ more) sound few all =
     let lt : k < 2 ^ 64 = omega arith in
@@ -185,13 +185,13 @@ any_states : (shape : Shape) (states : Option (List Assignment)) → IfSome stat
 any_states shape None free = tt
 any_states shape (Some list) free = free.part
 
-later_is_first : (shape : Shape) (more : List Parts) → AllByRecursion (IsLater shape) more → AllByRecursion (IsFirst shape) more
+later_is_first : (shape : Shape) (more : List Parts) → AllByRecursion (IsLaterFrame shape) more → AllByRecursion (IsFirstFrame shape) more
 later_is_first shape [] later = tt
 later_is_first shape (parts ∷ more) later = (record { states = any_states shape parts.states later.0.states; inputs = later.0.inputs }, later_is_first shape more later.1)
 
-all_are_frames : (shape : Shape) (frames : List Parts) → AreFrames shape frames → AllByRecursion (IsFirst shape) frames
+all_are_frames : (shape : Shape) (frames : List Parts) → AreFrames shape frames → AllByRecursion (IsFirstFrame shape) frames
 all_are_frames shape [] valid = absurd valid
-all_are_frames shape (first ∷ more) valid = (valid.0, later_is_first shape more (recursion_from_All (IsLater shape) more valid.1))
+all_are_frames shape (first ∷ more) valid = (valid.0, later_is_first shape more (recursion_from_All (IsLaterFrame shape) more valid.1))
 
 -- ---- claims
 
@@ -208,13 +208,13 @@ claims_plain : (i : ℕ) (more : List ℕ) → AllByRecursion (λ j. j < 2 ^ 64)
 claims_plain i more below = ap joined (claims_words i more below) ∙ claims_joined i more
 
 -- the first byte is `b`
-claims_first : (i : ℕ) (more : List ℕ) → (is_nothing (claims_line (i ∷ more)) || begins 59 (claims_line (i ∷ more))) ≡ false
+claims_first : (i : ℕ) (more : List ℕ) → (is_nothing (claims_line (i ∷ more)) || begins_with 59 (claims_line (i ∷ more))) ≡ false
 claims_first i [] = refl
 claims_first i (j ∷ more) = refl
 
-claims_written : (i : ℕ) (more : List ℕ) → AllByRecursion (λ j. j < 2 ^ 64) (i ∷ more) → written_line (10 ∷ []) (at place.Claims) (claims_line (i ∷ more)) ≡ claims_line (i ∷ more) ++ 10 ∷ []
+claims_written : (i : ℕ) (more : List ℕ) → AllByRecursion (λ j. j < 2 ^ 64) (i ∷ more) → tidy_line (10 ∷ []) (at place.Claims) (claims_line (i ∷ more)) ≡ claims_line (i ∷ more) ++ 10 ∷ []
 claims_written i more below =
-    ap (λ (w : List ℕ). closed_by (10 ∷ []) (if is_nothing w || begins 59 w then None else Some w)) (claims_plain i more below)
+    ap (λ (w : List ℕ). closed_by (10 ∷ []) (if is_nothing w || begins_with 59 w then None else Some w)) (claims_plain i more below)
     ∙ ap (λ (b : Bool). closed_by (10 ∷ []) (if b then None else Some (claims_line (i ∷ more)))) (claims_first i more)
 
 behind_claims : (i : ℕ) (more : List ℕ) → AllByRecursion (λ j. j < 2 ^ 64) (i ∷ more) → behind (at place.Claims) (claims_line (i ∷ more)) ≡ at place.Parts
@@ -233,9 +233,9 @@ claims_same (i ∷ more) lines some below rest = same_line (at place.Claims) (at
 
 -- ---- comments
 
-comment_written : (bs : List ℕ) → written_line (10 ∷ []) (at place.Front) (59 ∷ bs) ≡ (59 ∷ bs) ++ 10 ∷ []
+comment_written : (bs : List ℕ) → tidy_line (10 ∷ []) (at place.Front) (59 ∷ bs) ≡ (59 ∷ bs) ++ 10 ∷ []
 comment_written bs =
-    ap (λ (w : List ℕ). closed_by (10 ∷ []) (if begins 59 w then Some (59 ∷ bs) else (if is_nothing w || is_progress w then None else Some w))) (plain_byte place.Front 59 bs (λ w. refl) refl)
+    ap (λ (w : List ℕ). closed_by (10 ∷ []) (if begins_with 59 w then Some (59 ∷ bs) else (if is_nothing w || is_progress w then None else Some w))) (plain_byte place.Front 59 bs (λ w. refl) refl)
 
 behind_comment : (bs : List ℕ) → behind (at place.Front) (59 ∷ bs) ≡ at place.Front
 behind_comment bs = ap (behind_words (at place.Front)) (plain_byte place.Front 59 bs (λ w. refl) refl)

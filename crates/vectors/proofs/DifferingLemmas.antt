@@ -8,16 +8,16 @@ use Rattle.std.proofs.lemmas.List.Sorted.{sum_by-IsPermutation}
 use Rattle.std.proofs.lemmas.List.Elements.{All-cons}
 use Rattle.std.proofs.lemmas.Bool.Decides.{nat_tests}
 use Rattle.vectors.specs.declared.lines.Vector.{Vector}
-use Rattle.vectors.specs.Vectors.{NumberedVector, numbered, differing, value_of, said, IsRight, Tells, report}
+use Rattle.vectors.specs.Vectors.{NumberedVector, numbered, lines_that_differ, operator_value, word_expected, IsRight, TellsVectors, report}
 
 -- one vector judged: its line, where it is not right, stands before those of the vectors behind it
 one_judged : (right : Bool) (k : ℕ) (rest : List ℕ) → (if right then [] else k ∷ []) ++ rest ≡ (if right then rest else k ∷ rest)
 one_judged true k rest = refl
 one_judged false k rest = refl
 
-pub noted_more : (before now all : List ℕ) (n : NumberedVector) (behind : List NumberedVector) → now ≡ before ++ differing (n ∷ []) → before ++ differing (n ∷ behind) ≡ all → now ++ differing behind ≡ all
+pub noted_more : (before now all : List ℕ) (n : NumberedVector) (behind : List NumberedVector) → now ≡ before ++ lines_that_differ (n ∷ []) → before ++ lines_that_differ (n ∷ behind) ≡ all → now ++ lines_that_differ behind ≡ all
 noted_more before now all n behind e noted =
-    rw e (append_assoc before (differing (n ∷ [])) (differing behind) ∙ (ap (λ (t : List ℕ). before ++ t) (one_judged (value_of n.vector == said n.vector) n.line (differing behind)) ∙ noted))
+    rw e (append_assoc before (lines_that_differ (n ∷ [])) (lines_that_differ behind) ∙ (ap (λ (t : List ℕ). before ++ t) (one_judged (operator_value n.vector == word_expected n.vector) n.line (lines_that_differ behind)) ∙ noted))
 
 -- each of some numbers is at least k
 abbrev From : ℕ → List ℕ → Type 0
@@ -62,11 +62,11 @@ one_rises : (right : Bool) (k : ℕ) (rest : List ℕ) → From (suc k) rest →
 one_rises true k rest from rises = (from_less k (suc k) rest (omega arith) from, rises)
 one_rises false k rest from rises = ((omega arith, from_less k (suc k) rest (omega arith) from), (from_less k (suc k) rest (omega arith) from, rises))
 
-differing_rises : (k : ℕ) (vs : List Vector) → From k (differing (numbered k vs)) × Rises (differing (numbered k vs))
+differing_rises : (k : ℕ) (vs : List Vector) → From k (lines_that_differ (numbered k vs)) × Rises (lines_that_differ (numbered k vs))
 differing_rises k [] = (tt, tt)
 differing_rises k (v ∷ vs) =
     let behind = differing_rises (suc k) vs in
-    one_rises (value_of v == said v) k (differing (numbered (suc k) vs)) behind.0 behind.1
+    one_rises (operator_value v == word_expected v) k (lines_that_differ (numbered (suc k) vs)) behind.0 behind.1
 
 one_sum : (f : ℕ → ℕ) (right : Bool) (k : ℕ) (rest : List ℕ) → sum_by f (if right then rest else k ∷ rest) ≡ (if right then 0 else f k) + sum_by f rest
 one_sum f true k rest = omega arith
@@ -74,32 +74,32 @@ one_sum f false k rest = sum_by-cons f k rest
 
 -- what a number adds to a sum where its vector is not right
 abbrev counted : (ℕ → ℕ) → NumberedVector → ℕ
-counted f n = if value_of n.vector == said n.vector then 0 else f n.line
+counted f n = if operator_value n.vector == word_expected n.vector then 0 else f n.line
 
-sum_differing : (f : ℕ → ℕ) (ns : List NumberedVector) → sum_by f (differing ns) ≡ sum_by (counted f) ns
+sum_differing : (f : ℕ → ℕ) (ns : List NumberedVector) → sum_by f (lines_that_differ ns) ≡ sum_by (counted f) ns
 sum_differing f [] = refl
 sum_differing f (n ∷ ns) =
-    omega (arith, one_sum f (value_of n.vector == said n.vector) n.line (differing ns), sum_differing f ns, sum_by-cons (counted f) n ns)
+    omega (arith, one_sum f (operator_value n.vector == word_expected n.vector) n.line (lines_that_differ ns), sum_differing f ns, sum_by-cons (counted f) n ns)
 
 -- vectors are judged in another order, and the lines of those that are not right put in order
-pub lines_in_order : (all : List Vector) (vectors judged : List NumberedVector) (lines ordered : List ℕ) → vectors ≡ numbered 1 all → IsPermutation vectors judged → lines ≡ differing judged → IsPermutation lines ordered → IsNonDecreasing ordered → ordered ≡ differing (numbered 1 all)
+pub lines_in_order : (all : List Vector) (vectors judged : List NumberedVector) (lines ordered : List ℕ) → vectors ≡ numbered 1 all → IsPermutation vectors judged → lines ≡ lines_that_differ judged → IsPermutation lines ordered → IsNonDecreasing ordered → ordered ≡ lines_that_differ (numbered 1 all)
 lines_in_order all vectors judged lines ordered are moved noted sorted rises =
-    rises_once ordered (differing (numbered 1 all)) (rises_from ordered rises) (differing_rises 1 all).1
+    rises_once ordered (lines_that_differ (numbered 1 all)) (rises_from ordered rises) (differing_rises 1 all).1
     (λ f. sum_by-IsPermutation f lines ordered sorted ∙ (ap (sum_by f) noted ∙ (sum_differing f judged ∙ (sum_by-IsPermutation (counted f) vectors judged moved ∙ (ap (sum_by (counted f)) are ∙ sym (sum_differing f (numbered 1 all)))))))
 
-one_right : (v : Vector) (k : ℕ) (rest : List ℕ) (right : Bool) → (value_of v == said v) ≡ right → (if right then rest else k ∷ rest) ≡ [] → IsRight v × (rest ≡ [])
+one_right : (v : Vector) (k : ℕ) (rest : List ℕ) (right : Bool) → (operator_value v == word_expected v) ≡ right → (if right then rest else k ∷ rest) ≡ [] → IsRight v × (rest ≡ [])
 one_right v k rest true e none = (grind (arith, nat_tests), none)
 one_right v k rest false e none = absurd cc
 
 -- where no line differs, each vector is right
-pub all_right : (k : ℕ) (vs : List Vector) → differing (numbered k vs) ≡ [] → All IsRight vs
+pub all_right : (k : ℕ) (vs : List Vector) → lines_that_differ (numbered k vs) ≡ [] → All IsRight vs
 all_right k [] none = search rules
 all_right k (v ∷ vs) none =
-    let right = one_right v k (differing (numbered (suc k) vs)) (value_of v == said v) refl none in
+    let right = one_right v k (lines_that_differ (numbered (suc k) vs)) (operator_value v == word_expected v) refl none in
     All-cons IsRight v vs right.0 (all_right (suc k) vs right.1)
 
 -- what names the lines that differ tells of the vectors, and whether there is no such line is whether all agree
-pub tells_by_lines : (all : List Vector) (lines told : List ℕ) (n : ℕ) (none : Bool) → lines ≡ differing (numbered 1 all) → n ≡ length lines → none ≡ (n == 0) → told ≡ report lines (length all) → Tells told none all
+pub tells_by_lines : (all : List Vector) (lines told : List ℕ) (n : ℕ) (none : Bool) → lines ≡ lines_that_differ (numbered 1 all) → n ≡ length lines → none ≡ (n == 0) → told ≡ report lines (length all) → TellsVectors told none all
 tells_by_lines all [] told n none are count is text =
     record {
       right = λ yes. (all_right 1 all (sym are), text);

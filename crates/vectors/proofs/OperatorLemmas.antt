@@ -12,13 +12,13 @@ use Rattle.base.proofs.BitLemmas.{length-bits, word-bits}
 use Rattle.base.proofs.ValueLaws.{unary_below, binary_below}
 use Rattle.base.specs.Literal.{Valuation, literal_value}
 use Rattle.aiger.specs.Circuit.{Circuit}
-use Rattle.aiger.specs.Trace.{IsFrame, IsTrace}
+use Rattle.aiger.specs.Trace.{IsCircuitFrame, IsCircuitTrace}
 use Rattle.aiger.proofs.TraceLemmas.{trace_exists}
 use Rattle.blast.specs.Lowering.{Lowers}
 use Rattle.runs.specs.CircuitRun.{CircuitRun, IsFrameNow}
 use Rattle.vectors.specs.declared.lines.Vector.{Vector}
 use Rattle.vectors.specs.declared.lines.Vector.TheVariants as vector
-use Rattle.vectors.specs.Vectors.{IsVector, value_of}
+use Rattle.vectors.specs.Vectors.{IsVector, operator_value}
 use Rattle.vectors.specs.OperatorModels.{items_of, operand_bits}
 use Rattle.vectors.specs.CircuitRuns.{IsRunOf}
 
@@ -44,17 +44,17 @@ no_latches (vector.Unary op n a r) c l = sym (length-map c.latches (λ latch. la
 no_latches (vector.Binary op n a b r) c l = sym (length-map c.latches (λ latch. latch.reset)) ∙ ap length l.resets
 
 -- in each frame the outputs are the bits of the value that the operator gives
-pub shows_value : (v : Vector) (c : Circuit) (f : Valuation) → IsVector v → Lowers (items_of v) c → IsFrame c [] (operand_bits v) f
-    → map (literal_value f) c.outputs ≡ bits (result_width v) (value_of v)
+pub shows_value : (v : Vector) (c : Circuit) (f : Valuation) → IsVector v → Lowers (items_of v) c → IsCircuitFrame c [] (operand_bits v) f
+    → map (literal_value f) c.outputs ≡ bits (result_width v) (operator_value v)
 shows_value (vector.Unary op n a r) c f fits l frame =
     (l.frames (λ id. 0) ((λ id. a) ∷ []) (record { fits = (tt, (tt, (tt, (tt, (tt, tt))))); inits = (tt, (tt, (tt, (tt, (tt, tt))))) }) ((tt, (tt, (fits.2, (tt, (tt, tt))))), tt)
     ((λ id. if id == 3 then a else unary_value op n a) ∷ []) ((tt, (tt, (refl, (refl, (tt, tt))))), tt)
-    (f ∷ []) (subst (λ (given : List Bool). IsFrame c [] given f) (sym (append-nil (bits n a ++ []) ∙ append-nil (bits n a))) frame, tt)).0.outputs
+    (f ∷ []) (subst (λ (given : List Bool). IsCircuitFrame c [] given f) (sym (append-nil (bits n a ++ []) ∙ append-nil (bits n a))) frame, tt)).0.outputs
     ∙ append-nil (bits (unary_width op n) (unary_value op n a))
 shows_value (vector.Binary op n a b r) c f fits l frame =
     (l.frames (λ id. 0) ((λ id. if id == 3 then a else b) ∷ []) (record { fits = (tt, (tt, (tt, (tt, (tt, (tt, tt)))))); inits = (tt, (tt, (tt, (tt, (tt, (tt, tt)))))) }) ((tt, (tt, (fits.3, (fits.4, (tt, (tt, tt)))))), tt)
     ((λ id. if id == 3 then a else (if id == 4 then b else binary_value op n a b)) ∷ []) ((tt, (tt, (refl, (refl, (refl, (tt, tt)))))), tt)
-    (f ∷ []) (subst (λ (given : List Bool). IsFrame c [] given f) (sym (append-nil (bits n a ++ (bits n b ++ [])) ∙ ap (λ (t : List Bool). bits n a ++ t) (append-nil (bits n b)))) frame, tt)).0.outputs
+    (f ∷ []) (subst (λ (given : List Bool). IsCircuitFrame c [] given f) (sym (append-nil (bits n a ++ (bits n b ++ [])) ∙ ap (λ (t : List Bool). bits n a ++ t) (append-nil (bits n b)))) frame, tt)).0.outputs
     ∙ append-nil (bits (binary_width op n) (binary_value op n a b))
 
 width_few : (test : Bool) (n : ℕ) → n ≤ 64 → (if test then 1 else n) ≤ 64
@@ -65,16 +65,16 @@ result_few : (v : Vector) → IsVector v → result_width v ≤ 64
 result_few (vector.Unary op n a r) fits = width_few (is_reduction op) n fits.1
 result_few (vector.Binary op n a b r) fits = width_few (is_test op) n fits.1
 
-value_below : (v : Vector) → IsVector v → value_of v < 2 ^ result_width v
+value_below : (v : Vector) → IsVector v → operator_value v < 2 ^ result_width v
 value_below (vector.Unary op n a r) fits = unary_below op n a fits.0 fits.2
 value_below (vector.Binary op n a b r) fits = binary_below op n a b fits.0 fits.3 fits.4
 
-one_frame : (v : Vector) (c : Circuit) → Lowers (items_of v) c → (vs : List Valuation) → IsTrace c [] (operand_bits v ∷ []) vs → (f : Valuation) × IsFrame c [] (operand_bits v) f
+one_frame : (v : Vector) (c : Circuit) → Lowers (items_of v) c → (vs : List Valuation) → IsCircuitTrace c [] (operand_bits v ∷ []) vs → (f : Valuation) × IsCircuitFrame c [] (operand_bits v) f
 one_frame v c l [] trace = absurd trace
 one_frame v c l (f ∷ fs) trace = (f, trace.0)
 
 -- there is a frame in which the inputs are the bits of the operands
-frame_of : (v : Vector) (c : Circuit) → Lowers (items_of v) c → (f : Valuation) × IsFrame c [] (operand_bits v) f
+frame_of : (v : Vector) (c : Circuit) → Lowers (items_of v) c → (f : Valuation) × IsCircuitFrame c [] (operand_bits v) f
 frame_of v c l =
     let trace = trace_exists c [] (operand_bits v ∷ []) l.circuit (sym (no_latches v c l)) (All-cons (λ (input : List Bool). length input ≡ c.inputs) (operand_bits v) [] (sym (input_count v c l)) (search rules)) in
     one_frame v c l trace.0 trace.1
@@ -82,14 +82,14 @@ frame_of v c l =
 pub outputs_few : (v : Vector) (c : Circuit) → IsVector v → Lowers (items_of v) c → length c.outputs ≤ 64
 outputs_few v c fits l =
     let frame = frame_of v c l in
-    omega (arith, result_few v fits, length-map c.outputs (literal_value frame.0), ap length (shows_value v c frame.0 fits l frame.1), length-bits (result_width v) (value_of v))
+    omega (arith, result_few v fits, length-map c.outputs (literal_value frame.0), ap length (shows_value v c frame.0 fits l frame.1), length-bits (result_width v) (operator_value v))
 
 -- the word that the outputs of a run from the operands' bits read as is the value that the operator gives
-pub word_is_value : (v : Vector) (c : Circuit) (r : CircuitRun) (told : ℕ) → IsVector v → Lowers (items_of v) c → IsRunOf c r → r.inputs ≡ operand_bits v → ((f : Valuation) → IsFrameNow r f → told ≡ word (map (literal_value f) c.outputs)) → told ≡ value_of v
+pub word_is_value : (v : Vector) (c : Circuit) (r : CircuitRun) (told : ℕ) → IsVector v → Lowers (items_of v) c → IsRunOf c r → r.inputs ≡ operand_bits v → ((f : Valuation) → IsFrameNow r f → told ≡ word (map (literal_value f) c.outputs)) → told ≡ operator_value v
 word_is_value v c r told fits l run inputs read =
     let frame = frame_of v c l in
     read frame.0 (rw (run.same, run.latches, inputs) frame.1)
-    ∙ (ap word (shows_value v c frame.0 fits l frame.1) ∙ word-bits (result_width v) (value_of v) (value_below v fits))
+    ∙ (ap word (shows_value v c frame.0 fits l frame.1) ∙ word-bits (result_width v) (operator_value v) (value_below v fits))
 
 -- a run of a circuit is one of its own circuit
 pub of_own : (c : Circuit) (r : CircuitRun) → IsRunOf c r → IsRunOf r.circuit r

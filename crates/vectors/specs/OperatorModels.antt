@@ -9,15 +9,15 @@ use Rattle.vectors.specs.declared.lines.Vector.{Vector}
 use Rattle.vectors.specs.declared.lines.Vector.TheVariants as vector
 
 -- a line without a name
-abbrev pub line : ℕ → Body → Item
-line id says = record { id = id; symbol = None; body = says }
+abbrev pub operator_line : ℕ → Body → Item
+operator_line id says = record { id = id; symbol = None; body = says }
 
 -- the model of a vector's operator at its width: the sorts of the operands and of the result, an input for each operand, the operator, and its output
 abbrev pub items_of : Vector → List Item
 items_of (vector.Unary op n a r) =
-    line 1 (body.Sort n) ∷ line 2 (body.Sort (unary_width op n)) ∷ line 3 (body.Input 1) ∷ line 4 (body.Unary op 2 3) ∷ line 5 (body.Output 4) ∷ []
+    operator_line 1 (body.Sort n) ∷ operator_line 2 (body.Sort (unary_width op n)) ∷ operator_line 3 (body.Input 1) ∷ operator_line 4 (body.Unary op 2 3) ∷ operator_line 5 (body.Output 4) ∷ []
 items_of (vector.Binary op n a b r) =
-    line 1 (body.Sort n) ∷ line 2 (body.Sort (binary_width op n)) ∷ line 3 (body.Input 1) ∷ line 4 (body.Input 1) ∷ line 5 (body.Binary op 2 3 4) ∷ line 6 (body.Output 5) ∷ []
+    operator_line 1 (body.Sort n) ∷ operator_line 2 (body.Sort (binary_width op n)) ∷ operator_line 3 (body.Input 1) ∷ operator_line 4 (body.Input 1) ∷ operator_line 5 (body.Binary op 2 3 4) ∷ operator_line 6 (body.Output 5) ∷ []
 
 -- the bits of a vector's operands, the first operand's before the second's, the lowest first
 abbrev pub operand_bits : Vector → List Bool

@@ -47,18 +47,18 @@ pub record AreVectorsOf (text : List ℕ) (vectors : List Vector) : Type 0 where
   pub written : WriteAll lines vectors
 
 -- the word that a vector says to come
-abbrev pub said : Vector → ℕ
-said (vector.Unary op n a r) = r
-said (vector.Binary op n a b r) = r
+abbrev pub word_expected : Vector → ℕ
+word_expected (vector.Unary op n a r) = r
+word_expected (vector.Binary op n a b r) = r
 
 -- the word that a vector's operator gives for its operands
-abbrev pub value_of : Vector → ℕ
-value_of (vector.Unary op n a r) = unary_value op n a
-value_of (vector.Binary op n a b r) = binary_value op n a b
+abbrev pub operator_value : Vector → ℕ
+operator_value (vector.Unary op n a r) = unary_value op n a
+operator_value (vector.Binary op n a b r) = binary_value op n a b
 
 -- a vector is right: its operator gives the word that it says
 abbrev pub IsRight : Vector → Type 0
-IsRight v = value_of v ≡ said v
+IsRight v = operator_value v ≡ word_expected v
 
 -- a vector and the number of its line
 pub record NumberedVector : Type 0 where
@@ -71,9 +71,9 @@ numbered k [] = []
 numbered k (v ∷ vs) = record { line = k; vector = v } ∷ numbered (suc k) vs
 
 -- the numbers of the lines of those that are not right, in their order
-abbrev pub differing : List NumberedVector → List ℕ
-differing [] = []
-differing (n ∷ ns) = if value_of n.vector == said n.vector then differing ns else n.line ∷ differing ns
+abbrev pub lines_that_differ : List NumberedVector → List ℕ
+lines_that_differ [] = []
+lines_that_differ (n ∷ ns) = if operator_value n.vector == word_expected n.vector then lines_that_differ ns else n.line ∷ lines_that_differ ns
 
 -- the line that is told of a vector that differs, by its number
 abbrev pub differs_line : ℕ → List ℕ
@@ -84,15 +84,15 @@ abbrev pub report : List ℕ → ℕ → List ℕ
 report lines n = flat_map differs_line lines ++ (decimal (n - length lines) ++ (codes " of " ++ (decimal n ++ codes " vectors agree\n")))
 
 -- What is told of some vectors: where it says that all agree each is right, and else one at least is not; and it names the lines of exactly those that are not.
-pub record Tells (told : List ℕ) (all_agree : Bool) (vectors : List Vector) : Type 0 where
+pub record TellsVectors (told : List ℕ) (all_agree : Bool) (vectors : List Vector) : Type 0 where
   pub right : all_agree ≡ true → All IsRight vectors × (told ≡ report [] (length vectors))
-  pub wrong : all_agree ≡ false → (differing (numbered 1 vectors) ≢ []) × (told ≡ report (differing (numbered 1 vectors)) (length vectors))
+  pub wrong : all_agree ≡ false → (lines_that_differ (numbered 1 vectors) ≢ []) × (told ≡ report (lines_that_differ (numbered 1 vectors)) (length vectors))
 
 -- a text is the lines of some vectors, of which this is told
 pub record IsReportOf (text told : List ℕ) (all_agree : Bool) : Type 0 where
   pub vectors : List Vector
   pub are : AreVectorsOf text vectors
-  pub tells : Tells told all_agree vectors
+  pub tells : TellsVectors told all_agree vectors
 
 -- the first line of a text writes no vector
 pub record BeginsBad (text : List ℕ) : Type 0 where
@@ -103,7 +103,7 @@ pub record BeginsBad (text : List ℕ) : Type 0 where
   pub bad : (v : Vector) → ¬ Writes line v
 
 -- a text ends in bytes without a byte 10
-pub record IsUnfinished (text : List ℕ) : Type 0 where
+pub record EndsUnfinished (text : List ℕ) : Type 0 where
   pub line : IsLine text
   pub some : text ≢ []
 
@@ -115,7 +115,7 @@ pub record IsFirstBad (text : List ℕ) (n : ℕ) : Type 0 where
   pub parts : text ≡ text_of_lines lines ++ rest
   pub written : WriteAll lines vectors
   pub number : n ≡ length lines + 1
-  pub bad : IsUnfinished rest ⊎ BeginsBad rest
+  pub bad : EndsUnfinished rest ⊎ BeginsBad rest
 
 -- what a fault says of the line that it names
 abbrev pub IfBad : (ℕ → Type 0) → LinesFault → Type 0

@@ -7,8 +7,8 @@ ghost use Rattle.btor2.specs.declared.item.Body.TheVariants as body;
 ghost use Rattle.base.specs.Literal.{Valuation, literal_value};
 ghost use Rattle.blast.specs.Lowering.{Lowers};
 ghost use Rattle.runs.specs.CircuitRun.{IsFrameNow};
-ghost use Rattle.vectors.specs.Vectors.{IsVector, value_of};
-ghost use Rattle.vectors.specs.OperatorModels.{line, items_of, operand_bits};
+ghost use Rattle.vectors.specs.Vectors.{IsVector, operator_value};
+ghost use Rattle.vectors.specs.OperatorModels.{operator_line, items_of, operand_bits};
 ghost use Rattle.vectors.specs.CircuitRuns.{IsRunOf};
 
 use crate::lines::Vector;
@@ -26,7 +26,7 @@ const RESULT: u32 = 2;
 
 /// Adds a line without a name.
 fn push(model: &mut Model, id: u64, body: Body) -> Result<(), PushFault>
-    ensures { OnOk result (model.new ≡ model.old ++ line id body ∷ []) }
+    ensures { OnOk result (model.new ≡ model.old ++ operator_line id body ∷ []) }
 {
     model.push(Item {
         id,
@@ -38,7 +38,7 @@ fn push(model: &mut Model, id: u64, body: Body) -> Result<(), PushFault>
 /// Adds the sorts of the operands and of the result.
 fn push_sorts(model: &mut Model, operands: u64, given: u64) -> Result<(), PushFault>
     requires { model.old ≡ [] }
-    ensures { OnOk result (model.new ≡ line 1 (body.Sort operands) ∷ line 2 (body.Sort given) ∷ []) }
+    ensures { OnOk result (model.new ≡ operator_line 1 (body.Sort operands) ∷ operator_line 2 (body.Sort given) ∷ []) }
 {
     push(model, u64::from(OPERANDS), Body::Sort { width: operands })?;
     push(model, u64::from(RESULT), Body::Sort { width: given })
@@ -47,7 +47,7 @@ fn push_sorts(model: &mut Model, operands: u64, given: u64) -> Result<(), PushFa
 /// Adds the lines of an input, of an operator on it, and of an output.
 fn push_unary(model: &mut Model, operator: Unary, width: Width) -> Result<(), PushFault>
     requires { model.old ≡ [] }
-    ensures { OnOk result (model.new ≡ line 1 (body.Sort width) ∷ line 2 (body.Sort (unary_width operator width)) ∷ line 3 (body.Input 1) ∷ line 4 (body.Unary operator 2 3) ∷ line 5 (body.Output 4) ∷ []) }
+    ensures { OnOk result (model.new ≡ operator_line 1 (body.Sort width) ∷ operator_line 2 (body.Sort (unary_width operator width)) ∷ operator_line 3 (body.Input 1) ∷ operator_line 4 (body.Unary operator 2 3) ∷ operator_line 5 (body.Output 4) ∷ []) }
 {
     push_sorts(model, width.bits(), operator.width(width.bits()))?;
     push(model, 3, Body::Input { sort: OPERANDS })?;
@@ -63,7 +63,7 @@ fn push_unary(model: &mut Model, operator: Unary, width: Width) -> Result<(), Pu
 /// Adds the lines of two inputs, of an operator on them, and of an output.
 fn push_binary(model: &mut Model, operator: Binary, width: Width) -> Result<(), PushFault>
     requires { model.old ≡ [] }
-    ensures { OnOk result (model.new ≡ line 1 (body.Sort width) ∷ line 2 (body.Sort (binary_width operator width)) ∷ line 3 (body.Input 1) ∷ line 4 (body.Input 1) ∷ line 5 (body.Binary operator 2 3 4) ∷ line 6 (body.Output 5) ∷ []) }
+    ensures { OnOk result (model.new ≡ operator_line 1 (body.Sort width) ∷ operator_line 2 (body.Sort (binary_width operator width)) ∷ operator_line 3 (body.Input 1) ∷ operator_line 4 (body.Input 1) ∷ operator_line 5 (body.Binary operator 2 3 4) ∷ operator_line 6 (body.Output 5) ∷ []) }
 {
     push_sorts(model, width.bits(), operator.width(width.bits()))?;
     push(model, 3, Body::Input { sort: OPERANDS })?;
@@ -201,7 +201,7 @@ pub(crate) fn circuit_word(run: &mut BitRun<'_>, circuit: &Circuit, vector: Vect
     requires lowers { Lowers (items_of vector) circuit.now }
     requires run { IsRunOf circuit.now run.old }
     ensures same { IsRunOf circuit.now run.new }
-    ensures word { result ≡ value_of vector }
+    ensures word { result ≡ operator_value vector }
 {
     set_operands(run, vector);
     run.settle();

@@ -4,7 +4,7 @@ ghost use Rattle.std.specs.Prelude.{◌≡◌, ◌≢◌, ◌≤◌, ◌⊎◌, 
 ghost use Rattle.std.specs.String.{string_bytes};
 ghost use Rattle.blast.specs.Lowering.{Lowers};
 ghost use Rattle.vectors.specs.declared.lines.Vector.{Vector};
-ghost use Rattle.vectors.specs.Vectors.{IsVector, IfBad, IsFirstBad, IsReportOf, Tells, value_of, said, report, differs_line, numbered, differing};
+ghost use Rattle.vectors.specs.Vectors.{IsVector, IfBad, IsFirstBad, IsReportOf, TellsVectors, operator_value, word_expected, report, differs_line, numbered, lines_that_differ};
 ghost use Rattle.vectors.specs.OperatorModels.{items_of};
 ghost use Rattle.vectors.specs.CircuitRuns.{IsRunOf};
 
@@ -27,7 +27,7 @@ pub struct Report {
 /// The word that the evaluator gives for a vector's operands.
 fn evaluated(vector: Vector) -> u64
     requires { IsVector vector }
-    ensures { result ≡ value_of vector }
+    ensures { result ≡ operator_value vector }
 {
     let mut tally = Tally::new();
     match vector {
@@ -49,7 +49,7 @@ fn evaluated(vector: Vector) -> u64
 
 /// The word that a vector says to come.
 fn said(vector: Vector) -> u64
-    ensures { result ≡ said vector }
+    ensures { result ≡ word_expected vector }
 {
     match vector {
         Vector::Unary { result, .. } | Vector::Binary { result, .. } => result,
@@ -66,7 +66,7 @@ fn note(
     requires lowers { Lowers (items_of vector.now.vector) circuit.now }
     requires run { IsRunOf circuit.now run.old }
     ensures same { IsRunOf circuit.now run.new }
-    ensures noted { OnOk result (lines.new.items ≡ lines.old.items ++ differing (vector.now ∷ [])) }
+    ensures noted { OnOk result (lines.new.items ≡ lines.old.items ++ lines_that_differ (vector.now ∷ [])) }
 {
     let said = said(vector.vector());
     if evaluated(vector.vector()) == said && circuit_word(run, circuit, vector.vector()) == said {
@@ -90,7 +90,7 @@ fn note_alike<'a>(
 ) -> Result<&'a [Numbered], AllocError>
     requires lowers { Lowers (items_of kind.now.vector) circuit.now }
     requires run { IsRunOf circuit.now run.old }
-    ensures noted { IfOk result (λ rest. lines.new.items ++ differing rest.now ≡ lines.old.items ++ differing vectors.now) }
+    ensures noted { IfOk result (λ rest. lines.new.items ++ lines_that_differ rest.now ≡ lines.old.items ++ lines_that_differ vectors.now) }
     ensures behind { IfOk result (λ rest. length rest.now ≤ length vectors.now) }
 {
     let mut rest = vectors;
@@ -113,7 +113,7 @@ fn note_by<'a>(
     lines: &mut Vec<u64>,
 ) -> Result<&'a [Numbered], AllocError>
     requires { Lowers (items_of first.now.vector) circuit.now }
-    ensures noted { IfOk result (λ rest. lines.new.items ++ differing rest.now ≡ lines.old.items ++ differing (first.now ∷ vectors.now)) }
+    ensures noted { IfOk result (λ rest. lines.new.items ++ lines_that_differ rest.now ≡ lines.old.items ++ lines_that_differ (first.now ∷ vectors.now)) }
     ensures behind { IfOk result (λ rest. length rest.now ≤ length vectors.now) }
 {
     let mut run = operator_run(alloc, circuit, first.vector())?;
@@ -129,7 +129,7 @@ fn note_kind<'a>(
     vectors: &'a [Numbered],
     lines: &mut Vec<u64>,
 ) -> Result<&'a [Numbered], AllocError>
-    ensures noted { IfOk result (λ rest. lines.new.items ++ differing rest.now ≡ lines.old.items ++ differing (first.now ∷ vectors.now)) }
+    ensures noted { IfOk result (λ rest. lines.new.items ++ lines_that_differ rest.now ≡ lines.old.items ++ lines_that_differ (first.now ∷ vectors.now)) }
     ensures behind { IfOk result (λ rest. length rest.now ≤ length vectors.now) }
 {
     let circuit = operator_circuit(alloc, first.vector())?;
@@ -138,7 +138,7 @@ fn note_kind<'a>(
 
 /// Notes the lines that differ of vectors, kind by kind where they stand together.
 fn note_all(alloc: Global, vectors: &[Numbered], lines: &mut Vec<u64>) -> Result<(), AllocError>
-    ensures { OnOk result (lines.new.items ≡ lines.old.items ++ differing vectors.now) }
+    ensures { OnOk result (lines.new.items ≡ lines.old.items ++ lines_that_differ vectors.now) }
 {
     let mut rest = vectors;
     while let [first, behind @ ..] = rest {
@@ -149,7 +149,7 @@ fn note_all(alloc: Global, vectors: &[Numbered], lines: &mut Vec<u64>) -> Result
 
 /// The lines, in order, of the vectors for which the evaluator or the circuit gives another word than they say.
 fn differing(alloc: Global, vectors: &mut Vec<Numbered>) -> Result<Vec<u64>, AllocError>
-    ensures lines { IfOk result (λ lines. (all : List Vector) → vectors.old.items ≡ numbered 1 all → lines.items ≡ differing (numbered 1 all)) }
+    ensures lines { IfOk result (λ lines. (all : List Vector) → vectors.old.items ≡ numbered 1 all → lines.items ≡ lines_that_differ (numbered 1 all)) }
     ensures kept { length vectors.new.items ≡ length vectors.old.items }
 {
     vectors.sort_unstable_by_key(|vector| vector.kind());
@@ -162,7 +162,7 @@ fn differing(alloc: Global, vectors: &mut Vec<Numbered>) -> Result<Vec<u64>, All
 /// A line for each vector that differs, by the number of its line.
 #[tactic(auto, using(crate::proofs::VectorLemmas::none_behind))]
 fn differing_lines(alloc: Global, differing: &[u64]) -> Result<String, AllocError>
-    ensures { IfOk result (λ text. string_bytes text ≡ flat_map differs_line differing.now) }
+    ensures { IfOk result (λ text. string_bytes text ≡ flat_map differs_line lines_that_differ.now) }
 {
     let mut text = String::new(alloc);
     let mut rest = differing;
@@ -175,7 +175,7 @@ fn differing_lines(alloc: Global, differing: &[u64]) -> Result<String, AllocErro
 
 /// What is told of vectors: a line for each that differs, and how many agree.
 fn report_text(alloc: Global, differing: &[u64], count: usize) -> Result<String, AllocError>
-    ensures { IfOk result (λ text. string_bytes text ≡ report differing.now count) }
+    ensures { IfOk result (λ text. string_bytes text ≡ report lines_that_differ.now count) }
 {
     let mut text = differing_lines(alloc, differing)?;
     let agree = count.saturating_sub(differing.len());
@@ -185,7 +185,7 @@ fn report_text(alloc: Global, differing: &[u64], count: usize) -> Result<String,
 
 /// What is told of vectors, and whether all of them agree.
 fn judged(alloc: Global, vectors: &mut Vec<Numbered>) -> Result<Report, AllocError>
-    ensures { IfOk result (λ told. (all : List Vector) → vectors.old.items ≡ numbered 1 all → Tells (string_bytes told.text) told.all_agree all) }
+    ensures { IfOk result (λ told. (all : List Vector) → vectors.old.items ≡ numbered 1 all → TellsVectors (string_bytes told.text) told.all_agree all) }
 {
     let differing = differing(alloc, vectors)?;
     let text = report_text(alloc, differing.as_slice(), vectors.len())?;

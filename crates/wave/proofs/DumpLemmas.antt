@@ -12,9 +12,9 @@ use Rattle.wave.specs.declared.scope.Shown.{Shown}
 use Rattle.wave.specs.declared.signals.Signal.{Signal}
 use Rattle.wave.specs.Names.{code}
 use Rattle.wave.specs.Signals.{shown_node, signals, signal_width, signal_word}
-use Rattle.wave.specs.Dumps.{declaration_lines, moment, value, value_line, has_changed, frame_lines, frames_lines, end_lines, begun_text, vcd_text}
+use Rattle.wave.specs.Dumps.{declaration_lines, moment, value, value_line, has_changed, frame_changes, frames_lines, end_lines, begun_text, vcd_text}
 use Rattle.wave.proofs.SignalLemmas.{told_at}
-use Rattle.wave.specs.Stands.{kept, with_word, change, changes, told_word, node_place}
+use Rattle.wave.specs.Stands.{kept_values, with_word, change, changes, told_word, node_place}
 
 -- ---- signals whose nodes have a value
 
@@ -28,8 +28,8 @@ pub frames_append : (items shown : List Item) (k : ℕ) (before : Option Frame) 
 frames_append items shown k before [] gs = ap (λ (n : ℕ). frames_lines items shown n before gs) (omega arith)
 frames_append items shown k before (f ∷ fs) gs =
     let more : suc k + length fs ≡ k + suc (length fs) = omega arith in
-    ap (λ (l : List (List ℕ)). frame_lines items shown k before f ++ l) (frames_append items shown (suc k) (Some f) fs gs ∙ ap (λ (n : ℕ). frames_lines items shown (suc k) (Some f) fs ++ frames_lines items shown n (last_or (Some f) fs) gs) more)
-    ∙ sym (append_assoc (frame_lines items shown k before f) (frames_lines items shown (suc k) (Some f) fs) (frames_lines items shown (k + suc (length fs)) (last_or (Some f) fs) gs))
+    ap (λ (l : List (List ℕ)). frame_changes items shown k before f ++ l) (frames_append items shown (suc k) (Some f) fs gs ∙ ap (λ (n : ℕ). frames_lines items shown (suc k) (Some f) fs ++ frames_lines items shown n (last_or (Some f) fs) gs) more)
+    ∙ sym (append_assoc (frame_changes items shown k before f) (frames_lines items shown (suc k) (Some f) fs) (frames_lines items shown (k + suc (length fs)) (last_or (Some f) fs) gs))
 
 -- what a longer trace adds to the dump of its front
 abbrev pub behind_text : Shown → List Item → List Frame → List Frame → List ℕ
@@ -53,7 +53,7 @@ line_is items f x =
     sym (append-nil (value_line items f x ++ 10 ∷ []) ∙ append_assoc (value (signal_width items x) (signal_word f x)) (code x.id) (10 ∷ []))
 
 change_is : (first : Bool) (items : List Item) (before : Option Frame) (f : Frame) (x : Item) → first ≡ is_none before → IsThere items x
-    → change first (kept items before x) (told_word items f (node_place items x)) ≡ text_of_lines (map (value_line items f) (filter (has_changed before f) (x ∷ [])))
+    → change first (kept_values items before x) (told_word items f (node_place items x)) ≡ text_of_lines (map (value_line items f) (filter (has_changed before f) (x ∷ [])))
 change_is first items None f x e there =
     rw (e, told_is items f x there) (line_is items f x)
 change_is first items (Some b) f x e there =
@@ -64,7 +64,7 @@ change_is first items (Some b) f x e there =
     ])
 
 pub changes_are : (first : Bool) (items : List Item) (before : Option Frame) (f : Frame) (xs : List Item) → first ≡ is_none before → All (IsThere items) xs
-    → changes first (told_word items f) (map (kept items before) xs) ≡ text_of_lines (map (value_line items f) (filter (has_changed before f) xs))
+    → changes first (told_word items f) (map (kept_values items before) xs) ≡ text_of_lines (map (value_line items f) (filter (has_changed before f) xs))
 changes_are first items before f [] e all = refl
 changes_are first items before f (x ∷ xs) e all =
     ap₂ (λ (a b : List ℕ). a ++ b) (change_is first items before f x e (All-head (IsThere items) x xs all)) (changes_are first items before f xs e (All-tail (IsThere items) x xs all))
@@ -88,13 +88,13 @@ first_is (f ∷ fs) = ne_eqb (length (f ∷ fs)) 0 (λ e. omega (arith, e)) ∙ 
 
 -- a frame more
 pub frame_text : (s : Shown) (items : List Item) (fs : List Frame) (f : Frame) → All (IsThere items) (signals s items)
-    → behind_text s items fs (f ∷ []) ≡ (moment (length fs) ++ 10 ∷ []) ++ changes (length fs == 0) (told_word items f) (map (kept items (last_or None fs)) (signals s items))
+    → behind_text s items fs (f ∷ []) ≡ (moment (length fs) ++ 10 ∷ []) ++ changes (length fs == 0) (told_word items f) (map (kept_values items (last_or None fs)) (signals s items))
 frame_text s items fs f all =
-    ap text_of_lines (append-nil (frame_lines items (signals s items) (length fs) (last_or None fs) f))
+    ap text_of_lines (append-nil (frame_changes items (signals s items) (length fs) (last_or None fs) f))
     ∙ ap (λ (l : List ℕ). (moment (length fs) ++ 10 ∷ []) ++ l) (sym (changes_are (length fs == 0) items (last_or None fs) f (signals s items) (first_is fs) all))
 
 -- the words that are kept behind it
-pub kept_behind : (items : List Item) (before : Option Frame) (f : Frame) (xs : List Item) → All (IsThere items) xs → map (with_word (told_word items f)) (map (kept items before) xs) ≡ map (kept items (Some f)) xs
+pub kept_behind : (items : List Item) (before : Option Frame) (f : Frame) (xs : List Item) → All (IsThere items) xs → map (with_word (told_word items f)) (map (kept_values items before) xs) ≡ map (kept_values items (Some f)) xs
 kept_behind items before f [] all = refl
 kept_behind items before f (x ∷ xs) all =
     let word = told_is items f x (All-head (IsThere items) x xs all) in

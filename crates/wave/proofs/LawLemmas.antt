@@ -17,7 +17,7 @@ use Rattle.runs.proofs.PlaceLemmas.{place_inside}
 use Rattle.wave.specs.declared.scope.Scope.{Scope}
 use Rattle.wave.specs.declared.scope.Shown.{Shown}
 use Rattle.wave.specs.Names.{ends_in_number, with_id, is_plain_name, escaped}
-use Rattle.wave.specs.Signals.{is_in, signals_in, signals_before, plain_name_in, is_told_apart, name_of}
+use Rattle.wave.specs.Signals.{is_in, signals_in, signals_before, plain_name_in, is_told_apart, signal_name}
 use Rattle.wave.proofs.NameLemmas.{signals_before-at}
 
 -- ---- bytes
@@ -118,7 +118,7 @@ not_both s items c x y small off e =
 
 -- two signals, the first before the second, have two names
 names_differ : (s : Shown) (items : List Item) (c : Scope) (i j : ℕ) (x y : Item) → IsWellFormed items → slice_get (signals_in s items c) i ≡ Some x → slice_get (signals_in s items c) j ≡ Some y → i < j
-    → name_of s items c x ≡ name_of s items c y → ⊥
+    → signal_name s items c x ≡ signal_name s items c y → ⊥
 names_differ s items c i j x y w h k lt e =
     by (is_told_apart s items c x) (is_told_apart s items c y) refl refl (escaped_same _ _ e)
   where
@@ -146,7 +146,7 @@ names_differ s items c i j x y w h k lt e =
     by false false f g e = true≢false (sym (later_is_told s items c i j x y h q lt e) ∙ g)
 
 pub one_signal : (s : Shown) (items : List Item) (c : Scope) (i j : ℕ) (x y : Item) → IsWellFormed items → slice_get (signals_in s items c) i ≡ Some x → slice_get (signals_in s items c) j ≡ Some y
-    → name_of s items c x ≡ name_of s items c y → i ≡ j
+    → signal_name s items c x ≡ signal_name s items c y → i ≡ j
 one_signal s items c i j x y w h k e =
     elim (cases_lt i j) [
       | inl lt ↦ absurd (names_differ s items c i j x y w h k lt e)

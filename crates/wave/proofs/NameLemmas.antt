@@ -21,7 +21,7 @@ use Rattle.wave.specs.declared.scope.Scope.TheVariants as scope
 use Rattle.wave.specs.declared.scope.Shown.{Shown}
 use Rattle.wave.specs.Names.{prefix, stem_by, plain_name, ends_in_number, with_id, is_letter, is_name_byte, is_plain_name, escaped}
 use Rattle.wave.specs.Signals.{is_in, scopes, signals_before, is_told_apart}
-use Rattle.wave.specs.Stands.{stem_in, Seen, HasSeen, is_marked, scope_marks}
+use Rattle.wave.specs.Stands.{stem_in, Seen, HasSeen, is_marked_signal, scope_marks}
 
 -- ---- which are told apart
 
@@ -51,7 +51,7 @@ number_at s items c place number x w at n = n ∙ sym (ap length (signals_before
 
 -- what is seen of names says which line is told apart
 pub marked_by_seen : (s : Shown) (items : List Item) (c : Scope) (place : ℕ) (x : Item) (seen : Seen) → IsWellFormed items → slice_get items place ≡ Some x → is_in s c x ≡ true → HasSeen s items c place seen
-    → (list_any (bytes_eq (stem_by c seen.number x.id x.symbol)) seen.names || ends_in_number (stem_by c seen.number x.id x.symbol)) ≡ is_marked s items c x
+    → (list_any (bytes_eq (stem_by c seen.number x.id x.symbol)) seen.names || ends_in_number (stem_by c seen.number x.id x.symbol)) ≡ is_marked_signal s items c x
 marked_by_seen s items c place x seen w at is h =
     let stem : stem_by c seen.number x.id x.symbol ≡ stem_in s items c x = ap (λ (n : ℕ). stem_by c n x.id x.symbol) (number_at s items c place seen.number x w at h.counted) in
     ap (λ (name : List ℕ). list_any (bytes_eq name) seen.names || ends_in_number name) stem
@@ -175,7 +175,7 @@ marks_at s items i c d rest lt e is =
     let later : List Bool = flat_map (scope_marks s items) (drop (i + 1) scopes) in
     let parts : rest ≡ scope_marks s items c ++ later =
     is ∙ subst (λ (x : Scope). flat_map (scope_marks s items) (drop i scopes) ≡ scope_marks s items x ++ flat_map (scope_marks s items) (drop (i + 1) scopes)) (sym e) (rw (drop-cons scopes i d lt, add-one i) refl) in
-    let many : length (scope_marks s items c) ≡ length items = length-map items (is_marked s items c) in
+    let many : length (scope_marks s items c) ≡ length items = length-map items (is_marked_signal s items c) in
     record {
       inside = omega (arith, ap length parts, length-append (scope_marks s items c) later, many);
       own = ap (λ (l : List Bool). take (length items) l) parts ∙ (ap (λ (n : ℕ). take n (scope_marks s items c ++ later)) (sym many) ∙ take_front (scope_marks s items c) later);

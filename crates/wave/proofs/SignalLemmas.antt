@@ -18,13 +18,13 @@ use Rattle.runs.proofs.PlaceLemmas.{node_place as node_place_of}
 use Rattle.wave.specs.declared.scope.Scope.{Scope}
 use Rattle.wave.specs.declared.scope.Scope.TheVariants as scope
 use Rattle.wave.specs.declared.scope.Shown.{Shown}
-use Rattle.wave.specs.Signals.{is_output, is_in, node_by, shown_node, scopes, signals_in, signals}
+use Rattle.wave.specs.Signals.{is_output_line, is_in, node_by, shown_node, scopes, signals_in, signals}
 use Rattle.wave.specs.declared.signals.Signal.{Signal}
 use Rattle.wave.specs.Stands.{told_word}
 
 -- a line that names the node that it shows
 abbrev names_node : Body → Bool
-names_node b = is_bad b || (is_constraint b || is_output b)
+names_node b = is_bad b || (is_constraint b || is_output_line b)
 
 input_has : (b : Body) → is_input b ≡ true → has_value b ≡ true
 input_has (body.Input s) h = refl
@@ -42,7 +42,7 @@ constraint_names : (b : Body) → is_constraint b ≡ true → names_node b ≡ 
 constraint_names (body.Constraint a) h = refl
 constraint_names _ h = absurd cc
 
-output_names : (b : Body) → is_output b ≡ true → names_node b ≡ true
+output_names : (b : Body) → is_output_line b ≡ true → names_node b ≡ true
 output_names (body.Output a) h = refl
 output_names _ h = absurd cc
 

@@ -13,13 +13,13 @@ use Rattle.witness.specs.Texts.{Parts, shape_of}
 use Rattle.witness.specs.Admits.{Read}
 use Rattle.witness.specs.ClosedWords.{IsClosedTrace, said_in, ClosesFrame, closed_word_frames}
 use Rattle.witness.specs.Readings.{reading}
-use Rattle.witness.specs.WordStands.{WordJudge, StandsFor}
+use Rattle.witness.specs.WordStands.{WordJudge, StandsForWitness}
 use Rattle.witness.proofs.ClosedLemmas.{line_closes_one, part_closes_none, front_closes}
 use Rattle.wave.specs.declared.scope.Shown.{Shown}
 use Rattle.wave.specs.declared.signals.Signal.{Signal}
 use Rattle.wave.specs.Signals.{signals}
 use Rattle.wave.specs.Dumps.{moment, end_lines, begun_text}
-use Rattle.wave.specs.Stands.{signal_of, kept, with_word, changes, told_word, Shows, Waver, Waves, SentDump}
+use Rattle.wave.specs.Stands.{signal_of, kept_values, with_word, changes, told_word, Shows, Waver, Waves, SentDump}
 use Rattle.wave.proofs.SignalLemmas.{all_there}
 use Rattle.wave.proofs.TraceLemmas.{IsTraceOf, Front, front_of, many_frames}
 use Rattle.wave.proofs.DumpLemmas.{behind_text, begun_append, frame_text, kept_behind}
@@ -36,9 +36,9 @@ unfolding reading
 none_yet items [] t = refl
 none_yet items (f ∷ fs) t = absurd t
 
-pub waves_none : (s : Shown) (items : List Item) (w : Waver) → IsWellFormed items → StandsFor items w.judge [] → w.signals ≡ map (signal_of items) (signals s items) → Waves s items w []
+pub waves_none : (s : Shown) (items : List Item) (w : Waver) → IsWellFormed items → StandsForWitness items w.judge [] → w.signals ≡ map (signal_of items) (signals s items) → Waves s items w []
 waves_none s items w well stands is =
-    record { well_formed = well; judge = stands; signals = λ fs t. is ∙ sym (ap (λ (gs : List Frame). map (kept items (last_or None gs)) (signals s items)) (none_yet items fs t)) }
+    record { well_formed = well; judge = stands; signals = λ fs t. is ∙ sym (ap (λ (gs : List Frame). map (kept_values items (last_or None gs)) (signals s items)) (none_yet items fs t)) }
 
 -- ---- texts with the same closed frames
 
@@ -49,12 +49,12 @@ same_trace items text other fs same t = subst (λ (closed : List Parts). IsTrace
 same_sent : (s : Shown) (title : List ℕ) (items : List Item) (text other : List ℕ) (start now : Option (List ℕ)) (left : List ℕ) → (said_in items other).closed ≡ (said_in items text).closed → SentDump s title items text start now left → SentDump s title items other start now left
 same_sent s title items text other start now left same sent fs t = sent fs (same_trace items text other fs same t)
 
-same_waves : (s : Shown) (items : List Item) (text other : List ℕ) (before after : Waver) → (said_in items other).closed ≡ (said_in items text).closed → Waves s items before text → StandsFor items after.judge other → after.signals ≡ before.signals → Waves s items after other
+same_waves : (s : Shown) (items : List Item) (text other : List ℕ) (before after : Waver) → (said_in items other).closed ≡ (said_in items text).closed → Waves s items before text → StandsForWitness items after.judge other → after.signals ≡ before.signals → Waves s items after other
 same_waves s items text other before after same h stands signals =
     record { well_formed = h.well_formed; judge = stands; signals = λ fs t. signals ∙ h.signals fs (same_trace items text other fs same t) }
 
 -- bytes that end no line
-pub waves_bytes : (s : Shown) (items : List Item) (text bytes : List ℕ) (before after : Waver) → IsLine bytes → Waves s items before text → StandsFor items after.judge (text ++ bytes) → after.signals ≡ before.signals → Waves s items after (text ++ bytes)
+pub waves_bytes : (s : Shown) (items : List Item) (text bytes : List ℕ) (before after : Waver) → IsLine bytes → Waves s items before text → StandsForWitness items after.judge (text ++ bytes) → after.signals ≡ before.signals → Waves s items after (text ++ bytes)
 waves_bytes s items text bytes before after is h stands signals = same_waves s items text (text ++ bytes) before after (ap (λ (r : Read). r.closed) (part_closes_none items text bytes is)) h stands signals
 
 pub sent_bytes : (s : Shown) (title : List ℕ) (items : List Item) (text bytes : List ℕ) (start now : Option (List ℕ)) (left : List ℕ) → IsLine bytes → SentDump s title items text start now left → SentDump s title items (text ++ bytes) start now left
@@ -84,7 +84,7 @@ last_behind [] f o = refl
 last_behind (g ∷ fs) f o = last_behind fs f (Some g)
 
 module _ (s : Shown) (title : List ℕ) (items : List Item) (text line : List ℕ) (start old : Option (List ℕ)) (kept_bytes : List ℕ) (before : Waver) (one_line : IsLine line) (h : Waves s items before text) (sent : SentDump s title items text start old kept_bytes)
-    (after : Waver) (stands : StandsFor items after.judge (text ++ (line ++ 10 ∷ []))) (number now : ℕ) (n : number ≡ closed_word_frames (shape_of items) text) (m : now ≡ closed_word_frames (shape_of items) (text ++ (line ++ 10 ∷ []))) where
+    (after : Waver) (stands : StandsForWitness items after.judge (text ++ (line ++ 10 ∷ []))) (number now : ℕ) (n : number ≡ closed_word_frames (shape_of items) text) (m : now ≡ closed_word_frames (shape_of items) (text ++ (line ++ 10 ∷ []))) where
   abbrev whole : List ℕ
   whole = text ++ (line ++ 10 ∷ [])
 
@@ -136,12 +136,12 @@ module _ (s : Shown) (title : List ℕ) (items : List Item) (text line : List �
       ∙ (ap (λ (l : List ℕ). begun_text s title items c.front ++ l) (frame_text s items c.front c.f (all_there items s h.well_formed))
       ∙ ap₂ (λ (k : ℕ) (l : List Signal). begun_text s title items c.front ++ ((moment k ++ 10 ∷ []) ++ changes (k == 0) (told_word items c.f) l)) c.many (sym (h.signals c.front c.trace))))
 
-  kept_then : ((f : Frame) → Shows after.judge items f → after.signals ≡ map (with_word (told_word items f)) before.signals) → (fs : List Frame) (c : Closed fs) → after.signals ≡ map (kept items (last_or None fs)) (signals s items)
+  kept_then : ((f : Frame) → Shows after.judge items f → after.signals ≡ map (with_word (told_word items f)) before.signals) → (fs : List Frame) (c : Closed fs) → after.signals ≡ map (kept_values items (last_or None fs)) (signals s items)
   kept_then kept_of fs c =
       kept_of c.f c.shows
       ∙ (ap (map (with_word (told_word items c.f))) (h.signals c.front c.trace)
       ∙ (kept_behind items (last_or None c.front) c.f (signals s items) (all_there items s h.well_formed)
-      ∙ ap (λ (o : Option Frame). map (kept items o) (signals s items)) (sym (ap (last_or None) c.is ∙ last_behind c.front c.f None))))
+      ∙ ap (λ (o : Option Frame). map (kept_values items o) (signals s items)) (sym (ap (last_or None) c.is ∙ last_behind c.front c.f None))))
 
   pub one_closed : {T E : Type 0} (r : Result T E) (new : Option (List ℕ)) (left : List ℕ) → (now ≡ number → ⊥)
       → ((f : Frame) → Shows after.judge items f → Puts r old new kept_bytes left ((moment number ++ 10 ∷ []) ++ changes (number == 0) (told_word items f) before.signals))
@@ -169,57 +169,57 @@ pub line_fits : (rest line behind : List ℕ) → rest ≡ line ++ 10 ∷ behind
 line_fits rest line behind cut = omega (arith, ap length cut, length-append line (10 ∷ behind))
 
 abbrev pub TakesFront : Option (List ℕ) → Option (List ℕ) → List ℕ → List ℕ → Waver → Waver → List ℕ → Type 0
-TakesFront old now kept left before after front =
-    (s : Shown) (title : List ℕ) (items : List Item) (text : List ℕ) (start : Option (List ℕ)) → Waves s items before text → SentDump s title items text start old kept
+TakesFront old now kept_values left before after front =
+    (s : Shown) (title : List ℕ) (items : List Item) (text : List ℕ) (start : Option (List ℕ)) → Waves s items before text → SentDump s title items text start old kept_values
     → Waves s items after (text ++ front) × SentDump s title items (text ++ front) start now left
 
 abbrev pub FailsIn : Option (List ℕ) → Option (List ℕ) → List ℕ → Waver → List ℕ → Type 0
-FailsIn old now kept before bytes =
-    (s : Shown) (title : List ℕ) (items : List Item) (text : List ℕ) (start : Option (List ℕ)) → Waves s items before text → SentDump s title items text start old kept → BegunDump s title items (text ++ bytes) start now
+FailsIn old now kept_values before bytes =
+    (s : Shown) (title : List ℕ) (items : List Item) (text : List ℕ) (start : Option (List ℕ)) → Waves s items before text → SentDump s title items text start old kept_values → BegunDump s title items (text ++ bytes) start now
 
 -- a front of some bytes was taken, and this rest is left
-pub record Took (old now : Option (List ℕ)) (kept left : List ℕ) (before after : Waver) (bytes rest : List ℕ) : Type 0 where
+pub record Took (old now : Option (List ℕ)) (kept_values left : List ℕ) (before after : Waver) (bytes rest : List ℕ) : Type 0 where
   pub done : List ℕ
   pub all : done ++ rest ≡ bytes
-  pub takes : TakesFront old now kept left before after done
+  pub takes : TakesFront old now kept_values left before after done
 
-pub takes_nothing : (old : Option (List ℕ)) (kept : List ℕ) (w : Waver) → TakesFront old old kept kept w w []
-takes_nothing old kept w s title items text start h sent = subst (λ (t : List ℕ). Waves s items w t × SentDump s title items t start old kept) (sym (append-nil text)) (h, sent)
+pub takes_nothing : (old : Option (List ℕ)) (kept_values : List ℕ) (w : Waver) → TakesFront old old kept_values kept_values w w []
+takes_nothing old kept_values w s title items text start h sent = subst (λ (t : List ℕ). Waves s items w t × SentDump s title items t start old kept_values) (sym (append-nil text)) (h, sent)
 
-pub takes_more : (old mid now : Option (List ℕ)) (kept mid_kept left : List ℕ) (before w after : Waver) (front more : List ℕ) → TakesFront old mid kept mid_kept before w front → TakesFront mid now mid_kept left w after more → TakesFront old now kept left before after (front ++ more)
-takes_more old mid now kept mid_kept left before w after front more one two s title items text start h sent =
+pub takes_more : (old mid now : Option (List ℕ)) (kept_values mid_kept left : List ℕ) (before w after : Waver) (front more : List ℕ) → TakesFront old mid kept_values mid_kept before w front → TakesFront mid now mid_kept left w after more → TakesFront old now kept_values left before after (front ++ more)
+takes_more old mid now kept_values mid_kept left before w after front more one two s title items text start h sent =
     let first = one s title items text start h sent in
     subst (λ (t : List ℕ). Waves s items after t × SentDump s title items t start now left) (append_assoc text front more) (two s title items (text ++ front) start first.0 first.1)
 
-pub fails_more : (old mid now : Option (List ℕ)) (kept mid_kept : List ℕ) (before w : Waver) (front more : List ℕ) → TakesFront old mid kept mid_kept before w front → FailsIn mid now mid_kept w more → FailsIn old now kept before (front ++ more)
-fails_more old mid now kept mid_kept before w front more one two s title items text start h sent =
+pub fails_more : (old mid now : Option (List ℕ)) (kept_values mid_kept : List ℕ) (before w : Waver) (front more : List ℕ) → TakesFront old mid kept_values mid_kept before w front → FailsIn mid now mid_kept w more → FailsIn old now kept_values before (front ++ more)
+fails_more old mid now kept_values mid_kept before w front more one two s title items text start h sent =
     let first = one s title items text start h sent in
     subst (λ (t : List ℕ). BegunDump s title items t start now) (append_assoc text front more) (two s title items (text ++ front) start first.0 first.1)
 
-pub fails_longer : (old now : Option (List ℕ)) (kept : List ℕ) (before : Waver) (front rest : List ℕ) → FailsIn old now kept before front → FailsIn old now kept before (front ++ rest)
-fails_longer old now kept before front rest fails s title items text start h sent =
+pub fails_longer : (old now : Option (List ℕ)) (kept_values : List ℕ) (before : Waver) (front rest : List ℕ) → FailsIn old now kept_values before front → FailsIn old now kept_values before (front ++ rest)
+fails_longer old now kept_values before front rest fails s title items text start h sent =
     subst (λ (t : List ℕ). BegunDump s title items t start now) (append_assoc text front rest) (begun_front s title items (text ++ front) rest start now (fails s title items text start h sent))
 
-pub took_none : (old : Option (List ℕ)) (kept : List ℕ) (w : Waver) (bytes : List ℕ) → Took old old kept kept w w bytes bytes
-took_none old kept w bytes = record { done = []; all = refl; takes = takes_nothing old kept w }
+pub took_none : (old : Option (List ℕ)) (kept_values : List ℕ) (w : Waver) (bytes : List ℕ) → Took old old kept_values kept_values w w bytes bytes
+took_none old kept_values w bytes = record { done = []; all = refl; takes = takes_nothing old kept_values w }
 
-pub took_line : (old mid new : Option (List ℕ)) (kept mid_kept left : List ℕ) (before w after : Waver) (bytes rest line behind : List ℕ) → Took old mid kept mid_kept before w bytes rest → rest ≡ line ++ 10 ∷ behind → TakesFront mid new mid_kept left w after (line ++ 10 ∷ [])
-    → Took old new kept left before after bytes behind
-took_line old mid new kept mid_kept left before w after bytes rest line behind t cut takes = record {
+pub took_line : (old mid new : Option (List ℕ)) (kept_values mid_kept left : List ℕ) (before w after : Waver) (bytes rest line behind : List ℕ) → Took old mid kept_values mid_kept before w bytes rest → rest ≡ line ++ 10 ∷ behind → TakesFront mid new mid_kept left w after (line ++ 10 ∷ [])
+    → Took old new kept_values left before after bytes behind
+took_line old mid new kept_values mid_kept left before w after bytes rest line behind t cut takes = record {
   done = t.done ++ (line ++ 10 ∷ []);
   all = append_assoc t.done (line ++ 10 ∷ []) behind ∙ ap (λ (l : List ℕ). t.done ++ l) (append_assoc line (10 ∷ []) behind ∙ sym cut) ∙ t.all;
-  takes = takes_more old mid new kept mid_kept left before w after t.done (line ++ 10 ∷ []) t.takes takes;
+  takes = takes_more old mid new kept_values mid_kept left before w after t.done (line ++ 10 ∷ []) t.takes takes;
 }
 
-pub line_fails : (old mid new : Option (List ℕ)) (kept mid_kept : List ℕ) (before w : Waver) (bytes rest line behind : List ℕ) → Took old mid kept mid_kept before w bytes rest → rest ≡ line ++ 10 ∷ behind → FailsIn mid new mid_kept w (line ++ 10 ∷ []) → FailsIn old new kept before bytes
-line_fails old mid new kept mid_kept before w bytes rest line behind t cut fails =
+pub line_fails : (old mid new : Option (List ℕ)) (kept_values mid_kept : List ℕ) (before w : Waver) (bytes rest line behind : List ℕ) → Took old mid kept_values mid_kept before w bytes rest → rest ≡ line ++ 10 ∷ behind → FailsIn mid new mid_kept w (line ++ 10 ∷ []) → FailsIn old new kept_values before bytes
+line_fails old mid new kept_values mid_kept before w bytes rest line behind t cut fails =
     let all : (t.done ++ (line ++ 10 ∷ [])) ++ behind ≡ bytes = append_assoc t.done (line ++ 10 ∷ []) behind ∙ ap (λ (l : List ℕ). t.done ++ l) (append_assoc line (10 ∷ []) behind ∙ sym cut) ∙ t.all in
-    subst (FailsIn old new kept before) all (fails_longer old new kept before (t.done ++ (line ++ 10 ∷ [])) behind (fails_more old mid new kept mid_kept before w t.done (line ++ 10 ∷ []) t.takes fails))
+    subst (FailsIn old new kept_values before) all (fails_longer old new kept_values before (t.done ++ (line ++ 10 ∷ [])) behind (fails_more old mid new kept_values mid_kept before w t.done (line ++ 10 ∷ []) t.takes fails))
 
-pub took_all : (old now : Option (List ℕ)) (kept left : List ℕ) (before w after : Waver) (bytes rest : List ℕ) → Took old now kept left before w bytes rest → IsLine rest
-    → ((s : Shown) (items : List Item) (text : List ℕ) → IsLine rest → Waves s items w text → Waves s items after (text ++ rest)) → TakesFront old now kept left before after bytes
-took_all old now kept left before w after bytes rest t is takes =
-    subst (TakesFront old now kept left before after) t.all (takes_more old now now kept left left before w after t.done rest t.takes (λ s title items text start h sent. (takes s items text is h, sent_bytes s title items text rest start now left is sent)))
+pub took_all : (old now : Option (List ℕ)) (kept_values left : List ℕ) (before w after : Waver) (bytes rest : List ℕ) → Took old now kept_values left before w bytes rest → IsLine rest
+    → ((s : Shown) (items : List Item) (text : List ℕ) → IsLine rest → Waves s items w text → Waves s items after (text ++ rest)) → TakesFront old now kept_values left before after bytes
+took_all old now kept_values left before w after bytes rest t is takes =
+    subst (TakesFront old now kept_values left before after) t.all (takes_more old now now kept_values left left before w after t.done rest t.takes (λ s title items text start h sent. (takes s items text is h, sent_bytes s title items text rest start now left is sent)))
 
 -- ---- the end
 

@@ -8,7 +8,7 @@ use Rattle.std.proofs.lemmas.List.Elements.{All-nil, All-cons}
 use Rattle.btor2.specs.declared.item.Item.{Item}
 use Rattle.btor2.specs.Trace.{Frame, IsTrace}
 use Rattle.btor2.specs.declared.item.Body.TheVariants as body
-use Rattle.btor2.specs.Worked.{line, toggler, follower}
+use Rattle.btor2.specs.Worked.{line, toggler_model, follower}
 use Rattle.witness.specs.Judgements.{FrameWords, Words, initial_words, given_frames}
 use Rattle.wave.specs.declared.scope.Shown.TheVariants as shown
 use Rattle.wave.specs.Signals.{signals, signal_word}
@@ -33,7 +33,7 @@ not_word f x bit is = is ∙ ap (λ (y : ℕ). unary_value unary.Not 1 y) bit
 abbrev Same : Frame → Frame → Item → Type 0
 Same f g x = signal_word f x ≡ signal_word g x
 
-toggler_agrees : (f g : Frame) → f 3 ≡ g 3 → Agree (signals shown.Named toggler) f g
+toggler_agrees : (f g : Frame) → f 3 ≡ g 3 → Agree (signals shown.Named toggler_model) f g
 toggler_agrees f g e = All-cons (Same f g) (line 3 (body.State 1)) (line 7 (body.Bad 3) ∷ []) e (All-cons (Same f g) (line 7 (body.Bad 3)) [] e (All-nil (Same f g)))
 
 follower_agrees : (f g : Frame) → f 4 ≡ g 4 → f 2 ≡ g 2 → f 3 ≡ g 3 → Agree (signals shown.Named follower) f g
@@ -42,8 +42,8 @@ follower_agrees f g input free state =
     (All-cons (Same f g) (line 2 (body.State 1)) (line 3 (body.State 1) ∷ line 6 (body.Bad 3) ∷ []) free
     (All-cons (Same f g) (line 3 (body.State 1)) (line 6 (body.Bad 3) ∷ []) state (All-cons (Same f g) (line 6 (body.Bad 3)) [] state (All-nil (Same f g)))))
 
-pub toggles_dump : (fs : List Frame) → IsTrace toggler (initial_words toggler two_frames) (given_frames toggler two_frames) fs
-    → vcd_text shown.Named [] toggler fs ≡ text_of_lines (declaration_lines shown.Named [] toggler) ++ codes "#0\n0n3\n0n7\n#1\n1n3\n1n7\n#2\n"
+pub toggles_dump : (fs : List Frame) → IsTrace toggler_model (initial_words toggler_model two_frames) (given_frames toggler_model two_frames) fs
+    → vcd_text shown.Named [] toggler_model fs ≡ text_of_lines (declaration_lines shown.Named [] toggler_model) ++ codes "#0\n0n3\n0n7\n#1\n1n3\n1n7\n#2\n"
 unfolding digits vcd_text
 toggles_dump [] t = absurd t
 toggles_dump (f ∷ []) t = absurd t.1
@@ -51,11 +51,11 @@ toggles_dump (f ∷ g ∷ []) t =
     let first : f 3 ≡ 0 = t.0.1.1.0 in
     let negated : f 5 ≡ 1 = not_word f 0 first t.0.1.1.1.1.0 in
     let second : g 3 ≡ 1 = t.1.0.1.1.0 ∙ negated in
-    dumps_agree shown.Named [] toggler (f ∷ g ∷ []) ((λ id. 0) ∷ (λ id. 1) ∷ []) (toggler_agrees f (λ id. 0) first, (toggler_agrees g (λ id. 1) second, tt))
+    dumps_agree shown.Named [] toggler_model (f ∷ g ∷ []) ((λ id. 0) ∷ (λ id. 1) ∷ []) (toggler_agrees f (λ id. 0) first, (toggler_agrees g (λ id. 1) second, tt))
 toggles_dump (f ∷ g ∷ h ∷ fs) t = absurd t.1.1
 
-pub cut_dump : (fs : List Frame) → IsTrace toggler (initial_words toggler one_frame) (given_frames toggler one_frame) fs
-    → vcd_text shown.Named [] toggler fs ≡ text_of_lines (declaration_lines shown.Named [] toggler) ++ codes "#0\n0n3\n0n7\n#1\n"
+pub cut_dump : (fs : List Frame) → IsTrace toggler_model (initial_words toggler_model one_frame) (given_frames toggler_model one_frame) fs
+    → vcd_text shown.Named [] toggler_model fs ≡ text_of_lines (declaration_lines shown.Named [] toggler_model) ++ codes "#0\n0n3\n0n7\n#1\n"
 unfolding digits vcd_text
 cut_dump [] t = absurd t
 cut_dump (f ∷ []) t =
@@ -63,7 +63,7 @@ cut_dump (f ∷ []) t =
     rw first refl
 cut_dump (f ∷ g ∷ fs) t = absurd t.1
 
-pub no_dump : (fs : List Frame) → IsTrace toggler (initial_words toggler (record { claims = []; frames = [] })) [] fs → vcd_text shown.Named [] toggler fs ≡ text_of_lines (declaration_lines shown.Named [] toggler)
+pub no_dump : (fs : List Frame) → IsTrace toggler_model (initial_words toggler_model (record { claims = []; frames = [] })) [] fs → vcd_text shown.Named [] toggler_model fs ≡ text_of_lines (declaration_lines shown.Named [] toggler_model)
 unfolding digits vcd_text
 no_dump [] t = refl
 no_dump (f ∷ fs) t = absurd t

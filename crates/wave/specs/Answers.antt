@@ -4,17 +4,17 @@ use Rattle.base.specs.Device.{HasRisen}
 use Rattle.wave.specs.declared.fault.WaveFault.{WaveFault}
 use Rattle.wave.specs.declared.fault.WaveFault.TheVariants as fault
 
-abbrev pub fault_number : WaveFault → ℕ
-fault_number fault.Read = 170
-fault_number fault.Write = 171
-fault_number fault.NoMemory = 172
-fault_number (fault.NoNext id) = 70
+abbrev pub wave_fault_number : WaveFault → ℕ
+wave_fault_number fault.Read = 170
+wave_fault_number fault.Write = 171
+wave_fault_number fault.NoMemory = 172
+wave_fault_number (fault.NoNext id) = 70
 
-abbrev pub fault_name : WaveFault → List ℕ
-fault_name fault.Read = codes "Read"
-fault_name fault.Write = codes "Write"
-fault_name fault.NoMemory = codes "NoMemory"
-fault_name (fault.NoNext id) = codes "NoNext"
+abbrev pub wave_fault_name : WaveFault → List ℕ
+wave_fault_name fault.Read = codes "Read"
+wave_fault_name fault.Write = codes "Write"
+wave_fault_name fault.NoMemory = codes "NoMemory"
+wave_fault_name (fault.NoNext id) = codes "NoNext"
 
 -- a state with an init and no next is named exactly where there is one, and it is the first
 abbrev pub AnswersWave : {T : Type 0} → Result T WaveFault → Option ℕ → Type 0

@@ -8,7 +8,7 @@ use Rattle.witness.specs.Texts.{binary}
 use Rattle.wave.specs.declared.scope.Scope.{Scope}
 use Rattle.wave.specs.declared.scope.Shown.{Shown}
 use Rattle.wave.specs.Names.{code, title_bytes}
-use Rattle.wave.specs.Signals.{scope_name, scopes, signals_in, signals, name_of, signal_width, signal_word}
+use Rattle.wave.specs.Signals.{scope_name, scopes, signals_in, signals, signal_name, signal_width, signal_word}
 
 -- ---- declarations
 
@@ -19,7 +19,7 @@ range width = if width == 1 then [] else codes " [" ++ (decimal (width - 1) ++ c
 -- `$var wire <width> <code> <name> $end`, with the places behind the name
 abbrev pub var_line : Shown → List Item → Scope → Item → List ℕ
 var_line s items c x =
-    codes "$var wire " ++ (decimal (signal_width items x) ++ 32 ∷ (code x.id ++ 32 ∷ (name_of s items c x ++ (range (signal_width items x) ++ codes " $end"))))
+    codes "$var wire " ++ (decimal (signal_width items x) ++ 32 ∷ (code x.id ++ 32 ∷ (signal_name s items c x ++ (range (signal_width items x) ++ codes " $end"))))
 
 abbrev pub scope_lines : Shown → List Item → Scope → List (List ℕ)
 scope_lines s items c =
@@ -50,13 +50,13 @@ has_changed None f x = true
 has_changed (Some before) f x = not (signal_word before x == signal_word f x)
 
 -- a frame behind another, or the first: its moment, and the words of the signals that changed
-abbrev pub frame_lines : List Item → List Item → ℕ → Option Frame → Frame → List (List ℕ)
-frame_lines items shown k before f = moment k ∷ map (value_line items f) (filter (has_changed before f) shown)
+abbrev pub frame_changes : List Item → List Item → ℕ → Option Frame → Frame → List (List ℕ)
+frame_changes items shown k before f = moment k ∷ map (value_line items f) (filter (has_changed before f) shown)
 
 -- the frames from number k on
 abbrev pub frames_lines : List Item → List Item → ℕ → Option Frame → List Frame → List (List ℕ)
 frames_lines items shown k before [] = []
-frames_lines items shown k before (f ∷ fs) = frame_lines items shown k before f ++ frames_lines items shown (suc k) (Some f) fs
+frames_lines items shown k before (f ∷ fs) = frame_changes items shown k before f ++ frames_lines items shown (suc k) (Some f) fs
 
 -- the moment behind the last frame, so that it is seen
 abbrev pub end_lines : List Frame → List (List ℕ)

@@ -34,14 +34,14 @@ prefix scope.Constraints = codes "constraint:"
 prefix _ = []
 
 -- what names a line of a scope that has no symbol: the number of a bad property or a constraint among those of the model, from 0, and else the identifier code
-abbrev pub own_name : Scope → ℕ → ℕ → List ℕ
-own_name scope.Bads number id = decimal number
-own_name scope.Constraints number id = decimal number
-own_name _ number id = code id
+abbrev pub line_own_name : Scope → ℕ → ℕ → List ℕ
+line_own_name scope.Bads number id = decimal number
+line_own_name scope.Constraints number id = decimal number
+line_own_name _ number id = code id
 
 -- what names a line of a scope: its symbol where it has one
 abbrev pub stem_by : Scope → ℕ → ℕ → Option (List ℕ) → List ℕ
-stem_by c number id None = own_name c number id
+stem_by c number id None = line_own_name c number id
 stem_by c number id (Some symbol) = symbol
 
 -- the plain name of a line that is signal `number` of a scope

@@ -14,9 +14,9 @@ use Rattle.wave.specs.declared.scope.Shown.{Shown}
 use Rattle.wave.specs.declared.scope.Shown.TheVariants as shown
 use Rattle.wave.specs.Names.{plain_name, ends_in_number, with_id, escaped}
 
-abbrev pub is_output : Body → Bool
-is_output (body.Output a) = true
-is_output _ = false
+abbrev pub is_output_line : Body → Bool
+is_output_line (body.Output a) = true
+is_output_line _ = false
 
 -- all other nodes are shown, and not only those that have a symbol
 abbrev pub shows_all : Shown → Bool
@@ -29,7 +29,7 @@ is_in s scope.Inputs x = is_input x.body
 is_in s scope.States x = is_state x.body
 is_in s scope.Bads x = is_bad x.body
 is_in s scope.Constraints x = is_constraint x.body
-is_in s scope.Outputs x = is_output x.body
+is_in s scope.Outputs x = is_output_line x.body
 is_in s scope.Nodes x = has_value x.body && (not (is_leaf x.body) && (shows_all s || is_some x.symbol))
 
 abbrev pub scope_name : Scope → List ℕ
@@ -69,8 +69,8 @@ abbrev pub is_told_apart : Shown → List Item → Scope → Item → Bool
 is_told_apart s items c x = is_named_before s items c x || ends_in_number (plain_name_in s items c x)
 
 -- the name of a signal of a scope
-abbrev pub name_of : Shown → List Item → Scope → Item → List ℕ
-name_of s items c x = escaped (with_id (is_told_apart s items c x) x.id (plain_name_in s items c x))
+abbrev pub signal_name : Shown → List Item → Scope → Item → List ℕ
+signal_name s items c x = escaped (with_id (is_told_apart s items c x) x.id (plain_name_in s items c x))
 
 -- ---- words
 

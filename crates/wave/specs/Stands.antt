@@ -9,7 +9,7 @@ use Rattle.btor2.specs.declared.item.Item.{Item}
 use Rattle.btor2.specs.Items.{position_of}
 use Rattle.btor2.specs.Check.{IsWellFormed}
 use Rattle.btor2.specs.Trace.{Frame}
-use Rattle.witness.specs.WordStands.{WordJudge, StandsFor}
+use Rattle.witness.specs.WordStands.{WordJudge, StandsForWitness}
 use Rattle.witness.specs.ClosedWords.{IsClosedTrace, said_in, is_behind_frame, word_at}
 use Rattle.wave.specs.declared.scope.Scope.{Scope}
 use Rattle.wave.specs.declared.scope.Shown.{Shown}
@@ -40,11 +40,11 @@ pub record HasSeen (s : Shown) (items : List Item) (c : Scope) (place : ℕ) (se
   pub few : seen.number ≤ place
 
 -- a line is a signal of a scope that is told apart, and so for each line, scope by scope
-abbrev pub is_marked : Shown → List Item → Scope → Item → Bool
-is_marked s items c x = is_in s c x && is_told_apart s items c x
+abbrev pub is_marked_signal : Shown → List Item → Scope → Item → Bool
+is_marked_signal s items c x = is_in s c x && is_told_apart s items c x
 
 abbrev pub scope_marks : Shown → List Item → Scope → List Bool
-scope_marks s items c = map (is_marked s items c) items
+scope_marks s items c = map (is_marked_signal s items c) items
 
 abbrev pub marks : Shown → List Item → List Bool
 marks s items = flat_map (scope_marks s items) scopes
@@ -64,8 +64,8 @@ abbrev pub kept_word : Option Frame → Item → ℕ
 kept_word None x = 0
 kept_word (Some f) x = signal_word f x
 
-abbrev pub kept : List Item → Option Frame → Item → Signal
-kept items before x = record { id = x.id; node = node_place items x; width = signal_width items x; word = kept_word before x }
+abbrev pub kept_values : List Item → Option Frame → Item → Signal
+kept_values items before x = record { id = x.id; node = node_place items x; width = signal_width items x; word = kept_word before x }
 
 -- a signal with another word, and the line that is put for it: where it is the first, or is another than the kept one
 abbrev pub with_word : (ℕ → ℕ) → Signal → Signal
@@ -83,7 +83,7 @@ changes first words list = flat_map (λ s. change first s (words s.node)) list
 pub record Shows (j : WordJudge) (items : List Item) (f : Frame) : Type 0 where
   pub text : List ℕ
   pub frames : List Frame
-  pub stands : StandsFor items j text
+  pub stands : StandsForWitness items j text
   pub trace : IsClosedTrace items text frames
   pub behind : is_behind_frame (said_in items text) ≡ true
   pub last : last_or None frames ≡ Some f
@@ -101,16 +101,16 @@ pub record Waver : Type 0 where
 -- it stands for this text over a model, of which it shows these nodes
 pub record Waves (s : Shown) (items : List Item) (w : Waver) (text : List ℕ) : Type 0 where
   pub well_formed : IsWellFormed items
-  pub judge : StandsFor items w.judge text
-  pub signals : (fs : List Frame) → IsClosedTrace items text fs → w.signals ≡ map (kept items (last_or None fs)) (signals s items)
+  pub judge : StandsForWitness items w.judge text
+  pub signals : (fs : List Frame) → IsClosedTrace items text fs → w.signals ≡ map (kept_values items (last_or None fs)) (signals s items)
 
 -- of what a sink was given since it had the first bytes: what stands of the dump of a text's frames was put, but for a rest that is kept
 abbrev pub SentDump : Shown → List ℕ → List Item → List ℕ → Option (List ℕ) → Option (List ℕ) → List ℕ → Type 0
 SentDump s title items text start now left = (fs : List Frame) → IsClosedTrace items text fs → Sent start now (begun_text s title items fs) left
 
 -- A call that takes bytes behind the text puts the changes of the frames that they close; at a fault a beginning of what then stands of the dump was written.
-pub record Takes {T E : Type 0} (r : Result T E) (old new : Option (List ℕ)) (kept left : List ℕ) (before after : Waver) (bytes : List ℕ) : Type 0 where
-  pub takes : (s : Shown) (title : List ℕ) (items : List Item) (text : List ℕ) (start : Option (List ℕ)) → Waves s items before text → SentDump s title items text start old kept
+pub record Takes {T E : Type 0} (r : Result T E) (old new : Option (List ℕ)) (kept_values left : List ℕ) (before after : Waver) (bytes : List ℕ) : Type 0 where
+  pub takes : (s : Shown) (title : List ℕ) (items : List Item) (text : List ℕ) (start : Option (List ℕ)) → Waves s items before text → SentDump s title items text start old kept_values
       → MatchResult r
       (λ x. Waves s items after (text ++ bytes) × SentDump s title items (text ++ bytes) start new left)
       (λ e. (fs : List Frame) → IsClosedTrace items (text ++ bytes) fs → AppendsBeginning start new (begun_text s title items fs))

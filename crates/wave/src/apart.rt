@@ -4,7 +4,7 @@ ghost use Rattle.std.specs.List.{list_any};
 ghost use Rattle.std.specs.Str.{bytes_eq};
 ghost use Rattle.btor2.specs.Check.{IsWellFormed};
 ghost use Rattle.wave.specs.Names.{stem_by, ends_in_number};
-ghost use Rattle.wave.specs.Stands.{HasSeen, is_marked, scope_marks, marks};
+ghost use Rattle.wave.specs.Stands.{HasSeen, is_marked_signal, scope_marks, marks};
 
 use crate::names::{ends_in_number, own_name};
 use crate::scope::{Scope, Shown, is_in, scopes};
@@ -101,7 +101,7 @@ fn is_marked(
     requires well_formed { IsWellFormed model.now }
     requires at { slice_get model.now place ≡ Some item.now }
     requires seen { HasSeen shown model.now scope place seen.old }
-    ensures marked { IfOk result (λ apart. apart ≡ is_marked shown model.now scope item.now) }
+    ensures marked { IfOk result (λ apart. apart ≡ is_marked_signal shown model.now scope item.now) }
     ensures seen { OnOk result (HasSeen shown model.now scope (place + 1) seen.new) }
 {
     if !is_in(model, shown, scope, place, item) {

@@ -7,7 +7,7 @@ ghost use Rattle.btor2.specs.Check.{IsWellFormed};
 ghost use Rattle.wave.specs.Dumps.{range, var_line, scope_lines, declaration_lines};
 ghost use Rattle.wave.specs.Names.{code, escaped, plain_name, with_id};
 ghost use Rattle.wave.specs.Signals.{scopes, signals_before, signals_in, is_in};
-ghost use Rattle.wave.specs.Stands.{is_marked, scope_marks, marks as all_marks};
+ghost use Rattle.wave.specs.Stands.{is_marked_signal, scope_marks, marks as all_marks};
 
 use crate::names::{put_name, put_parts, put_title};
 use crate::scope::{Scope, Shown, is_in, scope_name, scopes};
@@ -96,7 +96,7 @@ fn put_shown<K: Sink>(
     requires at { slice_get model.now place ≡ Some item.now }
     requires number { number ≡ length (signals_before shown model.now scope item.now) }
     requires few { number ≤ place }
-    requires apart { apart ≡ is_marked shown model.now scope item.now }
+    requires apart { apart ≡ is_marked_signal shown model.now scope item.now }
     ensures puts { Puts result (K.written sink.old) (K.written sink.new) outbox.old outbox.new (text_of_lines (map (var_line shown model.now scope) (filter (is_in shown scope) (item.now ∷ [])))) }
     ensures number { IfOk result (λ more. more ≡ number + length (filter (is_in shown scope) (item.now ∷ []))) }
     ensures failures { CountsFaults result (K.failures sink.old) (K.failures sink.new) }

@@ -1,6 +1,6 @@
 //! Why no judgement is answered.
 ghost use Rattle.std.specs.Prelude.{◌≡◌};
-ghost use Rattle.wave.specs.Answers.{fault_number, fault_name};
+ghost use Rattle.wave.specs.Answers.{wave_fault_number, wave_fault_name};
 
 use std::fmt;
 use thiserror::Error;
@@ -22,7 +22,7 @@ pub enum WaveFault {
 impl WaveFault {
     /// The number that is printed for the fault.
     pub fn number(self) -> u32
-        ensures { result ≡ fault_number self }
+        ensures { result ≡ wave_fault_number self }
     {
         match self {
             WaveFault::Read => 170,
@@ -34,7 +34,7 @@ impl WaveFault {
 
     /// The name that is printed for the fault.
     pub fn name(self) -> &'static str
-        ensures { result.now ≡ fault_name self }
+        ensures { result.now ≡ wave_fault_name self }
     {
         match self {
             WaveFault::Read => "Read",

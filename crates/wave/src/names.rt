@@ -4,7 +4,7 @@ ghost use Rattle.std.specs.List.{list_all};
 ghost use Rattle.base.specs.Device.{CountsFaults};
 ghost use Rattle.base.specs.Pieces.{Puts};
 ghost use Rattle.wave.specs.Stands.{concat_slices};
-ghost use Rattle.wave.specs.Names.{is_letter, is_name_byte, is_plain_name, ends_in_number, escaped, prefix, own_name, stem_by, plain_name, with_id, title_byte, title_bytes};
+ghost use Rattle.wave.specs.Names.{is_letter, is_name_byte, is_plain_name, ends_in_number, escaped, prefix, line_own_name, stem_by, plain_name, with_id, title_byte, title_bytes};
 
 use crate::scope::Scope;
 use base::{DeviceFault, Outbox, Sink};
@@ -93,7 +93,7 @@ fn prefix(scope: Scope) -> &'static [u8]
 /// What stands before the number of a line of a scope that has no symbol, and that number: its own among the signals of
 /// the scope, or its id.
 pub(crate) fn own_name(scope: Scope, number: u64, id: u64) -> (&'static [u8], u64)
-    ensures { result.0.now ++ decimal result.1 ≡ own_name scope number id }
+    ensures { result.0.now ++ decimal result.1 ≡ line_own_name scope number id }
 {
     match scope {
         Scope::Bads | Scope::Constraints => (b"", number),

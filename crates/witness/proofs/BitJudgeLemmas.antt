@@ -11,19 +11,19 @@ use Rattle.witness.specs.Readings.{Reading, nothing_admitted, lines_read}
 use Rattle.witness.specs.Stands.{IsOfLines}
 use Rattle.witness.specs.BitAdmits.{claim_at, bits_at, BitPlace, AtHeader, AtClaim, AtInitial, AtFirst, AtLater, AtDone, BitRead, no_line_read, after_claim, after_initial, after_frame, bit_admit_at, bit_admit, bit_reader, is_done, bit_witness_of}
 use Rattle.witness.specs.BitScans.{Scans}
-use Rattle.witness.specs.BitStands.{is_header, BitJudge, bit_judging, StandsFor, place_of, PlaysAt}
+use Rattle.witness.specs.BitStands.{is_header, BitJudge, bit_judging, StandsForBits, bit_place_of, PlaysAt}
 use Rattle.witness.proofs.TextEndLemmas.{whole_lines-line_end, unfinished-line_end}
 use Rattle.witness.proofs.ReadingLemmas.{by_test, Goes, On, Until, goes, holds_behind}
 use Rattle.witness.proofs.StandsLemmas.{awaits, none_awaited, ClaimsMore, line_ended}
 use Rattle.std.proofs.Math.Bool.{or-false}
 use Rattle.base.specs.Literal.{Valuation}
-use Rattle.aiger.specs.Trace.{IsTrace}
+use Rattle.aiger.specs.Trace.{IsCircuitTrace}
 use Rattle.aiger.proofs.TraceLemmas.{trace_length}
 use Rattle.witness.specs.declared.judgement.Judgement.{Judgement}
 use Rattle.witness.specs.BitTexts.{BitWitness}
 use Rattle.aiger.specs.Reachability.{circuit_shows}
 use Rattle.witness.specs.BitJudgements.{first_reset_differing, JudgesBits}
-use Rattle.witness.specs.BitPlays.{BitPlay, Plays, Traced}
+use Rattle.witness.specs.BitPlays.{BitPlay, PlaysBits, TracedBits}
 use Rattle.witness.specs.Judgements.{first_of, verdict}
 use Rattle.witness.proofs.BitReadLemmas.{done}
 use Rattle.witness.proofs.ShownLemmas.{bits_verdict}
@@ -89,16 +89,16 @@ claims_more c [] line = refl
 claims_more c (l ∷ lines) line = rw (not_awaited c l lines (goes (bit_reader c) 0 no_line_read (l ∷ lines) (omega arith))) (sym (or-false (bytes_eq l (codes "0") || bytes_eq l (codes "2"))))
 
 -- a whole line that was not taken byte by byte
-pub whole_line : (c : Circuit) (text bytes : List ℕ) (j new : BitJudge) → IsLine bytes → StandsFor c j text → unfinished text ≡ [] → new.line ≡ j.line → IsOfLines (bit_judging c) new (whole_lines text ++ bytes ∷ []) []
-    → StandsFor c new (text ++ (bytes ++ 10 ∷ []))
+pub whole_line : (c : Circuit) (text bytes : List ℕ) (j new : BitJudge) → IsLine bytes → StandsForBits c j text → unfinished text ≡ [] → new.line ≡ j.line → IsOfLines (bit_judging c) new (whole_lines text ++ bytes ∷ []) []
+    → StandsForBits c new (text ++ (bytes ++ 10 ∷ []))
 whole_line c text bytes j new is stands empty same lines =
     line_ended (bit_judging c) (text ++ (bytes ++ 10 ∷ [])) (whole_lines text ++ bytes ∷ []) new (whole_lines-line_end text bytes is ∙ ap (λ (l : List ℕ). whole_lines text ++ (l ++ bytes) ∷ []) empty) (unfinished-line_end text bytes) lines
     (subst (λ (s : Scan). Scans s []) (sym same) (subst (Scans j.line) empty stands.line))
 
 -- ---- the verdict
 
-module _ (c : Circuit) (w : BitWitness) (p : BitPlay) (vs : List Valuation) (within : w.claim < length c.bads) (plays : Plays c w.claim w.initial w.frames p []) (trace : IsTrace c w.initial w.frames vs) where
-  traced : Traced c w.claim w.initial p vs
+module _ (c : Circuit) (w : BitWitness) (p : BitPlay) (vs : List Valuation) (within : w.claim < length c.bads) (plays : PlaysBits c w.claim w.initial w.frames p []) (trace : IsCircuitTrace c w.initial w.frames vs) where
+  traced : TracedBits c w.claim w.initial p vs
   traced = plays.traced vs trace
 
   -- the claim, where it is not reached
@@ -111,15 +111,15 @@ module _ (c : Circuit) (w : BitWitness) (p : BitPlay) (vs : List Valuation) (wit
 abbrev pub Says : Circuit → BitRead → Judgement → Type 0
 Says c r = JudgesBits c (bit_witness_of r)
 
-pub ended_at : (c : Circuit) (text : List ℕ) (j old : BitJudge) → j ≡ old → StandsFor c old text → j.refused ≡ None → is_done (place_of j.reader.place) ≡ is_done (lines_read (bit_reader c) (whole_lines text)).read.place
-ended_at c text j old same was none = let stands = subst (λ (k : BitJudge). StandsFor c k text) (sym same) was in ap is_done (stands.lines.reads none).place
+pub ended_at : (c : Circuit) (text : List ℕ) (j old : BitJudge) → j ≡ old → StandsForBits c old text → j.refused ≡ None → is_done (bit_place_of j.reader.place) ≡ is_done (lines_read (bit_reader c) (whole_lines text)).read.place
+ended_at c text j old same was none = let stands = subst (λ (k : BitJudge). StandsForBits c k text) (sym same) was in ap is_done (stands.lines.reads none).place
 
 -- what is judged of a whole witness
-pub whole_witness : (c : Circuit) (text : List ℕ) (j old : BitJudge) → j ≡ old → (o : Option ℕ) → StandsFor c old text → j.refused ≡ None → o ≡ cond j.reader.play.rose None (Some j.reader.claim)
+pub whole_witness : (c : Circuit) (text : List ℕ) (j old : BitJudge) → j ≡ old → (o : Option ℕ) → StandsForBits c old text → j.refused ≡ None → o ≡ cond j.reader.play.rose None (Some j.reader.claim)
     → is_done (lines_read (bit_reader c) (whole_lines text)).read.place ≡ true
     → Says c (lines_read (bit_reader c) (whole_lines text)).read (first_of j.reader.play.differs j.reader.play.breach o j.reader.play.frames)
 whole_witness c text j old same o was none unreached at_end vs t =
-    let stands = subst (λ (k : BitJudge). StandsFor c k text) (sym same) was in
+    let stands = subst (λ (k : BitJudge). StandsForBits c k text) (sym same) was in
     let r : BitRead = (lines_read (bit_reader c) (whole_lines text)).read in
     let reads = stands.lines.reads none in
     let plays : PlaysAt c r j.reader.play (unfinished text) AtDone = subst (PlaysAt c r j.reader.play (unfinished text)) (done r.place at_end) reads.play in

@@ -6,7 +6,7 @@ use Rattle.base.specs.Lines.{whole_lines}
 use Rattle.base.specs.Literal.{Valuation, literal_value}
 use Rattle.aiger.specs.Net.{variables, IsDefined}
 use Rattle.aiger.specs.Circuit.{Circuit, IsCircuit, net}
-use Rattle.aiger.specs.Trace.{SameFrame, SameTrace}
+use Rattle.aiger.specs.Trace.{SameCircuitFrame, SameCircuitTrace}
 use Rattle.aiger.proofs.TraceLemmas.{literal_value-agree, trace_exists, trace_unique}
 use Rattle.aiger.specs.Reachability.{circuit_shows}
 use Rattle.witness.specs.declared.judgement.Judgement.{Judgement}
@@ -20,23 +20,23 @@ use Rattle.witness.specs.Judgements.{verdict}
 -- ---- traces that are the same show the same
 
 -- a literal that is defined says the same in the same frames
-pub same_bit : (c : Circuit) (v w : Valuation) (l : ℕ) → SameFrame c v w → IsDefined (net c) l → literal_value v l ≡ literal_value w l
+pub same_bit : (c : Circuit) (v w : Valuation) (l : ℕ) → SameCircuitFrame c v w → IsDefined (net c) l → literal_value v l ≡ literal_value w l
 same_bit c v w l same defined =
     literal_value-agree (suc (variables (net c))) v w l (λ k low high. same k low (omega arith)) (omega (arith, defined))
 
-bits_same : (c : Circuit) (v w : Valuation) (ls : List ℕ) → SameFrame c v w → AllByRecursion (IsDefined (net c)) ls → map (literal_value v) ls ≡ map (literal_value w) ls
+bits_same : (c : Circuit) (v w : Valuation) (ls : List ℕ) → SameCircuitFrame c v w → AllByRecursion (IsDefined (net c)) ls → map (literal_value v) ls ≡ map (literal_value w) ls
 bits_same c v w [] same defined = refl
 bits_same c v w (l ∷ ls) same defined = ap₂ (λ (b : Bool) (bs : List Bool). b ∷ bs) (same_bit c v w l same defined.0) (bits_same c v w ls same defined.1)
 
 -- what each frame says of literals is the same
-said_same : {A : Type 0} (says : Valuation → A) (c : Circuit) (vs ws : List Valuation) → ((v w : Valuation) → SameFrame c v w → says v ≡ says w) → SameTrace c vs ws → map says vs ≡ map says ws
+said_same : {A : Type 0} (says : Valuation → A) (c : Circuit) (vs ws : List Valuation) → ((v w : Valuation) → SameCircuitFrame c v w → says v ≡ says w) → SameCircuitTrace c vs ws → map says vs ≡ map says ws
 said_same says c [] [] each same = refl
 said_same says c [] (w ∷ ws) each same = absurd same
 said_same says c (v ∷ vs) [] each same = absurd same
 said_same says c (v ∷ vs) (w ∷ ws) each same = ap₂ (λ x xs. x ∷ xs) (each v w same.0) (said_same says c vs ws each same.1)
 
 -- so they show the same
-pub shown_same : (c : Circuit) (vs us : List Valuation) → IsCircuit c → SameTrace c vs us → map (circuit_shows c) vs ≡ map (circuit_shows c) us
+pub shown_same : (c : Circuit) (vs us : List Valuation) → IsCircuit c → SameCircuitTrace c vs us → map (circuit_shows c) vs ≡ map (circuit_shows c) us
 shown_same c vs us circuit same =
     let bads = recursion_from_All (IsDefined (net c)) c.bads circuit.defined.bads in
     let constraints = recursion_from_All (IsDefined (net c)) c.constraints circuit.defined.constraints in

@@ -7,12 +7,12 @@ use Rattle.std.proofs.Math.Seq.{take-length}
 use Rattle.aiger.specs.declared.circuit.Latch.{Latch}
 use Rattle.base.specs.Literal.{Valuation, literal_value}
 use Rattle.aiger.specs.Circuit.{Circuit}
-use Rattle.aiger.specs.Trace.{IsFrame, IsTrace, next_state}
+use Rattle.aiger.specs.Trace.{IsCircuitFrame, IsCircuitTrace, next_latch_bits}
 use Rattle.runs.specs.Run.{more_steps}
 use Rattle.runs.specs.CircuitRun.{CircuitRun, IsFrameNow, no_inputs, settle_steps}
 use Rattle.base.proofs.StepLemmas.{more_steps-sum}
 use Rattle.witness.specs.Judgements.{Violation, violated_at}
-use Rattle.witness.specs.BitPlays.{first_bit_violated, BitPlay, frame_steps, steps_of, state_behind, Begins, Traced, Plays, differing, latch_given, bit_rises}
+use Rattle.witness.specs.BitPlays.{first_bit_violated, BitPlay, bit_frame_steps, bit_steps_of, state_behind, Begins, TracedBits, PlaysBits, differing, latch_given, bit_rises}
 use Rattle.witness.specs.Fits.{breach_from}
 use Rattle.witness.specs.BitJudgements.{differs_from_reset, first_reset_differing}
 use Rattle.witness.specs.BitScans.{is_one_bit}
@@ -79,23 +79,23 @@ record SplitTrace (c : Circuit) (state : List Bool) (inputs : List (List Bool)) 
   front : List Valuation
   v : Valuation
   is : vs ≡ front ++ v ∷ []
-  trace : IsTrace c state inputs front
-  frame : IsFrame c (state_behind c state front) last v
+  trace : IsCircuitTrace c state inputs front
+  frame : IsCircuitFrame c (state_behind c state front) last v
   many : length front ≡ length inputs
 
 -- the last frame of a trace, and those before
-split_trace : (c : Circuit) (state : List Bool) (inputs : List (List Bool)) (last : List Bool) (vs : List Valuation) → IsTrace c state (inputs ++ last ∷ []) vs → SplitTrace c state inputs last vs
+split_trace : (c : Circuit) (state : List Bool) (inputs : List (List Bool)) (last : List Bool) (vs : List Valuation) → IsCircuitTrace c state (inputs ++ last ∷ []) vs → SplitTrace c state inputs last vs
 split_trace c state [] last [] t = absurd t
 split_trace c state [] last (v ∷ []) t = record { front = []; v = v; is = refl; trace = tt; frame = t.0; many = refl }
 split_trace c state [] last (v ∷ w ∷ vs) t = absurd t.1
 split_trace c state (input ∷ inputs) last [] t = absurd t
 split_trace c state (input ∷ inputs) last (v ∷ vs) t =
-    let rest = split_trace c (next_state c v) inputs last vs t.1 in
+    let rest = split_trace c (next_latch_bits c v) inputs last vs t.1 in
     record { front = v ∷ rest.front; v = rest.v; is = ap (λ (us : List Valuation). v ∷ us) rest.is; trace = (t.0, rest.trace); frame = rest.frame; many = ap suc rest.many }
 
-state_more : (c : Circuit) (state : List Bool) (vs : List Valuation) (v : Valuation) → state_behind c state (vs ++ v ∷ []) ≡ next_state c v
+state_more : (c : Circuit) (state : List Bool) (vs : List Valuation) (v : Valuation) → state_behind c state (vs ++ v ∷ []) ≡ next_latch_bits c v
 state_more c state [] v = refl
-state_more c state (w ∷ vs) v = state_more c (next_state c w) vs v
+state_more c state (w ∷ vs) v = state_more c (next_latch_bits c w) vs v
 
 rises_more : (c : Circuit) (claim : ℕ) (vs : List Valuation) (v : Valuation) → bit_rises c claim (vs ++ v ∷ []) ≡ (bit_rises c claim vs || literal_value v (get_or c.bads claim 0))
 rises_more c claim vs v =
@@ -107,11 +107,11 @@ pub record Closes (c : Circuit) (claim : ℕ) (old new : BitPlay) : Type 0 where
   pub differs : new.differs ≡ old.differs
   pub frames : new.frames ≡ min (old.frames + 1) (2 ^ 64 - 1)
   pub run : new.run ≡ record old.run { latches = new.run.latches; inputs = no_inputs old.run.circuit; settled = false; steps = more_steps (length old.run.circuit.latches) (more_steps (settle_steps old.run.circuit) old.run.steps) }
-  pub latches : (v : Valuation) → IsFrameNow old.run v → new.run.latches ≡ next_state old.run.circuit v
+  pub latches : (v : Valuation) → IsFrameNow old.run v → new.run.latches ≡ next_latch_bits old.run.circuit v
   pub breach : (v : Valuation) → IsFrameNow old.run v → new.breach ≡ option_or old.breach (violated_at old.frames (first_bit_violated c v) None)
   pub rose : (v : Valuation) → IsFrameNow old.run v → new.rose ≡ (old.rose || literal_value v (get_or c.bads claim 0))
 
-module _ (c : Circuit) (claim : ℕ) (initial : List Bool) (frames : List (List Bool)) (line : List ℕ) (old new : BitPlay) (plays : Plays c claim initial frames old line) (closes : Closes c claim old new) (few : length frames < 2 ^ 62) (whole : length line ≡ c.inputs) where
+module _ (c : Circuit) (claim : ℕ) (initial : List Bool) (frames : List (List Bool)) (line : List ℕ) (old new : BitPlay) (plays : PlaysBits c claim initial frames old line) (closes : Closes c claim old new) (few : length frames < 2 ^ 62) (whole : length line ≡ c.inputs) where
   abbrev here : List Bool
   here = map is_one_bit line
 
@@ -121,17 +121,17 @@ module _ (c : Circuit) (claim : ℕ) (initial : List Bool) (frames : List (List 
       let same : length line ≡ length old.run.inputs = whole ∙ sym many in
       sym (take-length old.run.inputs) ∙ (ap (λ (n : ℕ). take n old.run.inputs) (sym same) ∙ plays.bits (omega (arith, whole)))
 
-  traced_more : (vs : List Valuation) → IsTrace c initial (frames ++ here ∷ []) vs → Traced c claim initial new vs
+  traced_more : (vs : List Valuation) → IsCircuitTrace c initial (frames ++ here ∷ []) vs → TracedBits c claim initial new vs
   traced_more vs t =
       let s = split_trace c initial frames here vs t in
       let was = plays.traced s.front s.trace in
       let now : IsFrameNow old.run s.v =
-      subst (λ (k : Circuit). IsFrame k old.run.latches old.run.inputs s.v) (sym plays.run)
-      (subst (λ (state : List Bool). IsFrame c state old.run.inputs s.v) (sym was.latches)
-      (subst (λ (input : List Bool). IsFrame c (state_behind c initial s.front) input s.v) (sym inputs_are) s.frame)) in
+      subst (λ (k : Circuit). IsCircuitFrame k old.run.latches old.run.inputs s.v) (sym plays.run)
+      (subst (λ (state : List Bool). IsCircuitFrame c state old.run.inputs s.v) (sym was.latches)
+      (subst (λ (input : List Bool). IsCircuitFrame c (state_behind c initial s.front) input s.v) (sym inputs_are) s.frame)) in
       let number : old.frames ≡ 0 + length s.front = plays.count ∙ (sym s.many ∙ omega arith) in
       record {
-        latches = closes.latches s.v now ∙ (ap (λ (k : Circuit). next_state k s.v) plays.run ∙ (sym (state_more c initial s.front s.v) ∙ ap (state_behind c initial) (sym s.is)));
+        latches = closes.latches s.v now ∙ (ap (λ (k : Circuit). next_latch_bits k s.v) plays.run ∙ (sym (state_more c initial s.front s.v) ∙ ap (state_behind c initial) (sym s.is)));
         breach =
             closes.breach s.v now
             ∙ (ap₂ (λ (o : Option Violation) (n : ℕ). option_or o (violated_at n (first_bit_violated c s.v) None)) was.breach number
@@ -142,21 +142,21 @@ module _ (c : Circuit) (claim : ℕ) (initial : List Bool) (frames : List (List 
             ∙ (sym (rises_more c claim s.front s.v) ∙ ap (bit_rises c claim) (sym s.is)));
       }
 
-  steps_more : new.run.steps ≡ steps_of c (length (frames ++ here ∷ []))
+  steps_more : new.run.steps ≡ bit_steps_of c (length (frames ++ here ∷ []))
   steps_more =
       let n = length frames in
       let long : length (frames ++ here ∷ []) ≡ n + 1 = length-append frames (here ∷ []) in
       ap (λ (r : CircuitRun). r.steps) closes.run
       ∙ (ap₂ (λ (k : Circuit) (s : ℕ). more_steps (length k.latches) (more_steps (settle_steps k) s)) plays.run plays.steps
-      ∙ (ap (λ (s : ℕ). more_steps (length c.latches) s) (more_steps-sum (n * frame_steps c) (settle_steps c) 0)
-      ∙ (more_steps-sum (n * frame_steps c + settle_steps c) (length c.latches) 0
-      ∙ ap (λ (m : ℕ). more_steps m 0) (product n (settle_steps c) (length c.latches) ∙ ap (λ (m : ℕ). m * frame_steps c) (sym long)))))
+      ∙ (ap (λ (s : ℕ). more_steps (length c.latches) s) (more_steps-sum (n * bit_frame_steps c) (settle_steps c) 0)
+      ∙ (more_steps-sum (n * bit_frame_steps c + settle_steps c) (length c.latches) 0
+      ∙ ap (λ (m : ℕ). more_steps m 0) (product n (settle_steps c) (length c.latches) ∙ ap (λ (m : ℕ). m * bit_frame_steps c) (sym long)))))
     where
       product : (n s l : ℕ) → n * (s + l) + s + l ≡ (n + 1) * (s + l)
       product n s l = omega arith
 
   -- a frame more is closed
-  pub plays_more : Plays c claim initial (frames ++ here ∷ []) new []
+  pub plays_more : PlaysBits c claim initial (frames ++ here ∷ []) new []
   plays_more =
       let count = plays.count in
       let long = length-append frames (here ∷ []) in

@@ -13,14 +13,14 @@ use Rattle.std.proofs.lemmas.List.{length-map, length-replicate}
 use Rattle.std.proofs.Math.Seq.{take-length}
 use Rattle.aiger.specs.Circuit.{Circuit}
 use Rattle.base.specs.Literal.{Valuation}
-use Rattle.aiger.specs.Trace.{IsTrace}
+use Rattle.aiger.specs.Trace.{IsCircuitTrace}
 use Rattle.runs.specs.Run.{more_steps}
-use Rattle.runs.specs.CircuitRun.{first_bit}
+use Rattle.runs.specs.CircuitRun.{reset_bit}
 use Rattle.witness.specs.declared.why.Why.{Why}
 use Rattle.witness.specs.declared.bit_reader.BitPlace.{BitPlace as CodePlace}
-use Rattle.witness.specs.BitPlays.{BitPlay, play_start, frame_steps, Begins, Traced, Plays}
+use Rattle.witness.specs.BitPlays.{BitPlay, play_start, bit_frame_steps, Begins, TracedBits, PlaysBits}
 use Rattle.witness.specs.declared.bit_reader.BitReader.{BitReader}
-use Rattle.witness.specs.BitStands.{place_of, PlaysAt, Counts, Reads, GivesLine, is_frame}
+use Rattle.witness.specs.BitStands.{bit_place_of, PlaysAt, CountsBits, ReadsBits, GivesBitLine, is_frame}
 use Rattle.witness.proofs.BitPlayLemmas.{none_left}
 use Rattle.witness.specs.declared.why.Why.TheVariants as why
 use Rattle.witness.specs.declared.bit_reader.BitPlace.TheVariants as code
@@ -48,7 +48,7 @@ are_bits count line h =
 begins_start : (c : Circuit) (p : BitPlay) → p ≡ play_start c → Begins c p []
 begins_start c p e =
     subst (λ (p : BitPlay). Begins c p []) (sym e)
-    (record { start = refl; many = length-map c.latches (λ l. first_bit l.reset); bits = λ few. refl; differs = λ few. sym (none_left 0 c.latches) })
+    (record { start = refl; many = length-map c.latches (λ l. reset_bit l.reset); bits = λ few. refl; differs = λ few. sym (none_left 0 c.latches) })
 
 -- as many bytes as there are latches are their bits
 initial_is : (c : Circuit) (p : BitPlay) (line : List ℕ) → Begins c p line → length line ≡ length c.latches → p.run.latches ≡ map is_one_bit line
@@ -57,13 +57,13 @@ initial_is c p line h whole =
     let same : length p.run.latches ≡ length line = many ∙ sym whole in
     sym (take-length p.run.latches) ∙ (ap (λ (n : ℕ). take n p.run.latches) same ∙ h.bits (omega (arith, whole)))
 
-traced_start : (c : Circuit) (claim : ℕ) (initial : List Bool) (p : BitPlay) (vs : List Valuation) → p.run.latches ≡ initial → p.breach ≡ None → p.rose ≡ false → IsTrace c initial [] vs → Traced c claim initial p vs
+traced_start : (c : Circuit) (claim : ℕ) (initial : List Bool) (p : BitPlay) (vs : List Valuation) → p.run.latches ≡ initial → p.breach ≡ None → p.rose ≡ false → IsCircuitTrace c initial [] vs → TracedBits c claim initial p vs
 traced_start c claim initial p [] latches breach rose t = record { latches = latches; breach = breach; rose = rose }
 traced_start c claim initial p (v ∷ vs) latches breach rose t = absurd t
 
-plays_start : (c : Circuit) (p : BitPlay) (line : List ℕ) (claim : ℕ) (frames : List (List Bool)) → Begins c p line → length line ≡ length c.latches → frames ≡ [] → Plays c claim (map is_one_bit line) frames p []
+plays_start : (c : Circuit) (p : BitPlay) (line : List ℕ) (claim : ℕ) (frames : List (List Bool)) → Begins c p line → length line ≡ length c.latches → frames ≡ [] → PlaysBits c claim (map is_one_bit line) frames p []
 plays_start c p line claim frames h whole none =
-    subst (λ (frames : List (List Bool)). Plays c claim (map is_one_bit line) frames p []) (sym none)
+    subst (λ (frames : List (List Bool)). PlaysBits c claim (map is_one_bit line) frames p []) (sym none)
     (record {
       circuit = ap (λ (p : BitPlay). p.circuit) h.start;
       run = ap (λ (p : BitPlay). p.run.circuit) h.start;
@@ -71,7 +71,7 @@ plays_start c p line claim frames h whole none =
       many = ap (λ (p : BitPlay). length p.run.inputs) h.start ∙ length-replicate c.inputs false;
       bits = λ few. refl;
       count = ap (λ (p : BitPlay). p.frames) h.start;
-      steps = ap (λ (p : BitPlay). p.run.steps) h.start ∙ no_steps (frame_steps c);
+      steps = ap (λ (p : BitPlay). p.run.steps) h.start ∙ no_steps (bit_frame_steps c);
       traced = λ vs t.
           traced_start c claim (map is_one_bit line) p vs (initial_is c p line h whole) (ap (λ (p : BitPlay). p.breach) h.start) (ap (λ (p : BitPlay). p.rose) h.start) t;
     })
@@ -83,18 +83,18 @@ plays_start c p line claim frames h whole none =
 
 -- ---- a line at each place
 
-module _ (c : Circuit) (r : BitRead) (line : List ℕ) (q : BitReader) (reads : Reads c q r line) where
-  is_at : (x : CodePlace) → q.place ≡ x → r.place ≡ place_of x
-  is_at x e = sym reads.place ∙ ap place_of e
+module _ (c : Circuit) (r : BitRead) (line : List ℕ) (q : BitReader) (reads : ReadsBits c q r line) where
+  is_at : (x : CodePlace) → q.place ≡ x → r.place ≡ bit_place_of x
+  is_at x e = sym reads.place ∙ ap bit_place_of e
 
-  pub plays_at : (x : CodePlace) → q.place ≡ x → PlaysAt c r q.play line (place_of x)
+  pub plays_at : (x : CodePlace) → q.place ≡ x → PlaysAt c r q.play line (bit_place_of x)
   plays_at x e = subst (PlaysAt c r q.play line) (is_at x e) reads.play
 
   pub header_refused : q.place ≡ code.Header → bytes_eq line (codes "1") ≡ false → bit_admit c r line ≡ Err why.BadHeader
   unfolding bit_admit
   header_refused e fails = rw (is_at code.Header e, fails) refl
 
-  pub header_admitted : q.place ≡ code.Header → bytes_eq line (codes "1") ≡ true → (next : BitRead) × ((bit_admit c r line ≡ Ok next) × Reads c (record q { place = code.Claim }) next [])
+  pub header_admitted : q.place ≡ code.Header → bytes_eq line (codes "1") ≡ true → (next : BitRead) × ((bit_admit c r line ≡ Ok next) × ReadsBits c (record q { place = code.Claim }) next [])
   unfolding bit_admit
   header_admitted e is =
       let plays = plays_at code.Header e in (
@@ -106,7 +106,7 @@ module _ (c : Circuit) (r : BitRead) (line : List ℕ) (q : BitReader) (reads : 
   unfolding bit_admit
   claim_refused w e is = rw (is_at code.Claim e, is) refl
 
-  pub claim_admitted : (i : ℕ) → q.place ≡ code.Claim → length c.bads < 2 ^ 64 → claim_at (length c.bads) line ≡ Ok i → (next : BitRead) × ((bit_admit c r line ≡ Ok next) × Reads c (record q { place = code.Initial; claim = i }) next [])
+  pub claim_admitted : (i : ℕ) → q.place ≡ code.Claim → length c.bads < 2 ^ 64 → claim_at (length c.bads) line ≡ Ok i → (next : BitRead) × ((bit_admit c r line ≡ Ok next) × ReadsBits c (record q { place = code.Initial; claim = i }) next [])
   unfolding bit_admit
   claim_admitted i e small is =
       let plays = plays_at code.Claim e in
@@ -122,7 +122,7 @@ module _ (c : Circuit) (r : BitRead) (line : List ℕ) (q : BitReader) (reads : 
   unfolding bit_admit
   initial_refused w e is = rw (is_at code.Initial e, is) refl
 
-  pub initial_admitted : q.place ≡ code.Initial → bits_at (length c.latches) line ≡ Ok (map is_one_bit line) → (next : BitRead) × ((bit_admit c r line ≡ Ok next) × Reads c (record q { place = code.First }) next [])
+  pub initial_admitted : q.place ≡ code.Initial → bits_at (length c.latches) line ≡ Ok (map is_one_bit line) → (next : BitRead) × ((bit_admit c r line ≡ Ok next) × ReadsBits c (record q { place = code.First }) next [])
   unfolding bit_admit
   initial_admitted e is =
       let plays = plays_at code.Initial e in
@@ -139,7 +139,7 @@ module _ (c : Circuit) (r : BitRead) (line : List ℕ) (q : BitReader) (reads : 
   unfolding bit_admit
   end_refused e is = rw (is_at code.First e, is) refl
 
-  pub end_admitted : q.place ≡ code.Later → bytes_eq line (codes ".") ≡ true → (next : BitRead) × ((bit_admit c r line ≡ Ok next) × Reads c (record q { place = code.Done }) next [])
+  pub end_admitted : q.place ≡ code.Later → bytes_eq line (codes ".") ≡ true → (next : BitRead) × ((bit_admit c r line ≡ Ok next) × ReadsBits c (record q { place = code.Done }) next [])
   unfolding bit_admit
   end_admitted e is =
       let plays = plays_at code.Later e in (
@@ -173,14 +173,14 @@ module _ (c : Circuit) (r : BitRead) (line : List ℕ) (q : BitReader) (reads : 
 
   -- the line of a frame
   pub frame_gives : (after : BitReader) (result : Result (Unit {0}) Why) → bit_admit c r line ≡ after_frame r (bits_at c.inputs line)
-      → MatchResult result (λ _. (bits_at c.inputs line ≡ Ok (map is_one_bit line)) × Reads c after (record r { place = AtLater; frames = r.frames ++ map is_one_bit line ∷ [] }) []) (λ w. bits_at c.inputs line ≡ Err w)
-      → GivesLine c r line after result
+      → MatchResult result (λ _. (bits_at c.inputs line ≡ Ok (map is_one_bit line)) × ReadsBits c after (record r { place = AtLater; frames = r.frames ++ map is_one_bit line ∷ [] }) []) (λ w. bits_at c.inputs line ≡ Err w)
+      → GivesBitLine c r line after result
   frame_gives after (Ok u) is h = (record r { place = AtLater; frames = r.frames ++ map is_one_bit line ∷ [] }, (is ∙ ap (after_frame r) h.0, h.1))
   frame_gives after (Err w) is h = is ∙ ap (after_frame r) h
 
   -- a frame more
-  pub frame_read : (p : BitPlay) → length line ≡ c.inputs → r.claim < length c.bads → Plays c r.claim r.initial (r.frames ++ map is_one_bit line ∷ []) p []
-      → Reads c (record { play = p; place = code.Later; claim = q.claim }) (record r { place = AtLater; frames = r.frames ++ map is_one_bit line ∷ [] }) []
+  pub frame_read : (p : BitPlay) → length line ≡ c.inputs → r.claim < length c.bads → PlaysBits c r.claim r.initial (r.frames ++ map is_one_bit line ∷ []) p []
+      → ReadsBits c (record { play = p; place = code.Later; claim = q.claim }) (record r { place = AtLater; frames = r.frames ++ map is_one_bit line ∷ [] }) []
   frame_read p whole below plays =
       record {
         counts = record { circuit = plays.circuit; frames = plays.count; steps = plays.steps };
@@ -190,7 +190,7 @@ module _ (c : Circuit) (r : BitRead) (line : List ℕ) (q : BitReader) (reads : 
       }
 
   -- other bytes of the same line
-  pub bytes_read : (x : CodePlace) (p : BitPlay) (bytes : List ℕ) → q.place ≡ x → PlaysAt c r p bytes (place_of x) → Counts c (record q { play = p }) r → Reads c (record q { play = p }) r bytes
+  pub bytes_read : (x : CodePlace) (p : BitPlay) (bytes : List ℕ) → q.place ≡ x → PlaysAt c r p bytes (bit_place_of x) → CountsBits c (record q { play = p }) r → ReadsBits c (record q { play = p }) r bytes
   bytes_read x p bytes e plays counts =
       record {
         counts = counts;
@@ -200,7 +200,7 @@ module _ (c : Circuit) (r : BitRead) (line : List ℕ) (q : BitReader) (reads : 
       }
 
   -- all bytes of the line of initial bits
-  pub initial_read : (p : BitPlay) (bytes : List ℕ) → q.place ≡ code.Initial → Begins c p bytes → Reads c (record q { play = p }) r bytes
+  pub initial_read : (p : BitPlay) (bytes : List ℕ) → q.place ≡ code.Initial → Begins c p bytes → ReadsBits c (record q { play = p }) r bytes
   initial_read p bytes e begins =
       let plays = plays_at code.Initial e in
       bytes_read code.Initial p bytes e (begins, plays.1, plays.2)
@@ -211,7 +211,7 @@ module _ (c : Circuit) (r : BitRead) (line : List ℕ) (q : BitReader) (reads : 
       })
 
   -- where the line of a frame comes next
-  pub frame_plays : (x : CodePlace) → q.place ≡ x → is_frame x ≡ true → Plays c r.claim r.initial r.frames q.play line × (r.claim < length c.bads)
+  pub frame_plays : (x : CodePlace) → q.place ≡ x → is_frame x ≡ true → PlaysBits c r.claim r.initial r.frames q.play line × (r.claim < length c.bads)
   frame_plays code.First e f = plays_at code.First e
   frame_plays code.Later e f = plays_at code.Later e
   frame_plays _ e f = absurd cc
@@ -223,7 +223,7 @@ module _ (c : Circuit) (r : BitRead) (line : List ℕ) (q : BitReader) (reads : 
   frame_line _ e f fails = absurd cc
 
   -- all bytes of a frame's line
-  pub input_read : (x : CodePlace) → q.place ≡ x → is_frame x ≡ true → (p : BitPlay) (bytes : List ℕ) → Plays c r.claim r.initial r.frames p bytes → Reads c (record q { play = p }) r bytes
+  pub input_read : (x : CodePlace) → q.place ≡ x → is_frame x ≡ true → (p : BitPlay) (bytes : List ℕ) → PlaysBits c r.claim r.initial r.frames p bytes → ReadsBits c (record q { play = p }) r bytes
   input_read code.First e f p bytes plays = bytes_read code.First p bytes e (plays, (plays_at code.First e).1) (record { circuit = plays.circuit; frames = plays.count; steps = plays.steps })
   input_read code.Later e f p bytes plays = bytes_read code.Later p bytes e (plays, (plays_at code.Later e).1) (record { circuit = plays.circuit; frames = plays.count; steps = plays.steps })
   input_read _ e f p bytes plays = absurd cc

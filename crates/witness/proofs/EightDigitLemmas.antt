@@ -11,7 +11,7 @@ use Rattle.std.proofs.lemmas.Bool.{cases_Bool, and_parts, and_from, eqb-true, eq
 use Rattle.std.proofs.lemmas.Nat.{and_block, xor_block, xor_of_8}
 use Rattle.base.specs.Word.{bit_number}
 use Rattle.witness.specs.BitScans.{is_bit, is_one_bit}
-use Rattle.witness.specs.WordValues.{IsKnown, digits_word}
+use Rattle.witness.specs.WordValues.{IsValueOf, digits_word}
 use Rattle.witness.proofs.WordValueLemmas.{known_nothing, known_more, bit_most}
 
 -- bytes as one number, the first the lowest
@@ -146,11 +146,11 @@ are_bytes (b ∷ bytes) small = (small 0, are_bytes bytes (λ k. small (suc k)))
 
 -- ---- the word that they write behind others
 
-pub known_behind : (x : ℕ) (front bytes : List ℕ) → IsKnown x front → list_all is_bit bytes ≡ true → IsKnown (digits_word x bytes) (front ++ bytes)
-known_behind x front [] h known = subst (IsKnown x) (sym (append-nil front)) h
+pub known_behind : (x : ℕ) (front bytes : List ℕ) → IsValueOf x front → list_all is_bit bytes ≡ true → IsValueOf (digits_word x bytes) (front ++ bytes)
+known_behind x front [] h known = subst (IsValueOf x) (sym (append-nil front)) h
 known_behind x front (b ∷ bytes) h known =
     let parts = and_parts (is_bit b) (list_all is_bit bytes) known in
-    subst (IsKnown (digits_word (x * 2 + bit_number (is_one_bit b)) bytes)) (append_assoc front (b ∷ []) bytes)
+    subst (IsValueOf (digits_word (x * 2 + bit_number (is_one_bit b)) bytes)) (append_assoc front (b ∷ []) bytes)
     (known_behind (x * 2 + bit_number (is_one_bit b)) (front ++ b ∷ []) bytes (known_more x (bit_number (is_one_bit b)) front b refl parts.0 h) parts.1)
 
 pub eight_behind : (x : ℕ) (bytes : List ℕ) → length bytes ≡ 8 → digits_word x bytes ≡ x * 256 + digits_word 0 bytes
@@ -182,7 +182,7 @@ behind_more x n word bit bytes b is known h =
 
 -- ---- eight after eight
 
-pub front_room : (x n : ℕ) (front rest bytes : List ℕ) → IsKnown x front → bytes ≡ front ++ rest → length bytes ≤ 64 → n ≤ length rest → x < 2 ^ (64 - n)
+pub front_room : (x n : ℕ) (front rest bytes : List ℕ) → IsValueOf x front → bytes ≡ front ++ rest → length bytes ≤ 64 → n ≤ length rest → x < 2 ^ (64 - n)
 front_room x n front rest bytes h is most few =
     let long : length bytes ≡ length front + length rest = ap length is ∙ length-append front rest in
     let power : 2 ^ length front ≤ 2 ^ (64 - n) = pow-le-pow_right {n = 2} (omega arith) {i = length front} {j = 64 - n} (omega (arith, long, most, few)) in
@@ -193,17 +193,17 @@ eight_long eight behind rest front many = omega (arith, ap length front, length-
 
 pub eight_small : (bytes : List ℕ) → length bytes ≡ 8 → list_all is_bit bytes ≡ true → digits_word 0 bytes < 256
 eight_small bytes long known =
-    let all : IsKnown (digits_word 0 bytes) bytes = known_behind 0 [] bytes known_nothing known in
+    let all : IsValueOf (digits_word 0 bytes) bytes = known_behind 0 [] bytes known_nothing known in
     subst (λ (n : ℕ). digits_word 0 bytes < 2 ^ n) long all.small
 
-pub eight_more : (x y : ℕ) (front eight behind rest bytes : List ℕ) → IsKnown x front → bytes ≡ front ++ rest → eight ≡ take 8 rest → behind ≡ drop 8 rest → length eight ≡ 8 → list_all is_bit eight ≡ true → y ≡ digits_word 0 eight
-    → (more : List ℕ) × ((bytes ≡ more ++ behind) × IsKnown (x * 256 + y) more)
+pub eight_more : (x y : ℕ) (front eight behind rest bytes : List ℕ) → IsValueOf x front → bytes ≡ front ++ rest → eight ≡ take 8 rest → behind ≡ drop 8 rest → length eight ≡ 8 → list_all is_bit eight ≡ true → y ≡ digits_word 0 eight
+    → (more : List ℕ) × ((bytes ≡ more ++ behind) × IsValueOf (x * 256 + y) more)
 eight_more x y front eight behind rest bytes h is first others long known value =
     let split : rest ≡ eight ++ behind = sym (ap₂ (λ (l r : List ℕ). l ++ r) first others ∙ take-append-drop 8 rest) in (
       front ++ eight,
       (
         is ∙ (ap (λ (l : List ℕ). front ++ l) split ∙ sym (append_assoc front eight behind)),
-        subst (λ (n : ℕ). IsKnown n (front ++ eight)) (eight_behind x eight long ∙ ap (λ (n : ℕ). x * 256 + n) (sym value)) (known_behind x front eight h known),
+        subst (λ (n : ℕ). IsValueOf n (front ++ eight)) (eight_behind x eight long ∙ ap (λ (n : ℕ). x * 256 + n) (sym value)) (known_behind x front eight h known),
       ),
     )
 
@@ -218,7 +218,7 @@ some_unknown front eight rest bytes is first none =
     let known : list_all is_bit (take 8 rest) ≡ true = (and_parts (list_all is_bit (take 8 rest)) (list_all is_bit (drop 8 rest)) (sym (list_all-append is_bit (take 8 rest) (drop 8 rest)) ∙ split)).0 in
     cc (none, first, known))
 
-pub known_end : (o : Option ℕ) (x : ℕ) (front rest bytes : List ℕ) → bytes ≡ front ++ rest → IsKnown x front → MatchOption o (list_all is_bit rest ≡ false) (λ y. (list_all is_bit rest ≡ true) × (y ≡ digits_word x rest))
-    → MatchOption o (list_all is_bit bytes ≡ false) (λ y. IsKnown y bytes)
+pub known_end : (o : Option ℕ) (x : ℕ) (front rest bytes : List ℕ) → bytes ≡ front ++ rest → IsValueOf x front → MatchOption o (list_all is_bit rest ≡ false) (λ y. (list_all is_bit rest ≡ true) × (y ≡ digits_word x rest))
+    → MatchOption o (list_all is_bit bytes ≡ false) (λ y. IsValueOf y bytes)
 known_end None x front rest bytes is h none = false_from_ne_true (list_all is_bit bytes) (λ all. cc (none, rest_known front rest bytes is all))
-known_end (Some y) x front rest bytes is h told = subst (IsKnown y) (sym is) (subst (λ (n : ℕ). IsKnown n (front ++ rest)) (sym told.1) (known_behind x front rest h told.0))
+known_end (Some y) x front rest bytes is h told = subst (IsValueOf y) (sym is) (subst (λ (n : ℕ). IsValueOf n (front ++ rest)) (sym told.1) (known_behind x front rest h told.0))

@@ -21,7 +21,7 @@ use Rattle.witness.proofs.GivenWordLemmas.{SameAt, put_given, named_state, input
 use Rattle.std.proofs.lemmas.Bool.{cases_eq}
 use Rattle.std.proofs.lemmas.Option.{get_or_from_slice_get}
 use Rattle.btor2.proofs.LookUps.{found, init_some, init_none}
-use Rattle.runs.specs.Frames.{ids_of, given_leaves, given as given_at}
+use Rattle.runs.specs.Frames.{ids_of, given_leaves, given_at}
 use Rattle.witness.specs.Texts.{shape_of}
 use Rattle.btor2.specs.declared.item.Body.TheVariants as body
 use Rattle.btor2.proofs.TraceLemmas.{trace_length}

@@ -10,7 +10,7 @@ use Rattle.btor2.specs.declared.item.Item.{Item}
 use Rattle.btor2.specs.declared.item.Body.{Body}
 use Rattle.btor2.specs.Items.{find_item, is_input, is_state, names_state, init_value, next_value, constant_of, is_free, init_word}
 use Rattle.btor2.specs.Trace.{Frame, next_state}
-use Rattle.runs.specs.Frames.{ids_of, rank, given as given_at}
+use Rattle.runs.specs.Frames.{ids_of, kind_rank, given_at}
 use Rattle.runs.specs.Run.{first_word, zeros}
 use Rattle.runs.proofs.RankLemmas.{rank-below, ids-rank, length-ids}
 use Rattle.witness.specs.Texts.{Shape, shape_of, is_free_index, are_distinct}
@@ -52,20 +52,20 @@ put-at words (p ∷ ps) k h d =
 -- ---- an id's index is its rank
 
 index_from : (kind : Body → Bool) (n : ℕ) (items : List Item) (id : ℕ) (y : Item) → find_item items id ≡ Some y → kind y.body ≡ true
-    → position_from (λ (x : Item). nat_eq id x.id) n (filter (λ (x : Item). kind x.body) items) ≡ Some (n + rank kind items id)
+    → position_from (λ (x : Item). nat_eq id x.id) n (filter (λ (x : Item). kind x.body) items) ≡ Some (n + kind_rank kind items id)
 index_from kind n [] id y h is = absurd (none-some y h)
 index_from kind n (x ∷ xs) id y h is = by (λ m f. index_from kind m xs id y f is) (nat_eq id x.id) refl (kind x.body) refl h
   where
-    by : ((m : ℕ) → find_item xs id ≡ Some y → position_from (λ (z : Item). nat_eq id z.id) m (filter (λ (z : Item). kind z.body) xs) ≡ Some (m + rank kind xs id))
+    by : ((m : ℕ) → find_item xs id ≡ Some y → position_from (λ (z : Item). nat_eq id z.id) m (filter (λ (z : Item). kind z.body) xs) ≡ Some (m + kind_rank kind xs id))
         → (b : Bool) → nat_eq id x.id ≡ b → (c : Bool) → kind x.body ≡ c → cond b (Some x) (find_item xs id) ≡ Some y
         → position_from (λ (z : Item). nat_eq id z.id) n (cond c (x ∷ filter (λ (z : Item). kind z.body) xs) (filter (λ (z : Item). kind z.body) xs))
-        ≡ Some (n + cond b 0 (cond c (suc (rank kind xs id)) (rank kind xs id)))
+        ≡ Some (n + cond b 0 (cond c (suc (kind_rank kind xs id)) (kind_rank kind xs id)))
     by later true e true d f = rw e (ap (λ (k : ℕ). Some k) (omega arith))
     by later true e false d f = absurd (true≢false (sym is ∙ ap (λ (z : Item). kind z.body) (sym (same_Some x y f)) ∙ d))
     by later false e true d f = rw e (later (n + 1) f ∙ ap (λ (k : ℕ). Some k) (omega arith))
     by later false e false d f = later n f
 
-pub index-rank : (kind : Body → Bool) (items : List Item) (id : ℕ) (y : Item) → find_item items id ≡ Some y → kind y.body ≡ true → index_of kind items id ≡ Some (rank kind items id)
+pub index-rank : (kind : Body → Bool) (items : List Item) (id : ℕ) (y : Item) → find_item items id ≡ Some y → kind y.body ≡ true → index_of kind items id ≡ Some (kind_rank kind items id)
 index-rank kind items id y h is = index_from kind 0 items id y h is ∙ ap (λ (k : ℕ). Some k) (omega arith)
 
 -- ---- frames that agree
@@ -77,8 +77,8 @@ SameAt kind items s t = (id : ℕ) (y : Item) → find_item items id ≡ Some y 
 -- a list that has what a function gives for the ids of a kind
 pub words_of_kind : (kind : Body → Bool) (items : List Item) (g : ℕ → ℕ) → SameAt kind items (given_at kind items (map g (ids_of kind items))) g
 words_of_kind kind items g id y found is =
-    let below : rank kind items id < length (ids_of kind items) = omega (arith, rank-below kind items id y found is, length-ids kind items) in
-    get_or-map g (ids_of kind items) (rank kind items id) 0 0 below ∙ ap g (ids-rank kind items id y found is)
+    let below : kind_rank kind items id < length (ids_of kind items) = omega (arith, rank-below kind items id y found is, length-ids kind items) in
+    get_or-map g (ids_of kind items) (kind_rank kind items id) 0 0 below ∙ ap g (ids-rank kind items id y found is)
 
 -- ---- words of parts
 
@@ -86,7 +86,7 @@ words_of_kind kind items g id y found is =
 pub put_given : (kind : Body → Bool) (items : List Item) (words : List ℕ) (list : List (ℕ × ℕ)) → length words ≡ length (ids_of kind items) → are_distinct (map (λ (p : ℕ × ℕ). p.0) list) ≡ true
     → SameAt kind items (given_at kind items (words_put words list)) (λ id. unwrap_or (given_to kind items list id) (given_at kind items words id))
 put_given kind items words list many d id y found is =
-    let r : ℕ = rank kind items id in
+    let r : ℕ = kind_rank kind items id in
     let below : r < length words = omega (arith, many, rank-below kind items id y found is, length-ids kind items) in
     put-at words list r below d ∙ ap (λ (o : Option ℕ). unwrap_or (option_and_then (given list) o) (get_or words r 0)) (sym (index-rank kind items id y found is))
 
@@ -117,9 +117,9 @@ ids_free items [] = refl
 ids_free items (x ∷ xs) = ap (λ (l : List Bool). is_free items x.id ∷ l) (ids_free items xs)
 
 -- a state is free where its index is that of a free state
-free_index : (items : List Item) (id : ℕ) (y : Item) → find_item items id ≡ Some y → is_state y.body ≡ true → is_free_index (shape_of items) (rank is_state items id) ≡ is_free items id
+free_index : (items : List Item) (id : ℕ) (y : Item) → find_item items id ≡ Some y → is_state y.body ≡ true → is_free_index (shape_of items) (kind_rank is_state items id) ≡ is_free items id
 free_index items id y found is =
-    let r : ℕ = rank is_state items id in
+    let r : ℕ = kind_rank is_state items id in
     let below : r < length (ids_of is_state items) = omega (arith, rank-below is_state items id y found is, length-ids is_state items) in
     ap (λ (l : List Bool). get_or l r false) (ids_free items (of_kind is_state items))
     ∙ (get_or-map (is_free items) (ids_of is_state items) r 0 false below ∙ ap (is_free items) (ids-rank is_state items id y found is))
@@ -137,7 +137,7 @@ none_given : (items : List Item) (frame : FrameWords) (id : ℕ) (y : Item) → 
 none_given items frame id y fits found is carried =
     let all = recursion_from_All (λ (p : ℕ × ℕ). is_free_index (shape_of items) p.0 ≡ true) frame.states fits.free in
     ap (option_and_then (given frame.states)) (index-rank is_state items id y found is)
-    ∙ free_alone (shape_of items) frame.states (rank is_state items id) all (free_index items id y found is ∙ carried)
+    ∙ free_alone (shape_of items) frame.states (kind_rank is_state items id) all (free_index items id y found is ∙ carried)
 
 -- ---- where a run stands
 

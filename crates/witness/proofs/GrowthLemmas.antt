@@ -11,7 +11,7 @@ use Rattle.btor2.specs.declared.item.Item.{Item}
 use Rattle.btor2.specs.Trace.{Frame, IsTrace, next_state}
 use Rattle.base.specs.Literal.{Valuation}
 use Rattle.aiger.specs.Circuit.{Circuit, IsCircuit}
-use Rattle.aiger.specs.Trace.{IsTrace as IsBitTrace, next_state as next_bits}
+use Rattle.aiger.specs.Trace.{IsCircuitTrace as IsBitTrace, next_latch_bits as next_bits}
 use Rattle.witness.specs.declared.why.Why.{Why}
 use Rattle.witness.specs.declared.why.Why.TheVariants as why
 use Rattle.witness.specs.Texts.{Shape, Assignment, Parts, has_free, is_comment, shape_of, most_lines}

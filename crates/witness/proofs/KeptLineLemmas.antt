@@ -14,7 +14,7 @@ use Rattle.witness.specs.declared.why.Why.TheVariants as why
 use Rattle.witness.specs.Texts.{Shape, Assignment, Parts, is_comment, shape_of}
 use Rattle.witness.specs.Readings.{is_nothing}
 use Rattle.witness.specs.Admits.{Cut, to_front, cut_at_space, value_of, with_symbol, with_index, assignment_at, may_name, state_assignment_at, Place, AtStatus, AtClaims, AtParts, InStates, InFrame, AtEnd, Read, begins_part, admit_at, admit}
-use Rattle.witness.specs.KeptLines.{kept, AreAlike, IsSmall, AreSmall}
+use Rattle.witness.specs.KeptLines.{kept, AreAlike, IsNarrowShape, AreNarrow}
 use Rattle.witness.specs.WordStands.{WordReader, GivesLine, is_alone}
 use Rattle.witness.proofs.WordValueLemmas.{other_length}
 
@@ -133,7 +133,7 @@ short_index token i is small =
     let short = length-decimal-le 20 i (omega arith) (omega (arith, small)) (omega (arith, small)) in
     omega (arith, short, ap length (number_is_decimal token i is small))
 
-module _ (widths : List ℕ) (before : List Assignment) (small : AreSmall widths) where
+module _ (widths : List ℕ) (before : List Assignment) (small : AreNarrow widths) where
   there_is_short : (token : List ℕ) (i : ℕ) → number_of token ≡ Some i → nat_lt i (length widths) ≡ true → length token ≤ 20
   there_is_short token i is there =
       let few = small.few in
@@ -184,7 +184,7 @@ same_either false false x y e is other = refl
 abbrev may : Shape → List Parts → List ℕ → Bool
 may shape closed token = may_name shape closed (number_of token)
 
-state_kept : (shape : Shape) (closed : List Parts) (before : List Assignment) (line : List ℕ) → AreSmall shape.states → state_assignment_at shape closed before (kept line) ≡ state_assignment_at shape closed before line
+state_kept : (shape : Shape) (closed : List Parts) (before : List Assignment) (line : List ℕ) → AreNarrow shape.states → state_assignment_at shape closed before (kept line) ≡ state_assignment_at shape closed before line
 unfolding state_assignment_at
 state_kept shape closed before line small = by (tokens 342 line)
   where
@@ -198,7 +198,7 @@ state_kept shape closed before line small = by (tokens 342 line)
 
 -- ---- a line
 
-module _ (shape : Shape) (small : IsSmall shape) (r : Read) (few : length r.closed < 2 ^ 62) where
+module _ (shape : Shape) (small : IsNarrowShape shape) (r : Read) (few : length r.closed < 2 ^ 62) where
   line_kept : (line : List ℕ) (at : Place) → is_alone at ≡ true → admit_at shape r (kept line) at ≡ admit_at shape r line at
   line_kept line AtStatus alone = rw (comment_kept 341 line, word_kept 342 line (codes "sat") (omega arith)) refl
   line_kept line AtClaims alone = absurd (cc alone)
@@ -212,7 +212,7 @@ module _ (shape : Shape) (small : IsSmall shape) (r : Read) (few : length r.clos
   unfolding admit
   admit_alike line other alike alone = sym (line_kept line r.place alone) ∙ (ap (λ (l : List ℕ). admit_at shape r l r.place) alike ∙ line_kept other r.place alone)
 
-pub gives_alike : (items : List Item) (r : Read) (line other : List ℕ) (q : WordReader) (result : Result (Unit {0}) Why) → IsSmall (shape_of items) → length r.closed < 2 ^ 62 → AreAlike line other → is_alone r.place ≡ true → GivesLine items r line q result → GivesLine items r other q result
+pub gives_alike : (items : List Item) (r : Read) (line other : List ℕ) (q : WordReader) (result : Result (Unit {0}) Why) → IsNarrowShape (shape_of items) → length r.closed < 2 ^ 62 → AreAlike line other → is_alone r.place ≡ true → GivesLine items r line q result → GivesLine items r other q result
 gives_alike items r line other q (Ok u) small few alike alone gives = (gives.0, (sym (admit_alike (shape_of items) small r few line other alike alone) ∙ gives.1.0, gives.1.1))
 gives_alike items r line other q (Err w) small few alike alone gives = sym (admit_alike (shape_of items) small r few line other alike alone) ∙ gives
 

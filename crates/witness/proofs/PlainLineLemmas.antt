@@ -17,7 +17,7 @@ use Rattle.btor2.proofs.SymbolLemmas.{symbol_printed}
 use Rattle.witness.specs.Texts.{digit, binary, symbol_part}
 use Rattle.witness.specs.Fits.{is_set}
 use Rattle.witness.specs.BitScans.{is_bit}
-use Rattle.witness.specs.WordValues.{IsKnown}
+use Rattle.witness.specs.WordValues.{IsValueOf}
 use Rattle.witness.specs.PlainLines.{NoNumber, BeginsName, IsFirstOther, NoName, BeginsWord, BeginsAssignment}
 use Rattle.witness.proofs.PieceLemmas.{IsBinary, value_is_binary}
 use Rattle.witness.proofs.WordValueLemmas.{value_known}
@@ -138,7 +138,7 @@ number_ends (Some x) view text end at value low some small read stops told =
     (subst (λ (n : ℕ). n < 2 ^ 64) (sym told.0) small, told.1 ∙ ap (λ (l : List ℕ). l ++ end ∷ view x.1) (read.digits ∙ ap decimal (sym told.0)))
 
 -- the digits of a word, and a name behind them or none
-pub word_begins : (width x : ℕ) (text digits behind rest : List ℕ) → text ≡ digits ++ behind → length digits ≡ width → IsKnown x digits → BeginsName behind rest → BeginsWord width text x rest
+pub word_begins : (width x : ℕ) (text digits behind rest : List ℕ) → text ≡ digits ++ behind → length digits ≡ width → IsValueOf x digits → BeginsName behind rest → BeginsWord width text x rest
 word_begins width x text digits behind rest is long known name =
     let spelled : IsBinary width digits x = value_is_binary width digits x (value_known width x digits long known) in
     record {

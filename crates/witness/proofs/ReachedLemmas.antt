@@ -9,7 +9,7 @@ use Rattle.btor2.specs.Lists.{places}
 use Rattle.btor2.specs.Trace.{Frame, IsTrace}
 use Rattle.base.specs.Literal.{Valuation}
 use Rattle.aiger.specs.Circuit.{Circuit}
-use Rattle.aiger.specs.Trace.{IsTrace as IsBitTrace}
+use Rattle.aiger.specs.Trace.{IsCircuitTrace as IsBitTrace}
 use Rattle.witness.specs.Texts.{Parts, shape_of}
 use Rattle.witness.specs.Readings.{lines_read, reading}
 use Rattle.witness.specs.Admits.{Read, word_reader}
@@ -20,12 +20,12 @@ use Rattle.witness.specs.Fits.{never_1, is_set, NoneIsSet, AreClaimed}
 use Rattle.witness.specs.Judgements.{frame_words, initial_words, given_words}
 use Rattle.witness.specs.ClosedWords.{IsClosedTrace}
 use Rattle.witness.specs.WordPlays.{TracedBy, frames_alone}
-use Rattle.witness.specs.WordStands.{WordReader, WordJudge, StandsFor}
+use Rattle.witness.specs.WordStands.{WordReader, WordJudge, StandsForWitness}
 use Rattle.witness.specs.BitAdmits.{BitPlace, AtHeader, AtClaim, AtInitial, AtFirst, AtLater, AtDone, BitRead, bit_reader}
 use Rattle.witness.specs.BitPlays.{BitPlay, bit_rises}
 use Rattle.witness.proofs.ShownLemmas.{never_shown, none_past, bit_rises_shown}
 use Rattle.witness.specs.declared.bit_reader.BitReader.{BitReader}
-use Rattle.witness.specs.BitStands.{Reads, PlaysAt, Tells, BitJudge, StandsFor as StandsForBits}
+use Rattle.witness.specs.BitStands.{ReadsBits, PlaysAt, TellsBits, BitJudge, StandsForBits}
 use Rattle.witness.specs.Reached.{word_reached, IsClosedBitTrace, bit_reached}
 use Rattle.witness.proofs.FrameLemmas.{bad_names, length-nodes}
 
@@ -55,7 +55,7 @@ by_frames items q claims k (x ∷ xs) base fs traced t known h =
     let one = traced fs t in
     ap₂ (λ (a b : Bool). a && b) (known (some_frames x xs) k) (one.rose [] no_flag k h ∙ rises_there items fs k h)
 
-pub word_reached_is : (items : List Item) (text : List ℕ) (j : WordJudge) (fs : List Frame) (k : ℕ) (b : Bool) → StandsFor items j text → IsClosedTrace items text fs
+pub word_reached_is : (items : List Item) (text : List ℕ) (j : WordJudge) (fs : List Frame) (k : ℕ) (b : Bool) → StandsForWitness items j text → IsClosedTrace items text fs
     → b ≡ (is_set j.reader.claimed k && is_set j.reader.play.rose k) → (b ≡ true → k < length (places is_bad 0 j.reader.play.items)) → b ≡ word_reached items text fs k
 unfolding reading
 word_reached_is items text j fs k b stands trace flags there =
@@ -89,7 +89,7 @@ rose_at c p r line AtFirst plays vs t = (plays.0.traced vs t).rose
 rose_at c p r line AtLater plays vs t = (plays.0.traced vs t).rose
 rose_at c p r line AtDone plays vs t = (plays.0.traced vs t).rose
 
-pub tells_of : (c : Circuit) (q : BitReader) (r : BitRead) (line : List ℕ) → Reads c q r line → Tells c q r
+pub tells_of : (c : Circuit) (q : BitReader) (r : BitRead) (line : List ℕ) → ReadsBits c q r line → TellsBits c q r
 tells_of c q r line reads =
     record { circuit = reads.counts.circuit; frames = reads.counts.frames; steps = reads.counts.steps; claim = reads.claim; rose = rose_at c q.play r line r.place reads.play }
 

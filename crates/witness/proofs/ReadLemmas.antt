@@ -10,7 +10,7 @@ use Rattle.std.proofs.lemmas.List.Elements.{All-weaker, recursion_from_All}
 use Rattle.std.proofs.lemmas.List.Folds.{list_any-append}
 use Rattle.std.proofs.lemmas.Slice.Eq.{bytes_eq-Decides}
 use Rattle.base.proofs.DecimalLemmas.{decimal_without}
-use Rattle.witness.specs.Texts.{Shape, has_free, Assignment, Parts, assignment_line, assignment_lines, states_lines, frame_lines, is_comment, are_distinct, IsAssignment, IsPart, IsFreePart, IsLater, Witness, claims_line, witness_lines, IsFirst, AreFrames, IsWitness, most_lines, Says}
+use Rattle.witness.specs.Texts.{Shape, has_free, Assignment, Parts, assignment_line, assignment_lines, states_lines, frame_lines, is_comment, are_distinct, IsAssignment, IsPart, IsFreePart, IsLaterFrame, Witness, claims_line, witness_lines, IsFirstFrame, AreFrames, IsWitness, most_lines, Says}
 use Rattle.witness.specs.Admits.{assignment_at, may_name, state_assignment_at, claims_at, AtStatus, AtClaims, AtParts, InStates, InFrame, AtEnd, Read, nothing_read, states_closed, frame_closed, admit, word_reader, read_text}
 use Rattle.witness.proofs.ReadingLemmas.{admit_all, admitted, text_is_read}
 use Rattle.witness.proofs.AssignmentLemmas.{stands_in, assignment_at-assignment_line, state_assignment_at-assignment_line, IsPlain, assignment_line_is_plain, assignment_line_is_line, claims_line_is_line}
@@ -234,7 +234,7 @@ next_begins shape claims closed states list (Some free) tail small part =
     ∙ (ap (λ (n : ℕ). admit_all (word_reader shape) (in_states claims others []) (assignment_lines shape.states free ++ ((64 ∷ decimal n) ∷ tail))) count
     ∙ states_read shape claims others free tail small (later_states shape closed (parts_of states list) free part))
 
-pub frames_part : (shape : Shape) (claims : List ℕ) (closed : List Parts) (states : Option (List Assignment)) (list : List Assignment) (more : List Parts) → IsSmall shape → IsPart shape.inputs list → AllByRecursion (IsLater shape) more
+pub frames_part : (shape : Shape) (claims : List ℕ) (closed : List Parts) (states : Option (List Assignment)) (list : List Assignment) (more : List Parts) → IsSmall shape → IsPart shape.inputs list → AllByRecursion (IsLaterFrame shape) more
     → admit_all (word_reader shape) (in_frame claims closed states []) (assignment_lines shape.inputs list ++ (frame_lines shape (suc (length closed)) more ++ codes "." ∷ [])) ≡ Ok (at_end claims (closed ++ parts_of states list ∷ more))
 frames_part shape claims closed states list [] small part parts =
     inputs_part shape claims closed states list (codes "." ∷ []) small part
@@ -266,7 +266,7 @@ first_begins shape claims (Some list) tail small part =
     admitted (word_reader shape) (at_parts claims) (35 ∷ decimal 0) (in_states claims [] []) (assignment_lines shape.states list ++ ((64 ∷ decimal 0) ∷ tail)) (states_begin shape (at_parts claims) refl)
     ∙ states_read shape claims [] list tail small part
 
-frames_read : (shape : Shape) (claims : List ℕ) (first : Parts) (more : List Parts) → IsSmall shape → IsFirst shape first → AllByRecursion (IsLater shape) more
+frames_read : (shape : Shape) (claims : List ℕ) (first : Parts) (more : List Parts) → IsSmall shape → IsFirstFrame shape first → AllByRecursion (IsLaterFrame shape) more
     → admit_all (word_reader shape) (at_parts claims) (frames_and_end shape (first ∷ more)) ≡ Ok (at_end claims (first ∷ more))
 frames_read shape claims first more small parts later =
     let tail : List (List ℕ) = assignment_lines shape.inputs first.inputs ++ (frame_lines shape 1 more ++ codes "." ∷ []) in
@@ -289,7 +289,7 @@ all_read w = at_end w.claims w.frames
 all_frames_read : (shape : Shape) (claims : List ℕ) (frames : List Parts) → IsSmall shape → AreFrames shape frames
     → admit_all (word_reader shape) (at_parts claims) (frames_and_end shape frames) ≡ Ok (at_end claims frames)
 all_frames_read shape claims [] small valid = absurd valid
-all_frames_read shape claims (first ∷ more) small valid = frames_read shape claims first more small valid.0 (recursion_from_All (IsLater shape) more valid.1)
+all_frames_read shape claims (first ∷ more) small valid = frames_read shape claims first more small valid.0 (recursion_from_All (IsLaterFrame shape) more valid.1)
 
 witness_read : (shape : Shape) (comments : List (List ℕ)) (w : Witness) → IsSmall shape → AllByRecursion (λ line. is_comment line ≡ true) comments → IsWitness shape w
     → admit_all (word_reader shape) nothing_read (witness_lines shape comments w) ≡ Ok (all_read w)
@@ -312,7 +312,7 @@ each_assignment widths [] small each = tt
 each_assignment widths (a ∷ list) small each = (assignment_line_is_line widths a small each.0, each_assignment widths list small each.1)
 
 -- any frame is one that the first may be
-later_is_first : (shape : Shape) (more : List Parts) → AllByRecursion (IsLater shape) more → AllByRecursion (IsFirst shape) more
+later_is_first : (shape : Shape) (more : List Parts) → AllByRecursion (IsLaterFrame shape) more → AllByRecursion (IsFirstFrame shape) more
 later_is_first shape [] later = tt
 later_is_first shape (parts ∷ more) later = (record { states = any_states shape parts.states later.0.states; inputs = later.0.inputs }, later_is_first shape more later.1)
   where
@@ -320,15 +320,15 @@ later_is_first shape (parts ∷ more) later = (record { states = any_states shap
     any_states shape None free = tt
     any_states shape (Some list) free = free.part
 
-each_are_frames : (shape : Shape) (frames : List Parts) → AreFrames shape frames → AllByRecursion (IsFirst shape) frames
+each_are_frames : (shape : Shape) (frames : List Parts) → AreFrames shape frames → AllByRecursion (IsFirstFrame shape) frames
 each_are_frames shape [] valid = absurd valid
-each_are_frames shape (first ∷ more) valid = (valid.0, later_is_first shape more (recursion_from_All (IsLater shape) more valid.1))
+each_are_frames shape (first ∷ more) valid = (valid.0, later_is_first shape more (recursion_from_All (IsLaterFrame shape) more valid.1))
 
 each_states : (widths : List ℕ) (k : ℕ) (states : Option (List Assignment)) → length widths < 2 ^ 64 → k < 2 ^ 64 → IfSome states (IsPart widths) → EachLine (states_lines widths k states)
 each_states widths k None small lt part = tt
 each_states widths k (Some list) small lt part = (decimal_without 10 k (omega arith) lt, each_assignment widths list small (recursion_from_All (IsAssignment widths) list part.each))
 
-each_frame : (shape : Shape) (k : ℕ) (frames : List Parts) → IsSmall shape → k + length frames ≤ 2 ^ 62 → AllByRecursion (IsFirst shape) frames → EachLine (frame_lines shape k frames)
+each_frame : (shape : Shape) (k : ℕ) (frames : List Parts) → IsSmall shape → k + length frames ≤ 2 ^ 62 → AllByRecursion (IsFirstFrame shape) frames → EachLine (frame_lines shape k frames)
 each_frame shape k [] small few all = tt
 each_frame shape k (parts ∷ more) small few all =
     let lt : k < 2 ^ 64 = omega arith in

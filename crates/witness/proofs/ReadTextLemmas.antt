@@ -11,7 +11,7 @@ use Rattle.base.specs.Lines.{IsLine, text_of_lines, whole_lines, unfinished}
 use Rattle.base.proofs.LineLemmas.{EachLine, each_front, lines_are_lines, parts_of_text}
 use Rattle.base.proofs.DecimalLemmas.{decimal_without}
 use Rattle.witness.specs.declared.why.Why.{Why}
-use Rattle.witness.specs.Texts.{Shape, is_free_index, has_free, Assignment, Parts, Witness, assignment_line, assignment_lines, claims_line, states_lines, frame_lines, is_comment, are_distinct, IsAssignment, IsPart, IsFreePart, IsLater, AreFrames, most_lines, Says}
+use Rattle.witness.specs.Texts.{Shape, is_free_index, has_free, Assignment, Parts, Witness, assignment_line, assignment_lines, claims_line, states_lines, frame_lines, is_comment, are_distinct, IsAssignment, IsPart, IsFreePart, IsLaterFrame, AreFrames, most_lines, Says}
 use Rattle.witness.specs.Admits.{Place, AtStatus, AtClaims, AtParts, InStates, InFrame, AtEnd, begins_part, opens_frame, opens_states, assignment_at, may_name, state_assignment_at, after_assignment, claims_at, after_claims, states_closed, frame_closed, Read, nothing_read, admit_at, admit, is_at_end, word_reader, read_text, witness_of}
 use Rattle.witness.specs.WordStands.{NoFrame}
 use Rattle.witness.proofs.ClaimLemmas.{AreBelow, claims_are_line, claims_at-claims_line}
@@ -50,10 +50,10 @@ AreClosed shape closed = (closed ≡ [] → ⊥) → AreFrames shape closed
 -- with the one that is open
 frames_more : (shape : Shape) (closed : List Parts) (states : Option (List Assignment)) (list : List Assignment) → AreClosed shape closed → IfSome states (IsStates shape closed) → IsPart shape.inputs list
     → AreFrames shape (closed ++ parts_of states list ∷ [])
-frames_more shape [] states list closed part inputs = (record { states = part; inputs = inputs }, All-nil (IsLater shape))
+frames_more shape [] states list closed part inputs = (record { states = part; inputs = inputs }, All-nil (IsLaterFrame shape))
 frames_more shape (first ∷ more) states list closed part inputs =
     let before = closed (λ e. cc) in
-    (before.0, All-push (IsLater shape) more (parts_of states list) before.1 (record { states = part; inputs = inputs }))
+    (before.0, All-push (IsLaterFrame shape) more (parts_of states list) before.1 (record { states = part; inputs = inputs }))
 
 frame_lines-append : (shape : Shape) (k : ℕ) (xs ys : List Parts) → frame_lines shape k (xs ++ ys) ≡ frame_lines shape k xs ++ frame_lines shape (k + length xs) ys
 frame_lines-append shape k [] ys = ap (λ (n : ℕ). frame_lines shape n ys) (omega arith)

@@ -15,7 +15,7 @@ use Rattle.btor2.proofs.LeafLemmas.{item_behind, placed_at, bits_of-at, free_at,
 use Rattle.btor2.proofs.ModelLemmas.{IsIn-from_place, IsAccepted-at}
 use Rattle.witness.specs.Texts.{widths_of, free_of}
 use Rattle.witness.specs.Fits.{PairFits}
-use Rattle.witness.specs.KeptLines.{AreSmall}
+use Rattle.witness.specs.KeptLines.{AreNarrow}
 pub use Rattle.runs.proofs.RankLemmas.{length-places}
 
 -- an item of a kind has a width
@@ -87,7 +87,7 @@ each_small items [] w i there = absurd (omega (arith, there))
 each_small items (x ∷ l) w zero there = bits_of-most items x.id w
 each_small items (x ∷ l) w (suc i) there = each_small items l w i (omega (arith, there))
 
-pub widths_small : (kind : Body → Bool) (items : List Item) → IsWellFormed items → length (places kind 0 items) < 2 ^ 64 → AreSmall (widths_of kind items)
+pub widths_small : (kind : Body → Bool) (items : List Item) → IsWellFormed items → length (places kind 0 items) < 2 ^ 64 → AreNarrow (widths_of kind items)
 widths_small kind items w few =
     record {
       few = omega (arith, few, length-places kind 0 items, length-map (filter (λ (x : Item). kind x.body) items) (λ (x : Item). bits_of items x.id));

@@ -9,7 +9,7 @@ use Rattle.witness.specs.declared.judgement.Judgement.TheVariants as judgement
 use Rattle.witness.specs.Texts.{most_lines}
 use Rattle.witness.specs.Readings.{Reading, so_far, nothing_admitted, next_line, lines_read, reading, is_nothing, last_refusal, Fault, refused_for, read_or_fault, text_read}
 use Rattle.witness.specs.Judgements.{JudgesAs}
-use Rattle.witness.specs.Stands.{Judge, Judging, IsOfLines, StandsFor}
+use Rattle.witness.specs.Stands.{Judge, Judging, IsOfLines, StandsForLines}
 use Rattle.witness.proofs.ReadingLemmas.{whole_is, goes, lines_append, few_read}
 use Rattle.witness.proofs.JudgedLemmas.{read_judged}
 use Rattle.witness.proofs.TextEndLemmas.{whole_lines-part, unfinished-part}
@@ -124,8 +124,8 @@ module _ {R Q L : Type 0} (g : Judging R Q L) where
       → (j.refused ≡ None → g.Reads q (lines_read g.reader lines).read next) → IsOfLines g (record j { reader = q; line = s }) lines next
   with_bytes lines line next j q s is counts reads = record { admitted = is.admitted; refused = is.refused; no_claim = is.no_claim; counts = counts; reads = reads }
 
-  pub part_more : (text part : List ℕ) (j : Judge Q L) (q : Q) (s : L) → IsLine part → StandsFor g j text → g.Keeps s (unfinished text ++ part) → g.Counts q (lines_read g.reader (whole_lines text)).read
-      → (j.refused ≡ None → g.Reads q (lines_read g.reader (whole_lines text)).read (unfinished text ++ part)) → StandsFor g (record j { reader = q; line = s }) (text ++ part)
+  pub part_more : (text part : List ℕ) (j : Judge Q L) (q : Q) (s : L) → IsLine part → StandsForLines g j text → g.Keeps s (unfinished text ++ part) → g.Counts q (lines_read g.reader (whole_lines text)).read
+      → (j.refused ≡ None → g.Reads q (lines_read g.reader (whole_lines text)).read (unfinished text ++ part)) → StandsForLines g (record j { reader = q; line = s }) (text ++ part)
   part_more text part j q s one stands keeps counts reads =
       let new : Judge Q L = record j { reader = q; line = s } in
       let lines : IsOfLines g new (whole_lines text) (unfinished text ++ part) = with_bytes (whole_lines text) (unfinished text) (unfinished text ++ part) j q s stands.lines counts reads in
@@ -135,7 +135,7 @@ module _ {R Q L : Type 0} (g : Judging R Q L) where
       }
 
   -- behind the end of a line
-  pub line_ended : (text : List ℕ) (lines : List (List ℕ)) (j : Judge Q L) → whole_lines text ≡ lines → unfinished text ≡ [] → IsOfLines g j lines [] → g.Keeps j.line [] → StandsFor g j text
+  pub line_ended : (text : List ℕ) (lines : List (List ℕ)) (j : Judge Q L) → whole_lines text ≡ lines → unfinished text ≡ [] → IsOfLines g j lines [] → g.Keeps j.line [] → StandsForLines g j text
   line_ended text lines j whole none is empty =
       record {
         lines = subst (λ (ls : List (List ℕ)). IsOfLines g j ls (unfinished text)) (sym whole) (subst (IsOfLines g j lines) (sym none) is);
@@ -145,9 +145,9 @@ module _ {R Q L : Type 0} (g : Judging R Q L) where
 -- ---- the end of a text
 
 -- by what is judged of what it says
-module _ {R Q L : Type 0} (g : Judging R Q L) (Says : R → Judgement → Type 0) (text : List ℕ) (j old : Judge Q L) (same : j ≡ old) (was : StandsFor g old text) where
-  stands : StandsFor g j text
-  stands = subst (λ (k : Judge Q L). StandsFor g k text) (sym same) was
+module _ {R Q L : Type 0} (g : Judging R Q L) (Says : R → Judgement → Type 0) (text : List ℕ) (j old : Judge Q L) (same : j ≡ old) (was : StandsForLines g old text) where
+  stands : StandsForLines g j text
+  stands = subst (λ (k : Judge Q L). StandsForLines g k text) (sym same) was
 
   abbrev all : Reading R
   all = lines_read g.reader (whole_lines text)

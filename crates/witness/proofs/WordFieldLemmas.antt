@@ -10,7 +10,7 @@ use Rattle.base.proofs.CutLemmas.{IsCut, none_passes}
 use Rattle.base.specs.Lines.{HasNone}
 use Rattle.witness.specs.declared.why.Why.{Why}
 use Rattle.witness.specs.Admits.{Cut, cut_at_space, value_of, with_symbol, with_value, with_index, assignment_at}
-use Rattle.witness.specs.WordValues.{Gives, word_with, word_behind, pair_with, assigned_by, assigned}
+use Rattle.witness.specs.WordValues.{IsAsValueRead, word_with, word_behind, pair_with, assigned_by, assigned}
 use Rattle.witness.proofs.PieceLemmas.{cut_at_space-parts}
 use Rattle.base.specs.Decimals.{number_of}
 use Rattle.btor2.specs.Symbols.{is_symbol}
@@ -63,14 +63,14 @@ pub cut_once : (line token behind : List ℕ) → line ≡ token ++ 32 ∷ behin
 cut_once line token behind is none = ap cut_at_space is ∙ cut_at_space-parts token (Some behind) none
 
 -- the word behind a token, where a word with a name stands there
-pub word_by_name : (behind digits bytes : List ℕ) (width : ℕ) (r : Result ℕ Why) → behind ≡ digits ++ 32 ∷ bytes → HasNone 32 digits → Gives (λ (w : ℕ). w) r (word_with (Some bytes) (value_of width digits)) → Gives (λ (w : ℕ). w) r (word_behind width (Some behind))
+pub word_by_name : (behind digits bytes : List ℕ) (width : ℕ) (r : Result ℕ Why) → behind ≡ digits ++ 32 ∷ bytes → HasNone 32 digits → IsAsValueRead (λ (w : ℕ). w) r (word_with (Some bytes) (value_of width digits)) → IsAsValueRead (λ (w : ℕ). w) r (word_behind width (Some behind))
 word_by_name behind digits bytes width r is none h =
-    subst (λ (c : Cut). Gives (λ (w : ℕ). w) r (word_with c.1 (value_of width c.0))) (sym (cut_once behind digits bytes is none)) h
+    subst (λ (c : Cut). IsAsValueRead (λ (w : ℕ). w) r (word_with c.1 (value_of width c.0))) (sym (cut_once behind digits bytes is none)) h
 
 -- the same without a name
-pub word_by_digits : (behind : List ℕ) (width : ℕ) (r : Result ℕ Why) → HasNone 32 behind → Gives (λ (w : ℕ). w) r (value_of width behind) → Gives (λ (w : ℕ). w) r (word_behind width (Some behind))
+pub word_by_digits : (behind : List ℕ) (width : ℕ) (r : Result ℕ Why) → HasNone 32 behind → IsAsValueRead (λ (w : ℕ). w) r (value_of width behind) → IsAsValueRead (λ (w : ℕ). w) r (word_behind width (Some behind))
 word_by_digits behind width r none h =
-    subst (λ (c : Cut). Gives (λ (w : ℕ). w) r (word_with c.1 (value_of width c.0))) (sym (cut_alone behind none)) (subst (Gives (λ (w : ℕ). w) r) (sym (with_nothing (value_of width behind))) h)
+    subst (λ (c : Cut). IsAsValueRead (λ (w : ℕ). w) r (word_with c.1 (value_of width c.0))) (sym (cut_alone behind none)) (subst (IsAsValueRead (λ (w : ℕ). w) r) (sym (with_nothing (value_of width behind))) h)
 
 -- an assignment behind others, of this pair, or the same why
 abbrev pub Tells : List Assignment → Result (ℕ × ℕ) Why → Result (List Assignment) Why → Type 0

@@ -20,7 +20,7 @@ use Rattle.witness.specs.WordPlays.{nothing_given, is_between, steps_of, steps_t
 use Rattle.witness.specs.ClosedWords.{closed_word_frames, ClosesFrame, ClosesAtMostOne, IsClosedTrace, last_word}
 use Rattle.witness.specs.Stands.{IsOfLines}
 use Rattle.witness.specs.declared.word_reader.Place.TheVariants as code
-use Rattle.witness.specs.WordStands.{place_of, SaidAt, WordReader, Reads, GivesLine, TakesLine, is_status, Counts, here_of, WordJudge, word_judging, StandsFor, JudgesLine, JudgesLines, ClaimsAt}
+use Rattle.witness.specs.WordStands.{place_of, SaidAt, WordReader, ReadsWords, GivesLine, TakesLine, is_status, CountsWords, here_of, WordJudge, word_judging, StandsForWitness, JudgesLine, JudgesLines, ClaimsAt}
 use Rattle.witness.proofs.TextEndLemmas.{whole_lines-line_end, unfinished-line_end}
 use Rattle.witness.proofs.ReadingLemmas.{by_test, stopped, stays, holds_behind}
 use Rattle.witness.proofs.StandsLemmas.{awaits, none_awaited, ClaimsMore, line_admitted, with_bytes, line_ended}
@@ -253,7 +253,7 @@ claims_known q r line InStates said claims some = claims
 claims_known q r line InFrame said claims some = claims
 claims_known q r line AtEnd said claims some = claims
 
-pub counts_of : (items : List Item) (q : WordReader) (r : Read) (line : List ℕ) → Reads items q r line → Counts items q r
+pub counts_of : (items : List Item) (q : WordReader) (r : Read) (line : List ℕ) → ReadsWords items q r line → CountsWords items q r
 counts_of items q r line reads =
     let many : length (map frame_words r.closed) ≡ length r.closed = length-map r.closed frame_words in
     let steps : reads.play.ahead.steps ≡ steps_taken q.play.items q.play.run = goes_steps q.play.items q.play.run reads.play.ahead (reads.play.run ∙ sym reads.play.items_are) reads.play.goes in
@@ -275,9 +275,9 @@ no_frame_yet r InFrame e said = absurd cc
 no_frame_yet r AtEnd e said = absurd cc
 
 -- behind a line that is refused the same is known: what is kept changes in the line of the claims alone
-pub refused_counts : (items : List Item) (old new : WordReader) (r : Read) (line : List ℕ) → Reads items old r line → new.play ≡ old.play → ((old.place ≡ code.Claims → ⊥) → new ≡ old) → Counts items new r
+pub refused_counts : (items : List Item) (old new : WordReader) (r : Read) (line : List ℕ) → ReadsWords items old r line → new.play ≡ old.play → ((old.place ≡ code.Claims → ⊥) → new ≡ old) → CountsWords items new r
 refused_counts items old new r line reads same alike =
-    let was : Counts items old r = counts_of items old r line reads in
+    let was : CountsWords items old r = counts_of items old r line reads in
     record {
       items_are = ap (λ (p : WordPlay). p.items) same ∙ was.items_are;
       frames = ap (λ (p : WordPlay). p.frames) same ∙ was.frames;
@@ -297,14 +297,14 @@ given_line items lines line taken j q no_claim is fresh few gives claims =
     (ap is_status (is.reads fresh).place) claims
 
 -- behind a line that was taken at its place
-pub line_taken : (items : List Item) (text : List ℕ) (j : WordJudge) (q : WordReader) (all rest : List ℕ) (taken : TakesLine j.reader q all rest) → j.refused ≡ None → j.admitted < most_lines → j.line ≡ [] → StandsFor items j text
-    → StandsFor items (record j { reader = q; admitted = j.admitted + 1 }) (text ++ (taken.line ++ 10 ∷ []))
+pub line_taken : (items : List Item) (text : List ℕ) (j : WordJudge) (q : WordReader) (all rest : List ℕ) (taken : TakesLine j.reader q all rest) → j.refused ≡ None → j.admitted < most_lines → j.line ≡ [] → StandsForWitness items j text
+    → StandsForWitness items (record j { reader = q; admitted = j.admitted + 1 }) (text ++ (taken.line ++ 10 ∷ []))
 line_taken items text j q all rest taken fresh few none stands =
     let line : List ℕ = taken.line in
     let lines : List (List ℕ) = whole_lines text in
     let read : Read = (lines_read (word_reader (shape_of items)) lines).read in
     let empty : unfinished text ≡ [] = nothing (unfinished text) (sym (nothing_kept (unfinished text)) ∙ ap is_nothing (sym stands.line ∙ none)) in
-    let reads : Reads items j.reader read line = reads_of_other items read (unfinished text) j.reader j.reader refl (stands.lines.reads fresh) line taken.alone in
+    let reads : ReadsWords items j.reader read line = reads_of_other items read (unfinished text) j.reader j.reader refl (stands.lines.reads fresh) line taken.alone in
     let here : IsOfLines (word_judging items) j lines line = with_bytes (word_judging items) lines (unfinished text) line j j.reader j.line stands.lines stands.lines.counts (λ _. reads) in
     let gives : GivesLine items read line q (Ok tt) = taken.gives items read reads (few_frames items lines line j here few) in
     let silent : j.no_claim ≡ (j.no_claim || (is_status (place_of j.reader.place) && says_none line)) = sym (ap (λ (b : Bool). j.no_claim || (b && says_none line)) taken.behind ∙ or-false j.no_claim) in
@@ -325,7 +325,7 @@ traced_by items base p (x ∷ frames) fs some by t = by fs t
 no_flag : NoneIsSet []
 no_flag i = refl
 
-module _ (items : List Item) (q : WordReader) (r : Read) (line : List ℕ) (reads : Reads items q r line) (at : r.place ≡ AtEnd) (some : r.closed ≡ [] → ⊥) (fs : List Frame)
+module _ (items : List Item) (q : WordReader) (r : Read) (line : List ℕ) (reads : ReadsWords items q r line) (at : r.place ≡ AtEnd) (some : r.closed ≡ [] → ⊥) (fs : List Frame)
     (trace : IsTrace items (initial_words items (words_of (witness_of r))) (given_frames items (words_of (witness_of r))) fs) where
   abbrev w : Words
   w = words_of (witness_of r)
@@ -354,17 +354,17 @@ module _ (items : List Item) (q : WordReader) (r : Read) (line : List ℕ) (read
 abbrev pub Says : List Item → Read → Judgement → Type 0
 Says items r = JudgesWords items (words_of (witness_of r))
 
-pub ended_at : (items : List Item) (text : List ℕ) (j old : WordJudge) → j ≡ old → StandsFor items old text → j.refused ≡ None → is_at_end (place_of j.reader.place) ≡ is_at_end (lines_read (word_reader (shape_of items)) (whole_lines text)).read.place
-ended_at items text j old same was none = let stands = subst (λ (k : WordJudge). StandsFor items k text) (sym same) was in ap is_at_end (stands.lines.reads none).place
+pub ended_at : (items : List Item) (text : List ℕ) (j old : WordJudge) → j ≡ old → StandsForWitness items old text → j.refused ≡ None → is_at_end (place_of j.reader.place) ≡ is_at_end (lines_read (word_reader (shape_of items)) (whole_lines text)).read.place
+ended_at items text j old same was none = let stands = subst (λ (k : WordJudge). StandsForWitness items k text) (sym same) was in ap is_at_end (stands.lines.reads none).place
 
 -- what is judged of a whole witness
-pub whole_witness : (items : List Item) (text : List ℕ) (j old : WordJudge) → j ≡ old → (o : Option ℕ) → StandsFor items old text → j.refused ≡ None
+pub whole_witness : (items : List Item) (text : List ℕ) (j old : WordJudge) → j ≡ old → (o : Option ℕ) → StandsForWitness items old text → j.refused ≡ None
     → ((claims : List ℕ) (gs : List Frame) (none : List Bool) → AreClaimed j.reader.claimed claims → NoneIsSet none → RisesAmong (nodes_of is_bad j.reader.play.items) gs none j.reader.play.rose
     → o ≡ first_unreached claims gs 0 (nodes_of is_bad j.reader.play.items))
     → is_at_end (lines_read (word_reader (shape_of items)) (whole_lines text)).read.place ≡ true
     → Says items (lines_read (word_reader (shape_of items)) (whole_lines text)).read (first_of j.reader.play.differs j.reader.play.breach o j.reader.play.frames)
 whole_witness items text j old same o was none says done fs t =
-    let stands = subst (λ (k : WordJudge). StandsFor items k text) (sym same) was in
+    let stands = subst (λ (k : WordJudge). StandsForWitness items k text) (sym same) was in
     let r : Read = (lines_read (word_reader (shape_of items)) (whole_lines text)).read in
     let reads = stands.lines.reads none in
     let at : r.place ≡ AtEnd = ended r.place done in
@@ -373,7 +373,7 @@ whole_witness items text j old same o was none says done fs t =
 
 -- ---- the word of a node in the frame that was closed last
 
-pub closed_word_is : (items : List Item) (text : List ℕ) (j : WordJudge) (fs : List Frame) (node : ℕ) (o : Option ℕ) → StandsFor items j text → IsClosedTrace items text fs
+pub closed_word_is : (items : List Item) (text : List ℕ) (j : WordJudge) (fs : List Frame) (node : ℕ) (o : Option ℕ) → StandsForWitness items j text → IsClosedTrace items text fs
     → ((f : Frame) → (j.reader.play.run.settled ≡ true → IsNow j.reader.play.run f) → o ≡ cond j.reader.play.run.settled (word_at j.reader.play.items f node) None) → o ≡ last_word items text fs node
 unfolding reading
 closed_word_is items text j fs node o stands trace says =
@@ -383,7 +383,7 @@ closed_word_is items text j fs node o stands trace says =
 -- ---- lines in front of a text
 
 pub no_lines : (j : WordJudge) (text : List ℕ) → JudgesLines j j text text
-no_lines j text = record { front = []; is = refl; stands = λ items before stands. subst (StandsFor items j) (sym (append-nil before)) stands }
+no_lines j text = record { front = []; is = refl; stands = λ items before stands. subst (StandsForWitness items j) (sym (append-nil before)) stands }
 
 pub one_line : (old new : WordJudge) (text rest : List ℕ) → JudgesLine old new text rest → JudgesLines old new text rest
 one_line old new text rest line = record { front = line.line ++ 10 ∷ []; is = line.is; stands = line.stands }
@@ -393,5 +393,5 @@ lines_after old mid new text behind rest front more =
     record {
       front = front.front ++ more.front;
       is = front.is ∙ (ap (λ (l : List ℕ). front.front ++ l) more.is ∙ sym (append_assoc front.front more.front rest));
-      stands = λ items before stands. subst (StandsFor items new) (append_assoc before front.front more.front) (more.stands items (before ++ front.front) (front.stands items before stands));
+      stands = λ items before stands. subst (StandsForWitness items new) (append_assoc before front.front more.front) (more.stands items (before ++ front.front) (front.stands items before stands));
     }

@@ -9,7 +9,7 @@ use Rattle.btor2.specs.Trace.{Frame, SameFrame, next_state, IsFrame, IsTrace}
 use Rattle.btor2.proofs.AppendLemmas.{is_some_from}
 use Rattle.btor2.proofs.ModelLemmas.{IsNextOf-from_value}
 use Rattle.btor2.proofs.TraceLemmas.{frame_exists, frame_unique}
-use Rattle.runs.specs.Frames.{ids_of, given as given_at}
+use Rattle.runs.specs.Frames.{ids_of, given_at}
 use Rattle.runs.specs.Run.{Run, state_words, leaf_words, zeros, state_count, more_steps, IsNow, first_word, node_count}
 use Rattle.witness.specs.WordPlays.{MovesOn, GoesOn, steps_taken, word_at, WordPlay, frame_steps, steps_of, frames_alone, carried_behind, is_between, Fresh, Traced, TracedBy, Plays, nothing_given}
 use Rattle.std.specs.Option.{option_or}

@@ -20,7 +20,7 @@ use Rattle.witness.specs.declared.word_claims.ClaimScan.{ClaimScan}
 use Rattle.witness.specs.WordClaims.{AreClaims}
 use Rattle.witness.proofs.ShapeLemmas.{free_at_places}
 use Rattle.witness.specs.WordPlays.{WordPlay, IsStart, GoesOn, Plays, frame_steps, MayGive, GivesState, GivesInput, nothing_given}
-use Rattle.witness.specs.WordStands.{WordReader, place_of, here_of, NoFrame, SaidAt, ClaimsAt, Reads, GivesLine, is_alone}
+use Rattle.witness.specs.WordStands.{WordReader, place_of, here_of, NoFrame, SaidAt, ClaimsAt, ReadsWords, GivesLine, is_alone}
 use Rattle.std.proofs.lemmas.List.{map-append, length-map, get_or-map, get_or_past}
 use Rattle.std.proofs.lemmas.List.Elements.{All-nil, All-from_get_or, All-map}
 use Rattle.runs.specs.Frames.{ids_of}
@@ -30,7 +30,7 @@ use Rattle.runs.proofs.RankLemmas.{length-places}
 
 -- a line is admitted
 abbrev pub Passes : List Item → Read → List ℕ → WordReader → Type 0
-Passes items r line q = (next : Read) × ((admit (shape_of items) r line ≡ Ok next) × Reads items q next [])
+Passes items r line q = (next : Read) × ((admit (shape_of items) r line ≡ Ok next) × ReadsWords items q next [])
 
 same_claims : (q : WordReader) (r : Read) (line next : List ℕ) (x : CodePlace) → is_alone (place_of x) ≡ true → ClaimsAt q r line (place_of x) → ClaimsAt q r next (place_of x)
 same_claims q r line next code.Claims alone h = absurd (cc alone)
@@ -44,9 +44,9 @@ not_opened b rest line opens plain =
     cc (sym (ap begins_part same) ∙ plain, opens))
 
 -- what is kept, as clauses see it and by its parts
-module _ (items : List Item) (r : Read) (line : List ℕ) (q old : WordReader) (same : q ≡ old) (was : Reads items old r line) where
-  reads : Reads items q r line
-  reads = subst (λ (p : WordReader). Reads items p r line) (sym same) was
+module _ (items : List Item) (r : Read) (line : List ℕ) (q old : WordReader) (same : q ≡ old) (was : ReadsWords items old r line) where
+  reads : ReadsWords items q r line
+  reads = subst (λ (p : WordReader). ReadsWords items p r line) (sym same) was
 
   is_at : (x : CodePlace) → old.place ≡ x → r.place ≡ place_of x
   is_at x e = sym was.place ∙ ap place_of e
@@ -64,7 +64,7 @@ module _ (items : List Item) (r : Read) (line : List ℕ) (q old : WordReader) (
   frames_are = reads.play.count ∙ length-map r.closed frame_words
 
   -- of a line that is judged by its bytes alone nothing is kept
-  pub reads_of_other : (next : List ℕ) → is_alone (place_of q.place) ≡ true → Reads items q r next
+  pub reads_of_other : (next : List ℕ) → is_alone (place_of q.place) ≡ true → ReadsWords items q r next
   reads_of_other next alone =
       record {
         free = reads.free;
@@ -77,7 +77,7 @@ module _ (items : List Item) (r : Read) (line : List ℕ) (q old : WordReader) (
 
   -- an assignment more in the part that is open
   given_more : (x : CodePlace) (p : WordPlay) (list : List Assignment) → old.place ≡ x → SaidAt (record r { open_part = list }) (place_of x) → ClaimsAt (record q { play = p }) (record r { open_part = list }) [] (place_of x)
-      → Plays items (map frame_words r.closed) (here_of (record r { open_part = list }) (place_of x)) p → Reads items (record q { play = p }) (record r { open_part = list }) []
+      → Plays items (map frame_words r.closed) (here_of (record r { open_part = list }) (place_of x)) p → ReadsWords items (record q { play = p }) (record r { open_part = list }) []
   given_more x p list e said claims plays =
       let at = sym (is_at x e) in
       let next : Read = record r { open_part = list } in
@@ -307,6 +307,6 @@ plays_start items p h =
         rw none refl
 
 pub reads_start : (items : List Item) (p : WordPlay) (s : ClaimScan) (flags : List Bool) (free : Bool) → IsStart items p → AreClaims s flags [] → length flags ≡ length (places is_bad 0 items) → free ≡ has_free (shape_of items)
-    → Reads items (record { play = p; place = code.Status; claims = s; claimed = flags; has_free = free }) nothing_read []
+    → ReadsWords items (record { play = p; place = code.Status; claims = s; claimed = flags; has_free = free }) nothing_read []
 reads_start items p s flags free start are many is =
     record { free = is; many = many ∙ length-places is_bad 0 items; place = refl; said = record { closed = refl; states = refl; open_part = refl }; claims = are; play = plays_start items p start }

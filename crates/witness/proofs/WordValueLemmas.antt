@@ -10,7 +10,7 @@ use Rattle.base.proofs.DecimalLemmas.{none_of}
 use Rattle.witness.specs.declared.why.Why.TheVariants as why
 use Rattle.witness.specs.Admits.{is_value_byte, value_of}
 use Rattle.witness.specs.BitScans.{is_bit, is_one_bit}
-use Rattle.witness.specs.WordValues.{IsKnown}
+use Rattle.witness.specs.WordValues.{IsValueOf}
 
 -- ---- the word of such bytes
 
@@ -21,13 +21,13 @@ bit_small false = omega arith
 pub bit_most : (bit b : ℕ) → bit ≡ bit_number (is_one_bit b) → bit ≤ 1
 bit_most bit b is = omega (arith, is, bit_small (is_one_bit b))
 
-pub known_nothing : IsKnown 0 []
+pub known_nothing : IsValueOf 0 []
 known_nothing = record { small = omega arith; known = refl; word = refl }
 
 reversed : (bits : List Bool) (b : Bool) → word (reverse (bits ++ b ∷ [])) ≡ bit_number b + 2 * word (reverse bits)
 reversed bits b = ap word (reverse-append bits (b ∷ []))
 
-pub known_more : (x bit : ℕ) (bytes : List ℕ) (b : ℕ) → bit ≡ bit_number (is_one_bit b) → is_bit b ≡ true → IsKnown x bytes → IsKnown (x * 2 + bit) (bytes ++ b ∷ [])
+pub known_more : (x bit : ℕ) (bytes : List ℕ) (b : ℕ) → bit ≡ bit_number (is_one_bit b) → is_bit b ≡ true → IsValueOf x bytes → IsValueOf (x * 2 + bit) (bytes ++ b ∷ [])
 known_more x bit bytes b is known h =
     let long : length (bytes ++ b ∷ []) ≡ suc (length bytes) = omega (arith, length-append bytes (b ∷ [])) in
     let double : 2 ^ length (bytes ++ b ∷ []) ≡ 2 ^ length bytes * 2 = rw long (pow-suc 2 (length bytes)) in
@@ -61,7 +61,7 @@ known_are_values (b ∷ bytes) known =
     let parts = and_parts (is_bit b) (list_all is_bit bytes) known in
     and_from (is_value_byte b) (list_all is_value_byte bytes) (known_is_value b parts.0) (known_are_values bytes parts.1)
 
-pub value_known : (width x : ℕ) (bytes : List ℕ) → length bytes ≡ width → IsKnown x bytes → value_of width bytes ≡ Ok x
+pub value_known : (width x : ℕ) (bytes : List ℕ) → length bytes ≡ width → IsValueOf x bytes → value_of width bytes ≡ Ok x
 unfolding value_of
 value_known width x bytes long h =
     rw (eq-eqb (length bytes) width long, known_are_values bytes h.known, none_of is_bit 120 bytes known_not_x h.known) (ap Ok (sym h.word))

@@ -7,7 +7,7 @@ use Rattle.btor2.specs.declared.item.Item.{Item}
 use Rattle.btor2.specs.Items.{is_bad}
 use Rattle.btor2.specs.Trace.{Frame, IsTrace}
 use Rattle.btor2.specs.Reachability.{nodes_of, model_shows}
-use Rattle.btor2.specs.Worked.{toggler, follower}
+use Rattle.btor2.specs.Worked.{toggler_model, follower}
 use Rattle.witness.specs.declared.judgement.Judgement.TheVariants as judgement
 use Rattle.witness.specs.declared.judgement.Judgement.{Judgement}
 use Rattle.witness.specs.Judgements.{FrameWords, Words, initial_words, given_frames, first_different, verdict}
@@ -35,8 +35,8 @@ not_word : (f : Frame) (x : ℕ) → f 3 ≡ x → f 5 ≡ unary_value unary.Not
 not_word f x bit is = is ∙ ap (λ (y : ℕ). unary_value unary.Not 1 y) bit
 
 -- the bit is 0 in the first frame and 1 in the second
-pub two_frames_judged : (fs : List Frame) → IsTrace toggler (initial_words toggler two_frames) (given_frames toggler two_frames) fs
-    → judgement.Accepted 2 ≡ words_judged toggler two_frames fs
+pub two_frames_judged : (fs : List Frame) → IsTrace toggler_model (initial_words toggler_model two_frames) (given_frames toggler_model two_frames) fs
+    → judgement.Accepted 2 ≡ words_judged toggler_model two_frames fs
 two_frames_judged [] t = absurd t
 two_frames_judged (f ∷ []) t = absurd t.1
 two_frames_judged (f ∷ g ∷ []) t =
@@ -46,8 +46,8 @@ two_frames_judged (f ∷ g ∷ []) t =
     rw (first, second) refl
 two_frames_judged (f ∷ g ∷ h ∷ fs) t = absurd t.1.1
 
-pub one_frame_judged : (fs : List Frame) → IsTrace toggler (initial_words toggler one_frame) (given_frames toggler one_frame) fs
-    → judgement.NotReached 0 ≡ words_judged toggler one_frame fs
+pub one_frame_judged : (fs : List Frame) → IsTrace toggler_model (initial_words toggler_model one_frame) (given_frames toggler_model one_frame) fs
+    → judgement.NotReached 0 ≡ words_judged toggler_model one_frame fs
 one_frame_judged [] t = absurd t
 one_frame_judged (f ∷ []) t =
     let first : f 3 ≡ 0 = t.0.1.1.0 in
@@ -99,9 +99,9 @@ does_not_follow_judged (f ∷ g ∷ h ∷ fs) t = absurd t.1.1
 -- ---- the word of the toggling bit in the last of one frame, and of two, in which nothing is given
 
 abbrev word_told : List Frame → Option ℕ
-word_told fs = option_and_then (λ f. word_at toggler f 2) (last_or None fs)
+word_told fs = option_and_then (λ f. word_at toggler_model f 2) (last_or None fs)
 
-pub first_word_told : (fs : List Frame) → IsTrace toggler (initial_words toggler one_frame) (given_frames toggler one_frame) fs → word_told fs ≡ Some 0
+pub first_word_told : (fs : List Frame) → IsTrace toggler_model (initial_words toggler_model one_frame) (given_frames toggler_model one_frame) fs → word_told fs ≡ Some 0
 first_word_told [] t = absurd t
 first_word_told (f ∷ []) t =
     let first : f 3 ≡ 0 = t.0.1.1.0 in
@@ -111,7 +111,7 @@ first_word_told (f ∷ g ∷ fs) t = absurd t.1
 abbrev two_empty_frames : Words
 two_empty_frames = record { claims = 0 ∷ []; frames = no_words ∷ no_words ∷ [] }
 
-pub second_word_told : (fs : List Frame) → IsTrace toggler (initial_words toggler two_empty_frames) (given_frames toggler two_empty_frames) fs → word_told fs ≡ Some 1
+pub second_word_told : (fs : List Frame) → IsTrace toggler_model (initial_words toggler_model two_empty_frames) (given_frames toggler_model two_empty_frames) fs → word_told fs ≡ Some 1
 second_word_told [] t = absurd t
 second_word_told (f ∷ []) t = absurd t.1
 second_word_told (f ∷ g ∷ []) t =
@@ -122,6 +122,6 @@ second_word_told (f ∷ g ∷ []) t =
 second_word_told (f ∷ g ∷ h ∷ fs) t = absurd t.1.1
 
 -- no word stands at a position with no node
-pub no_word_told : (o : Option Frame) → option_and_then (λ f. word_at toggler f 0) o ≡ None
+pub no_word_told : (o : Option Frame) → option_and_then (λ f. word_at toggler_model f 0) o ≡ None
 no_word_told None = refl
 no_word_told (Some f) = refl

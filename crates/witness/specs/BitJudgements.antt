@@ -7,7 +7,7 @@ use Rattle.aiger.specs.declared.circuit.Reset.{Reset}
 use Rattle.aiger.specs.declared.circuit.Reset.TheVariants.{Zero, One, Free}
 use Rattle.base.specs.Literal.{Valuation}
 use Rattle.aiger.specs.Circuit.{Circuit}
-use Rattle.aiger.specs.Trace.{IsTrace}
+use Rattle.aiger.specs.Trace.{IsCircuitTrace}
 use Rattle.aiger.specs.Reachability.{circuit_shows}
 use Rattle.witness.specs.declared.judgement.Judgement.{Judgement}
 use Rattle.witness.specs.Judgements.{verdict, JudgesAs}
@@ -38,7 +38,7 @@ makes_no_bit_claim (line ∷ lines) = bytes_eq line (codes "0") || bytes_eq line
 -- what is judged of a witness, by the circuit's one trace from its bits
 abbrev pub JudgesBits : Circuit → BitWitness → Judgement → Type 0
 JudgesBits c w j =
-    (vs : List Valuation) → IsTrace c w.initial w.frames vs
+    (vs : List Valuation) → IsCircuitTrace c w.initial w.frames vs
     → j ≡ verdict (first_reset_differing 0 c.latches w.initial) (w.claim ∷ []) (length c.bads) (map (circuit_shows c) vs)
 
 -- the judgement of a text over a circuit

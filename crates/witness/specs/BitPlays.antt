@@ -3,7 +3,7 @@ use Rattle.std.specs.Prelude.{◌≡◌, ℕ, ◌+◌, ◌*◌, ◌≤◌, Bool,
 use Rattle.std.specs.List.{list_any, position_from}
 use Rattle.base.specs.Literal.{Valuation, literal_value}
 use Rattle.aiger.specs.Circuit.{Circuit}
-use Rattle.aiger.specs.Trace.{IsTrace, next_state}
+use Rattle.aiger.specs.Trace.{IsCircuitTrace, next_latch_bits}
 use Rattle.runs.specs.Run.{more_steps}
 use Rattle.runs.specs.CircuitRun.{CircuitRun, circuit_start, settle_steps}
 use Rattle.witness.specs.Judgements.{Violation}
@@ -26,16 +26,16 @@ abbrev pub play_start : Circuit → BitPlay
 play_start c = record { circuit = c; run = circuit_start c; differs = None; frames = 0; breach = None; rose = false }
 
 -- the steps of one frame, and of so many
-abbrev pub frame_steps : Circuit → ℕ
-frame_steps c = settle_steps c + length c.latches
+abbrev pub bit_frame_steps : Circuit → ℕ
+bit_frame_steps c = settle_steps c + length c.latches
 
-abbrev pub steps_of : Circuit → ℕ → ℕ
-steps_of c frames = more_steps (frames * frame_steps c) 0
+abbrev pub bit_steps_of : Circuit → ℕ → ℕ
+bit_steps_of c frames = more_steps (frames * bit_frame_steps c) 0
 
 -- the bits that the latches have behind the frames of a trace
 abbrev pub state_behind : Circuit → List Bool → List Valuation → List Bool
 state_behind c state [] = state
-state_behind c state (v ∷ vs) = state_behind c (next_state c v) vs
+state_behind c state (v ∷ vs) = state_behind c (next_latch_bits c v) vs
 
 -- these bytes of the line of initial bits are read
 pub record Begins (c : Circuit) (p : BitPlay) (line : List ℕ) : Type 0 where
@@ -53,21 +53,21 @@ abbrev pub bit_rises : Circuit → ℕ → List Valuation → Bool
 bit_rises c k vs = list_any (λ v. literal_value v (slice_index c.bads k)) vs
 
 -- what a trace says of what is kept
-pub record Traced (c : Circuit) (claim : ℕ) (initial : List Bool) (p : BitPlay) (vs : List Valuation) : Type 0 where
+pub record TracedBits (c : Circuit) (claim : ℕ) (initial : List Bool) (p : BitPlay) (vs : List Valuation) : Type 0 where
   pub latches : p.run.latches ≡ state_behind c initial vs
   pub breach : p.breach ≡ breach_from (first_bit_violated c) 0 vs
   pub rose : p.rose ≡ bit_rises c claim vs
 
 -- these frames are closed, and these bytes of the next one's line are read
-pub record Plays (c : Circuit) (claim : ℕ) (initial : List Bool) (frames : List (List Bool)) (p : BitPlay) (line : List ℕ) : Type 0 where
+pub record PlaysBits (c : Circuit) (claim : ℕ) (initial : List Bool) (frames : List (List Bool)) (p : BitPlay) (line : List ℕ) : Type 0 where
   pub circuit : p.circuit ≡ c
   pub run : p.run.circuit ≡ c
   pub differs : p.differs ≡ first_reset_differing 0 c.latches initial
   pub many : length p.run.inputs ≡ c.inputs
   pub bits : length line ≤ c.inputs → take (length line) p.run.inputs ≡ map is_one_bit line
   pub count : p.frames ≡ length frames
-  pub steps : p.run.steps ≡ steps_of c (length frames)
-  pub traced : (vs : List Valuation) → IsTrace c initial frames vs → Traced c claim initial p vs
+  pub steps : p.run.steps ≡ bit_steps_of c (length frames)
+  pub traced : (vs : List Valuation) → IsCircuitTrace c initial frames vs → TracedBits c claim initial p vs
 
 -- with the initial bit of a latch that is there
 abbrev pub differing : Option ℕ → ℕ → Bool → Option ℕ

@@ -11,10 +11,10 @@ abbrev pub AreAlike : List ℕ → List ℕ → Type 0
 AreAlike line other = kept line ≡ kept other
 
 -- of nodes of these widths an index has at most 20 digits, and a value at most 64
-pub record AreSmall (list : List ℕ) : Type 0 where
+pub record AreNarrow (list : List ℕ) : Type 0 where
   pub few : length list < 2 ^ 64
   pub widths : (i : ℕ) → i < length list → slice_index list i ≤ 64
 
-pub record IsSmall (shape : Shape) : Type 0 where
-  pub states : AreSmall shape.states
-  pub inputs : AreSmall shape.inputs
+pub record IsNarrowShape (shape : Shape) : Type 0 where
+  pub states : AreNarrow shape.states
+  pub inputs : AreNarrow shape.inputs

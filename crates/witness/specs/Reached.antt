@@ -8,7 +8,7 @@ use Rattle.btor2.specs.Trace.{Frame}
 use Rattle.btor2.specs.Reachability.{model_shows}
 use Rattle.base.specs.Literal.{Valuation}
 use Rattle.aiger.specs.Circuit.{Circuit}
-use Rattle.aiger.specs.Trace.{IsTrace}
+use Rattle.aiger.specs.Trace.{IsCircuitTrace}
 use Rattle.aiger.specs.Reachability.{circuit_shows}
 use Rattle.witness.specs.Readings.{reading}
 use Rattle.witness.specs.BitAdmits.{BitRead, bit_reader}
@@ -32,7 +32,7 @@ bits_said_in c text = (reading (bit_reader c) text).read
 
 -- a trace of the frames of a text whose lines stand before the faulty line
 abbrev pub IsClosedBitTrace : Circuit → List ℕ → List Valuation → Type 0
-IsClosedBitTrace c text vs = IsTrace c (bits_said_in c text).initial (bits_said_in c text).frames vs
+IsClosedBitTrace c text vs = IsCircuitTrace c (bits_said_in c text).initial (bits_said_in c text).frames vs
 
 -- the claim of a text is the bad property at a position
 abbrev pub bit_claimed : Circuit → List ℕ → ℕ → Bool

@@ -33,6 +33,6 @@ pub record IsOfLines {R Q L : Type 0} (g : Judging R Q L) (j : Judge Q L) (lines
   pub reads : j.refused ≡ None → g.Reads j.reader (lines_read g.reader lines).read line
 
 -- it stands for a text
-pub record StandsFor {R Q L : Type 0} (g : Judging R Q L) (j : Judge Q L) (text : List ℕ) : Type 0 where
+pub record StandsForLines {R Q L : Type 0} (g : Judging R Q L) (j : Judge Q L) (text : List ℕ) : Type 0 where
   pub lines : IsOfLines g j (whole_lines text) (unfinished text)
   pub line : g.Keeps j.line (unfinished text)

@@ -133,18 +133,18 @@ pub record IsFreePart (shape : Shape) (list : List Assignment) : Type 0 where
   pub free : All (λ a. is_free_index shape a.index ≡ true) list
 
 -- the parts of the first frame, and of a later one
-pub record IsFirst (shape : Shape) (parts : Parts) : Type 0 where
+pub record IsFirstFrame (shape : Shape) (parts : Parts) : Type 0 where
   pub states : IfSome parts.states (IsPart shape.states)
   pub inputs : IsPart shape.inputs parts.inputs
 
-pub record IsLater (shape : Shape) (parts : Parts) : Type 0 where
+pub record IsLaterFrame (shape : Shape) (parts : Parts) : Type 0 where
   pub states : IfSome parts.states (IsFreePart shape)
   pub inputs : IsPart shape.inputs parts.inputs
 
 -- there is a first frame, and any number of later ones
 abbrev pub AreFrames : Shape → List Parts → Type 0
 AreFrames shape [] = ⊥
-AreFrames shape (first ∷ later) = IsFirst shape first × All (IsLater shape) later
+AreFrames shape (first ∷ later) = IsFirstFrame shape first × All (IsLaterFrame shape) later
 
 -- what a witness may say over a model of this shape
 pub record IsWitness (shape : Shape) (w : Witness) : Type 0 where

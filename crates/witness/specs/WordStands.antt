@@ -17,7 +17,7 @@ use Rattle.witness.specs.WordClaims.{AreClaims}
 use Rattle.witness.specs.KeptLines.{kept}
 use Rattle.witness.specs.WordPlays.{WordPlay, Plays, steps_of, steps_taken}
 use Rattle.witness.specs.PlainLines.{NoFrameLine, NoAssignment}
-use Rattle.witness.specs.Stands.{Judge, Judging, StandsFor as JudgeStandsFor}
+use Rattle.witness.specs.Stands.{Judge, Judging, StandsForLines as JudgeStandsFor}
 
 -- which line comes next, as the code has it
 abbrev pub place_of : CodePlace → Place
@@ -57,7 +57,7 @@ ClaimsAt q r line AtClaims = AreClaims q.claims q.claimed line
 ClaimsAt q r line _ = AreClaimed q.claimed r.claims
 
 -- what is kept is what these lines say over a model, and these bytes of the next
-pub record Reads (items : List Item) (q : WordReader) (r : Read) (line : List ℕ) : Type 0 where
+pub record ReadsWords (items : List Item) (q : WordReader) (r : Read) (line : List ℕ) : Type 0 where
   pub free : q.has_free ≡ has_free (shape_of items)
   pub many : length q.claimed ≡ (shape_of items).bads
   pub place : place_of q.place ≡ r.place
@@ -72,7 +72,7 @@ is_alone _ = true
 
 -- what a line behind them gives
 abbrev pub GivesLine : List Item → Read → List ℕ → WordReader → Result (Unit {0}) Why → Type 0
-GivesLine items r line q (Ok u) = (next : Read) × ((admit (shape_of items) r line ≡ Ok next) × Reads items q next [])
+GivesLine items r line q (Ok u) = (next : Read) × ((admit (shape_of items) r line ≡ Ok next) × ReadsWords items q next [])
 GivesLine items r line q (Err w) = admit (shape_of items) r line ≡ Err w
 
 -- the next line is a comment or the status
@@ -87,7 +87,7 @@ pub record TakesLine (old new : WordReader) (text rest : List ℕ) : Type 0 wher
   pub whole : IsLine line
   pub alone : is_alone (place_of old.place) ≡ true
   pub behind : is_status (place_of old.place) ≡ false
-  pub gives : (items : List Item) (r : Read) → Reads items old r line → length r.closed < 2 ^ 62 → GivesLine items r line new (Ok tt)
+  pub gives : (items : List Item) (r : Read) → ReadsWords items old r line → length r.closed < 2 ^ 62 → GivesLine items r line new (Ok tt)
 
 -- a text begins neither with the line of an assignment to an input that has no word in the open frame, nor with that which opens the next frame
 pub record NoPlainLine (q : WordReader) (text : List ℕ) : Type 0 where
@@ -95,7 +95,7 @@ pub record NoPlainLine (q : WordReader) (text : List ℕ) : Type 0 where
   pub opening : NoFrameLine (suc q.play.frames) text
 
 -- the frames that are closed, the steps that they took, and what is claimed where one is closed
-pub record Counts (items : List Item) (q : WordReader) (r : Read) : Type 0 where
+pub record CountsWords (items : List Item) (q : WordReader) (r : Read) : Type 0 where
   pub items_are : q.play.items ≡ items
   pub frames : q.play.frames ≡ length r.closed
   pub steps : steps_taken q.play.items q.play.run ≡ steps_of items (length r.closed)
@@ -113,23 +113,23 @@ word_judging items =
       awaits_status = λ r. is_status r.place;
       says_none = λ line. bytes_eq line (codes "unsat") || bytes_eq line (codes "unknown");
       makes_no_claim = makes_no_claim 0;
-      Counts = Counts items;
-      Reads = Reads items;
+      Counts = CountsWords items;
+      Reads = ReadsWords items;
       Keeps = λ bytes line. bytes ≡ kept line;
     }
 
 -- it stands for a text
-abbrev pub StandsFor : List Item → WordJudge → List ℕ → Type 0
-StandsFor items j text = JudgeStandsFor (word_judging items) j text
+abbrev pub StandsForWitness : List Item → WordJudge → List ℕ → Type 0
+StandsForWitness items j text = JudgeStandsFor (word_judging items) j text
 
 -- a text begins with a line that a judge took: it stands for its text with that line
 pub record JudgesLine (old new : WordJudge) (text rest : List ℕ) : Type 0 where
   pub line : List ℕ
   pub is : text ≡ (line ++ 10 ∷ []) ++ rest
-  pub stands : (items : List Item) (before : List ℕ) → StandsFor items old before → StandsFor items new (before ++ (line ++ 10 ∷ []))
+  pub stands : (items : List Item) (before : List ℕ) → StandsForWitness items old before → StandsForWitness items new (before ++ (line ++ 10 ∷ []))
 
 -- the same of lines
 pub record JudgesLines (old new : WordJudge) (text rest : List ℕ) : Type 0 where
   pub front : List ℕ
   pub is : text ≡ front ++ rest
-  pub stands : (items : List Item) (before : List ℕ) → StandsFor items old before → StandsFor items new (before ++ front)
+  pub stands : (items : List Item) (before : List ℕ) → StandsForWitness items old before → StandsForWitness items new (before ++ front)

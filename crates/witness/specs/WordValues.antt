@@ -13,7 +13,7 @@ use Rattle.witness.specs.Fits.{is_set}
 use Rattle.witness.specs.declared.why.Why.TheVariants as why
 
 -- the word that bytes `0` and `1` write, the highest first
-pub record IsKnown (x : ℕ) (bytes : List ℕ) : Type 0 where
+pub record IsValueOf (x : ℕ) (bytes : List ℕ) : Type 0 where
   pub small : x < 2 ^ length bytes
   pub known : list_all is_bit bytes ≡ true
   pub word : x ≡ word (reverse (map is_one_bit bytes))
@@ -34,9 +34,9 @@ word_behind width None = Err why.BadValue
 word_behind width (Some rest) = word_with (cut_at_space rest).1 (value_of width (cut_at_space rest).0)
 
 -- what a function returned, seen by view, is what reading gives
-abbrev pub Gives : {X Y : Type 0} → (X → Y) → Result X Why → Result Y Why → Type 0
-Gives view (Ok x) read = read ≡ Ok (view x)
-Gives view (Err e) read = read ≡ Err e
+abbrev pub IsAsValueRead : {X Y : Type 0} → (X → Y) → Result X Why → Result Y Why → Type 0
+IsAsValueRead view (Ok x) read = read ≡ Ok (view x)
+IsAsValueRead view (Err e) read = read ≡ Err e
 
 -- the widths of the nodes at some places
 abbrev pub widths_by : List Item → List ℕ → List ℕ

@@ -7,13 +7,13 @@ use Rattle.aiger.specs.Worked.{toggler as toggling_circuit}
 use Rattle.base.specs.declared.operators.Unary.TheVariants as unary
 use Rattle.btor2.specs.declared.item.Item.{Item}
 use Rattle.btor2.specs.declared.item.Body.TheVariants as body
-use Rattle.btor2.specs.Worked.{line, toggler}
+use Rattle.btor2.specs.Worked.{line, toggler_model}
 use Rattle.witness.specs.Texts.{Parts, Witness}
 use Rattle.witness.specs.BitTexts.{BitWitness}
 
 -- the toggling model, under the constraint that the bit is 0
 abbrev pub constrained : List Item
-constrained = toggler ++ line 8 (body.Constraint 5) ∷ []
+constrained = toggler_model ++ line 8 (body.Constraint 5) ∷ []
 
 -- an input of three bits, bad where it is not 0
 abbrev pub wide : List Item
@@ -26,14 +26,14 @@ wide =
     ∷ []
 
 -- the toggling bit is given 0, under a name, and rises in the second frame
-abbrev pub nothing_given : Parts
-nothing_given = record { states = None; inputs = [] }
+abbrev pub given_zero : Parts
+given_zero = record { states = None; inputs = [] }
 
 abbrev pub rises : Witness
 rises =
     record {
       claims = 0 ∷ [];
-      frames = record { states = Some (record { index = 0; word = 0; symbol = Some (codes "t") } ∷ []); inputs = [] } ∷ nothing_given ∷ [];
+      frames = record { states = Some (record { index = 0; word = 0; symbol = Some (codes "t") } ∷ []); inputs = [] } ∷ given_zero ∷ [];
     }
 
 -- the free state is 1 and then 0, and the other follows it

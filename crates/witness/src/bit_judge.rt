@@ -9,10 +9,10 @@ ghost use Rattle.witness.specs.BitAdmits.{admitted_lines, closed_frames, is_done
 ghost use Rattle.witness.specs.BitJudgements.{BitJudges};
 ghost use Rattle.witness.specs.Accepted.{BitAcceptsExactly};
 ghost use Rattle.witness.specs.BitScans.{Scans};
-ghost use Rattle.witness.specs.BitPlays.{steps_of};
+ghost use Rattle.witness.specs.BitPlays.{bit_steps_of};
 ghost use Rattle.witness.specs.Reached.{IsClosedBitTrace, bit_reached};
 ghost use Rattle.witness.specs.Stands.{IsOfLines};
-ghost use Rattle.witness.specs.BitStands.{StandsFor, bit_judging, is_header, place_of};
+ghost use Rattle.witness.specs.BitStands.{StandsForBits, bit_judging, is_header, bit_place_of};
 
 use crate::bit_reader::{BitPlace, BitReader};
 use crate::bit_scan::Scan;
@@ -53,14 +53,14 @@ impl<'a> Model for BitJudge<'a> {
 
 /// Whether a line says that there is no claim, where it is the first.
 fn says_no_claim(place: BitPlace, line: Scan) -> bool
-    ensures { (bytes : List ℕ) → Scans line bytes → result ≡ (is_header (place_of place) && (bytes_eq bytes (codes "0") || bytes_eq bytes (codes "2"))) }
+    ensures { (bytes : List ℕ) → Scans line bytes → result ≡ (is_header (bit_place_of place) && (bytes_eq bytes (codes "0") || bytes_eq bytes (codes "2"))) }
 {
     matches!(place, BitPlace::Header) && (line.is_byte(b'0') || line.is_byte(b'2'))
 }
 
 /// Whether the last line of a witness is admitted.
 fn has_ended(place: BitPlace) -> bool
-    ensures { result ≡ is_done (place_of place) }
+    ensures { result ≡ is_done (bit_place_of place) }
 {
     matches!(place, BitPlace::Done)
 }
@@ -70,7 +70,7 @@ impl<'a> BitJudge<'a> {
     ///
     /// Error: `NoMemory`.
     pub fn new(alloc: Global, circuit: &'a Circuit) -> Result<BitJudge<'a>, NewFault>
-        ensures { MatchResult result (λ judge. StandsFor circuit.now judge []) (λ fault. fault ≡ NewFault.NoMemory) }
+        ensures { MatchResult result (λ judge. StandsForBits circuit.now judge []) (λ fault. fault ≡ NewFault.NoMemory) }
     {
         let reader = BitReader::new(alloc, circuit)?;
         Ok(BitJudge {
@@ -100,7 +100,7 @@ impl<'a> BitJudge<'a> {
 
     /// Takes the end of a line.
     fn end_line(&mut self)
-        ensures { (c : Circuit) (text : List ℕ) → StandsFor c self.old text → StandsFor c self.new (text ++ 10 ∷ []) }
+        ensures { (c : Circuit) (text : List ℕ) → StandsForBits c self.old text → StandsForBits c self.new (text ++ 10 ∷ []) }
     {
         let line = self.line;
         self.line = Scan::new();
@@ -111,7 +111,7 @@ impl<'a> BitJudge<'a> {
 
     /// Takes a byte that ends no line.
     fn take_byte(&mut self, byte: u8)
-        ensures { (c : Circuit) (text : List ℕ) → (byte ≡ 10 → ⊥) → StandsFor c self.old text → StandsFor c self.new (text ++ byte ∷ []) }
+        ensures { (c : Circuit) (text : List ℕ) → (byte ≡ 10 → ⊥) → StandsForBits c self.old text → StandsForBits c self.new (text ++ byte ∷ []) }
     {
         let count = self.line.count();
         self.line.push(byte);
@@ -122,7 +122,7 @@ impl<'a> BitJudge<'a> {
 
     /// Takes a byte.
     fn take(&mut self, byte: u8)
-        ensures { (c : Circuit) (text : List ℕ) → StandsFor c self.old text → StandsFor c self.new (text ++ byte ∷ []) }
+        ensures { (c : Circuit) (text : List ℕ) → StandsForBits c self.old text → StandsForBits c self.new (text ++ byte ∷ []) }
     {
         if byte == b'\n' {
             self.end_line();
@@ -133,7 +133,7 @@ impl<'a> BitJudge<'a> {
 
     /// Takes bytes one by one.
     fn take_all(&mut self, bytes: &[u8])
-        ensures { (c : Circuit) (text : List ℕ) → StandsFor c self.old text → StandsFor c self.new (text ++ bytes.now) }
+        ensures { (c : Circuit) (text : List ℕ) → StandsForBits c self.old text → StandsForBits c self.new (text ++ bytes.now) }
     {
         for byte in bytes {
             self.take(*byte);
@@ -144,7 +144,7 @@ impl<'a> BitJudge<'a> {
     fn begins_line(&self) -> bool
         ensures open { result ≡ true → self.now.refused ≡ None }
         ensures few { result ≡ true → self.now.admitted < 2 ^ 62 }
-        ensures begins { (c : Circuit) (text : List ℕ) → StandsFor c self.now text → result ≡ true → unfinished text ≡ [] }
+        ensures begins { (c : Circuit) (text : List ℕ) → StandsForBits c self.now text → result ≡ true → unfinished text ≡ [] }
     {
         if self.refused.is_some() || are_most(self.admitted) {
             return false;
@@ -154,7 +154,7 @@ impl<'a> BitJudge<'a> {
 
     /// Takes a whole line of bits at once, where bits come next and the line has as many.
     fn takes_bits(&mut self, bytes: &[u8]) -> bool
-        ensures taken { (c : Circuit) (text : List ℕ) → IsLine bytes.now → StandsFor c self.old text → result ≡ true → StandsFor c self.new (text ++ (bytes.now ++ 10 ∷ [])) }
+        ensures taken { (c : Circuit) (text : List ℕ) → IsLine bytes.now → StandsForBits c self.old text → result ≡ true → StandsForBits c self.new (text ++ (bytes.now ++ 10 ∷ [])) }
         ensures kept { result ≡ false → self.new ≡ self.old }
     {
         if !self.begins_line() {
@@ -169,7 +169,7 @@ impl<'a> BitJudge<'a> {
 
     /// Takes the rest of a line and its end.
     fn take_line(&mut self, bytes: &[u8])
-        ensures { (c : Circuit) (text : List ℕ) → IsLine bytes.now → StandsFor c self.old text → StandsFor c self.new (text ++ (bytes.now ++ 10 ∷ [])) }
+        ensures { (c : Circuit) (text : List ℕ) → IsLine bytes.now → StandsForBits c self.old text → StandsForBits c self.new (text ++ (bytes.now ++ 10 ∷ [])) }
     {
         if !self.takes_bits(bytes) {
             self.take_all(bytes);
@@ -180,7 +180,7 @@ impl<'a> BitJudge<'a> {
     /// Takes a piece of the text behind those before: a judge that stood for a text stands for that text with the piece
     /// behind it.
     pub fn feed(&mut self, bytes: &[u8])
-        ensures { (c : Circuit) (text : List ℕ) → StandsFor c self.old text → StandsFor c self.new (text ++ bytes.now) }
+        ensures { (c : Circuit) (text : List ℕ) → StandsForBits c self.old text → StandsForBits c self.new (text ++ bytes.now) }
     {
         let mut rest = bytes;
         while let Some((line, behind)) = next_line(rest) {
@@ -192,7 +192,7 @@ impl<'a> BitJudge<'a> {
 
     /// The judgement of the text so far: of every one that the judge stands for.
     fn judgement(&self) -> Judgement
-        ensures { (c : Circuit) (text : List ℕ) → StandsFor c self.now text → BitJudges c text result }
+        ensures { (c : Circuit) (text : List ℕ) → StandsForBits c self.now text → BitJudges c text result }
     {
         if self.no_claim {
             return Judgement::NoClaim;
@@ -210,16 +210,16 @@ impl<'a> BitJudge<'a> {
 
     /// The judgement of the text: of every one that the judge stands for.
     pub fn finish(self) -> Judgement
-        ensures judged { (c : Circuit) (text : List ℕ) → StandsFor c self.entry text → BitJudges c text result }
+        ensures judged { (c : Circuit) (text : List ℕ) → StandsForBits c self.entry text → BitJudges c text result }
         // accepted exactly where the text says a witness of which this is judged
-        ensures accepted { (c : Circuit) (text : List ℕ) → IsCircuit c → StandsFor c self.entry text → BitAcceptsExactly c text result }
+        ensures accepted { (c : Circuit) (text : List ℕ) → IsCircuit c → StandsForBits c self.entry text → BitAcceptsExactly c text result }
     {
         self.judgement()
     }
 
     /// How many bits the judge's run holds: one for 0 and each variable, and one for each latch.
     pub fn held(&self) -> u64
-        ensures { (c : Circuit) (text : List ℕ) → StandsFor c self.now text → result ≡ circuit_held c }
+        ensures { (c : Circuit) (text : List ℕ) → StandsForBits c self.now text → result ≡ circuit_held c }
     {
         self.reader.play().held()
     }
@@ -228,7 +228,7 @@ impl<'a> BitJudge<'a> {
     /// stays at its greatest value, 2^128 - 1, once it is there.
     #[tactic(auto, unfolding(crate::specs::Readings::reading))]
     pub fn steps(&self) -> u128
-        ensures { (c : Circuit) (text : List ℕ) → StandsFor c self.now text → result ≡ steps_of c (closed_frames c text) }
+        ensures { (c : Circuit) (text : List ℕ) → StandsForBits c self.now text → result ≡ bit_steps_of c (closed_frames c text) }
     {
         self.reader.play().steps()
     }
@@ -236,7 +236,7 @@ impl<'a> BitJudge<'a> {
     /// How many frames are closed: those whose lines have ended before the first faulty line.
     #[tactic(auto, unfolding(crate::specs::Readings::reading))]
     pub fn closed_frames(&self) -> u64
-        ensures { (c : Circuit) (text : List ℕ) → StandsFor c self.now text → result ≡ closed_frames c text }
+        ensures { (c : Circuit) (text : List ℕ) → StandsForBits c self.now text → result ≡ closed_frames c text }
     {
         self.reader.play().frames()
     }
@@ -244,7 +244,7 @@ impl<'a> BitJudge<'a> {
     /// Whether the bad property at a position, counted from 0, is the claim, and was 1 in a closed frame; none is beyond the
     /// last. It takes no memory.
     pub fn has_reached(&self, position: usize) -> bool
-        ensures { (c : Circuit) (text : List ℕ) (vs : List Valuation) → StandsFor c self.now text → IsClosedBitTrace c text vs → result ≡ bit_reached c text vs position }
+        ensures { (c : Circuit) (text : List ℕ) (vs : List Valuation) → StandsForBits c self.now text → IsClosedBitTrace c text vs → result ≡ bit_reached c text vs position }
     {
         self.reader.reaches(position)
     }
@@ -252,7 +252,7 @@ impl<'a> BitJudge<'a> {
     /// How many whole lines stand before the first faulty line.
     #[tactic(auto, unfolding(crate::specs::Readings::reading))]
     pub fn admitted_lines(&self) -> u64
-        ensures { (c : Circuit) (text : List ℕ) → StandsFor c self.now text → result ≡ admitted_lines c text }
+        ensures { (c : Circuit) (text : List ℕ) → StandsForBits c self.now text → result ≡ admitted_lines c text }
     {
         let lines = self.admitted;
         lines

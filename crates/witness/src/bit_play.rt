@@ -7,7 +7,7 @@ ghost use Rattle.runs.specs.CircuitRun.{IsFrameNow, circuit_held};
 ghost use Rattle.witness.specs.BitScans.{is_one_bit};
 ghost use Rattle.witness.specs.Judgements.{first_of};
 ghost use Rattle.witness.specs.BitJudgements.{differs_from_reset};
-ghost use Rattle.witness.specs.BitPlays.{first_bit_violated, Begins, Plays, play_start, differing, latch_given};
+ghost use Rattle.witness.specs.BitPlays.{first_bit_violated, Begins, PlaysBits, play_start, differing, latch_given};
 
 use crate::judgement::Judgement;
 use crate::verdicts::{Breach, judgement_of, note_breach};
@@ -167,7 +167,7 @@ impl<'a> BitPlay<'a> {
 
     /// Takes a byte of a frame's line. `k` counts the bytes before it.
     pub(crate) fn take_input(&mut self, k: u64, byte: u8)
-        ensures { (c : Circuit) (claim : ℕ) (initial : List Bool) (frames : List (List Bool)) (line : List ℕ) → k ≡ min (length line) (2 ^ 64 - 1) → Plays c claim initial frames self.old line → Plays c claim initial frames self.new (line ++ byte ∷ []) }
+        ensures { (c : Circuit) (claim : ℕ) (initial : List Bool) (frames : List (List Bool)) (line : List ℕ) → k ≡ min (length line) (2 ^ 64 - 1) → PlaysBits c claim initial frames self.old line → PlaysBits c claim initial frames self.new (line ++ byte ∷ []) }
     {
         let k = k as usize;
         if k < self.circuit.inputs() as usize {
@@ -186,7 +186,7 @@ impl<'a> BitPlay<'a> {
 
     /// Takes the whole line of a frame.
     pub(crate) fn take_input_line(&mut self, line: &[u8])
-        ensures { (c : Circuit) (claim : ℕ) (initial : List Bool) (frames : List (List Bool)) → Plays c claim initial frames self.old [] → Plays c claim initial frames self.new line.now }
+        ensures { (c : Circuit) (claim : ℕ) (initial : List Bool) (frames : List (List Bool)) → PlaysBits c claim initial frames self.old [] → PlaysBits c claim initial frames self.new line.now }
     {
         for (k, byte) in line.iter().enumerate() {
             self.take_input(k as u64, *byte);
@@ -196,7 +196,7 @@ impl<'a> BitPlay<'a> {
     /// Closes the frame whose line has ended: settles it, looks at its constraints and at the claimed bad property, and
     /// moves on.
     pub(crate) fn close(&mut self, claim: u64)
-        ensures { (c : Circuit) (initial : List Bool) (frames : List (List Bool)) (line : List ℕ) → Plays c claim initial frames self.old line → claim < length c.bads → length frames < 2 ^ 62 → length line ≡ c.inputs → Plays c claim initial (frames ++ map is_one_bit line ∷ []) self.new [] }
+        ensures { (c : Circuit) (initial : List Bool) (frames : List (List Bool)) (line : List ℕ) → PlaysBits c claim initial frames self.old line → claim < length c.bads → length frames < 2 ^ 62 → length line ≡ c.inputs → PlaysBits c claim initial (frames ++ map is_one_bit line ∷ []) self.new [] }
     {
         self.run.settle();
         let violated = first_violated(self.circuit, &self.run);

@@ -3,8 +3,8 @@ ghost use Rattle.std.specs.Prelude.{◌≡◌, ℕ, ◌<◌, ◌==◌, ◌&&◌,
 ghost use Rattle.aiger.specs.Circuit.{Circuit};
 ghost use Rattle.witness.specs.BitAdmits.{BitRead, AtLater, bits_at};
 ghost use Rattle.witness.specs.BitScans.{Scans, is_one_bit};
-ghost use Rattle.witness.specs.BitPlays.{play_start, Plays};
-ghost use Rattle.witness.specs.BitStands.{Reads, Admits, GivesLine, is_frame, is_header, place_of};
+ghost use Rattle.witness.specs.BitPlays.{play_start, PlaysBits};
+ghost use Rattle.witness.specs.BitStands.{ReadsBits, Admits, GivesBitLine, is_frame, is_header, bit_place_of};
 
 use crate::bit_play::BitPlay;
 use crate::bit_scan::{Scan, are_bits};
@@ -86,7 +86,7 @@ impl<'a> BitReader<'a> {
 
     /// Takes a byte of the next line. `k` counts the bytes before it.
     pub(crate) fn take(&mut self, k: u64, byte: u8)
-        ensures { (c : Circuit) (r : BitRead) (line : List ℕ) → k ≡ min (length line) (2 ^ 64 - 1) → Reads c self.old r line → Reads c self.new r (line ++ byte ∷ []) }
+        ensures { (c : Circuit) (r : BitRead) (line : List ℕ) → k ≡ min (length line) (2 ^ 64 - 1) → ReadsBits c self.old r line → ReadsBits c self.new r (line ++ byte ∷ []) }
     {
         match self.place {
             BitPlace::Initial => self.play.take_initial(k, byte),
@@ -98,7 +98,7 @@ impl<'a> BitReader<'a> {
 
     /// The line of a frame has ended.
     fn admit_frame(&mut self, line: Scan) -> Result<(), Why>
-        ensures frame { (c : Circuit) (r : BitRead) (bytes : List ℕ) → Reads c self.old r bytes → Scans line bytes → Plays c r.claim r.initial r.frames self.old.play bytes → r.claim < length c.bads → length r.frames < 2 ^ 62 → MatchResult result (λ _. (bits_at c.inputs bytes ≡ Ok (map is_one_bit bytes)) × Reads c self.new (record r { place = AtLater; frames = r.frames ++ map is_one_bit bytes ∷ [] }) []) (λ why. bits_at c.inputs bytes ≡ Err why) }
+        ensures frame { (c : Circuit) (r : BitRead) (bytes : List ℕ) → ReadsBits c self.old r bytes → Scans line bytes → PlaysBits c r.claim r.initial r.frames self.old.play bytes → r.claim < length c.bads → length r.frames < 2 ^ 62 → MatchResult result (λ _. (bits_at c.inputs bytes ≡ Ok (map is_one_bit bytes)) × ReadsBits c self.new (record r { place = AtLater; frames = r.frames ++ map is_one_bit bytes ∷ [] }) []) (λ why. bits_at c.inputs bytes ≡ Err why) }
         ensures err { OnErr result (self.new ≡ self.old) }
     {
         line.bits(self.play.inputs())?;
@@ -109,7 +109,7 @@ impl<'a> BitReader<'a> {
 
     /// Takes the whole line of the initial bits, where it is one.
     fn take_initial_line(&mut self, line: &[u8]) -> bool
-        ensures taken { (c : Circuit) (r : BitRead) → Reads c self.old r [] → self.old.place ≡ BitPlace.Initial → result ≡ true → Admits c r line.now self.new }
+        ensures taken { (c : Circuit) (r : BitRead) → ReadsBits c self.old r [] → self.old.place ≡ BitPlace.Initial → result ≡ true → Admits c r line.now self.new }
         ensures kept { result ≡ false → self.new ≡ self.old }
     {
         if !are_bits(line, self.play.latches()) {
@@ -122,7 +122,7 @@ impl<'a> BitReader<'a> {
 
     /// Takes the whole line of a frame, where it is one.
     fn take_frame_line(&mut self, line: &[u8]) -> bool
-        ensures taken { (c : Circuit) (r : BitRead) → Reads c self.old r [] → is_frame self.old.place ≡ true → length r.frames < 2 ^ 62 → result ≡ true → Admits c r line.now self.new }
+        ensures taken { (c : Circuit) (r : BitRead) → ReadsBits c self.old r [] → is_frame self.old.place ≡ true → length r.frames < 2 ^ 62 → result ≡ true → Admits c r line.now self.new }
         ensures kept { result ≡ false → self.new ≡ self.old }
     {
         if !are_bits(line, self.play.inputs()) {
@@ -136,8 +136,8 @@ impl<'a> BitReader<'a> {
 
     /// Takes a whole line of bits, where bits come next and the line has as many: it is admitted.
     pub(crate) fn take_line(&mut self, line: &[u8]) -> bool
-        ensures taken { (c : Circuit) (r : BitRead) → Reads c self.old r [] → length r.frames < 2 ^ 62 → result ≡ true → Admits c r line.now self.new }
-        ensures later { result ≡ true → is_header (place_of self.old.place) ≡ false }
+        ensures taken { (c : Circuit) (r : BitRead) → ReadsBits c self.old r [] → length r.frames < 2 ^ 62 → result ≡ true → Admits c r line.now self.new }
+        ensures later { result ≡ true → is_header (bit_place_of self.old.place) ≡ false }
         ensures kept { result ≡ false → self.new ≡ self.old }
     {
         match self.place {
@@ -150,7 +150,7 @@ impl<'a> BitReader<'a> {
 
     /// The line has ended: it is admitted, or why it is not.
     pub(crate) fn admit(&mut self, line: Scan) -> Result<(), Why>
-        ensures line { (c : Circuit) (r : BitRead) (bytes : List ℕ) → Reads c self.old r bytes → Scans line bytes → length r.frames < 2 ^ 62 → GivesLine c r bytes self.new result }
+        ensures line { (c : Circuit) (r : BitRead) (bytes : List ℕ) → ReadsBits c self.old r bytes → Scans line bytes → length r.frames < 2 ^ 62 → GivesBitLine c r bytes self.new result }
         ensures err { OnErr result (self.new ≡ self.old) }
     {
         match self.place {

@@ -8,10 +8,10 @@ ghost use Rattle.btor2.specs.Lists.{first_init_without_next};
 ghost use Rattle.witness.specs.Answers.{AnswersJudge, CountsJudge, NamesState};
 ghost use Rattle.witness.specs.Judgements.{Judges};
 ghost use Rattle.witness.specs.Accepted.{AcceptsExactly, BitAcceptsExactly};
-ghost use Rattle.witness.specs.WordStands.{StandsFor};
+ghost use Rattle.witness.specs.WordStands.{StandsForWitness};
 ghost use Rattle.aiger.specs.Circuit.{Circuit, IsCircuit};
 ghost use Rattle.witness.specs.BitJudgements.{BitJudges};
-ghost use Rattle.witness.specs.BitStands.{StandsFor as StandsForBits};
+ghost use Rattle.witness.specs.BitStands.{StandsForBits};
 
 use crate::bit_judge::BitJudge;
 use crate::fault::JudgeFault;
@@ -30,7 +30,7 @@ const CHUNK: usize = 65536;
 ///
 /// Error: the source's own, once.
 fn feed_words<S: Source>(judge: &mut WordJudge<'_>, source: &mut S) -> Result<(), DeviceFault>
-    ensures fed { OnOk result ((items : List Item) (text : List ℕ) → StandsFor items judge.old text → IfSome (S.to_come source.old) (λ all. StandsFor items judge.new (text ++ all))) }
+    ensures fed { OnOk result ((items : List Item) (text : List ℕ) → StandsForWitness items judge.old text → IfSome (S.to_come source.old) (λ all. StandsForWitness items judge.new (text ++ all))) }
     ensures end { OnOk result (IsAtEnd (S.to_come source.new)) }
     ensures counted { CountsFaults result (S.failures source.old) (S.failures source.new) }
 {

@@ -5,7 +5,7 @@ ghost use Rattle.btor2.specs.declared.item.Item.{Item};
 ghost use Rattle.btor2.specs.Check.{IsWellFormed};
 ghost use Rattle.btor2.specs.Lists.{HaveNexts};
 ghost use Rattle.btor2.specs.Trace.{Frame};
-ghost use Rattle.btor2.specs.Worked.{toggler, follower};
+ghost use Rattle.btor2.specs.Worked.{toggler_model, follower};
 ghost use Rattle.witness.specs.declared.why.Why.TheVariants as why;
 ghost use Rattle.witness.specs.declared.judgement.Judgement.{Judgement};
 ghost use Rattle.witness.specs.declared.judgement.Judgement.TheVariants as judgement;
@@ -15,7 +15,7 @@ ghost use Rattle.witness.specs.Admits.{Read, read_text, witness_of};
 ghost use Rattle.witness.specs.Judgements.{words_of, given_frames, makes_no_claim, Judges};
 ghost use Rattle.witness.specs.Accepted.{AcceptsExactly};
 ghost use Rattle.witness.specs.ClosedWords.{word_reading, read_with, admitted_word_lines, closed_word_frames, said_in, IsClosedTrace, last_word, ClosesAtMostOne};
-ghost use Rattle.witness.specs.Worked.{constrained, wide, nothing_given, rises, follows};
+ghost use Rattle.witness.specs.Worked.{constrained, wide, given_zero, rises, follows};
 
 /// A law: over a well-formed model, a text that says a witness is read as it, and a text that is read says what it is
 /// read as.
@@ -88,26 +88,26 @@ pub fn no_claim_closes_no_frame()
 
 /// Worked rows: the faults of texts over a model of one bit that toggles.
 pub fn worked_faults()
-    ensures shape { shape_of toggler ≡ record { bads = 1; states = 1 ∷ []; free = false ∷ []; inputs = [] } }
-    ensures nothing { read_text (shape_of toggler) [] ≡ Err (record { line = 1; why = why.Truncated }) }
-    ensures state_twice { read_text (shape_of toggler) (codes "sat\nb0\n#0\n0 0\n0 0\n@0\n.\n") ≡ Err (record { line = 5; why = why.IndexTwice }) }
-    ensures later_states { read_text (shape_of toggler) (codes "sat\nb0\n@0\n#1\n@1\n.\n") ≡ Err (record { line = 4; why = why.FrameOrder }) }
-    ensures no_frame { read_text (shape_of toggler) (codes "sat\nb0\n.\n") ≡ Err (record { line = 3; why = why.FrameOrder }) }
-    ensures no_such_bad { read_text (shape_of toggler) (codes "sat\nb1\n@0\n.\n") ≡ Err (record { line = 2; why = why.BadClaim }) }
-    ensures comment_behind_status { read_text (shape_of toggler) (codes "sat\n; x\n") ≡ Err (record { line = 2; why = why.BadClaim }) }
-    ensures claim_twice { read_text (shape_of toggler) (codes "sat\nb0 b0\n") ≡ Err (record { line = 2; why = why.BadClaim }) }
-    ensures justice { read_text (shape_of toggler) (codes "sat\nj0\n") ≡ Err (record { line = 2; why = why.JusticeClaim }) }
-    ensures too_many_digits { read_text (shape_of toggler) (codes "sat\nb0\n#0\n0 01\n") ≡ Err (record { line = 4; why = why.BadValue }) }
-    ensures no_value { read_text (shape_of toggler) (codes "sat\nb0\n#0\n0\n") ≡ Err (record { line = 4; why = why.BadValue }) }
-    ensures undetermined { read_text (shape_of toggler) (codes "sat\nb0\n#0\n0 x\n") ≡ Err (record { line = 4; why = why.Undetermined }) }
-    ensures no_symbol { read_text (shape_of toggler) (codes "sat\nb0\n#0\n0 1 ;\n") ≡ Err (record { line = 4; why = why.BadSymbol }) }
-    ensures first_of_three { read_text (shape_of toggler) (codes "sat\nb0\n#0\n1 x ;\n") ≡ Err (record { line = 4; why = why.BadIndex }) }
-    ensures no_input { read_text (shape_of toggler) (codes "sat\nb0\n@0\n0 1\n") ≡ Err (record { line = 4; why = why.BadIndex }) }
-    ensures space_behind { read_text (shape_of toggler) (codes "sat\nb0\n@0 \n") ≡ Err (record { line = 3; why = why.FrameOrder }) }
-    ensures unended { read_text (shape_of toggler) (codes "sat\nb0\n@0\n.") ≡ Err (record { line = 4; why = why.Truncated }) }
-    ensures byte_behind { read_text (shape_of toggler) (codes "sat\nb0\n@0\n.\nx") ≡ Err (record { line = 5; why = why.Trailing }) }
-    ensures line_behind { read_text (shape_of toggler) (codes "sat\nb0\n@0\n.\n\n") ≡ Err (record { line = 5; why = why.Trailing }) }
-    ensures other_status { read_text (shape_of toggler) (codes "satt\n") ≡ Err (record { line = 1; why = why.BadHeader }) }
+    ensures shape { shape_of toggler_model ≡ record { bads = 1; states = 1 ∷ []; free = false ∷ []; inputs = [] } }
+    ensures nothing { read_text (shape_of toggler_model) [] ≡ Err (record { line = 1; why = why.Truncated }) }
+    ensures state_twice { read_text (shape_of toggler_model) (codes "sat\nb0\n#0\n0 0\n0 0\n@0\n.\n") ≡ Err (record { line = 5; why = why.IndexTwice }) }
+    ensures later_states { read_text (shape_of toggler_model) (codes "sat\nb0\n@0\n#1\n@1\n.\n") ≡ Err (record { line = 4; why = why.FrameOrder }) }
+    ensures no_frame { read_text (shape_of toggler_model) (codes "sat\nb0\n.\n") ≡ Err (record { line = 3; why = why.FrameOrder }) }
+    ensures no_such_bad { read_text (shape_of toggler_model) (codes "sat\nb1\n@0\n.\n") ≡ Err (record { line = 2; why = why.BadClaim }) }
+    ensures comment_behind_status { read_text (shape_of toggler_model) (codes "sat\n; x\n") ≡ Err (record { line = 2; why = why.BadClaim }) }
+    ensures claim_twice { read_text (shape_of toggler_model) (codes "sat\nb0 b0\n") ≡ Err (record { line = 2; why = why.BadClaim }) }
+    ensures justice { read_text (shape_of toggler_model) (codes "sat\nj0\n") ≡ Err (record { line = 2; why = why.JusticeClaim }) }
+    ensures too_many_digits { read_text (shape_of toggler_model) (codes "sat\nb0\n#0\n0 01\n") ≡ Err (record { line = 4; why = why.BadValue }) }
+    ensures no_value { read_text (shape_of toggler_model) (codes "sat\nb0\n#0\n0\n") ≡ Err (record { line = 4; why = why.BadValue }) }
+    ensures undetermined { read_text (shape_of toggler_model) (codes "sat\nb0\n#0\n0 x\n") ≡ Err (record { line = 4; why = why.Undetermined }) }
+    ensures no_symbol { read_text (shape_of toggler_model) (codes "sat\nb0\n#0\n0 1 ;\n") ≡ Err (record { line = 4; why = why.BadSymbol }) }
+    ensures first_of_three { read_text (shape_of toggler_model) (codes "sat\nb0\n#0\n1 x ;\n") ≡ Err (record { line = 4; why = why.BadIndex }) }
+    ensures no_input { read_text (shape_of toggler_model) (codes "sat\nb0\n@0\n0 1\n") ≡ Err (record { line = 4; why = why.BadIndex }) }
+    ensures space_behind { read_text (shape_of toggler_model) (codes "sat\nb0\n@0 \n") ≡ Err (record { line = 3; why = why.FrameOrder }) }
+    ensures unended { read_text (shape_of toggler_model) (codes "sat\nb0\n@0\n.") ≡ Err (record { line = 4; why = why.Truncated }) }
+    ensures byte_behind { read_text (shape_of toggler_model) (codes "sat\nb0\n@0\n.\nx") ≡ Err (record { line = 5; why = why.Trailing }) }
+    ensures line_behind { read_text (shape_of toggler_model) (codes "sat\nb0\n@0\n.\n\n") ≡ Err (record { line = 5; why = why.Trailing }) }
+    ensures other_status { read_text (shape_of toggler_model) (codes "satt\n") ≡ Err (record { line = 1; why = why.BadHeader }) }
 {}
 
 /// Worked rows: the faults of texts over a model of a free state, the first, and one that follows it.
@@ -129,15 +129,15 @@ pub fn worked_free_witnesses()
     ensures read { (r : Read) × ((read_text (shape_of follower) (codes "sat\nb0\n#0\n0 1\n1 0\n@0\n0 0\n#1\n0 0\n@1\n0 0\n.\n") ≡ Ok r) × (witness_of r ≡ follows)) }
     ensures said { Says (shape_of follower) (codes "sat\nb0\n#0\n0 1\n1 0\n@0\n0 0\n#1\n0 0\n@1\n0 0\n.\n") follows }
     ensures empty_part { (r : Read) × ((read_text (shape_of follower) (codes "sat\nb0\n@0\n#1\n@1\n.\n") ≡ Ok r)
-        × (witness_of r ≡ record { claims = 0 ∷ []; frames = nothing_given ∷ record { states = Some []; inputs = [] } ∷ [] })) }
+        × (witness_of r ≡ record { claims = 0 ∷ []; frames = given_zero ∷ record { states = Some []; inputs = [] } ∷ [] })) }
     ensures not_kept { (r : Read) × ((read_text (shape_of follower) (codes "sat\nb0\n#0\n0 1\n@0\n@1\n#2\n0 1\n@2\n.\n") ≡ Ok r)
         × (map (λ f. f 2) (given_frames follower (words_of (witness_of r))) ≡ 1 ∷ 0 ∷ 1 ∷ [])) }
 {}
 
 /// Worked rows: what two texts say, a comment, a name and an initial part among it, and the words of an input that is given one in the first of two frames.
 pub fn worked_witnesses()
-    ensures read { (r : Read) × ((read_text (shape_of toggler) (codes "; note\nsat\nb0\n#0\n0 0 t\n@0\n@1\n.\n") ≡ Ok r) × (witness_of r ≡ rises)) }
-    ensures said { Says (shape_of toggler) (codes "; note\nsat\nb0\n#0\n0 0 t\n@0\n@1\n.\n") rises }
+    ensures read { (r : Read) × ((read_text (shape_of toggler_model) (codes "; note\nsat\nb0\n#0\n0 0 t\n@0\n@1\n.\n") ≡ Ok r) × (witness_of r ≡ rises)) }
+    ensures said { Says (shape_of toggler_model) (codes "; note\nsat\nb0\n#0\n0 0 t\n@0\n@1\n.\n") rises }
     ensures wide_is_model { IsWellFormed wide }
     ensures words { (r : Read) × ((read_text (shape_of wide) (codes "sat\nb0\n@0\n0 100\n@1\n.\n") ≡ Ok r) × (map (λ f. f 2) (given_frames wide (words_of (witness_of r))) ≡ 4 ∷ 0 ∷ [])) }
 {}
@@ -152,37 +152,37 @@ pub fn lines_close_frames()
 
 /// Worked rows: how many lines of texts are admitted, and how many frames they close.
 pub fn worked_readings()
-    ensures whole { (admitted_word_lines (shape_of toggler) (codes "sat\nb0\n#0\n0 0\n@0\n@1\n.\n") ≡ 7) × (closed_word_frames (shape_of toggler) (codes "sat\nb0\n#0\n0 0\n@0\n@1\n.\n") ≡ 2) }
-    ensures unended { (admitted_word_lines (shape_of toggler) (codes "sat\nb0\n@0\n@1\n.") ≡ 4) × (closed_word_frames (shape_of toggler) (codes "sat\nb0\n@0\n@1\n.") ≡ 1) }
-    ensures behind_fault { (admitted_word_lines (shape_of toggler) (codes "sat\nb0\n@0\n@2\n.\n") ≡ 3) × (closed_word_frames (shape_of toggler) (codes "sat\nb0\n@0\n@2\n.\n") ≡ 0) }
+    ensures whole { (admitted_word_lines (shape_of toggler_model) (codes "sat\nb0\n#0\n0 0\n@0\n@1\n.\n") ≡ 7) × (closed_word_frames (shape_of toggler_model) (codes "sat\nb0\n#0\n0 0\n@0\n@1\n.\n") ≡ 2) }
+    ensures unended { (admitted_word_lines (shape_of toggler_model) (codes "sat\nb0\n@0\n@1\n.") ≡ 4) × (closed_word_frames (shape_of toggler_model) (codes "sat\nb0\n@0\n@1\n.") ≡ 1) }
+    ensures behind_fault { (admitted_word_lines (shape_of toggler_model) (codes "sat\nb0\n@0\n@2\n.\n") ≡ 3) × (closed_word_frames (shape_of toggler_model) (codes "sat\nb0\n@0\n@2\n.\n") ≡ 0) }
     ensures states_behind { (admitted_word_lines (shape_of follower) (codes "sat\nb0\n@0\n#1\n0 1\n") ≡ 5) × (closed_word_frames (shape_of follower) (codes "sat\nb0\n@0\n#1\n0 1\n") ≡ 1) }
 {}
 
 /// Worked rows: the word of the bit that toggles in the last closed frame, which is there until a word is given in the next
 /// one; a position with no node has none.
 pub fn worked_last_words()
-    ensures none { (fs : List Frame) → IsClosedTrace toggler (codes "sat\nb0\n@0\n") fs → last_word toggler (codes "sat\nb0\n@0\n") fs 2 ≡ None }
-    ensures first { (fs : List Frame) → IsClosedTrace toggler (codes "sat\nb0\n@0\n@1\n") fs → last_word toggler (codes "sat\nb0\n@0\n@1\n") fs 2 ≡ Some 0 }
-    ensures last { (fs : List Frame) → IsClosedTrace toggler (codes "sat\nb0\n@0\n@1\n.\n") fs → last_word toggler (codes "sat\nb0\n@0\n@1\n.\n") fs 2 ≡ Some 1 }
-    ensures no_node { (fs : List Frame) → last_word toggler (codes "sat\nb0\n@0\n@1\n.\n") fs 0 ≡ None }
+    ensures none { (fs : List Frame) → IsClosedTrace toggler_model (codes "sat\nb0\n@0\n") fs → last_word toggler_model (codes "sat\nb0\n@0\n") fs 2 ≡ None }
+    ensures first { (fs : List Frame) → IsClosedTrace toggler_model (codes "sat\nb0\n@0\n@1\n") fs → last_word toggler_model (codes "sat\nb0\n@0\n@1\n") fs 2 ≡ Some 0 }
+    ensures last { (fs : List Frame) → IsClosedTrace toggler_model (codes "sat\nb0\n@0\n@1\n.\n") fs → last_word toggler_model (codes "sat\nb0\n@0\n@1\n.\n") fs 2 ≡ Some 1 }
+    ensures no_node { (fs : List Frame) → last_word toggler_model (codes "sat\nb0\n@0\n@1\n.\n") fs 0 ≡ None }
     ensures given { (fs : List Frame) → last_word follower (codes "sat\nb0\n@0\n#1\n0 1\n") fs 1 ≡ None }
 {}
 
 /// Worked rows: a text that is the beginning of a witness over the model of one bit that toggles, and one that is none.
 pub fn worked_beginnings()
-    ensures frame { IsBeginning (shape_of toggler) (codes "sat\nb0\n@0\n") }
-    ensures no_such_bad { ¬ IsBeginning (shape_of toggler) (codes "sat\nb1\n") }
+    ensures frame { IsBeginning (shape_of toggler_model) (codes "sat\nb0\n@0\n") }
+    ensures no_such_bad { ¬ IsBeginning (shape_of toggler_model) (codes "sat\nb1\n") }
 {}
 
 /// Worked rows: judgements of texts over the model of one bit that toggles, over it with a constraint, and over the model
 /// in which one state follows a free one.
 pub fn worked_judgements()
-    ensures accepted { Judges toggler (codes "sat\nb0\n#0\n0 0\n@0\n@1\n.\n") (judgement.Accepted 2) }
-    ensures other_init { Judges toggler (codes "sat\nb0\n#0\n0 1\n@0\n.\n") (judgement.InitDiffers 0) }
-    ensures not_reached { Judges toggler (codes "sat\nb0\n@0\n.\n") (judgement.NotReached 0) }
-    ensures unsat { Judges toggler (codes "; x\nunsat\n") judgement.NoClaim }
-    ensures unknown { Judges toggler (codes "unknown\nx") judgement.NoClaim }
-    ensures malformed { Judges toggler (codes "sat\nb0\n.\n") (judgement.Malformed 3 why.FrameOrder) }
+    ensures accepted { Judges toggler_model (codes "sat\nb0\n#0\n0 0\n@0\n@1\n.\n") (judgement.Accepted 2) }
+    ensures other_init { Judges toggler_model (codes "sat\nb0\n#0\n0 1\n@0\n.\n") (judgement.InitDiffers 0) }
+    ensures not_reached { Judges toggler_model (codes "sat\nb0\n@0\n.\n") (judgement.NotReached 0) }
+    ensures unsat { Judges toggler_model (codes "; x\nunsat\n") judgement.NoClaim }
+    ensures unknown { Judges toggler_model (codes "unknown\nx") judgement.NoClaim }
+    ensures malformed { Judges toggler_model (codes "sat\nb0\n.\n") (judgement.Malformed 3 why.FrameOrder) }
     ensures follows { Judges follower (codes "sat\nb0\n#0\n0 1\n1 0\n@0\n0 0\n#1\n0 0\n@1\n0 0\n.\n") (judgement.Accepted 2) }
     ensures does_not_follow { Judges follower (codes "sat\nb0\n@0\n#1\n0 1\n@1\n.\n") (judgement.NotReached 0) }
     ensures constrained_is_model { IsWellFormed constrained }

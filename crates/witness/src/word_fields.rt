@@ -4,7 +4,7 @@ ghost use Rattle.std.specs.List.{position};
 ghost use Rattle.base.specs.Lines.{HasNone};
 ghost use Rattle.base.specs.Decimals.{number_of};
 ghost use Rattle.witness.specs.Admits.{cut_at_space, value_of};
-ghost use Rattle.witness.specs.WordValues.{Gives, word_behind, word_with, assigned_number, assigned};
+ghost use Rattle.witness.specs.WordValues.{IsAsValueRead, word_behind, word_with, assigned_number, assigned};
 ghost use Rattle.witness.specs.Fits.{PairFits};
 
 use crate::given::Given;
@@ -46,7 +46,7 @@ pub(crate) fn index_of(line: &[u8]) -> Option<u64>
 
 /// The word of so many bits that digits write, where what stands behind them is a symbol, or why there is none.
 fn named(digits: &[u8], name: &[u8], width: Width) -> Result<u64, Why>
-    ensures is { Gives (λ w. w) result (word_with (Some name.now) (value_of width digits.now)) }
+    ensures is { IsAsValueRead (λ w. w) result (word_with (Some name.now) (value_of width digits.now)) }
     ensures fits { IfOk result (λ w. w < 2 ^ width) }
 {
     let word = value_of(digits, width)?;
@@ -59,7 +59,7 @@ fn named(digits: &[u8], name: &[u8], width: Width) -> Result<u64, Why>
 
 /// The word of so many bits that stands behind the first space, with a name behind it or none, or why there is none.
 fn word_with(behind: &[u8], width: Width) -> Result<u64, Why>
-    ensures is { Gives (λ w. w) result (word_behind width (Some behind.now)) }
+    ensures is { IsAsValueRead (λ w. w) result (word_behind width (Some behind.now)) }
     ensures fits { IfOk result (λ w. w < 2 ^ width) }
 {
     match cut(behind) {
@@ -70,7 +70,7 @@ fn word_with(behind: &[u8], width: Width) -> Result<u64, Why>
 
 /// The word of so many bits behind the index of a line, or why there is none.
 fn word_of(line: &[u8], width: Width) -> Result<u64, Why>
-    ensures is { Gives (λ w. w) result (word_behind width (cut_at_space line.now).1) }
+    ensures is { IsAsValueRead (λ w. w) result (word_behind width (cut_at_space line.now).1) }
     ensures fits { IfOk result (λ w. w < 2 ^ width) }
 {
     match cut(line) {
@@ -87,7 +87,7 @@ fn assigned_number(
     line: &[u8],
 ) -> Result<(u64, u64), Why>
     requires { length given.now ≡ length widths.now }
-    ensures is { Gives (λ p. p) result (assigned_number widths.now given.now (cut_at_space line.now).1 index) }
+    ensures is { IsAsValueRead (λ p. p) result (assigned_number widths.now given.now (cut_at_space line.now).1 index) }
     ensures fits { IfOk result (PairFits widths.now) }
 {
     let k = index as usize;
@@ -105,7 +105,7 @@ fn assigned_number(
 /// have a word in the part already.
 pub(crate) fn assigned(widths: &[Width], given: &Given, line: &[u8]) -> Result<(u64, u64), Why>
     requires { length given.now ≡ length widths.now }
-    ensures is { Gives (λ p. p) result (assigned widths.now given.now line.now) }
+    ensures is { IsAsValueRead (λ p. p) result (assigned widths.now given.now line.now) }
     ensures fits { IfOk result (PairFits widths.now) }
 {
     match index_of(line) {

@@ -18,7 +18,7 @@ ghost use Rattle.base.specs.Lines.{IsLine, unfinished};
 ghost use Rattle.witness.specs.KeptLines.{AreAlike};
 ghost use Rattle.witness.specs.declared.word_reader.Place.TheVariants as place;
 ghost use Rattle.witness.specs.Stands.{IsOfLines};
-ghost use Rattle.witness.specs.WordStands.{StandsFor, JudgesLine, JudgesLines, NoPlainLine, is_alone, is_status, place_of, word_judging};
+ghost use Rattle.witness.specs.WordStands.{StandsForWitness, JudgesLine, JudgesLines, NoPlainLine, is_alone, is_status, place_of, word_judging};
 
 use crate::judgement::Judgement;
 use crate::kept_line::KeptLine;
@@ -77,7 +77,7 @@ impl<'a> WordJudge<'a> {
     ///
     /// Errors: `NoNext` with the first state in file order that has an init and no next; else `NoMemory`.
     pub fn new(alloc: Global, model: &'a Model) -> Result<WordJudge<'a>, NewFault>
-        ensures ok { IfOk result (λ judge. StandsFor model.now judge []) }
+        ensures ok { IfOk result (λ judge. StandsForWitness model.now judge []) }
         ensures answer { AnswersNew result (first_init_without_next model.now model.now) }
     {
         let reader = WordReader::new(alloc, model)?;
@@ -108,7 +108,7 @@ impl<'a> WordJudge<'a> {
 
     /// Takes bytes of a line that does not end with them.
     fn take_part(&mut self, bytes: &[u8])
-        ensures stands { (items : List Item) (text : List ℕ) → IsLine bytes.now → StandsFor items self.old text → StandsFor items self.new (text ++ bytes.now) }
+        ensures stands { (items : List Item) (text : List ℕ) → IsLine bytes.now → StandsForWitness items self.old text → StandsForWitness items self.new (text ++ bytes.now) }
         ensures refused { self.new.refused ≡ self.old.refused }
     {
         self.line.extend(bytes);
@@ -119,7 +119,7 @@ impl<'a> WordJudge<'a> {
 
     /// Takes the rest of a line, none before which was refused, and its end.
     fn take_rest(&mut self, bytes: &[u8])
-        ensures { (items : List Item) (text : List ℕ) → IsLine bytes.now → StandsFor items self.old text → self.old.refused ≡ None → StandsFor items self.new (text ++ (bytes.now ++ 10 ∷ [])) }
+        ensures { (items : List Item) (text : List ℕ) → IsLine bytes.now → StandsForWitness items self.old text → self.old.refused ≡ None → StandsForWitness items self.new (text ++ (bytes.now ++ 10 ∷ [])) }
     {
         self.take_part(bytes);
         let line = mem::replace(&mut self.line, KeptLine::new());
@@ -129,14 +129,14 @@ impl<'a> WordJudge<'a> {
     /// Whether a line that begins is judged by its bytes alone.
     fn takes_whole_lines(&self) -> bool
         ensures alone { result ≡ true → is_alone (place_of self.now.reader.place) ≡ true }
-        ensures begins { (items : List Item) (text : List ℕ) → StandsFor items self.now text → result ≡ true → unfinished text ≡ [] }
+        ensures begins { (items : List Item) (text : List ℕ) → StandsForWitness items self.now text → result ≡ true → unfinished text ≡ [] }
     {
         is_alone(self.reader.place()) & self.line.is_empty()
     }
 
     /// Takes the rest of a line and its end.
     fn take_line(&mut self, bytes: &[u8])
-        ensures { (items : List Item) (text : List ℕ) → IsLine bytes.now → StandsFor items self.old text → StandsFor items self.new (text ++ (bytes.now ++ 10 ∷ [])) }
+        ensures { (items : List Item) (text : List ℕ) → IsLine bytes.now → StandsForWitness items self.old text → StandsForWitness items self.new (text ++ (bytes.now ++ 10 ∷ [])) }
     {
         if self.refused.is_some() {
             self.line.clear();
@@ -200,7 +200,7 @@ impl<'a> WordJudge<'a> {
     /// Takes a piece of the text behind those before: a judge that stood for a text stands for that text with the piece
     /// behind it.
     pub fn feed(&mut self, bytes: &[u8])
-        ensures { (items : List Item) (text : List ℕ) → StandsFor items self.old text → StandsFor items self.new (text ++ bytes.now) }
+        ensures { (items : List Item) (text : List ℕ) → StandsForWitness items self.old text → StandsForWitness items self.new (text ++ bytes.now) }
     {
         let mut rest = self.take_plain_lines(bytes);
         while let Some(behind) = self.take_any(rest) {
@@ -211,7 +211,7 @@ impl<'a> WordJudge<'a> {
 
     /// The judgement of the text so far: of every one that the judge stands for.
     fn judgement(&self) -> Judgement
-        ensures { (items : List Item) (text : List ℕ) → StandsFor items self.now text → Judges items text result }
+        ensures { (items : List Item) (text : List ℕ) → StandsForWitness items self.now text → Judges items text result }
     {
         if self.no_claim {
             return Judgement::NoClaim;
@@ -229,16 +229,16 @@ impl<'a> WordJudge<'a> {
 
     /// The judgement of the text: of every one that the judge stands for.
     pub fn finish(self) -> Judgement
-        ensures judged { (items : List Item) (text : List ℕ) → StandsFor items self.entry text → Judges items text result }
+        ensures judged { (items : List Item) (text : List ℕ) → StandsForWitness items self.entry text → Judges items text result }
         // accepted exactly where the text says a witness of which this is judged
-        ensures accepted { (items : List Item) (text : List ℕ) → IsWellFormed items → StandsFor items self.entry text → AcceptsExactly items text result }
+        ensures accepted { (items : List Item) (text : List ℕ) → IsWellFormed items → StandsForWitness items self.entry text → AcceptsExactly items text result }
     {
         self.judgement()
     }
 
     /// How many words the judge's run holds: one for each node with a value, and one for each state.
     pub fn held(&self) -> u64
-        ensures { (items : List Item) (text : List ℕ) → StandsFor items self.now text → result ≡ node_count items + state_count items }
+        ensures { (items : List Item) (text : List ℕ) → StandsForWitness items self.now text → result ≡ node_count items + state_count items }
     {
         self.reader.play().held()
     }
@@ -247,7 +247,7 @@ impl<'a> WordJudge<'a> {
     /// of moving on from the last of them too. The count stays at its greatest value, 2^128 - 1, once it is there.
     #[tactic(auto, unfolding(crate::specs::Readings::reading))]
     pub fn steps(&self) -> u128
-        ensures { (items : List Item) (text : List ℕ) → StandsFor items self.now text → result ≡ steps_of items (closed_word_frames (shape_of items) text) }
+        ensures { (items : List Item) (text : List ℕ) → StandsForWitness items self.now text → result ≡ steps_of items (closed_word_frames (shape_of items) text) }
     {
         self.reader.play().steps()
     }
@@ -256,7 +256,7 @@ impl<'a> WordJudge<'a> {
     /// the first faulty line.
     #[tactic(auto, unfolding(crate::specs::Readings::reading))]
     pub fn closed_frames(&self) -> u64
-        ensures { (items : List Item) (text : List ℕ) → StandsFor items self.now text → result ≡ closed_word_frames (shape_of items) text }
+        ensures { (items : List Item) (text : List ℕ) → StandsForWitness items self.now text → result ≡ closed_word_frames (shape_of items) text }
     {
         self.reader.play().frames()
     }
@@ -264,7 +264,7 @@ impl<'a> WordJudge<'a> {
     /// The word of a node in the frame that was closed last, by its position in the model's items. There is one at a node
     /// with a value, from the line that closes the frame on until a line gives a word in the next frame.
     pub fn closed_word(&self, node: usize) -> Option<u64>
-        ensures { (items : List Item) (text : List ℕ) (fs : List Frame) → StandsFor items self.now text → IsClosedTrace items text fs → result ≡ last_word items text fs node }
+        ensures { (items : List Item) (text : List ℕ) (fs : List Frame) → StandsForWitness items self.now text → IsClosedTrace items text fs → result ≡ last_word items text fs node }
     {
         self.reader.play().closed_word(node)
     }
@@ -272,7 +272,7 @@ impl<'a> WordJudge<'a> {
     /// Whether the bad property at a position, counted from 0 in file order, is claimed, and was 1 in a closed frame; none is
     /// beyond the last. It takes no memory.
     pub fn has_reached(&self, position: usize) -> bool
-        ensures { (items : List Item) (text : List ℕ) (fs : List Frame) → StandsFor items self.now text → IsClosedTrace items text fs → result ≡ word_reached items text fs position }
+        ensures { (items : List Item) (text : List ℕ) (fs : List Frame) → StandsForWitness items self.now text → IsClosedTrace items text fs → result ≡ word_reached items text fs position }
     {
         self.reader.reaches(position)
     }
@@ -280,7 +280,7 @@ impl<'a> WordJudge<'a> {
     /// How many whole lines stand before the first faulty line.
     #[tactic(auto, unfolding(crate::specs::Readings::reading))]
     pub fn admitted_lines(&self) -> u64
-        ensures { (items : List Item) (text : List ℕ) → StandsFor items self.now text → result ≡ admitted_word_lines (shape_of items) text }
+        ensures { (items : List Item) (text : List ℕ) → StandsForWitness items self.now text → result ≡ admitted_word_lines (shape_of items) text }
     {
         self.admitted
     }

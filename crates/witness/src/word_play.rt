@@ -8,7 +8,7 @@ ghost use Rattle.runs.specs.Run.{IsNow, node_count, state_count};
 ghost use Rattle.runs.specs.Refusal.{AnswersNew};
 ghost use Rattle.witness.specs.Judgements.{FrameWords, pairs_of, first_different, first_of};
 ghost use Rattle.witness.specs.Texts.{Assignment, shape_of, widths_of};
-ghost use Rattle.witness.specs.KeptLines.{IsSmall};
+ghost use Rattle.witness.specs.KeptLines.{IsNarrowShape};
 ghost use Rattle.witness.specs.Fits.{NoneIsSet, PairFits};
 ghost use Rattle.witness.specs.PlainLines.{NoAssignment, NoFrameLine};
 ghost use Rattle.witness.specs.WordPlays.{IsStart, GoesOn, Plays, MayGive, GivesState, GivesInput, TakesInput, state_given, input_given, nothing_given, word_at, steps_taken};
@@ -171,7 +171,7 @@ impl<'a> WordPlay<'a> {
     /// The model.
     pub(crate) fn model(&self) -> &'a Model
         ensures is { result.now ≡ self.now.items }
-        ensures small { IsSmall (shape_of self.now.items) }
+        ensures small { IsNarrowShape (shape_of self.now.items) }
     {
         let _items = self.model.items();
         let _states = self.model.states().len();

@@ -12,7 +12,7 @@ ghost use Rattle.btor2.specs.Reachability.{nodes_of};
 ghost use Rattle.witness.specs.Fits.{first_unreached, NoneIsSet, RisesAmong, AreClaimed, is_set};
 ghost use Rattle.witness.specs.declared.word_reader.Place.TheVariants as place;
 ghost use Rattle.witness.specs.KeptLines.{AreAlike};
-ghost use Rattle.witness.specs.WordStands.{Reads, GivesLine, TakesLine, NoPlainLine, is_alone, place_of};
+ghost use Rattle.witness.specs.WordStands.{ReadsWords, GivesLine, TakesLine, NoPlainLine, is_alone, place_of};
 
 use crate::verdicts::first_unreached;
 use crate::why::Why;
@@ -98,7 +98,7 @@ impl<'a> WordReader<'a> {
     ///
     /// Errors: `NoNext` with the first state in file order that has an init and no next; else `NoMemory`.
     pub(crate) fn new(alloc: Global, model: &'a Model) -> Result<WordReader<'a>, NewFault>
-        ensures ok { IfOk result (λ q. Reads model.now q nothing_read []) }
+        ensures ok { IfOk result (λ q. ReadsWords model.now q nothing_read []) }
         ensures answer { AnswersNew result (first_init_without_next model.now model.now) }
     {
         let play = WordPlay::new(alloc, model)?;
@@ -144,7 +144,7 @@ impl<'a> WordReader<'a> {
 
     /// Takes bytes of the next line.
     pub(crate) fn take(&mut self, bytes: &[u8])
-        ensures { (items : List Item) (r : Read) (line : List ℕ) → Reads items self.old r line → Reads items self.new r (line ++ bytes.now) }
+        ensures { (items : List Item) (r : Read) (line : List ℕ) → ReadsWords items self.old r line → ReadsWords items self.new r (line ++ bytes.now) }
     {
         if !is_alone(self.place) {
             self.claims.take(bytes, self.claimed.as_mut_slice());
@@ -178,7 +178,7 @@ impl<'a> WordReader<'a> {
 
     /// A comment or the status has ended.
     fn admit_status(&mut self, line: &[u8]) -> Result<(), Why>
-        ensures line { (items : List Item) (r : Read) → Reads items self.old r line.now → self.old.place ≡ place.Status → GivesLine items r line.now self.new result }
+        ensures line { (items : List Item) (r : Read) → ReadsWords items self.old r line.now → self.old.place ≡ place.Status → GivesLine items r line.now self.new result }
         ensures err { OnErr result (self.new ≡ self.old) }
     {
         if is_comment(line) {
@@ -193,7 +193,7 @@ impl<'a> WordReader<'a> {
 
     /// The line of claims has ended.
     fn admit_claims(&mut self) -> Result<(), Why>
-        ensures line { (items : List Item) (r : Read) (bytes : List ℕ) → Reads items self.old r bytes → self.old.place ≡ place.Claims → GivesLine items r bytes self.new result }
+        ensures line { (items : List Item) (r : Read) (bytes : List ℕ) → ReadsWords items self.old r bytes → self.old.place ≡ place.Claims → GivesLine items r bytes self.new result }
         ensures err { OnErr result (self.new.play ≡ self.old.play) }
     {
         self.claims.end(self.claimed.as_mut_slice())?;
@@ -203,7 +203,7 @@ impl<'a> WordReader<'a> {
 
     /// The line behind the claims has ended.
     fn admit_parts(&mut self, line: &[u8]) -> Result<(), Why>
-        ensures line { (items : List Item) (r : Read) → Reads items self.old r line.now → self.old.place ≡ place.Parts → GivesLine items r line.now self.new result }
+        ensures line { (items : List Item) (r : Read) → ReadsWords items self.old r line.now → self.old.place ≡ place.Parts → GivesLine items r line.now self.new result }
         ensures err { OnErr result (self.new ≡ self.old) }
     {
         if is_numbered(line, b'#', 0) {
@@ -219,7 +219,7 @@ impl<'a> WordReader<'a> {
 
     /// A line of a part of states has ended, or the one behind it.
     fn admit_states(&mut self, line: &[u8]) -> Result<(), Why>
-        ensures line { (items : List Item) (r : Read) → Reads items self.old r line.now → self.old.place ≡ place.States → length r.closed < 2 ^ 62 → GivesLine items r line.now self.new result }
+        ensures line { (items : List Item) (r : Read) → ReadsWords items self.old r line.now → self.old.place ≡ place.States → length r.closed < 2 ^ 62 → GivesLine items r line.now self.new result }
         ensures err { OnErr result (self.new ≡ self.old) }
     {
         if is_numbered(line, b'@', self.play.frames()) {
@@ -237,7 +237,7 @@ impl<'a> WordReader<'a> {
 
     /// A line behind that which opens a frame has ended.
     fn admit_frame(&mut self, line: &[u8]) -> Result<(), Why>
-        ensures line { (items : List Item) (r : Read) → Reads items self.old r line.now → self.old.place ≡ place.Frame → length r.closed < 2 ^ 62 → GivesLine items r line.now self.new result }
+        ensures line { (items : List Item) (r : Read) → ReadsWords items self.old r line.now → self.old.place ≡ place.Frame → length r.closed < 2 ^ 62 → GivesLine items r line.now self.new result }
         ensures err { OnErr result (self.new ≡ self.old) }
     {
         if !begins_part(line) {
@@ -293,7 +293,7 @@ impl<'a> WordReader<'a> {
 
     /// The line has ended: it is admitted, or why it is not. Of its bytes the first 342 are enough.
     pub(crate) fn admit(&mut self, line: &[u8]) -> Result<(), Why>
-        ensures line { (items : List Item) (r : Read) (bytes : List ℕ) → Reads items self.old r bytes → AreAlike line.now bytes → length r.closed < 2 ^ 62 → GivesLine items r bytes self.new result }
+        ensures line { (items : List Item) (r : Read) (bytes : List ℕ) → ReadsWords items self.old r bytes → AreAlike line.now bytes → length r.closed < 2 ^ 62 → GivesLine items r bytes self.new result }
         ensures err { OnErr result (self.new.play ≡ self.old.play) }
         // the line of the claims sets flags before it is refused
         ensures other { OnErr result ((self.old.place ≡ place.Claims → ⊥) → self.new ≡ self.old) }

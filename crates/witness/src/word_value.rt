@@ -5,7 +5,7 @@ ghost use Rattle.base.specs.Word.{bit_number};
 ghost use Rattle.witness.specs.declared.why.Why.TheVariants as why;
 ghost use Rattle.witness.specs.Admits.{is_value_byte, value_of};
 ghost use Rattle.witness.specs.BitScans.{is_bit, is_one_bit};
-ghost use Rattle.witness.specs.WordValues.{Gives, IsKnown, digits_word};
+ghost use Rattle.witness.specs.WordValues.{IsAsValueRead, IsValueOf, digits_word};
 
 use crate::bit_scan::is_value_byte;
 use crate::why::Why;
@@ -73,7 +73,7 @@ fn known_behind(front: u64, bytes: &[u8]) -> Option<u64>
 #[inline(always)]
 pub(crate) fn known_word(bytes: &[u8]) -> Option<u64>
     requires { length bytes.now ≤ 64 }
-    ensures { MatchOption result (list_all is_bit bytes.now ≡ false) (λ word. IsKnown word bytes.now) }
+    ensures { MatchOption result (list_all is_bit bytes.now ≡ false) (λ word. IsValueOf word bytes.now) }
 {
     let mut word = 0;
     let mut rest = bytes;
@@ -98,7 +98,7 @@ fn refusal(bytes: &[u8]) -> Why
 
 /// The word of so many bits that bytes write, or why they write none.
 pub(crate) fn value_of(bytes: &[u8], width: Width) -> Result<u64, Why>
-    ensures is { Gives (λ w. w) result (value_of width bytes.now) }
+    ensures is { IsAsValueRead (λ w. w) result (value_of width bytes.now) }
     ensures fits { IfOk result (λ w. w < 2 ^ width) }
 {
     if bytes.len() as u64 != width.bits() {

@@ -3,7 +3,7 @@ ghost use Rattle.std.specs.Prelude.{◌≡◌, ◌+◌, ◌++◌, ◌<◌, ◌�
 ghost use Rattle.aiger.specs.Limits.{greatest_count};
 ghost use Rattle.aiger.specs.Circuit.{IsCircuit};
 ghost use Rattle.aiger.specs.Renumbering.{new_literal, ordered_gate, new_gate, circuit_by};
-ghost use Rattle.aiger.specs.Numbering.{IsOnce, UseNumbered, line_in, name_in};
+ghost use Rattle.aiger.specs.Numbering.{IsOnce, UseNumbered, line_in, gate_name_at};
 
 use crate::circuit::{Circuit, Gate, Latch};
 use crate::literal::Lit;
@@ -91,10 +91,10 @@ pub(crate) fn gates_in_order(
 ) -> Result<Vec<Gate>, AllocError>
     requires few { length numbers.old + length order.now ≤ greatest_count }
     requires within { All (λ j. j < length lines.now) order.now }
-    requires once { IsOnce (numbers.old ++ map (name_in lines.now) order.now) }
+    requires once { IsOnce (numbers.old ++ map (gate_name_at lines.now) order.now) }
     requires known { UseNumbered numbers.old lines.now order.now }
-    ensures numbers { OnOk result (numbers.new ≡ numbers.old ++ map (name_in lines.now) order.now) }
-    ensures gates { IfOk result (λ v. v.items ≡ map (λ j. new_gate (numbers.old ++ map (name_in lines.now) order.now) (line_in lines.now j)) order.now) }
+    ensures numbers { OnOk result (numbers.new ≡ numbers.old ++ map (gate_name_at lines.now) order.now) }
+    ensures gates { IfOk result (λ v. v.items ≡ map (λ j. new_gate (numbers.old ++ map (gate_name_at lines.now) order.now) (line_in lines.now j)) order.now) }
 {
     let mut gates = Vec::with_capacity(alloc, order.len())?;
     for gate in order {

@@ -5,7 +5,7 @@ ghost use Rattle.std.specs.Io.KnownBytes.{prepend_known, IsAtEnd};
 ghost use Rattle.base.specs.Device.{HasRisen};
 ghost use Rattle.aigertext.specs.Binary.{gates_text};
 ghost use Rattle.aigertext.specs.declared.forms.Form.TheVariants as variant;
-ghost use Rattle.aigertext.specs.InOrder.{line_texts, IsPutOnLists, StandBefore, IsTaken};
+ghost use Rattle.aigertext.specs.InOrder.{line_texts, IsPutOnLists, StandBefore, IsTakenFrom};
 
 use crate::forms::Form;
 use crate::reading::ascii::{named, read_lists};
@@ -94,7 +94,7 @@ pub fn take_onto<S: Source>(
     source: &mut S,
 ) -> Result<Taken, ReadAllFault>
     requires { StandBefore counts.now before.now lists.old }
-    ensures taken { IfOk result (IsTaken (prepend_known (before.now ++ (line_texts lists.old.gates ++ window.old.items)) (S.to_come source.old))) }
+    ensures taken { IfOk result (IsTakenFrom (prepend_known (before.now ++ (line_texts lists.old.gates ++ window.old.items)) (S.to_come source.old))) }
     ensures end { OnOk result (IsAtEnd (S.to_come source.new)) }
     ensures counted { OnOk result (S.failures source.new ≡ S.failures source.old) }
     ensures device { IsErrOf result ReadAllFault.Device → HasRisen (S.failures source.old) (S.failures source.new) }

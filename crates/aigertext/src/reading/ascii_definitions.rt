@@ -3,9 +3,9 @@ ghost use Rattle.std.specs.Prelude.{◌≡◌, ℕ, List, Result, Ok, OnOk, IfSo
 ghost use Rattle.base.specs.Decimals.{number_of};
 ghost use Rattle.aiger.specs.Loose.{Loose as Lists, with_input_line, with_latch_line, with_gate_line};
 ghost use Rattle.aigertext.specs.declared.fault.Why.{Why as LineWhy};
-ghost use Rattle.aigertext.specs.Reading.{Gives, line_at};
-ghost use Rattle.aigertext.specs.AsciiReading.{defining, defining_by, input_of, latch_of, gate_of, onto_lists};
-ghost use Rattle.aigertext.specs.Passes.{Reads};
+ghost use Rattle.aigertext.specs.Reading.{IsAsRead, line_at};
+ghost use Rattle.aigertext.specs.AsciiReading.{defining, defining_by, input_of, latch_of_line, gate_of_line, onto_lists};
+ghost use Rattle.aigertext.specs.Passes.{IsReadOf};
 
 use crate::fault::{Stop, Why};
 use crate::reading::fields::{first_field, next_field};
@@ -26,7 +26,7 @@ pub(crate) trait Definition {
 
     /// What a line says.
     fn of_line(line: &[u8], greatest: u32, lists: &Loose) -> Result<Self, Why>
-        ensures { Gives (λ x. x) result (says greatest lists.now line.now) };
+        ensures { IsAsRead (λ x. x) result (says greatest lists.now line.now) };
 
     /// What the line at the front of a text defines, and the text behind it, where it is quickly read; else nothing. Of
     /// nothing no more is said.
@@ -60,7 +60,7 @@ impl Definition for Lit {
 }
 
 impl Definition for LatchLine {
-    ghost says = { latch_of };
+    ghost says = { latch_of_line };
 
     ghost with_line = { with_latch_line };
 
@@ -86,7 +86,7 @@ impl Definition for LatchLine {
 }
 
 impl Definition for GateLine {
-    ghost says = { gate_of };
+    ghost says = { gate_of_line };
 
     ghost with_line = { with_gate_line };
 
@@ -128,7 +128,7 @@ impl Definition for GateLine {
 
 /// The literal of a number, where it is even, at least 2 and at most the greatest, and no line defines its variable.
 fn defining(number: u64, why: Why, greatest: u32, lists: &Loose) -> Result<Lit, Why>
-    ensures { Gives (λ x. x) result (defining why greatest lists.now number) }
+    ensures { IsAsRead (λ x. x) result (defining why greatest lists.now number) }
 {
     if number > u64::from(greatest) {
         return Err(why);
@@ -143,7 +143,7 @@ fn defining(number: u64, why: Why, greatest: u32, lists: &Loose) -> Result<Lit, 
 
 /// The same of bytes that are a number.
 fn defined_by(bytes: &[u8], why: Why, greatest: u32, lists: &Loose) -> Result<Lit, Why>
-    ensures { Gives (λ x. x) result (defining_by why greatest lists.now (number_of bytes.now)) }
+    ensures { IsAsRead (λ x. x) result (defining_by why greatest lists.now (number_of bytes.now)) }
 {
     let number = decimal(bytes).ok_or(why)?;
     defining(number, why, greatest, lists)
@@ -155,7 +155,7 @@ fn first<'a, D: Definition>(
     greatest: u32,
     lists: &Loose,
 ) -> Result<(D, &'a [u8]), Stop>
-    ensures { Gives (λ x. (x.0, x.1.now)) result (line_at (D.says greatest lists.now) text.now) }
+    ensures { IsAsRead (λ x. (x.0, x.1.now)) result (line_at (D.says greatest lists.now) text.now) }
 {
     if let Some(found) = D::plain(text, greatest, lists) {
         return Ok(found);
@@ -172,7 +172,7 @@ pub fn push_definitions<'a, D: Definition>(
     greatest: u32,
     count: u32,
 ) -> Result<&'a [u8], Stop>
-    ensures { Reads (λ x. (lists.new, x.now)) result (onto_lists (D.says greatest) D.with_line lists.old count text.now) }
+    ensures { IsReadOf (λ x. (lists.new, x.now)) result (onto_lists (D.says greatest) D.with_line lists.old count text.now) }
 {
     let mut rest = text;
     for _index in 0..count {

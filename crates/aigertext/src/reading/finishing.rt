@@ -3,7 +3,7 @@ ghost use Rattle.std.specs.Prelude.{◌≡◌, ℕ, ◌≤◌, List, length, OnO
 ghost use Rattle.aiger.specs.Circuit.{fresh_circuit};
 ghost use Rattle.aigertext.specs.declared.forms.Form.TheVariants as variant;
 ghost use Rattle.aigertext.specs.Counts.{AreSmall};
-ghost use Rattle.aigertext.specs.Passes.{with_latches, with_gates};
+ghost use Rattle.aigertext.specs.Passes.{with_latches, with_more_gates};
 ghost use Rattle.aigertext.specs.InOrder.{uses_of, IsFront, text_with, IsFinish, ReadsOnto};
 
 use crate::fault::{Stop, Why};
@@ -33,7 +33,7 @@ fn set_latches(circuit: &mut Circuit, latches: &[Latch]) -> Result<(), CircuitFa
 ///
 /// Errors: those of the names, and `NoMemory`.
 fn finish(circuit: &mut Circuit, front: &Front, names: &[u8]) -> Result<(), Stop>
-    requires bare { circuit.old ≡ with_gates (fresh_circuit front.now.counts.inputs front.now.counts.latches) circuit.old.gates }
+    requires bare { circuit.old ≡ with_more_gates (fresh_circuit front.now.counts.inputs front.now.counts.latches) circuit.old.gates }
     requires all { length circuit.old.gates ≡ front.now.counts.gates }
     requires small { AreSmall front.now.counts }
     requires front { (before : List ℕ) × IsFront front.now.form front.now.counts (uses_of front.now) before }
@@ -55,7 +55,7 @@ fn finish(circuit: &mut Circuit, front: &Front, names: &[u8]) -> Result<(), Stop
 pub fn read_left(circuit: &mut Circuit, front: &Front, window: &[u8]) -> Result<(), Stop>
     requires small { AreSmall front.now.counts }
     requires front { (before : List ℕ) × IsFront front.now.form front.now.counts (uses_of front.now) before }
-    requires bare { circuit.old ≡ with_gates (fresh_circuit front.now.counts.inputs front.now.counts.latches) circuit.old.gates }
+    requires bare { circuit.old ≡ with_more_gates (fresh_circuit front.now.counts.inputs front.now.counts.latches) circuit.old.gates }
     requires few { length circuit.old.gates ≤ front.now.counts.gates }
     requires all { front.now.form ≡ variant.Ascii → length circuit.old.gates ≡ front.now.counts.gates }
     ensures { (before : List ℕ) → IsFront front.now.form front.now.counts (uses_of front.now) before → ReadsOnto circuit.new (text_with front.now.form front.now.counts before circuit.old.gates window.now) result }

@@ -7,7 +7,7 @@ ghost use Rattle.aiger.specs.Loose.{with_gate_line};
 ghost use Rattle.aigertext.specs.Ascii.{numbers_line};
 ghost use Rattle.aigertext.specs.Binary.{gate_text};
 ghost use Rattle.aigertext.specs.declared.forms.Form.{Form as FormValue};
-ghost use Rattle.aigertext.specs.InOrder.{IsLineUpTo, IsPut, IsPutOnLists, PutsText, FollowEachOther};
+ghost use Rattle.aigertext.specs.InOrder.{IsLineUpTo, ArePutGates, IsPutOnLists, PutsText, FollowEachOther};
 
 use crate::forms::Form;
 use crate::reading::binary_gates::gate;
@@ -70,7 +70,7 @@ pub(crate) trait TakesGates {
 }
 
 impl TakesGates for Circuit {
-    ghost puts = { λ form greatest. IsPut form };
+    ghost puts = { λ form greatest. ArePutGates form };
 
     ghost count = { λ c. length c.gates };
 

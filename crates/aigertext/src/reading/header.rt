@@ -2,7 +2,7 @@
 ghost use Rattle.std.specs.Prelude.{◌≡◌, ◌≤◌, true, take, get_or, nat_le, Ok, Err, IfOk, IfErr};
 ghost use Rattle.std.specs.List.{list_all};
 ghost use Rattle.aiger.specs.Limits.{greatest_count};
-ghost use Rattle.aigertext.specs.Reading.{Gives, fields_behind, numbers_in, counts_of, counts_told, fitting, form_of, header_of, header_fields};
+ghost use Rattle.aigertext.specs.Reading.{IsAsRead, fields_behind, numbers_in, counts_of, counts_told, fitting, header_form, header_of, header_fields};
 
 use crate::fault::Why;
 use crate::forms::Form;
@@ -52,7 +52,7 @@ fn number_at(numbers: &[u64], k: usize) -> u32
 /// The counts that numbers are.
 #[tactic(auto, unfolding(crate::specs::Reading::counts_of))]
 fn counts_of(numbers: &[u64]) -> Result<Counts, Why>
-    ensures { Gives (λ x. x) result (counts_of numbers.now) }
+    ensures { IsAsRead (λ x. x) result (counts_of numbers.now) }
 {
     if numbers.len() < 5 || numbers.len() > 9 {
         return Err(Why::BadHeader);
@@ -76,7 +76,7 @@ fn counts_of(numbers: &[u64]) -> Result<Counts, Why>
 /// The form that a word is of.
 #[tactic(auto, unfolding(crate::specs::Reading::form_of))]
 fn form_of(word: &[u8]) -> Result<Form, Why>
-    ensures { Gives (λ x. x) result (form_of word.now) }
+    ensures { IsAsRead (λ x. x) result (header_form word.now) }
 {
     if word == b"aag".as_slice() {
         return Ok(Form::Ascii);
@@ -90,7 +90,7 @@ fn form_of(word: &[u8]) -> Result<Form, Why>
 /// Counts whose greatest variable fits what they count.
 #[tactic(auto, unfolding(crate::specs::Reading::fitting))]
 fn fitting(form: Form, counts: Counts) -> Result<Counts, Why>
-    ensures { Gives (λ x. x) result (fitting form counts) }
+    ensures { IsAsRead (λ x. x) result (fitting form counts) }
 {
     let sum = u64::from(counts.inputs) + u64::from(counts.latches) + u64::from(counts.gates);
     let greatest = u64::from(counts.variables);
@@ -106,7 +106,7 @@ fn fitting(form: Form, counts: Counts) -> Result<Counts, Why>
 /// Errors, of which the first that applies in this order is answered: `BadHeader`, `TooBig` and `CountsDisagree`.
 #[tactic(auto, unfolding(crate::specs::Reading::header_fields))]
 pub fn header(line: &[u8]) -> Result<(Form, Counts), Why>
-    ensures { Gives (λ x. x) result (header_of line.now) }
+    ensures { IsAsRead (λ x. x) result (header_of line.now) }
 {
     let (word, rest) = first_field(line);
     let form = form_of(word)?;

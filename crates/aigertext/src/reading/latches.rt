@@ -1,6 +1,6 @@
 //! Reading the line of a latch whose own literal is given.
 ghost use Rattle.std.specs.Prelude.{◌≡◌, ◌∷◌};
-ghost use Rattle.aigertext.specs.Reading.{Gives, reset_of, reset_at, fields, fields_behind, next_fields, next_of};
+ghost use Rattle.aigertext.specs.Reading.{IsAsRead, reset_of, reset_on, fields, fields_behind, next_fields, next_of};
 ghost use Rattle.aigertext.specs.Passes.{own_fields, latch_in};
 ghost use Rattle.base.specs.Decimals.{number_of};
 
@@ -13,7 +13,7 @@ use base::decimal;
 
 /// How a latch begins: 0, 1, or its own literal where it has no initial value.
 fn reset(field: &[u8], own: u32) -> Result<Reset, Why>
-    ensures { Gives (λ x. x) result (reset_of own (number_of field.now)) }
+    ensures { IsAsRead (λ x. x) result (reset_of own (number_of field.now)) }
 {
     match decimal(field) {
         Some(0) => Ok(Reset::Zero),
@@ -25,7 +25,7 @@ fn reset(field: &[u8], own: u32) -> Result<Reset, Why>
 
 /// How a latch begins, by what stands behind its next literal on its line; nothing stands for 0.
 fn reset_behind(rest: &[u8], own: u32) -> Result<Reset, Why>
-    ensures { Gives (λ x. x) result (reset_at own (fields_behind rest.now)) }
+    ensures { IsAsRead (λ x. x) result (reset_on own (fields_behind rest.now)) }
 {
     match next_field(rest) {
         None => Ok(Reset::Zero),
@@ -39,7 +39,7 @@ fn reset_behind(rest: &[u8], own: u32) -> Result<Reset, Why>
 /// The latch of a next literal and what stands behind it on its line.
 #[tactic(auto, unfolding(crate::specs::Reading::next_fields))]
 pub fn latch_behind(next: &[u8], rest: &[u8], greatest: u32, own: u32) -> Result<Latch, Why>
-    ensures { Gives (λ x. x) result (next_fields greatest own (next.now ∷ fields_behind rest.now)) }
+    ensures { IsAsRead (λ x. x) result (next_fields greatest own (next.now ∷ fields_behind rest.now)) }
 {
     let next = literal_within(next, greatest, Why::BadLatch)?;
     let reset = reset_behind(rest, own)?;
@@ -48,7 +48,7 @@ pub fn latch_behind(next: &[u8], rest: &[u8], greatest: u32, own: u32) -> Result
 
 /// The latch of a line of the binary form: its next literal, which is at most the greatest one, and how it begins.
 fn next_latch(line: &[u8], greatest: u32, own: u32) -> Result<Latch, Why>
-    ensures { Gives (λ x. x) result (next_of greatest own line.now) }
+    ensures { IsAsRead (λ x. x) result (next_of greatest own line.now) }
 {
     let (next, rest) = first_field(line);
     latch_behind(next, rest, greatest, own)
@@ -57,7 +57,7 @@ fn next_latch(line: &[u8], greatest: u32, own: u32) -> Result<Latch, Why>
 /// The latch of a line of the ascii form, which begins with the given own literal.
 #[tactic(auto, unfolding(crate::specs::Passes::own_fields, crate::specs::Reading::next_fields))]
 fn own_latch(line: &[u8], greatest: u32, own: u32) -> Result<Latch, Why>
-    ensures { Gives (λ x. x) result (own_fields greatest own (fields line.now)) }
+    ensures { IsAsRead (λ x. x) result (own_fields greatest own (fields line.now)) }
 {
     let (current, rest) = first_field(line);
     let number = decimal(current).ok_or(Why::BadLatch)?;
@@ -73,7 +73,7 @@ fn own_latch(line: &[u8], greatest: u32, own: u32) -> Result<Latch, Why>
 ///
 /// Error: `BadLatch`.
 pub fn latch_in(form: Form, line: &[u8], greatest: u32, own: u32) -> Result<Latch, Why>
-    ensures { Gives (λ x. x) result (latch_in form greatest own line.now) }
+    ensures { IsAsRead (λ x. x) result (latch_in form greatest own line.now) }
 {
     match form {
         Form::Ascii => own_latch(line, greatest, own),

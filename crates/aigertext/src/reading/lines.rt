@@ -1,7 +1,7 @@
 //! What stands at the front of a text: a line, and what it says.
 ghost use Rattle.std.specs.Prelude.{◌≡◌, ◌+◌, ◌≤◌, Ok, Err, IfOk, MatchResult};
 ghost use Rattle.aigertext.specs.Counts.{AreSmall, Fits};
-ghost use Rattle.aigertext.specs.Reading.{Gives, stop, line_at, header_of, literal_of, size_of};
+ghost use Rattle.aigertext.specs.Reading.{IsAsRead, stop, line_at, header_of, literal_on, size_of};
 ghost use Rattle.aigertext.specs.Passes.{latch_in, told};
 
 use crate::fault::{ReadFault, Stop, Why};
@@ -46,7 +46,7 @@ pub fn fault(total: u64, stop: Stop) -> ReadFault
 
 /// The first line of a text, and the text behind it.
 pub fn line(text: &[u8]) -> Result<(&[u8], &[u8]), Stop>
-    ensures { Gives (λ x. (x.0.now, x.1.now)) result (line_at Ok text.now) }
+    ensures { IsAsRead (λ x. (x.0.now, x.1.now)) result (line_at Ok text.now) }
 {
     match next_line(text) {
         None => Err(stop(text, Why::Truncated)),
@@ -56,7 +56,7 @@ pub fn line(text: &[u8]) -> Result<(&[u8], &[u8]), Stop>
 
 /// What the header says, and the text behind it.
 pub fn header_line(text: &[u8]) -> Result<((Form, Counts), &[u8]), Stop>
-    ensures gives { Gives (λ x. (x.0, x.1.now)) result (line_at header_of text.now) }
+    ensures gives { IsAsRead (λ x. (x.0, x.1.now)) result (line_at header_of text.now) }
     ensures small { IfOk result (λ x. AreSmall x.0.1) }
     ensures fits { IfOk result (λ x. Fits x.0.0 x.0.1) }
 {
@@ -67,7 +67,7 @@ pub fn header_line(text: &[u8]) -> Result<((Form, Counts), &[u8]), Stop>
 
 /// The latch of the first line of a text of a form, whose own literal is given, and the text behind it.
 pub fn latch_line(form: Form, text: &[u8], greatest: u32, own: u32) -> Result<(Latch, &[u8]), Stop>
-    ensures { Gives (λ x. (x.0, x.1.now)) result (line_at (latch_in form greatest own) text.now) }
+    ensures { IsAsRead (λ x. (x.0, x.1.now)) result (line_at (latch_in form greatest own) text.now) }
 {
     let (bytes, behind) = line(text)?;
     let latch = at(text, latch_in(form, bytes, greatest, own))?;
@@ -77,7 +77,7 @@ pub fn latch_line(form: Form, text: &[u8], greatest: u32, own: u32) -> Result<(L
 /// The literal of the first line, and the text behind it.
 #[tactic(auto, unfolding(crate::specs::Reading::literal_of))]
 pub fn literal_line(text: &[u8], greatest: u32) -> Result<(Lit, &[u8]), Stop>
-    ensures { Gives (λ x. (x.0, x.1.now)) result (line_at (literal_of greatest) text.now) }
+    ensures { IsAsRead (λ x. (x.0, x.1.now)) result (line_at (literal_on greatest) text.now) }
 {
     let (bytes, behind) = line(text)?;
     let literal = at(text, literal_within(bytes, greatest, Why::BadNumber))?;
@@ -87,7 +87,7 @@ pub fn literal_line(text: &[u8], greatest: u32) -> Result<(Lit, &[u8]), Stop>
 /// The size that the first line gives, where those before it have so many literals together, and the text behind it.
 pub fn size_line(text: &[u8], before: u32) -> Result<(u32, &[u8]), Stop>
     requires { before ≤ 1073741824 }
-    ensures gives { Gives (λ x. (x.0, x.1.now)) result (line_at (size_of before) text.now) }
+    ensures gives { IsAsRead (λ x. (x.0, x.1.now)) result (line_at (size_of before) text.now) }
     ensures small { IfOk result (λ x. before + x.0 ≤ 1073741824) }
 {
     let (bytes, behind) = line(text)?;

@@ -1,8 +1,8 @@
 //! Reading the names behind the gates, and the beginning of a comment.
 ghost use Rattle.std.specs.Prelude.{◌≡◌};
 ghost use Rattle.aiger.specs.Circuit.{with_name, name_refusal};
-ghost use Rattle.aigertext.specs.Reading.{accepted, section_of, named_by, name_on, names_at, cut};
-ghost use Rattle.aigertext.specs.Passes.{Reads, ReadsLine};
+ghost use Rattle.aigertext.specs.Reading.{name_accepted, section_with_letter, named_by, name_on, names_at, cut_at_byte};
+ghost use Rattle.aigertext.specs.Passes.{IsReadOf, IsLineReadOf};
 
 use crate::fault::{Stop, Why};
 use crate::reading::lines::{at, stop};
@@ -12,7 +12,7 @@ use base::{cut_at, decimal, next_line};
 /// The section that a letter stands for.
 #[tactic(auto, unfolding(crate::specs::Reading::section_of))]
 fn section(letter: u8) -> Option<Section>
-    ensures { result ≡ section_of letter }
+    ensures { result ≡ section_with_letter letter }
 {
     Section::ALL
         .iter()
@@ -24,7 +24,7 @@ fn section(letter: u8) -> Option<Section>
 ///
 /// Errors: `BadSymbol` and `NoMemory`.
 fn give(circuit: &mut Circuit, section: Section, position: u64, name: &[u8]) -> Result<(), Why>
-    ensures { ReadsLine (λ u. circuit.new) result (accepted (with_name circuit.old section position name.now) (name_refusal circuit.old section position name.now)) }
+    ensures { IsLineReadOf (λ u. circuit.new) result (name_accepted (with_name circuit.old section position name.now) (name_refusal circuit.old section position name.now)) }
 {
     match circuit.set_name(section, position as usize, name) {
         Ok(()) => Ok(()),
@@ -35,7 +35,7 @@ fn give(circuit: &mut Circuit, section: Section, position: u64, name: &[u8]) -> 
 
 /// Gives a section's position the name that stands behind its letter.
 fn give_by(circuit: &mut Circuit, section: Section, bytes: &[u8]) -> Result<(), Why>
-    ensures { ReadsLine (λ u. circuit.new) result (named_by circuit.old section (cut 32 bytes.now)) }
+    ensures { IsLineReadOf (λ u. circuit.new) result (named_by circuit.old section (cut_at_byte 32 bytes.now)) }
 {
     let (digits, name) = cut_at(bytes, b' ').ok_or(Why::BadSymbol)?;
     let position = decimal(digits).ok_or(Why::BadSymbol)?;
@@ -45,7 +45,7 @@ fn give_by(circuit: &mut Circuit, section: Section, bytes: &[u8]) -> Result<(), 
 /// Gives the name of a line.
 #[tactic(auto, unfolding(crate::specs::Reading::name_on))]
 fn give_line(circuit: &mut Circuit, line: &[u8]) -> Result<(), Why>
-    ensures { ReadsLine (λ u. circuit.new) result (name_on circuit.old line.now) }
+    ensures { IsLineReadOf (λ u. circuit.new) result (name_on circuit.old line.now) }
 {
     let [letter, rest @ ..] = line else {
         return Err(Why::BadSymbol);
@@ -58,7 +58,7 @@ fn give_line(circuit: &mut Circuit, line: &[u8]) -> Result<(), Why>
 ///
 /// Errors: `BadSymbol`, `Truncated` where the last line has no byte 10, and `NoMemory`.
 pub fn give_names(circuit: &mut Circuit, text: &[u8]) -> Result<(), Stop>
-    ensures { Reads (λ u. circuit.new) result (names_at circuit.old text.now) }
+    ensures { IsReadOf (λ u. circuit.new) result (names_at circuit.old text.now) }
 {
     let mut rest = text;
     while let Some((line, after)) = next_line(rest) {

@@ -1,8 +1,8 @@
 //! Properties that were read, put onto a circuit or onto the lists of a file.
 ghost use Rattle.std.specs.Prelude.{◌≡◌, refl, [], ◌∷◌, length, OnOk};
 ghost use Rattle.std.specs.List.{sum};
-ghost use Rattle.aigertext.specs.Reading.{lists_of};
-ghost use Rattle.aigertext.specs.PropertyLists.{Lists, no_lists, numbers_of, with_literals, with_justice, lists_made, ArePropertyLists, circuit_lists, circuit_with, file_lists, file_with};
+ghost use Rattle.aigertext.specs.Reading.{sized_lists};
+ghost use Rattle.aigertext.specs.PropertyLists.{Lists, no_lists, numbers_of, with_literals, with_justice_lists, lists_made, ArePropertyLists, circuit_lists, circuit_with, file_lists, file_with};
 
 use crate::reading::properties::PropertyLines;
 use aiger::{Circuit, CircuitFault, Lit, Loose};
@@ -34,7 +34,7 @@ pub(crate) trait PropertyLists {
 
     /// Adds a justice property.
     fn add_justice(&mut self, literals: &[Lit]) -> Result<(), CircuitFault>
-        ensures { OnOk result (self.new ≡ with_lists self.old (with_justice (lists self.old) (literals.now ∷ []))) };
+        ensures { OnOk result (self.new ≡ with_lists self.old (with_justice_lists (lists self.old) (literals.now ∷ []))) };
 
     /// They are lists beside which nothing changes.
     ghost laws: { ArePropertyLists lists with_lists };
@@ -103,7 +103,7 @@ fn put_justice<L: PropertyLists>(
     listed: &[Lit],
 ) -> Result<(), CircuitFault>
     requires { length listed.now ≡ sum sizes.now }
-    ensures { OnOk result (lists.new ≡ L.with_lists lists.old (with_justice (L.lists lists.old) (lists_of sizes.now listed.now))) }
+    ensures { OnOk result (lists.new ≡ L.with_lists lists.old (with_justice_lists (L.lists lists.old) (sized_lists sizes.now listed.now))) }
 {
     let mut rest = listed;
     for size in sizes {

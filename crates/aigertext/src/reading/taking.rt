@@ -5,7 +5,7 @@ ghost use Rattle.base.specs.Device.{HasRisen};
 ghost use Rattle.aiger.specs.Circuit.{fresh_circuit};
 ghost use Rattle.aigertext.specs.declared.forms.Form.TheVariants as variant;
 ghost use Rattle.aigertext.specs.Counts.{AreSmall};
-ghost use Rattle.aigertext.specs.InOrder.{uses_of, IsFront, IsTaken, IsTakenOnto};
+ghost use Rattle.aigertext.specs.InOrder.{uses_of, IsFront, IsTakenFrom, IsTakenOnto};
 
 use crate::fault::ReadFault;
 use crate::forms::Form;
@@ -98,7 +98,7 @@ fn take_behind<S: Source>(
 ) -> Result<Taken, ReadAllFault>
     requires front { IsFront front.now.form front.now.counts (uses_of front.now) before.now }
     requires small { AreSmall front.now.counts }
-    ensures taken { IfOk result (IsTaken (prepend_known (before.now ++ gates.now) (S.to_come source.old))) }
+    ensures taken { IfOk result (IsTakenFrom (prepend_known (before.now ++ gates.now) (S.to_come source.old))) }
     ensures end { OnOk result (IsAtEnd (S.to_come source.new)) }
     ensures counted { OnOk result (S.failures source.new ≡ S.failures source.old) }
     ensures device { IsErrOf result ReadAllFault.Device → HasRisen (S.failures source.old) (S.failures source.new) }
@@ -121,7 +121,7 @@ fn take_behind<S: Source>(
 ///
 /// Errors: `Device` where the source failed in this call, `NoMemory` where a growth was refused.
 pub fn take<S: Source>(alloc: Global, source: &mut S) -> Result<Taken, ReadAllFault>
-    ensures taken { IfOk result (IsTaken (S.to_come source.old)) }
+    ensures taken { IfOk result (IsTakenFrom (S.to_come source.old)) }
     ensures end { OnOk result (IsAtEnd (S.to_come source.new)) }
     ensures counted { OnOk result (S.failures source.new ≡ S.failures source.old) }
     ensures device { IsErrOf result ReadAllFault.Device → HasRisen (S.failures source.old) (S.failures source.new) }

@@ -4,7 +4,7 @@ ghost use Rattle.aiger.specs.Circuit.{IsCircuit};
 ghost use Rattle.aiger.specs.Net.{AreOrderedFrom};
 ghost use Rattle.aigertext.specs.Binary.{gate_text, gates_text};
 ghost use Rattle.aigertext.specs.declared.forms.Form.TheVariants as variant;
-ghost use Rattle.aigertext.specs.Writing.{Writes};
+ghost use Rattle.aigertext.specs.Writing.{WritesText};
 
 use crate::forms::Form;
 use crate::writing::pen::Pen;
@@ -26,7 +26,7 @@ pub fn first_gate(circuit: &Circuit) -> u32
 pub fn put_gates<K: Sink>(pen: &mut Pen, sink: &mut K, form: Form, first: u32, gates: &[Gate])
     requires few { first + length gates.now ≤ 1073741825 }
     requires ordered { AreOrderedFrom first gates.now }
-    ensures { Writes K.written K.failures sink.old sink.new pen.old pen.new (gates_text form first gates.now) }
+    ensures { WritesText K.written K.failures sink.old sink.new pen.old pen.new (gates_text form first gates.now) }
 {
     match form {
         Form::Ascii => put_lines(pen, sink, first, gates),
@@ -37,7 +37,7 @@ pub fn put_gates<K: Sink>(pen: &mut Pen, sink: &mut K, form: Form, first: u32, g
 /// Puts the lines of gates: of each its literal and its operands.
 fn put_lines<K: Sink>(pen: &mut Pen, sink: &mut K, first: u32, gates: &[Gate])
     requires { first + length gates.now ≤ 1073741825 }
-    ensures { Writes K.written K.failures sink.old sink.new pen.old pen.new (gates_text variant.Ascii first gates.now) }
+    ensures { WritesText K.written K.failures sink.old sink.new pen.old pen.new (gates_text variant.Ascii first gates.now) }
 {
     let mut variable = first;
     for gate in gates {
@@ -53,7 +53,7 @@ fn put_lines<K: Sink>(pen: &mut Pen, sink: &mut K, first: u32, gates: &[Gate])
 fn put_deltas<K: Sink>(pen: &mut Pen, sink: &mut K, first: u32, gates: &[Gate])
     requires few { first + length gates.now ≤ 1073741825 }
     requires ordered { AreOrderedFrom first gates.now }
-    ensures { Writes K.written K.failures sink.old sink.new pen.old pen.new (gates_text variant.Binary first gates.now) }
+    ensures { WritesText K.written K.failures sink.old sink.new pen.old pen.new (gates_text variant.Binary first gates.now) }
 {
     let mut buffer = [0u8; ROOM];
     let mut variable = first;

@@ -2,7 +2,7 @@
 ghost use Rattle.std.specs.Prelude.{◌≡◌, ◌≤◌, ◌∷◌, length};
 ghost use Rattle.aigertext.specs.Ascii.{numbers_line, without_zero_tail, header};
 ghost use Rattle.aigertext.specs.Counts.{counts_in, last_of_counts};
-ghost use Rattle.aigertext.specs.Writing.{Writes};
+ghost use Rattle.aigertext.specs.Writing.{WritesText};
 
 use crate::forms::Form;
 use crate::writing::line::Line;
@@ -12,7 +12,7 @@ use base::Sink;
 
 /// Puts the header of a circuit in a form.
 pub fn put_header<K: Sink>(pen: &mut Pen, sink: &mut K, form: Form, circuit: &Circuit)
-    ensures { Writes K.written K.failures sink.old sink.new pen.old pen.new (header form circuit.now) }
+    ensures { WritesText K.written K.failures sink.old sink.new pen.old pen.new (header form circuit.now) }
 {
     write_last_counts(&mut pen.line, circuit);
     pen.line.before(circuit.outputs().len() as u32);

@@ -2,7 +2,7 @@
 ghost use Rattle.std.specs.Prelude.{Some};
 ghost use Rattle.aiger.specs.Circuit.{letter, name_of};
 ghost use Rattle.aigertext.specs.Ascii.{name_line, names_of, all_names};
-ghost use Rattle.aigertext.specs.Writing.{Writes};
+ghost use Rattle.aigertext.specs.Writing.{WritesText};
 
 use crate::writing::pen::Pen;
 use aiger::{Circuit, Section};
@@ -10,7 +10,7 @@ use base::Sink;
 
 /// Puts the names of all sections, in the order of the letters i l o b c j f.
 pub fn put_all_names<K: Sink>(pen: &mut Pen, sink: &mut K, circuit: &Circuit)
-    ensures { Writes K.written K.failures sink.old sink.new pen.old pen.new (all_names circuit.now) }
+    ensures { WritesText K.written K.failures sink.old sink.new pen.old pen.new (all_names circuit.now) }
 {
     for section in &Section::ALL {
         put_names(pen, sink, circuit, *section);
@@ -19,7 +19,7 @@ pub fn put_all_names<K: Sink>(pen: &mut Pen, sink: &mut K, circuit: &Circuit)
 
 /// Puts a line for each name of a section.
 fn put_names<K: Sink>(pen: &mut Pen, sink: &mut K, circuit: &Circuit, section: Section)
-    ensures { Writes K.written K.failures sink.old sink.new pen.old pen.new (names_of circuit.now section) }
+    ensures { WritesText K.written K.failures sink.old sink.new pen.old pen.new (names_of circuit.now section) }
 {
     for position in 0..circuit.count(section) as u32 {
         put_name_at(pen, sink, circuit, section, position);
@@ -28,7 +28,7 @@ fn put_names<K: Sink>(pen: &mut Pen, sink: &mut K, circuit: &Circuit, section: S
 
 /// Puts the line of a position's name, where it has one.
 fn put_name_at<K: Sink>(pen: &mut Pen, sink: &mut K, circuit: &Circuit, section: Section, at: u32)
-    ensures { Writes K.written K.failures sink.old sink.new pen.old pen.new (name_line (letter section) at (name_of circuit.now section at)) }
+    ensures { WritesText K.written K.failures sink.old sink.new pen.old pen.new (name_line (letter section) at (name_of circuit.now section at)) }
 {
     if let Some(name) = circuit.name(section, at as usize) {
         put_name(pen, sink, section, at, name);
@@ -37,7 +37,7 @@ fn put_name_at<K: Sink>(pen: &mut Pen, sink: &mut K, circuit: &Circuit, section:
 
 /// Puts the line of a name: the section's letter, the position, a space and the name.
 fn put_name<K: Sink>(pen: &mut Pen, sink: &mut K, section: Section, position: u32, name: &[u8])
-    ensures { Writes K.written K.failures sink.old sink.new pen.old pen.new (name_line (letter section) position (Some name.now)) }
+    ensures { WritesText K.written K.failures sink.old sink.new pen.old pen.new (name_line (letter section) position (Some name.now)) }
 {
     pen.line.clear();
     pen.line.before(position);

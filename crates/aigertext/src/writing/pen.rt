@@ -1,7 +1,7 @@
 //! A text on its way to a sink, whose first fault is kept.
 ghost use Rattle.std.specs.Prelude.{◌≡◌, ◌∷◌, [], Ok};
 ghost use Rattle.aigertext.specs.Ascii.{numbers_line};
-ghost use Rattle.aigertext.specs.Writing.{Writes};
+ghost use Rattle.aigertext.specs.Writing.{WritesText};
 
 use crate::writing::line::Line;
 use base::{DeviceFault, Outbox, Sink};
@@ -34,7 +34,7 @@ impl Pen {
     /// Puts bytes.
     #[inline(always)]
     pub fn put<K: Sink>(&mut self, sink: &mut K, bytes: &[u8])
-        ensures { Writes K.written K.failures sink.old sink.new self.old self.new bytes.now }
+        ensures { WritesText K.written K.failures sink.old sink.new self.old self.new bytes.now }
     {
         if self.answer.is_ok() {
             self.answer = self.outbox.put(sink, bytes);
@@ -44,7 +44,7 @@ impl Pen {
     /// Puts the line at hand.
     #[inline(always)]
     pub fn put_line<K: Sink>(&mut self, sink: &mut K)
-        ensures { Writes K.written K.failures sink.old sink.new self.old self.new self.old.line }
+        ensures { WritesText K.written K.failures sink.old sink.new self.old self.new self.old.line }
     {
         if self.answer.is_ok() {
             self.answer = self.outbox.put(sink, self.line.bytes());
@@ -53,7 +53,7 @@ impl Pen {
 
     /// Puts the line of one number.
     pub fn put_number<K: Sink>(&mut self, sink: &mut K, number: u32)
-        ensures { Writes K.written K.failures sink.old sink.new self.old self.new (numbers_line (number ∷ [])) }
+        ensures { WritesText K.written K.failures sink.old sink.new self.old self.new (numbers_line (number ∷ [])) }
     {
         self.line.last(number);
         self.put_line(sink);

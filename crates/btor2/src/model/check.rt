@@ -7,7 +7,7 @@ ghost use Rattle.std.specs.List.{list_all};
 ghost use Rattle.base.specs.Widths.{binary_width, is_of_bits};
 ghost use Rattle.btor2.specs.Items.{node_width, names_state, sort_width};
 ghost use Rattle.btor2.specs.declared.item.Body.TheVariants as body;
-ghost use Rattle.btor2.specs.Check.{first_row, said, refusal, Refuses};
+ghost use Rattle.btor2.specs.Check.{first_row, said_rows, refusal, Refuses};
 
 use crate::fault::PushFault;
 use crate::item::{Body, Item, all_ones};
@@ -122,7 +122,7 @@ impl Model {
 
     /// Tests a node that has a sort alone.
     fn check_leaf(&self, sort: u32) -> Result<(), PushFault>
-        ensures { Refuses result (first_row (said self.now (body.Input sort))) }
+        ensures { Refuses result (first_row (said_rows self.now (body.Input sort))) }
     {
         let _width = self.named_sort(sort)?;
         Ok(())
@@ -130,7 +130,7 @@ impl Model {
 
     /// Tests a constant in binary digits.
     fn check_const(&self, sort: u32, digits: u32, value: u64) -> Result<(), PushFault>
-        ensures { Refuses result (first_row (said self.now (body.Const sort digits value))) }
+        ensures { Refuses result (first_row (said_rows self.now (body.Const sort digits value))) }
     {
         let width = self.named_sort(sort)?;
         refuse_if(
@@ -141,7 +141,7 @@ impl Model {
 
     /// Tests a decimal constant.
     fn check_constd(&self, sort: u32, value: i128) -> Result<(), PushFault>
-        ensures { Refuses result (first_row (said self.now (body.Constd sort value))) }
+        ensures { Refuses result (first_row (said_rows self.now (body.Constd sort value))) }
     {
         let width = self.named_sort(sort)?;
         refuse_if(!decimal_fits(width, value), PushFault::ConstantDoesNotFit)
@@ -149,7 +149,7 @@ impl Model {
 
     /// Tests a constant in hexadecimal digits.
     fn check_consth(&self, sort: u32, digits: u32, value: u64) -> Result<(), PushFault>
-        ensures { Refuses result (first_row (said self.now (body.Consth sort digits value))) }
+        ensures { Refuses result (first_row (said_rows self.now (body.Consth sort digits value))) }
     {
         let width = self.named_sort(sort)?;
         refuse_if(
@@ -160,7 +160,7 @@ impl Model {
 
     /// Tests a node that widens another.
     fn check_extension(&self, sort: u32, operand: u32, by: u64) -> Result<(), PushFault>
-        ensures { Refuses result (first_row (said self.now (body.Uext sort operand by))) }
+        ensures { Refuses result (first_row (said_rows self.now (body.Uext sort operand by))) }
     {
         let width = self.named_sort(sort)?;
         let given = self.named_node(operand)?;
@@ -169,7 +169,7 @@ impl Model {
 
     /// Tests a slice.
     fn check_slice(&self, sort: u32, operand: u32, upper: u32, lower: u32) -> Result<(), PushFault>
-        ensures { Refuses result (first_row (said self.now (body.Slice sort operand upper lower))) }
+        ensures { Refuses result (first_row (said_rows self.now (body.Slice sort operand upper lower))) }
     {
         let width = self.named_sort(sort)?;
         let given = self.named_node(operand)?;
@@ -184,7 +184,7 @@ impl Model {
 
     /// Tests an operator of one operand.
     fn check_unary(&self, operator: Unary, sort: u32, operand: u32) -> Result<(), PushFault>
-        ensures { Refuses result (first_row (said self.now (body.Unary operator sort operand))) }
+        ensures { Refuses result (first_row (said_rows self.now (body.Unary operator sort operand))) }
     {
         let width = self.named_sort(sort)?;
         let given = self.named_node(operand)?;
@@ -199,7 +199,7 @@ impl Model {
         left: u32,
         right: u32,
     ) -> Result<(), PushFault>
-        ensures { Refuses result (first_row (said self.now (body.Binary operator sort left right))) }
+        ensures { Refuses result (first_row (said_rows self.now (body.Binary operator sort left right))) }
     {
         let width = self.named_sort(sort)?;
         let first = self.named_node(left)?;
@@ -212,7 +212,7 @@ impl Model {
 
     /// Tests a concatenation.
     fn check_concat(&self, sort: u32, high: u32, low: u32) -> Result<(), PushFault>
-        ensures { Refuses result (first_row (said self.now (body.Concat sort high low))) }
+        ensures { Refuses result (first_row (said_rows self.now (body.Concat sort high low))) }
     {
         let width = self.named_sort(sort)?;
         let first = self.named_node(high)?;
@@ -222,7 +222,7 @@ impl Model {
 
     /// Tests a choice.
     fn check_ite(&self, sort: u32, condition: u32, first: u32, second: u32) -> Result<(), PushFault>
-        ensures { Refuses result (first_row (said self.now (body.Ite sort condition first second))) }
+        ensures { Refuses result (first_row (said_rows self.now (body.Ite sort condition first second))) }
     {
         let width = self.named_sort(sort)?;
         let chooses = self.named_node(condition)?;
@@ -236,7 +236,7 @@ impl Model {
 
     /// Tests an init.
     fn check_init(&self, sort: u32, state: u32, value: u32) -> Result<(), PushFault>
-        ensures { Refuses result (first_row (said self.now (body.Init sort state value))) }
+        ensures { Refuses result (first_row (said_rows self.now (body.Init sort state value))) }
     {
         let width = self.named_sort(sort)?;
         let (kept, is_state) = self.named_state(state)?;
@@ -258,7 +258,7 @@ impl Model {
 
     /// Tests a next.
     fn check_next(&self, sort: u32, state: u32, value: u32) -> Result<(), PushFault>
-        ensures { Refuses result (first_row (said self.now (body.Next sort state value))) }
+        ensures { Refuses result (first_row (said_rows self.now (body.Next sort state value))) }
     {
         let width = self.named_sort(sort)?;
         let (kept, is_state) = self.named_state(state)?;
@@ -277,7 +277,7 @@ impl Model {
 
     /// Tests what marks a node of one bit.
     fn check_bit(&self, operand: u32) -> Result<(), PushFault>
-        ensures { Refuses result (first_row (said self.now (body.Bad operand))) }
+        ensures { Refuses result (first_row (said_rows self.now (body.Bad operand))) }
     {
         let width = self.named_node(operand)?;
         refuse_if(width != 1, PushFault::SortMismatch)
@@ -285,7 +285,7 @@ impl Model {
 
     /// Tests an output.
     fn check_output(&self, operand: u32) -> Result<(), PushFault>
-        ensures { Refuses result (first_row (said self.now (body.Output operand))) }
+        ensures { Refuses result (first_row (said_rows self.now (body.Output operand))) }
     {
         let _width = self.named_node(operand)?;
         Ok(())
@@ -307,7 +307,7 @@ impl Model {
 
     /// Tests a justice line.
     fn check_justice(&self, ids: &[u32]) -> Result<(), PushFault>
-        ensures { Refuses result (first_row (said self.now (body.Justice ids.now))) }
+        ensures { Refuses result (first_row (said_rows self.now (body.Justice ids.now))) }
     {
         if !self.all_have_values(ids) {
             return Err(PushFault::NoSuchNode);
@@ -320,7 +320,7 @@ impl Model {
 
     /// Tests what an item says.
     fn check_body(&self, body: &Body) -> Result<(), PushFault>
-        ensures { Refuses result (first_row (said self.now body.now)) }
+        ensures { Refuses result (first_row (said_rows self.now body.now)) }
     {
         match body {
             Body::Sort { width } => refuse_if(

@@ -1,12 +1,12 @@
 //! Refusals of proofs, invariants and certificates.
 
 ghost use Rattle.clauses.specs.Faults.{clause_name, clause_number, formula_name, formula_number};
-ghost use Rattle.clauses.specs.Printed.{why_name, why_number};
+ghost use Rattle.clauses.specs.Printed.{proof_why_name, proof_why_number};
 ghost use Rattle.clauses.specs.declared.fault.ClauseFault.{ClauseFault};
 ghost use Rattle.clauses.specs.declared.fault.FormulaFault.{FormulaFault};
 ghost use Rattle.clauses.specs.declared.why.Why.{Why};
 ghost use Rattle.command_line.specs.Explanations.{Has};
-ghost use Rattle.invariants.specs.Faults.{certificate_name, certificate_number, obligation_name, obligation_number, why_name as invariant_name, why_number as invariant_number};
+ghost use Rattle.invariants.specs.Faults.{certificate_name, certificate_number, obligation_name, obligation_number, invariant_why_name as invariant_name, invariant_why_number as invariant_number};
 ghost use Rattle.invariants.specs.declared.certificate_fault.CertificateFault.TheVariants as certificate;
 ghost use Rattle.invariants.specs.declared.fault.ObligationFault.{ObligationFault};
 ghost use Rattle.invariants.specs.declared.why.InvariantWhy.{InvariantWhy};
@@ -179,7 +179,7 @@ const INVARIANTS: [Explanation; 19] = [
 
 /// The cases of formulas, and proofs over them.
 pub(super) fn proofs() -> &'static [Explanation]
-    ensures whys { (why : Why) → Has result.now (why_number why) (why_name why) }
+    ensures whys { (why : Why) → Has result.now (proof_why_number why) (proof_why_name why) }
     ensures clauses { (fault : ClauseFault) → Has result.now (clause_number fault) (clause_name fault) }
     ensures formulas { (fault : FormulaFault) → Has result.now (formula_number fault) (formula_name fault) }
 {

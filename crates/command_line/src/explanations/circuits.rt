@@ -1,17 +1,17 @@
 //! Refusals of circuits.
 
-ghost use Rattle.aiger.specs.Refusal.{fault_name, fault_number};
+ghost use Rattle.aiger.specs.Refusal.{circuit_fault_name, circuit_fault_number};
 ghost use Rattle.aiger.specs.Renumbering.{loose_fault_name, loose_fault_number};
 ghost use Rattle.aiger.specs.declared.fault.CircuitFault.{CircuitFault};
 ghost use Rattle.aiger.specs.declared.fault.LooseFault.{LooseFault};
-ghost use Rattle.aigertext.specs.Whys.{why_name, why_number};
+ghost use Rattle.aigertext.specs.Whys.{circuit_why_name, circuit_why_number};
 ghost use Rattle.aigertext.specs.declared.fault.Why.{Why};
 ghost use Rattle.command_line.specs.Explanations.{Has};
-ghost use Rattle.engine.specs.Faults.{name_of as engine_name, number_of as engine_number};
+ghost use Rattle.engine.specs.Faults.{engine_fault_name as engine_name, engine_fault_number as engine_number};
 ghost use Rattle.engine.specs.declared.fault.EngineFault.{EngineFault};
-ghost use Rattle.gates.specs.Faults.{name_of, number_of};
+ghost use Rattle.gates.specs.Faults.{gate_fault_name, gate_fault_number};
 ghost use Rattle.gates.specs.declared.fault.GateFault.{GateFault};
-ghost use Rattle.restore.specs.Faults.{why_name as restore_name, why_number as restore_number};
+ghost use Rattle.restore.specs.Faults.{restore_why_name as restore_name, restore_why_number as restore_number};
 ghost use Rattle.restore.specs.declared.fault.RestoreWhy.{RestoreWhy};
 
 use super::Explanation;
@@ -266,7 +266,7 @@ const COUNTEREXAMPLES: [Explanation; 7] = [
 
 /// The cases of gate makers.
 pub(super) fn gates() -> &'static [Explanation]
-    ensures { (fault : GateFault) → Has result.now (number_of fault) (name_of fault) }
+    ensures { (fault : GateFault) → Has result.now (gate_fault_number fault) (gate_fault_name fault) }
 {
     &GATES
 }
@@ -280,7 +280,7 @@ pub(super) fn engines() -> &'static [Explanation]
 
 /// The cases of calls of circuits, and of the lists of a file.
 pub(super) fn calls() -> &'static [Explanation]
-    ensures circuits { (fault : CircuitFault) → Has result.now (fault_number fault) (fault_name fault) }
+    ensures circuits { (fault : CircuitFault) → Has result.now (circuit_fault_number fault) (circuit_fault_name fault) }
     ensures lists { (fault : LooseFault) → Has result.now (loose_fault_number fault) (loose_fault_name fault) }
 {
     &CIRCUITS
@@ -288,7 +288,7 @@ pub(super) fn calls() -> &'static [Explanation]
 
 /// The cases of texts of circuits.
 pub(super) fn texts() -> &'static [Explanation]
-    ensures { (why : Why) → Has result.now (why_number why) (why_name why) }
+    ensures { (why : Why) → Has result.now (circuit_why_number why) (circuit_why_name why) }
 {
     &TEXTS
 }

@@ -1,6 +1,6 @@
 //! Refusals of models.
 
-ghost use Rattle.btor2.specs.Faults.{name_of, number_of, symbol_fault_name, symbol_fault_number};
+ghost use Rattle.btor2.specs.Faults.{push_fault_name, push_fault_number, symbol_fault_name, symbol_fault_number};
 ghost use Rattle.btor2.specs.declared.fault.PushFault.{PushFault};
 ghost use Rattle.btor2.specs.declared.symbol.SymbolFault.{SymbolFault};
 ghost use Rattle.btor2text.specs.declared.fault.Why.{Why};
@@ -264,7 +264,7 @@ pub(super) fn texts() -> &'static [Explanation]
 
 /// The cases of items.
 pub(super) fn items() -> &'static [Explanation]
-    ensures { (fault : PushFault) → Has result.now (number_of fault) (name_of fault) }
+    ensures { (fault : PushFault) → Has result.now (push_fault_number fault) (push_fault_name fault) }
 {
     &ITEMS
 }

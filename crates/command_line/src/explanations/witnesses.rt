@@ -1,7 +1,7 @@
 //! Refusals of witnesses.
 
 ghost use Rattle.command_line.specs.Explanations.{Has};
-ghost use Rattle.lift.specs.Answers.{fault_name, fault_number};
+ghost use Rattle.lift.specs.Answers.{lift_fault_name, lift_fault_number};
 ghost use Rattle.lift.specs.declared.fault.LiftFault.{LiftFault};
 ghost use Rattle.runs.specs.Faults.{new_name, new_number};
 ghost use Rattle.runs.specs.declared.fault.NewFault.{NewFault};
@@ -9,9 +9,9 @@ ghost use Rattle.witness.specs.Answers.{judge_name, judge_number};
 ghost use Rattle.witness.specs.Printed.{why_number, why_name};
 ghost use Rattle.witness.specs.declared.fault.JudgeFault.{JudgeFault};
 ghost use Rattle.witness.specs.declared.why.Why.{Why};
-ghost use Rattle.tidy.specs.Answers.{fault_name as tidy_name, fault_number as tidy_number};
+ghost use Rattle.tidy.specs.Answers.{tidy_fault_name as tidy_name, tidy_fault_number as tidy_number};
 ghost use Rattle.tidy.specs.declared.fault.TidyFault.{TidyFault};
-ghost use Rattle.wave.specs.Answers.{fault_name as wave_name, fault_number as wave_number};
+ghost use Rattle.wave.specs.Answers.{wave_fault_name as wave_name, wave_fault_number as wave_number};
 ghost use Rattle.wave.specs.declared.fault.WaveFault.{WaveFault};
 
 use super::Explanation;
@@ -254,7 +254,7 @@ pub(super) fn bit_texts() -> &'static [Explanation] {
 
 /// The cases of lifting.
 pub(super) fn lifting() -> &'static [Explanation]
-    ensures { (fault : LiftFault) → Has result.now (fault_number fault) (fault_name fault) }
+    ensures { (fault : LiftFault) → Has result.now (lift_fault_number fault) (lift_fault_name fault) }
 {
     &LIFTING
 }

@@ -1,6 +1,6 @@
 use Rattle.std.proofs.Common.{◌≡◌, ◌*◌, ◌-◌, ◌<◌, length, sym, arith}
 use Rattle.std.specs.BinaryHeap.{heap_items}
-use Rattle.aiger.specs.Readiness.{slot_at, times}
+use Rattle.aiger.specs.Readiness.{slot_at, times_ready}
 use Rattle.aiger.proofs.ReadinessLemmas.{read_at, walk_begins, walk_at, at_place, walk_step, walk_left, walk_ends}
 use Rattle.aiger.proofs.readiness.take.Goals as goal
 
@@ -22,14 +22,14 @@ pub loop-at-smaller : goal.loop-at-smaller
 loop-at-smaller g c =
     let a = walk_at _ _ _ _ _ _ _ c.loop-at.at c.loop-at.invariant c.loop-at-test.true in
     let next : c.index-at-in-loop-at.result.now ≡ slot_at c.loop-at.links.items (2 * (c.loop-at.at - 2)) = sym (read_at c.loop-at.links.items (2 * (c.loop-at.at - 2)) c.index-at-in-loop-at.result.now (omega (arith, (at_place _ _ _ _ _ _ _ _ _ a).0)) c.index-at-in-loop-at.ensures) in
-    let step = walk_step _ _ _ _ _ _ c.look_again.new.heads.items c.look_again.new.links.items _ (times c.look_again.new.ready.first (heap_items c.look_again.new.ready.others)) (c.loop-at.at - 2) _ c.index-at-in-loop-at.result.now a next c.in_ok-look_again.ensures.waits c.in_ok-look_again.ensures.ready in
+    let step = walk_step _ _ _ _ _ _ c.look_again.new.heads.items c.look_again.new.links.items _ (times_ready c.look_again.new.ready.first (heap_items c.look_again.new.ready.others)) (c.loop-at.at - 2) _ c.index-at-in-loop-at.result.now a next c.in_ok-look_again.ensures.waits c.in_ok-look_again.ensures.ready in
     omega (arith, walk_left _ _ _ _ _ _ _ _ step.0, step.1, walk_left _ _ _ _ _ _ _ _ c.loop-at.invariant)
 
 pub loop-at-preserved : goal.loop-at-preserved
 loop-at-preserved g c =
     let a = walk_at _ _ _ _ _ _ _ c.loop-at.at c.loop-at.invariant c.loop-at-test.true in
     let next : c.index-at-in-loop-at.result.now ≡ slot_at c.loop-at.links.items (2 * (c.loop-at.at - 2)) = sym (read_at c.loop-at.links.items (2 * (c.loop-at.at - 2)) c.index-at-in-loop-at.result.now (omega (arith, (at_place _ _ _ _ _ _ _ _ _ a).0)) c.index-at-in-loop-at.ensures) in
-    (walk_step _ _ _ _ _ _ c.look_again.new.heads.items c.look_again.new.links.items _ (times c.look_again.new.ready.first (heap_items c.look_again.new.ready.others)) (c.loop-at.at - 2) _ c.index-at-in-loop-at.result.now a next c.in_ok-look_again.ensures.waits c.in_ok-look_again.ensures.ready).0
+    (walk_step _ _ _ _ _ _ c.look_again.new.heads.items c.look_again.new.links.items _ (times_ready c.look_again.new.ready.first (heap_items c.look_again.new.ready.others)) (c.loop-at.at - 2) _ c.index-at-in-loop-at.result.now a next c.in_ok-look_again.ensures.waits c.in_ok-look_again.ensures.ready).0
 
 pub returns-clause-underway : goal.returns-clause-underway
 returns-clause-underway g c = walk_ends _ _ _ _ _ _ _ c.loop-at.at c.loop-at.invariant c.loop-at-test.false

@@ -1,13 +1,13 @@
 use Rattle.std.proofs.Common.{◌∷◌, [], ℕ, Option, ap, arith, length, length-append, subst}
 use Rattle.std.specs.BinaryHeap.{heap_items}
-use Rattle.aiger.specs.Readiness.{times, IsFirstReady}
+use Rattle.aiger.specs.Readiness.{times_ready, IsFirstReady}
 use Rattle.aiger.proofs.ReadinessLemmas.{popped, few_next}
 use Rattle.aiger.proofs.readiness.take_ready.Goals as goal
 
 pub take-requires : goal.take-requires
 take-requires g c =
     popped g.passed.slots g.passed.gates g.passed.bound c.loop-gate.order.items c.loop-gate.heads.items c.loop-gate.links.items _ _ c.in-Some.gate c.loop-gate.invariant
-    (subst (λ (o : Option ℕ). IsFirstReady o (times c.loop-gate.ready.first (heap_items c.loop-gate.ready.others)) (times c.take_first.new.self.first (heap_items c.take_first.new.self.others))) c.in-Some.is c.in_ok-gate.ensures)
+    (subst (λ (o : Option ℕ). IsFirstReady o (times_ready c.loop-gate.ready.first (heap_items c.loop-gate.ready.others)) (times_ready c.take_first.new.self.first (heap_items c.take_first.new.self.others))) c.in-Some.is c.in_ok-gate.ensures)
 
 pub loop-gate-smaller : goal.loop-gate-smaller
 loop-gate-smaller g c =

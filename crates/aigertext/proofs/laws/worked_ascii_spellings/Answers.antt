@@ -8,8 +8,8 @@ use Rattle.aiger.specs.declared.circuit.Latch.{Latch}
 use Rattle.aiger.specs.Circuit.{IsNamed}
 use Rattle.aiger.specs.Loose.{Loose, IsLoose, IsSmall, IsDefining, sections_of, empty_loose}
 use Rattle.aigertext.specs.declared.fault.Why.TheVariants as why
-use Rattle.aigertext.specs.Worked.{one_input}
-use Rattle.aigertext.specs.Reading.{header_fields, form_of, fitting, counts_of}
+use Rattle.aigertext.specs.Worked.{negated_input}
+use Rattle.aigertext.specs.Reading.{header_fields, header_form, fitting, counts_of}
 use Rattle.aigertext.specs.AsciiReading.{AnswersText}
 use Rattle.aigertext.proofs.StandsLemmas.{not_stopped}
 use Rattle.aigertext.proofs.laws.worked_ascii_spellings.Goals as goal
@@ -57,5 +57,5 @@ returns-clause-any_number c =
     }
 
 pub returns-clause-too_many : goal.returns-clause-too_many
-unfolding AnswersText header_fields form_of fitting counts_of number_of capped_value is_decimal
-returns-clause-too_many c = λ t. not_stopped one_input (record { left = 18; why = why.CountsDisagree }) (c.one_ascii_circuit.ensures.read (codes "aag 0 1 0 1 0\n2\n3\n") one_input t)
+unfolding AnswersText header_fields header_form fitting counts_of number_of capped_value is_decimal
+returns-clause-too_many c = λ t. not_stopped negated_input (record { left = 18; why = why.CountsDisagree }) (c.one_ascii_circuit.ensures.read (codes "aag 0 1 0 1 0\n2\n3\n") negated_input t)

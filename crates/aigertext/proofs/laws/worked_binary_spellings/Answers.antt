@@ -7,7 +7,7 @@ use Rattle.aiger.specs.Circuit.{IsCircuit, IsNamed, HasFew, HasDefined, net}
 use Rattle.aigertext.specs.declared.fault.Why.TheVariants as why
 use Rattle.aigertext.specs.Worked.{one_output}
 use Rattle.deltas.specs.Deltas.{number_at}
-use Rattle.aigertext.specs.Reading.{binary_at, properties_at, name_on, section_of, gate_at, delta_at, size_of, next_fields, literal_of, header_fields, form_of, fitting, counts_of}
+use Rattle.aigertext.specs.Reading.{binary_at, properties_at, name_on, section_with_letter, gate_at, delta_at, size_of, next_fields, literal_on, header_fields, header_form, fitting, counts_of}
 use Rattle.aigertext.specs.AsciiReading.{AnswersText}
 use Rattle.aigertext.proofs.StandsLemmas.{stands-read, not_stopped}
 use Rattle.aigertext.proofs.laws.worked_binary_spellings.Goals as goal
@@ -40,9 +40,9 @@ returns-clause-spelled_out c =
     }
 
 pub returns-clause-unended : goal.returns-clause-unended
-unfolding AnswersText binary_at properties_at name_on section_of gate_at delta_at number_at size_of next_fields literal_of header_fields form_of fitting counts_of number_of capped_value is_decimal
+unfolding AnswersText binary_at properties_at name_on section_with_letter gate_at delta_at number_at size_of next_fields literal_on header_fields header_form fitting counts_of number_of capped_value is_decimal
 returns-clause-unended c = λ t. not_stopped one_output (record { left = 1; why = why.Truncated }) (stands-read (codes "aig 3 2 0 1 1\n6\n" ++ 2 ∷ 2 ∷ codes "c") one_output t)
 
 pub returns-clause-too_long : goal.returns-clause-too_long
-unfolding AnswersText binary_at properties_at name_on section_of gate_at delta_at number_at size_of next_fields literal_of header_fields form_of fitting counts_of number_of capped_value is_decimal
+unfolding AnswersText binary_at properties_at name_on section_with_letter gate_at delta_at number_at size_of next_fields literal_on header_fields header_form fitting counts_of number_of capped_value is_decimal
 returns-clause-too_long c = λ t. not_stopped one_output (record { left = 3; why = why.DeltaNotShortest }) (stands-read (codes "aig 3 2 0 1 1\n6\n" ++ 130 ∷ 0 ∷ 2 ∷ []) one_output t)

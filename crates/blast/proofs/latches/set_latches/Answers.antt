@@ -2,7 +2,7 @@ use Rattle.std.proofs.Common.{◌≡◌, ℕ, ◌+◌, ◌≤◌, Some, length, 
 use Rattle.btor2.specs.Items.{is_state}
 use Rattle.btor2.proofs.LeafLemmas.{place_within, place_kind}
 use Rattle.aiger.specs.Circuit.{Circuit, net}
-use Rattle.blast.specs.Blocks.{written}
+use Rattle.blast.specs.Blocks.{written_over}
 use Rattle.blast.specs.Reads.{LatchesRead}
 use Rattle.blast.specs.Rows.{item_latches}
 use Rattle.blast.proofs.KindBlocks.{reached, reached-none}
@@ -50,7 +50,7 @@ loop-k-preserved c =
           ∙ ap (λ (n : ℕ). reached (item_latches c.args.model.now c.args.table.now) c.args.model.now c.states-states.result.now c.loop-k.k + n) c.set_state-first.ensures.count
           ∙ sym (reached-state c.args.model.now c.args.table.now c.states-states.result.now c.loop-k.k c.item_at-item.result.now c.loop-k-test.true at);
       latches = WithStates-more c.args.model.now c.args.table.now c.states-states.result.now c.args.circuit.now c.loop-k.circuit c.set_state-first.new.circuit c.loop-k.k c.item_at-item.result.now c.loop-k.invariant.latches c.loop-k-test.true at
-          (c.set_state-first.ensures.latches ∙ ap (λ (n : ℕ). record c.loop-k.circuit { latches = written c.loop-k.circuit.latches n latches }) c.loop-k.invariant.first);
+          (c.set_state-first.ensures.latches ∙ ap (λ (n : ℕ). record c.loop-k.circuit { latches = written_over c.loop-k.circuit.latches n latches }) c.loop-k.invariant.first);
       as_many = same.0 ∙ c.loop-k.invariant.as_many;
       same_net = same.1 ∙ c.loop-k.invariant.same_net;
     }

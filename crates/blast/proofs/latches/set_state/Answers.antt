@@ -3,7 +3,7 @@ use Rattle.btor2.specs.Items.{is_carried_state, next_value, init_word}
 use Rattle.aiger.specs.declared.circuit.Latch.{Latch}
 use Rattle.aiger.specs.Net.{IsDefined}
 use Rattle.aiger.specs.Circuit.{net}
-use Rattle.blast.specs.Blocks.{written}
+use Rattle.blast.specs.Blocks.{written_over}
 use Rattle.blast.specs.Rows.{row_at, row_latches, state_latches}
 use Rattle.blast.proofs.KindBlocks.{written-nil}
 use Rattle.blast.proofs.KindRows.{state_by_number}
@@ -15,7 +15,7 @@ returns-then-is_free-clause-latches c =
     let kind = state_by_number c.args.model.now c.args.k c.args.item.now c.is_free.result c.requires.there c.requires.place c.is_free.ensures in
     let other : is_carried_state c.args.model.now c.args.item.now ≡ false = sym kind.1 ∙ ap not c.if-is_free.true in
     sym
-    (ap (λ (b : Bool). record c.args.circuit.now { latches = written c.args.circuit.now.latches c.args.first (cond b (state_latches c.args.model.now c.args.table.now c.args.item.now) []) }) other
+    (ap (λ (b : Bool). record c.args.circuit.now { latches = written_over c.args.circuit.now.latches c.args.first (cond b (state_latches c.args.model.now c.args.table.now c.args.item.now) []) }) other
     ∙ ap (λ (l : List Latch). record c.args.circuit.now { latches = l }) (written-nil c.args.circuit.now.latches c.args.first))
 
 pub next_row-row-requires-clause-next : goal.next_row-row-requires-clause-next
@@ -42,7 +42,7 @@ pub returns-clause-latches : goal.returns-clause-latches
 returns-clause-latches c =
     let state = CarriedState-from c.args.model.now c.args.table.now c.args.k c.args.item.now c.is_free.result c.requires.there c.requires.place c.requires.nexts c.is_free.ensures c.if-is_free.false in
     c.set_row.ensures
-    ∙ ap (λ (l : List Latch). record c.args.circuit.now { latches = written c.args.circuit.now.latches c.args.first l }) (ap₂ (λ (o : Option ℕ) (r : List ℕ). row_latches o 0 r) c.init_of.ensures c.next_row-row.ensures ∙ sym state.latches)
+    ∙ ap (λ (l : List Latch). record c.args.circuit.now { latches = written_over c.args.circuit.now.latches c.args.first l }) (ap₂ (λ (o : Option ℕ) (r : List ℕ). row_latches o 0 r) c.init_of.ensures c.next_row-row.ensures ∙ sym state.latches)
 
 pub returns-clause-count : goal.returns-clause-count
 returns-clause-count c =

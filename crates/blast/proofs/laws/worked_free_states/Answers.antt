@@ -4,7 +4,7 @@ use Rattle.std.proofs.lemmas.List.Elements.{All-nil, All-cons}
 use Rattle.btor2.specs.Check.{refusal, id_is_out_of_range, id_is_taken, sort_is_missing, operand_is_missing, state_is_none, width_is_out_of_range, widths_differ, init_is_not_constant, is_second_init, is_second_next, slice_is_out_of_range, constant_does_not_fit, justice_is_empty}
 use Rattle.aiger.specs.declared.circuit.Section.TheVariants as section
 use Rattle.aiger.specs.Circuit.{IsNamed, HasFew, HasDefined, net}
-use Rattle.blast.specs.Worked.{follower_circuit, one_input}
+use Rattle.blast.specs.Worked.{follower_circuit, input_circuit}
 use Rattle.blast.proofs.WorkedLowering.{bit_is_name}
 use Rattle.blast.proofs.laws.worked_free_states.Goals as goal
 
@@ -40,11 +40,11 @@ pub returns-clause-input_is_circuit : goal.returns-clause-input_is_circuit
 unfolding IsStrictlySortedBy
 returns-clause-input_is_circuit c =
     let few : HasFew one_input = search rules in
-    let defined : HasDefined (net one_input) one_input = search rules in
+    let defined : HasDefined (net input_circuit) one_input = search rules in
     record {
       small = omega arith;
       few = few;
       ordered = tt;
       defined = defined;
-      names = record { sorted = tt; named = All-nil (IsNamed one_input) };
+      names = record { sorted = tt; named = All-nil (IsNamed input_circuit) };
     }

@@ -7,13 +7,13 @@ use Rattle.btor2.specs.Check.{refusal, id_is_out_of_range, id_is_taken, sort_is_
 use Rattle.base.specs.Decimals.{is_decimal, capped_value, number_of}
 use Rattle.btor2text.specs.Words.{form_of, form_named, unary_of, binary_of, no_form}
 use Rattle.btor2text.specs.Digits.{signed_number, decimal_number, number_in}
-use Rattle.btor2text.specs.Reading.{line_on, item_at, symbol_at, body_at, constant_at, form_at, counted_at, operands_at, digits_at, signed_at, triple_at, pair_at, width_at, operand_at, kept_id, sort_at, plain_at, operand, plain, is_negative}
+use Rattle.btor2text.specs.Reading.{line_on, item_at, symbol_at, body_at, constant_told, form_at, counted_at, operands_at, digits_at, signed_at, triple_at, pair_at, width_told, operand_at, kept_id, sort_at, plain_at, operand, plain_number, is_negative}
 use Rattle.base.specs.Lines.{IsLine}
 use Rattle.btor2text.proofs.FaultLemmas.{some_bytes}
 use Rattle.btor2text.proofs.laws.worked_faults.Goals as goal
 
 pub returns-clause-second_line : goal.returns-clause-second_line
-unfolding digits line_on item_at symbol_at body_at constant_at form_at form_of form_named unary_of binary_of no_form counted_at operands_at digits_at signed_at triple_at pair_at width_at operand_at kept_id sort_at plain_at operand plain is_negative signed_number decimal_number number_in number_of capped_value is_decimal refusal id_is_out_of_range id_is_taken sort_is_missing operand_is_missing state_is_none width_is_out_of_range widths_differ init_is_not_constant is_second_init is_second_next slice_is_out_of_range constant_does_not_fit justice_is_empty
+unfolding digits line_on item_at symbol_at body_at constant_told form_at form_of form_named unary_of binary_of no_form counted_at operands_at digits_at signed_at triple_at pair_at width_told operand_at kept_id sort_at plain_at operand plain_number is_negative signed_number decimal_number number_in number_of capped_value is_decimal refusal id_is_out_of_range id_is_taken sort_is_missing operand_is_missing state_is_none width_is_out_of_range widths_differ init_is_not_constant is_second_init is_second_next slice_is_out_of_range constant_does_not_fit justice_is_empty
 returns-clause-second_line c =
     record {
       lines = codes "1 sort bitvec 1" ∷ [];

@@ -6,7 +6,7 @@ use Rattle.btor2.specs.Worked.{line}
 use Rattle.btor2.specs.Check.{refusal, id_is_out_of_range, id_is_taken, sort_is_missing, operand_is_missing, state_is_none, width_is_out_of_range, widths_differ, init_is_not_constant, is_second_init, is_second_next, slice_is_out_of_range, constant_does_not_fit, justice_is_empty}
 use Rattle.base.specs.Lines.{IsLine}
 use Rattle.btor2text.specs.declared.fault.Why.TheVariants as why
-use Rattle.btor2text.specs.Reading.{fault_at, lines_on, text_on}
+use Rattle.btor2text.specs.Reading.{line_fault, lines_on, text_on}
 use Rattle.btor2text.proofs.FaultLemmas.{not_failed}
 use Rattle.btor2text.proofs.StandsLemmas.{stands_read}
 use Rattle.btor2text.proofs.laws.worked_items.Goals as goal
@@ -48,7 +48,7 @@ returns-clause-leading_zero c = λ s. absurd (cc s.tokens)
 
 pub returns-clause-unended : goal.returns-clause-unended
 unfolding text_on lines_on
-returns-clause-unended c = λ s. not_failed (line 1 (body.Sort 1) ∷ []) (fault_at 1 why.Unfinished) (sym (stands_read (codes "1 sort bitvec 1") (line 1 (body.Sort 1) ∷ []) s))
+returns-clause-unended c = λ s. not_failed (line 1 (body.Sort 1) ∷ []) (line_fault 1 why.Unfinished) (sym (stands_read (codes "1 sort bitvec 1") (line 1 (body.Sort 1) ∷ []) s))
 
 pub returns-clause-empty : goal.returns-clause-empty
 returns-clause-empty c = record { lines = []; whole = refl; each = All-nil IsLine; spelled = tt; well_formed = tt }

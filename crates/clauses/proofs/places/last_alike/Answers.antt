@@ -1,7 +1,7 @@
 use Rattle.std.proofs.Common.{◌≡◌, ◌<◌, ℕ, [], length, get_or, inl, refl, sym, subst, arith}
 use Rattle.clauses.specs.Flat.{cut}
 use Rattle.clauses.specs.Places.{last_at, IsLatest, IsLink}
-use Rattle.clauses.specs.Without.{AreAlike}
+use Rattle.clauses.specs.Without.{AreSameClause}
 use Rattle.clauses.proofs.PassLemmas.{length-cut}
 use Rattle.clauses.proofs.PlacesLemmas.{none_left, none_from, none_behind, next_link}
 use Rattle.clauses.proofs.FormulaLemmas.{read_there}
@@ -26,7 +26,7 @@ pub returns-then-are_alike : goal.returns-then-are_alike
 returns-then-are_alike c =
     let clauses = cut c.args.literals.now c.args.starts.now c.args.ends.now in
     let many : length clauses ≡ length c.args.ends.now = length-cut c.args.literals.now c.args.starts.now c.args.ends.now c.requires.ends.as_many in
-    let own : AreAlike c.args.clause.now (get_or clauses c.loop-place.place []) = subst (AreAlike c.args.clause.now) c.clause_of.ensures c.if-are_alike.ensures in (
+    let own : AreSameClause c.args.clause.now (get_or clauses c.loop-place.place []) = subst (AreSameClause c.args.clause.now) c.clause_of.ensures c.if-are_alike.ensures in (
       record {
         inside = omega (arith, many, c.loop-place-test.true, c.loop-place.invariant.within);
         alike = own;
@@ -40,7 +40,7 @@ pub loop-place-preserved : goal.loop-place-preserved
 loop-place-preserved c =
     let clauses = cut c.args.literals.now c.args.starts.now c.args.ends.now in
     let many : length clauses ≡ length c.args.ends.now = length-cut c.args.literals.now c.args.starts.now c.args.ends.now c.requires.ends.as_many in
-    let other : AreAlike c.args.clause.now (get_or clauses c.loop-place.place []) → ⊥ = λ a. c.if-are_alike.ensures (subst (AreAlike c.args.clause.now) (sym c.clause_of.ensures) a) in
+    let other : AreSameClause c.args.clause.now (get_or clauses c.loop-place.place []) → ⊥ = λ a. c.if-are_alike.ensures (subst (AreSameClause c.args.clause.now) (sym c.clause_of.ensures) a) in
     let below : c.loop-place.place < length c.args.places.now.before.items = omega (arith, many, c.loop-place-test.true, c.loop-place.invariant.within, c.requires.linked.as_many) in
     let next : get_or c.args.places.now.before.items c.loop-place.place 0 ≡ c.index.result.now = sym (read_there c.args.places.now.before.items c.loop-place.place c.index.result.now below c.index.ensures) in
     record {

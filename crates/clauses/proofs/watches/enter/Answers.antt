@@ -5,7 +5,7 @@ use Rattle.clauses.specs.Propagation.{AllNegated}
 use Rattle.clauses.specs.Marked.{Marked, set_of}
 use Rattle.clauses.specs.Flat.{cut}
 use Rattle.clauses.specs.Lists.{list_at}
-use Rattle.clauses.specs.Watched.{Watches, Advances, IsMet, clause_at}
+use Rattle.clauses.specs.Watched.{Watches, AdvancesWatch, IsMet, clause_at}
 use Rattle.clauses.proofs.PassLemmas.{length-cut, clause_inside, contained_inside, Grows-by}
 use Rattle.clauses.proofs.WatchLemmas.{Dropped, is_dropped, IsWatched-drop, Advances-drop, Advances-keep, IsWatched-move, Advances-move, other_inside, on_off, Grows-none, Stays-move}
 use Rattle.clauses.proofs.watches.enter.Goals as goal
@@ -115,7 +115,7 @@ returns-in-Ok-clause-answer c =
     let own = other_inside _ _ _ _ watch c.requires.watched inside (omega (arith, watched.1, c.requires.negated)) in
     let off : set_of c.args.trail.now (negation c.in-Move.literal) ≡ false = c.in-Move.ensures.1.1 in
     let differs : c.in-Move.literal ≢ c.args.negated = λ e. let on : set_of c.args.trail.now (negation c.in-Move.literal) ≡ true = ap (λ (l : ℕ). set_of c.args.trail.now (negation l)) e ∙ c.requires.off in on_off _ on off in
-    subst (λ (m : Marked). Advances (cut c.args.literals.now c.args.starts.now c.args.ends.now) c.args.negated c.args.place c.args.watched.now c.args.lists.now c.args.trail.now c.move_watch.new.watched c.move_watch.new.lists m c.args.place) (sym c.in-Move.ensures.0)
+    subst (λ (m : Marked). AdvancesWatch (cut c.args.literals.now c.args.starts.now c.args.ends.now) c.args.negated c.args.place c.args.watched.now c.args.lists.now c.args.trail.now c.move_watch.new.watched c.move_watch.new.lists m c.args.place) (sym c.in-Move.ensures.0)
     (Advances-move (cut c.args.literals.now c.args.starts.now c.args.ends.now) c.args.watched.now c.args.lists.now (length c.args.trail.now.marks) c.args.negated c.args.place c.requires.watched c.requires.there c.in-Move.literal watch c.move_watch.new.watched c.move_watch.new.lists c.in-Ok.ensures (sym is) inside watched.1 differs
     (subst (λ (clause : List ℕ). Contains clause c.in-Move.literal) c.clause_of.ensures c.in-Move.ensures.1.0) (λ e. c.in-Move.ensures.2 (e ∙ ap (λ (i : ℕ). get_or c.args.watched.now i 0) (sym c.negation.ensures)))
     (contained_inside _ _ c.in-Move.literal (clause_inside (length c.args.trail.now.marks) c.args.literals.now c.args.starts.now c.args.ends.now (watch / 2) c.requires.ends.as_many (omega (arith, own.1, length-cut c.args.literals.now c.args.starts.now c.args.ends.now)) c.requires.inside) (subst (λ (clause : List ℕ). Contains clause c.in-Move.literal) c.clause_of.ensures c.in-Move.ensures.1.0))

@@ -1,16 +1,16 @@
 use Rattle.std.proofs.Common.{Bool, List}
-use Rattle.aiger.specs.Refusal.{fault_name, fault_number}
+use Rattle.aiger.specs.Refusal.{circuit_fault_name, circuit_fault_number}
 use Rattle.aiger.specs.Renumbering.{loose_fault_name, loose_fault_number}
-use Rattle.aigertext.specs.Whys.{why_name, why_number}
-use Rattle.engine.specs.Faults.{name_of as engine_name, number_of as engine_number}
-use Rattle.lift.specs.Answers.{fault_name as lift_name, fault_number as lift_number}
-use Rattle.restore.specs.Faults.{why_name as restore_name, why_number as restore_number}
-use Rattle.tidy.specs.Answers.{fault_name as tidy_name, fault_number as tidy_number}
-use Rattle.wave.specs.Answers.{fault_name as wave_name, fault_number as wave_number}
+use Rattle.aigertext.specs.Whys.{circuit_why_name, circuit_why_number}
+use Rattle.engine.specs.Faults.{engine_fault_name as engine_name, engine_fault_number as engine_number}
+use Rattle.lift.specs.Answers.{lift_fault_name as lift_name, lift_fault_number as lift_number}
+use Rattle.restore.specs.Faults.{restore_why_name as restore_name, restore_why_number as restore_number}
+use Rattle.tidy.specs.Answers.{tidy_fault_name as tidy_name, tidy_fault_number as tidy_number}
+use Rattle.wave.specs.Answers.{wave_fault_name as wave_name, wave_fault_number as wave_number}
 use Rattle.command_line.specs.Explanations.{has_row}
 use Rattle.command_line.specs.declared.explanations.Explanation.{Explanation}
 use Rattle.clauses.specs.Faults.{clause_name, clause_number, formula_name, formula_number}
-use Rattle.clauses.specs.Printed.{why_name as proof_name, why_number as proof_number}
+use Rattle.clauses.specs.Printed.{proof_why_name as proof_name, proof_why_number as proof_number}
 use Rattle.invariants.specs.Faults.{certificate_name, certificate_number, claim_name, claim_number}
 use Rattle.invariants.specs.declared.certificate_fault.CertificateFault.TheVariants as certificate
 use Rattle.invariants.specs.declared.claim_fault.ClaimFault.TheVariants as claim
@@ -22,7 +22,7 @@ returns-clause-models c = λ why. in_models why _ _ c.texts.result.now c.items.r
 
 pub returns-clause-circuits : goal.returns-clause-circuits
 returns-clause-circuits c = λ fault.
-    let has : List Explanation → Bool = has_row (fault_number fault) (fault_name fault) in
+    let has : List Explanation → Bool = has_row (circuit_fault_number fault) (circuit_fault_name fault) in
     behind_nine has c.often.result.now c.texts.result.now c.items.result.now c.names.result.now c.lowering.result.now c.runs.result.now c.witness_texts.result.now c.bit_texts.result.now c.gates.result.now _ (here (has c.calls.result.now) _ (c.calls.ensures.circuits fault))
 
 pub returns-clause-lists : goal.returns-clause-lists
@@ -37,7 +37,7 @@ returns-clause-liftings c = λ fault.
 
 pub returns-clause-texts : goal.returns-clause-texts
 returns-clause-texts c = λ why.
-    let has : List Explanation → Bool = has_row (why_number why) (why_name why) in
+    let has : List Explanation → Bool = has_row (circuit_why_number why) (circuit_why_name why) in
     behind_nine has c.often.result.now c.texts.result.now c.items.result.now c.names.result.now c.lowering.result.now c.runs.result.now c.witness_texts.result.now c.bit_texts.result.now c.gates.result.now _ (behind (has c.calls.result.now) _ (behind (has c.lifting.result.now) _ (here (has c.texts-2.result.now) _ (c.texts-2.ensures why))))
 
 pub returns-clause-engines : goal.returns-clause-engines

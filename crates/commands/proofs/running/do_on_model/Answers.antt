@@ -2,7 +2,7 @@ use Rattle.std.proofs.Common.{rules, ◌≡◌}
 use Rattle.orders.specs.declared.tasks.Named.TheVariants as named
 use Rattle.orders.specs.declared.tasks.Task.TheVariants as task
 use Rattle.commands.specs.Done.{Answers, AnswersByName}
-use Rattle.commands.specs.Refusals.{Refuses, RefusesByName}
+use Rattle.commands.specs.Refusals.{RefusesTask, RefusesByName}
 use Rattle.commands.proofs.TaskLemmas.{done_so}
 use Rattle.commands.proofs.running.do_on_model.Goals as goal
 
@@ -13,7 +13,7 @@ returns-in-LowerForEngines-clause-done g c = λ known third text.
     rw is (done_so c.lower_for_engines.result _ (c.lower_for_engines.ensures.done known text) c.lower_for_engines.ensures.answer (λ did. did))
 
 pub returns-in-LowerForEngines-clause-refused : goal.returns-in-LowerForEngines-clause-refused
-unfolding Refuses
+unfolding RefusesTask
 returns-in-LowerForEngines-clause-refused g c = λ known text.
     let is : c.args.order.now.task ≡ (task.LowerForEngines c.in-LowerForEngines.choice) = search rules in
     rw is (c.lower_for_engines.ensures.refused known text)
@@ -25,7 +25,7 @@ returns-in-CheckBtor-clause-done g c = λ known third text.
     rw is (c.check_model.ensures.done known text)
 
 pub returns-in-CheckBtor-clause-refused : goal.returns-in-CheckBtor-clause-refused
-unfolding Refuses
+unfolding RefusesTask
 returns-in-CheckBtor-clause-refused g c = λ known text.
     let is : c.args.order.now.task ≡ task.CheckBtor = search rules in
     rw is (c.check_model.ensures.refused known text)
@@ -49,7 +49,7 @@ returns-in-Lift-clause-done g c = λ known third text.
     rw is (c.lift_witness.ensures.done known text)
 
 pub returns-in-Lift-clause-refused : goal.returns-in-Lift-clause-refused
-unfolding Refuses
+unfolding RefusesTask
 returns-in-Lift-clause-refused g c = λ known text.
     let is : c.args.order.now.task ≡ task.Lift = search rules in
     rw is (c.lift_witness.ensures.refused known text)
@@ -61,7 +61,7 @@ returns-in-LiftFound-clause-done g c = λ known third text.
     rw is (c.lift_counterexample.ensures.done known text)
 
 pub returns-in-LiftFound-clause-refused : goal.returns-in-LiftFound-clause-refused
-unfolding Refuses
+unfolding RefusesTask
 returns-in-LiftFound-clause-refused g c = λ known text.
     let is : c.args.order.now.task ≡ (task.LiftFound c.in-LiftFound.choice) = search rules in
     rw is (c.lift_counterexample.ensures.refused known text)
@@ -73,7 +73,7 @@ returns-in-LiftForm-clause-done g c = λ known third text.
     rw is (c.lift_form_witness.ensures.done known text)
 
 pub returns-in-LiftForm-clause-refused : goal.returns-in-LiftForm-clause-refused
-unfolding Refuses
+unfolding RefusesTask
 returns-in-LiftForm-clause-refused g c = λ known text.
     let is : c.args.order.now.task ≡ (task.LiftForm c.in-LiftForm.choice) = search rules in
     rw is (c.lift_form_witness.ensures.refused known text)
@@ -85,7 +85,7 @@ returns-in-Wave-clause-done g c = λ known third text.
     rw is (c.dump_witness.ensures.done known text)
 
 pub returns-in-Wave-clause-refused : goal.returns-in-Wave-clause-refused
-unfolding Refuses
+unfolding RefusesTask
 returns-in-Wave-clause-refused g c = λ known text.
     let is : c.args.order.now.task ≡ (task.Wave c.in-Wave.shown) = search rules in
     rw is (c.dump_witness.ensures.refused known text)
@@ -97,7 +97,7 @@ returns-in-Named-CheckBtor-clause-done g c = λ known third text.
     rw is (c.check_model_by_name.ensures.done known text)
 
 pub returns-in-Named-CheckBtor-clause-refused : goal.returns-in-Named-CheckBtor-clause-refused
-unfolding RefusesByName Refuses
+unfolding RefusesByName RefusesTask
 returns-in-Named-CheckBtor-clause-refused g c = λ known text.
     let is : c.args.order.now.task ≡ (task.Named named.CheckBtor) = search rules in
     rw is (c.check_model_by_name.ensures.refused known text)
@@ -109,7 +109,7 @@ returns-in-Named-Lift-clause-done g c = λ known third text.
     rw is (c.lift_witness-in-Named-Lift.ensures.done known text)
 
 pub returns-in-Named-Lift-clause-refused : goal.returns-in-Named-Lift-clause-refused
-unfolding RefusesByName Refuses
+unfolding RefusesByName RefusesTask
 returns-in-Named-Lift-clause-refused g c = λ known text.
     let is : c.args.order.now.task ≡ (task.Named named.Lift) = search rules in
     rw is (c.lift_witness-in-Named-Lift.ensures.refused known text)
@@ -121,7 +121,7 @@ returns-in-Named-LiftFound-clause-done g c = λ known third text.
     rw is (c.lift_counterexample-in-Named-LiftFound.ensures.done known text)
 
 pub returns-in-Named-LiftFound-clause-refused : goal.returns-in-Named-LiftFound-clause-refused
-unfolding RefusesByName Refuses
+unfolding RefusesByName RefusesTask
 returns-in-Named-LiftFound-clause-refused g c = λ known text.
     let is : c.args.order.now.task ≡ (task.Named (named.LiftFound c.in-Named-LiftFound.choice)) = search rules in
     rw is (c.lift_counterexample-in-Named-LiftFound.ensures.refused known text)
@@ -133,7 +133,7 @@ returns-in-Named-LiftForm-clause-done g c = λ known third text.
     rw is (c.lift_form_witness-in-Named-LiftForm.ensures.done known text)
 
 pub returns-in-Named-LiftForm-clause-refused : goal.returns-in-Named-LiftForm-clause-refused
-unfolding RefusesByName Refuses
+unfolding RefusesByName RefusesTask
 returns-in-Named-LiftForm-clause-refused g c = λ known text.
     let is : c.args.order.now.task ≡ (task.Named (named.LiftForm c.in-Named-LiftForm.choice)) = search rules in
     rw is (c.lift_form_witness-in-Named-LiftForm.ensures.refused known text)

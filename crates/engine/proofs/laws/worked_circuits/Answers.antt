@@ -1,13 +1,13 @@
 use Rattle.std.proofs.Common.{refl, rules, arith}
 use Rattle.aiger.specs.Net.{AreOrdered}
 use Rattle.aiger.specs.Circuit.{HasFew, HasDefined, net}
-use Rattle.engine.specs.Worked.{toggler, toggler_form, keeper, keeper_form, guarded, guarded_form, either, second_form}
+use Rattle.engine.specs.Worked.{negated_toggler, toggler_form, keeper, keeper_form, guarded, guarded_form, either, second_form}
 use Rattle.engine.proofs.WorkedLemmas.{plain_circuit}
 use Rattle.engine.proofs.laws.worked_circuits.Goals as goal
 
 pub returns-clause-toggler : goal.returns-clause-toggler
 returns-clause-toggler c = (
-  (let few : HasFew toggler = search rules in let defined : HasDefined (net toggler) toggler = search rules in plain_circuit toggler (omega arith) few tt defined refl),
+  (let few : HasFew toggler = search rules in let defined : HasDefined (net negated_toggler) toggler = search rules in plain_circuit negated_toggler (omega arith) few tt defined refl),
   (let few : HasFew toggler_form = search rules in let defined : HasDefined (net toggler_form) toggler_form = search rules in plain_circuit toggler_form (omega arith) few tt defined refl),
 )
 

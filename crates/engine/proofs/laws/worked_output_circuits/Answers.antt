@@ -3,7 +3,7 @@ use Rattle.std.specs.Prelude.{codes}
 use Rattle.aiger.specs.declared.circuit.Section.TheVariants as section
 use Rattle.aiger.specs.Net.{AreOrdered}
 use Rattle.aiger.specs.Circuit.{Circuit, IsCircuit, HasFew, HasDefined, net, with_name}
-use Rattle.engine.specs.Worked.{conjunction, conjunction_bad, named, named_bad}
+use Rattle.engine.specs.Worked.{conjunction, conjunction_bad, named_circuit, named_bad}
 use Rattle.engine.proofs.WorkedLemmas.{plain_circuit}
 use Rattle.engine.proofs.laws.worked_output_circuits.Goals as goal
 
@@ -21,7 +21,7 @@ returns-clause-conjunction c = (
 
 pub returns-clause-named : goal.returns-clause-named
 returns-clause-named c = (
-  (let plain : Circuit = record named { names = [] } in
+  (let plain : Circuit = record named_circuit { names = [] } in
       let few : HasFew plain = search rules in
       let defined : HasDefined (net plain) plain = search rules in
       let ordered : AreOrdered (net plain) = search rules in

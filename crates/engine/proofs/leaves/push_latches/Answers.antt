@@ -1,7 +1,7 @@
 use Rattle.std.proofs.Common.{◌≡◌, ◌+◌, ◌*◌, ◌++◌, ◌∷◌, [], List, ℕ, rules, arith, take, append_assoc, ap, ap₂, ◌∙◌}
 use Rattle.std.proofs.lemmas.List.Sums.{sum_by-take-le}
 use Rattle.aiger.specs.declared.circuit.Latch.{Latch}
-use Rattle.gates.specs.Made.{Refuses}
+use Rattle.gates.specs.Made.{RefusesGate}
 use Rattle.gates.proofs.LiteralLemmas.{Refuses-behind}
 use Rattle.engine.specs.EngineForm.{taken_bits, free_count}
 use Rattle.engine.proofs.TableLemmas.{latch-more, free-taken}
@@ -12,7 +12,7 @@ returns-in_err-lit-clause-refused g c =
     let ls = c.args.latches.now in
     let more = free-taken ls c.loop-j.j c.index-latches-j.result c.loop-j-test.true c.index-latches-j.is in
     let most = sum_by-take-le (λ (l : Latch). taken_bits l.reset) ls (c.loop-j.j + 1) in
-    let refused : Refuses (g.G.Gates.made c.args.g.now) (g.G.Gates.made c.latch_literal.new.g) (3 * free_count ls) c.in_err-lit.field-0.0 =
+    let refused : RefusesGate (g.G.Gates.made c.args.g.now) (g.G.Gates.made c.latch_literal.new.g) (3 * free_count ls) c.in_err-lit.field-0.0 =
     Refuses-behind _ _ _ (3 * free_count (take c.loop-j.j ls)) (3 * taken_bits c.index-latches-j.result.reset) (3 * free_count ls) _ (omega arith) c.loop-j.invariant.more.2.grows c.in_err-lit.ensures.refused
     in search rules
 
@@ -21,7 +21,7 @@ returns-in-Err-clause-refused g c =
     let ls = c.args.latches.now in
     let more = free-taken ls c.loop-j.j c.index-latches-j.result c.loop-j-test.true c.index-latches-j.is in
     let most = sum_by-take-le (λ (l : Latch). taken_bits l.reset) ls (c.loop-j.j + 1) in
-    let own : Refuses (g.G.Gates.made c.loop-j.g) (g.G.Gates.made c.latch_literal.new.g) (3 * taken_bits c.index-latches-j.result.reset) c.in-Err.fault = (let memory = c.in-Err.ensures.memory in record { grows = c.in_ok-lit.ensures.ok.grows; too_big = λ is. absurd (cc) }) in
+    let own : RefusesGate (g.G.Gates.made c.loop-j.g) (g.G.Gates.made c.latch_literal.new.g) (3 * taken_bits c.index-latches-j.result.reset) c.in-Err.fault = (let memory = c.in-Err.ensures.memory in record { grows = c.in_ok-lit.ensures.ok.grows; too_big = λ is. absurd (cc) }) in
     Refuses-behind _ _ _ (3 * free_count (take c.loop-j.j ls)) (3 * taken_bits c.index-latches-j.result.reset) (3 * free_count ls) _ (omega arith) c.loop-j.invariant.more.2.grows own
 
 pub loop-j-preserved : goal.loop-j-preserved

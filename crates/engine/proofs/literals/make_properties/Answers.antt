@@ -1,6 +1,6 @@
 use Rattle.std.proofs.Common.{◌≡◌, ◌+◌, ◌<◌, ◌≤◌, length, All, refl, sym, subst, ap, arith, rules}
 use Rattle.base.specs.Literal.{variable}
-use Rattle.gates.specs.Made.{Refuses}
+use Rattle.gates.specs.Made.{RefusesGate}
 use Rattle.gates.proofs.LiteralLemmas.{Refuses-behind}
 use Rattle.engine.proofs.MadeLemmas.{chosen_inside, chosen_few, PropertiesRead-made}
 use Rattle.engine.proofs.literals.make_properties.Goals as goal
@@ -21,6 +21,6 @@ returns-in_err-bads-clause-refused g c =
     let circuit = c.args.circuit.now in
     let held : length c.constraints.result.now ≡ length circuit.constraints = ap length c.constraints.ensures.items in
     let few : length c.chosen.result.now ≤ length circuit.bads = omega (arith, ap length c.chosen.ensures, chosen_few c.args.choice circuit.bads) in
-    let refused : Refuses (g.G.Gates.made c.args.g.now) (g.G.Gates.made c.bad_literals.new.g) (length circuit.constraints + length circuit.bads) c.in_err-bads.field-0.0 =
+    let refused : RefusesGate (g.G.Gates.made c.args.g.now) (g.G.Gates.made c.bad_literals.new.g) (length circuit.constraints + length circuit.bads) c.in_err-bads.field-0.0 =
     Refuses-behind _ _ _ (length c.constraints.result.now) (length c.chosen.result.now) (length circuit.constraints + length circuit.bads) _ (omega (arith, held, few)) c.in_ok-met.ensures.ok.grows c.in_err-bads.ensures.refused
     in search rules

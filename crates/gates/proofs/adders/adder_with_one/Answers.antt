@@ -1,5 +1,5 @@
 use Rattle.std.proofs.Common.{arith, rules}
-use Rattle.gates.specs.Made.{Refuses}
+use Rattle.gates.specs.Made.{RefusesGate}
 use Rattle.gates.proofs.LaterLemmas.{Refuses-weaker}
 use Rattle.gates.proofs.LiteralLemmas.{Refuses-behind}
 use Rattle.gates.proofs.GrowthLemmas.{IsDefined-grown}
@@ -19,10 +19,10 @@ disjunction-requires-clause-right g c = IsDefined-grown _ _ _ c.in_ok-two.ensure
 
 pub returns-in_err-two-clause-refused : goal.returns-in_err-two-clause-refused
 returns-in_err-two-clause-refused g c =
-    let refused : Refuses (g.G.Gates.made c.args.g.now) (g.G.Gates.made c.half_adder.new.g) 4 c.in_err-two.field-0.0 = Refuses-weaker _ _ 3 4 _ (omega arith) c.in_err-two.ensures.refused in
+    let refused : RefusesGate (g.G.Gates.made c.args.g.now) (g.G.Gates.made c.half_adder.new.g) 4 c.in_err-two.field-0.0 = Refuses-weaker _ _ 3 4 _ (omega arith) c.in_err-two.ensures.refused in
     search rules
 
 pub returns-in_err-carry-clause-refused : goal.returns-in_err-carry-clause-refused
 returns-in_err-carry-clause-refused g c =
-    let refused : Refuses (g.G.Gates.made c.args.g.now) (g.G.Gates.made c.disjunction.new.g) 4 c.in_err-carry.field-0.0 = Refuses-behind _ _ _ 3 1 4 _ (omega arith) c.in_ok-two.ensures.ok.grows c.in_err-carry.ensures.refused in
+    let refused : RefusesGate (g.G.Gates.made c.args.g.now) (g.G.Gates.made c.disjunction.new.g) 4 c.in_err-carry.field-0.0 = Refuses-behind _ _ _ 3 1 4 _ (omega arith) c.in_ok-two.ensures.ok.grows c.in_err-carry.ensures.refused in
     search rules

@@ -1,5 +1,5 @@
 use Rattle.std.proofs.Common.{take, length-take, arith, ◌*◌, rules}
-use Rattle.gates.specs.Made.{Refuses}
+use Rattle.gates.specs.Made.{RefusesGate}
 use Rattle.gates.proofs.LiteralLemmas.{Refuses-behind}
 use Rattle.gates.proofs.SumLemmas.{MakesSum-start, MakesSum-step, literal_at, front_with}
 use Rattle.gates.proofs.GrowthLemmas.{IsDefined-grown}
@@ -34,6 +34,6 @@ loop-i-preserved g c =
 
 pub returns-in_err-column-clause-refused : goal.returns-in_err-column-clause-refused
 returns-in_err-column-clause-refused g c =
-    let refused : Refuses (g.G.Gates.made c.args.g.now) (g.G.Gates.made c.full_adder.new.g) (7 * c.args.count) c.in_err-column.field-0.0 =
+    let refused : RefusesGate (g.G.Gates.made c.args.g.now) (g.G.Gates.made c.full_adder.new.g) (7 * c.args.count) c.in_err-column.field-0.0 =
     Refuses-behind _ _ _ (7 * c.loop-i.i) 7 (7 * c.args.count) _ (omega arith) c.loop-i.invariant.grows c.in_err-column.ensures.refused
     in search rules

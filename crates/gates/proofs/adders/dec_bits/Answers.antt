@@ -1,7 +1,7 @@
 use Rattle.std.proofs.lemmas.List.{length-map}
 use Rattle.std.proofs.Common.{◌≡◌, ℕ, ◌*◌, length, map, ap, subst, ◌∙◌, arith, rules}
 use Rattle.base.specs.Literal.{negation}
-use Rattle.gates.specs.Made.{Refuses}
+use Rattle.gates.specs.Made.{RefusesGate}
 use Rattle.gates.proofs.GrowthLemmas.{MakesWord-not}
 use Rattle.gates.proofs.SumLemmas.{MakesWord-decremented}
 use Rattle.gates.proofs.adders.dec_bits.Goals as goal
@@ -23,6 +23,6 @@ pub returns-in_err-negated-clause-refused : goal.returns-in_err-negated-clause-r
 returns-in_err-negated-clause-refused g c =
     let n = length c.args.a.now in
     let count : length c.as_slice.result.now ≡ n = ap length (c.as_slice.ensures.value ∙ c.negation.ensures) ∙ length-map c.args.a.now negation in
-    let refused : Refuses (g.G.Gates.made c.args.g.now) (g.G.Gates.made c.inc_bits.new.g) (9 * n) c.in_err-negated.field-0.0 =
-    subst (λ (k : ℕ). Refuses (g.G.Gates.made c.args.g.now) (g.G.Gates.made c.inc_bits.new.g) (9 * k) c.in_err-negated.field-0.0) count c.in_err-negated.ensures.refused
+    let refused : RefusesGate (g.G.Gates.made c.args.g.now) (g.G.Gates.made c.inc_bits.new.g) (9 * n) c.in_err-negated.field-0.0 =
+    subst (λ (k : ℕ). RefusesGate (g.G.Gates.made c.args.g.now) (g.G.Gates.made c.inc_bits.new.g) (9 * k) c.in_err-negated.field-0.0) count c.in_err-negated.ensures.refused
     in search rules

@@ -1,6 +1,6 @@
 use Rattle.std.proofs.Common.{rules, arith}
 use Rattle.std.proofs.lemmas.Result.{IfOk-weaker, IfErr-weaker}
-use Rattle.gates.specs.Made.{Refuses}
+use Rattle.gates.specs.Made.{RefusesGate}
 use Rattle.gates.proofs.LaterLemmas.{Refuses-weaker}
 use Rattle.gates.proofs.SumLemmas.{MakesColumn-full, MakesColumn-with_true}
 use Rattle.gates.proofs.LiteralLemmas.{Refuses-behind}
@@ -18,7 +18,7 @@ returns-then-eq-clause-ok g c = IfOk-weaker c.adder_with_one.result _ _ (λ colu
 
 pub returns-in_err-carry-clause-refused : goal.returns-in_err-carry-clause-refused
 returns-in_err-carry-clause-refused g c =
-    let refused : Refuses (g.G.Gates.made c.args.g.now) (g.G.Gates.made c.disjunction.new.g) (7) c.in_err-carry.field-0.0 =
+    let refused : RefusesGate (g.G.Gates.made c.args.g.now) (g.G.Gates.made c.disjunction.new.g) (7) c.in_err-carry.field-0.0 =
     Refuses-behind _ _ _ _ _ (7) _ (omega arith) (Grows-trans _ _ _ _ _ c.in_ok-first.ensures.ok.grows c.in_ok-second.ensures.ok.grows) c.in_err-carry.ensures.refused
     in search rules
 
@@ -40,10 +40,10 @@ returns-then-eq-clause-refused g c =
 
 pub returns-in_err-first-clause-refused : goal.returns-in_err-first-clause-refused
 returns-in_err-first-clause-refused g c =
-    let refused : Refuses (g.G.Gates.made c.args.g.now) (g.G.Gates.made c.half_adder.new.g) 7 c.in_err-first.field-0.0 = Refuses-weaker _ _ 3 7 _ (omega arith) c.in_err-first.ensures.refused in
+    let refused : RefusesGate (g.G.Gates.made c.args.g.now) (g.G.Gates.made c.half_adder.new.g) 7 c.in_err-first.field-0.0 = Refuses-weaker _ _ 3 7 _ (omega arith) c.in_err-first.ensures.refused in
     search rules
 
 pub returns-in_err-second-clause-refused : goal.returns-in_err-second-clause-refused
 returns-in_err-second-clause-refused g c =
-    let refused : Refuses (g.G.Gates.made c.args.g.now) (g.G.Gates.made c.half_adder-2.new.g) 7 c.in_err-second.field-0.0 = Refuses-behind _ _ _ 3 3 7 _ (omega arith) c.in_ok-first.ensures.ok.grows c.in_err-second.ensures.refused in
+    let refused : RefusesGate (g.G.Gates.made c.args.g.now) (g.G.Gates.made c.half_adder-2.new.g) 7 c.in_err-second.field-0.0 = Refuses-behind _ _ _ 3 3 7 _ (omega arith) c.in_ok-first.ensures.ok.grows c.in_err-second.ensures.refused in
     search rules

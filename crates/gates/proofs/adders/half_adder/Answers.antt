@@ -1,5 +1,5 @@
 use Rattle.std.proofs.Common.{rules, arith}
-use Rattle.gates.specs.Made.{Refuses}
+use Rattle.gates.specs.Made.{RefusesGate}
 use Rattle.gates.proofs.LaterLemmas.{IsDefined-not, Refuses-weaker}
 use Rattle.gates.proofs.SumLemmas.{MakesColumn-half}
 use Rattle.gates.proofs.LiteralLemmas.{Refuses-behind}
@@ -14,7 +14,7 @@ returns-clause-ok g c =
 
 pub returns-in_err-sum-clause-refused : goal.returns-in_err-sum-clause-refused
 returns-in_err-sum-clause-refused g c =
-    let refused : Refuses (g.G.Gates.made c.args.g.now) (g.G.Gates.made c.and-3.new.self) (3) c.in_err-sum.field-0.0 =
+    let refused : RefusesGate (g.G.Gates.made c.args.g.now) (g.G.Gates.made c.and-3.new.self) (3) c.in_err-sum.field-0.0 =
     Refuses-behind _ _ _ _ _ (3) _ (omega arith) (Grows-trans _ _ _ _ _ c.in_ok-both.ensures.ok.grows c.in_ok-neither.ensures.ok.grows) c.in_err-sum.ensures.refused
     in search rules
 
@@ -32,10 +32,10 @@ and-requires-3-clause-right g c = IsDefined-not _ c.in_ok-neither.neither _ c.no
 
 pub returns-in_err-both-clause-refused : goal.returns-in_err-both-clause-refused
 returns-in_err-both-clause-refused g c =
-    let refused : Refuses (g.G.Gates.made c.args.g.now) (g.G.Gates.made c.and.new.self) 3 c.in_err-both.field-0.0 = Refuses-weaker _ _ 1 3 _ (omega arith) c.in_err-both.ensures.refused in
+    let refused : RefusesGate (g.G.Gates.made c.args.g.now) (g.G.Gates.made c.and.new.self) 3 c.in_err-both.field-0.0 = Refuses-weaker _ _ 1 3 _ (omega arith) c.in_err-both.ensures.refused in
     search rules
 
 pub returns-in_err-neither-clause-refused : goal.returns-in_err-neither-clause-refused
 returns-in_err-neither-clause-refused g c =
-    let refused : Refuses (g.G.Gates.made c.args.g.now) (g.G.Gates.made c.and-2.new.self) 3 c.in_err-neither.field-0.0 = Refuses-behind _ _ _ 1 1 3 _ (omega arith) c.in_ok-both.ensures.ok.grows c.in_err-neither.ensures.refused in
+    let refused : RefusesGate (g.G.Gates.made c.args.g.now) (g.G.Gates.made c.and-2.new.self) 3 c.in_err-neither.field-0.0 = Refuses-behind _ _ _ 1 1 3 _ (omega arith) c.in_ok-both.ensures.ok.grows c.in_err-neither.ensures.refused in
     search rules

@@ -3,7 +3,7 @@ use Rattle.std.proofs.lemmas.List.{length-replicate}
 use Rattle.std.proofs.Common.{◌≡◌, length, replicate, ℕ, ◌*◌, sym, ap, subst, ◌∙◌, arith, rules}
 use Rattle.aiger.specs.Net.{IsDefined}
 use Rattle.aiger.proofs.NetLemmas.{IsDefined-false}
-use Rattle.gates.specs.Made.{Refuses}
+use Rattle.gates.specs.Made.{RefusesGate}
 use Rattle.gates.proofs.SumLemmas.{MakesWord-negative}
 use Rattle.gates.proofs.adders.neg_bits.Goals as goal
 
@@ -27,6 +27,6 @@ pub returns-in_err-sum-clause-refused : goal.returns-in_err-sum-clause-refused
 returns-in_err-sum-clause-refused g c =
     let n = length c.args.a.now in
     let count : length c.as_slice.result.now ≡ n = ap length (c.as_slice.ensures.value ∙ c.repeated.ensures) ∙ length-replicate (length c.args.a.now) 0 in
-    let refused : Refuses (g.G.Gates.made c.args.g.now) (g.G.Gates.made c.difference.new.g) (9 * n) c.in_err-sum.field-0.0 =
-    subst (λ (k : ℕ). Refuses (g.G.Gates.made c.args.g.now) (g.G.Gates.made c.difference.new.g) (9 * k) c.in_err-sum.field-0.0) count c.in_err-sum.ensures.refused
+    let refused : RefusesGate (g.G.Gates.made c.args.g.now) (g.G.Gates.made c.difference.new.g) (9 * n) c.in_err-sum.field-0.0 =
+    subst (λ (k : ℕ). RefusesGate (g.G.Gates.made c.args.g.now) (g.G.Gates.made c.difference.new.g) (9 * k) c.in_err-sum.field-0.0) count c.in_err-sum.ensures.refused
     in search rules

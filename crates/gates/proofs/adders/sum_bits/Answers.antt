@@ -1,6 +1,6 @@
 use Rattle.std.proofs.Common.{◌≡◌, ◌+◌, ◌-◌, ◌*◌, ◌≤◌, rules, ◌∷◌, [], ◌++◌, length, take, sym, ◌∙◌, arith}
 use Rattle.std.proofs.lemmas.List.{take_all}
-use Rattle.gates.specs.Made.{Refuses}
+use Rattle.gates.specs.Made.{RefusesGate}
 use Rattle.gates.proofs.LaterLemmas.{IsDefined-of_word, Refuses-weaker}
 use Rattle.gates.proofs.GrowthLemmas.{Grows-trans, IsDefined-grown}
 use Rattle.gates.proofs.LiteralLemmas.{Refuses-behind}
@@ -32,7 +32,7 @@ returns-in_err-differ-clause-refused g c =
     let low = 7 * (length c.args.a.now - 1) in
     let fault = c.in_err-differ.field-0.0 in
     let within : low + 3 ≤ 9 * n = omega (arith, c.requires.operands.some) in
-    let whole : Refuses old new (9 * n) fault = Refuses-behind old mid new low 3 (9 * n) fault within c.in_ok-low.ensures.ok.grows c.in_err-differ.ensures.refused in
+    let whole : RefusesGate old new (9 * n) fault = Refuses-behind old mid new low 3 (9 * n) fault within c.in_ok-low.ensures.ok.grows c.in_err-differ.ensures.refused in
     search rules
 
 pub returns-in_err-last-clause-refused : goal.returns-in_err-last-clause-refused
@@ -46,7 +46,7 @@ returns-in_err-last-clause-refused g c =
     let fault = c.in_err-last.field-0.0 in
     let within : low + 3 + 3 ≤ 9 * n = omega (arith, c.requires.operands.some) in
     let before = Grows-trans old mid next low 3 c.in_ok-low.ensures.ok.grows c.in_ok-differ.ensures.ok.grows in
-    let whole : Refuses old new (9 * n) fault = Refuses-behind old next new (low + 3) 3 (9 * n) fault within before c.in_err-last.ensures.refused in
+    let whole : RefusesGate old new (9 * n) fault = Refuses-behind old next new (low + 3) 3 (9 * n) fault within before c.in_err-last.ensures.refused in
     search rules
 
 pub xor-requires-clause-left : goal.xor-requires-clause-left
@@ -66,6 +66,6 @@ xor-requires-2-clause-right g c = IsDefined-grown _ _ _ c.in_ok-differ.ensures.o
 pub returns-in_err-low-clause-refused : goal.returns-in_err-low-clause-refused
 returns-in_err-low-clause-refused g c =
     let n = length c.args.a.now in
-    let refused : Refuses (g.G.Gates.made c.args.g.now) (g.G.Gates.made c.columns.new.g) (9 * n) c.in_err-low.field-0.0 =
+    let refused : RefusesGate (g.G.Gates.made c.args.g.now) (g.G.Gates.made c.columns.new.g) (9 * n) c.in_err-low.field-0.0 =
     Refuses-weaker _ _ _ (9 * n) _ (omega arith) c.in_err-low.ensures.refused
     in search rules

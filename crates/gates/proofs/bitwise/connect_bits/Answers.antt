@@ -1,7 +1,7 @@
 use Rattle.std.proofs.Common.{◌+◌, ◌*◌, take, sym, ap, ◌∙◌, arith, length-take, length, rules}
 use Rattle.base.specs.Literal.{literal_value}
 use Rattle.gates.specs.Connect.{connected, connected_bits, connective_bound, words_bound}
-use Rattle.gates.specs.Made.{word_value, Refuses}
+use Rattle.gates.specs.Made.{word_value, RefusesGate}
 use Rattle.gates.proofs.LaterLemmas.{IsDefined-of_word}
 use Rattle.gates.proofs.WordLemmas.{connected_bits-push}
 use Rattle.gates.proofs.LiteralLemmas.{MakesLiteral-then, MakesLiteral-same, Refuses-behind}
@@ -33,6 +33,6 @@ pub returns-in_err-all-clause-refused : goal.returns-in_err-all-clause-refused
 returns-in_err-all-clause-refused g c =
     let by = c.args.by in
     let n = length c.args.a.now in
-    let refused : Refuses (g.G.Gates.made c.args.g.now) (g.G.Gates.made c.connect.new.g) (words_bound by n) c.in_err-all.field-0.0 =
+    let refused : RefusesGate (g.G.Gates.made c.args.g.now) (g.G.Gates.made c.connect.new.g) (words_bound by n) c.in_err-all.field-0.0 =
     Refuses-behind _ _ _ (connective_bound by * c.loop-lit.lit-index) (connective_bound by) (words_bound by n) _ (words_bound-more by c.loop-lit.lit-index n (omega arith)) c.loop-lit.invariant.grows c.in_err-all.ensures.refused
     in search rules

@@ -1,7 +1,7 @@
 use Rattle.std.proofs.Common.{length, map, refl, arith, ◌*◌, rules}
 use Rattle.std.proofs.lemmas.List.{length-map}
 use Rattle.base.specs.Literal.{literal_value}
-use Rattle.gates.specs.Made.{Refuses}
+use Rattle.gates.specs.Made.{RefusesGate}
 use Rattle.gates.specs.Connect.{connected, connective_bound, words_bound}
 use Rattle.gates.proofs.LiteralLemmas.{Refuses-behind}
 use Rattle.gates.proofs.LaterLemmas.{IsDefined-of_word}
@@ -39,6 +39,6 @@ pub returns-in_err-connect-clause-refused : goal.returns-in_err-connect-clause-r
 returns-in_err-connect-clause-refused g c =
     let by = c.args.by in
     let n = length c.args.a.now in
-    let refused : Refuses (g.G.Gates.made c.args.g.now) (g.G.Gates.made c.connect.new.g) (words_bound by n) c.in_err-connect.field-0.0 =
+    let refused : RefusesGate (g.G.Gates.made c.args.g.now) (g.G.Gates.made c.connect.new.g) (words_bound by n) c.in_err-connect.field-0.0 =
     Refuses-behind _ _ _ (connective_bound by * c.loop-i.i) (connective_bound by) (words_bound by n) _ (words_bound-more by c.loop-i.i n (omega arith)) c.loop-i.invariant.grows c.in_err-connect.ensures.refused
     in search rules

@@ -1,6 +1,6 @@
 use Rattle.std.proofs.Common.{◌≡◌, ◌+◌, ◌*◌, Bool, true, false, not, ◌==◌, bit_xor, length, refl, ap, ◌∙◌, arith, rules}
 use Rattle.base.specs.Literal.{negation}
-use Rattle.gates.specs.Made.{MakesLiteral, word_value, Refuses}
+use Rattle.gates.specs.Made.{MakesLiteral, word_value, RefusesGate}
 use Rattle.gates.proofs.LaterLemmas.{Refuses-weaker}
 use Rattle.gates.proofs.LiteralLemmas.{MakesLiteral-not, MakesLiteral-same, Refuses-behind}
 use Rattle.gates.proofs.BitListLemmas.{MakesLiteral-of_word}
@@ -37,7 +37,7 @@ connect_bits-requires-clause-defined g c = rw c.as_slice.ensures.value c.in_ok-d
 pub returns-in_err-differing-clause-refused : goal.returns-in_err-differing-clause-refused
 returns-in_err-differing-clause-refused g c =
     let n = length c.args.a.now in
-    let refused : Refuses (g.G.Gates.made c.args.g.now) (g.G.Gates.made c.connect_words.new.g) (4 * n) c.in_err-differing.field-0.0 =
+    let refused : RefusesGate (g.G.Gates.made c.args.g.now) (g.G.Gates.made c.connect_words.new.g) (4 * n) c.in_err-differing.field-0.0 =
     Refuses-weaker _ _ (3 * n) (4 * n) _ (omega arith) c.in_err-differing.ensures.refused
     in search rules
 
@@ -46,6 +46,6 @@ returns-in_err-differ-clause-refused g c =
     let n = length c.args.a.now in
     let m = length c.as_slice.result.now in
     let count : m ≡ n = ap length c.as_slice.ensures.value ∙ c.in_ok-differing.ensures.ok.wide in
-    let refused : Refuses (g.G.Gates.made c.args.g.now) (g.G.Gates.made c.connect_bits.new.g) (4 * n) c.in_err-differ.field-0.0 =
+    let refused : RefusesGate (g.G.Gates.made c.args.g.now) (g.G.Gates.made c.connect_bits.new.g) (4 * n) c.in_err-differ.field-0.0 =
     Refuses-behind _ _ _ (3 * n) m (4 * n) _ (omega (arith, count)) c.in_ok-differing.ensures.ok.grows c.in_err-differ.ensures.refused
     in search rules

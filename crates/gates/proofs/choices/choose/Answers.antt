@@ -2,7 +2,7 @@ use Rattle.std.proofs.Common.{◌≡◌, Bool, true, false, List, [], ◌∷◌,
 use Rattle.std.proofs.lemmas.List.{length-map}
 use Rattle.base.specs.Word.{word}
 use Rattle.base.specs.Literal.{literal_value}
-use Rattle.gates.specs.Made.{Refuses}
+use Rattle.gates.specs.Made.{RefusesGate}
 use Rattle.gates.proofs.LiteralLemmas.{Refuses-behind}
 use Rattle.gates.proofs.LaterLemmas.{IsDefined-of_word}
 use Rattle.gates.proofs.GrowthLemmas.{IsDefined-grown}
@@ -58,6 +58,6 @@ loop-i-init g c = let condition = c.args.c in rw c.new-bits.ensures (IsRow-start
 pub returns-in_err-mux-clause-refused : goal.returns-in_err-mux-clause-refused
 returns-in_err-mux-clause-refused g c =
     let n = length c.args.t.now in
-    let refused : Refuses (g.G.Gates.made c.args.g.now) (g.G.Gates.made c.mux.new.g) (3 * n) c.in_err-mux.field-0.0 =
+    let refused : RefusesGate (g.G.Gates.made c.args.g.now) (g.G.Gates.made c.mux.new.g) (3 * n) c.in_err-mux.field-0.0 =
     Refuses-behind _ _ _ (3 * c.loop-i.i) 3 (3 * n) _ (omega arith) c.loop-i.invariant.grows c.in_err-mux.ensures.refused
     in search rules

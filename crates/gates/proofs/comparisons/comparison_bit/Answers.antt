@@ -1,6 +1,6 @@
 use Rattle.std.proofs.Common.{length, rules}
 use Rattle.gates.specs.Bound.{binary_bound}
-use Rattle.gates.specs.Made.{Refuses}
+use Rattle.gates.specs.Made.{RefusesGate}
 use Rattle.gates.proofs.OperatorLemmas.{comparison_bound, comparison_width}
 use Rattle.gates.proofs.comparisons.comparison_bit.Goals as goal
 
@@ -13,6 +13,6 @@ returns-clause-ok g c =
 pub returns-in_err-lit-clause-refused : goal.returns-in_err-lit-clause-refused
 returns-in_err-lit-clause-refused g c =
     let n = length c.args.a.now in
-    let refused : Refuses (g.G.Gates.made c.args.g.now) (g.G.Gates.made c.comparison.new.g) (binary_bound c.args.op n) c.in_err-lit.field-0.0 =
+    let refused : RefusesGate (g.G.Gates.made c.args.g.now) (g.G.Gates.made c.comparison.new.g) (binary_bound c.args.op n) c.in_err-lit.field-0.0 =
     rw (comparison_bound c.args.op n c.requires.comparison) c.in_err-lit.ensures.refused
     in search rules

@@ -1,5 +1,5 @@
 use Rattle.std.proofs.Common.{take, length-take, arith, ◌*◌, length, rules}
-use Rattle.gates.specs.Made.{Refuses}
+use Rattle.gates.specs.Made.{RefusesGate}
 use Rattle.gates.proofs.LiteralLemmas.{Refuses-behind}
 use Rattle.gates.proofs.SumLemmas.{literal_at, front_with}
 use Rattle.gates.proofs.GrowthLemmas.{IsDefined-grown}
@@ -36,6 +36,6 @@ less_column-requires-clause-below g c = c.loop-i.invariant.defined
 pub returns-in_err-below-clause-refused : goal.returns-in_err-below-clause-refused
 returns-in_err-below-clause-refused g c =
     let n = length c.args.a.now in
-    let refused : Refuses (g.G.Gates.made c.args.g.now) (g.G.Gates.made c.less_column.new.g) (6 * n) c.in_err-below.field-0.0 =
+    let refused : RefusesGate (g.G.Gates.made c.args.g.now) (g.G.Gates.made c.less_column.new.g) (6 * n) c.in_err-below.field-0.0 =
     Refuses-behind _ _ _ (4 * c.loop-i.i) 4 (6 * n) _ (omega arith) c.loop-i.invariant.grows c.in_err-below.ensures.refused
     in search rules

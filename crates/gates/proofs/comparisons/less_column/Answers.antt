@@ -1,6 +1,6 @@
 use Rattle.std.proofs.Common.{rules, arith}
 use Rattle.std.proofs.lemmas.Result.{IfOk-weaker, IfErr-weaker}
-use Rattle.gates.specs.Made.{Refuses}
+use Rattle.gates.specs.Made.{RefusesGate}
 use Rattle.gates.proofs.LaterLemmas.{IsDefined-not, Refuses-weaker}
 use Rattle.gates.proofs.OrderLemmas.{MakesLiteral-column, MakesLiteral-lowest}
 use Rattle.gates.proofs.LiteralLemmas.{Refuses-behind}
@@ -20,7 +20,7 @@ returns-then-eq-clause-ok g c =
 
 pub returns-in_err-rest-clause-refused : goal.returns-in_err-rest-clause-refused
 returns-in_err-rest-clause-refused g c =
-    let refused : Refuses (g.G.Gates.made c.args.g.now) (g.G.Gates.made c.and-3.new.self) (4) c.in_err-rest.field-0.0 =
+    let refused : RefusesGate (g.G.Gates.made c.args.g.now) (g.G.Gates.made c.and-3.new.self) (4) c.in_err-rest.field-0.0 =
     Refuses-behind _ _ _ _ _ (4) _ (omega arith) (Grows-trans _ _ _ _ _ c.in_ok-less.ensures.ok.grows c.in_ok-greater.ensures.ok.grows) c.in_err-rest.ensures.refused
     in search rules
 
@@ -52,10 +52,10 @@ disjunction-requires-clause-right g c = c.in_ok-rest.ensures.ok.defined
 
 pub returns-in_err-less-clause-refused : goal.returns-in_err-less-clause-refused
 returns-in_err-less-clause-refused g c =
-    let refused : Refuses (g.G.Gates.made c.args.g.now) (g.G.Gates.made c.and.new.self) 4 c.in_err-less.field-0.0 = Refuses-weaker _ _ 1 4 _ (omega arith) c.in_err-less.ensures.refused in
+    let refused : RefusesGate (g.G.Gates.made c.args.g.now) (g.G.Gates.made c.and.new.self) 4 c.in_err-less.field-0.0 = Refuses-weaker _ _ 1 4 _ (omega arith) c.in_err-less.ensures.refused in
     search rules
 
 pub returns-in_err-greater-clause-refused : goal.returns-in_err-greater-clause-refused
 returns-in_err-greater-clause-refused g c =
-    let refused : Refuses (g.G.Gates.made c.args.g.now) (g.G.Gates.made c.and-2.new.self) 4 c.in_err-greater.field-0.0 = Refuses-behind _ _ _ 1 1 4 _ (omega arith) c.in_ok-less.ensures.ok.grows c.in_err-greater.ensures.refused in
+    let refused : RefusesGate (g.G.Gates.made c.args.g.now) (g.G.Gates.made c.and-2.new.self) 4 c.in_err-greater.field-0.0 = Refuses-behind _ _ _ 1 1 4 _ (omega arith) c.in_ok-less.ensures.ok.grows c.in_err-greater.ensures.refused in
     search rules

@@ -3,7 +3,7 @@ use Rattle.std.proofs.Common.{◌≡◌, ℕ, ◌+◌, ◌-◌, ◌*◌, ◌∷�
 use Rattle.std.proofs.lemmas.List.{drop_more, drop_all}
 use Rattle.std.proofs.lemmas.Nat.{mul-le}
 use Rattle.aiger.specs.Net.{IsDefined}
-use Rattle.gates.specs.Made.{Refuses}
+use Rattle.gates.specs.Made.{RefusesGate}
 use Rattle.gates.proofs.LaterLemmas.{IsDefined-of_word}
 use Rattle.gates.proofs.GrowthLemmas.{All-defined-grown}
 use Rattle.gates.proofs.QuotientLemmas.{MakesDivision-start, MakesDivision-step, MakesDivision-weaker}
@@ -36,7 +36,7 @@ pub returns-in_err-row-clause-refused : goal.returns-in_err-row-clause-refused
 returns-in_err-row-clause-refused g c =
     let n = length c.args.a.now in
     let m = 12 * length c.args.b.now + 9 in
-    let refused : Refuses (g.G.Gates.made c.args.g.now) (g.G.Gates.made c.next_row.new.g) (12 * (n * n) + 12 * n) c.in_err-row.field-0.0 =
+    let refused : RefusesGate (g.G.Gates.made c.args.g.now) (g.G.Gates.made c.next_row.new.g) (12 * (n * n) + 12 * n) c.in_err-row.field-0.0 =
     Refuses-behind _ _ _ (m * c.loop-done.done) m (12 * (n * n) + 12 * n) _ (omega (arith, c.requires.equal, mul-le m (c.loop-done.done + 1) (12 * n + 9) n (omega (arith, c.requires.equal)) (omega arith))) c.loop-done.invariant.grows c.in_err-row.ensures.refused
     in search rules
 

@@ -1,6 +1,6 @@
 use Rattle.std.proofs.Common.{◌≡◌, ℕ, ◌+◌, ◌-◌, ◌∷◌, [], length, drop, get_or, sym, ap₂, ◌∙◌, arith, rules, ap}
 use Rattle.std.proofs.lemmas.List.{drop_more, drop_all}
-use Rattle.gates.specs.Made.{Refuses}
+use Rattle.gates.specs.Made.{RefusesGate}
 use Rattle.gates.proofs.LaterLemmas.{IsDefined-of_word}
 use Rattle.gates.proofs.LiteralLemmas.{Refuses-behind}
 use Rattle.gates.proofs.QuotientLemmas.{MakesLiteral-no_bit, MakesLiteral-bit_more}
@@ -32,6 +32,6 @@ disjunction-requires-clause-right g c =
 pub returns-in_err-some-clause-refused : goal.returns-in_err-some-clause-refused
 returns-in_err-some-clause-refused g c =
     let most = length c.args.a.now - c.args.from in
-    let refused : Refuses (g.G.Gates.made c.args.g.now) (g.G.Gates.made c.disjunction.new.g) most c.in_err-some.field-0.0 =
+    let refused : RefusesGate (g.G.Gates.made c.args.g.now) (g.G.Gates.made c.disjunction.new.g) most c.in_err-some.field-0.0 =
     Refuses-behind _ _ _ c.loop-above.above 1 most _ (omega arith) c.loop-above.invariant.grows c.in_err-some.ensures.refused
     in search rules

@@ -2,7 +2,7 @@ use Rattle.std.proofs.lemmas.List.Elements.{All-take}
 use Rattle.std.proofs.lemmas.List.{length-take-le}
 use Rattle.std.proofs.Common.{length, take, refl, ap, ◌∙◌, rules, arith, ◌*◌, ◌+◌, sym}
 use Rattle.aiger.specs.Net.{IsDefined}
-use Rattle.gates.specs.Made.{Refuses}
+use Rattle.gates.specs.Made.{RefusesGate}
 use Rattle.gates.proofs.LaterLemmas.{IsDefined-not, Refuses-weaker}
 use Rattle.gates.proofs.QuotientLemmas.{MakesQuotientRow-by_carry}
 use Rattle.gates.proofs.LiteralLemmas.{Refuses-behind}
@@ -20,21 +20,21 @@ returns-clause-ok g c =
 pub returns-in_err-above-clause-refused : goal.returns-in_err-above-clause-refused
 returns-in_err-above-clause-refused g c =
     let n = length c.args.b.now in
-    let refused : Refuses (g.G.Gates.made c.args.g.now) (g.G.Gates.made c.has_bit_from.new.g) (12 * n + 9) c.in_err-above.field-0.0 =
+    let refused : RefusesGate (g.G.Gates.made c.args.g.now) (g.G.Gates.made c.has_bit_from.new.g) (12 * n + 9) c.in_err-above.field-0.0 =
     Refuses-behind _ _ _ _ _ (12 * n + 9) _ (omega (arith, c.requires.inside)) c.in_ok-reduced.ensures.ok.grows c.in_err-above.ensures.refused
     in search rules
 
 pub returns-in_err-bit-clause-refused : goal.returns-in_err-bit-clause-refused
 returns-in_err-bit-clause-refused g c =
     let n = length c.args.b.now in
-    let refused : Refuses (g.G.Gates.made c.args.g.now) (g.G.Gates.made c.and.new.self) (12 * n + 9) c.in_err-bit.field-0.0 =
+    let refused : RefusesGate (g.G.Gates.made c.args.g.now) (g.G.Gates.made c.and.new.self) (12 * n + 9) c.in_err-bit.field-0.0 =
     Refuses-behind _ _ _ _ _ (12 * n + 9) _ (omega (arith, c.requires.inside)) (Grows-trans _ _ _ _ _ c.in_ok-reduced.ensures.ok.grows c.in_ok-above.ensures.ok.grows) c.in_err-bit.ensures.refused
     in search rules
 
 pub returns-in_err-remainder-clause-refused : goal.returns-in_err-remainder-clause-refused
 returns-in_err-remainder-clause-refused g c =
     let n = length c.args.b.now in
-    let refused : Refuses (g.G.Gates.made c.args.g.now) (g.G.Gates.made c.choose.new.g) (12 * n + 9) c.in_err-remainder.field-0.0 =
+    let refused : RefusesGate (g.G.Gates.made c.args.g.now) (g.G.Gates.made c.choose.new.g) (12 * n + 9) c.in_err-remainder.field-0.0 =
     Refuses-behind _ _ _ _ _ (12 * n + 9) _ (omega (arith, ap length c.as_slice.ensures.value, c.requires.inside, c.in_ok-reduced.ensures.ok.wide)) (Grows-trans _ _ _ _ _ c.in_ok-reduced.ensures.ok.grows (Grows-trans _ _ _ _ _ c.in_ok-above.ensures.ok.grows c.in_ok-bit.ensures.ok.grows)) c.in_err-remainder.ensures.refused
     in search rules
 
@@ -77,6 +77,6 @@ choose-requires-clause-otherwise g c =
 pub returns-in_err-reduced-clause-refused : goal.returns-in_err-reduced-clause-refused
 returns-in_err-reduced-clause-refused g c =
     let n = length c.args.b.now in
-    let refused : Refuses (g.G.Gates.made c.args.g.now) (g.G.Gates.made c.difference.new.g) (12 * n + 9) c.in_err-reduced.field-0.0 =
+    let refused : RefusesGate (g.G.Gates.made c.args.g.now) (g.G.Gates.made c.difference.new.g) (12 * n + 9) c.in_err-reduced.field-0.0 =
     Refuses-weaker _ _ _ (12 * n + 9) _ (omega (arith, c.requires.inside)) c.in_err-reduced.ensures.refused
     in search rules

@@ -2,7 +2,7 @@ use Rattle.std.proofs.Common.{◌≡◌, Bool, true, false, not, ◌&&◌, ◌||
 use Rattle.std.proofs.lemmas.Result.{IfOk-weaker, IfErr-weaker}
 use Rattle.base.specs.Literal.{literal_value}
 use Rattle.base.proofs.LiteralLemmas.{literal_value-negation}
-use Rattle.gates.specs.Made.{Refuses}
+use Rattle.gates.specs.Made.{RefusesGate}
 use Rattle.gates.proofs.LaterLemmas.{IsDefined-not, Refuses-weaker}
 use Rattle.gates.proofs.LiteralLemmas.{MakesLiteral-and, MakesLiteral-join, MakesLiteral-same, Refuses-behind}
 use Rattle.gates.proofs.GrowthLemmas.{Grows-trans, IsDefined-grown}
@@ -52,10 +52,10 @@ disjunction-requires-clause-right g c = c.in_ok-second.ensures.ok.defined
 
 pub returns-in_err-first-clause-refused : goal.returns-in_err-first-clause-refused
 returns-in_err-first-clause-refused g c =
-    let refused : Refuses (g.G.Gates.made c.args.g.now) (g.G.Gates.made c.and.new.self) 3 c.in_err-first.field-0.0 = Refuses-weaker _ _ 1 3 _ (omega arith) c.in_err-first.ensures.refused in
+    let refused : RefusesGate (g.G.Gates.made c.args.g.now) (g.G.Gates.made c.and.new.self) 3 c.in_err-first.field-0.0 = Refuses-weaker _ _ 1 3 _ (omega arith) c.in_err-first.ensures.refused in
     search rules
 
 pub returns-in_err-second-clause-refused : goal.returns-in_err-second-clause-refused
 returns-in_err-second-clause-refused g c =
-    let refused : Refuses (g.G.Gates.made c.args.g.now) (g.G.Gates.made c.and-2.new.self) 3 c.in_err-second.field-0.0 = Refuses-behind _ _ _ 1 1 3 _ (omega arith) c.in_ok-first.ensures.ok.grows c.in_err-second.ensures.refused in
+    let refused : RefusesGate (g.G.Gates.made c.args.g.now) (g.G.Gates.made c.and-2.new.self) 3 c.in_err-second.field-0.0 = Refuses-behind _ _ _ 1 1 3 _ (omega arith) c.in_ok-first.ensures.ok.grows c.in_err-second.ensures.refused in
     search rules

@@ -2,7 +2,7 @@ use Rattle.std.proofs.Common.{◌≡◌, Bool, true, false, not, ◌&&◌, refl,
 use Rattle.std.proofs.lemmas.Result.{IfOk-weaker, IfErr-weaker}
 use Rattle.base.specs.Literal.{literal_value}
 use Rattle.base.proofs.LiteralLemmas.{literal_value-negation}
-use Rattle.gates.specs.Made.{Refuses}
+use Rattle.gates.specs.Made.{RefusesGate}
 use Rattle.gates.specs.Connect.{differ}
 use Rattle.gates.proofs.LaterLemmas.{IsDefined-not, Refuses-weaker}
 use Rattle.gates.proofs.LiteralLemmas.{MakesLiteral-and, MakesLiteral-join, MakesLiteral-same, Refuses-behind}
@@ -48,10 +48,10 @@ and-requires-3-clause-right g c = IsDefined-not _ c.in_ok-neither.neither _ c.no
 
 pub returns-in_err-both-clause-refused : goal.returns-in_err-both-clause-refused
 returns-in_err-both-clause-refused g c =
-    let refused : Refuses (g.G.Gates.made c.args.g.now) (g.G.Gates.made c.and.new.self) 3 c.in_err-both.field-0.0 = Refuses-weaker _ _ 1 3 _ (omega arith) c.in_err-both.ensures.refused in
+    let refused : RefusesGate (g.G.Gates.made c.args.g.now) (g.G.Gates.made c.and.new.self) 3 c.in_err-both.field-0.0 = Refuses-weaker _ _ 1 3 _ (omega arith) c.in_err-both.ensures.refused in
     search rules
 
 pub returns-in_err-neither-clause-refused : goal.returns-in_err-neither-clause-refused
 returns-in_err-neither-clause-refused g c =
-    let refused : Refuses (g.G.Gates.made c.args.g.now) (g.G.Gates.made c.and-2.new.self) 3 c.in_err-neither.field-0.0 = Refuses-behind _ _ _ 1 1 3 _ (omega arith) c.in_ok-both.ensures.ok.grows c.in_err-neither.ensures.refused in
+    let refused : RefusesGate (g.G.Gates.made c.args.g.now) (g.G.Gates.made c.and-2.new.self) 3 c.in_err-neither.field-0.0 = Refuses-behind _ _ _ 1 1 3 _ (omega arith) c.in_ok-both.ensures.ok.grows c.in_err-neither.ensures.refused in
     search rules

@@ -1,6 +1,6 @@
 use Rattle.std.proofs.Common.{◌&&◌, arith, ◌*◌, length, rules}
 use Rattle.base.specs.Literal.{literal_value}
-use Rattle.gates.specs.Made.{Refuses}
+use Rattle.gates.specs.Made.{RefusesGate}
 use Rattle.gates.proofs.LaterLemmas.{IsDefined-of_word}
 use Rattle.gates.proofs.GrowthLemmas.{IsDefined-grown}
 use Rattle.gates.proofs.LiteralLemmas.{MakesLiteral-and, Refuses-behind}
@@ -33,6 +33,6 @@ loop-i-init g c = let lit = c.args.lit in rw c.new-bits.ensures (IsRow-start _ 1
 pub returns-in_err-and-clause-refused : goal.returns-in_err-and-clause-refused
 returns-in_err-and-clause-refused g c =
     let n = length c.args.a.now in
-    let refused : Refuses (g.G.Gates.made c.args.g.now) (g.G.Gates.made c.and.new.self) n c.in_err-and.field-0.0 =
+    let refused : RefusesGate (g.G.Gates.made c.args.g.now) (g.G.Gates.made c.and.new.self) n c.in_err-and.field-0.0 =
     Refuses-behind _ _ _ (1 * c.loop-i.i) 1 n _ (omega arith) c.loop-i.invariant.grows c.in_err-and.ensures.refused
     in search rules

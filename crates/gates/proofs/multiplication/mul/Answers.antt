@@ -1,6 +1,6 @@
 use Rattle.std.proofs.Common.{refl, arith, rules, ◌*◌, ◌+◌, length, ℕ, ◌≤◌, ap, ◌∙◌}
 use Rattle.std.proofs.lemmas.Nat.{mul-le}
-use Rattle.gates.specs.Made.{Refuses}
+use Rattle.gates.specs.Made.{RefusesGate}
 use Rattle.gates.proofs.LaterLemmas.{IsDefined-of_word, Refuses-weaker}
 use Rattle.gates.proofs.GrowthLemmas.{Grows-refl, All-defined-grown}
 use Rattle.gates.proofs.ProductLemmas.{MakesWord-first_row, MakesWord-next_row, MakesWord-all_rows}
@@ -23,7 +23,7 @@ returns-clause-ok g c =
 pub returns-in_err-product-2-clause-refused : goal.returns-in_err-product-2-clause-refused
 returns-in_err-product-2-clause-refused g c =
     let n = length c.args.a.now in
-    let refused : Refuses (g.G.Gates.made c.args.g.now) (g.G.Gates.made c.with_row.new.g) (10 * (n * n)) c.in_err-product-2.field-0.0 =
+    let refused : RefusesGate (g.G.Gates.made c.args.g.now) (g.G.Gates.made c.with_row.new.g) (10 * (n * n)) c.in_err-product-2.field-0.0 =
     Refuses-behind _ _ _ _ _ (10 * (n * n)) _ (omega (arith, mul-le n (c.loop-place.place + 1) n n (omega arith) (omega (arith, c.requires.equal)))) c.loop-place.invariant.grows c.in_err-product-2.ensures.refused
     in search rules
 
@@ -52,6 +52,6 @@ with_row-requires-clause-literal g c =
 pub returns-in_err-product-clause-refused : goal.returns-in_err-product-clause-refused
 returns-in_err-product-clause-refused g c =
     let n = length c.args.a.now in
-    let refused : Refuses (g.G.Gates.made c.args.g.now) (g.G.Gates.made c.masked.new.g) (10 * (n * n)) c.in_err-product.field-0.0 =
+    let refused : RefusesGate (g.G.Gates.made c.args.g.now) (g.G.Gates.made c.masked.new.g) (10 * (n * n)) c.in_err-product.field-0.0 =
     Refuses-weaker _ _ _ (10 * (n * n)) _ (few_gates n c.requires.some) c.in_err-product.ensures.refused
     in search rules

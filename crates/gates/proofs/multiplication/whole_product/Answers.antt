@@ -1,6 +1,6 @@
 use Rattle.std.proofs.Common.{◌*◌, length, refl, arith, rules, ◌+◌}
 use Rattle.std.proofs.lemmas.Nat.{mul-le}
-use Rattle.gates.specs.Made.{Refuses}
+use Rattle.gates.specs.Made.{RefusesGate}
 use Rattle.gates.proofs.LaterLemmas.{IsDefined-of_word, Refuses-weaker, MakesWord-all_whole_rows, MakesLiteral-all_whole_rows}
 use Rattle.gates.proofs.GrowthLemmas.{Grows-refl, All-defined-grown}
 use Rattle.gates.proofs.BitListLemmas.{MakesWord-weaker}
@@ -33,7 +33,7 @@ loop-place-preserved g c =
 pub returns-in_err-product-clause-refused : goal.returns-in_err-product-clause-refused
 returns-in_err-product-clause-refused g c =
     let n = length c.args.a.now in
-    let refused : Refuses (g.G.Gates.made c.args.g.now) (g.G.Gates.made c.with_whole_row.new.g) (12 * (n * n)) c.in_err-product.field-0.0 =
+    let refused : RefusesGate (g.G.Gates.made c.args.g.now) (g.G.Gates.made c.with_whole_row.new.g) (12 * (n * n)) c.in_err-product.field-0.0 =
     Refuses-behind _ _ _ _ _ (12 * (n * n)) _ (omega (arith, mul-le n (c.loop-place.place + 1) n n (omega arith) (omega (arith, c.requires.equal)))) c.loop-place.invariant.bits.grows c.in_err-product.ensures.refused
     in search rules
 
@@ -67,7 +67,7 @@ with_whole_row-requires-clause-literal g c =
 pub returns-in_err-bits-clause-refused : goal.returns-in_err-bits-clause-refused
 returns-in_err-bits-clause-refused g c =
     let n = length c.args.a.now in
-    let refused : Refuses (g.G.Gates.made c.args.g.now) (g.G.Gates.made c.masked.new.g) (12 * (n * n)) c.in_err-bits.field-0.0 =
+    let refused : RefusesGate (g.G.Gates.made c.args.g.now) (g.G.Gates.made c.masked.new.g) (12 * (n * n)) c.in_err-bits.field-0.0 =
     Refuses-weaker _ _ _ (12 * (n * n)) _ (omega (arith, mul-le 1 n n n c.requires.some (omega arith))) c.in_err-bits.ensures.refused
     in search rules
 

@@ -1,6 +1,6 @@
 use Rattle.std.proofs.Common.{◌*◌, length, sym, ◌∙◌, arith, rules, ap}
 use Rattle.std.proofs.lemmas.Result.{IfOk-weaker, IfErr-weaker}
-use Rattle.gates.specs.Made.{Refuses}
+use Rattle.gates.specs.Made.{RefusesGate}
 use Rattle.gates.proofs.LaterLemmas.{Refuses-weaker}
 use Rattle.gates.proofs.LiteralLemmas.{Refuses-behind}
 use Rattle.gates.proofs.GrowthLemmas.{All-defined-grown}
@@ -30,7 +30,7 @@ sum_bits-requires-clause-operands g c =
 pub returns-in_err-row-clause-refused : goal.returns-in_err-row-clause-refused
 returns-in_err-row-clause-refused g c =
     let n = length c.args.a.now in
-    let refused : Refuses (g.G.Gates.made c.args.g.now) (g.G.Gates.made c.masked.new.g) (10 * n) c.in_err-row.field-0.0 =
+    let refused : RefusesGate (g.G.Gates.made c.args.g.now) (g.G.Gates.made c.masked.new.g) (10 * n) c.in_err-row.field-0.0 =
     Refuses-weaker _ _ _ (10 * n) _ (omega (arith, ap length c.as_slice.ensures.value, c.raised.ensures.wide)) c.in_err-row.ensures.refused
     in search rules
 

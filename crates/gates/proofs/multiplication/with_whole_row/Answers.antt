@@ -1,5 +1,5 @@
 use Rattle.std.proofs.Common.{rules, ◌*◌, length, refl, arith, sym, ◌∙◌, ap}
-use Rattle.gates.specs.Made.{Refuses}
+use Rattle.gates.specs.Made.{RefusesGate}
 use Rattle.gates.proofs.LaterLemmas.{Refuses-weaker}
 use Rattle.gates.proofs.GrowthLemmas.{Grows-trans, IsDefined-grown, All-defined-grown}
 use Rattle.gates.proofs.LiteralLemmas.{Refuses-behind}
@@ -8,34 +8,34 @@ use Rattle.gates.proofs.multiplication.with_whole_row.Goals as goal
 
 pub returns-in_err-sum-clause-refused : goal.returns-in_err-sum-clause-refused
 returns-in_err-sum-clause-refused g c =
-    let refused : Refuses (g.G.Gates.made c.args.g.now) (g.G.Gates.made c.add.new.g) (12 * length c.args.a.now) c.in_err-sum.field-0.0 =
+    let refused : RefusesGate (g.G.Gates.made c.args.g.now) (g.G.Gates.made c.add.new.g) (12 * length c.args.a.now) c.in_err-sum.field-0.0 =
     Refuses-behind _ _ _ _ _ (12 * length c.args.a.now) _ (omega (arith, ap length c.as_slice.ensures.value, ap length c.as_slice-2.ensures.value, c.raised.ensures.wide, c.requires.operands.equal)) c.in_ok-row.ensures.ok.grows c.in_err-sum.ensures.refused
     in search rules
 
 pub returns-in_err-above-clause-refused : goal.returns-in_err-above-clause-refused
 returns-in_err-above-clause-refused g c =
-    let refused : Refuses (g.G.Gates.made c.args.g.now) (g.G.Gates.made c.has_bit_from.new.g) (12 * length c.args.a.now) c.in_err-above.field-0.0 =
+    let refused : RefusesGate (g.G.Gates.made c.args.g.now) (g.G.Gates.made c.has_bit_from.new.g) (12 * length c.args.a.now) c.in_err-above.field-0.0 =
     Refuses-behind _ _ _ _ _ (12 * length c.args.a.now) _ (omega (arith, ap length c.as_slice.ensures.value, ap length c.as_slice-2.ensures.value, c.raised.ensures.wide, c.requires.operands.equal, c.requires.inside))
     (Grows-trans _ _ _ _ _ c.in_ok-row.ensures.ok.grows c.in_ok-sum.ensures.ok.grows) c.in_err-above.ensures.refused
     in search rules
 
 pub returns-in_err-cut-clause-refused : goal.returns-in_err-cut-clause-refused
 returns-in_err-cut-clause-refused g c =
-    let refused : Refuses (g.G.Gates.made c.args.g.now) (g.G.Gates.made c.and.new.self) (12 * length c.args.a.now) c.in_err-cut.field-0.0 =
+    let refused : RefusesGate (g.G.Gates.made c.args.g.now) (g.G.Gates.made c.and.new.self) (12 * length c.args.a.now) c.in_err-cut.field-0.0 =
     Refuses-behind _ _ _ _ _ (12 * length c.args.a.now) _ (omega (arith, ap length c.as_slice.ensures.value, ap length c.as_slice-2.ensures.value, c.raised.ensures.wide, c.requires.operands.equal, c.requires.inside, c.requires.some))
     (Grows-trans _ _ _ _ _ c.in_ok-row.ensures.ok.grows (Grows-trans _ _ _ _ _ c.in_ok-sum.ensures.ok.grows c.in_ok-above.ensures.ok.grows)) c.in_err-cut.ensures.refused
     in search rules
 
 pub returns-in_err-more-clause-refused : goal.returns-in_err-more-clause-refused
 returns-in_err-more-clause-refused g c =
-    let refused : Refuses (g.G.Gates.made c.args.g.now) (g.G.Gates.made c.disjunction.new.g) (12 * length c.args.a.now) c.in_err-more.field-0.0 =
+    let refused : RefusesGate (g.G.Gates.made c.args.g.now) (g.G.Gates.made c.disjunction.new.g) (12 * length c.args.a.now) c.in_err-more.field-0.0 =
     Refuses-behind _ _ _ _ _ (12 * length c.args.a.now) _ (omega (arith, ap length c.as_slice.ensures.value, ap length c.as_slice-2.ensures.value, c.raised.ensures.wide, c.requires.operands.equal, c.requires.inside, c.requires.some))
     (Grows-trans _ _ _ _ _ c.in_ok-row.ensures.ok.grows (Grows-trans _ _ _ _ _ c.in_ok-sum.ensures.ok.grows (Grows-trans _ _ _ _ _ c.in_ok-above.ensures.ok.grows c.in_ok-cut.ensures.ok.grows))) c.in_err-more.ensures.refused
     in search rules
 
 pub returns-in_err-lost-clause-refused : goal.returns-in_err-lost-clause-refused
 returns-in_err-lost-clause-refused g c =
-    let refused : Refuses (g.G.Gates.made c.args.g.now) (g.G.Gates.made c.disjunction-2.new.g) (12 * length c.args.a.now) c.in_err-lost.field-0.0 =
+    let refused : RefusesGate (g.G.Gates.made c.args.g.now) (g.G.Gates.made c.disjunction-2.new.g) (12 * length c.args.a.now) c.in_err-lost.field-0.0 =
     Refuses-behind _ _ _ _ _ (12 * length c.args.a.now) _ (omega (arith, ap length c.as_slice.ensures.value, ap length c.as_slice-2.ensures.value, c.raised.ensures.wide, c.requires.operands.equal, c.requires.inside, c.requires.some))
     (Grows-trans _ _ _ _ _ c.in_ok-row.ensures.ok.grows (Grows-trans _ _ _ _ _ c.in_ok-sum.ensures.ok.grows (Grows-trans _ _ _ _ _ c.in_ok-above.ensures.ok.grows (Grows-trans _ _ _ _ _ c.in_ok-cut.ensures.ok.grows c.in_ok-more.ensures.ok.grows)))) c.in_err-lost.ensures.refused
     in search rules
@@ -106,6 +106,6 @@ disjunction-requires-2-clause-right g c = c.in_ok-more.ensures.ok.defined
 
 pub returns-in_err-row-clause-refused : goal.returns-in_err-row-clause-refused
 returns-in_err-row-clause-refused g c =
-    let refused : Refuses (g.G.Gates.made c.args.g.now) (g.G.Gates.made c.masked.new.g) (12 * length c.args.a.now) c.in_err-row.field-0.0 =
+    let refused : RefusesGate (g.G.Gates.made c.args.g.now) (g.G.Gates.made c.masked.new.g) (12 * length c.args.a.now) c.in_err-row.field-0.0 =
     Refuses-weaker _ _ _ (12 * length c.args.a.now) _ (omega (arith, ap length c.as_slice.ensures.value, c.raised.ensures.wide)) c.in_err-row.ensures.refused
     in search rules

@@ -1,6 +1,6 @@
 use Rattle.std.proofs.Common.{take, length-take, arith, ◌*◌, rules}
 use Rattle.aiger.proofs.NetLemmas.{IsDefined-negation}
-use Rattle.gates.specs.Made.{Refuses}
+use Rattle.gates.specs.Made.{RefusesGate}
 use Rattle.gates.proofs.LiteralLemmas.{Refuses-behind}
 use Rattle.gates.proofs.SumLemmas.{literal_at, front_with}
 use Rattle.gates.proofs.GrowthLemmas.{IsDefined-grown}
@@ -36,6 +36,6 @@ less_column-requires-clause-below g c = c.loop-i.invariant.defined
 
 pub returns-in_err-out-clause-refused : goal.returns-in_err-out-clause-refused
 returns-in_err-out-clause-refused g c =
-    let refused : Refuses (g.G.Gates.made c.args.g.now) (g.G.Gates.made c.less_column.new.g) (4 * c.args.count) c.in_err-out.field-0.0 =
+    let refused : RefusesGate (g.G.Gates.made c.args.g.now) (g.G.Gates.made c.less_column.new.g) (4 * c.args.count) c.in_err-out.field-0.0 =
     Refuses-behind _ _ _ _ _ (4 * c.args.count) _ (omega arith) c.loop-i.invariant.grows c.in_err-out.ensures.refused
     in search rules

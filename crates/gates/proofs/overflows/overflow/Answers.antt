@@ -1,7 +1,7 @@
 use Rattle.std.proofs.Common.{length, ◌+◌, ◌*◌, ◌∙◌, arith, rules}
 use Rattle.std.proofs.lemmas.Result.{IfOk-weaker, IfErr-weaker}
 use Rattle.gates.specs.Bound.{binary_bound}
-use Rattle.gates.specs.Made.{Refuses}
+use Rattle.gates.specs.Made.{RefusesGate}
 use Rattle.gates.proofs.GrowthLemmas.{MakesWord-not}
 use Rattle.gates.proofs.LaterLemmas.{Refuses-weaker}
 use Rattle.gates.proofs.LostLemmas.{MakesWord-umulo}
@@ -66,6 +66,6 @@ returns-in_ok-whole_product-in-Umulo-clause-ok g c =
 pub returns-in_err-whole_product-in-Umulo-clause-refused : goal.returns-in_err-whole_product-in-Umulo-clause-refused
 returns-in_err-whole_product-in-Umulo-clause-refused g c =
     let n = length c.args.a.now in
-    let refused : Refuses (g.G.Gates.made c.args.g.now) (g.G.Gates.made c.whole_product.new.g) (binary_bound c.args.op n) c.in_err-whole_product-in-Umulo.field-0.0 =
+    let refused : RefusesGate (g.G.Gates.made c.args.g.now) (g.G.Gates.made c.whole_product.new.g) (binary_bound c.args.op n) c.in_err-whole_product-in-Umulo.field-0.0 =
     rw c.in-Umulo.is (Refuses-weaker _ _ _ (40 * (n * n) + n) _ (omega arith) c.in_err-whole_product-in-Umulo.ensures.refused)
     in search rules

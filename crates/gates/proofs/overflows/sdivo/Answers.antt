@@ -1,7 +1,7 @@
 use Rattle.std.proofs.Common.{◌≡◌, ◌≤◌, length, map, arith, ap, ◌∙◌, ◌*◌, rules}
 use Rattle.std.proofs.lemmas.Result.{IfOk-weaker, IfErr-weaker}
 use Rattle.base.specs.Literal.{negation}
-use Rattle.gates.specs.Made.{Refuses}
+use Rattle.gates.specs.Made.{RefusesGate}
 use Rattle.gates.specs.Tests.{with_top_negated}
 use Rattle.gates.proofs.LaterLemmas.{Refuses-weaker}
 use Rattle.gates.proofs.GrowthLemmas.{MakesWord-not, Grows-trans, IsDefined-grown, All-defined-grown}
@@ -56,7 +56,7 @@ returns-in_err-is_least-clause-refused g c =
     let negated = MakesWord-not _ a c.as_slice.result.now c.requires.left (c.as_slice.ensures.value ∙ c.negation.ensures) in
     let some : 1 ≤ length c.as_slice.result.now = omega (arith, negated.wide) in
     let wide : length c.as_slice-2.result.now ≡ n = ap length (c.as_slice-2.ensures.value ∙ c.top_negated-as_least.ensures) ∙ length-top_negated c.as_slice.result.now some ∙ negated.wide in
-    let refused : Refuses (g.G.Gates.made c.args.g.now) (g.G.Gates.made c.connect_bits.new.g) (3 * n) c.in_err-is_least.field-0.0 =
+    let refused : RefusesGate (g.G.Gates.made c.args.g.now) (g.G.Gates.made c.connect_bits.new.g) (3 * n) c.in_err-is_least.field-0.0 =
     Refuses-weaker _ _ _ (3 * n) _ (omega (arith, wide)) c.in_err-is_least.ensures.refused
     in search rules
 
@@ -67,6 +67,6 @@ returns-in_err-is_minus_one-clause-refused g c =
     let negated = MakesWord-not _ a c.as_slice.result.now c.requires.left (c.as_slice.ensures.value ∙ c.negation.ensures) in
     let some : 1 ≤ length c.as_slice.result.now = omega (arith, negated.wide) in
     let wide : length c.as_slice-2.result.now ≡ n = ap length (c.as_slice-2.ensures.value ∙ c.top_negated-as_least.ensures) ∙ length-top_negated c.as_slice.result.now some ∙ negated.wide in
-    let refused : Refuses (g.G.Gates.made c.args.g.now) (g.G.Gates.made c.connect_bits-2.new.g) (3 * n) c.in_err-is_minus_one.field-0.0 =
+    let refused : RefusesGate (g.G.Gates.made c.args.g.now) (g.G.Gates.made c.connect_bits-2.new.g) (3 * n) c.in_err-is_minus_one.field-0.0 =
     Refuses-behind _ _ _ _ _ (3 * n) _ (omega (arith, wide, c.requires.equal)) c.in_ok-is_least.ensures.ok.grows c.in_err-is_minus_one.ensures.refused
     in search rules

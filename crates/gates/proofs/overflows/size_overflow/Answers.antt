@@ -1,7 +1,7 @@
 use Rattle.std.proofs.Common.{◌≡◌, ◌+◌, ◌-◌, ◌≤◌, length, take, get_or, refl, arith, rules}
 use Rattle.std.proofs.lemmas.Result.{IfOk-weaker, IfErr-weaker}
 use Rattle.std.proofs.lemmas.List.{length-take-le}
-use Rattle.gates.specs.Made.{Refuses}
+use Rattle.gates.specs.Made.{RefusesGate}
 use Rattle.gates.proofs.LaterLemmas.{IsDefined-of_word, IsDefined-not, Refuses-weaker}
 use Rattle.gates.proofs.LiteralLemmas.{Refuses-behind}
 use Rattle.gates.proofs.GrowthLemmas.{Grows-trans, IsDefined-grown}
@@ -53,7 +53,7 @@ returns-in_err-below-clause-refused g c =
     let n = length size in
     let front : length (take (n - 1) size) ≡ n - 1 = length-take-le (n - 1) size (omega arith) in
     let here = c.in_err-below.ensures.refused in
-    let refused : Refuses (g.G.Gates.made c.args.g.now) (g.G.Gates.made c.connect_bits.new.g) (n + 1) c.in_err-below.field-0.0 =
+    let refused : RefusesGate (g.G.Gates.made c.args.g.now) (g.G.Gates.made c.connect_bits.new.g) (n + 1) c.in_err-below.field-0.0 =
     Refuses-weaker _ _ (length (take (n - 1) size)) (n + 1) _ (omega (arith, front)) here
     in search rules
 
@@ -63,6 +63,6 @@ returns-in_err-other-clause-refused g c =
     let n = length size in
     let front : length (take (n - 1) size) ≡ n - 1 = length-take-le (n - 1) size (omega arith) in
     let below = c.in_ok-below.ensures.ok in
-    let refused : Refuses (g.G.Gates.made c.args.g.now) (g.G.Gates.made c.disjunction.new.g) (n + 1) c.in_err-other.field-0.0 =
+    let refused : RefusesGate (g.G.Gates.made c.args.g.now) (g.G.Gates.made c.disjunction.new.g) (n + 1) c.in_err-other.field-0.0 =
     Refuses-behind _ _ _ (length (take (n - 1) size)) 1 (n + 1) _ (omega (arith, front)) below.grows c.in_err-other.ensures.refused
     in search rules

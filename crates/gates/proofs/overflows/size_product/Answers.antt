@@ -1,7 +1,7 @@
 use Rattle.std.proofs.Common.{◌*◌, ℕ, length, subst, unsigned_abs, ◌+◌, arith, sym, ◌∙◌, rules}
 use Rattle.std.proofs.lemmas.Result.{IfOk-weaker, IfErr-weaker}
 use Rattle.base.specs.Signed.{signed}
-use Rattle.gates.specs.Made.{MakesWord, word_value, Refuses}
+use Rattle.gates.specs.Made.{MakesWord, word_value, RefusesGate}
 use Rattle.gates.proofs.LaterLemmas.{Refuses-weaker}
 use Rattle.gates.proofs.SizeLemmas.{MakesWord-size_product, MakesLiteral-size_product}
 use Rattle.gates.proofs.LiteralLemmas.{Refuses-behind}
@@ -64,13 +64,13 @@ whole_product-requires g c =
 pub returns-in_err-first-clause-refused : goal.returns-in_err-first-clause-refused
 returns-in_err-first-clause-refused g c =
     let n = length c.args.a.now in
-    let refused : Refuses (g.G.Gates.made c.args.g.now) (g.G.Gates.made c.size.new.g) (12 * (n * n) + 24 * n) c.in_err-first.field-0.0 =
+    let refused : RefusesGate (g.G.Gates.made c.args.g.now) (g.G.Gates.made c.size.new.g) (12 * (n * n) + 24 * n) c.in_err-first.field-0.0 =
     Refuses-weaker _ _ _ (12 * (n * n) + 24 * n) _ (omega arith) c.in_err-first.ensures.refused
     in search rules
 
 pub returns-in_err-second-clause-refused : goal.returns-in_err-second-clause-refused
 returns-in_err-second-clause-refused g c =
     let n = length c.args.a.now in
-    let refused : Refuses (g.G.Gates.made c.args.g.now) (g.G.Gates.made c.size-2.new.g) (12 * (n * n) + 24 * n) c.in_err-second.field-0.0 =
+    let refused : RefusesGate (g.G.Gates.made c.args.g.now) (g.G.Gates.made c.size-2.new.g) (12 * (n * n) + 24 * n) c.in_err-second.field-0.0 =
     Refuses-behind _ _ _ _ _ (12 * (n * n) + 24 * n) _ (omega (arith, c.requires.equal)) c.in_ok-first.ensures.ok.grows c.in_err-second.ensures.refused
     in search rules

@@ -1,6 +1,6 @@
 use Rattle.std.proofs.Common.{◌≡◌, ℕ, ◌+◌, ◌-◌, ◌*◌, ◌≤◌, length, get_or, subst, arith, rules, ap, ◌∙◌}
 use Rattle.std.proofs.lemmas.Result.{IfOk-weaker, IfErr-weaker}
-use Rattle.gates.specs.Made.{Grows, Refuses}
+use Rattle.gates.specs.Made.{Grows, RefusesGate}
 use Rattle.gates.proofs.LaterLemmas.{IsDefined-of_word, Refuses-weaker}
 use Rattle.gates.proofs.LiteralLemmas.{Refuses-behind}
 use Rattle.gates.proofs.GrowthLemmas.{Grows-trans, IsDefined-grown, All-defined-grown}
@@ -50,7 +50,7 @@ returns-clause-refused g c =
 pub returns-in_err-above-clause-refused : goal.returns-in_err-above-clause-refused
 returns-in_err-above-clause-refused g c =
     let n = length c.args.a.now in
-    let refused : Refuses (g.G.Gates.made c.args.g.now) (g.G.Gates.made c.size_overflow.new.g) (40 * (n * n) + 4 * n) c.in_err-above.field-0.0 =
+    let refused : RefusesGate (g.G.Gates.made c.args.g.now) (g.G.Gates.made c.size_overflow.new.g) (40 * (n * n) + 4 * n) c.in_err-above.field-0.0 =
     Refuses-behind _ _ _ _ _ (40 * (n * n) + 4 * n) _ (few_above n (length c.as_slice.result.now) (ap length c.as_slice.ensures.value ∙ c.in_ok-product.ensures.bits.wide) c.requires.some) (Grows-trans _ _ _ _ _ c.in_ok-product.ensures.bits.grows c.in_ok-negative.ensures.ok.grows) c.in_err-above.ensures.refused
     in search rules
 
@@ -93,13 +93,13 @@ disjunction-requires-clause-right g c = c.in_ok-above.ensures.ok.defined
 pub returns-in_err-product-clause-refused : goal.returns-in_err-product-clause-refused
 returns-in_err-product-clause-refused g c =
     let n = length c.args.a.now in
-    let refused : Refuses (g.G.Gates.made c.args.g.now) (g.G.Gates.made c.size_product.new.g) (40 * (n * n) + 4 * n) c.in_err-product.field-0.0 =
+    let refused : RefusesGate (g.G.Gates.made c.args.g.now) (g.G.Gates.made c.size_product.new.g) (40 * (n * n) + 4 * n) c.in_err-product.field-0.0 =
     Refuses-weaker _ _ _ (40 * (n * n) + 4 * n) _ (few_product n c.requires.some) c.in_err-product.ensures.refused
     in search rules
 
 pub returns-in_err-negative-clause-refused : goal.returns-in_err-negative-clause-refused
 returns-in_err-negative-clause-refused g c =
     let n = length c.args.a.now in
-    let refused : Refuses (g.G.Gates.made c.args.g.now) (g.G.Gates.made c.xor.new.g) (40 * (n * n) + 4 * n) c.in_err-negative.field-0.0 =
+    let refused : RefusesGate (g.G.Gates.made c.args.g.now) (g.G.Gates.made c.xor.new.g) (40 * (n * n) + 4 * n) c.in_err-negative.field-0.0 =
     Refuses-behind _ _ _ _ _ (40 * (n * n) + 4 * n) _ (few_signs n c.requires.some) c.in_ok-product.ensures.bits.grows c.in_err-negative.ensures.refused
     in search rules

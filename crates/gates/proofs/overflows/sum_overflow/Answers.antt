@@ -1,6 +1,6 @@
 use Rattle.std.proofs.lemmas.Result.{IfOk-weaker, IfErr-weaker}
 use Rattle.std.proofs.Common.{◌*◌, length, arith, rules}
-use Rattle.gates.specs.Made.{Refuses}
+use Rattle.gates.specs.Made.{RefusesGate}
 use Rattle.gates.proofs.LaterLemmas.{AreOperands-later, Refuses-weaker}
 use Rattle.gates.proofs.CarryLemmas.{MakesLiteral-sum_overflow}
 use Rattle.gates.proofs.LiteralLemmas.{Refuses-behind}
@@ -41,13 +41,13 @@ xor-requires-clause-right g c = c.in_ok-out.ensures.ok.defined
 pub returns-in_err-into_top-clause-refused : goal.returns-in_err-into_top-clause-refused
 returns-in_err-into_top-clause-refused g c =
     let n = length c.args.a.now in
-    let refused : Refuses (g.G.Gates.made c.args.g.now) (g.G.Gates.made c.carry_out.new.g) (12 * n) c.in_err-into_top.field-0.0 =
+    let refused : RefusesGate (g.G.Gates.made c.args.g.now) (g.G.Gates.made c.carry_out.new.g) (12 * n) c.in_err-into_top.field-0.0 =
     Refuses-weaker _ _ _ (12 * n) _ (omega arith) c.in_err-into_top.ensures.refused
     in search rules
 
 pub returns-in_err-out-clause-refused : goal.returns-in_err-out-clause-refused
 returns-in_err-out-clause-refused g c =
     let n = length c.args.a.now in
-    let refused : Refuses (g.G.Gates.made c.args.g.now) (g.G.Gates.made c.carry_out-2.new.g) (12 * n) c.in_err-out.field-0.0 =
+    let refused : RefusesGate (g.G.Gates.made c.args.g.now) (g.G.Gates.made c.carry_out-2.new.g) (12 * n) c.in_err-out.field-0.0 =
     Refuses-behind _ _ _ _ _ (12 * n) _ (omega arith) c.in_ok-into_top.ensures.ok.grows c.in_err-out.ensures.refused
     in search rules

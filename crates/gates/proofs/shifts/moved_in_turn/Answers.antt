@@ -3,7 +3,7 @@ use Rattle.std.proofs.Math.Nat.{pow-suc, pow-le-pow_right}
 use Rattle.std.proofs.lemmas.Nat.{one_shl, mul-le}
 use Rattle.base.specs.Operator.{binary_value}
 use Rattle.base.specs.Literal.{literal_value}
-use Rattle.gates.specs.Made.{MakesWord, word_value, Refuses}
+use Rattle.gates.specs.Made.{MakesWord, word_value, RefusesGate}
 use Rattle.gates.proofs.LaterLemmas.{IsDefined-of_word}
 use Rattle.gates.proofs.LiteralLemmas.{Refuses-behind}
 use Rattle.gates.proofs.GrowthLemmas.{Grows-refl}
@@ -86,6 +86,6 @@ returns-in_err-bits-clause-refused g c =
     let places = length c.args.amount.now in
     let m = length c.as_slice-in-loop-place.result.now in
     let same : m ≡ n = ap length c.as_slice-in-loop-place.ensures.value ∙ c.moved-there.ensures.wide ∙ ap length c.as_slice.ensures.value ∙ c.loop-place.invariant.wide in
-    let refused : Refuses (g.G.Gates.made c.args.g.now) (g.G.Gates.made c.choose.new.g) (3 * (n * places)) c.in_err-bits.field-0.0 =
+    let refused : RefusesGate (g.G.Gates.made c.args.g.now) (g.G.Gates.made c.choose.new.g) (3 * (n * places)) c.in_err-bits.field-0.0 =
     Refuses-behind _ _ _ (3 * (n * c.loop-place.place)) (3 * m) (3 * (n * places)) _ (few_stages n c.loop-place.place places m same (omega arith)) c.loop-place.invariant.grows c.in_err-bits.ensures.refused
     in search rules

@@ -10,7 +10,7 @@ use Rattle.aiger.specs.Net.{IsDefined}
 use Rattle.aiger.proofs.NetLemmas.{IsDefined-false}
 use Rattle.base.specs.Literal.{literal_value}
 use Rattle.gates.specs.Bound.{log_up, binary_bound}
-use Rattle.gates.specs.Made.{MakesWord, MakesLiteral, word_value, Refuses}
+use Rattle.gates.specs.Made.{MakesWord, MakesLiteral, word_value, RefusesGate}
 use Rattle.gates.specs.Tests.{is_shift, is_rotation}
 use Rattle.gates.proofs.LaterLemmas.{IsDefined-of_word, Refuses-weaker}
 use Rattle.gates.proofs.BitListLemmas.{MakesWord-same, MakesWord-weaker, MakesWord-choice}
@@ -174,7 +174,7 @@ returns-in_err-near-clause-refused g c =
     let m = length c.split_at.result.0.now in
     let low_count : m ≡ log_up n = c.split_at.ensures.front_len ∙ c.log_up.ensures.value in
     let within : 3 * (n * m) ≤ 3 * (n * log_up n) + 4 * n = few_stages n m (log_up n) low_count in
-    let refused : Refuses (g.G.Gates.made c.args.g.now) (g.G.Gates.made c.moved_in_turn.new.g) (binary_bound op n) c.in_err-near.field-0.0 =
+    let refused : RefusesGate (g.G.Gates.made c.args.g.now) (g.G.Gates.made c.moved_in_turn.new.g) (binary_bound op n) c.in_err-near.field-0.0 =
     rw (shift_bound op n c.requires.shifts) (Refuses-weaker _ _ (3 * (n * m)) (3 * (n * log_up n) + 4 * n) _ within c.in_err-near.ensures.refused)
     in search rules
 
@@ -187,6 +187,6 @@ returns-in_err-is_far-clause-refused g c =
     let low_count : m ≡ log_up n = c.split_at.ensures.front_len ∙ c.log_up.ensures.value in
     let most : k ≤ 4 * n = omega (arith, c.split_at.ensures.back_len, c.requires.operands.equal) in
     let within : 3 * (n * m) + k ≤ 3 * (n * log_up n) + 4 * n = few_stages_and n m (log_up n) k low_count most in
-    let refused : Refuses (g.G.Gates.made c.args.g.now) (g.G.Gates.made c.connect_bits.new.g) (binary_bound op n) c.in_err-is_far.field-0.0 =
+    let refused : RefusesGate (g.G.Gates.made c.args.g.now) (g.G.Gates.made c.connect_bits.new.g) (binary_bound op n) c.in_err-is_far.field-0.0 =
     rw (shift_bound op n c.requires.shifts) (Refuses-behind _ _ _ (3 * (n * m)) k (3 * (n * log_up n) + 4 * n) _ within c.in_ok-near.ensures.ok.grows c.in_err-is_far.ensures.refused)
     in search rules

@@ -1,6 +1,6 @@
 use Rattle.std.proofs.Common.{◌*◌, ℕ, length, subst, refl, ◌∙◌, arith, rules}
 use Rattle.std.proofs.lemmas.Result.{IfOk-weaker, IfErr-weaker}
-use Rattle.gates.specs.Made.{MakesWord, word_value, Refuses}
+use Rattle.gates.specs.Made.{MakesWord, word_value, RefusesGate}
 use Rattle.gates.specs.Sums.{literal_number}
 use Rattle.gates.proofs.LaterLemmas.{Refuses-weaker}
 use Rattle.gates.proofs.LiteralLemmas.{Refuses-behind}
@@ -40,7 +40,7 @@ add_bits-requires g c =
 pub returns-in_err-more-clause-refused : goal.returns-in_err-more-clause-refused
 returns-in_err-more-clause-refused g c =
     let n = length c.args.a.now in
-    let refused : Refuses (g.G.Gates.made c.args.g.now) (g.G.Gates.made c.masked.new.g) (10 * n) c.in_err-more.field-0.0 =
+    let refused : RefusesGate (g.G.Gates.made c.args.g.now) (g.G.Gates.made c.masked.new.g) (10 * n) c.in_err-more.field-0.0 =
     Refuses-weaker _ _ _ (10 * n) _ (omega (arith, c.requires.operands.equal)) c.in_err-more.ensures.refused
     in search rules
 

@@ -1,7 +1,7 @@
 use Rattle.std.proofs.Common.{◌*◌, ℕ, length, subst, unsigned_abs, ◌+◌, arith, sym, ◌∙◌, rules}
 use Rattle.std.proofs.lemmas.Result.{IfOk-weaker, IfErr-weaker}
 use Rattle.base.specs.Signed.{signed}
-use Rattle.gates.specs.Made.{MakesWord, word_value, Refuses}
+use Rattle.gates.specs.Made.{MakesWord, word_value, RefusesGate}
 use Rattle.gates.proofs.LaterLemmas.{Refuses-weaker}
 use Rattle.gates.proofs.SignedDivisionLemmas.{MakesWord-quotient, MakesWord-remainder}
 use Rattle.gates.proofs.LiteralLemmas.{Refuses-behind}
@@ -66,13 +66,13 @@ divide-requires g c =
 pub returns-in_err-dividend-clause-refused : goal.returns-in_err-dividend-clause-refused
 returns-in_err-dividend-clause-refused g c =
     let n = length c.args.a.now in
-    let refused : Refuses (g.G.Gates.made c.args.g.now) (g.G.Gates.made c.size.new.g) (12 * (n * n) + 36 * n) c.in_err-dividend.field-0.0 =
+    let refused : RefusesGate (g.G.Gates.made c.args.g.now) (g.G.Gates.made c.size.new.g) (12 * (n * n) + 36 * n) c.in_err-dividend.field-0.0 =
     Refuses-weaker _ _ _ (12 * (n * n) + 36 * n) _ (omega arith) c.in_err-dividend.ensures.refused
     in search rules
 
 pub returns-in_err-divisor-clause-refused : goal.returns-in_err-divisor-clause-refused
 returns-in_err-divisor-clause-refused g c =
     let n = length c.args.a.now in
-    let refused : Refuses (g.G.Gates.made c.args.g.now) (g.G.Gates.made c.size-2.new.g) (12 * (n * n) + 36 * n) c.in_err-divisor.field-0.0 =
+    let refused : RefusesGate (g.G.Gates.made c.args.g.now) (g.G.Gates.made c.size-2.new.g) (12 * (n * n) + 36 * n) c.in_err-divisor.field-0.0 =
     Refuses-behind _ _ _ _ _ (12 * (n * n) + 36 * n) _ (omega (arith, c.requires.equal)) c.in_ok-dividend.ensures.ok.grows c.in_err-divisor.ensures.refused
     in search rules

@@ -1,6 +1,6 @@
 use Rattle.std.proofs.lemmas.Result.{IfOk-weaker, IfErr-weaker}
 use Rattle.std.proofs.Common.{◌+◌, length, arith, rules}
-use Rattle.gates.specs.Made.{Refuses}
+use Rattle.gates.specs.Made.{RefusesGate}
 use Rattle.gates.proofs.LaterLemmas.{Refuses-weaker}
 use Rattle.gates.proofs.SignedModuloLemmas.{MakesLiteral-rounded_down}
 use Rattle.gates.proofs.LiteralLemmas.{Refuses-behind}
@@ -34,13 +34,13 @@ and-requires-clause-right g c = c.in_ok-other.ensures.ok.defined
 pub returns-in_err-some-clause-refused : goal.returns-in_err-some-clause-refused
 returns-in_err-some-clause-refused g c =
     let n = length c.args.rest.now in
-    let refused : Refuses (g.G.Gates.made c.args.g.now) (g.G.Gates.made c.connect_bits.new.g) (n + 4) c.in_err-some.field-0.0 =
+    let refused : RefusesGate (g.G.Gates.made c.args.g.now) (g.G.Gates.made c.connect_bits.new.g) (n + 4) c.in_err-some.field-0.0 =
     Refuses-weaker _ _ _ (n + 4) _ (omega arith) c.in_err-some.ensures.refused
     in search rules
 
 pub returns-in_err-other-clause-refused : goal.returns-in_err-other-clause-refused
 returns-in_err-other-clause-refused g c =
     let n = length c.args.rest.now in
-    let refused : Refuses (g.G.Gates.made c.args.g.now) (g.G.Gates.made c.xor.new.g) (n + 4) c.in_err-other.field-0.0 =
+    let refused : RefusesGate (g.G.Gates.made c.args.g.now) (g.G.Gates.made c.xor.new.g) (n + 4) c.in_err-other.field-0.0 =
     Refuses-behind _ _ _ _ _ (n + 4) _ (omega arith) c.in_ok-some.ensures.ok.grows c.in_err-other.ensures.refused
     in search rules

@@ -1,6 +1,6 @@
 use Rattle.std.proofs.Common.{◌≡◌, ◌-◌, length, get_or, refl, ◌*◌, ◌+◌, arith, rules, ap}
 use Rattle.std.proofs.lemmas.Result.{IfOk-weaker, IfErr-weaker}
-use Rattle.gates.specs.Made.{Refuses}
+use Rattle.gates.specs.Made.{RefusesGate}
 use Rattle.gates.proofs.LaterLemmas.{IsDefined-of_word, Refuses-weaker}
 use Rattle.gates.proofs.SignedDivisionLemmas.{MakesWord-sdiv}
 use Rattle.gates.proofs.LiteralLemmas.{Refuses-behind}
@@ -59,13 +59,13 @@ negated_where-requires-clause-defined g c = rw c.as_slice.ensures.value (All-def
 pub returns-in_err-divided-clause-refused : goal.returns-in_err-divided-clause-refused
 returns-in_err-divided-clause-refused g c =
     let n = length c.args.a.now in
-    let refused : Refuses (g.G.Gates.made c.args.g.now) (g.G.Gates.made c.divide_sizes.new.g) (12 * (n * n) + 51 * n) c.in_err-divided.field-0.0 =
+    let refused : RefusesGate (g.G.Gates.made c.args.g.now) (g.G.Gates.made c.divide_sizes.new.g) (12 * (n * n) + 51 * n) c.in_err-divided.field-0.0 =
     Refuses-weaker _ _ _ (12 * (n * n) + 51 * n) _ (omega arith) c.in_err-divided.ensures.refused
     in search rules
 
 pub returns-in_err-negative-clause-refused : goal.returns-in_err-negative-clause-refused
 returns-in_err-negative-clause-refused g c =
     let n = length c.args.a.now in
-    let refused : Refuses (g.G.Gates.made c.args.g.now) (g.G.Gates.made c.xor.new.g) (12 * (n * n) + 51 * n) c.in_err-negative.field-0.0 =
+    let refused : RefusesGate (g.G.Gates.made c.args.g.now) (g.G.Gates.made c.xor.new.g) (12 * (n * n) + 51 * n) c.in_err-negative.field-0.0 =
     Refuses-behind _ _ _ _ _ (12 * (n * n) + 51 * n) _ (omega (arith, c.requires.some)) c.in_ok-divided.ensures.quotient.grows c.in_err-negative.ensures.refused
     in search rules

@@ -1,6 +1,6 @@
 use Rattle.std.proofs.Common.{◌≡◌, ◌-◌, length, get_or, refl, ◌*◌, ◌+◌, arith, sym, ◌∙◌, rules, ap}
 use Rattle.std.proofs.lemmas.Result.{IfOk-weaker, IfErr-weaker}
-use Rattle.gates.specs.Made.{Refuses}
+use Rattle.gates.specs.Made.{RefusesGate}
 use Rattle.gates.proofs.LaterLemmas.{IsDefined-of_word, Refuses-weaker}
 use Rattle.gates.proofs.SignedModuloLemmas.{MakesWord-smod}
 use Rattle.gates.proofs.LiteralLemmas.{Refuses-behind}
@@ -66,13 +66,13 @@ added_where-requires-clause-literal g c = c.in_ok-rounded_down.ensures.ok.define
 pub returns-in_err-rest-clause-refused : goal.returns-in_err-rest-clause-refused
 returns-in_err-rest-clause-refused g c =
     let n = length c.args.a.now in
-    let refused : Refuses (g.G.Gates.made c.args.g.now) (g.G.Gates.made c.srem.new.g) (12 * (n * n) + 63 * n) c.in_err-rest.field-0.0 =
+    let refused : RefusesGate (g.G.Gates.made c.args.g.now) (g.G.Gates.made c.srem.new.g) (12 * (n * n) + 63 * n) c.in_err-rest.field-0.0 =
     Refuses-weaker _ _ _ (12 * (n * n) + 63 * n) _ (omega arith) c.in_err-rest.ensures.refused
     in search rules
 
 pub returns-in_err-rounded_down-clause-refused : goal.returns-in_err-rounded_down-clause-refused
 returns-in_err-rounded_down-clause-refused g c =
     let n = length c.args.a.now in
-    let refused : Refuses (g.G.Gates.made c.args.g.now) (g.G.Gates.made c.is_rounded_down.new.g) (12 * (n * n) + 63 * n) c.in_err-rounded_down.field-0.0 =
+    let refused : RefusesGate (g.G.Gates.made c.args.g.now) (g.G.Gates.made c.is_rounded_down.new.g) (12 * (n * n) + 63 * n) c.in_err-rounded_down.field-0.0 =
     Refuses-behind _ _ _ _ _ (12 * (n * n) + 63 * n) _ (omega (arith, ap length c.as_slice.ensures.value, c.in_ok-rest.ensures.ok.wide, c.requires.some)) c.in_ok-rest.ensures.ok.grows c.in_err-rounded_down.ensures.refused
     in search rules

@@ -1,6 +1,6 @@
 use Rattle.std.proofs.Common.{length, refl, arith, rules, ◌*◌}
 use Rattle.aiger.specs.Net.{IsDefined}
-use Rattle.gates.specs.Made.{Refuses}
+use Rattle.gates.specs.Made.{RefusesGate}
 use Rattle.gates.proofs.LaterLemmas.{IsDefined-of_word}
 use Rattle.gates.proofs.SizeLemmas.{IsNegatedRow-push, MakesWord-negated_where}
 use Rattle.gates.proofs.LiteralLemmas.{Refuses-behind}
@@ -19,14 +19,14 @@ returns-clause-ok g c = MakesWord-negated_where _ _ (length c.args.a.now) c.loop
 pub returns-in_err-some-clause-refused : goal.returns-in_err-some-clause-refused
 returns-in_err-some-clause-refused g c =
     let n = length c.args.a.now in
-    let refused : Refuses (g.G.Gates.made c.args.g.now) (g.G.Gates.made c.disjunction.new.g) (12 * n) c.in_err-some.field-0.0 =
+    let refused : RefusesGate (g.G.Gates.made c.args.g.now) (g.G.Gates.made c.disjunction.new.g) (12 * n) c.in_err-some.field-0.0 =
     Refuses-behind _ _ _ _ _ (12 * n) _ (omega arith) (Grows-trans _ _ _ _ _ c.loop-i.invariant.word.grows c.in_ok-xor.ensures.ok.grows) c.in_err-some.ensures.refused
     in search rules
 
 pub returns-in_err-flips-clause-refused : goal.returns-in_err-flips-clause-refused
 returns-in_err-flips-clause-refused g c =
     let n = length c.args.a.now in
-    let refused : Refuses (g.G.Gates.made c.args.g.now) (g.G.Gates.made c.and.new.self) (12 * n) c.in_err-flips.field-0.0 =
+    let refused : RefusesGate (g.G.Gates.made c.args.g.now) (g.G.Gates.made c.and.new.self) (12 * n) c.in_err-flips.field-0.0 =
     Refuses-behind _ _ _ _ _ (12 * n) _ (omega arith) (Grows-trans _ _ _ _ _ c.loop-i.invariant.word.grows (Grows-trans _ _ _ _ _ c.in_ok-xor.ensures.ok.grows c.in_ok-some.ensures.ok.grows)) c.in_err-flips.ensures.refused
     in search rules
 
@@ -57,6 +57,6 @@ and-requires-clause-right g c = c.in_ok-some.ensures.ok.defined
 pub returns-in_err-xor-clause-refused : goal.returns-in_err-xor-clause-refused
 returns-in_err-xor-clause-refused g c =
     let n = length c.args.a.now in
-    let refused : Refuses (g.G.Gates.made c.args.g.now) (g.G.Gates.made c.xor.new.g) (12 * n) c.in_err-xor.field-0.0 =
+    let refused : RefusesGate (g.G.Gates.made c.args.g.now) (g.G.Gates.made c.xor.new.g) (12 * n) c.in_err-xor.field-0.0 =
     Refuses-behind _ _ _ _ _ (12 * n) _ (omega arith) c.loop-i.invariant.word.grows c.in_err-xor.ensures.refused
     in search rules

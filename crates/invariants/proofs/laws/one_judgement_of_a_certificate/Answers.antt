@@ -1,7 +1,7 @@
 use Rattle.std.proofs.Common.{◌≡◌, List, ℕ, Some, sym, ap, subst, ◌∙◌, length}
 use Rattle.aiger.specs.Circuit.{Circuit}
 use Rattle.clauses.specs.Formula.{Formula}
-use Rattle.clauses.specs.Judgements.{Judges}
+use Rattle.clauses.specs.Judgements.{JudgesProof}
 use Rattle.invariants.specs.Certificates.{IsOwedOver}
 use Rattle.invariants.specs.Obligation.{obligation}
 use Rattle.invariants.specs.Texts.{SaysCubes}
@@ -20,5 +20,5 @@ returns c circuit k invariant proof i j a b same =
     let formula : a.formula ≡ b.formula = same_formula a.is_owed.form b.is_owed.form invariant a.formula b.formula same a.is_owed.owed b.is_owed.owed in
     let text : a.judged.text ≡ b.judged.text = sym a.judged.is_text ∙ b.judged.is_text in
     c.one_judgement.ensures b.formula b.judged.text i j
-    (subst (λ (t : List ℕ). Judges b.formula t i) text (subst (λ (f : Formula). Judges f a.judged.text i) formula a.judged.judged))
+    (subst (λ (t : List ℕ). JudgesProof b.formula t i) text (subst (λ (f : Formula). JudgesProof f a.judged.text i) formula a.judged.judged))
     b.judged.judged

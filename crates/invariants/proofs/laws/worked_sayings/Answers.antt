@@ -2,7 +2,7 @@ use Rattle.std.proofs.Common.{◌≡◌, ℕ, List, Result, Ok, Err, codes, refl
 use Rattle.base.specs.Decimals.{number_of, is_decimal, capped_value}
 use Rattle.invariants.specs.declared.why.InvariantFault.{InvariantFault}
 use Rattle.invariants.specs.declared.why.InvariantWhy.TheVariants as why
-use Rattle.invariants.specs.Reading.{read_text}
+use Rattle.invariants.specs.Reading.{read_cubes}
 use Rattle.invariants.proofs.SaidLemmas.{said, read}
 use Rattle.invariants.proofs.laws.worked_sayings.Goals as goal
 
@@ -11,7 +11,7 @@ unfolding number_of is_decimal capped_value
 returns-clause-two c = read 2 _ _ refl
 
 -- the text is read with a fault
-twice : read_text 2 (codes ".i 2\n.o 1\n.p 1\n.ilb lo0 lo00\n.ob inv\n10 1\n.e\n") ≡ Err (record { line = 4; why = why.NamedTwice })
+twice : read_cubes 2 (codes ".i 2\n.o 1\n.p 1\n.ilb lo0 lo00\n.ob inv\n10 1\n.e\n") ≡ Err (record { line = 4; why = why.NamedTwice })
 unfolding number_of is_decimal capped_value
 twice = refl
 

@@ -1,7 +1,7 @@
 use Rattle.std.proofs.Common.{◌≡◌, ℕ, suc, ◌+◌, ◌*◌, List, [], ◌∷◌, ◌++◌, length, map, refl, sym, ap, subst, arith}
 use Rattle.invariants.specs.Invariants.{AreOver}
 use Rattle.invariants.specs.Obligation.{truth_variable, gates_clauses, outside_clause, now_clauses}
-use Rattle.invariants.specs.Made.{Adds}
+use Rattle.invariants.specs.Made.{AddsClauses}
 use Rattle.invariants.proofs.PutLemmas.{first_clause, first_put, leaves_front, leaves_less}
 use Rattle.invariants.proofs.obligations.put_now.Goals as goal
 
@@ -28,4 +28,4 @@ put_outsides-requires-clause-literals c =
     let outs : List (List ℕ) = map (outside_clause d) c.args.invariant.now.cubes in
     let left = first_put c.args.formula.now c.put.new.formula ((2 * truth_variable d) ∷ []) ((2 * (c.variables-truth.result + 1)) ∷ []) (gates (truth_variable d) ++ outs) (ap (λ (t : ℕ). (2 * t) ∷ []) truth) c.requires.literals c.in_ok-put.ensures in
     (leaves_less c.args.formula.now c.put.new.formula c.put_gates.new.formula (now_clauses d c.args.invariant.now.cubes) (gates (truth_variable d) ++ outs) (gates (truth_variable d)) outs refl left
-    (subst (λ (t : ℕ). Adds c.put.new.formula c.put_gates.new.formula (gates t)) truth c.in_ok-put_gates.ensures)).literals
+    (subst (λ (t : ℕ). AddsClauses c.put.new.formula c.put_gates.new.formula (gates t)) truth c.in_ok-put_gates.ensures)).literals

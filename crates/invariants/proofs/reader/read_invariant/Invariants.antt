@@ -1,13 +1,13 @@
 use Rattle.std.proofs.Common.{◌≡◌}
 use Rattle.std.specs.Io.KnownBytes.{prepend_known}
 use Rattle.base.specs.Held.{lines_left}
-use Rattle.invariants.specs.Reader.{Agree, begun}
+use Rattle.invariants.specs.Reader.{AgreeAsLines, lines_begun}
 use Rattle.invariants.proofs.reader.read_invariant.Given as goal
 
 -- the text gives what the lines so far and what follows them give
 abbrev pub invariant-loop-is_whole : goal.invariant-loop-is_whole
 invariant-loop-is_whole g l = record {
-  same : Agree 0 (begun l.latches) (g.S.Source.to_come l.initial.source) l.number l.progress (prepend_known l.lines.rest (g.S.Source.to_come l.source));
+  same : AgreeAsLines 0 (lines_begun l.latches) (g.S.Source.to_come l.initial.source) l.number l.progress (prepend_known l.lines.rest (g.S.Source.to_come l.source));
   latches : l.progress.latches ≡ l.latches;
   counted : g.S.Source.failures l.source ≡ g.S.Source.failures l.initial.source;
 }

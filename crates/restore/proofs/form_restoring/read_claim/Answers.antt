@@ -1,7 +1,7 @@
 use Rattle.std.proofs.Common.{rules, ◌≡◌, ℕ, Bool, List, [], ◌∷◌, ◌++◌, None, Ok, refl, sym, subst, ◌∙◌}
 use Rattle.std.specs.Io.KnownBytes.{prepend_known, Consumes}
 use Rattle.base.specs.Held.{Advances}
-use Rattle.witness.specs.BitStands.{StandsFor}
+use Rattle.witness.specs.BitStands.{StandsForBits}
 use Rattle.restore.proofs.FormTakeLemmas.{head_begins, head_more, head_only}
 use Rattle.restore.proofs.form_restoring.read_claim.Goals as goal
 
@@ -22,4 +22,4 @@ pub returns-in-Ok-false-clause-reads : goal.returns-in-Ok-false-clause-reads
 returns-in-Ok-false-clause-reads g c =
     let moved = subst (λ (b : Bool). Advances (Ok b) c.loop-judge.lines c.advance.new.self (g.S.Source.to_come c.loop-judge.source) (g.S.Source.to_come c.advance.new.source)) c.in-Ok-false.field-0-test c.in-Ok-false.ensures.bytes in
     head_only _ _ (g.S.Source.to_come c.advance.new.source) _ _ c.feed.new.self c.advance.new.self.rest None c.loop-judge.invariant.given moved.0.0 moved.0.1 moved.1.0
-    (λ d text h. subst (λ (r : List ℕ). StandsFor d c.feed.new.self (text ++ r)) c.rest.ensures (c.feed.ensures d text h))
+    (λ d text h. subst (λ (r : List ℕ). StandsForBits d c.feed.new.self (text ++ r)) c.rest.ensures (c.feed.ensures d text h))

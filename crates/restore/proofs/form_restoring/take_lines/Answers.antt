@@ -1,7 +1,7 @@
 use Rattle.std.proofs.Common.{rules, ◌≡◌, ℕ, Bool, List, [], ◌∷◌, ◌++◌, Ok, Err, refl, sym, subst, ◌∙◌}
 use Rattle.std.specs.Io.KnownBytes.{prepend_known, Consumes}
 use Rattle.base.specs.Held.{Advances}
-use Rattle.witness.specs.BitStands.{StandsFor}
+use Rattle.witness.specs.BitStands.{StandsForBits}
 use Rattle.restore.proofs.FormGivenLemmas.{given_nothing, given_more, given_all, given_failed, given_unwritten}
 use Rattle.restore.proofs.form_restoring.take_lines.Goals as goal
 
@@ -35,7 +35,7 @@ pub returns-in-Ok-false-clause-takes : goal.returns-in-Ok-false-clause-takes
 returns-in-Ok-false-clause-takes g c =
     let moved = subst (λ (b : Bool). Advances (Ok b) c.loop-restorer.lines c.advance.new.self (g.S.Source.to_come c.loop-restorer.source) (g.S.Source.to_come c.advance.new.source)) c.in-Ok-false.field-0-test c.in-Ok-false.ensures.bytes in
     given_all {O = g.T.Taker.Over} {V = g.row.T.Denot} g.T.Taker.stands g.T.Taker.put_for _ _ (g.S.Source.to_come c.advance.new.source) _ _ _ c.loop-restorer.outbox c.args.taker.now c.loop-restorer.taker _ _ c.feed.new.self _ _ c.advance.new.self.rest c.loop-restorer.invariant.given moved.0.0 moved.0.1 moved.1.0
-    (λ d text h. subst (λ (r : List ℕ). StandsFor d c.feed.new.self (text ++ r)) c.rest.ensures (c.feed.ensures d text h))
+    (λ d text h. subst (λ (r : List ℕ). StandsForBits d c.feed.new.self (text ++ r)) c.rest.ensures (c.feed.ensures d text h))
 
 pub returns-in-Err-clause-takes : goal.returns-in-Err-clause-takes
 returns-in-Err-clause-takes g c =

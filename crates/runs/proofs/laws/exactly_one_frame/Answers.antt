@@ -2,12 +2,12 @@ use Rattle.std.proofs.Common.{◌≡◌, Bool, List, [], ◌∷◌, length}
 use Rattle.std.proofs.lemmas.List.Elements.{All-cons, All-nil}
 use Rattle.base.specs.Literal.{Valuation}
 use Rattle.aiger.specs.Circuit.{Circuit}
-use Rattle.aiger.specs.Trace.{IsFrame, IsTrace}
+use Rattle.aiger.specs.Trace.{IsCircuitFrame, IsCircuitTrace}
 use Rattle.aiger.proofs.TraceLemmas.{trace_exists, SameFrame-from_bits}
 use Rattle.runs.proofs.laws.exactly_one_frame.Goals as goal
 
 -- the first frame of a trace
-first_frame : (c : Circuit) (state input : List Bool) (vs : List Valuation) → IsTrace c state (input ∷ []) vs → (v : Valuation) × IsFrame c state input v
+first_frame : (c : Circuit) (state input : List Bool) (vs : List Valuation) → IsCircuitTrace c state (input ∷ []) vs → (v : Valuation) × IsCircuitFrame c state input v
 first_frame c state input [] t = absurd t
 first_frame c state input (v ∷ vs) t = (v, t.0)
 

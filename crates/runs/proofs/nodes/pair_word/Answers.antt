@@ -2,12 +2,12 @@ use Rattle.std.proofs.Common.{◌≡◌, ℕ, ◌^◌, ◌<◌, List, ap, ap₂,
 use Rattle.base.specs.Operator.{binary_value, concat_value}
 use Rattle.runs.specs.declared.nodes.Pair.{Pair}
 use Rattle.runs.specs.declared.nodes.Pair.TheVariants as pair
-use Rattle.runs.specs.Nodes.{pair_value, PairFits}
+use Rattle.runs.specs.Nodes.{pair_value, PairHasWords}
 use Rattle.runs.proofs.nodes.pair_word.Goals as goal
 
 -- what an operator needs, it needs in its form
-fits_as : (o form : Pair) (values : List ℕ) → o ≡ form → PairFits o values → PairFits form values
-fits_as o form values e fits = subst (λ (p : Pair). PairFits p values) e fits
+fits_as : (o form : Pair) (values : List ℕ) → o ≡ form → PairHasWords o values → PairHasWords form values
+fits_as o form values e fits = subst (λ (p : Pair). PairHasWords p values) e fits
 
 pub word_at-requires : goal.word_at-requires
 word_at-requires c = (fits_as _ (pair.Binary c.in-Binary.operator c.in-Binary.width c.in-Binary.left c.in-Binary.right) c.args.values.now c.in-Binary.is c.requires).0.0

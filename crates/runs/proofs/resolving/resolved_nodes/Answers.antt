@@ -3,7 +3,7 @@ use Rattle.std.proofs.lemmas.List.{append-nil, take_all}
 use Rattle.btor2.specs.declared.item.Item.{Item}
 use Rattle.runs.specs.declared.nodes.Node.{Node}
 use Rattle.runs.specs.declared.nodes.Operator.{Operator}
-use Rattle.runs.specs.Nodes.{slot, with_node, nodes_of}
+use Rattle.runs.specs.Nodes.{slot, with_node, run_nodes}
 use Rattle.runs.proofs.PlaceLemmas.{map_read}
 use Rattle.runs.proofs.StateLemmas.{item_at, nodes_of-more}
 use Rattle.runs.proofs.resolving.resolved_nodes.Goals as goal
@@ -22,13 +22,13 @@ loop-place-preserved c =
       | in-Some+in_ok-push w ↦
           ap (λ (v : Vec Node Global). v.items) w.nodes-is ∙ w.in_ok-push.ensures.items
           ∙ ap₂ (λ (front : List Node) (p : ℕ). front ++ record { place = p; operator = w.in-Some.operator } ∷ []) c.loop-place.invariant own
-          ∙ ap (λ (o : Option Operator). nodes_of items (take place list) ++ with_node (slot items x.id) o []) w.in-Some.ensures ∙ sym more
+          ∙ ap (λ (o : Option Operator). run_nodes items (take place list) ++ with_node (slot items x.id) o []) w.in-Some.ensures ∙ sym more
       | in_default w ↦
-          ap (λ (v : Vec Node Global). v.items) w.nodes-is ∙ c.loop-place.invariant ∙ sym (append-nil (nodes_of items (take place list)))
-          ∙ ap (λ (o : Option Operator). nodes_of items (take place list) ++ with_node (slot items x.id) o []) w.in_default.ensures ∙ sym more
+          ap (λ (v : Vec Node Global). v.items) w.nodes-is ∙ c.loop-place.invariant ∙ sym (append-nil (run_nodes items (take place list)))
+          ∙ ap (λ (o : Option Operator). run_nodes items (take place list) ++ with_node (slot items x.id) o []) w.in_default.ensures ∙ sym more
     ]
 
 pub returns : goal.returns
 returns c =
     let all : length c.items-items.result.now ≤ c.loop-place.place = omega arith in
-    c.loop-place.invariant ∙ ap (nodes_of c.args.model.now) (take_all c.loop-place.place c.items-items.result.now all ∙ c.items-items.ensures.items)
+    c.loop-place.invariant ∙ ap (run_nodes c.args.model.now) (take_all c.loop-place.place c.items-items.result.now all ∙ c.items-items.ensures.items)

@@ -1,5 +1,5 @@
 use Rattle.std.proofs.Common.{◌≡◌, ◌≤◌, ◌++◌, length}
-use Rattle.vectors.specs.Vectors.{differing}
+use Rattle.vectors.specs.Vectors.{lines_that_differ}
 use Rattle.vectors.specs.CircuitRuns.{IsRunOf}
 use Rattle.vectors.proofs.judging.note_alike.Given as goal
 
@@ -7,7 +7,7 @@ abbrev pub invariant-loop-rest : goal.invariant-loop-rest
 invariant-loop-rest l =
     record {
       run : IsRunOf l.circuit l.run;
-      noted : l.lines.items ++ differing l.rest ≡ l.fn.lines.items ++ differing l.vectors;
+      noted : l.lines.items ++ lines_that_differ l.rest ≡ l.fn.lines.items ++ lines_that_differ l.vectors;
       behind : length l.rest ≤ length l.vectors;
     }
 

@@ -1,12 +1,12 @@
 use Rattle.std.proofs.Common.{◌≡◌}
-use Rattle.witness.specs.WordStands.{StandsFor}
+use Rattle.witness.specs.WordStands.{StandsForWitness}
 use Rattle.witness.proofs.FeedLemmas.{Fed}
 use Rattle.witness.proofs.judging.feed_words.Given as goal
 
 -- what was read was fed
 abbrev pub invariant-loop-count : goal.invariant-loop-count
 invariant-loop-count g l = record {
-  fed : Fed StandsFor (g.S.Source.to_come l.fn.source) (g.S.Source.to_come l.source) l.fn.judge l.judge;
+  fed : Fed StandsForWitness (g.S.Source.to_come l.fn.source) (g.S.Source.to_come l.source) l.fn.judge l.judge;
   counted : g.S.Source.failures l.source ≡ g.S.Source.failures l.fn.source;
 }
 

@@ -2,7 +2,7 @@ use Rattle.std.proofs.Common.{◌≡◌, ℕ, ◌++◌, [], List, map, slice_ind
 use Rattle.std.proofs.lemmas.Grind.{get_or_default_zero}
 use Rattle.aiger.specs.declared.loose.GateLine.{GateLine}
 use Rattle.aiger.specs.Loose.{gate_variable}
-use Rattle.aiger.specs.Numbering.{line_in, name_in}
+use Rattle.aiger.specs.Numbering.{line_in, gate_name_at}
 use Rattle.aiger.specs.Renumbering.{new_literal, ordered_gate, new_gate}
 use Rattle.aiger.proofs.PlacesLemmas.{not_yet, line_read, gate_in_turn, mapped_more}
 use Rattle.aiger.proofs.circuit.renumbered.gates_in_order.Goals as goal
@@ -10,9 +10,9 @@ use Rattle.aiger.proofs.circuit.renumbered.gates_in_order.Goals as goal
 pub push-requires-in-loop-gate-clause-new : goal.push-requires-in-loop-gate-clause-new
 push-requires-in-loop-gate-clause-new c =
     let g : ℕ = slice_index_or c.args.order.now c.loop-gate.gate-index 0 in
-    let new = not_yet (name_in c.args.lines.now) c.args.numbers.now c.args.order.now c.loop-gate.gate-index g c.requires.once c.loop-gate-test.true (sym (get_or_default_zero c.args.order.now c.loop-gate.gate-index g c.loop-gate-test.true)) in
+    let new = not_yet (gate_name_at c.args.lines.now) c.args.numbers.now c.args.order.now c.loop-gate.gate-index g c.requires.once c.loop-gate-test.true (sym (get_or_default_zero c.args.order.now c.loop-gate.gate-index g c.loop-gate-test.true)) in
     let line = c.index-lines-gate.is ∙ line_read c.args.lines.now g c.index-lines-gate.result (c.requires.within c.loop-gate.gate-index 0 c.loop-gate-test.true) in
-    let name : c.var.result ≡ name_in c.args.lines.now g = c.var.ensures ∙ ap gate_variable line in
+    let name : c.var.result ≡ gate_name_at c.args.lines.now g = c.var.ensures ∙ ap gate_variable line in
     rw (name, c.loop-gate.invariant.numbers) new
 
 pub loop-gate-preserved : goal.loop-gate-preserved
@@ -27,7 +27,7 @@ loop-gate-preserved c =
     c.ordered.ensures ∙ ap (λ (a : ℕ). ordered_gate a c.literal-in-loop-gate.result) c.literal.ensures ∙ ap (ordered_gate (new_literal c.loop-gate.numbers c.index-lines-gate.result.rhs0)) c.literal-in-loop-gate.ensures
     ∙ ap (new_gate c.loop-gate.numbers) line in
     record {
-      numbers = mapped_more (name_in lines) c.args.numbers.now c.loop-gate.numbers c.push-in-loop-gate.new.self order k g c.var.result c.loop-gate.invariant.numbers c.in_ok-push-2.ensures (c.var.ensures ∙ ap gate_variable line) c.loop-gate-test.true at;
-      gates = mapped_more (λ (j : ℕ). new_gate (c.args.numbers.now ++ map (name_in lines) order) (line_in lines j)) [] c.loop-gate.gates.items c.push.new.self.items order k g c.ordered.result c.loop-gate.invariant.gates c.in_ok-push.ensures.items
+      numbers = mapped_more (gate_name_at lines) c.args.numbers.now c.loop-gate.numbers c.push-in-loop-gate.new.self order k g c.var.result c.loop-gate.invariant.numbers c.in_ok-push-2.ensures (c.var.ensures ∙ ap gate_variable line) c.loop-gate-test.true at;
+      gates = mapped_more (λ (j : ℕ). new_gate (c.args.numbers.now ++ map (gate_name_at lines) order) (line_in lines j)) [] c.loop-gate.gates.items c.push.new.self.items order k g c.ordered.result c.loop-gate.invariant.gates c.in_ok-push.ensures.items
           (made ∙ ap (λ (ns : List ℕ). new_gate ns (line_in lines g)) c.loop-gate.invariant.numbers ∙ gate_in_turn c.args.numbers.now lines order k g c.requires.known c.loop-gate-test.true at) c.loop-gate-test.true at;
     }

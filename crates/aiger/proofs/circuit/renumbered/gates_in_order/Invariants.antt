@@ -1,11 +1,11 @@
 use Rattle.std.proofs.Common.{◌≡◌, ◌++◌, map, take}
-use Rattle.aiger.specs.Numbering.{line_in, name_in}
+use Rattle.aiger.specs.Numbering.{line_in, gate_name_at}
 use Rattle.aiger.specs.Renumbering.{new_gate}
 use Rattle.aiger.proofs.circuit.renumbered.gates_in_order.Given as goal
 
 abbrev pub invariant-loop-gate : goal.invariant-loop-gate
 invariant-loop-gate l =
     record {
-      numbers : l.numbers ≡ l.fn.numbers ++ map (name_in l.lines) (take l.gate-index l.order);
-      gates : l.gates.items ≡ map (λ j. new_gate (l.fn.numbers ++ map (name_in l.lines) l.order) (line_in l.lines j)) (take l.gate-index l.order);
+      numbers : l.numbers ≡ l.fn.numbers ++ map (gate_name_at l.lines) (take l.gate-index l.order);
+      gates : l.gates.items ≡ map (λ j. new_gate (l.fn.numbers ++ map (gate_name_at l.lines) l.order) (line_in l.lines j)) (take l.gate-index l.order);
     }

@@ -4,8 +4,8 @@ use Rattle.aiger.specs.declared.loose.GateLine.{GateLine}
 use Rattle.aiger.specs.Circuit.{IsCircuit}
 use Rattle.base.specs.Literal.{variable}
 use Rattle.aiger.specs.Loose.{Loose, latch_variable}
-use Rattle.aiger.specs.Numbering.{IsOnce, line_in, name_in}
-use Rattle.aiger.specs.Renumbering.{new_gate, numbered, renumbered, circuit_by}
+use Rattle.aiger.specs.Numbering.{IsOnce, line_in, gate_name_at}
+use Rattle.aiger.specs.Renumbering.{new_gate, variables_numbered, renumbered, circuit_by}
 use Rattle.aiger.proofs.InOrderLemmas.{by_order}
 use Rattle.aiger.proofs.KnownLemmas.{all_known}
 use Rattle.aiger.proofs.NumberingLemmas.{IsCircuit-renumbered}
@@ -13,8 +13,8 @@ use Rattle.aiger.proofs.PlacesLemmas.{each_is_gate, once_numbered, use_numbered}
 use Rattle.aiger.proofs.loose.Loose.number_by_order.Goals as goal
 
 -- the variables of leaves and gates are those that have numbers
-are_numbered : (l : Loose) (order front : List ℕ) (lines : List GateLine) → front ≡ map variable l.inputs ++ map latch_variable l.latches → lines ≡ l.gates → front ++ map (name_in lines) order ≡ numbered l order
-are_numbered l order front lines e f = ap (λ (xs : List ℕ). xs ++ map (name_in lines) order) e ∙ ap (λ (gates : List GateLine). (map variable l.inputs ++ map latch_variable l.latches) ++ map (name_in gates) order) f
+are_numbered : (l : Loose) (order front : List ℕ) (lines : List GateLine) → front ≡ map variable l.inputs ++ map latch_variable l.latches → lines ≡ l.gates → front ++ map (gate_name_at lines) order ≡ variables_numbered l order
+are_numbered l order front lines e f = ap (λ (xs : List ℕ). xs ++ map (gate_name_at lines) order) e ∙ ap (λ (gates : List GateLine). (map variable l.inputs ++ map latch_variable l.latches) ++ map (gate_name_at gates) order) f
 
 pub gates_in_order-requires-clause-within : goal.gates_in_order-requires-clause-within
 gates_in_order-requires-clause-within c = rw (c.gates.ensures.items) (each_is_gate c.args.self.now c.args.order.now c.requires.order.in_turn)
@@ -29,10 +29,10 @@ gates_in_order-requires-clause-known c =
     rw (c.in_ok-push_leaves.ensures.numbers, c.gates.ensures.items) (use_numbered c.args.self.now c.args.order.now c.requires.order.in_turn)
 
 -- the circuit by them
-circuit_is : (l : Loose) (order front names : List ℕ) (lines : List GateLine) (gates : List Gate) → front ≡ map variable l.inputs ++ map latch_variable l.latches → lines ≡ l.gates → names ≡ front ++ map (name_in lines) order
-    → gates ≡ map (λ j. new_gate (front ++ map (name_in lines) order) (line_in lines j)) order → circuit_by l names gates ≡ renumbered l order
+circuit_is : (l : Loose) (order front names : List ℕ) (lines : List GateLine) (gates : List Gate) → front ≡ map variable l.inputs ++ map latch_variable l.latches → lines ≡ l.gates → names ≡ front ++ map (gate_name_at lines) order
+    → gates ≡ map (λ j. new_gate (front ++ map (gate_name_at lines) order) (line_in lines j)) order → circuit_by l names gates ≡ renumbered l order
 circuit_is l order front names lines gates e f is made =
-    let all : front ++ map (name_in lines) order ≡ numbered l order = are_numbered l order front lines e f in
+    let all : front ++ map (gate_name_at lines) order ≡ variables_numbered l order = are_numbered l order front lines e f in
     by_order l order names gates (is ∙ all)
     (made ∙ (ap (λ (ns : List ℕ). map (λ (j : ℕ). new_gate ns (line_in lines j)) order) (sym is) ∙ ap (λ (ls : List GateLine). map (λ (j : ℕ). new_gate names (line_in ls j)) order) f))
 

@@ -1,7 +1,7 @@
 use Rattle.std.proofs.Common.{◌≡◌, ℕ, false, List, ◌++◌, ◌∷◌, [], suc, ◌+◌, nat_eq, cond, length, ap, sym, ◌∙◌, arith}
 use Rattle.std.specs.List.{list_any}
-use Rattle.aiger.specs.Numbering.{number_in}
-use Rattle.aiger.specs.VariableNumbers.{number_of}
+use Rattle.aiger.specs.Numbering.{number_among}
+use Rattle.aiger.specs.VariableNumbers.{number_kept}
 use Rattle.aiger.proofs.NumbersLemmas.{none_behind, number_pushed}
 use Rattle.aiger.proofs.numbers.Numbers.push_other.Goals as goal
 
@@ -12,7 +12,7 @@ invariant_of-self-2 c = λ v.
     let new : list_any (nat_eq c.args.variable) names ≡ false = none_behind c.args.variable c.self.inside.in_turn names c.args.self.now c.self.view_is c.requires.new in
     let given : c.len.result + 1 ≡ suc (length names) = omega (arith, c.len.ensures, ap length same) in
     c.in_ok-set.ensures.set v
-    ∙ (ap (λ (n : ℕ). cond (nat_eq c.args.variable v) n (number_of c.self.inside.numbers v)) given
+    ∙ (ap (λ (n : ℕ). cond (nat_eq c.args.variable v) n (number_kept c.self.inside.numbers v)) given
     ∙ (ap (λ (n : ℕ). cond (nat_eq c.args.variable v) (suc (length names)) n) (c.self.invariant v)
     ∙ (number_pushed names c.args.variable v new
-    ∙ ap (λ (ns : List ℕ). number_in ns v) (sym (c.in-Ok.ensures.items ∙ ap (λ (ns : List ℕ). ns ++ c.args.variable ∷ []) same)))))
+    ∙ ap (λ (ns : List ℕ). number_among ns v) (sym (c.in-Ok.ensures.items ∙ ap (λ (ns : List ℕ). ns ++ c.args.variable ∷ []) same)))))

@@ -2,7 +2,7 @@ use Rattle.std.proofs.Common.{◌≡◌, ℕ, Option, ◌+◌, ◌<◌, ◌≤�
 use Rattle.std.proofs.lemmas.Bool.{cases_lt}
 use Rattle.std.specs.BinaryHeap.{heap_items}
 use Rattle.std.specs.declared.cmp.Reverse.{Reverse}
-use Rattle.aiger.specs.Readiness.{one_if, times}
+use Rattle.aiger.specs.Readiness.{one_if, times_ready}
 use Rattle.aiger.proofs.ReadinessLemmas.{times_pushed}
 use Rattle.aiger.proofs.readiness.ReadyGates.put.Goals as goal
 
@@ -16,4 +16,4 @@ pub returns : goal.returns
 returns c i =
     let x : Reverse ℕ = record { 0 = c.max.result } in
     let two = both c.args.gate c.in-Some.first c.min.result c.max.result i (λ low. (omega (arith, c.min.ensures, low), omega (arith, c.max.ensures, low))) (λ low. (omega (arith, c.min.ensures, low), omega (arith, c.max.ensures, low))) in
-    omega (arith, two, times_pushed i x (heap_items c.args.self.now.others) (heap_items c.push.new.self) c.in_ok-push.ensures.permutation, ap (λ (first : Option ℕ). times first (heap_items c.args.self.now.others) i) c.in-Some.is)
+    omega (arith, two, times_pushed i x (heap_items c.args.self.now.others) (heap_items c.push.new.self) c.in_ok-push.ensures.permutation, ap (λ (first : Option ℕ). times_ready first (heap_items c.args.self.now.others) i) c.in-Some.is)

@@ -1,5 +1,5 @@
 use Rattle.std.proofs.Common.{◌≡◌, ℕ, List}
-use Rattle.aigertext.specs.PropertyLists.{with_justice}
+use Rattle.aigertext.specs.PropertyLists.{with_justice_lists}
 use Rattle.aigertext.proofs.PropertyListLemmas.{ListsMade}
 use Rattle.aigertext.proofs.reading.property_lists.put_justice.Given as goal
 
@@ -9,5 +9,5 @@ invariant-loop-size g l =
     record {
       made : List (List ℕ);
       lists : ListsMade l.sizes l.fn.listed l.size-index made l.rest;
-      is : l.lists ≡ m.with_lists l.initial.lists (with_justice (m.lists l.initial.lists) made);
+      is : l.lists ≡ m.with_lists l.initial.lists (with_justice_lists (m.lists l.initial.lists) made);
     }

@@ -5,7 +5,7 @@ use Rattle.std.specs.Prelude.{All}
 use Rattle.clauses.specs.Propagator.{State, KeepsPropagator, Extended, in_list}
 use Rattle.clauses.specs.Propagation.{MeetsConflict, AllNegated}
 use Rattle.clauses.specs.Marked.{set_of}
-use Rattle.clauses.specs.Growth.{Grows, Falsifies}
+use Rattle.clauses.specs.Growth.{GrowsMarked, Falsifies}
 use Rattle.clauses.specs.Watched.{Chosen, AreMet}
 use Rattle.clauses.specs.Flat.{cut, standing}
 use Rattle.clauses.proofs.PassLemmas.{cut_equal, length-cut}
@@ -100,7 +100,7 @@ returns-in-Ok c =
     let is = cut_is c.self.inside.literals.items c.self.inside.starts.items c.self.inside.ends.items _ c.settle.new.lists c.settle.new.trail c.args.clause.now c.in-Ok-Some.first c.in-Ok-Some.second grown low' (can_watch [] c.args.clause.now c.in-Ok-Some.first c.in-Ok-Some.second c.settle.new.trail chosen) c.put.new.literals.items c.put.new.starts.items c.put.new.ends.items c.put.new.watched.items c.put.new.lists c.in-Ok.ensures.ok in
     subst (λ (f : State). Extended f c.args.clause.now (state_from c.put.new.literals.items c.put.new.starts.items c.put.new.ends.items c.settle.new.trail)) c.self.view_is
     (extended c.self.inside.literals.items c.self.inside.starts.items c.self.inside.ends.items c.put.new.literals.items c.put.new.starts.items c.put.new.ends.items c.put.new.watched.items c.put.new.lists c.self.inside.trail c.settle.new.trail c.args.clause.now (omega (arith, chosen.first_in.1)) is
-    (subst (λ (cs : List (List ℕ)). Grows (cs ++ c.args.clause.now ∷ []) c.self.inside.trail c.settle.new.trail) flat c.settle.ensures.grows) keeps)
+    (subst (λ (cs : List (List ℕ)). GrowsMarked (cs ++ c.args.clause.now ∷ []) c.self.inside.trail c.settle.new.trail) flat c.settle.ensures.grows) keeps)
 
 pub settle-requires-clause-met : goal.settle-requires-clause-met
 settle-requires-clause-met c =

@@ -1,7 +1,7 @@
 use Rattle.std.proofs.Common.{ap, sym, subst, ◌∙◌}
 use Rattle.std.specs.Option.{is_some}
 use Rattle.clauses.specs.Proofs.{addition, ended}
-use Rattle.clauses.specs.StepJudges.{StepJudge, StandsFor}
+use Rattle.clauses.specs.StepJudges.{StepJudge, StandsForSteps}
 use Rattle.clauses.proofs.StepJudgeLemmas.{stands_found, stands_added}
 use Rattle.clauses.proofs.step_judge.StepJudge.add.Goals as goal
 
@@ -13,4 +13,4 @@ returns-then-is_some-clause-stands c f steps s =
 pub returns-in-Ok-clause-stands : goal.returns-in-Ok-clause-stands
 returns-in-Ok-clause-stands c f steps s =
     stands_added f steps c.args.clause.now c.args.line (record { propagator = c.self.inside.propagator; found = c.self.inside.found; failed = c.self.inside.failed }) c.judge_addition.new.propagator c.in-Ok.found
-    (sym c.is_some.ensures ∙ c.if-is_some.false) c.in-Ok.ensures.leads (subst (λ (x : StepJudge). StandsFor f steps x) (sym c.self.view_is) s)
+    (sym c.is_some.ensures ∙ c.if-is_some.false) c.in-Ok.ensures.leads (subst (λ (x : StepJudge). StandsForSteps f steps x) (sym c.self.view_is) s)

@@ -1,7 +1,7 @@
 use Rattle.std.proofs.Common.{ap, sym, subst, ◌∙◌}
 use Rattle.std.specs.Option.{is_some}
 use Rattle.clauses.specs.Proofs.{deletion, ended}
-use Rattle.clauses.specs.StepJudges.{StepJudge, StandsFor}
+use Rattle.clauses.specs.StepJudges.{StepJudge, StandsForSteps}
 use Rattle.clauses.proofs.StepJudgeLemmas.{stands_found, stands_deleted}
 use Rattle.clauses.proofs.step_judge.StepJudge.delete.Goals as goal
 
@@ -13,4 +13,4 @@ returns-then-is_some-clause-stands c f steps s =
 pub returns-clause-stands : goal.returns-clause-stands
 returns-clause-stands c f steps s =
     stands_deleted f steps c.args.clause.now c.args.line (record { propagator = c.self.inside.propagator; found = c.self.inside.found; failed = c.self.inside.failed }) c.delete.new.self
-    (sym c.is_some.ensures ∙ c.if-is_some.false) c.delete.ensures.left c.delete.ensures.followed.0 (subst (λ (x : StepJudge). StandsFor f steps x) (sym c.self.view_is) s)
+    (sym c.is_some.ensures ∙ c.if-is_some.false) c.delete.ensures.left c.delete.ensures.followed.0 (subst (λ (x : StepJudge). StandsForSteps f steps x) (sym c.self.view_is) s)

@@ -1,7 +1,7 @@
 use Rattle.std.proofs.Common.{Bool, ap, sym, subst, ◌∙◌}
 use Rattle.std.specs.Option.{is_some}
 use Rattle.clauses.specs.Propagator.{AddedTo}
-use Rattle.clauses.specs.StepJudges.{StepJudge, Begins}
+use Rattle.clauses.specs.StepJudges.{StepJudge, BeginsSteps}
 use Rattle.clauses.proofs.StepJudgeLemmas.{begins_found, begins_met, begins_on}
 use Rattle.clauses.proofs.step_judge.StepJudge.give.Goals as goal
 
@@ -13,10 +13,10 @@ pub returns-in-Ok-true-clause-begins : goal.returns-in-Ok-true-clause-begins
 returns-in-Ok-true-clause-begins c f b =
     let added = subst (λ (met : Bool). AddedTo c.self.inside.propagator c.args.clause.now c.add.new.self met) c.in-Ok-true.field-0-test c.in-Ok-true.ensures in
     begins_met f c.args.clause.now (record { propagator = c.self.inside.propagator; found = c.self.inside.found; failed = c.self.inside.failed }) c.add.new.self c.self.inside.failed
-    (sym c.is_some.ensures ∙ c.if-is_some.false) (λ ok. ok) added.1 (subst (λ (x : StepJudge). Begins f x) (sym c.self.view_is) b)
+    (sym c.is_some.ensures ∙ c.if-is_some.false) (λ ok. ok) added.1 (subst (λ (x : StepJudge). BeginsSteps f x) (sym c.self.view_is) b)
 
 pub returns-in-Ok-false-clause-begins : goal.returns-in-Ok-false-clause-begins
 returns-in-Ok-false-clause-begins c f b =
     let added = subst (λ (met : Bool). AddedTo c.self.inside.propagator c.args.clause.now c.add.new.self met) c.in-Ok-false.field-0-test c.in-Ok-false.ensures in
     begins_on f c.args.clause.now (record { propagator = c.self.inside.propagator; found = c.self.inside.found; failed = c.self.inside.failed }) c.add.new.self
-    (sym c.is_some.ensures ∙ c.if-is_some.false) added (subst (λ (x : StepJudge). Begins f x) (sym c.self.view_is) b)
+    (sym c.is_some.ensures ∙ c.if-is_some.false) added (subst (λ (x : StepJudge). BeginsSteps f x) (sym c.self.view_is) b)

@@ -1,6 +1,6 @@
 use Rattle.std.proofs.Common.{ap, sym, subst, ◌∙◌}
 use Rattle.std.specs.Option.{is_some}
-use Rattle.clauses.specs.StepJudges.{StepJudge, StandsFor}
+use Rattle.clauses.specs.StepJudges.{StepJudge, StandsForSteps}
 use Rattle.clauses.proofs.StepJudgeLemmas.{judged_found, judged_fault}
 use Rattle.clauses.proofs.step_judge.StepJudge.refuse.Goals as goal
 
@@ -12,4 +12,4 @@ returns-then-is_some-clause-judged c f steps s =
 pub returns-clause-judged : goal.returns-clause-judged
 returns-clause-judged c f steps s =
     judged_fault f steps (record { line = c.args.line; why = c.args.why }) (record { propagator = c.self.inside.propagator; found = c.self.inside.found; failed = c.self.inside.failed })
-    (sym c.is_some.ensures ∙ c.if-is_some.false) (subst (λ (x : StepJudge). StandsFor f steps x) (sym c.self.view_is) s)
+    (sym c.is_some.ensures ∙ c.if-is_some.false) (subst (λ (x : StepJudge). StandsForSteps f steps x) (sym c.self.view_is) s)

@@ -1,5 +1,5 @@
 use Rattle.std.specs.Io.KnownBytes.{prepend_known}
-use Rattle.restore.specs.Steps.{Reader}
+use Rattle.restore.specs.Steps.{FramesReader}
 use Rattle.restore.proofs.MarkLemmas.{found_takes}
 use Rattle.restore.proofs.StepLemmas.{agree_by}
 use Rattle.restore.proofs.frame_reader.FrameReader.take_line.Goals as goal

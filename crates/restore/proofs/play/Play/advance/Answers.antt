@@ -3,7 +3,7 @@ use Rattle.std.proofs.lemmas.List.{length-map, length-replicate}
 use Rattle.aiger.specs.declared.circuit.Latch.{Latch}
 use Rattle.base.specs.Literal.{Valuation, literal_value}
 use Rattle.aiger.specs.Circuit.{Circuit}
-use Rattle.aiger.specs.Trace.{next_state}
+use Rattle.aiger.specs.Trace.{next_latch_bits}
 use Rattle.runs.specs.Run.{more_steps}
 use Rattle.runs.specs.CircuitRun.{CircuitRun, no_inputs, settle_steps}
 use Rattle.restore.specs.Frames.{frame_of}
@@ -24,7 +24,7 @@ invariant_of-self c =
       valid = inv.valid;
       circuit = ap (λ (r : CircuitRun). r.circuit) c.advance.ensures.others ∙ circuit;
       latches =
-          ap length (c.advance.ensures.latches v now) ∙ (ap (λ (m : Circuit). length (next_state m v)) circuit ∙ length-map k.latches (λ (latch : Latch). literal_value v latch.next));
+          ap length (c.advance.ensures.latches v now) ∙ (ap (λ (m : Circuit). length (next_latch_bits m v)) circuit ∙ length-map k.latches (λ (latch : Latch). literal_value v latch.next));
       inputs = ap (λ (r : CircuitRun). length r.inputs) c.advance.ensures.others ∙ (ap (λ (m : Circuit). length (no_inputs m)) circuit ∙ length-replicate k.inputs false);
       begins = inv.begins;
       claim = inv.claim;
@@ -54,5 +54,5 @@ returns-clause-played c =
     let circuit : c.settle.new.self.circuit ≡ k = settled_circuit k c.self.inside.run c.give_inputs.new.run steps inv.circuit c.give_inputs.ensures.circuit c.settle.new.self c.settle.ensures in
     let v : Valuation = frame_of k c.self.inside.run.latches c.args.inputs.now in
     let now_is : List Bool → Bool → PlayValue = λ state met. record { circuit = k; claim = c.self.inside.claim; state = state; met = met; begins = c.self.inside.begins.items } in
-    ap₂ now_is (c.advance.ensures.latches v now ∙ ap (λ (m : Circuit). next_state m v) circuit) (c.both-self-inside.ensures ∙ ap (λ (b : Bool). c.self.inside.met && b) (c.all_hold-holds.ensures v now))
+    ap₂ now_is (c.advance.ensures.latches v now ∙ ap (λ (m : Circuit). next_latch_bits m v) circuit) (c.both-self-inside.ensures ∙ ap (λ (b : Bool). c.self.inside.met && b) (c.all_hold-holds.ensures v now))
     ∙ ap (λ (p : PlayValue). played p c.args.inputs.now) c.self.view_is

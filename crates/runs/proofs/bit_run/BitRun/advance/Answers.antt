@@ -3,7 +3,7 @@ use Rattle.std.proofs.lemmas.List.{with_items_is}
 use Rattle.std.specs.Vec.{with_items}
 use Rattle.aiger.specs.declared.circuit.Latch.{Latch}
 use Rattle.base.specs.Literal.{Valuation, literal_value}
-use Rattle.aiger.specs.Trace.{next_state}
+use Rattle.aiger.specs.Trace.{next_latch_bits}
 use Rattle.base.specs.Steps.{more_steps}
 use Rattle.runs.specs.CircuitRun.{CircuitRun, IsFrameNow}
 use Rattle.runs.specs.CircuitHolds.{valuation_of}
@@ -57,7 +57,7 @@ pub returns-clause-latches : goal.returns-clause-latches
 returns-clause-latches c =
     let end = (goal.at.returns-clause-latches c).After-clear_inputs in
     let moved = after end (subst (λ (r : CircuitRun). r.settled ≡ true) (sym c.self.view_is) c.requires) in
-    subst (λ (r : CircuitRun). (v : Valuation) → IsFrameNow r v → latches_in c.self.inside.circuit.now (with_items (with_items c.self.inside.bits c.put_bits.new.bits) c.clear_inputs.new.bits).items ≡ next_state r.circuit v) c.self.view_is
+    subst (λ (r : CircuitRun). (v : Valuation) → IsFrameNow r v → latches_in c.self.inside.circuit.now (with_items (with_items c.self.inside.bits c.put_bits.new.bits) c.clear_inputs.new.bits).items ≡ next_latch_bits r.circuit v) c.self.view_is
     (λ v frame. ap (latches_in c.self.inside.circuit.now) (cleared_is end) ∙ moved.latches v frame)
 
 pub returns-clause-others : goal.returns-clause-others

@@ -2,7 +2,7 @@ use Rattle.std.proofs.Common.{◌≡◌, ℕ, ◌+◌, ◌<◌, Bool, false, Lis
 use Rattle.std.proofs.lemmas.List.{with_items_is, length-replicate}
 use Rattle.std.specs.Vec.{with_items}
 use Rattle.aiger.specs.declared.circuit.Latch.{Latch}
-use Rattle.runs.specs.CircuitRun.{first_bit}
+use Rattle.runs.specs.CircuitRun.{reset_bit}
 use Rattle.runs.proofs.BitRunLemmas.{Starts, latches_in, inputs_in, starts, circuit_run_same}
 use Rattle.runs.proofs.bit_run.BitRun.of_circuit.Goals as goal
 use Rattle.runs.proofs.bit_run.BitRun.of_circuit.Goals.{After-put_bits}
@@ -21,7 +21,7 @@ begun c =
     let given : c.deref.result.now ≡ c.take_first_bits.new.taken = c.deref.ensures.value ∙ taken_is c in
     starts circuit c.in_ok-bits.bits.items c.take_first_bits.new.taken c.put_bits.new.bits (1 + c.inputs.result) c.variables.ensures.valid (ap (λ (n : ℕ). 1 + n) c.inputs.ensures.count)
     (c.in_ok-bits.ensures.items_if_clones_equal (λ y same. same) ∙ ap (λ (n : ℕ). replicate (n + 1) false) c.variables.ensures.count)
-    (λ j d within. c.take_first_bits.ensures.taken j d (subst (λ (ls : List Latch). j < length ls) (sym c.latches-2.ensures.items) within) ∙ ap (λ (ls : List Latch). first_bit (get_or ls j d).reset) c.latches-2.ensures.items)
+    (λ j d within. c.take_first_bits.ensures.taken j d (subst (λ (ls : List Latch). j < length ls) (sym c.latches-2.ensures.items) within) ∙ ap (λ (ls : List Latch). reset_bit (get_or ls j d).reset) c.latches-2.ensures.items)
     (c.take_first_bits.ensures.as_many ∙ ap length (c.deref_mut.ensures.value ∙ c.in_ok-next_bits.ensures.items_if_clones_equal (λ y same. same)) ∙ length-replicate (length c.latches.result.now) false ∙ ap length c.latches.ensures.items)
     (subst (λ (l : List Bool). (j : ℕ) → j < length l → get_or c.put_bits.new.bits (1 + c.inputs.result + j) false ≡ get_or l j false) given c.put_bits.ensures.put)
     (λ p h. c.put_bits.ensures.others p h ∙ ap (λ (l : List Bool). get_or l p false) blank) (c.put_bits.ensures.as_many ∙ ap length blank)

@@ -1,7 +1,7 @@
 use Rattle.std.proofs.Common.{List, ℕ, ◌++◌, refl, subst, arith}
 use Rattle.std.specs.Vec.{with_items}
 use Rattle.std.proofs.lemmas.List.{with_items_is}
-use Rattle.witness.specs.WordStands.{StandsFor}
+use Rattle.witness.specs.WordStands.{StandsForWitness}
 use Rattle.wave.proofs.WaverLemmas.{none_closed, one_closed, puts_by, kept_by}
 use Rattle.wave.proofs.waver.Waver.take_line.Goals as goal
 
@@ -9,7 +9,7 @@ pub returns-then-closed_frames-closed-clause-takes : goal.returns-then-closed_fr
 returns-then-closed_frames-closed-clause-takes g c =
     rw (← c.self.view_is) (record {
       takes = λ s title items text start h sent.
-          let stands = subst (λ (l : List ℕ). StandsFor items c.feed.new.self (text ++ l)) c.requires.whole (c.feed.ensures items text h.judge) in
+          let stands = subst (λ (l : List ℕ). StandsForWitness items c.feed.new.self (text ++ l)) c.requires.whole (c.feed.ensures items text h.judge) in
           none_closed s title items text c.args.line.now start _ _ (record { judge = c.self.inside.judge; signals = c.self.inside.signals.items }) c.requires.is_line h sent (record { judge = c.feed.new.self; signals = c.self.inside.signals.items }) stands
           c.closed_frames-closed.result c.closed_frames.result (c.closed_frames-closed.ensures items text h.judge) (c.closed_frames.ensures items _ stands) c.if-closed_frames-closed.true refl;
     })
@@ -18,7 +18,7 @@ pub returns-clause-takes : goal.returns-clause-takes
 returns-clause-takes g c =
     rw (← c.self.view_is) (record {
       takes = λ s title items text start h sent.
-          let stands = subst (λ (l : List ℕ). StandsFor items c.feed.new.self (text ++ l)) c.requires.whole (c.feed.ensures items text h.judge) in
+          let stands = subst (λ (l : List ℕ). StandsForWitness items c.feed.new.self (text ++ l)) c.requires.whole (c.feed.ensures items text h.judge) in
           let back = with_items_is c.self.inside.signals c.put_frame.new.signals (omega arith) in
           one_closed s title items text c.args.line.now start _ _ (record { judge = c.self.inside.judge; signals = c.self.inside.signals.items }) c.requires.is_line h sent
           (record { judge = c.feed.new.self; signals = (with_items c.self.inside.signals c.put_frame.new.signals).items }) stands

@@ -1,6 +1,6 @@
 use Rattle.std.proofs.Common.{◌≡◌, List, ℕ, ◌++◌, ◌∷◌, [], ◌+◌, take, get_or, append_assoc, subst, sym, ap, ◌∙◌}
 use Rattle.std.proofs.lemmas.List.{take_more}
-use Rattle.witness.specs.BitStands.{StandsFor}
+use Rattle.witness.specs.BitStands.{StandsForBits}
 use Rattle.witness.proofs.bit_judge.BitJudge.take_all.Goals as goal
 
 pub loop-byte-preserved : goal.loop-byte-preserved
@@ -9,4 +9,4 @@ loop-byte-preserved c circuit text stands =
     let byte = get_or c.args.bytes.now c.loop-byte.byte-index 0 in
     let whole : (text ++ front) ++ byte ∷ [] ≡ text ++ take (c.loop-byte.byte-index + 1) c.args.bytes.now =
     append_assoc text front (byte ∷ []) ∙ ap (λ (l : List ℕ). text ++ l) (sym (take_more c.args.bytes.now c.loop-byte.byte-index 0 c.loop-byte-test.true)) in
-    subst (StandsFor circuit c.take.new.self) whole (c.take.ensures circuit (text ++ front) (c.loop-byte.invariant circuit text stands))
+    subst (StandsForBits circuit c.take.new.self) whole (c.take.ensures circuit (text ++ front) (c.loop-byte.invariant circuit text stands))

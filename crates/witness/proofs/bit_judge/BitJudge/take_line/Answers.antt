@@ -1,7 +1,7 @@
 use Rattle.std.proofs.Common.{◌++◌, ◌∷◌, [], append_assoc, subst, sym}
-use Rattle.witness.specs.BitStands.{StandsFor}
+use Rattle.witness.specs.BitStands.{StandsForBits}
 use Rattle.witness.proofs.bit_judge.BitJudge.take_line.Goals as goal
 
 pub returns-then-not-takes_bits : goal.returns-then-not-takes_bits
 returns-then-not-takes_bits c circuit text line stands =
-    subst (StandsFor circuit c.end_line.new.self) (append_assoc text c.args.bytes.now (10 ∷ [])) (c.end_line.ensures circuit (text ++ c.args.bytes.now) (c.take_all.ensures circuit text (subst (λ j. StandsFor circuit j text) (sym (c.takes_bits.ensures.kept c.if-not-takes_bits.true)) stands)))
+    subst (StandsForBits circuit c.end_line.new.self) (append_assoc text c.args.bytes.now (10 ∷ [])) (c.end_line.ensures circuit (text ++ c.args.bytes.now) (c.take_all.ensures circuit text (subst (λ j. StandsForBits circuit j text) (sym (c.takes_bits.ensures.kept c.if-not-takes_bits.true)) stands)))

@@ -1,12 +1,12 @@
 use Rattle.std.proofs.Common.{◌≡◌, ◌<◌, ℕ, Bool, false, Option, None, ◌||◌, length, get_or, refl, subst, sym, ap, ◌∙◌}
 use Rattle.std.specs.Option.{option_or}
 use Rattle.base.specs.Literal.{Valuation, literal_value}
-use Rattle.aiger.specs.Trace.{next_state}
+use Rattle.aiger.specs.Trace.{next_latch_bits}
 use Rattle.aiger.specs.Circuit.{Circuit}
 use Rattle.runs.specs.Run.{more_steps}
 use Rattle.runs.specs.CircuitRun.{CircuitRun, IsFrameNow, no_inputs}
 use Rattle.witness.specs.Judgements.{violated_at}
-use Rattle.witness.specs.BitPlays.{first_bit_violated, BitPlay, Plays}
+use Rattle.witness.specs.BitPlays.{first_bit_violated, BitPlay, PlaysBits}
 use Rattle.witness.proofs.BitPlayLemmas.{Closes, plays_more}
 use Rattle.witness.proofs.bit_play.BitPlay.close.Goals as goal
 
@@ -14,7 +14,7 @@ pub returns : goal.returns
 returns c circuit initial frames line plays below few whole =
     let was : BitPlay = record { circuit = c.self.inside.circuit.now; run = c.self.inside.run; differs = c.self.inside.differs; frames = c.self.inside.frames; breach = c.self.inside.breach; rose = c.self.inside.rose } in
     let is : BitPlay = record { circuit = c.self.inside.circuit.now; run = c.advance.new.self; differs = c.self.inside.differs; frames = c.saturating_add-self-inside.result; breach = c.note_breach.new.found; rose = c.self.inside.rose || c.rises-rises.result } in
-    let begun : Plays circuit c.args.claim initial frames was line = subst (λ (p : BitPlay). Plays circuit c.args.claim initial frames p line) (sym c.self.view_is) plays in
+    let begun : PlaysBits circuit c.args.claim initial frames was line = subst (λ (p : BitPlay). PlaysBits circuit c.args.claim initial frames p line) (sym c.self.view_is) plays in
     let same : c.self.inside.circuit.now ≡ circuit = begun.circuit in
     let closes : Closes circuit c.args.claim was is = record {
       circuit = refl;
@@ -23,7 +23,7 @@ returns c circuit initial frames line plays below few whole =
       run =
           c.advance.ensures.others
           ∙ ap (λ (r : CircuitRun). record r { latches = c.advance.new.self.latches; inputs = no_inputs r.circuit; settled = false; steps = more_steps (length r.circuit.latches) r.steps }) c.settle.ensures;
-      latches = subst (λ (r : CircuitRun). (v : Valuation) → IsFrameNow r v → c.advance.new.self.latches ≡ next_state r.circuit v) c.settle.ensures c.advance.ensures.latches;
+      latches = subst (λ (r : CircuitRun). (v : Valuation) → IsFrameNow r v → c.advance.new.self.latches ≡ next_latch_bits r.circuit v) c.settle.ensures c.advance.ensures.latches;
       breach = λ v now.
           let found = subst (λ (r : CircuitRun). IsFrameNow r v → c.first_violated-violated.result ≡ first_bit_violated c.self.inside.circuit.now v) c.settle.ensures (c.first_violated-violated.ensures v) now in
           c.note_breach.ensures

@@ -5,7 +5,7 @@ use Rattle.witness.specs.Readings.{lines_read}
 use Rattle.witness.specs.Admits.{word_reader}
 use Rattle.witness.specs.KeptLines.{kept, AreAlike}
 use Rattle.witness.specs.Stands.{IsOfLines}
-use Rattle.witness.specs.WordStands.{WordJudge, word_judging, StandsFor, is_alone, place_of}
+use Rattle.witness.specs.WordStands.{WordJudge, word_judging, StandsForWitness, is_alone, place_of}
 use Rattle.witness.proofs.TextEndLemmas.{whole_lines-line_end, unfinished-line_end}
 use Rattle.witness.proofs.WordReaderLemmas.{reads_of_other}
 use Rattle.witness.proofs.StandsLemmas.{line_ended, stays_refused, with_bytes, no_refusal, some_refusal}
@@ -14,7 +14,7 @@ use Rattle.witness.proofs.word_judge.WordJudge.take_line.Goals as goal
 
 pub returns-then-is_some : goal.returns-then-is_some
 returns-then-is_some c items text line stands =
-    let now = subst (λ (j : WordJudge). StandsFor items j text) (sym c.self.view_is) stands in
+    let now = subst (λ (j : WordJudge). StandsForWitness items j text) (sym c.self.view_is) stands in
     let bytes : List ℕ = c.args.bytes.now in
     let refused = some_refusal c.self.inside.refused (sym c.if-is_some.ensures) in
     line_ended (word_judging items) (text ++ (bytes ++ 10 ∷ [])) (whole_lines text ++ (unfinished text ++ bytes) ∷ []) _ (whole_lines-line_end text bytes line) (unfinished-line_end text bytes)

@@ -4,7 +4,7 @@ use Rattle.witness.specs.Texts.{shape_of}
 use Rattle.witness.specs.Readings.{lines_read}
 use Rattle.witness.specs.Admits.{word_reader}
 use Rattle.witness.specs.KeptLines.{kept}
-use Rattle.witness.specs.WordStands.{WordJudge, word_judging, StandsFor}
+use Rattle.witness.specs.WordStands.{WordJudge, word_judging, StandsForWitness}
 use Rattle.witness.proofs.KeptLineLemmas.{kept_more}
 use Rattle.witness.proofs.StandsLemmas.{part_more, no_refusal, some_refusal}
 use Rattle.witness.proofs.WordJudgeLemmas.{counts_of}
@@ -12,7 +12,7 @@ use Rattle.witness.proofs.word_judge.WordJudge.take_part.Goals as goal
 
 pub returns-then-is_none-clause-stands : goal.returns-then-is_none-clause-stands
 returns-then-is_none-clause-stands c items text one stands =
-    let now = subst (λ (j : WordJudge). StandsFor items j text) (sym c.self.view_is) stands in
+    let now = subst (λ (j : WordJudge). StandsForWitness items j text) (sym c.self.view_is) stands in
     let none = no_refusal c.self.inside.refused c.if-is_none.ensures in
     let read = (lines_read (word_reader (shape_of items)) (whole_lines text)).read in
     let reads = c.take.ensures items read (unfinished text) (now.lines.reads none) in
@@ -21,7 +21,7 @@ returns-then-is_none-clause-stands c items text one stands =
 
 pub returns-else-is_none-clause-stands : goal.returns-else-is_none-clause-stands
 returns-else-is_none-clause-stands c items text one stands =
-    let now = subst (λ (j : WordJudge). StandsFor items j text) (sym c.self.view_is) stands in
+    let now = subst (λ (j : WordJudge). StandsForWitness items j text) (sym c.self.view_is) stands in
     let refused = some_refusal c.self.inside.refused c.if-is_none.ensures in
     let keeps : c.extend.new.self ≡ kept (unfinished text ++ c.args.bytes.now) = c.extend.ensures ∙ (ap (λ (l : List ℕ). kept (l ++ c.args.bytes.now)) now.line ∙ kept_more (unfinished text) c.args.bytes.now) in
     part_more (word_judging items) text c.args.bytes.now _ c.self.inside.reader c.extend.new.self one now keeps now.lines.counts (λ none. absurd (cc (none, refused.1)))

@@ -1,6 +1,6 @@
 use Rattle.std.proofs.Common.{◌≡◌, [], ◌∷◌, ◌<◌, ◌^◌, None, append_assoc, ap, subst, sym, ◌∙◌}
 use Rattle.std.proofs.lemmas.Bool.{leb-false}
-use Rattle.witness.specs.WordStands.{WordJudge, StandsFor}
+use Rattle.witness.specs.WordStands.{WordJudge, StandsForWitness}
 use Rattle.witness.proofs.WordJudgeLemmas.{line_taken}
 use Rattle.witness.proofs.word_judge.WordJudge.take_plain.Goals as goal
 
@@ -13,5 +13,5 @@ returns-clause-line c =
     record {
       line = taken.line;
       is = taken.is ∙ sym (append_assoc taken.line (10 ∷ []) c.in_ok-rest.rest.now);
-      stands = λ items text stands. line_taken items text _ c.take_line.new.self c.args.text.now c.in_ok-rest.rest.now taken fresh few empty (subst (λ (j : WordJudge). StandsFor items j text) (sym c.self.view_is) stands);
+      stands = λ items text stands. line_taken items text _ c.take_line.new.self c.args.text.now c.in_ok-rest.rest.now taken fresh few empty (subst (λ (j : WordJudge). StandsForWitness items j text) (sym c.self.view_is) stands);
     }
