@@ -4,6 +4,7 @@ ghost use Rattle.std.specs.Io.KnownBytes.{Appends, IsAtEnd};
 ghost use Rattle.base.specs.Device.{AppendsBeginning, CountsFaults};
 ghost use Rattle.blast.specs.Lowering.{Lowers};
 ghost use Rattle.witness.specs.BitJudgements.{BitJudges};
+ghost use Rattle.witness.specs.Accepted.{BitAcceptsExactly};
 ghost use Rattle.rises.specs.FirstRises.{AreBitFirstRises};
 ghost use Rattle.lift.specs.Answers.{CountsLift};
 ghost use Rattle.lift.specs.Lifted.{lifted_text, lifted_with, named_text};
@@ -118,6 +119,8 @@ pub fn lift_with_rises<S: Source, K: Sink>(
     requires { Lowers model.now circuit.now }
     // the judgement is that of the whole text over the circuit
     ensures judged { IfOk result (λ told. IfSome (S.to_come source.old) (λ text. BitJudges circuit.now text told.0)) }
+    // accepted exactly where it says a witness of which this is judged
+    ensures accepted { IfOk result (λ told. IfSome (S.to_come source.old) (λ text. BitAcceptsExactly circuit.now text told.0)) }
     // and what stands beside it, with names, are the first rises of the text
     ensures rises { named ≡ true → IfOk result (λ told. IfSome (S.to_come source.old) (λ text. AreBitFirstRises circuit.now text told.1)) }
     // what is judged of what is written over the model is the same verdict
@@ -162,6 +165,8 @@ pub fn lift<S: Source, K: Sink>(
     requires { Lowers model.now circuit.now }
     // the judgement is that of the whole text over the circuit
     ensures judged { IfOk result (λ judgement. IfSome (S.to_come source.old) (λ text. BitJudges circuit.now text judgement)) }
+    // accepted exactly where it says a witness of which this is judged
+    ensures accepted { IfOk result (λ judgement. IfSome (S.to_come source.old) (λ text. BitAcceptsExactly circuit.now text judgement)) }
     // what is judged of the lifted text over the model is the same verdict
     ensures kept { IfOk result (λ judgement. IfSome (S.to_come source.old) (λ text. KeepsVerdict model.now circuit.now text judgement)) }
     // what is written is the lifted text, and after a fault a beginning of it
@@ -197,6 +202,8 @@ pub fn lift_named<S: Source, K: Sink>(
     requires { Lowers model.now circuit.now }
     // the judgement is that of the whole text over the circuit
     ensures judged { IfOk result (λ judgement. IfSome (S.to_come source.old) (λ text. BitJudges circuit.now text judgement)) }
+    // accepted exactly where it says a witness of which this is judged
+    ensures accepted { IfOk result (λ judgement. IfSome (S.to_come source.old) (λ text. BitAcceptsExactly circuit.now text judgement)) }
     // what is judged of the text with names over the model is the same verdict
     ensures kept { IfOk result (λ judgement. IfSome (S.to_come source.old) (λ text. KeepsVerdictIn model.now circuit.now text (named_text model.now circuit.now text) judgement)) }
     // what is written is the lifted text with names, and after a fault a beginning of it

@@ -4,6 +4,7 @@ ghost use Rattle.std.specs.Io.KnownBytes.{Appends, IsAtEnd};
 ghost use Rattle.base.specs.Device.{AppendsBeginning, CountsFaults};
 ghost use Rattle.engine.specs.EngineForm.{input_count};
 ghost use Rattle.witness.specs.BitJudgements.{BitJudges};
+ghost use Rattle.witness.specs.Accepted.{BitAcceptsExactly};
 ghost use Rattle.restore.specs.declared.fault.RestoreWhy.TheVariants as why;
 ghost use Rattle.restore.specs.Accepted.{FindsAgain};
 ghost use Rattle.restore.specs.Answers.{CountsRestore, PutsOwed, WritesOwedLines, TakesAllOwed, WritesAll};
@@ -155,6 +156,8 @@ pub fn restore<S: Source, K: Sink>(
     requires { claim < length circuit.now.bads }
     // the judgement is that of what was written, and that is all that the text is restored to, with which nothing is wrong
     ensures judged { IfOk result (λ judgement. IfSome (S.to_come source.old) (λ text. BitJudges circuit.now (restored_text circuit.now claim text) judgement)) }
+    // accepted exactly where that says a witness of which this is judged
+    ensures accepted { IfOk result (λ judgement. IfSome (S.to_come source.old) (λ text. BitAcceptsExactly circuit.now (restored_text circuit.now claim text) judgement)) }
     ensures written { OnOk result (IfSome (S.to_come source.old) (λ text. Appends (K.written sink.old) (K.written sink.new) (restored_text circuit.now claim text))) }
     ensures right { OnOk result (IfSome (S.to_come source.old) (λ text. (read_found (input_count circuit.now) text).fault ≡ None)) }
     // where the text's frames make the claimed property of an engine form 1, that is accepted, and ends with the first such frame
@@ -171,6 +174,7 @@ pub fn restore<S: Source, K: Sink>(
 {
     restored_text_is_accepted();
     witness::bit_laws::exactly_one_bit_judgement();
+    let _inputs = circuit.inputs();
     let mut restorer = Restorer::new(alloc, circuit, claim)?;
     let mut judge = match BitJudge::new(alloc, circuit) {
         Ok(judge) => judge,

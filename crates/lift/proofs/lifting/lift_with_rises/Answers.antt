@@ -1,6 +1,8 @@
 use Rattle.std.proofs.Common.{List, ℕ}
 use Rattle.std.specs.Io.KnownBytes.{Appends}
 use Rattle.witness.specs.BitJudgements.{BitJudges}
+use Rattle.witness.specs.Accepted.{BitAcceptsExactly}
+use Rattle.witness.proofs.AcceptLemmas.{bit_accepts_exactly}
 use Rattle.witness.proofs.FeedLemmas.{if_some_then}
 use Rattle.rises.specs.FirstRises.{AreBitFirstRises}
 use Rattle.lift.specs.Lifted.{lifted_with}
@@ -13,6 +15,12 @@ pub returns-in-Ok-lift_through-clause-judged : goal.returns-in-Ok-lift_through-c
 returns-in-Ok-lift_through-clause-judged g c =
     if_some_then _ (λ (text : List ℕ). LiftsWith c.args.named c.args.model.now c.args.circuit.now c.lift_through.new.lifter text × Appends (g.K.Sink.written c.args.sink.now) (g.K.Sink.written c.lift_through.new.sink) (lifted_with c.args.named c.args.model.now c.args.circuit.now text))
     (λ (text : List ℕ). BitJudges c.args.circuit.now text c.finish.result.0) (λ text both. c.finish.ensures.judged c.args.named c.args.model.now c.args.circuit.now text both.0) (c.in-Ok-lift_through.ensures.lifts c.args.named c.args.model.now c.args.circuit.now c.in-Ok.ensures)
+
+pub returns-in-Ok-lift_through-clause-accepted : goal.returns-in-Ok-lift_through-clause-accepted
+returns-in-Ok-lift_through-clause-accepted g c =
+    if_some_then _ (λ (text : List ℕ). LiftsWith c.args.named c.args.model.now c.args.circuit.now c.lift_through.new.lifter text × Appends (g.K.Sink.written c.args.sink.now) (g.K.Sink.written c.lift_through.new.sink) (lifted_with c.args.named c.args.model.now c.args.circuit.now text))
+    (λ (text : List ℕ). BitAcceptsExactly c.args.circuit.now text c.finish.result.0)
+    (λ text both. bit_accepts_exactly c.args.circuit.now text c.finish.result.0 c.requires.circuit (c.finish.ensures.judged c.args.named c.args.model.now c.args.circuit.now text both.0)) (c.in-Ok-lift_through.ensures.lifts c.args.named c.args.model.now c.args.circuit.now c.in-Ok.ensures)
 
 pub returns-in-Ok-lift_through-clause-rises : goal.returns-in-Ok-lift_through-clause-rises
 returns-in-Ok-lift_through-clause-rises g c = λ on.
