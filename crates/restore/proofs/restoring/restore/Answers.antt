@@ -33,5 +33,5 @@ returns-in-Ok-take_restored-clause-accepted g c =
     (λ text writes.
     let bytes : (owed c.in_ok-restorer.restorer text).bytes ≡ restored_text c.args.circuit.now c.args.claim text = ap (λ (o : Owed). o.bytes) (c.in_ok-restorer.ensures.restores text) in
     let stands = subst (StandsForBits c.args.circuit.now c.take_restored.new.taker) bytes (writes c.args.circuit.now as_they_are c.in-Ok.ensures).1 in
-    c.finish.ensures.accepted c.args.circuit.now (restored_text c.args.circuit.now c.args.claim text) c.inputs-_inputs.ensures.valid stands)
+    c.finish.ensures.accepted c.args.circuit.now (restored_text c.args.circuit.now c.args.claim text) c.inputs-inputs.ensures.valid stands)
     c.in-Ok-take_restored.ensures.writes

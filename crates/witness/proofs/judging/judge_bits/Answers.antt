@@ -13,4 +13,4 @@ returns-in-Ok-feed_bits-clause-judged g c =
 pub returns-in-Ok-feed_bits-clause-accepted : goal.returns-in-Ok-feed_bits-clause-accepted
 returns-in-Ok-feed_bits-clause-accepted g c =
     if_some_then _ (λ (text : List ℕ). StandsForBits c.args.circuit.now c.feed_bits.new.judge text) (λ (text : List ℕ). BitAcceptsExactly c.args.circuit.now text c.finish.result)
-    (λ text. c.finish.ensures.accepted c.args.circuit.now text c.inputs-_inputs.ensures.valid) (c.in-Ok-feed_bits.ensures.fed c.args.circuit.now [] c.in-Ok.ensures)
+    (λ text. c.finish.ensures.accepted c.args.circuit.now text c.inputs-inputs.ensures.valid) (c.in-Ok-feed_bits.ensures.fed c.args.circuit.now [] c.in-Ok.ensures)

@@ -13,4 +13,4 @@ returns-in-Ok-feed_words-clause-judged g c =
 pub returns-in-Ok-feed_words-clause-accepted : goal.returns-in-Ok-feed_words-clause-accepted
 returns-in-Ok-feed_words-clause-accepted g c =
     if_some_then _ (λ (text : List ℕ). StandsForWitness c.args.model.now c.feed_words.new.judge text) (λ (text : List ℕ). AcceptsExactly c.args.model.now text c.finish.result)
-    (λ text. c.finish.ensures.accepted c.args.model.now text c.items-_items.ensures.well_formed) (c.in-Ok-feed_words.ensures.fed c.args.model.now [] c.in-Ok.ensures.ok)
+    (λ text. c.finish.ensures.accepted c.args.model.now text c.items-items.ensures.well_formed) (c.in-Ok-feed_words.ensures.fed c.args.model.now [] c.in-Ok.ensures.ok)
