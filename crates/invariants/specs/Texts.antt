@@ -15,17 +15,17 @@ is_told (b ∷ bs) = not (b == 35)
 abbrev pub names_line : List (List ℕ) → List ℕ
 names_line names = codes ".ilb" ++ flat_map (λ digits. codes " lo" ++ digits) names
 
--- the number of a latch, with any zeros in front
+-- digits are the number of a latch, with any zeros in front
 abbrev pub NamesLatch : List ℕ → ℕ → Type 0
 NamesLatch digits k = (digits ≢ []) × (digits_number digits ≡ Some k)
 
--- what a cube says of a latch: nothing, that it is 1, or that it is 0
+-- the byte for what a cube says of a latch: nothing, that it is 1, or that it is 0
 abbrev pub part_byte : Option Bool → ℕ
 part_byte None = 45
 part_byte (Some true) = 49
 part_byte (Some false) = 48
 
--- the literals that say so
+-- and the literals
 abbrev pub part_literals : ℕ → Option Bool → List ℕ
 part_literals k None = []
 part_literals k (Some true) = (2 * suc k) ∷ []
@@ -35,7 +35,7 @@ part_literals k (Some false) = (2 * suc k + 1) ∷ []
 abbrev pub cube_line : List (Option Bool) → List ℕ
 cube_line parts = map part_byte parts ++ codes " 1"
 
--- and its literals
+-- the literals of the cube
 abbrev pub cube_literals : List ℕ → List (Option Bool) → List ℕ
 cube_literals named parts = flat_map (λ p. part_literals p.0 p.1) (zip named parts)
 
