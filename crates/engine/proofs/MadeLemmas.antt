@@ -1,13 +1,12 @@
 -- The literals that stand for all variables of a circuit, from those for the inputs, the latches and the gates.
-use Rattle.std.proofs.Common.{◌≡◌, ℕ, zero, suc, ◌+◌, ◌*◌, ◌<◌, ◌≤◌, ◌&&◌, Option, Some, None, List, [], ◌∷◌, ◌++◌, length, map, drop, get_or, All, length-take, refl, sym, ap, ap₂, subst, ◌∙◌, length-append, append_assoc, arith}
+use Rattle.std.proofs.Common.{◌≡◌, ℕ, suc, ◌+◌, ◌*◌, ◌<◌, ◌≤◌, ◌&&◌, Option, Some, None, List, ◌++◌, length, map, drop, get_or, All, length-take, sym, ap, ap₂, subst, ◌∙◌, length-append, append_assoc, arith}
 use Rattle.std.specs.List.{range_with_len, list_all}
 use Rattle.std.proofs.lemmas.List.{length-drop, get_or_append_left}
 use Rattle.std.proofs.lemmas.List.FromFn.{get_or-map-range_with_len, length-map-range_with_len}
-use Rattle.std.proofs.lemmas.List.Elements.{All-nil, All-cons, All-append, All-take, All-drop}
-use Rattle.std.proofs.Math.Seq.{get_or-append_seam}
+use Rattle.std.proofs.lemmas.List.Elements.{All-append, All-take, All-drop}
 use Rattle.aiger.specs.declared.circuit.Latch.{Latch}
 use Rattle.aiger.specs.declared.circuit.Gate.{Gate}
-use Rattle.base.specs.Literal.{Valuation, variable, literal_value}
+use Rattle.base.specs.Literal.{variable, literal_value}
 use Rattle.aiger.specs.Net.{Net, variables, IsDefined, SatisfiesFrom, bits_from}
 use Rattle.aiger.specs.Circuit.{Circuit, IsCircuit, net}
 use Rattle.base.proofs.LiteralLemmas.{literal_value-even}
@@ -15,21 +14,9 @@ use Rattle.aiger.proofs.TraceLemmas.{bits_from-agree}
 use Rattle.gates.specs.Made.{MakesLiteral}
 use Rattle.gates.proofs.GrowthLemmas.{Grows-trans, Grows-weaker, Satisfies-earlier, IsDefined-grown, All-defined-grown}
 use Rattle.engine.specs.EngineForm.{free_count, input_count, chosen}
+use Rattle.gates.proofs.TableLemmas.{doubles_defined, read_middle}
 use Rattle.gates.specs.Reads.{read, literal_in, GatesRead}
 use Rattle.engine.specs.Reads.{read_latches, LatchLiteralsRead, BadLiteralsRead, TableRead, started_literal, before_literal, bare_net, PropertiesRead, FormMade}
-
--- the literals of variables that are there are defined
-pub doubles_defined : (n : Net) (a m : ℕ) → a + m ≤ suc (variables n) → All (IsDefined n) (map (λ k. 2 * k) (range_with_len a m))
-doubles_defined n a zero h = All-nil (IsDefined n)
-doubles_defined n a (suc m) h = All-cons (IsDefined n) (2 * a) (map (λ k. 2 * k) (range_with_len (a + 1) m)) (omega arith) (doubles_defined n (a + 1) m (omega arith))
-
-read_middle : (xs ys zs : List ℕ) (w : Valuation) → bits_from (length xs) (length ys) (read (xs ++ (ys ++ zs)) w) ≡ map (literal_value w) ys
-read_middle xs [] zs w = refl
-read_middle xs (y ∷ ys) zs w =
-    let again : (xs ++ y ∷ []) ++ (ys ++ zs) ≡ xs ++ (y ∷ ys ++ zs) = append_assoc xs (y ∷ []) (ys ++ zs) in
-    let next : length (xs ++ y ∷ []) ≡ suc (length xs) = (let e = length-append xs (y ∷ []) in omega arith) in
-    ap₂ ◌∷◌ (ap (literal_value w) (get_or-append_seam xs y (ys ++ zs) 0))
-    (ap₂ (λ (l : List ℕ) (k : ℕ). bits_from k (length ys) (read l w)) (sym again) (sym next) ∙ read_middle (xs ++ y ∷ []) ys zs w)
 
 pub TableRead-made : (c : Circuit) (started : ℕ) (old mid new : Net) (inputs latches gates table : List ℕ) → IsCircuit c → c.inputs + 1 ≤ suc (variables old)
     → inputs ≡ map (λ k. 2 * k) (range_with_len 0 (c.inputs + 1))

@@ -1,7 +1,8 @@
 -- Literals that stand for a circuit's, made one after the other.
-use Rattle.std.proofs.Common.{◌≡◌, ℕ, zero, suc, ◌+◌, ◌*◌, ◌/◌, ◌%◌, ◌==◌, ◌<◌, ◌≤◌, Bool, true, false, ◌&&◌, List, [], ◌∷◌, ◌++◌, length, take, get_or, All, refl, sym, ap, ap₂, subst, ◌∙◌, length-append, append_assoc, arith}
+use Rattle.std.proofs.Common.{◌≡◌, ℕ, zero, suc, ◌+◌, ◌*◌, ◌/◌, ◌%◌, ◌==◌, ◌<◌, ◌≤◌, Bool, true, false, ◌&&◌, List, [], ◌∷◌, ◌++◌, length, map, take, get_or, All, refl, sym, ap, ap₂, subst, ◌∙◌, length-append, append_assoc, arith}
 use Rattle.std.specs.Prelude.{if◌then◌else◌}
-use Rattle.std.specs.List.{list_all}
+use Rattle.std.specs.List.{list_all, range_with_len}
+use Rattle.std.proofs.Math.Bool.{and_assoc}
 use Rattle.std.proofs.lemmas.Bool.Decides.{nat_tests}
 use Rattle.std.proofs.lemmas.List.{take_more, length-take-le, get_or_append_left}
 use Rattle.std.proofs.Math.Seq.{get_or-append_seam}
@@ -9,14 +10,14 @@ use Rattle.std.proofs.lemmas.List.Folds.{list_all_more}
 use Rattle.std.proofs.lemmas.List.Elements.{All-get_or, All-nil, All-cons, All-append}
 use Rattle.aiger.specs.declared.circuit.Gate.{Gate}
 use Rattle.base.specs.Literal.{Valuation, variable, negation, literal_value}
-use Rattle.aiger.specs.Net.{Net, IsDefined, SatisfiesFrom, AreOrderedFrom}
+use Rattle.aiger.specs.Net.{Net, variables, IsDefined, SatisfiesFrom, AreOrderedFrom, bits_from}
 use Rattle.base.proofs.LiteralLemmas.{literal_value-negation}
 use Rattle.aiger.proofs.NetLemmas.{IsDefined-negation, SatisfiesFrom-join}
 use Rattle.aiger.proofs.TraceLemmas.{AgreeBelow, literal_value-agree}
 use Rattle.gates.specs.Made.{Grows, MakesAnd, MakesLiteral}
+use Rattle.gates.specs.Reads.{read, literal_in, GatesRead}
 use Rattle.gates.proofs.GrowthLemmas.{Grows-trans, Grows-weaker, Satisfies-earlier, All-defined-grown}
 use Rattle.gates.proofs.LiteralLemmas.{MakesLiteral-and, MakesLiteral-then, MakesLiteral-same}
-use Rattle.gates.specs.Reads.{read, literal_in, GatesRead}
 
 -- a literal that stands for one is defined
 pub IsDefined-literal_of : (n : Net) (table : List ℕ) (l : ℕ) → variable l < length table → All (IsDefined n) table → IsDefined n (literal_in table l)
@@ -37,10 +38,6 @@ value-literal_of table w (suc (suc l)) z =
     let n = literal_value-negation w (get_or table (suc (suc l) / 2) 0) in
     grind (arith, nat_tests)
 
-and_again : (a b d : Bool) → ((a && b) && d) ≡ (a && (b && d))
-and_again true b d = refl
-and_again false b d = refl
-
 -- one constraint more
 pub hold-more : (old mid new : Net) (table ls : List ℕ) (met i x l lit m : ℕ) → i < length ls → x ≡ get_or ls i x → lit ≡ literal_in table x
     → MakesLiteral old mid i (λ v. literal_value v met && list_all (λ y. literal_value v (literal_in table y)) (take i ls)) l → MakesAnd mid new l lit m
@@ -48,7 +45,7 @@ pub hold-more : (old mid new : Net) (table ls : List ℕ) (met i x l lit m : ℕ
 hold-more old mid new table ls met i x l lit m inside at is before made =
     MakesLiteral-same old new (i + 1) (i + 1) m _ (λ v. literal_value v met && list_all (λ y. literal_value v (literal_in table y)) (take (i + 1) ls)) (omega arith)
     (λ v.
-    and_again (literal_value v met) (list_all (λ y. literal_value v (literal_in table y)) (take i ls)) (literal_value v lit)
+    and_assoc (literal_value v met) (list_all (λ y. literal_value v (literal_in table y)) (take i ls)) (literal_value v lit)
     ∙ ap (λ b. literal_value v met && b)
     (ap (λ (k : ℕ). list_all (λ y. literal_value v (literal_in table y)) (take i ls) && literal_value v k) (is ∙ ap (literal_in table) at)
     ∙ sym (list_all_more (λ y. literal_value v (literal_in table y)) ls i x inside)))
@@ -127,3 +124,17 @@ gates-inside old mid gs before more table i g ordered inside at is done =
 -- literals that were defined, and those behind them
 pub both_defined : (old mid : Net) (most : ℕ) (before more table : List ℕ) → Grows old mid most → All (IsDefined old) before → All (IsDefined mid) more → table ≡ before ++ more → All (IsDefined mid) table
 both_defined old mid most before more table grows first rest is = subst (All (IsDefined mid)) (sym is) (All-append (IsDefined mid) before more (All-defined-grown old mid most grows before first) rest)
+
+-- the literals of variables that are there are defined
+pub doubles_defined : (n : Net) (a m : ℕ) → a + m ≤ suc (variables n) → All (IsDefined n) (map (λ k. 2 * k) (range_with_len a m))
+doubles_defined n a zero h = All-nil (IsDefined n)
+doubles_defined n a (suc m) h = All-cons (IsDefined n) (2 * a) (map (λ k. 2 * k) (range_with_len (a + 1) m)) (omega arith) (doubles_defined n (a + 1) m (omega arith))
+
+-- literals between others, and what they say of the variables that they stand for
+pub read_middle : (xs ys zs : List ℕ) (w : Valuation) → bits_from (length xs) (length ys) (read (xs ++ (ys ++ zs)) w) ≡ map (literal_value w) ys
+read_middle xs [] zs w = refl
+read_middle xs (y ∷ ys) zs w =
+    let again : (xs ++ y ∷ []) ++ (ys ++ zs) ≡ xs ++ (y ∷ ys ++ zs) = append_assoc xs (y ∷ []) (ys ++ zs) in
+    let next : length (xs ++ y ∷ []) ≡ suc (length xs) = (let e = length-append xs (y ∷ []) in omega arith) in
+    ap₂ ◌∷◌ (ap (literal_value w) (get_or-append_seam xs y (ys ++ zs) 0))
+    (ap₂ (λ (l : List ℕ) (k : ℕ). bits_from k (length ys) (read l w)) (sym again) (sym next) ∙ read_middle (xs ++ y ∷ []) ys zs w)

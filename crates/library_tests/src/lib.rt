@@ -30,3 +30,5 @@ mod sizes;
 mod sources_and_sinks;
 #[cfg(test)]
 mod tidied_witnesses;
+#[cfg(test)]
+mod witness_circuits;

@@ -1,8 +1,9 @@
-//! What is printed of the faults of devices, models, texts, circuits, gates and forms.
+//! What is printed of the faults of devices, models, texts, circuits, gates, forms and tests.
 use aiger::{CircuitFault, LooseFault};
 use base::{DeviceFault, ReadAllFault};
 use btor2::{PushFault, SymbolFault};
 use btor2text::{ReadFault, Why};
+use certificates::TestFault;
 use engine::EngineFault;
 use gates::GateFault;
 use std::alloc::Global;
@@ -92,6 +93,18 @@ const OF_FORMS: [(EngineFault, &str); 6] = [
     (EngineFault::NoMemory, "144 NoMemory"),
 ];
 
+/// Why a witness circuit has no test.
+const OF_TESTS: [(TestFault, &str); 8] = [
+    (TestFault::Justice, "210 Justice"),
+    (TestFault::Fair, "211 Fair"),
+    (TestFault::NoProperty, "212 NoProperty"),
+    (TestFault::SeveralProperties, "213 SeveralProperties"),
+    (TestFault::NoSuchLiteral, "214 NoSuchLiteral"),
+    (TestFault::NoSuchBad, "215 NoSuchBad"),
+    (TestFault::TooBig, "216 TooBig"),
+    (TestFault::NoMemory, "217 NoMemory"),
+];
+
 /// The first text that is not printed of its fault.
 fn wrong<T: Display>(alloc: Global, faults: &[(T, &'static str)]) -> Option<&'static str> {
     for (fault, text) in faults {
@@ -114,6 +127,7 @@ fn faults_are_printed(rt: HostRuntime) {
         .or(wrong(rt.alloc(), &OF_CIRCUITS))
         .or(wrong(rt.alloc(), &OF_NUMBERING))
         .or(wrong(rt.alloc(), &OF_GATES))
-        .or(wrong(rt.alloc(), &OF_FORMS));
+        .or(wrong(rt.alloc(), &OF_FORMS))
+        .or(wrong(rt.alloc(), &OF_TESTS));
     assert!(rt; wrong.is_none(), "{wrong:?}");
 }

@@ -3,8 +3,8 @@ use Rattle.std.specs.List.{range_with_len}
 use Rattle.std.proofs.lemmas.List.FromFn.{length-map-range_with_len}
 use Rattle.aiger.specs.declared.circuit.Gate.{Gate}
 use Rattle.aiger.specs.Net.{IsDefined, AreOrderedFrom}
-use Rattle.gates.proofs.TableLemmas.{both_defined}
-use Rattle.engine.proofs.MadeLemmas.{TableRead-made, LatchesRead-said, GatesRead-said, doubles_defined}
+use Rattle.gates.proofs.TableLemmas.{both_defined, doubles_defined}
+use Rattle.engine.proofs.MadeLemmas.{TableRead-made, LatchesRead-said, GatesRead-said}
 use Rattle.engine.proofs.table.variable_literals.Goals as goal
 
 pub returns-clause-ok : goal.returns-clause-ok

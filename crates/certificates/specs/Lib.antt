@@ -1,0 +1,9 @@
+pub mod Certificate
+pub mod Faults
+pub mod Guards
+pub mod Made
+pub mod Mapping
+pub mod Parts
+pub mod Refusal
+pub mod Tests
+pub mod Worked

@@ -1,0 +1,15 @@
+//! Witness circuits as certificates that a bad property of a circuit never rises, and the circuit that tests one. The laws of
+//! their definitions stand in `laws`.
+#![tactic(auto)]
+
+mod conditions;
+mod copies;
+mod fault;
+pub mod laws;
+mod making;
+mod mapping;
+mod sizes;
+mod starts;
+
+pub use fault::TestFault;
+pub use making::test_circuit;
