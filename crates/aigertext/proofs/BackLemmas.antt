@@ -9,7 +9,7 @@ use Rattle.aigertext.specs.declared.fault.Stop.{Stop}
 use Rattle.aigertext.specs.declared.fault.Why.{Why}
 use Rattle.aigertext.specs.declared.fault.Why.TheVariants as why
 use Rattle.aigertext.specs.Ascii.{literal_lines}
-use Rattle.aigertext.specs.Reading.{◌>>=◌, at_front, some_or, cut_at_byte, onto_front, cut_line, line_at, lines_at, within, literal_on, literals_at, size_within, size_of, sizes_at}
+use Rattle.aigertext.specs.Reading.{◌>>=◌, said_at_front, some_or, cut_at_byte, onto_front, cut_line, line_at, lines_at, within, literal_on, literals_at, size_within, size_of, sizes_at}
 
 -- what an answer has
 abbrev pub ok_or : {A E : Type 0} → A → Result A E → A
@@ -82,7 +82,7 @@ pub record SaysAt {A : Type 0} (says : List ℕ → Result A Why) (text : List �
   pub said : says line ≡ Ok x
 
 module _ {A : Type 0} (says : List ℕ → Result A Why) (text : List ℕ) (x : A) (rest : List ℕ) where
-  said_by : (y : List ℕ × List ℕ) (r : Result A Why) → IsCut 10 text y.0 y.1 → says y.0 ≡ r → ◌>>=◌ {A = A} {B = A × List ℕ} {E = Stop} (at_front text r) (λ a. Ok (a, y.1)) ≡ Ok (x, rest) → SaysAt says text x rest
+  said_by : (y : List ℕ × List ℕ) (r : Result A Why) → IsCut 10 text y.0 y.1 → says y.0 ≡ r → ◌>>=◌ {A = A} {B = A × List ℕ} {E = Stop} (said_at_front text r) (λ a. Ok (a, y.1)) ≡ Ok (x, rest) → SaysAt says text x rest
   said_by y (Err w) c s e = absurd (not_err _ _ e)
   said_by y (Ok a) c s e =
       let is : (a, y.1) ≡ (x, rest) = ok_same (a, y.1) (x, rest) e in

@@ -12,7 +12,7 @@ use Rattle.aigertext.specs.declared.fault.Why.{Why}
 use Rattle.aigertext.specs.declared.fault.Why.TheVariants as why
 use Rattle.aigertext.specs.declared.forms.Form.TheVariants.{Binary}
 use Rattle.aigertext.specs.Binary.{gates_text}
-use Rattle.aigertext.specs.Reading.{◌>>=◌, at_front, delta_told, delta_at, below, at_or_below, gate_at, gates_at}
+use Rattle.aigertext.specs.Reading.{◌>>=◌, said_at_front, delta_told, delta_at, below, at_or_below, gate_at, gates_at}
 use Rattle.aigertext.proofs.BackLemmas.{ok_same, not_err}
 use Rattle.aigertext.proofs.GateLemmas.{next_literal}
 
@@ -67,7 +67,7 @@ IsGateAt own text g rest = (text ≡ (delta (own - g.rhs0) ++ delta (g.rhs0 - g.
 
 module _ (own : ℕ) (text : List ℕ) (g : Gate) (rest : List ℕ) (bytes : AreBytes text) where
   second_by : (x : ℕ × List ℕ) (r : Result (ℕ × List ℕ) Why) → (text ≡ delta (own - x.0) ++ x.1) × (x.0 < own) → ◌>>=◌ {A = ℕ × List ℕ} {B = ℕ × List ℕ} {E = Why} (delta_at x.1) (at_or_below x.0) ≡ r
-      → ◌>>=◌ {A = ℕ × List ℕ} {B = Gate × List ℕ} {E = Stop} (at_front x.1 r) (λ y. Ok (record { rhs0 = x.0; rhs1 = y.0 }, y.1)) ≡ Ok (g, rest) → IsGateAt own text g rest
+      → ◌>>=◌ {A = ℕ × List ℕ} {B = Gate × List ℕ} {E = Stop} (said_at_front x.1 r) (λ y. Ok (record { rhs0 = x.0; rhs1 = y.0 }, y.1)) ≡ Ok (g, rest) → IsGateAt own text g rest
   second_by x (Err w) first f e = absurd (not_err _ _ e)
   second_by x (Ok y) first f e =
       let is : (record { rhs0 = x.0; rhs1 = y.0 }, y.1) ≡ (g, rest) = ok_same (record { rhs0 = x.0; rhs1 = y.0 }, y.1) (g, rest) e in
@@ -76,7 +76,7 @@ module _ (own : ℕ) (text : List ℕ) (g : Gate) (rest : List ℕ) (bytes : Are
       (first.0 ∙ ap (λ (l : List ℕ). delta (own - x.0) ++ l) second.0 ∙ sym (append_assoc (delta (own - x.0)) (delta (x.0 - y.0)) y.1), first.1, second.1)
 
   first_by : (r : Result (ℕ × List ℕ) Why) → ◌>>=◌ {A = ℕ × List ℕ} {B = ℕ × List ℕ} {E = Why} (delta_at text) (below own) ≡ r
-      → ◌>>=◌ {A = ℕ × List ℕ} {B = Gate × List ℕ} {E = Stop} (at_front text r) (λ x. ◌>>=◌ {A = ℕ × List ℕ} {B = Gate × List ℕ} {E = Stop} (at_front x.1 (◌>>=◌ {A = ℕ × List ℕ} {B = ℕ × List ℕ} {E = Why} (delta_at x.1) (at_or_below x.0))) (λ y. Ok (record { rhs0 = x.0; rhs1 = y.0 }, y.1))) ≡ Ok (g, rest)
+      → ◌>>=◌ {A = ℕ × List ℕ} {B = Gate × List ℕ} {E = Stop} (said_at_front text r) (λ x. ◌>>=◌ {A = ℕ × List ℕ} {B = Gate × List ℕ} {E = Stop} (said_at_front x.1 (◌>>=◌ {A = ℕ × List ℕ} {B = ℕ × List ℕ} {E = Why} (delta_at x.1) (at_or_below x.0))) (λ y. Ok (record { rhs0 = x.0; rhs1 = y.0 }, y.1))) ≡ Ok (g, rest)
       → IsGateAt own text g rest
   first_by (Err w) f e = absurd (not_err _ _ e)
   first_by (Ok x) f e = second_by x (◌>>=◌ {A = ℕ × List ℕ} {B = ℕ × List ℕ} {E = Why} (delta_at x.1) (at_or_below x.0)) (below-back own text x (delta_at text) bytes refl f) refl e

@@ -16,7 +16,7 @@ use Rattle.aigertext.specs.declared.fault.Stop.{Stop}
 use Rattle.aigertext.specs.declared.fault.Why.{Why}
 use Rattle.aigertext.specs.declared.fault.Why.TheVariants as why
 use Rattle.aigertext.specs.Spelling.{Given, given_line, GiveNames, IsComment}
-use Rattle.aigertext.specs.Reading.{◌>>=◌, at_front, cut_at_byte, section_with_letter, some_or, name_accepted, named_by, name_on, names_on, names_at}
+use Rattle.aigertext.specs.Reading.{◌>>=◌, said_at_front, cut_at_byte, section_with_letter, some_or, name_accepted, named_by, name_on, names_on, names_at}
 use Rattle.aigertext.proofs.BackLemmas.{ok_same, not_err, IsCut, cut-back}
 use Rattle.aigertext.proofs.NameReadLemmas.{HasFewPositions, few_with_name}
 
@@ -117,7 +117,7 @@ pub names_on-back : (c : Circuit) (lines : List (List ℕ)) (last : List ℕ) (d
 names_on-back c [] [] d few e = record { given = []; names = ok_same c d e; comment = []; is_comment = inl refl; parts = refl }
 names_on-back c [] (b ∷ bs) d few e = absurd (not_err _ _ e)
 names_on-back c (line ∷ lines) last d few e =
-    elim (chosen (bytes_eq line (codes "c")) (Ok c) (◌>>=◌ {A = Circuit} {B = Circuit} {E = Stop} (at_front (text_of_lines (line ∷ lines) ++ last) (name_on c line)) (λ x. names_on x lines last)) (Ok d) e) [
+    elim (chosen (bytes_eq line (codes "c")) (Ok c) (◌>>=◌ {A = Circuit} {B = Circuit} {E = Stop} (said_at_front (text_of_lines (line ∷ lines) ++ last) (name_on c line)) (λ x. names_on x lines last)) (Ok d) e) [
       | inl comment' ↦
           let is : line ≡ codes "c" = same_bytes line (codes "c") comment'.0 in
           record {
@@ -130,7 +130,7 @@ names_on-back c (line ∷ lines) last d few e =
       | inr name' ↦ by (name_on c line) refl name'.1 (λ x f g. names_on-back x lines last d f g)
     ]
   where
-    by : (r : Result Circuit Why) → name_on c line ≡ r → ◌>>=◌ {A = Circuit} {B = Circuit} {E = Stop} (at_front (text_of_lines (line ∷ lines) ++ last) r) (λ x. names_on x lines last) ≡ Ok d
+    by : (r : Result Circuit Why) → name_on c line ≡ r → ◌>>=◌ {A = Circuit} {B = Circuit} {E = Stop} (said_at_front (text_of_lines (line ∷ lines) ++ last) r) (λ x. names_on x lines last) ≡ Ok d
         → ((x : Circuit) → HasFewPositions x → names_on x lines last ≡ Ok d → NamesBack x (text_of_lines lines ++ last) d) → NamesBack c (text_of_lines (line ∷ lines) ++ last) d
     by (Err w) f g again = absurd (not_err _ _ g)
     by (Ok x) f g again =

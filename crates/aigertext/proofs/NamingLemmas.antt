@@ -7,7 +7,7 @@ use Rattle.aiger.specs.Circuit.{Circuit}
 use Rattle.aigertext.specs.declared.fault.Stop.{Stop}
 use Rattle.aigertext.specs.declared.fault.Why.{Why}
 use Rattle.aigertext.specs.declared.fault.Why.TheVariants as why
-use Rattle.aigertext.specs.Reading.{◌>>=◌, at_front, stop, name_on, names_on, names_at}
+use Rattle.aigertext.specs.Reading.{◌>>=◌, said_at_front, stop, name_on, names_on, names_at}
 
 -- a line and others, and what follows them
 text_line : (line : List ℕ) (lines : List (List ℕ)) (rest : List ℕ) → text_of_lines (line ∷ lines) ++ rest ≡ line ++ 10 ∷ (text_of_lines lines ++ rest)
@@ -25,7 +25,7 @@ module _ (c : Circuit) (text line after : List ℕ) (total : Result Circuit Stop
   pub comment_ends : bytes_eq line (codes "c") ≡ true → total ≡ Ok c
   comment_ends is = sym so_far ∙ cut_text ∙ rw is refl
 
-  one_line : bytes_eq line (codes "c") ≡ false → names_on c (line ∷ whole_lines after) (unfinished after) ≡ ◌>>=◌ {A = Circuit} {B = Circuit} {E = Stop} (at_front text (name_on c line)) (λ d. names_at d after)
+  one_line : bytes_eq line (codes "c") ≡ false → names_on c (line ∷ whole_lines after) (unfinished after) ≡ ◌>>=◌ {A = Circuit} {B = Circuit} {E = Stop} (said_at_front text (name_on c line)) (λ d. names_at d after)
   one_line not = rw (not, again) refl
 
   pub name_given : bytes_eq line (codes "c") ≡ false → (d : Circuit) → name_on c line ≡ Ok d → names_at d after ≡ total

@@ -6,7 +6,7 @@ use Rattle.aigertext.specs.declared.fault.Stop.{Stop}
 use Rattle.aigertext.specs.declared.fault.Why.{Why}
 use Rattle.aigertext.specs.declared.fault.Why.TheVariants as why
 use Rattle.aigertext.specs.Reading.{◌>>=◌, line_at, lines_at}
-use Rattle.aigertext.specs.Passes.{onto, IsReadOf}
+use Rattle.aigertext.specs.Passes.{onto, WasToBeRead}
 
 -- ---- one more and the others
 
@@ -68,9 +68,9 @@ pub stops_then : {A B : Type 0} (e : Stop) (r : Result A Stop) (a : A) (next : A
 stops_then e r a next is (inl full) = inl full
 stops_then e r a next is (inr stops) = inr (subst (λ (q : Result _ Stop). (q >>= next) ≡ Err e) (sym is) stops)
 
-pub reads_then : {A B X : Type 0} (view : X → B) (answer : Result X Stop) (r : Result A Stop) (a : A) (next : A → Result B Stop) → r ≡ Ok a → IsReadOf view answer (next a) → IsReadOf view answer (r >>= next)
-reads_then view answer r a next is read = subst (λ (q : Result _ Stop). IsReadOf view answer (q >>= next)) (sym is) read
+pub reads_then : {A B X : Type 0} (view : X → B) (answer : Result X Stop) (r : Result A Stop) (a : A) (next : A → Result B Stop) → r ≡ Ok a → WasToBeRead view answer (next a) → WasToBeRead view answer (r >>= next)
+reads_then view answer r a next is read = subst (λ (q : Result _ Stop). WasToBeRead view answer (q >>= next)) (sym is) read
 
 -- what `?` returns where reading stops
-pub stopped : {A X : Type 0} (view : X → A) (answer : Result X Stop) (e : Stop) (read : Result A Stop) → (y : Stop) × (answer ≡ Err y) × (y ≡ e) → (e.why ≡ why.NoMemory) ⊎ (read ≡ Err e) → IsReadOf view answer read
-stopped view answer e read is stops = subst (λ (r : Result _ Stop). IsReadOf view r read) (sym (is.1 ∙ ap (λ (y : Stop). Err y) is.2)) stops
+pub stopped : {A X : Type 0} (view : X → A) (answer : Result X Stop) (e : Stop) (read : Result A Stop) → (y : Stop) × (answer ≡ Err y) × (y ≡ e) → (e.why ≡ why.NoMemory) ⊎ (read ≡ Err e) → WasToBeRead view answer read
+stopped view answer e read is stops = subst (λ (r : Result _ Stop). WasToBeRead view r read) (sym (is.1 ∙ ap (λ (y : Stop). Err y) is.2)) stops

@@ -5,7 +5,7 @@ use Rattle.aigertext.specs.declared.reading.counts.Counts.{Counts}
 use Rattle.aigertext.specs.declared.fault.Stop.{Stop}
 use Rattle.aigertext.specs.declared.fault.Why.{Why}
 use Rattle.aigertext.specs.Reading.{line_at, lines_at, literal_on, literals_at, size_of, sizes_at, Properties, properties_at}
-use Rattle.aigertext.specs.Passes.{IsReadOf}
+use Rattle.aigertext.specs.Passes.{WasToBeRead}
 use Rattle.aigertext.proofs.BackLemmas.{ok_same, bind-then, lines-back, line-back}
 use Rattle.aigertext.proofs.FieldLemmas.{line_read}
 
@@ -86,8 +86,8 @@ properties-front h text p rest e0 =
 -- properties that were read up to the last section are all read with that
 pub properties_read : {X : Type 0} (h : Counts) (text t1 t2 t3 t4 t5 os bs cs ns ls fs : List ℕ) (rest : X → List ℕ) (answer : Result X Stop)
     → literals_at (2 * h.variables + 1) h.outputs text ≡ Ok (os, t1) → literals_at (2 * h.variables + 1) h.bads t1 ≡ Ok (bs, t2) → literals_at (2 * h.variables + 1) h.constraints t2 ≡ Ok (cs, t3)
-    → sizes_at 0 h.justice t3 ≡ Ok (ns, t4) → literals_at (2 * h.variables + 1) (sum ns) t4 ≡ Ok (ls, t5) → IsReadOf {X = X} {A = List ℕ × List ℕ} (λ x. (fs, rest x)) answer (literals_at (2 * h.variables + 1) h.fair t5)
-    → IsReadOf {X = X} {A = Properties × List ℕ} (λ x. (record { outputs = os; bads = bs; constraints = cs; sizes = ns; listed = ls; fair = fs }, rest x)) answer (properties_at h text)
+    → sizes_at 0 h.justice t3 ≡ Ok (ns, t4) → literals_at (2 * h.variables + 1) (sum ns) t4 ≡ Ok (ls, t5) → WasToBeRead {X = X} {A = List ℕ × List ℕ} (λ x. (fs, rest x)) answer (literals_at (2 * h.variables + 1) h.fair t5)
+    → WasToBeRead {X = X} {A = Properties × List ℕ} (λ x. (record { outputs = os; bads = bs; constraints = cs; sizes = ns; listed = ls; fair = fs }, rest x)) answer (properties_at h text)
 unfolding properties_at
 properties_read h text t1 t2 t3 t4 t5 os bs cs ns ls fs rest (Ok x) o b c s j f = rw (o, b, c, s, j, f) refl
 properties_read h text t1 t2 t3 t4 t5 os bs cs ns ls fs rest (Err e) o b c s j (inl full) = inl full

@@ -61,8 +61,8 @@ ReadsBy why_of view (Ok x) Answers = Answers (Ok (view x))
 ReadsBy why_of view (Err e) Answers = (why_of e ≡ why.NoMemory) ⊎ Answers (Err e)
 
 -- it is what was to be read of a text
-abbrev pub IsReadOf : {X A : Type 0} → (X → A) → Result X Stop → Result A Stop → Type 0
-IsReadOf view r read = ReadsBy (λ e. e.why) view r (λ answer. read ≡ answer)
+abbrev pub WasToBeRead : {X A : Type 0} → (X → A) → Result X Stop → Result A Stop → Type 0
+WasToBeRead view r read = ReadsBy (λ e. e.why) view r (λ answer. read ≡ answer)
 
 -- it is what was to be read of a line
 abbrev pub IsLineReadOf : {X A : Type 0} → (X → A) → Result X Why → Result A Why → Type 0

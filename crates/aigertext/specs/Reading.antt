@@ -36,9 +36,9 @@ abbrev pub stop : List ℕ → Why → Stop
 stop text w = record { left = length text; why = w }
 
 -- what the front of a text says; its why is told with its place
-abbrev pub at_front : {A : Type 0} → List ℕ → Result A Why → Result A Stop
-at_front text (Ok x) = Ok x
-at_front text (Err w) = Err (stop text w)
+abbrev pub said_at_front : {A : Type 0} → List ℕ → Result A Why → Result A Stop
+said_at_front text (Ok x) = Ok x
+said_at_front text (Err w) = Err (stop text w)
 
 -- what a function returned, seen by view, is what reading gives
 abbrev pub IsAsRead : {X Y E : Type 0} → (X → Y) → Result X E → Result Y E → Type 0
@@ -75,7 +75,7 @@ fields_behind (b ∷ bs) = fields bs
 abbrev pub cut_line : {A : Type 0} → (List ℕ → Result A Why) → List ℕ → Option (List ℕ × List ℕ) → Result (A × List ℕ) Stop
 cut_line says text None = Err (stop text why.Truncated)
 cut_line says text (Some x) = do
-  a ← at_front text (says x.0)
+  a ← said_at_front text (says x.0)
   Ok (a, x.1)
 
 abbrev pub line_at : {A : Type 0} → (List ℕ → Result A Why) → List ℕ → Result (A × List ℕ) Stop
@@ -226,8 +226,8 @@ at_or_below first d = if nat_lt first d.0 then Err why.GateOrder else Ok (first 
 -- a gate with this literal, and the text behind it
 unfoldable pub gate_at : ℕ → List ℕ → Result (Gate × List ℕ) Stop
 gate_at own text = do
-  x ← at_front text (delta_at text >>= below own)
-  y ← at_front x.1 (delta_at x.1 >>= at_or_below x.0)
+  x ← said_at_front text (delta_at text >>= below own)
+  y ← said_at_front x.1 (delta_at x.1 >>= at_or_below x.0)
   Ok (record { rhs0 = x.0; rhs1 = y.0 }, y.1)
 
 -- so many gates, the first of which has the given literal
@@ -268,7 +268,7 @@ names_on c [] [] = Ok c
 names_on c [] (b ∷ bs) = Err (stop (b ∷ bs) why.Truncated)
 names_on c (line ∷ lines) last =
     if bytes_eq line (codes "c") then Ok c
-    else (at_front (text_of_lines (line ∷ lines) ++ last) (name_on c line) >>= (λ d. names_on d lines last))
+    else (said_at_front (text_of_lines (line ∷ lines) ++ last) (name_on c line) >>= (λ d. names_on d lines last))
 
 -- the same of a text
 abbrev pub names_at : Circuit → List ℕ → Result Circuit Stop

@@ -8,7 +8,7 @@ use Rattle.aiger.specs.Net.{variables, IsDefined}
 use Rattle.aiger.specs.Circuit.{Circuit, IsCircuit, net}
 use Rattle.aiger.specs.Trace.{SameCircuitFrame}
 use Rattle.aiger.proofs.TraceLemmas.{literal_value-agree}
-use Rattle.certificates.specs.Certificate.{some_or, property_literals, property_fails, bad_rises, constraints_hold}
+use Rattle.certificates.specs.Certificate.{some_or_others, property_candidates, property_fails, bad_rises, constraints_hold}
 use Rattle.certificates.specs.Guards.{beside}
 use Rattle.certificates.specs.Tests.{claim_holds}
 use Rattle.certificates.specs.Made.{IsSharedIn}
@@ -33,16 +33,16 @@ constraints_same c v w valid same = all_same c v w c.constraints same valid.defi
 pub bad_same : (c : Circuit) (k : ℕ) (v w : Valuation) → IsCircuit c → SameCircuitFrame c v w → bad_rises c k v ≡ bad_rises c k w
 bad_same c k v w valid same = ap (λ (bs : List Bool). unwrap_or (slice_get bs k) false) (literals_same c v w c.bads same valid.defined.bads)
 
-some_or_defined : (c : Circuit) (bads outputs : List ℕ) → All (IsDefined (net c)) bads → All (IsDefined (net c)) outputs → All (IsDefined (net c)) (some_or bads outputs)
+some_or_defined : (c : Circuit) (bads outputs : List ℕ) → All (IsDefined (net c)) bads → All (IsDefined (net c)) outputs → All (IsDefined (net c)) (some_or_others bads outputs)
 some_or_defined c [] outputs a b = b
 some_or_defined c (l ∷ ls) outputs a b = a
 
 -- the literals of a property are defined
-pub property_defined : (c : Circuit) → IsCircuit c → All (IsDefined (net c)) (property_literals c)
+pub property_defined : (c : Circuit) → IsCircuit c → All (IsDefined (net c)) (property_candidates c)
 property_defined c valid = some_or_defined c c.bads c.outputs valid.defined.bads valid.defined.outputs
 
 property_same : (c : Circuit) (v w : Valuation) → IsCircuit c → SameCircuitFrame c v w → property_fails c v ≡ property_fails c w
-property_same c v w valid same = ap (λ (bs : List Bool). unwrap_or (slice_get bs 0) false) (literals_same c v w (property_literals c) same (property_defined c valid))
+property_same c v w valid same = ap (λ (bs : List Bool). unwrap_or (slice_get bs 0) false) (literals_same c v w (property_candidates c) same (property_defined c valid))
 
 pub holds_same : (c : Circuit) (v w : Valuation) → IsCircuit c → SameCircuitFrame c v w → claim_holds c v ≡ claim_holds c w
 holds_same c v w valid same = ap₂ (λ (a b : Bool). a && not b) (constraints_same c v w valid same) (property_same c v w valid same)

@@ -13,7 +13,7 @@ use Rattle.gates.specs.Reads.{read, literal_in}
 use Rattle.gates.proofs.GrowthLemmas.{Grows-trans, Satisfies-earlier, All-defined-grown}
 use Rattle.gates.proofs.LiteralLemmas.{MakesLiteral-and, MakesLiteral-same, MakesLiteral-then, MakesLiteral-join}
 use Rattle.gates.proofs.TableLemmas.{value-literal_of}
-use Rattle.certificates.specs.Certificate.{constraints_hold, bad_rises, property_literals, property_fails}
+use Rattle.certificates.specs.Certificate.{constraints_hold, bad_rises, property_candidates, property_fails}
 use Rattle.certificates.specs.Tests.{claim_holds}
 use Rattle.certificates.specs.Made.{own_initial, values, fails_by, StandFor}
 
@@ -42,13 +42,13 @@ first_of f [] h = absurd (omega arith)
 first_of f (l ∷ ls) h = refl
 
 -- the property of a witness circuit
-pub property_read : (w : Circuit) (n : Net) (table : List ℕ) (v : Valuation) → 0 < length (property_literals w) → StandFor w n table
-    → literal_value v (literal_in table (get_or (property_literals w) 0 0)) ≡ property_fails w (read table v)
-property_read w n table v some s = value-literal_of table v (get_or (property_literals w) 0 0) s.zero_is ∙ sym (first_of (literal_value (read table v)) (property_literals w) some)
+pub property_read : (w : Circuit) (n : Net) (table : List ℕ) (v : Valuation) → 0 < length (property_candidates w) → StandFor w n table
+    → literal_value v (literal_in table (get_or (property_candidates w) 0 0)) ≡ property_fails w (read table v)
+property_read w n table v some s = value-literal_of table v (get_or (property_candidates w) 0 0) s.zero_is ∙ sym (first_of (literal_value (read table v)) (property_candidates w) some)
 
 -- what it claims
-pub claim_read : (w : Circuit) (old mid new n : Net) (table : List ℕ) (met property other l : ℕ) → 0 < length (property_literals w) → StandFor w n table
-    → property ≡ literal_in table (get_or (property_literals w) 0 0) → other ≡ negation property
+pub claim_read : (w : Circuit) (old mid new n : Net) (table : List ℕ) (met property other l : ℕ) → 0 < length (property_candidates w) → StandFor w n table
+    → property ≡ literal_in table (get_or (property_candidates w) 0 0) → other ≡ negation property
     → MakesLiteral old mid (length w.constraints) (λ v. constraints_hold w (read table v)) met → MakesAnd mid new met other l
     → MakesLiteral old new (length w.constraints + 1) (λ v. claim_holds w (read table v)) l
 claim_read w old mid new n table met property other l some s is turned first second =

@@ -7,7 +7,7 @@ use Rattle.aiger.specs.Circuit.{Circuit}
 use Rattle.certificates.specs.declared.fault.TestFault.{TestFault}
 use Rattle.certificates.specs.declared.fault.TestFault.TheVariants as fault
 use Rattle.certificates.specs.Mapping.{said_by_names, are_inside}
-use Rattle.certificates.specs.Certificate.{property_literals}
+use Rattle.certificates.specs.Certificate.{property_candidates}
 use Rattle.certificates.specs.Refusal.{test_refusal, test_bound}
 
 -- the fifth of some refusals does not apply where none does
@@ -24,5 +24,5 @@ fifth false false false false false rest h = refl
 pub accepted_inside : (c : Circuit) (k : ℕ) (w : Circuit) → test_refusal c k w ≡ None → are_inside c (said_by_names w) ≡ true
 accepted_inside c k w h =
     not-false (are_inside c (said_by_names w))
-    (fifth (nat_lt 0 (length w.justice)) (nat_lt 0 (length w.fair)) (length (property_literals w) == 0) (nat_lt 1 (length (property_literals w))) (not (are_inside c (said_by_names w)))
+    (fifth (nat_lt 0 (length w.justice)) (nat_lt 0 (length w.fair)) (length (property_candidates w) == 0) (nat_lt 1 (length (property_candidates w))) (not (are_inside c (said_by_names w)))
     (if not (nat_lt k (length c.bads)) then Some fault.NoSuchBad else (if nat_lt greatest_count (test_bound c w) then Some fault.TooBig else None)) h)

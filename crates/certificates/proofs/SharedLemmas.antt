@@ -4,9 +4,9 @@ use Rattle.std.proofs.lemmas.List.FromFn.{length-map-range_with_len}
 use Rattle.aiger.specs.declared.circuit.Section.{Section}
 use Rattle.aiger.specs.declared.circuit.Section.TheVariants as section
 use Rattle.aiger.specs.Circuit.{Circuit, section_count, name_of}
-use Rattle.certificates.specs.Mapping.{IsMappingOf, Mapping, said_in, in_place, in_order, mapping_of, said_by_names, says_some, shared_literal}
+use Rattle.certificates.specs.Mapping.{IsMappingOf, Mapping, names_said_in, in_place, in_order, mapping_of, said_by_names, says_some, shared_literal}
 
-names_many : (s : Section) (w : Circuit) → length (said_in s w) ≡ section_count s w
+names_many : (s : Section) (w : Circuit) → length (names_said_in s w) ≡ section_count s w
 names_many s w = length-map-range_with_len (λ position. shared_literal (name_of w s position)) 0 (section_count s w)
 
 in_order_many : (first count all : ℕ) → length (in_order first count all) ≡ all

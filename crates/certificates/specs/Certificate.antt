@@ -20,17 +20,17 @@ abbrev pub bad_rises : Circuit → ℕ → Valuation → Bool
 bad_rises c k v = unwrap_or (slice_get (map (literal_value v) c.bads) k) false
 
 -- some literals, and where there are none others
-abbrev pub some_or : List ℕ → List ℕ → List ℕ
-some_or [] others = others
-some_or (l ∷ ls) others = l ∷ ls
+abbrev pub some_or_others : List ℕ → List ℕ → List ℕ
+some_or_others [] others = others
+some_or_others (l ∷ ls) others = l ∷ ls
 
 -- the literals of which the first is true where the property of a witness circuit fails: its bad properties, and where it has none its outputs
-abbrev pub property_literals : Circuit → List ℕ
-property_literals w = some_or w.bads w.outputs
+abbrev pub property_candidates : Circuit → List ℕ
+property_candidates w = some_or_others w.bads w.outputs
 
 -- the property of a witness circuit fails
 abbrev pub property_fails : Circuit → Valuation → Bool
-property_fails w x = unwrap_or (slice_get (map (literal_value x) (property_literals w)) 0) false
+property_fails w x = unwrap_or (slice_get (map (literal_value x) (property_candidates w)) 0) false
 
 -- it satisfies the gates, and the constraints hold
 pub record MeetsConstraints (c : Circuit) (v : Valuation) : Type 0 where

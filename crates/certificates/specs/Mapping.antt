@@ -31,11 +31,11 @@ shared_literal None = None
 shared_literal (Some name) = said_literal name
 
 -- what the names of the positions of a section say, and those of inputs and latches
-abbrev pub said_in : Section → Circuit → List (Option ℕ)
-said_in section w = map (λ position. shared_literal (name_of w section position)) (range_with_len 0 (section_count section w))
+abbrev pub names_said_in : Section → Circuit → List (Option ℕ)
+names_said_in section w = map (λ position. shared_literal (name_of w section position)) (range_with_len 0 (section_count section w))
 
 abbrev pub said_by_names : Circuit → Mapping
-said_by_names w = record { inputs = said_in section.Input w; latches = said_in section.Latch w }
+said_by_names w = record { inputs = names_said_in section.Input w; latches = names_said_in section.Latch w }
 
 -- some input or latch stands for a literal
 abbrev pub says_some : Mapping → Bool

@@ -13,8 +13,8 @@ abbrev pub mapping_in : Shared → Mapping
 mapping_in shared = record { inputs = shared.inputs.items; latches = shared.latches.items }
 
 -- the literals of parts
-abbrev pub parts_of : InputParts → TestParts ℕ
-parts_of parts =
+abbrev pub parts_of_test : InputParts → TestParts ℕ
+parts_of_test parts =
     record {
       inputs = parts.inputs.now;
       latches = parts.latches.now;

@@ -3,7 +3,7 @@ use Rattle.std.specs.Prelude.{◌≡◌, ℕ, ◌+◌, ◌==◌, length, not, Op
 use Rattle.aiger.specs.Limits.{greatest_count}
 use Rattle.aiger.specs.Circuit.{Circuit}
 use Rattle.certificates.specs.Mapping.{said_by_names, are_inside}
-use Rattle.certificates.specs.Certificate.{property_literals}
+use Rattle.certificates.specs.Certificate.{property_candidates}
 use Rattle.certificates.specs.Tests.{test_inputs, test_cost}
 use Rattle.certificates.specs.declared.fault.TestFault.{TestFault}
 use Rattle.certificates.specs.declared.fault.TestFault.TheVariants as fault
@@ -18,8 +18,8 @@ abbrev pub test_refusal : Circuit → ℕ → Circuit → Option TestFault
 test_refusal c k w =
     if nat_lt 0 (length w.justice) then Some fault.Justice
     else (if nat_lt 0 (length w.fair) then Some fault.Fair
-    else (if length (property_literals w) == 0 then Some fault.NoProperty
-    else (if nat_lt 1 (length (property_literals w)) then Some fault.SeveralProperties
+    else (if length (property_candidates w) == 0 then Some fault.NoProperty
+    else (if nat_lt 1 (length (property_candidates w)) then Some fault.SeveralProperties
     else (if not (are_inside c (said_by_names w)) then Some fault.NoSuchLiteral
     else (if not (nat_lt k (length c.bads)) then Some fault.NoSuchBad
     else (if nat_lt greatest_count (test_bound c w) then Some fault.TooBig else None))))))

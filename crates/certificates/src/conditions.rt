@@ -5,7 +5,7 @@ ghost use Rattle.aiger.specs.Net.{variables, IsDefined};
 ghost use Rattle.aiger.specs.Circuit.{net};
 ghost use Rattle.gates.specs.Made.{MakesLiteral, RefusesGate};
 ghost use Rattle.gates.specs.Reads.{read, literal_in};
-ghost use Rattle.certificates.specs.Certificate.{constraints_hold, bad_rises, property_literals};
+ghost use Rattle.certificates.specs.Certificate.{constraints_hold, bad_rises, property_candidates};
 ghost use Rattle.certificates.specs.Tests.{claim_holds};
 ghost use Rattle.certificates.specs.Made.{own_initial, fails_by, condition_cost, values, StandFor};
 
@@ -17,7 +17,7 @@ use gates::{GateFault, Gates, Table, all_hold, disjunction, literal_of};
 
 /// The literals of which the first is true where the property of a witness circuit fails.
 pub(crate) fn property_literals(witness: &Circuit) -> &[Lit]
-    ensures { result.now ≡ property_literals witness.now }
+    ensures { result.now ≡ property_candidates witness.now }
 {
     let bads = witness.bads();
     if bads.is_empty() {
@@ -38,9 +38,9 @@ fn constraints_hold<G: Gates>(g: &mut G, circuit: &Circuit, table: &Table) -> Re
 
 /// The literal that stands for the one of which the property of a witness circuit fails.
 fn property(witness: &Circuit, table: &Table) -> Lit
-    requires some { 0 < length (property_literals witness.now) }
+    requires some { 0 < length (property_candidates witness.now) }
     requires many { length table.now ≡ suc (variables (net witness.now)) }
-    ensures { result ≡ literal_in table.now (slice_index (property_literals witness.now) 0) }
+    ensures { result ≡ literal_in table.now (slice_index (property_candidates witness.now) 0) }
 {
     // what a circuit keeps
     let _ = witness.variables();
@@ -49,7 +49,7 @@ fn property(witness: &Circuit, table: &Table) -> Lit
 
 /// The literal that says that the constraints of a witness circuit hold, and its property.
 fn claim_holds<G: Gates>(g: &mut G, witness: &Circuit, table: &Table) -> Result<Lit, GateFault>
-    requires some { 0 < length (property_literals witness.now) }
+    requires some { 0 < length (property_candidates witness.now) }
     requires stand { StandFor witness.now (G.made g.old) table.now }
     ensures ok { IfOk result (MakesLiteral (G.made g.old) (G.made g.new) (length witness.now.constraints + 1) (λ v. claim_holds witness.now (read table.now v))) }
     ensures refused { IfErr result (RefusesGate (G.made g.old) (G.made g.new) (length witness.now.constraints + 1)) }
@@ -132,7 +132,7 @@ pub(crate) fn condition_fails<G: Gates>(
     next: &Frames,
 ) -> Result<Lit, GateFault>
     requires bad { bad < length circuit.now.bads }
-    requires property { 0 < length (property_literals witness.now) }
+    requires property { 0 < length (property_candidates witness.now) }
     requires latches { length latches.now ≡ length circuit.now.latches }
     requires own_latches { length own_latches.now ≡ length witness.now.latches }
     requires latches_defined { All (IsDefined (G.made g.old)) latches.now }

@@ -5,10 +5,10 @@ ghost use Rattle.aiger.specs.Net.{IsDefined};
 ghost use Rattle.aiger.specs.Circuit.{IsCircuit, net, with_bad};
 ghost use Rattle.gates.specs.Made.{RefusesGate};
 ghost use Rattle.certificates.specs.Mapping.{IsMappingOf, mapping_of};
-ghost use Rattle.certificates.specs.Certificate.{property_literals};
+ghost use Rattle.certificates.specs.Certificate.{property_candidates};
 ghost use Rattle.certificates.specs.Tests.{test_inputs, test_cost, IsTestOf};
 ghost use Rattle.certificates.specs.Made.{IsSharedIn, AreAsMany, all_parts, IsMadeFrom};
-ghost use Rattle.certificates.specs.Parts.{mapping_in, parts_of, bare_test};
+ghost use Rattle.certificates.specs.Parts.{mapping_in, parts_of_test, bare_test};
 ghost use Rattle.certificates.specs.Refusal.{test_refusal, AnswersTest};
 
 use crate::conditions::{condition_fails, property_literals};
@@ -65,8 +65,8 @@ struct InputParts<'a> {
 /// The literals of the inputs of a test, cut into parts.
 fn cut<'a>(circuit: &Circuit, witness: &Circuit, all: &'a [Lit]) -> InputParts<'a>
     requires { length all.now ≡ test_inputs circuit.now witness.now }
-    ensures parts { all_parts (parts_of result) ≡ all.now }
-    ensures many { AreAsMany circuit.now witness.now (parts_of result) }
+    ensures parts { all_parts (parts_of_test result) ≡ all.now }
+    ensures many { AreAsMany circuit.now witness.now (parts_of_test result) }
 {
     let (inputs, rest) = all.split_at(circuit.inputs() as usize);
     let (latches, rest) = rest.split_at(circuit.latches().len());
@@ -94,13 +94,13 @@ fn make<G: Gates>(
     parts: InputParts<'_>,
 ) -> Result<Lit, GateFault>
     requires bad { bad < length circuit.now.bads }
-    requires property { 0 < length (property_literals witness.now) }
+    requires property { 0 < length (property_candidates witness.now) }
     requires mapping { IsMappingOf witness.now (mapping_in shared.now) }
     requires inputs_inside { All (IsSharedIn (net circuit.now)) shared.now.inputs.items }
     requires latches_inside { All (IsSharedIn (net circuit.now)) shared.now.latches.items }
-    requires many { AreAsMany circuit.now witness.now (parts_of parts) }
-    requires defined { All (IsDefined (G.made g.old)) (all_parts (parts_of parts)) }
-    ensures ok { IfOk result (λ l. IsMadeFrom circuit.now bad witness.now (mapping_in shared.now) (parts_of parts.entry) (G.made g.old) (G.made g.new) l) }
+    requires many { AreAsMany circuit.now witness.now (parts_of_test parts) }
+    requires defined { All (IsDefined (G.made g.old)) (all_parts (parts_of_test parts)) }
+    ensures ok { IfOk result (λ l. IsMadeFrom circuit.now bad witness.now (mapping_in shared.now) (parts_of_test parts.entry) (G.made g.old) (G.made g.new) l) }
     ensures refused { IfErr result (RefusesGate (G.made g.old) (G.made g.new) (test_cost circuit.now witness.now)) }
 {
     let first = first_frames(

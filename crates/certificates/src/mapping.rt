@@ -5,7 +5,7 @@ ghost use Rattle.std.specs.Prelude.{is_some, Option, ℕ};
 ghost use Rattle.aiger.specs.Limits.{greatest_count};
 ghost use Rattle.aiger.specs.Net.{variables};
 ghost use Rattle.aiger.specs.Circuit.{net, name_of};
-ghost use Rattle.certificates.specs.Mapping.{said_literal, shared_literal, said_in, said_by_names, is_inside, are_inside, in_place, in_order, mapping_of};
+ghost use Rattle.certificates.specs.Mapping.{said_literal, shared_literal, names_said_in, said_by_names, is_inside, are_inside, in_place, in_order, mapping_of};
 
 use aiger::{Circuit, Lit, Section};
 use base::decimal;
@@ -53,7 +53,7 @@ fn is_inside(circuit: &Circuit, said: Option<u64>) -> bool
 
 /// Whether all names of a section say literals of the circuit, or none.
 fn are_said_inside(circuit: &Circuit, witness: &Circuit, section: Section) -> bool
-    ensures { result ≡ list_all (is_inside (variables (net circuit.now))) (said_in section witness.now) }
+    ensures { result ≡ list_all (is_inside (variables (net circuit.now))) (names_said_in section witness.now) }
 {
     for position in 0..witness.count(section) {
         if !is_inside(circuit, shared_literal(witness, section, position)) {
@@ -73,7 +73,7 @@ pub(crate) fn are_inside(circuit: &Circuit, witness: &Circuit) -> bool
 
 /// Whether some name of a section says a literal.
 fn says_some_in(witness: &Circuit, section: Section) -> bool
-    ensures { result ≡ list_any (λ (l : Option ℕ). is_some l) (said_in section witness.now) }
+    ensures { result ≡ list_any (λ (l : Option ℕ). is_some l) (names_said_in section witness.now) }
 {
     for position in 0..witness.count(section) {
         if shared_literal(witness, section, position).is_some() {
@@ -105,8 +105,8 @@ fn said_in(
     witness: &Circuit,
     section: Section,
 ) -> Result<Vec<Option<Lit>>, AllocError>
-    requires { list_all (is_inside (variables (net circuit.now))) (said_in section witness.now) ≡ true }
-    ensures { IfOk result (λ said. said.items ≡ said_in section witness.now) }
+    requires { list_all (is_inside (variables (net circuit.now))) (names_said_in section witness.now) ≡ true }
+    ensures { IfOk result (λ said. said.items ≡ names_said_in section witness.now) }
 {
     let mut said = Vec::new(alloc);
     for position in 0..witness.count(section) {

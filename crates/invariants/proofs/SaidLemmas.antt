@@ -16,7 +16,7 @@ use Rattle.invariants.specs.declared.why.InvariantWhy.TheVariants as why
 use Rattle.invariants.specs.Invariants.{asks_one}
 use Rattle.invariants.specs.Reading.{line_words, sole, value_behind, decimal_of, behind_key, named_latches, is_part, part_of, cube_of, is_word_one, parts_of, asking, cube_or_why, CubesReading, at_start, with_width, with_outputs, with_count, with_names, with_output_name, with_cube, with_line, admit_cube_line, is_ended, ended, read_cube_lines, read_cubes}
 use Rattle.invariants.specs.Reader.{GivesCubes, lines_begun}
-use Rattle.invariants.specs.Texts.{is_told, names_line, NamesLatch, part_byte, part_literals, cube_line, cube_literals, Pla, pla_lines, SaysCubes}
+use Rattle.invariants.specs.Texts.{tells_something, names_line, NamesLatch, part_byte, part_literals, cube_line, cube_literals, Pla, pla_lines, SaysCubes}
 use Rattle.invariants.proofs.WordLemmas.{words-none, words-blank, words-some}
 use Rattle.invariants.proofs.SaidWordLemmas.{joined, words_joined, decimal_line, decimal_read, value_line, value_read}
 use Rattle.invariants.proofs.SaidNameLemmas.{SaysLatches, latches_said, latches_read}
@@ -243,7 +243,7 @@ at_output width left named = record { expected = expect.Output; width = width; l
 
 -- the lines of a text say cubes
 all_said : (latches : ℕ) (text width count output line named : List ℕ) (n m : ℕ) (more cubes : List (List ℕ))
-    → filter is_told (all_lines text) ≡ (codes ".i " ++ width) ∷ codes ".o 1" ∷ (codes ".p " ++ count) ∷ line ∷ (codes ".ob " ++ output) ∷ more
+    → filter tells_something (all_lines text) ≡ (codes ".i " ++ width) ∷ codes ".o 1" ∷ (codes ".p " ++ count) ∷ line ∷ (codes ".ob " ++ output) ∷ more
     → number_of width ≡ Some n → number_of count ≡ Some m → SaysLatches latches n line named → HasNone 32 output → SaysRows named n m [] more cubes → SaysCubes latches text cubes
 all_said latches text width count output line named n m more cubes lines w c latch_names bare rows =
     record {
@@ -264,7 +264,7 @@ all_said latches text width count output line named n m more cubes lines w c lat
     }
 
 -- and so do those that are read from each line on, the last one first
-output_on : (latches : ℕ) (text width count names named : List ℕ) (n m : ℕ) (lines cubes : List (List ℕ)) → filter is_told (all_lines text) ≡ (codes ".i " ++ width) ∷ codes ".o 1" ∷ (codes ".p " ++ count) ∷ names ∷ lines
+output_on : (latches : ℕ) (text width count names named : List ℕ) (n m : ℕ) (lines cubes : List (List ℕ)) → filter tells_something (all_lines text) ≡ (codes ".i " ++ width) ∷ codes ".o 1" ∷ (codes ".p " ++ count) ∷ names ∷ lines
     → number_of width ≡ Some n → number_of count ≡ Some m → SaysLatches latches n names named → tells latches (Ok (at_output n m named)) lines ≡ Some cubes → SaysCubes latches text cubes
 output_on latches text width count names named n m [] cubes is w c own e = absurd (cc)
 output_on latches text width count names named n m (line ∷ more) cubes is w c own e = by (value_behind (codes ".ob") line) refl e
@@ -276,7 +276,7 @@ output_on latches text width count names named n m (line ∷ more) cubes is w c 
         all_said latches text width count output names named n m more cubes (is ∙ ap (λ (l : List ℕ). (codes ".i " ++ width) ∷ codes ".o 1" ∷ (codes ".p " ++ count) ∷ names ∷ l ∷ more) word.0)
         w c own word.1 (rows_said latches n m named [] more cubes e)
 
-names_on : (latches : ℕ) (text width count : List ℕ) (n m : ℕ) (lines cubes : List (List ℕ)) → filter is_told (all_lines text) ≡ (codes ".i " ++ width) ∷ codes ".o 1" ∷ (codes ".p " ++ count) ∷ lines
+names_on : (latches : ℕ) (text width count : List ℕ) (n m : ℕ) (lines cubes : List (List ℕ)) → filter tells_something (all_lines text) ≡ (codes ".i " ++ width) ∷ codes ".o 1" ∷ (codes ".p " ++ count) ∷ lines
     → number_of width ≡ Some n → number_of count ≡ Some m → tells latches (Ok (at_names n m)) lines ≡ Some cubes → SaysCubes latches text cubes
 names_on latches text width count n m [] cubes is w c e = absurd (cc)
 names_on latches text width count n m (line ∷ more) cubes is w c e = by (named_latches latches n (behind_key (codes ".ilb") (line_words line))) refl e
@@ -285,7 +285,7 @@ names_on latches text width count n m (line ∷ more) cubes is w c e = by (named
     by (Err why) found e = absurd (cc)
     by (Ok named) found e = output_on latches text width count line named n m more cubes is w c (latches_said latches n line named found) e
 
-count_on : (latches : ℕ) (text width : List ℕ) (n : ℕ) (lines cubes : List (List ℕ)) → filter is_told (all_lines text) ≡ (codes ".i " ++ width) ∷ codes ".o 1" ∷ lines
+count_on : (latches : ℕ) (text width : List ℕ) (n : ℕ) (lines cubes : List (List ℕ)) → filter tells_something (all_lines text) ≡ (codes ".i " ++ width) ∷ codes ".o 1" ∷ lines
     → number_of width ≡ Some n → tells latches (Ok (at_count n)) lines ≡ Some cubes → SaysCubes latches text cubes
 count_on latches text width n [] cubes is w e = absurd (cc)
 count_on latches text width n (line ∷ more) cubes is w e = by (decimal_of (value_behind (codes ".p") line)) refl e
@@ -296,7 +296,7 @@ count_on latches text width n (line ∷ more) cubes is w e = by (decimal_of (val
         let word = decimal_line (codes ".p") line m found in
         names_on latches text width word.0 n m more cubes (is ∙ ap (λ (l : List ℕ). (codes ".i " ++ width) ∷ codes ".o 1" ∷ l ∷ more) word.1) w word.2 e
 
-outputs_on : (latches : ℕ) (text width : List ℕ) (n : ℕ) (lines cubes : List (List ℕ)) → filter is_told (all_lines text) ≡ (codes ".i " ++ width) ∷ lines
+outputs_on : (latches : ℕ) (text width : List ℕ) (n : ℕ) (lines cubes : List (List ℕ)) → filter tells_something (all_lines text) ≡ (codes ".i " ++ width) ∷ lines
     → number_of width ≡ Some n → tells latches (Ok (at_outputs n)) lines ≡ Some cubes → SaysCubes latches text cubes
 outputs_on latches text width n [] cubes is w e = absurd (cc)
 outputs_on latches text width n (line ∷ more) cubes is w e = by (value_behind (codes ".o") line) refl e
@@ -311,7 +311,7 @@ outputs_on latches text width n (line ∷ more) cubes is w e = by (value_behind 
     by None found e = absurd (cc)
     by (Some word) found e = one word (bytes_eq word (codes "1")) found refl e
 
-lines_said : (latches : ℕ) (text : List ℕ) (lines cubes : List (List ℕ)) → filter is_told (all_lines text) ≡ lines → tells latches (Ok at_start) lines ≡ Some cubes → SaysCubes latches text cubes
+lines_said : (latches : ℕ) (text : List ℕ) (lines cubes : List (List ℕ)) → filter tells_something (all_lines text) ≡ lines → tells latches (Ok at_start) lines ≡ Some cubes → SaysCubes latches text cubes
 lines_said latches text [] cubes is e = absurd (cc)
 lines_said latches text (line ∷ more) cubes is e = by (decimal_of (value_behind (codes ".i") line)) refl e
   where
@@ -357,26 +357,26 @@ ended_told latches number (Ok r) = by (is_ended r.expected)
     by false = refl
 
 -- a line is passed over where it tells nothing
-told_more : (latches : ℕ) (r : CubesReading) (line : List ℕ) (rest : List (List ℕ)) → tells latches (admit_cube_line latches r line) (filter is_told rest) ≡ tells latches (Ok r) (filter is_told (line ∷ rest))
+told_more : (latches : ℕ) (r : CubesReading) (line : List ℕ) (rest : List (List ℕ)) → tells latches (admit_cube_line latches r line) (filter tells_something rest) ≡ tells latches (Ok r) (filter tells_something (line ∷ rest))
 told_more latches r [] rest = refl
 told_more latches r (b ∷ bs) rest = by (b == 35)
   where
-    by : (x : Bool) → tells latches (if x then Ok r else with_line r.expected latches r (b ∷ bs)) (filter is_told rest) ≡ tells latches (Ok r) (cond (not x) ((b ∷ bs) ∷ filter is_told rest) (filter is_told rest))
+    by : (x : Bool) → tells latches (if x then Ok r else with_line r.expected latches r (b ∷ bs)) (filter tells_something rest) ≡ tells latches (Ok r) (cond (not x) ((b ∷ bs) ∷ filter tells_something rest) (filter tells_something rest))
     by true = refl
     by false = refl
 
-lines_told : (latches number : ℕ) (a : Result CubesReading InvariantWhy) (lines : List (List ℕ)) (last : List ℕ) → read_of (read_cube_lines latches number a lines last) ≡ tells latches a (filter is_told (lines ++ last ∷ []))
+lines_told : (latches number : ℕ) (a : Result CubesReading InvariantWhy) (lines : List (List ℕ)) (last : List ℕ) → read_of (read_cube_lines latches number a lines last) ≡ tells latches a (filter tells_something (lines ++ last ∷ []))
 unfolding read_of
 lines_told latches number (Err e) lines last = refl
 lines_told latches number (Ok r) [] last = ended_told latches (line_after number) (admit_cube_line latches r last) ∙ told_more latches r last []
 lines_told latches number (Ok r) (line ∷ more) last = lines_told latches (line_after number) (admit_cube_line latches r line) more last ∙ told_more latches r line (more ++ last ∷ [])
 
 -- an end without a byte tells nothing
-same_lines : (lines : List (List ℕ)) (last : List ℕ) → filter is_told (lines ++ last ∷ []) ≡ filter is_told (lines ++ (if is_nothing last then [] else last ∷ []))
-same_lines lines [] = filter-append is_told lines ([] ∷ []) ∙ sym (filter-append is_told lines [])
+same_lines : (lines : List (List ℕ)) (last : List ℕ) → filter tells_something (lines ++ last ∷ []) ≡ filter tells_something (lines ++ (if is_nothing last then [] else last ∷ []))
+same_lines lines [] = filter-append tells_something lines ([] ∷ []) ∙ sym (filter-append tells_something lines [])
 same_lines lines (b ∷ bs) = refl
 
-text_told : (latches : ℕ) (text : List ℕ) → read_of (read_cubes latches text) ≡ tells latches (Ok at_start) (filter is_told (all_lines text))
+text_told : (latches : ℕ) (text : List ℕ) → read_of (read_cubes latches text) ≡ tells latches (Ok at_start) (filter tells_something (all_lines text))
 text_told latches text = lines_told latches 0 (Ok at_start) (whole_lines text) (unfinished text) ∙ ap (tells latches (Ok at_start)) (same_lines (whole_lines text) (unfinished text))
 
 pub said : (latches : ℕ) (text : List ℕ) (cubes : List (List ℕ)) → SaysCubes latches text cubes → read_cubes latches text ≡ Ok cubes
@@ -389,7 +389,7 @@ said latches text cubes says =
 
 pub read : (latches : ℕ) (text : List ℕ) (cubes : List (List ℕ)) → read_cubes latches text ≡ Ok cubes → SaysCubes latches text cubes
 unfolding read_of
-read latches text cubes e = lines_said latches text (filter is_told (all_lines text)) cubes refl (sym (text_told latches text) ∙ ap read_of e)
+read latches text cubes e = lines_said latches text (filter tells_something (all_lines text)) cubes refl (sym (text_told latches text) ∙ ap read_of e)
 
 -- the same of known bytes, before which nothing was read
 pub gives_said : (latches : ℕ) (known : Option (List ℕ)) (cubes : List (List ℕ)) → GivesCubes 0 (lines_begun latches) known (Ok cubes) → IfSome known (λ text. SaysCubes latches text cubes)

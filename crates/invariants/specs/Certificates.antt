@@ -100,10 +100,10 @@ pub record OwesSome (c : Circuit) (k : ℕ) (invariant : Option (List ℕ)) : Ty
   pub is_owed : IsOwed c k invariant formula
 
 -- why a certificate is not judged: its invariant owes no formula; or it owes one, and its proof is not judged, since a growth was refused or the source failed
-abbrev pub IsUnjudged : Circuit → ℕ → Option (List ℕ) → CertificateFault → Type 0
-IsUnjudged c k invariant (certificate.Claim e) = OwesNone c k invariant e
-IsUnjudged c k invariant (certificate.Judge e) = OwesSome c k invariant
-IsUnjudged c k invariant certificate.Device = OwesSome c k invariant
+abbrev pub IsNotCertified : Circuit → ℕ → Option (List ℕ) → CertificateFault → Type 0
+IsNotCertified c k invariant (certificate.Claim e) = OwesNone c k invariant e
+IsNotCertified c k invariant (certificate.Judge e) = OwesSome c k invariant
+IsNotCertified c k invariant certificate.Device = OwesSome c k invariant
 
 -- a fault is none of the invariant
 abbrev pub IsOfProof : CertificateFault → Type 0

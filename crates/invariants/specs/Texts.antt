@@ -7,9 +7,9 @@ use Rattle.base.specs.Decimals.{number_of, digits_number}
 use Rattle.invariants.specs.Invariants.{asks_one}
 
 -- a line tells something: it has a byte, and does not begin with `#`
-abbrev pub is_told : List ℕ → Bool
-is_told [] = false
-is_told (b ∷ bs) = not (b == 35)
+abbrev pub tells_something : List ℕ → Bool
+tells_something [] = false
+tells_something (b ∷ bs) = not (b == 35)
 
 -- the line of the latches' names, each `lo` and digits
 abbrev pub names_line : List (List ℕ) → List ℕ
@@ -57,7 +57,7 @@ pla_lines p =
 pub record SaysCubes (latches : ℕ) (text : List ℕ) (cubes : List (List ℕ)) : Type 0 where
   pub pla : Pla
   pub named : List ℕ
-  pub lines : filter is_told (all_lines text) ≡ pla_lines pla
+  pub lines : filter tells_something (all_lines text) ≡ pla_lines pla
   pub names : AllZip NamesLatch pla.names named
   pub there : All (λ k. k < latches) named
   pub once : IsDistinct nat_eq named

@@ -4,7 +4,7 @@ ghost use Rattle.std.specs.Io.KnownBytes.{IsAtEnd};
 ghost use Rattle.base.specs.Device.{CountsFaults};
 ghost use Rattle.aiger.specs.Reachability.{CanRiseInCircuit};
 ghost use Rattle.clauses.specs.declared.judgement.Judgement.TheVariants as judgement;
-ghost use Rattle.invariants.specs.Certificates.{CountsCertificate, IsCertified, IsJudgedProof, IsUnjudged, IsOfProof, WithoutFormOf, WithoutFormula};
+ghost use Rattle.invariants.specs.Certificates.{CountsCertificate, IsCertified, IsJudgedProof, IsNotCertified, IsOfProof, WithoutFormOf, WithoutFormula};
 ghost use Rattle.invariants.specs.Feeding.{FedAll};
 
 use crate::certificate_fault::CertificateFault;
@@ -73,7 +73,7 @@ pub fn judge_certificate<S: Source, P: Source>(
     // where the proof is one, the property never rises
     ensures holds { IfOk result (λ j. (line : ℕ) → j ≡ judgement.Derived line → ¬ CanRiseInCircuit circuit.now bad) }
     ensures end { OnOk result (IsAtEnd (S.to_come invariant.new) × IsAtEnd (P.to_come proof.new)) }
-    ensures fault { IfErr result (IsUnjudged circuit.now bad (S.to_come invariant.old)) }
+    ensures fault { IfErr result (IsNotCertified circuit.now bad (S.to_come invariant.old)) }
     ensures unread { WithoutFormOf result (invariant.new ≡ invariant.old) }
     ensures proof_unread { WithoutFormula result (proof.new ≡ proof.old) }
     // the source failed once whose fault is told, and else none

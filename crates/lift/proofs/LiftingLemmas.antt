@@ -9,7 +9,7 @@ use Rattle.btor2.specs.declared.item.Item.{Item}
 use Rattle.aiger.specs.Circuit.{Circuit}
 use Rattle.witness.specs.Readings.{reading}
 use Rattle.lift.specs.Lifted.{lifted_with}
-use Rattle.lift.specs.Stands.{Lifter, LiftsWith, TakesLine}
+use Rattle.lift.specs.Stands.{Lifter, LiftsWith, TakesSourceLine}
 use Rattle.lift.proofs.LineLemmas.{lifted_begins}
 
 -- ---- what a source gives
@@ -50,11 +50,11 @@ given_more source source' source'' old mid now kept mid_kept left before l after
 
 -- the whole source was given
 pub all_taken : (T E : Type 0) (x : T) (source source' source'' old now : Option (List ℕ)) (kept left : List ℕ) (before after : Lifter) (n : ℕ) (buf : List ℕ) → Given source source' old now kept left before after
-    → Consumes source' source'' (take n buf) → n ≡ 0 → IsAtEnd source'' → IfSome source (TakesLine {T = T} {E = E} (Ok x) old now kept left before after)
+    → Consumes source' source'' (take n buf) → n ≡ 0 → IsAtEnd source'' → IfSome source (TakesSourceLine {T = T} {E = E} (Ok x) old now kept left before after)
 all_taken T E x source source' source'' old now kept left before after n buf g consumes none end =
     let nothing : Consumes source' source'' [] = subst (λ (k : ℕ). Consumes source' source'' (take k buf)) none consumes in
     let all : Consumes source source'' g.front = subst (Consumes source source'') (append-nil g.front) (Consumes-trans source source' source'' g.front [] g.consumes nothing) in
-    Consumes-whole source source'' g.front (TakesLine {T = T} {E = E} (Ok x) old now kept left before after) all end (record { takes = λ {named} items c text start h s. g.takes named items c text start h s })
+    Consumes-whole source source'' g.front (TakesSourceLine {T = T} {E = E} (Ok x) old now kept left before after) all end (record { takes = λ {named} items c text start h s. g.takes named items c text start h s })
 
 begun_longer : (named : Bool) (items : List Item) (c : Circuit) (text front rest : List ℕ) (start now : Option (List ℕ)) → AppendsBeginning start now (lifted_with named items c (text ++ front)) → AppendsBeginning start now (lifted_with named items c (text ++ (front ++ rest)))
 begun_longer named items c text front rest start now h =
@@ -63,9 +63,9 @@ begun_longer named items c text front rest start now h =
 
 -- the source failed
 pub read_failed : (T E : Type 0) (e : E) (source source' old now : Option (List ℕ)) (kept left : List ℕ) (before after : Lifter) → Given source source' old now kept left before after
-    → IfSome source (TakesLine {T = T} {E = E} (Err e) old now kept left before after)
+    → IfSome source (TakesSourceLine {T = T} {E = E} (Err e) old now kept left before after)
 read_failed T E e source source' old now kept left before after g =
-    part_given source source' g.front (TakesLine {T = T} {E = E} (Err e) old now kept left before after) g.consumes
+    part_given source source' g.front (TakesSourceLine {T = T} {E = E} (Err e) old now kept left before after) g.consumes
     (λ rest. record {
       takes = λ {named} items c text start h s.
           let one = (g.takes named items c text start h s).1 in
@@ -76,9 +76,9 @@ read_failed T E e source source' old now kept left before after g =
 pub write_failed : (T E : Type 0) (e : E) (source source' source'' old mid now : Option (List ℕ)) (kept mid_kept left : List ℕ) (before l after : Lifter) (more : List ℕ)
     → Given source source' old mid kept mid_kept before l → Consumes source' source'' more
     → ((named : Bool) (items : List Item) (c : Circuit) (text : List ℕ) (start : Option (List ℕ)) → LiftsWith named items c l text → Sent start mid (lifted_with named items c text) mid_kept → AppendsBeginning start now (lifted_with named items c (text ++ more)))
-    → IfSome source (TakesLine {T = T} {E = E} (Err e) old now kept left before after)
+    → IfSome source (TakesSourceLine {T = T} {E = E} (Err e) old now kept left before after)
 write_failed T E e source source' source'' old mid now kept mid_kept left before l after more g consumes fails =
-    part_given source source'' (g.front ++ more) (TakesLine {T = T} {E = E} (Err e) old now kept left before after) (Consumes-trans source source' source'' g.front more g.consumes consumes)
+    part_given source source'' (g.front ++ more) (TakesSourceLine {T = T} {E = E} (Err e) old now kept left before after) (Consumes-trans source source' source'' g.front more g.consumes consumes)
     (λ rest. record {
       takes = λ {named} items c text start h s.
           let one = g.takes named items c text start h s in
@@ -103,7 +103,7 @@ written_end (Ok x) named items c old mid new left text after h s ok err =
 written_end (Err e) named items c old mid new left text after h s ok err = rest_fails old mid new (lifted_with named items c text) left s err
 
 pub through_end : (T E S F : Type 0) (x : S) (r : Result T E) (named : Bool) (items : List Item) (c : Circuit) (source old mid new : Option (List ℕ)) (left : List ℕ) (before after : Lifter) → LiftsWith named items c before []
-    → IfSome source (TakesLine {T = S} {E = F} (Ok x) old mid [] left before after) → OnOk r (Appends mid new left) → OnErr r (AppendsBeginning mid new left)
+    → IfSome source (TakesSourceLine {T = S} {E = F} (Ok x) old mid [] left before after) → OnOk r (Appends mid new left) → OnErr r (AppendsBeginning mid new left)
     → IfSome source (λ text. MatchResult r (λ x. LiftsWith named items c after text × Appends old new (lifted_with named items c text)) (λ e. AppendsBeginning old new (lifted_with named items c text)))
 through_end T E S F x r named items c None old mid new left before after h t ok err = tt
 through_end T E S F x r named items c (Some text) old mid new left before after h t ok err =
@@ -111,6 +111,6 @@ through_end T E S F x r named items c (Some text) old mid new left before after 
     written_end r named items c old mid new left text after one.0 one.1 ok err
 
 pub through_fault : (S F : Type 0) (e : F) (named : Bool) (items : List Item) (c : Circuit) (source old new : Option (List ℕ)) (left : List ℕ) (before after : Lifter) → LiftsWith named items c before []
-    → IfSome source (TakesLine {T = S} {E = F} (Err e) old new [] left before after) → IfSome source (λ text. AppendsBeginning old new (lifted_with named items c text))
+    → IfSome source (TakesSourceLine {T = S} {E = F} (Err e) old new [] left before after) → IfSome source (λ text. AppendsBeginning old new (lifted_with named items c text))
 through_fault S F e named items c None old new left before after h t = tt
 through_fault S F e named items c (Some text) old new left before after h t = t.takes items c [] old h (sent_nothing named items c old)

@@ -34,7 +34,7 @@ admitted_piece admitted l number = if admitted then kept_piece l.named l.items n
 
 -- Of what a sink was given since it had the first bytes: the lifted text of a text was put, but for a rest that is kept. A call that takes bytes behind the
 -- text puts what is lifted of them; at a fault a beginning of the lifted text was written.
-pub record TakesLine {T E : Type 0} (r : Result T E) (old new : Option (List ℕ)) (kept left : List ℕ) (before after : Lifter) (bytes : List ℕ) : Type 0 where
+pub record TakesSourceLine {T E : Type 0} (r : Result T E) (old new : Option (List ℕ)) (kept left : List ℕ) (before after : Lifter) (bytes : List ℕ) : Type 0 where
   pub takes : {named : Bool} → (items : List Item) (c : Circuit) (text : List ℕ) (start : Option (List ℕ)) → LiftsWith named items c before text → Sent start old (lifted_with named items c text) kept
       → MatchResult r
       (λ x. LiftsWith named items c after (text ++ bytes) × Sent start new (lifted_with named items c (text ++ bytes)) left)

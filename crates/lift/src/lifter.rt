@@ -8,7 +8,7 @@ ghost use Rattle.aiger.specs.Circuit.{Circuit};
 ghost use Rattle.witness.specs.BitJudgements.{BitJudges};
 ghost use Rattle.witness.specs.Texts.{shape_of, has_free};
 ghost use Rattle.rises.specs.FirstRises.{AreBitFirstRises};
-ghost use Rattle.lift.specs.Stands.{LiftsWith, TakesLine, admitted_piece};
+ghost use Rattle.lift.specs.Stands.{LiftsWith, TakesSourceLine, admitted_piece};
 
 use crate::kept::KeptLine;
 use crate::pieces::{has_free, put_piece};
@@ -124,7 +124,7 @@ impl<'a> Lifter<'a> {
     ) -> Result<(), DeviceFault>
         requires is_line { IsLine line.now }
         requires whole { whole.now ≡ line.now ++ 10 ∷ [] }
-        ensures takes { TakesLine result (K.written sink.old) (K.written sink.new) outbox.old outbox.new self.old self.new (line.now ++ 10 ∷ []) }
+        ensures takes { TakesSourceLine result (K.written sink.old) (K.written sink.new) outbox.old outbox.new self.old self.new (line.now ++ 10 ∷ []) }
         ensures failures { CountsFaults result (K.failures sink.old) (K.failures sink.new) }
     {
         self.kept.take(line);
@@ -143,7 +143,7 @@ impl<'a> Lifter<'a> {
         sink: &mut K,
         bytes: &[u8],
     ) -> Result<(), DeviceFault>
-        ensures takes { TakesLine result (K.written sink.old) (K.written sink.new) outbox.old outbox.new self.old self.new bytes.now }
+        ensures takes { TakesSourceLine result (K.written sink.old) (K.written sink.new) outbox.old outbox.new self.old self.new bytes.now }
         ensures failures { CountsFaults result (K.failures sink.old) (K.failures sink.new) }
     {
         let mut rest = bytes;

@@ -8,7 +8,7 @@ ghost use Rattle.witness.specs.Accepted.{BitAcceptsExactly};
 ghost use Rattle.rises.specs.FirstRises.{AreBitFirstRises};
 ghost use Rattle.lift.specs.Answers.{CountsLift};
 ghost use Rattle.lift.specs.Lifted.{lifted_text, lifted_with, named_text};
-ghost use Rattle.lift.specs.Stands.{TakesLine, LiftsAll};
+ghost use Rattle.lift.specs.Stands.{TakesSourceLine, LiftsAll};
 ghost use Rattle.lift.specs.Verdicts.{KeepsVerdict, KeepsVerdictIn};
 
 use crate::fault::LiftFault;
@@ -33,7 +33,7 @@ fn take_piece<K: Sink>(
     sink: &mut K,
     bytes: &[u8],
 ) -> Result<(), LiftFault>
-    ensures takes { TakesLine result (K.written sink.old) (K.written sink.new) outbox.old outbox.new lifter.old lifter.new bytes.now }
+    ensures takes { TakesSourceLine result (K.written sink.old) (K.written sink.new) outbox.old outbox.new lifter.old lifter.new bytes.now }
     ensures fault { IfErr result (λ e. e ≡ LiftFault.Write) }
     ensures failures { CountsFaults result (K.failures sink.old) (K.failures sink.new) }
 {
@@ -52,7 +52,7 @@ fn lift_all<S: Source, K: Sink>(
     source: &mut S,
     sink: &mut K,
 ) -> Result<(), LiftFault>
-    ensures takes { IfSome (S.to_come source.old) (TakesLine result (K.written sink.old) (K.written sink.new) outbox.old outbox.new lifter.old lifter.new) }
+    ensures takes { IfSome (S.to_come source.old) (TakesSourceLine result (K.written sink.old) (K.written sink.new) outbox.old outbox.new lifter.old lifter.new) }
     ensures end { OnOk result (IsAtEnd (S.to_come source.new)) }
     ensures fault { IfErr result (λ e. e ≡ LiftFault.NoMemory → ⊥) }
     ensures counted { CountsLift result (S.failures source.old) (S.failures source.new) (K.failures sink.old) (K.failures sink.new) }

@@ -20,7 +20,7 @@ use Rattle.invariants.specs.declared.claim_fault.ClaimFault.{ClaimFault}
 use Rattle.invariants.specs.declared.claim_fault.ClaimFault.TheVariants as claim
 use Rattle.invariants.specs.declared.certificate_fault.CertificateFault.{CertificateFault}
 use Rattle.invariants.specs.declared.certificate_fault.CertificateFault.TheVariants as certificate
-use Rattle.invariants.specs.Certificates.{IsCertified, IsUnjudged, OwesNone, OwesNoneOver}
+use Rattle.invariants.specs.Certificates.{IsCertified, IsNotCertified, OwesNone, OwesNoneOver}
 use Rattle.tasks.specs.declared.answers.Answer.{Answer}
 use Rattle.tasks.specs.declared.answers.Answer.TheVariants as answer
 use Rattle.orders.specs.declared.tasks.Given.{Given}
@@ -28,7 +28,7 @@ use Rattle.orders.specs.declared.tasks.Given.TheVariants as given
 use Rattle.tasks.specs.declared.refusals.Fault.{Fault}
 use Rattle.tasks.specs.declared.refusals.Refusal.{Refusal}
 use Rattle.tasks.specs.declared.refusals.Refusal.TheVariants as refusal
-use Rattle.tasks.specs.Certificates.{Certifies, CertifiesWith, GivesCircuit, IfDone, IsSoDerived, LowersFirst, NeverRises, given_said, verdict_line}
+use Rattle.tasks.specs.Certificates.{Certifies, CertifiesWith, GivesItsCircuit, IfDone, IsSoDerived, LowersFirst, NeverRises, given_said, verdict_line}
 use Rattle.tasks.specs.Conversions.{of_certificate, of_claim, of_engine_form, of_invariant_for, of_obligation}
 use Rattle.tasks.specs.Refusals.{IsFaultyFor, IsFaultyOver}
 use Rattle.tasks.specs.Statuses.{IfSecond}
@@ -67,7 +67,7 @@ refuses_invariant c k invariant (claim.Obligation e) h =
     with_form c k invariant h.form (of_obligation e) (λ f faulty. record { form = h.form; is_form = h.is_form; faulty = faulty }) (faulty_cubes h.form invariant e h.owes_none)
 
 -- the same of a certificate that is not judged
-pub certificate_refuses_invariant : (c : Circuit) (k : ℕ) (invariant : Option (List ℕ)) (e : CertificateFault) → IsUnjudged c k invariant e → IfSecond (IsFaultyFor c k invariant) (of_certificate e)
+pub certificate_refuses_invariant : (c : Circuit) (k : ℕ) (invariant : Option (List ℕ)) (e : CertificateFault) → IsNotCertified c k invariant e → IfSecond (IsFaultyFor c k invariant) (of_certificate e)
 certificate_refuses_invariant c k invariant (certificate.Claim e) h = refuses_invariant c k invariant e h
 certificate_refuses_invariant c k invariant (certificate.Judge e) h = tt
 certificate_refuses_invariant c k invariant certificate.Device h = tt
@@ -78,7 +78,7 @@ certificate_refuses_invariant c k invariant certificate.Device h = tt
 pub gives_lowered : (known : Option (List ℕ)) (items : List Item) (c : Circuit) → IsModelOf known items → lowering_refusal items ≡ None → Lowers items c → LowersFirst known c
 gives_lowered known items c text accepted lowers = record { items = items; text = text; accepted = accepted; lowers = lowers }
 
-never : (g : Given) (known : Option (List ℕ)) (c : Circuit) (gives : GivesCircuit g known c) (k : ℕ) → ((items : List Item) (d : Circuit) (b : ℕ) → Lowers items d → CanRise items b ↔ CanRiseInCircuit d b) → (CanRiseInCircuit c k → ⊥) → NeverRises g known c gives k
+never : (g : Given) (known : Option (List ℕ)) (c : Circuit) (gives : GivesItsCircuit g known c) (k : ℕ) → ((items : List Item) (d : Circuit) (b : ℕ) → Lowers items d → CanRise items b ↔ CanRiseInCircuit d b) → (CanRiseInCircuit c k → ⊥) → NeverRises g known c gives k
 never given.Model known c gives k alike cannot = λ rise. cannot ((alike gives.items c k gives.lowers).0 rise)
 never given.Circuit known c gives k alike cannot = cannot
 
@@ -91,7 +91,7 @@ holds_where_done answer.NotAccepted j X so f = tt
 pub certified : (named : Bool) (r : Result Answer Refusal) (g : Given) (choice : Option ℕ) (known second third before now told told' : Option (List ℕ)) (c : Circuit) (k : ℕ) (j : Judgement)
     → ((d : Circuit) (b : ℕ) (invariant proof : Option (List ℕ)) (line : ℕ) → IsCertified d b invariant proof (verdict.Derived line) → CanRiseInCircuit d b → ⊥)
     → ((items : List Item) (d : Circuit) (b : ℕ) → Lowers items d → CanRise items b ↔ CanRiseInCircuit d b)
-    → (gives : GivesCircuit g known c) → IsClaim choice c k → IsCertified c k second third j
+    → (gives : GivesItsCircuit g known c) → IsClaim choice c k → IsCertified c k second third j
     → OnOk r (Appends before now (verdict_line k j)) → OnOk r (Appends told told' (where_named named (holds_said j (given_said g known c gives k)))) → IfOk r (λ a. IsSoDerived a j)
     → IfOk r (CertifiesWith named g choice known second third before now told told')
 certified named (Ok a) g choice known second third before now told told' c k j law alike gives is judged line said so = with_names named said

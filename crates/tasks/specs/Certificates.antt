@@ -36,12 +36,12 @@ pub record IsFirstCircuit (first : Option (List ℕ)) (c : Circuit) : Type 0 whe
   pub text : IsCircuitText first c
 
 -- the circuit that the first text gives: one that lowers its model, or its own
-abbrev pub GivesCircuit : Given → Option (List ℕ) → Circuit → Type 0
-GivesCircuit given.Model first c = LowersFirst first c
-GivesCircuit given.Circuit first c = IsFirstCircuit first c
+abbrev pub GivesItsCircuit : Given → Option (List ℕ) → Circuit → Type 0
+GivesItsCircuit given.Model first c = LowersFirst first c
+GivesItsCircuit given.Circuit first c = IsFirstCircuit first c
 
 -- a bad property of what the first text gives, of the model or of the circuit, rises in no frame up to which its constraints hold
-abbrev pub NeverRises : (g : Given) → (first : Option (List ℕ)) → (c : Circuit) → GivesCircuit g first c → ℕ → Type 0
+abbrev pub NeverRises : (g : Given) → (first : Option (List ℕ)) → (c : Circuit) → GivesItsCircuit g first c → ℕ → Type 0
 NeverRises given.Model first c gives k = ¬ CanRise gives.items k
 NeverRises given.Circuit first c gives k = ¬ CanRiseInCircuit c k
 
@@ -50,7 +50,7 @@ pub record WritesOwed (g : Given) (choice : Option ℕ) (first second before now
   pub circuit : Circuit
   pub claim : ℕ
   pub formula : Formula
-  pub gives : GivesCircuit g first circuit
+  pub gives : GivesItsCircuit g first circuit
   pub is_claim : IsClaim choice circuit claim
   pub is_owed : IsOwed circuit claim second formula
   pub appends : Appends before now (formula_text formula)
@@ -82,7 +82,7 @@ pub record Certifies (g : Given) (choice : Option ℕ) (first second third befor
   pub circuit : Circuit
   pub claim : ℕ
   pub judgement : Judgement
-  pub gives : GivesCircuit g first circuit
+  pub gives : GivesItsCircuit g first circuit
   pub is_claim : IsClaim choice circuit claim
   pub certified : IsCertified circuit claim second third judgement
   pub so : IsSoDerived a judgement
@@ -90,7 +90,7 @@ pub record Certifies (g : Given) (choice : Option ℕ) (first second third befor
   pub line : Appends before now (verdict_line claim judgement)
 
 -- the line that says which bad property of what the first text gives has a number: the line of the model, or the name in the circuit
-abbrev pub given_said : (g : Given) → (first : Option (List ℕ)) → (c : Circuit) → GivesCircuit g first c → ℕ → List ℕ
+abbrev pub given_said : (g : Given) → (first : Option (List ℕ)) → (c : Circuit) → GivesItsCircuit g first c → ℕ → List ℕ
 given_said given.Model first c gives k = bad_item_said gives.items k
 given_said given.Circuit first c gives k = bad_name_said c k
 
@@ -105,7 +105,7 @@ read_said r k = said_of r.model r.circuit k
 
 -- what was read is what the first text gives, and says of its bad properties what that says
 pub record IsRead (g : Given) (first : Option (List ℕ)) (r : Read) : Type 0 where
-  pub gives : GivesCircuit g first r.circuit
+  pub gives : GivesItsCircuit g first r.circuit
   pub says : (k : ℕ) → read_said r k ≡ given_said g first r.circuit gives k
 
 -- a certificate is judged so, and what was told is the line that says which bad property holds; none where that is not judged

@@ -35,7 +35,7 @@ use Rattle.tasks.specs.declared.refusals.Refusal.{Refusal}
 use Rattle.tasks.specs.declared.refusals.Refusal.TheVariants as refusal
 use Rattle.orders.specs.declared.tasks.Given.{Given}
 use Rattle.orders.specs.declared.tasks.Given.TheVariants as given
-use Rattle.tasks.specs.Certificates.{GivesCircuit}
+use Rattle.tasks.specs.Certificates.{GivesItsCircuit}
 use Rattle.tasks.specs.Names.{harmless}
 use Rattle.btor2text.specs.Spelling.{IsModelOf}
 use Rattle.tasks.specs.Claims.{IsClaim}
@@ -201,7 +201,7 @@ IsNotGiven given.Circuit known f = IsNoCircuit known f
 -- the first text gives a circuit, and this is the first that speaks against an engine form of it
 pub record GivesWithoutForm (g : Given) (choice : Option ℕ) (known : Option (List ℕ)) (e : EngineFault) : Type 0 where
   pub circuit : Circuit
-  pub gives : GivesCircuit g known circuit
+  pub gives : GivesItsCircuit g known circuit
   pub first : engine_refusal circuit choice ≡ Some e
 
 -- the first text gives no circuit, or one that has no such engine form
@@ -213,7 +213,7 @@ IsNotForEngines g choice known f = IsNotGiven g known f
 pub record GivesNoForm (g : Given) (choice : Option ℕ) (known : Option (List ℕ)) (e : EngineFault) : Type 0 where
   pub circuit : Circuit
   pub claim : ℕ
-  pub gives : GivesCircuit g known circuit
+  pub gives : GivesItsCircuit g known circuit
   pub is_claim : IsClaim choice circuit claim
   pub first : engine_refusal circuit (Some claim) ≡ Some e
 
@@ -226,7 +226,7 @@ IsUnclaimed c circuit _ = ⊥
 -- the first text gives a circuit without a bad property, none is chosen, and this is the first that speaks against an engine form of it
 pub record GivesNoBad (g : Given) (choice : Option ℕ) (known : Option (List ℕ)) (e : EngineFault) : Type 0 where
   pub circuit : Circuit
-  pub gives : GivesCircuit g known circuit
+  pub gives : GivesItsCircuit g known circuit
   pub unchosen : choice ≡ None
   pub none : circuit.bads ≡ []
   pub first : engine_refusal circuit None ≡ Some e
@@ -234,7 +234,7 @@ pub record GivesNoBad (g : Given) (choice : Option ℕ) (known : Option (List �
 -- the first text gives a circuit that has several bad properties, and none is chosen
 pub record GivesUnchosen (g : Given) (choice : Option ℕ) (known : Option (List ℕ)) : Type 0 where
   pub circuit : Circuit
-  pub gives : GivesCircuit g known circuit
+  pub gives : GivesItsCircuit g known circuit
   pub unchosen : choice ≡ None
   pub several : 1 < length circuit.bads
 
@@ -262,6 +262,6 @@ pub record IsFaultyFor (c : Circuit) (k : ℕ) (invariant : Option (List ℕ)) (
 pub record IsFaultyInvariant (g : Given) (choice : Option ℕ) (first second : Option (List ℕ)) (f : Fault) : Type 0 where
   pub circuit : Circuit
   pub claim : ℕ
-  pub gives : GivesCircuit g first circuit
+  pub gives : GivesItsCircuit g first circuit
   pub is_claim : IsClaim choice circuit claim
   pub faulty : IsFaultyFor circuit claim second f

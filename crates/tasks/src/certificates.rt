@@ -9,7 +9,7 @@ ghost use Rattle.blast.specs.Refusal.{lowering_refusal};
 ghost use Rattle.clauses.specs.FormulaTexts.{formula_text};
 ghost use Rattle.invariants.specs.Certificates.{IsCertified, IsOwed};
 ghost use Rattle.orders.specs.declared.tasks.Given.TheVariants as given_is;
-ghost use Rattle.tasks.specs.Certificates.{CertifiesWith, GivesCircuit, IsRead, IsSoDerived, WritesOwed, given_said, read_said, verdict_line};
+ghost use Rattle.tasks.specs.Certificates.{CertifiesWith, GivesItsCircuit, IsRead, IsSoDerived, WritesOwed, given_said, read_said, verdict_line};
 ghost use Rattle.btor2text.specs.Spelling.{IsModelOf};
 ghost use Rattle.tasks.specs.declared.refusals.Claimed.TheVariants as claimed_is;
 ghost use Rattle.tasks.specs.Refusals.{IsFaultyFor, IsFaultyInvariant, IsNoCircuit, IsNotClaimed, IsNotGiven, IsNotLowered, IsWithoutForm};
@@ -152,10 +152,10 @@ fn write_owed_over<B: Source, O: Sink>(
     second: &mut B,
     out: &mut O,
 ) -> Result<Answer, Refusal>
-    ensures done { (g : Given) (known : Option (List ℕ)) → GivesCircuit g known circuit.now → OnOk result (WritesOwed g choice known (B.to_come second.old) (O.written out.old) (O.written out.new)) }
+    ensures done { (g : Given) (known : Option (List ℕ)) → GivesItsCircuit g known circuit.now → OnOk result (WritesOwed g choice known (B.to_come second.old) (O.written out.old) (O.written out.new)) }
     ensures answer { IfOk result (λ answer. answer ≡ Answer.Done) }
-    ensures refused { (g : Given) (known : Option (List ℕ)) → GivesCircuit g known circuit.now → IfErr result (IfInput (IsNotClaimed claimed_is.Certified g choice known)) }
-    ensures second { (g : Given) (known : Option (List ℕ)) → GivesCircuit g known circuit.now → IfErr result (IfSecond (IsFaultyInvariant g choice known (B.to_come second.old))) }
+    ensures refused { (g : Given) (known : Option (List ℕ)) → GivesItsCircuit g known circuit.now → IfErr result (IfInput (IsNotClaimed claimed_is.Certified g choice known)) }
+    ensures second { (g : Given) (known : Option (List ℕ)) → GivesItsCircuit g known circuit.now → IfErr result (IfSecond (IsFaultyInvariant g choice known (B.to_come second.old))) }
     ensures unwritten { IfErr result (IfInput (λ _. out.new ≡ out.old)) }
     ensures unwritten_second { IfErr result (IfSecond (λ _. out.new ≡ out.old)) }
     ensures counted { (f t e : ℕ) → CountsAll result f f (B.failures second.old) (B.failures second.new) t t (O.failures out.old) (O.failures out.new) e e }
@@ -309,9 +309,9 @@ fn check_over<B: Source, T: Source, O: Sink, E: Sink>(
     out: &mut O,
     err: &mut E,
 ) -> Result<Answer, Refusal>
-    ensures done { (g : Given) (known : Option (List ℕ)) (gives : GivesCircuit g known circuit.now) → ((k : ℕ) → bad_said subject.entry k ≡ given_said g known circuit.now gives k) → IfOk result (CertifiesWith named g choice known (B.to_come second.old) (T.to_come third.old) (O.written out.old) (O.written out.new) (E.written err.old) (E.written err.new)) }
-    ensures refused { (g : Given) (known : Option (List ℕ)) → GivesCircuit g known circuit.now → IfErr result (IfInput (IsNotClaimed claimed_is.Certified g choice known)) }
-    ensures second { (g : Given) (known : Option (List ℕ)) → GivesCircuit g known circuit.now → IfErr result (IfSecond (IsFaultyInvariant g choice known (B.to_come second.old))) }
+    ensures done { (g : Given) (known : Option (List ℕ)) (gives : GivesItsCircuit g known circuit.now) → ((k : ℕ) → bad_said subject.entry k ≡ given_said g known circuit.now gives k) → IfOk result (CertifiesWith named g choice known (B.to_come second.old) (T.to_come third.old) (O.written out.old) (O.written out.new) (E.written err.old) (E.written err.new)) }
+    ensures refused { (g : Given) (known : Option (List ℕ)) → GivesItsCircuit g known circuit.now → IfErr result (IfInput (IsNotClaimed claimed_is.Certified g choice known)) }
+    ensures second { (g : Given) (known : Option (List ℕ)) → GivesItsCircuit g known circuit.now → IfErr result (IfSecond (IsFaultyInvariant g choice known (B.to_come second.old))) }
     ensures unwritten { IfErr result (IfInput (λ _. out.new ≡ out.old)) }
     ensures unwritten_second { IfErr result (IfSecond (λ _. out.new ≡ out.old)) }
     ensures untold { ErrUntold result (err.new ≡ err.old) }

@@ -8,7 +8,7 @@ use Rattle.std.proofs.lemmas.List.Sorted.{sum_by-IsPermutation}
 use Rattle.std.proofs.lemmas.List.Elements.{All-cons}
 use Rattle.std.proofs.lemmas.Bool.Decides.{nat_tests}
 use Rattle.vectors.specs.declared.lines.Vector.{Vector}
-use Rattle.vectors.specs.Vectors.{NumberedVector, numbered, lines_that_differ, operator_value, word_expected, IsRight, TellsVectors, report}
+use Rattle.vectors.specs.Vectors.{NumberedVector, numbered, lines_that_differ, vector_value, word_expected, IsRight, TellsVectors, report}
 
 -- one vector judged: its line, where it is not right, stands before those of the vectors behind it
 one_judged : (right : Bool) (k : ℕ) (rest : List ℕ) → (if right then [] else k ∷ []) ++ rest ≡ (if right then rest else k ∷ rest)
@@ -17,7 +17,7 @@ one_judged false k rest = refl
 
 pub noted_more : (before now all : List ℕ) (n : NumberedVector) (behind : List NumberedVector) → now ≡ before ++ lines_that_differ (n ∷ []) → before ++ lines_that_differ (n ∷ behind) ≡ all → now ++ lines_that_differ behind ≡ all
 noted_more before now all n behind e noted =
-    rw e (append_assoc before (lines_that_differ (n ∷ [])) (lines_that_differ behind) ∙ (ap (λ (t : List ℕ). before ++ t) (one_judged (operator_value n.vector == word_expected n.vector) n.line (lines_that_differ behind)) ∙ noted))
+    rw e (append_assoc before (lines_that_differ (n ∷ [])) (lines_that_differ behind) ∙ (ap (λ (t : List ℕ). before ++ t) (one_judged (vector_value n.vector == word_expected n.vector) n.line (lines_that_differ behind)) ∙ noted))
 
 -- each of some numbers is at least k
 abbrev From : ℕ → List ℕ → Type 0
@@ -66,7 +66,7 @@ differing_rises : (k : ℕ) (vs : List Vector) → From k (lines_that_differ (nu
 differing_rises k [] = (tt, tt)
 differing_rises k (v ∷ vs) =
     let behind = differing_rises (suc k) vs in
-    one_rises (operator_value v == word_expected v) k (lines_that_differ (numbered (suc k) vs)) behind.0 behind.1
+    one_rises (vector_value v == word_expected v) k (lines_that_differ (numbered (suc k) vs)) behind.0 behind.1
 
 one_sum : (f : ℕ → ℕ) (right : Bool) (k : ℕ) (rest : List ℕ) → sum_by f (if right then rest else k ∷ rest) ≡ (if right then 0 else f k) + sum_by f rest
 one_sum f true k rest = omega arith
@@ -74,12 +74,12 @@ one_sum f false k rest = sum_by-cons f k rest
 
 -- what a number adds to a sum where its vector is not right
 abbrev counted : (ℕ → ℕ) → NumberedVector → ℕ
-counted f n = if operator_value n.vector == word_expected n.vector then 0 else f n.line
+counted f n = if vector_value n.vector == word_expected n.vector then 0 else f n.line
 
 sum_differing : (f : ℕ → ℕ) (ns : List NumberedVector) → sum_by f (lines_that_differ ns) ≡ sum_by (counted f) ns
 sum_differing f [] = refl
 sum_differing f (n ∷ ns) =
-    omega (arith, one_sum f (operator_value n.vector == word_expected n.vector) n.line (lines_that_differ ns), sum_differing f ns, sum_by-cons (counted f) n ns)
+    omega (arith, one_sum f (vector_value n.vector == word_expected n.vector) n.line (lines_that_differ ns), sum_differing f ns, sum_by-cons (counted f) n ns)
 
 -- vectors are judged in another order, and the lines of those that are not right put in order
 pub lines_in_order : (all : List Vector) (vectors judged : List NumberedVector) (lines ordered : List ℕ) → vectors ≡ numbered 1 all → IsPermutation vectors judged → lines ≡ lines_that_differ judged → IsPermutation lines ordered → IsNonDecreasing ordered → ordered ≡ lines_that_differ (numbered 1 all)
@@ -87,7 +87,7 @@ lines_in_order all vectors judged lines ordered are moved noted sorted rises =
     rises_once ordered (lines_that_differ (numbered 1 all)) (rises_from ordered rises) (differing_rises 1 all).1
     (λ f. sum_by-IsPermutation f lines ordered sorted ∙ (ap (sum_by f) noted ∙ (sum_differing f judged ∙ (sum_by-IsPermutation (counted f) vectors judged moved ∙ (ap (sum_by (counted f)) are ∙ sym (sum_differing f (numbered 1 all)))))))
 
-one_right : (v : Vector) (k : ℕ) (rest : List ℕ) (right : Bool) → (operator_value v == word_expected v) ≡ right → (if right then rest else k ∷ rest) ≡ [] → IsRight v × (rest ≡ [])
+one_right : (v : Vector) (k : ℕ) (rest : List ℕ) (right : Bool) → (vector_value v == word_expected v) ≡ right → (if right then rest else k ∷ rest) ≡ [] → IsRight v × (rest ≡ [])
 one_right v k rest true e none = (grind (arith, nat_tests), none)
 one_right v k rest false e none = absurd cc
 
@@ -95,7 +95,7 @@ one_right v k rest false e none = absurd cc
 pub all_right : (k : ℕ) (vs : List Vector) → lines_that_differ (numbered k vs) ≡ [] → All IsRight vs
 all_right k [] none = search rules
 all_right k (v ∷ vs) none =
-    let right = one_right v k (lines_that_differ (numbered (suc k) vs)) (operator_value v == word_expected v) refl none in
+    let right = one_right v k (lines_that_differ (numbered (suc k) vs)) (vector_value v == word_expected v) refl none in
     All-cons IsRight v vs right.0 (all_right (suc k) vs right.1)
 
 -- what names the lines that differ tells of the vectors, and whether there is no such line is whether all agree

@@ -18,7 +18,7 @@ use Rattle.blast.specs.Lowering.{Lowers}
 use Rattle.runs.specs.CircuitRun.{CircuitRun, IsFrameNow}
 use Rattle.vectors.specs.declared.lines.Vector.{Vector}
 use Rattle.vectors.specs.declared.lines.Vector.TheVariants as vector
-use Rattle.vectors.specs.Vectors.{IsVector, operator_value}
+use Rattle.vectors.specs.Vectors.{IsVector, vector_value}
 use Rattle.vectors.specs.OperatorModels.{items_of, operand_bits}
 use Rattle.vectors.specs.CircuitRuns.{IsRunOf}
 
@@ -45,7 +45,7 @@ no_latches (vector.Binary op n a b r) c l = sym (length-map c.latches (λ latch.
 
 -- in each frame the outputs are the bits of the value that the operator gives
 pub shows_value : (v : Vector) (c : Circuit) (f : Valuation) → IsVector v → Lowers (items_of v) c → IsCircuitFrame c [] (operand_bits v) f
-    → map (literal_value f) c.outputs ≡ bits (result_width v) (operator_value v)
+    → map (literal_value f) c.outputs ≡ bits (result_width v) (vector_value v)
 shows_value (vector.Unary op n a r) c f fits l frame =
     (l.frames (λ id. 0) ((λ id. a) ∷ []) (record { fits = (tt, (tt, (tt, (tt, (tt, tt))))); inits = (tt, (tt, (tt, (tt, (tt, tt))))) }) ((tt, (tt, (fits.2, (tt, (tt, tt))))), tt)
     ((λ id. if id == 3 then a else unary_value op n a) ∷ []) ((tt, (tt, (refl, (refl, (tt, tt))))), tt)
@@ -65,7 +65,7 @@ result_few : (v : Vector) → IsVector v → result_width v ≤ 64
 result_few (vector.Unary op n a r) fits = width_few (is_reduction op) n fits.1
 result_few (vector.Binary op n a b r) fits = width_few (is_test op) n fits.1
 
-value_below : (v : Vector) → IsVector v → operator_value v < 2 ^ result_width v
+value_below : (v : Vector) → IsVector v → vector_value v < 2 ^ result_width v
 value_below (vector.Unary op n a r) fits = unary_below op n a fits.0 fits.2
 value_below (vector.Binary op n a b r) fits = binary_below op n a b fits.0 fits.3 fits.4
 
@@ -82,14 +82,14 @@ frame_of v c l =
 pub outputs_few : (v : Vector) (c : Circuit) → IsVector v → Lowers (items_of v) c → length c.outputs ≤ 64
 outputs_few v c fits l =
     let frame = frame_of v c l in
-    omega (arith, result_few v fits, length-map c.outputs (literal_value frame.0), ap length (shows_value v c frame.0 fits l frame.1), length-bits (result_width v) (operator_value v))
+    omega (arith, result_few v fits, length-map c.outputs (literal_value frame.0), ap length (shows_value v c frame.0 fits l frame.1), length-bits (result_width v) (vector_value v))
 
 -- the word that the outputs of a run from the operands' bits read as is the value that the operator gives
-pub word_is_value : (v : Vector) (c : Circuit) (r : CircuitRun) (told : ℕ) → IsVector v → Lowers (items_of v) c → IsRunOf c r → r.inputs ≡ operand_bits v → ((f : Valuation) → IsFrameNow r f → told ≡ word (map (literal_value f) c.outputs)) → told ≡ operator_value v
+pub word_is_value : (v : Vector) (c : Circuit) (r : CircuitRun) (told : ℕ) → IsVector v → Lowers (items_of v) c → IsRunOf c r → r.inputs ≡ operand_bits v → ((f : Valuation) → IsFrameNow r f → told ≡ word (map (literal_value f) c.outputs)) → told ≡ vector_value v
 word_is_value v c r told fits l run inputs read =
     let frame = frame_of v c l in
     read frame.0 (rw (run.same, run.latches, inputs) frame.1)
-    ∙ (ap word (shows_value v c frame.0 fits l frame.1) ∙ word-bits (result_width v) (operator_value v) (value_below v fits))
+    ∙ (ap word (shows_value v c frame.0 fits l frame.1) ∙ word-bits (result_width v) (vector_value v) (value_below v fits))
 
 -- a run of a circuit is one of its own circuit
 pub of_own : (c : Circuit) (r : CircuitRun) → IsRunOf c r → IsRunOf r.circuit r

@@ -52,13 +52,13 @@ word_expected (vector.Unary op n a r) = r
 word_expected (vector.Binary op n a b r) = r
 
 -- the word that a vector's operator gives for its operands
-abbrev pub operator_value : Vector → ℕ
-operator_value (vector.Unary op n a r) = unary_value op n a
-operator_value (vector.Binary op n a b r) = binary_value op n a b
+abbrev pub vector_value : Vector → ℕ
+vector_value (vector.Unary op n a r) = unary_value op n a
+vector_value (vector.Binary op n a b r) = binary_value op n a b
 
 -- a vector is right: its operator gives the word that it says
 abbrev pub IsRight : Vector → Type 0
-IsRight v = operator_value v ≡ word_expected v
+IsRight v = vector_value v ≡ word_expected v
 
 -- a vector and the number of its line
 pub record NumberedVector : Type 0 where
@@ -73,7 +73,7 @@ numbered k (v ∷ vs) = record { line = k; vector = v } ∷ numbered (suc k) vs
 -- the numbers of the lines of those that are not right, in their order
 abbrev pub lines_that_differ : List NumberedVector → List ℕ
 lines_that_differ [] = []
-lines_that_differ (n ∷ ns) = if operator_value n.vector == word_expected n.vector then lines_that_differ ns else n.line ∷ lines_that_differ ns
+lines_that_differ (n ∷ ns) = if vector_value n.vector == word_expected n.vector then lines_that_differ ns else n.line ∷ lines_that_differ ns
 
 -- the line that is told of a vector that differs, by its number
 abbrev pub differs_line : ℕ → List ℕ

@@ -7,7 +7,7 @@ ghost use Rattle.btor2.specs.declared.item.Body.TheVariants as body;
 ghost use Rattle.base.specs.Literal.{Valuation, literal_value};
 ghost use Rattle.blast.specs.Lowering.{Lowers};
 ghost use Rattle.runs.specs.CircuitRun.{IsFrameNow};
-ghost use Rattle.vectors.specs.Vectors.{IsVector, operator_value};
+ghost use Rattle.vectors.specs.Vectors.{IsVector, vector_value};
 ghost use Rattle.vectors.specs.OperatorModels.{operator_line, items_of, operand_bits};
 ghost use Rattle.vectors.specs.CircuitRuns.{IsRunOf};
 
@@ -201,7 +201,7 @@ pub(crate) fn circuit_word(run: &mut BitRun<'_>, circuit: &Circuit, vector: Vect
     requires lowers { Lowers (items_of vector) circuit.now }
     requires run { IsRunOf circuit.now run.old }
     ensures same { IsRunOf circuit.now run.new }
-    ensures word { result ≡ operator_value vector }
+    ensures word { result ≡ vector_value vector }
 {
     set_operands(run, vector);
     run.settle();

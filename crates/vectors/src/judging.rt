@@ -4,7 +4,7 @@ ghost use Rattle.std.specs.Prelude.{◌≡◌, ◌≢◌, ◌≤◌, ◌⊎◌, 
 ghost use Rattle.std.specs.String.{string_bytes};
 ghost use Rattle.blast.specs.Lowering.{Lowers};
 ghost use Rattle.vectors.specs.declared.lines.Vector.{Vector};
-ghost use Rattle.vectors.specs.Vectors.{IsVector, IfBad, IsFirstBad, IsReportOf, TellsVectors, operator_value, word_expected, report, differs_line, numbered, lines_that_differ};
+ghost use Rattle.vectors.specs.Vectors.{IsVector, IfBad, IsFirstBad, IsReportOf, TellsVectors, vector_value, word_expected, report, differs_line, numbered, lines_that_differ};
 ghost use Rattle.vectors.specs.OperatorModels.{items_of};
 ghost use Rattle.vectors.specs.CircuitRuns.{IsRunOf};
 
@@ -27,7 +27,7 @@ pub struct Report {
 /// The word that the evaluator gives for a vector's operands.
 fn evaluated(vector: Vector) -> u64
     requires { IsVector vector }
-    ensures { result ≡ operator_value vector }
+    ensures { result ≡ vector_value vector }
 {
     let mut tally = Tally::new();
     match vector {

@@ -5,7 +5,7 @@ ghost use Rattle.aiger.specs.Loose.{empty_loose};
 ghost use Rattle.aiger.specs.Renumbering.{used_lines};
 ghost use Rattle.aigertext.specs.declared.forms.Form.TheVariants as form;
 ghost use Rattle.aigertext.specs.AsciiReading.{lists_of_file, behind_lines, lines_before, AnswersLists};
-ghost use Rattle.aigertext.specs.Passes.{IsReadOf, ReadsBy};
+ghost use Rattle.aigertext.specs.Passes.{WasToBeRead, ReadsBy};
 ghost use Rattle.aigertext.specs.PropertyLists.{no_lists, file_lists, properties_onto};
 ghost use Rattle.aigertext.specs.Counts.{AreSmall, Fits};
 
@@ -29,7 +29,7 @@ fn push_properties<'a>(
 ) -> Result<&'a [u8], Stop>
     requires none { file_lists lists.old ≡ no_lists }
     requires small { AreSmall counts.now }
-    ensures { IsReadOf (λ x. (lists.new, x.now)) result (properties_onto counts.now lists.old text.now) }
+    ensures { WasToBeRead (λ x. (lists.new, x.now)) result (properties_onto counts.now lists.old text.now) }
 {
     let mut properties = PropertyLines::new(alloc);
     let rest = read_properties(&mut properties, text, counts)?;
@@ -49,7 +49,7 @@ pub fn read_lists<'a>(
     requires empty { lists.old ≡ empty_loose }
     requires small { AreSmall counts.now }
     requires fits { Fits form.Ascii counts.now }
-    ensures { IsReadOf (λ x. (lists.new, x.now)) result (lists_of_file counts.now text.now) }
+    ensures { WasToBeRead (λ x. (lists.new, x.now)) result (lists_of_file counts.now text.now) }
 {
     let greatest = 2 * counts.variables + 1;
     let rest = push_definitions::<Lit>(lists, text, greatest, counts.inputs)?;

@@ -5,7 +5,7 @@ ghost use Rattle.aiger.specs.Loose.{Loose as Lists, with_input_line, with_latch_
 ghost use Rattle.aigertext.specs.declared.fault.Why.{Why as LineWhy};
 ghost use Rattle.aigertext.specs.Reading.{IsAsRead, line_at};
 ghost use Rattle.aigertext.specs.AsciiReading.{defining, defining_by, input_of, latch_of_line, gate_of_line, onto_lists};
-ghost use Rattle.aigertext.specs.Passes.{IsReadOf};
+ghost use Rattle.aigertext.specs.Passes.{WasToBeRead};
 
 use crate::fault::{Stop, Why};
 use crate::reading::fields::{first_field, next_field};
@@ -172,7 +172,7 @@ pub fn push_definitions<'a, D: Definition>(
     greatest: u32,
     count: u32,
 ) -> Result<&'a [u8], Stop>
-    ensures { IsReadOf (λ x. (lists.new, x.now)) result (onto_lists (D.says greatest) D.with_line lists.old count text.now) }
+    ensures { WasToBeRead (λ x. (lists.new, x.now)) result (onto_lists (D.says greatest) D.with_line lists.old count text.now) }
 {
     let mut rest = text;
     for _index in 0..count {

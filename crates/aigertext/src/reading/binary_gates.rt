@@ -1,6 +1,6 @@
 //! Reading the gates of the binary form, two deltas each.
 ghost use Rattle.std.specs.Prelude.{◌≡◌, ◌<◌, ◌≤◌, IfOk};
-ghost use Rattle.aigertext.specs.Reading.{IsAsRead, at_front, delta_why, delta_at, gate_at};
+ghost use Rattle.aigertext.specs.Reading.{IsAsRead, said_at_front, delta_why, delta_at, gate_at};
 ghost use Rattle.aigertext.specs.Passes.{greater_at, smaller_at};
 
 use crate::fault::{Stop, Why};
@@ -23,7 +23,7 @@ fn why(fault: DeltaFault) -> Why
 #[inline(always)]
 #[tactic(auto, unfolding(crate::specs::Reading::delta_at))]
 fn delta(text: &[u8]) -> Result<(u64, &[u8]), Stop>
-    ensures { IsAsRead (λ x. (x.0, x.1.now)) result (at_front text.now (delta_at text.now)) }
+    ensures { IsAsRead (λ x. (x.0, x.1.now)) result (said_at_front text.now (delta_at text.now)) }
 {
     match deltas::read(text) {
         Ok(found) => Ok(found),
@@ -34,7 +34,7 @@ fn delta(text: &[u8]) -> Result<(u64, &[u8]), Stop>
 /// The greater operand of a gate with this literal, and the text behind its delta.
 #[inline(always)]
 fn greater_operand(text: &[u8], own: u32) -> Result<(u32, &[u8]), Stop>
-    ensures gives { IsAsRead (λ x. (x.0, x.1.now)) result (at_front text.now (greater_at own text.now)) }
+    ensures gives { IsAsRead (λ x. (x.0, x.1.now)) result (said_at_front text.now (greater_at own text.now)) }
     ensures below { IfOk result (λ x. x.0 < own) }
 {
     let (difference, behind) = delta(text)?;
@@ -47,7 +47,7 @@ fn greater_operand(text: &[u8], own: u32) -> Result<(u32, &[u8]), Stop>
 /// The smaller operand of a gate whose greater one is given, and the text behind its delta.
 #[inline(always)]
 fn smaller_operand(text: &[u8], greater: u32) -> Result<(u32, &[u8]), Stop>
-    ensures gives { IsAsRead (λ x. (x.0, x.1.now)) result (at_front text.now (smaller_at greater text.now)) }
+    ensures gives { IsAsRead (λ x. (x.0, x.1.now)) result (said_at_front text.now (smaller_at greater text.now)) }
     ensures below { IfOk result (λ x. x.0 ≤ greater) }
 {
     let (difference, behind) = delta(text)?;

@@ -5,7 +5,7 @@ ghost use Rattle.std.specs.Io.KnownBytes.{prepend_known, Keeps, IsAtEnd};
 ghost use Rattle.base.specs.Device.{HasRisen};
 ghost use Rattle.aigertext.specs.Binary.{inputs_text};
 ghost use Rattle.aigertext.specs.Counts.{AreSmall, Fits};
-ghost use Rattle.aigertext.specs.Passes.{latches_in, IsReadOf};
+ghost use Rattle.aigertext.specs.Passes.{latches_in, WasToBeRead};
 ghost use Rattle.aigertext.specs.PropertyLists.{no_numbers};
 ghost use Rattle.aigertext.specs.InOrder.{uses_at, uses_of, HasFront};
 
@@ -44,7 +44,7 @@ fn read_latches<'a>(
 ) -> Result<&'a [u8], Stop>
     requires none { latches.old.items ≡ [] }
     requires fits { first + 2 * count ≤ 4294967295 }
-    ensures { IsReadOf (λ x. (latches.new.items, x.now)) result (latches_in form greatest first count text.now) }
+    ensures { WasToBeRead (λ x. (latches.new.items, x.now)) result (latches_in form greatest first count text.now) }
 {
     let mut rest = text;
     for index in 0..count {
@@ -65,7 +65,7 @@ fn read_uses<'a>(front: &mut Front, text: &'a [u8]) -> Result<&'a [u8], Stop>
     requires none { uses_of front.old ≡ ([], no_numbers) }
     requires small { AreSmall front.old.counts }
     requires fits { front.old.counts.inputs + front.old.counts.latches ≤ front.old.counts.variables }
-    ensures reads { IsReadOf (λ x. (uses_of front.new, x.now)) result (uses_at front.old.form front.old.counts text.now) }
+    ensures reads { WasToBeRead (λ x. (uses_of front.new, x.now)) result (uses_at front.old.form front.old.counts text.now) }
     ensures form { front.new.form ≡ front.old.form }
     ensures counts { front.new.counts ≡ front.old.counts }
 {
@@ -86,7 +86,7 @@ pub fn uses<'a>(
 ) -> Result<(Front, &'a [u8]), Stop>
     requires small { AreSmall counts.now }
     requires fits { counts.now.inputs + counts.now.latches ≤ counts.now.variables }
-    ensures reads { IsReadOf (λ x. (uses_of x.0, x.1.now)) result (uses_at form counts.now text.now) }
+    ensures reads { WasToBeRead (λ x. (uses_of x.0, x.1.now)) result (uses_at form counts.now text.now) }
     ensures form { IfOk result (λ x. x.0.form ≡ form) }
     ensures counts { IfOk result (λ x. x.0.counts ≡ counts.now) }
 {

@@ -2,7 +2,7 @@
 ghost use Rattle.std.specs.Prelude.{◌≡◌};
 ghost use Rattle.aiger.specs.Circuit.{with_name, name_refusal};
 ghost use Rattle.aigertext.specs.Reading.{name_accepted, section_with_letter, named_by, name_on, names_at, cut_at_byte};
-ghost use Rattle.aigertext.specs.Passes.{IsReadOf, IsLineReadOf};
+ghost use Rattle.aigertext.specs.Passes.{WasToBeRead, IsLineReadOf};
 
 use crate::fault::{Stop, Why};
 use crate::reading::lines::{at, stop};
@@ -58,7 +58,7 @@ fn give_line(circuit: &mut Circuit, line: &[u8]) -> Result<(), Why>
 ///
 /// Errors: `BadSymbol`, `Truncated` where the last line has no byte 10, and `NoMemory`.
 pub fn give_names(circuit: &mut Circuit, text: &[u8]) -> Result<(), Stop>
-    ensures { IsReadOf (λ u. circuit.new) result (names_at circuit.old text.now) }
+    ensures { WasToBeRead (λ u. circuit.new) result (names_at circuit.old text.now) }
 {
     let mut rest = text;
     while let Some((line, after)) = next_line(rest) {

@@ -3,7 +3,7 @@ ghost use Rattle.std.specs.Prelude.{◌≡◌, ◌≤◌, [], IfOk};
 ghost use Rattle.std.specs.List.{sum};
 ghost use Rattle.aigertext.specs.Counts.{AreSmall};
 ghost use Rattle.aigertext.specs.Reading.{literals_at, sizes_at, properties_at};
-ghost use Rattle.aigertext.specs.Passes.{IsReadOf};
+ghost use Rattle.aigertext.specs.Passes.{WasToBeRead};
 ghost use Rattle.aigertext.specs.PropertyLists.{numbers_of, no_numbers};
 
 use crate::fault::{Stop, Why};
@@ -53,7 +53,7 @@ fn read_literals<'a>(
     count: u32,
 ) -> Result<&'a [u8], Stop>
     requires { list.old.items ≡ [] }
-    ensures { IsReadOf (λ x. (list.new.items, x.now)) result (literals_at greatest count text.now) }
+    ensures { WasToBeRead (λ x. (list.new.items, x.now)) result (literals_at greatest count text.now) }
 {
     let mut rest = text;
     for _index in 0..count {
@@ -72,7 +72,7 @@ fn read_literals<'a>(
 /// Reads the sizes of so many lines, and answers their sum and the text behind them.
 fn read_sizes<'a>(list: &mut Vec<u32>, text: &'a [u8], count: u32) -> Result<(u32, &'a [u8]), Stop>
     requires { list.old.items ≡ [] }
-    ensures read { IsReadOf (λ x. (list.new.items, x.1.now)) result (sizes_at 0 count text.now) }
+    ensures read { WasToBeRead (λ x. (list.new.items, x.1.now)) result (sizes_at 0 count text.now) }
     ensures sums { IfOk result (λ x. x.0 ≡ sum list.new.items) }
 {
     let mut rest = text;
@@ -96,7 +96,7 @@ pub fn read_properties<'a>(
 ) -> Result<&'a [u8], Stop>
     requires none { numbers_of lines.old ≡ no_numbers }
     requires small { counts.now.variables ≤ 1073741824 }
-    ensures { IsReadOf (λ x. (numbers_of lines.new, x.now)) result (properties_at counts.now text.now) }
+    ensures { WasToBeRead (λ x. (numbers_of lines.new, x.now)) result (properties_at counts.now text.now) }
 {
     let greatest = 2 * counts.variables + 1;
     let rest = read_literals(&mut lines.outputs, text, greatest, counts.outputs)?;

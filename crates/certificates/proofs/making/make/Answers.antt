@@ -6,30 +6,30 @@ use Rattle.gates.proofs.GrowthLemmas.{Grows-trans, All-defined-grown}
 use Rattle.gates.proofs.LiteralLemmas.{Refuses-behind}
 use Rattle.certificates.specs.Tests.{test_cost}
 use Rattle.certificates.specs.Made.{condition_cost}
-use Rattle.certificates.specs.Parts.{mapping_in, parts_of}
+use Rattle.certificates.specs.Parts.{mapping_in, parts_of_test}
 use Rattle.certificates.proofs.ConditionLemmas.{StandFor-grown}
 use Rattle.certificates.proofs.PartLemmas.{each_part, made_from}
 use Rattle.certificates.proofs.making.make.Goals as goal
 
 pub first_frames-requires-clause-inputs_defined : goal.first_frames-requires-clause-inputs_defined
-first_frames-requires-clause-inputs_defined g c = (each_part (IsDefined (g.G.Gates.made c.args.g.now)) (parts_of c.args.parts) c.requires.defined).inputs
+first_frames-requires-clause-inputs_defined g c = (each_part (IsDefined (g.G.Gates.made c.args.g.now)) (parts_of_test c.args.parts) c.requires.defined).inputs
 
 pub first_frames-requires-clause-latches_defined : goal.first_frames-requires-clause-latches_defined
-first_frames-requires-clause-latches_defined g c = (each_part (IsDefined (g.G.Gates.made c.args.g.now)) (parts_of c.args.parts) c.requires.defined).latches
+first_frames-requires-clause-latches_defined g c = (each_part (IsDefined (g.G.Gates.made c.args.g.now)) (parts_of_test c.args.parts) c.requires.defined).latches
 
 pub first_frames-requires-clause-own_inputs_defined : goal.first_frames-requires-clause-own_inputs_defined
-first_frames-requires-clause-own_inputs_defined g c = (each_part (IsDefined (g.G.Gates.made c.args.g.now)) (parts_of c.args.parts) c.requires.defined).own_inputs
+first_frames-requires-clause-own_inputs_defined g c = (each_part (IsDefined (g.G.Gates.made c.args.g.now)) (parts_of_test c.args.parts) c.requires.defined).own_inputs
 
 pub first_frames-requires-clause-own_latches_defined : goal.first_frames-requires-clause-own_latches_defined
-first_frames-requires-clause-own_latches_defined g c = (each_part (IsDefined (g.G.Gates.made c.args.g.now)) (parts_of c.args.parts) c.requires.defined).own_latches
+first_frames-requires-clause-own_latches_defined g c = (each_part (IsDefined (g.G.Gates.made c.args.g.now)) (parts_of_test c.args.parts) c.requires.defined).own_latches
 
 pub next_frames-requires-clause-inputs_defined : goal.next_frames-requires-clause-inputs_defined
 next_frames-requires-clause-inputs_defined g c =
-    All-defined-grown _ _ _ c.in_ok-first.ensures.ok.grows c.args.parts.next_inputs.now (each_part (IsDefined (g.G.Gates.made c.args.g.now)) (parts_of c.args.parts) c.requires.defined).next_inputs
+    All-defined-grown _ _ _ c.in_ok-first.ensures.ok.grows c.args.parts.next_inputs.now (each_part (IsDefined (g.G.Gates.made c.args.g.now)) (parts_of_test c.args.parts) c.requires.defined).next_inputs
 
 pub next_frames-requires-clause-own_inputs_defined : goal.next_frames-requires-clause-own_inputs_defined
 next_frames-requires-clause-own_inputs_defined g c =
-    All-defined-grown _ _ _ c.in_ok-first.ensures.ok.grows c.args.parts.next_own.now (each_part (IsDefined (g.G.Gates.made c.args.g.now)) (parts_of c.args.parts) c.requires.defined).next_own
+    All-defined-grown _ _ _ c.in_ok-first.ensures.ok.grows c.args.parts.next_own.now (each_part (IsDefined (g.G.Gates.made c.args.g.now)) (parts_of_test c.args.parts) c.requires.defined).next_own
 
 pub returns-in_err-next-clause-refused : goal.returns-in_err-next-clause-refused
 returns-in_err-next-clause-refused g c =
@@ -41,12 +41,12 @@ returns-in_err-next-clause-refused g c =
 
 pub condition_fails-requires-clause-latches_defined : goal.condition_fails-requires-clause-latches_defined
 condition_fails-requires-clause-latches_defined g c =
-    All-defined-grown _ _ _ (Grows-trans _ _ _ _ _ c.in_ok-first.ensures.ok.grows c.in_ok-next.ensures.ok.grows) c.args.parts.latches.now (each_part (IsDefined (g.G.Gates.made c.args.g.now)) (parts_of c.args.parts) c.requires.defined).latches
+    All-defined-grown _ _ _ (Grows-trans _ _ _ _ _ c.in_ok-first.ensures.ok.grows c.in_ok-next.ensures.ok.grows) c.args.parts.latches.now (each_part (IsDefined (g.G.Gates.made c.args.g.now)) (parts_of_test c.args.parts) c.requires.defined).latches
 
 pub condition_fails-requires-clause-own_latches_defined : goal.condition_fails-requires-clause-own_latches_defined
 condition_fails-requires-clause-own_latches_defined g c =
     All-defined-grown _ _ _ (Grows-trans _ _ _ _ _ c.in_ok-first.ensures.ok.grows c.in_ok-next.ensures.ok.grows) c.args.parts.own_latches.now
-    (each_part (IsDefined (g.G.Gates.made c.args.g.now)) (parts_of c.args.parts) c.requires.defined).own_latches
+    (each_part (IsDefined (g.G.Gates.made c.args.g.now)) (parts_of_test c.args.parts) c.requires.defined).own_latches
 
 pub condition_fails-requires-clause-table : goal.condition_fails-requires-clause-table
 condition_fails-requires-clause-table g c = StandFor-grown c.args.circuit.now _ _ _ c.in_ok-first.first.table c.in_ok-next.ensures.ok.grows c.in_ok-first.ensures.ok.stand
@@ -64,7 +64,7 @@ pub returns-clause-ok : goal.returns-clause-ok
 returns-clause-ok g c =
     IfOk-weaker c.condition_fails.result _ _
     (λ l made.
-    made_from c.args.circuit.now c.args.bad c.args.witness.now (mapping_in c.args.shared.now) (parts_of c.args.parts) _ _ _ _ c.in_ok-first.first.table c.in_ok-first.first.own c.in_ok-next.next.table
+    made_from c.args.circuit.now c.args.bad c.args.witness.now (mapping_in c.args.shared.now) (parts_of_test c.args.parts) _ _ _ _ c.in_ok-first.first.table c.in_ok-first.first.own c.in_ok-next.next.table
     c.in_ok-next.next.own l c.requires.mapping c.in_ok-first.ensures.ok c.in_ok-next.ensures.ok made)
     c.condition_fails.ensures.ok
 

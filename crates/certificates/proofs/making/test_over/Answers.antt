@@ -6,7 +6,7 @@ use Rattle.gates.specs.Made.{gates_only}
 use Rattle.certificates.specs.Mapping.{Mapping, IsMappingOf, said_by_names, are_inside, mapping_of}
 use Rattle.certificates.specs.Tests.{IsTestOf}
 use Rattle.certificates.specs.Made.{IsMadeFrom}
-use Rattle.certificates.specs.Parts.{parts_of, bare_test}
+use Rattle.certificates.specs.Parts.{parts_of_test, bare_test}
 use Rattle.certificates.proofs.InsideLemmas.{AreShared, mapping_inside}
 use Rattle.certificates.proofs.SharedLemmas.{shared_mapping}
 use Rattle.certificates.proofs.RefusalLemmas.{accepted_inside}
@@ -35,11 +35,11 @@ returns-in-Ok-clause-ok c =
     let circuit = c.args.circuit.now in
     let witness = c.args.witness.now in
     let shared : AreShared circuit (mapping_of circuit witness) = mapping_inside circuit witness (accepted_inside circuit c.args.bad witness c.requires.accepted) in
-    let made : IsMadeFrom circuit c.args.bad witness (mapping_of circuit witness) (parts_of c.cut-parts.result) (bare_test circuit witness) c.make.new.g c.in-Ok.lit =
-    subst (λ (n : Net). IsMadeFrom circuit c.args.bad witness (mapping_of circuit witness) (parts_of c.cut-parts.result) n c.make.new.g c.in-Ok.lit) c.requires.bare
-    (subst (λ (m : Mapping). IsMadeFrom circuit c.args.bad witness m (parts_of c.cut-parts.result) c.args.gates c.make.new.g c.in-Ok.lit) c.requires.shared c.in-Ok.ensures.ok) in
+    let made : IsMadeFrom circuit c.args.bad witness (mapping_of circuit witness) (parts_of_test c.cut-parts.result) (bare_test circuit witness) c.make.new.g c.in-Ok.lit =
+    subst (λ (n : Net). IsMadeFrom circuit c.args.bad witness (mapping_of circuit witness) (parts_of_test c.cut-parts.result) n c.make.new.g c.in-Ok.lit) c.requires.bare
+    (subst (λ (m : Mapping). IsMadeFrom circuit c.args.bad witness m (parts_of_test c.cut-parts.result) c.args.gates c.make.new.g c.in-Ok.lit) c.requires.shared c.in-Ok.ensures.ok) in
     IfOk-weaker c.with_bad.result _ _
     (λ t is.
-    test_made circuit c.args.bad witness (mapping_of circuit witness) (parts_of c.cut-parts.result) c.make.new.g c.in-Ok.lit made t c.requires.valid c.requires.witness (shared_mapping circuit witness) shared
+    test_made circuit c.args.bad witness (mapping_of circuit witness) (parts_of_test c.cut-parts.result) c.make.new.g c.in-Ok.lit made t c.requires.valid c.requires.witness (shared_mapping circuit witness) shared
     (c.cut-parts.ensures.parts ∙ c.requires.inputs) c.cut-parts.ensures.many c.finish.ensures.valuations (is.0 ∙ ap (λ (x : Circuit). with_bad x c.in-Ok.lit) c.finish.ensures.circuit) is.1)
     c.with_bad.ensures.ok

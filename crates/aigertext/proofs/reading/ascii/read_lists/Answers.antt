@@ -1,7 +1,7 @@
 use Rattle.std.proofs.Common.{◌+◌, ◌*◌, subst, sym, inl, inr}
 use Rattle.std.proofs.lemmas.Result.{err_from_is_err_and}
 use Rattle.aiger.specs.Loose.{with_gate_line}
-use Rattle.aigertext.specs.Passes.{IsReadOf}
+use Rattle.aigertext.specs.Passes.{WasToBeRead}
 use Rattle.aigertext.specs.AsciiReading.{lists_of_file, onto_lists, gate_of_line}
 use Rattle.aigertext.proofs.PassLemmas.{reads_stop, stops_then, reads_then, stopped}
 use Rattle.aigertext.proofs.PassOverLemmas.{no_uses, gates_left, gates_stop}
@@ -37,6 +37,6 @@ unfolding lists_of_file
 returns c =
     reads_then _ _ _ _ _ (rw c.requires.empty at c.in_ok-rest.ensures)
     (reads_then _ _ _ _ _ c.in_ok-rest-2.ensures
-    (subst (IsReadOf (λ x. (c.push_definitions-3.new.lists, x.now)) c.push_definitions-3.result)
+    (subst (WasToBeRead (λ x. (c.push_definitions-3.new.lists, x.now)) c.push_definitions-3.result)
     (sym (gates_left c.args.counts.now c.push_definitions-2.new.lists c.push_properties.new.lists _ _ (λ l t. onto_lists (gate_of_line (2 * c.args.counts.now.variables + 1)) with_gate_line l c.args.counts.now.gates t) c.in_ok-rest-3.ensures))
     c.push_definitions-3.ensures))
