@@ -237,11 +237,15 @@ fn accepted_test(
 /// that stand for something. A gate is made once where both circuits have it. The gates are at most those of both circuits
 /// twice, one for each latch, two for each constraint, and 9.
 ///
-/// Errors, of which the first that applies in this order is answered: `Justice` and `Fair` where the witness circuit has such
-/// a property, `NoProperty` where it has neither a bad property nor an output, `SeveralProperties` where it has several bad
-/// properties, or none and several outputs, `NoSuchLiteral` where a name says a literal that the circuit does not have,
-/// `NoSuchBad` where the circuit has no such bad property, `TooBig` where the inputs and the bound on the gates sum to more
-/// than 2^30, and `NoMemory`.
+/// Errors, of which the first that applies in this order is answered:
+///
+/// - `Justice`, `Fair`: the witness circuit has such a property.
+/// - `NoProperty`: it has neither a bad property nor an output.
+/// - `SeveralProperties`: it has several bad properties, or none and several outputs.
+/// - `NoSuchLiteral`: a name says a literal that the circuit does not have.
+/// - `NoSuchBad`: the circuit has no such bad property.
+/// - `TooBig`: the inputs and the bound on the gates sum to more than 2^30.
+/// - `NoMemory`: a growth was refused.
 pub fn test_circuit(
     alloc: Global,
     circuit: &Circuit,
