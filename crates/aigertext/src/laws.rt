@@ -46,7 +46,7 @@ pub fn worked_binary_texts()
 {}
 
 /// Worked rows: binary texts that are read, in the writer's spelling and in others.
-#[tactic(auto, unfolding(crate::specs::AsciiReading::AnswersText, crate::specs::Reading::binary_at, crate::specs::Reading::properties_at, crate::specs::Reading::name_on, crate::specs::Reading::section_of, crate::specs::Reading::gate_at, crate::specs::Reading::delta_at, deltas::specs::Deltas::number_at, crate::specs::Reading::size_of, crate::specs::Reading::next_fields, crate::specs::Reading::literal_of, crate::specs::Reading::header_fields, crate::specs::Reading::form_of, crate::specs::Reading::fitting, crate::specs::Reading::counts_of, base::specs::Decimals::number_of, base::specs::Decimals::capped_value, base::specs::Decimals::is_decimal))]
+#[tactic(auto, unfolding(crate::specs::AsciiReading::AnswersText, crate::specs::Reading::binary_at, crate::specs::Reading::properties_at, crate::specs::Reading::name_on, crate::specs::Reading::section_with_letter, crate::specs::Reading::gate_at, crate::specs::Reading::delta_at, deltas::specs::Deltas::number_at, crate::specs::Reading::size_of, crate::specs::Reading::next_fields, crate::specs::Reading::literal_on, crate::specs::Reading::header_fields, crate::specs::Reading::header_form, crate::specs::Reading::fitting, crate::specs::Reading::counts_of, base::specs::Decimals::number_of, base::specs::Decimals::capped_value, base::specs::Decimals::is_decimal))]
 pub fn worked_binary_readings()
     ensures toggler { AnswersText ((codes "aig 1 0 1 0 0 1\n3\n2\nl0 t[0]\n")) (Ok text_toggler) }
     ensures spelled_out { AnswersText ((codes "aig 1 0 1 0 0 1 0 0 0\n3 0\n2\nl0 t[0]\nc\nany")) (Ok text_toggler) }
@@ -57,7 +57,7 @@ pub fn worked_binary_readings()
 {}
 
 /// Worked rows: where reading a binary text stops, in bytes before the end, and why.
-#[tactic(auto, unfolding(crate::specs::AsciiReading::AnswersText, crate::specs::Reading::binary_at, crate::specs::Reading::properties_at, crate::specs::Reading::name_on, crate::specs::Reading::section_of, crate::specs::Reading::gate_at, crate::specs::Reading::delta_at, deltas::specs::Deltas::number_at, crate::specs::Reading::size_of, crate::specs::Reading::next_fields, crate::specs::Reading::literal_of, crate::specs::Reading::header_fields, crate::specs::Reading::form_of, crate::specs::Reading::fitting, crate::specs::Reading::counts_of, base::specs::Decimals::number_of, base::specs::Decimals::capped_value, base::specs::Decimals::is_decimal))]
+#[tactic(auto, unfolding(crate::specs::AsciiReading::AnswersText, crate::specs::Reading::binary_at, crate::specs::Reading::properties_at, crate::specs::Reading::name_on, crate::specs::Reading::section_with_letter, crate::specs::Reading::gate_at, crate::specs::Reading::delta_at, deltas::specs::Deltas::number_at, crate::specs::Reading::size_of, crate::specs::Reading::next_fields, crate::specs::Reading::literal_on, crate::specs::Reading::header_fields, crate::specs::Reading::header_form, crate::specs::Reading::fitting, crate::specs::Reading::counts_of, base::specs::Decimals::number_of, base::specs::Decimals::capped_value, base::specs::Decimals::is_decimal))]
 pub fn worked_binary_faults()
     ensures header { AnswersText ((codes "aig 1 1 0 0\n")) (Err (record { left = 12; why = why.BadHeader })) }
     ensures two_spaces { AnswersText ((codes "aig 0  0 0 0 0\n")) (Err (record { left = 15; why = why.BadHeader })) }
@@ -152,7 +152,7 @@ pub fn worked_ascii_spellings()
 
 /// Worked rows: the lists of an ascii file in any numbering and order, where reading them stops, and at which line a
 /// variable that no line defines is used.
-#[tactic(auto, unfolding(crate::specs::AsciiReading::lists_of_file, crate::specs::AsciiReading::input_of, crate::specs::AsciiReading::latch_fields, crate::specs::AsciiReading::gate_fields, crate::specs::Reading::next_fields, crate::specs::Reading::properties_at, crate::specs::Reading::literal_of, crate::specs::Reading::size_of, base::specs::Decimals::number_of, base::specs::Decimals::capped_value, base::specs::Decimals::is_decimal))]
+#[tactic(auto, unfolding(crate::specs::AsciiReading::lists_of_file, crate::specs::AsciiReading::input_of, crate::specs::AsciiReading::latch_fields, crate::specs::AsciiReading::gate_fields, crate::specs::Reading::next_fields, crate::specs::Reading::properties_at, crate::specs::Reading::literal_on, crate::specs::Reading::size_of, base::specs::Decimals::number_of, base::specs::Decimals::capped_value, base::specs::Decimals::is_decimal))]
 pub fn worked_ascii_lists()
     ensures any_order { lists_of_file (record { variables = 9; inputs = 1; latches = 0; outputs = 1; gates = 2; bads = 0; constraints = 0; justice = 0; fair = 0 }) (codes "8\n5\n4 6 8\n6 9 8\n")
         ≡ Ok (record empty_loose { inputs = 8 ∷ []; outputs = 5 ∷ []; gates = record { lhs = 4; rhs0 = 6; rhs1 = 8 } ∷ record { lhs = 6; rhs0 = 9; rhs1 = 8 } ∷ [] }, []) }
@@ -167,7 +167,7 @@ pub fn worked_ascii_lists()
 {}
 
 /// Worked rows: a text of the ascii form that is read, and where reading others stops and why.
-#[tactic(auto, unfolding(crate::specs::AsciiReading::AnswersText, crate::specs::AsciiReading::lists_of_file, crate::specs::AsciiReading::input_of, crate::specs::AsciiReading::latch_fields, crate::specs::AsciiReading::gate_fields, crate::specs::Reading::next_fields, crate::specs::Reading::properties_at, crate::specs::Reading::literal_of, crate::specs::Reading::size_of, crate::specs::Reading::header_fields, crate::specs::Reading::form_of, crate::specs::Reading::fitting, crate::specs::Reading::counts_of, base::specs::Decimals::number_of, base::specs::Decimals::capped_value, base::specs::Decimals::is_decimal))]
+#[tactic(auto, unfolding(crate::specs::AsciiReading::AnswersText, crate::specs::AsciiReading::lists_of_file, crate::specs::AsciiReading::input_of, crate::specs::AsciiReading::latch_fields, crate::specs::AsciiReading::gate_fields, crate::specs::Reading::next_fields, crate::specs::Reading::properties_at, crate::specs::Reading::literal_on, crate::specs::Reading::size_of, crate::specs::Reading::header_fields, crate::specs::Reading::header_form, crate::specs::Reading::fitting, crate::specs::Reading::counts_of, base::specs::Decimals::number_of, base::specs::Decimals::capped_value, base::specs::Decimals::is_decimal))]
 pub fn worked_ascii_readings()
     ensures nothing { AnswersText (codes "aag 0 0 0 0 0\nc\nany") (Ok nothing) }
     ensures no_fault { ¬ AnswersText (codes "aag 0 0 0 0 0\nc\nany") (Err (record { left = 0; why = why.Truncated })) }

@@ -90,7 +90,7 @@ fn signed_at(line: &[u8]) -> Result<(i128, &[u8]), Why>
 }
 
 /// What the tokens behind a constant's word say, and the line behind them.
-#[tactic(auto, unfolding(crate::specs::Reading::constant_at))]
+#[tactic(auto, unfolding(crate::specs::Reading::constant_told))]
 pub(crate) fn constant_at(constant: Constant, line: &[u8]) -> Result<(Body, &[u8]), Why>
     ensures { IsAsLineRead (λ x. (x.0, tokens x.1.now)) result (constant_told constant (tokens line.now)) }
 {

@@ -58,7 +58,7 @@ fn number_at(line: &[u8]) -> Option<(u64, &[u8])>
 /// The same as `plain_at`: the first token is cut off, and then read.
 #[cold]
 #[inline(never)]
-#[tactic(auto, unfolding(crate::specs::Reading::plain_at, crate::specs::Reading::plain))]
+#[tactic(auto, unfolding(crate::specs::Reading::plain_at, crate::specs::Reading::plain_number))]
 fn plain_token_at(line: &[u8]) -> Result<(u64, &[u8]), Why>
     ensures { IsAsLineRead (λ x. (x.0, tokens x.1.now)) result (plain_at (tokens line.now)) }
 {
@@ -100,7 +100,7 @@ pub(crate) fn sort_at(line: &[u8]) -> Result<(u32, &[u8]), Why>
 /// The bit that a slice keeps of a number: bits have 32 bits, and what is above is kept as the greatest of these, which no
 /// node has.
 #[inline(always)]
-#[tactic(auto, unfolding(crate::specs::Reading::kept_bit))]
+#[tactic(auto, unfolding(crate::specs::Reading::kept_slice_bit))]
 fn kept_bit(number: u64) -> u32
     ensures { result ≡ kept_slice_bit number }
 {
@@ -144,7 +144,7 @@ pub(crate) fn operand_at(line: &[u8]) -> Result<(u32, &[u8]), Why>
 }
 
 /// The width behind `sort`, and the line behind it.
-#[tactic(auto, unfolding(crate::specs::Reading::width_at))]
+#[tactic(auto, unfolding(crate::specs::Reading::width_told))]
 pub(crate) fn width_at(line: &[u8]) -> Result<(u64, &[u8]), Why>
     ensures { IsAsLineRead (λ x. (x.0, tokens x.1.now)) result (width_told (tokens line.now)) }
 {

@@ -123,7 +123,7 @@ enum First {
 }
 
 /// What the first file of a command is.
-#[tactic(auto, unfolding(crate::specs::Done::first_of))]
+#[tactic(auto, unfolding(crate::specs::Done::first_file))]
 fn first_of(task: Task) -> First
     ensures { result ≡ first_file task }
 {
@@ -145,7 +145,7 @@ fn first_of(task: Task) -> First
 }
 
 /// Does a command, and tells no refusal.
-#[tactic(auto, unfolding(crate::specs::Done::first_of, crate::specs::Done::has_one_file, crate::specs::Done::has_three_files))]
+#[tactic(auto, unfolding(crate::specs::Done::first_file, crate::specs::Done::has_one_file, crate::specs::Done::has_three_files))]
 fn obey<A: Source, B: Source, T: Source, O: Sink, E: Sink, W: Watch>(
     alloc: Global,
     order: &Order<'_>,
@@ -175,7 +175,7 @@ fn obey<A: Source, B: Source, T: Source, O: Sink, E: Sink, W: Watch>(
 }
 
 /// Does a command on certificates.
-#[tactic(auto, unfolding(crate::specs::Done::Answers, crate::specs::Done::AnswersByName, crate::specs::Done::first_of, crate::specs::Done::is_quiet, crate::specs::Done::has_three_files, crate::specs::Refusals::Refuses, crate::specs::Refusals::RefusesByName))]
+#[tactic(auto, unfolding(crate::specs::Done::Answers, crate::specs::Done::AnswersByName, crate::specs::Done::first_file, crate::specs::Done::is_quiet, crate::specs::Done::has_three_files, crate::specs::Refusals::RefusesTask, crate::specs::Refusals::RefusesByName))]
 fn obey_on_certificates<A: Source, B: Source, T: Source, O: Sink, E: Sink, W: Watch>(
     alloc: Global,
     task: Task,
@@ -239,7 +239,7 @@ fn obey_two<A: Source, B: Source, O: Sink, E: Sink, W: Watch>(
 }
 
 /// Does a command on a text that is read as it comes.
-#[tactic(auto, unfolding(crate::specs::Done::Answers, crate::specs::Done::first_of, crate::specs::Refusals::Refuses))]
+#[tactic(auto, unfolding(crate::specs::Done::Answers, crate::specs::Done::first_file, crate::specs::Refusals::RefusesTask))]
 fn obey_on_text<A: Source, O: Sink, W: Watch>(
     alloc: Global,
     order: &Order<'_>,
@@ -285,7 +285,7 @@ fn obey_on_model<A: Source, B: Source, O: Sink, E: Sink, W: Watch>(
 }
 
 /// Does a command on a model that was read.
-#[tactic(auto, unfolding(crate::specs::Done::Answers, crate::specs::Done::AnswersByName, crate::specs::Done::first_of, crate::specs::Done::is_quiet, crate::specs::Done::has_one_file, crate::specs::Refusals::Refuses, crate::specs::Refusals::RefusesByName))]
+#[tactic(auto, unfolding(crate::specs::Done::Answers, crate::specs::Done::AnswersByName, crate::specs::Done::first_file, crate::specs::Done::is_quiet, crate::specs::Done::has_one_file, crate::specs::Refusals::RefusesTask, crate::specs::Refusals::RefusesByName))]
 fn do_on_model<B: Source, O: Sink, E: Sink, W: Watch>(
     alloc: Global,
     order: &Order<'_>,
@@ -354,7 +354,7 @@ fn obey_on_circuit<A: Source, B: Source, O: Sink, E: Sink>(
 }
 
 /// Does a command on a circuit that was read.
-#[tactic(auto, unfolding(crate::specs::Done::Answers, crate::specs::Done::AnswersByName, crate::specs::Done::first_of, crate::specs::Done::is_quiet, crate::specs::Done::has_one_file, crate::specs::Refusals::Refuses, crate::specs::Refusals::RefusesByName))]
+#[tactic(auto, unfolding(crate::specs::Done::Answers, crate::specs::Done::AnswersByName, crate::specs::Done::first_file, crate::specs::Done::is_quiet, crate::specs::Done::has_one_file, crate::specs::Refusals::RefusesTask, crate::specs::Refusals::RefusesByName))]
 fn do_on_circuit<B: Source, O: Sink, E: Sink>(
     alloc: Global,
     order: &Order<'_>,

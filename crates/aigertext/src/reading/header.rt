@@ -74,7 +74,7 @@ fn counts_of(numbers: &[u64]) -> Result<Counts, Why>
 }
 
 /// The form that a word is of.
-#[tactic(auto, unfolding(crate::specs::Reading::form_of))]
+#[tactic(auto, unfolding(crate::specs::Reading::header_form))]
 fn form_of(word: &[u8]) -> Result<Form, Why>
     ensures { IsAsRead (λ x. x) result (header_form word.now) }
 {

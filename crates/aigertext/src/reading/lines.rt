@@ -75,7 +75,7 @@ pub fn latch_line(form: Form, text: &[u8], greatest: u32, own: u32) -> Result<(L
 }
 
 /// The literal of the first line, and the text behind it.
-#[tactic(auto, unfolding(crate::specs::Reading::literal_of))]
+#[tactic(auto, unfolding(crate::specs::Reading::literal_on))]
 pub fn literal_line(text: &[u8], greatest: u32) -> Result<(Lit, &[u8]), Stop>
     ensures { IsAsRead (λ x. (x.0, x.1.now)) result (line_at (literal_on greatest) text.now) }
 {

@@ -10,7 +10,7 @@ use aiger::{Circuit, CircuitFault, Section};
 use base::{cut_at, decimal, next_line};
 
 /// The section that a letter stands for.
-#[tactic(auto, unfolding(crate::specs::Reading::section_of))]
+#[tactic(auto, unfolding(crate::specs::Reading::section_with_letter))]
 fn section(letter: u8) -> Option<Section>
     ensures { result ≡ section_with_letter letter }
 {
