@@ -87,7 +87,7 @@ one_judgement f text i j (inl a) (inl b) = a.1 ∙ sym b.1
 one_judgement f text i j (inl a) (inr b) = absurd (b.0 a.0)
 one_judgement f text i j (inr a) (inl b) = absurd (a.0 b.0)
 one_judgement f text i j (inr a) (inr b) =
-    let reading : Reading = read_proof f.variables text in
+    let reading : ProofReading = read_proof f.variables text in
     same_judgement reading.fault reading.steps f.clauses a.1.0 b.1.0 i j
     (closures_hold f.clauses no_literal no_literal a.1.0 b.1.0 (λ l on. on) a.1.1.0 b.1.1.0)
     (closures_hold f.clauses no_literal no_literal b.1.0 a.1.0 (λ l on. on) b.1.1.0 a.1.1.0)
@@ -117,6 +117,6 @@ nothing_holds s l on = absurd (cc)
 pub derived_sound : (f : Formula) (text : List ℕ) (n : ℕ) → JudgesProof f text (judgement.Derived n) → IsUnsatisfiable f
 derived_sound f text n (inl j) a sat = is_unsatisfied f.clauses no_literal j.0 a (record { satisfies = sat; holds = nothing_holds (literal_value a) })
 derived_sound f text n (inr j) a sat =
-    let reading : Reading = read_proof f.variables text in
+    let reading : ProofReading = read_proof f.variables text in
     steps_sound reading.fault reading.steps f.clauses j.1.0 n j.1.1.1 a
     (record { satisfies = sat; holds = j.1.1.0.least (literal_value a) (true_closed_all a f.clauses sat) (nothing_holds (literal_value a)) })

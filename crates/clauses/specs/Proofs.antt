@@ -108,7 +108,7 @@ refused n w = record { steps = []; fault = Some (record { line = n; why = w }) }
 abbrev pub reading_from : ℕ → Bool → List ℕ → List Mark → ProofReading
 reading_from last deleting clause [] = if has_begun deleting clause then refused last why.CutOff else record { steps = []; fault = None }
 reading_from last deleting clause (mark n ends ∷ marks) =
-    let behind : Reading = reading_from last false [] marks in
+    let behind : ProofReading = reading_from last false [] marks in
     record behind { steps = ended n (step_of deleting clause) ∷ behind.steps }
 reading_from last deleting clause (mark n deletes ∷ marks) = if has_begun deleting clause then refused n why.BadWord else reading_from last true [] marks
 reading_from last deleting clause (mark n (literal l) ∷ marks) = reading_from last deleting (clause ++ l ∷ []) marks

@@ -217,7 +217,7 @@ rows_read : (latches width : ℕ) (named : List ℕ) (before : List (List ℕ)) 
     → tells latches (Ok (at_cubes width (length rows) named before)) (map cube_line rows ++ codes ".e" ∷ []) ≡ Some (before ++ map (cube_literals named) rows)
 rows_read latches width named before [] wide ask = ap Some (sym (append-nil before))
 rows_read latches width named before (parts ∷ rows) wide ask =
-    let r : Reading = at_cubes width (suc (length rows)) named before in
+    let r : CubesReading = at_cubes width (suc (length rows)) named before in
     let more : List (List ℕ) = map cube_line rows ++ codes ".e" ∷ [] in
     let cube : List ℕ = cube_literals named parts in
     let asks = and_parts (asks_one cube) (list_all asks_one (map (cube_literals named) rows)) ask in

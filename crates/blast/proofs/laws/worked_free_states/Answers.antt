@@ -39,8 +39,8 @@ returns-clause-follower_is_circuit c =
 pub returns-clause-input_is_circuit : goal.returns-clause-input_is_circuit
 unfolding IsStrictlySortedBy
 returns-clause-input_is_circuit c =
-    let few : HasFew one_input = search rules in
-    let defined : HasDefined (net input_circuit) one_input = search rules in
+    let few : HasFew input_circuit = search rules in
+    let defined : HasDefined (net input_circuit) input_circuit = search rules in
     record {
       small = omega arith;
       few = few;

@@ -7,7 +7,7 @@ use Rattle.engine.proofs.laws.worked_circuits.Goals as goal
 
 pub returns-clause-toggler : goal.returns-clause-toggler
 returns-clause-toggler c = (
-  (let few : HasFew toggler = search rules in let defined : HasDefined (net negated_toggler) toggler = search rules in plain_circuit negated_toggler (omega arith) few tt defined refl),
+  (let few : HasFew negated_toggler = search rules in let defined : HasDefined (net negated_toggler) negated_toggler = search rules in plain_circuit negated_toggler (omega arith) few tt defined refl),
   (let few : HasFew toggler_form = search rules in let defined : HasDefined (net toggler_form) toggler_form = search rules in plain_circuit toggler_form (omega arith) few tt defined refl),
 )
 
