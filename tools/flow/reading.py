@@ -1,0 +1,260 @@
+"""A design as a model that `hwtool` takes: Verilog by Yosys, with the steps that docs/FLOW.md has for it; BTOR2; AIGER."""
+import json
+import re
+import shutil
+from dataclasses import dataclass, field
+from pathlib import Path
+from typing import Dict, List, Optional, Sequence, Set, Tuple
+
+from .engines import InputRefused, WordsRefused, missing_line
+from .model import Kind, Model, Property
+from .program import Broke, Program, Stopped
+from .running import Ended, Ending, Runner, tail_of
+
+VERILOG, SYSTEM_VERILOG, BTOR2, AIGER = {".v", ".vh"}, {".sv", ".svh"}, {".btor2", ".btor"}, {".aig", ".aag"}
+# Registers and latches of Yosys that do not wait for a clock, or not alone.
+ASYNCHRONOUS = re.compile(r"\$(adffe?|aldffe?|dffsre?|a?dlatch|dlatchsr|sr)$")
+
+WRITE_ONE = {
+    "Verilog": "as in `always @* has_room: assert (count <= 4);`",
+    "BTOR2": "as in `10 bad 9`, of a node of one bit",
+    "AIGER": "a bad property (the header's number behind outputs, latches and gates), or an output",
+}
+
+
+@dataclass(frozen=True)
+class Remedy:
+    """What Yosys may do at the end, so that a model is taken: its steps, what is written, and what to say of it."""
+
+    steps: Sequence[str]
+    note: str = ""
+    kind: Kind = Kind.WORDS
+
+
+PLAIN = Remedy([])
+BY_BITS = Remedy(["setundef -undriven -anyseq", "techmap", "aigmap"], "as a circuit", Kind.CIRCUIT)
+# By the number of the refusal, what to try in order; a circuit always goes.
+REMEDIES = {
+    5: [
+        Remedy(["setundef -undriven -anyseq", "setattr -unset keep", "opt_clean -purge"], "wide words without names dropped"),
+        Remedy(["techmap", "simplemap", "splitnets -ports"], "wide words as bits"),
+        BY_BITS,
+    ],
+    11: [Remedy(["simplemap t:$dff t:$ff", "splitnets"], "registers as bits"), BY_BITS],
+}
+
+
+@dataclass(frozen=True)
+class Wanted:
+    """What the words of the command line say of a design."""
+
+    files: List[Path]
+    top: Optional[str] = None
+    script: Optional[Path] = None
+    clocked_resets: bool = False
+
+
+@dataclass
+class Seen:
+    """What a flat design has: its clocks, each a signal and an edge, whether some register waits for none, and memories."""
+
+    clocks: Set[Tuple[str, bool]] = field(default_factory=set)
+    asynchronous: bool = False
+    memories: bool = False
+
+    def names(self) -> List[str]:
+        """The clocks' names."""
+        return sorted({name for name, _ in self.clocks})
+
+
+class Reader:
+    """Makes a model of a design, in the folder `work`; its models are judged readable by `hwtool` alone."""
+
+    def __init__(self, wanted: Wanted, program: Program, runner: Runner, work: Path) -> None:
+        self.wanted, self.program, self.runner, self.work = wanted, program, runner, work
+
+    def model(self) -> Model:
+        """The model, with its properties; refused where there is none, or it has none."""
+        ends = {it.suffix.lower() for it in self.wanted.files}
+        for it in self.wanted.files:
+            if not it.is_file():
+                raise Broke(f"{it}: no such file")
+        if ends <= VERILOG | SYSTEM_VERILOG:
+            return self.having(self.of_verilog(bool(ends & SYSTEM_VERILOG)), "Verilog")
+        if len(self.wanted.files) == 1 and ends <= BTOR2:
+            return self.having(self.taken(self.copied(Kind.WORDS), Kind.WORDS, ["a BTOR2 model"]), "BTOR2")
+        if len(self.wanted.files) == 1 and ends <= AIGER:
+            return self.having(self.of_circuit(), "AIGER")
+        raise WordsRefused("a design is files of Verilog (.v, .sv), or one of BTOR2 (.btor2, .btor) or AIGER (.aig, .aag)")
+
+    def having(self, model: Model, language: str) -> Model:
+        """A model that has a property."""
+        if not model.properties:
+            raise InputRefused(f"{self.wanted.files[0]}: it has no property; write one, {WRITE_ONE[language]}")
+        return model
+
+    def copied(self, kind: Kind) -> Path:
+        """The file of the design, in the folder of work."""
+        into = self.work / f"model.{kind.value}"
+        shutil.copyfile(self.wanted.files[0], into)
+        return into
+
+    # ---- models and circuits
+
+    def taken(self, path: Path, kind: Kind, notes: List[str], clock: Optional[str] = None) -> Model:
+        """A model that `hwtool` takes, with its properties; refused in its words where it does not."""
+        place = f"{self.work.name}/{path.name}"
+        said = self.program.call(*(["lower"] if kind is Kind.WORDS else ["aig-convert"]), "--engine", "--binary", "-o", f"{self.work.name}/form", place, aside=self.work)
+        if said.status != 0:
+            raise NotTaken(self.wanted.files[0], said.line)
+        (self.work / "form").unlink()
+        properties = self.of_model(path, place) if kind is Kind.WORDS else self.of_names(place)
+        return Model(kind, path, properties, notes, clock)
+
+    def of_model(self, path: Path, place: str) -> List[Property]:
+        """The bad properties of a model in BTOR2, in the one spelling that `show` gives, with the places that Yosys noted."""
+        shown = self.listed("show", place)
+        lines = re.findall(r"^(\d+) bad \d+(?: (\S+))?$", shown, flags=re.M)
+        places = dict(re.findall(r"^(\d+) bad .*; (\S.*?)\s*$", path.read_text(encoding="utf-8", errors="replace"), flags=re.M))
+        return [Property(number, name, places.get(line, "")) for number, (line, name) in enumerate(lines)]
+
+    def of_circuit(self) -> Model:
+        """A circuit, of which the outputs are the properties where there are no others."""
+        model = self.taken(self.copied(Kind.CIRCUIT), Kind.CIRCUIT, ["an AIGER circuit"])
+        if model.properties:
+            return model
+        place = f"{self.work.name}/{model.path.name}"
+        said = self.program.call("aig-convert", "--outputs", "--binary", "-o", place, place, aside=self.work)
+        if said.status != 0:
+            raise NotTaken(self.wanted.files[0], said.line)
+        return self.taken(model.path, Kind.CIRCUIT, ["an AIGER circuit", "its outputs as properties"])
+
+    def of_names(self, place: str) -> List[Property]:
+        """The bad properties of a circuit, by its header and its names."""
+        shown = self.listed("aig-convert", place)
+        header = shown.split("\n", 1)[0].split()
+        names = dict(re.findall(r"^b(\d+) (.*)$", shown, flags=re.M))
+        return [Property(number, names.get(str(number), "")) for number in range(int(header[6]) if len(header) > 6 else 0)]
+
+    def listed(self, command: str, place: str) -> str:
+        """The text that a command makes of a model."""
+        into = self.work / "listed"
+        said = self.program.call(command, "-o", f"{self.work.name}/listed", place, aside=self.work)
+        if said.status != 0:
+            raise NotTaken(self.wanted.files[0], said.line)
+        text = into.read_text(encoding="utf-8", errors="replace")
+        into.unlink()
+        return text
+
+    # ---- Verilog
+
+    def of_verilog(self, system: bool) -> Model:
+        """A model by Yosys, with the steps for what the design has, and the remedies for what `hwtool` refuses."""
+        frontend = "verilog -formal -sv" if system else "verilog -formal"
+        if shutil.which("yosys") is None:
+            raise Broke(missing_line("yosys"))
+        if self.wanted.script:
+            steps, notes, clock = [f"script {self.plain(self.wanted.script)}"], [f"by yosys and {self.wanted.script.name}"], None
+        else:
+            steps, notes, clock = self.steps(self.seen(frontend))
+        remedies = [PLAIN]
+        while remedies:
+            remedy = remedies.pop(0)
+            try:
+                path = self.work / f"model.{remedy.kind.value}"
+                self.yosys(frontend, [*steps, *remedy.steps], "aiger -zinit" if remedy.kind is Kind.CIRCUIT else "btor", path)
+                return self.taken(path, remedy.kind, [*notes, *filter(None, [remedy.note])], clock)
+            except NotTaken as fault:
+                if remedy is PLAIN:
+                    remedies = list(REMEDIES.get(fault.number, []))
+                if not remedies:
+                    raise
+
+    def plain(self, path: Path) -> str:
+        """A file by a name that a script of Yosys can say: a copy of it."""
+        into = self.work / "given.ys"
+        shutil.copyfile(path, into)
+        return "given.ys" if into.parent == self.work else str(into)
+
+    def top(self) -> str:
+        """The step that makes one module of the design."""
+        return f"prep -flatten -top {self.wanted.top}" if self.wanted.top else "prep -flatten -auto-top"
+
+    def seen(self, frontend: str) -> Seen:
+        """What the flat design has."""
+        path = self.work / "seen.json"
+        self.yosys(frontend, [self.top(), "memory_map"], "json", path)
+        found = seen_in(json.loads(path.read_text(encoding="utf-8")))
+        path.unlink()
+        return found
+
+    def steps(self, seen: Seen) -> Tuple[List[str], List[str], Optional[str]]:
+        """The steps of Yosys for what a design has; what to say of it; and its one clock, if each frame is an edge of that."""
+        clocks = f"{len(seen.clocks)} clocks ({', '.join(f'{name}' if up else f'falling {name}' for name, up in sorted(seen.clocks))})"
+        by_steps = [self.top(), "clk2fflogic", "memory_map -formal", "dffunmap"]
+        if len(seen.clocks) > 1 or seen.memories:
+            return by_steps, ["by yosys", clocks + ", by clk2fflogic"], None
+        one = "one clock" if seen.clocks else "no clock"
+        clock = seen.names()[0] if seen.clocks else None
+        if not seen.asynchronous:
+            return [self.top(), "memory_map", "dffunmap"], ["by yosys", one], clock
+        if self.wanted.clocked_resets:
+            return [self.top(), "memory_map", "async2sync", "dffunmap"], ["by yosys", f"{one}, resets and latches with it, by async2sync"], clock
+        return by_steps, ["by yosys", f"{one}, resets or latches that do not wait for it, by clk2fflogic"], None
+
+    def yosys(self, frontend: str, steps: List[str], backend: str, into: Path) -> None:
+        """Runs steps of Yosys over the files of the design, and writes what comes of it. Names stand where nothing takes them apart."""
+        script = self.work / "steps.ys"
+        script.write_text("\n".join(steps) + "\n", encoding="utf-8")
+        log = self.work / "yosys.log"
+        words = ["yosys", "-q", "-f", frontend, "-b", backend, "-o", str(into), "-s", str(script), *map(str, self.wanted.files)]
+        ended = self.runner.run(words, Path.cwd(), log)
+        if ended.how is Ending.STOPPED:
+            raise Stopped
+        if ended.status != 0:
+            raise fault_of(ended, tail_of(log), self.wanted.files[0])
+
+
+class NotTaken(InputRefused):
+    """A model that `hwtool` refuses, with the number of the refusal."""
+
+    def __init__(self, design: Path, line: str) -> None:
+        super().__init__(f"{design}: {line.split(': ', 1)[-1]}")
+        found = re.search(r": (\d+) [A-Z]\w+$", line)
+        self.number = int(found[1]) if found else 0
+
+
+def fault_of(ended: Ended, log: str, design: Path) -> Exception:
+    """What to say of a run of Yosys that did not do well: refused where it says why."""
+    errors = re.findall(r"^.*ERROR: .*", log, flags=re.M)
+    return InputRefused(f"{design}: yosys: {errors[-1]}") if errors and ended.status > 0 else Broke(f"yosys: {ended}: {log.strip()[-200:]}")
+
+
+def seen_in(design: Dict) -> Seen:
+    """What Yosys's JSON of a flat design tells of clocks, registers and memories."""
+    modules = design["modules"]
+    tops = [it for it in modules.values() if int(it.get("attributes", {}).get("top", "0"), 2)]
+    module = (tops or list(modules.values()))[0]
+    names = names_of(module)
+    seen = Seen()
+    for cell in module["cells"].values():
+        kind, ends, said = cell["type"], cell["connections"], cell["parameters"]
+        seen.asynchronous |= bool(ASYNCHRONOUS.match(kind))
+        seen.memories |= kind.startswith("$mem")
+        if kind == "$ff":
+            seen.clocks.add(("the formal clock", True))
+        elif "CLK" in ends and "CLK_POLARITY" in said:
+            bit = ends["CLK"][0]
+            seen.clocks.add((names.get(bit, f"bit {bit}"), said["CLK_POLARITY"].endswith("1")))
+    return seen
+
+
+def names_of(module: Dict) -> Dict:
+    """The name of each bit of a module: one of the design's own, if there is one, and the shortest."""
+    found = {}
+    for name, net in module["netnames"].items():
+        for place, bit in enumerate(net["bits"]):
+            one = name if len(net["bits"]) == 1 else f"{name}[{place}]"
+            if bit not in found or (one.startswith("$"), len(one), one) < (found[bit].startswith("$"), len(found[bit]), found[bit]):
+                found[bit] = one
+    return found
