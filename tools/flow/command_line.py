@@ -47,6 +47,7 @@ def words_of(arguments: List[str]) -> argparse.Namespace:
     it.add_argument("--solver", metavar="SOLVER", help=f"what makes proofs in ascii DRAT: {', '.join(one.name for one in engines.SOLVERS)}, or NAME=COMMAND with {{formula}} and {{proof}}")
     it.add_argument("--yosys", type=Path, metavar="SCRIPT", help="steps of Yosys between reading the files and writing the model, in place of those that hwtool-flow chooses")
     it.add_argument("--clocked-resets", action="store_true", help="resets and latches change with the one clock alone: async2sync, in place of clk2fflogic")
+    it.add_argument("--zero-undefined", action="store_true", help="undefined bits are 0; else they are any, in each frame anew")
     it.add_argument("-o", "--output", type=Path, metavar="FOLDER", help="the folder of results (NAME.flow)")
     it.add_argument("--json", action="store_true", help="print results.json, and all else on standard error")
     it.add_argument("--hwtool", metavar="PROGRAM", help="the program that checks; else the one beside hwtool-flow, or on the path")

@@ -44,6 +44,10 @@ class Model:
     notes: List[str] = field(default_factory=list)
     # the design's one clock, where Yosys made a frame of each of its edges
     clock: Optional[str] = None
+    # the steps of Yosys by which it was made
+    steps: List[str] = field(default_factory=list)
+    # the names of a circuit's inputs
+    inputs: List[str] = field(default_factory=list)
 
     @property
     def name(self) -> str:

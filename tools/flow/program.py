@@ -60,7 +60,7 @@ class Program:
     def call(self, *words: str, aside: Path) -> Said:
         """A call; what it says goes through two files in the folder `aside`. A device that failed is `Broke`."""
         out, told = aside / "hwtool.out", aside / "hwtool.told"
-        ended = self.runner.run([self.path, *words], self.folder, out, told, self.seconds)
+        ended = self.runner.run_own([self.path, *words], self.folder, out, told, self.seconds)
         if ended.how is Ending.STOPPED:
             raise Stopped
         if ended.how is Ending.OUT_OF_TIME:

@@ -13,11 +13,12 @@ from .model import Kind, Model, Property
 from .program import Broke, Judged, Program, Stopped
 from .results import Claim, Folder, Outcome, Try, Verdict
 from .running import Ended, Ending, Runner, tail_of
+from .waves import read_dump, saved_file, shown
 
 # What an engine, and what a solver, may write into one file.
 ENGINE_BYTES = 64 << 20
 SOLVER_BYTES = 4 << 30
-FORM, WITNESS, DUMP, INVARIANT, FORMULA, PROOF = "form.aig", "witness", "dump.vcd", "invariant", "formula.cnf", "proof"
+FORM, WITNESS, DUMP, SAVED, INVARIANT, FORMULA, PROOF = "form.aig", "witness", "dump.vcd", "dump.gtkw", "invariant", "formula.cnf", "proof"
 
 
 @dataclass
@@ -237,9 +238,11 @@ class Job:
         return program.judge_holding(model, number, self.name(INVARIANT), self.name(PROOF), self.aside)
 
     def draw(self) -> None:
-        """Writes the frames of a witness of a model for GTKWave."""
-        if self.prover.model.kind is Kind.WORDS:
-            self.prover.program.dump(self.prover.model, self.name(WITNESS), self.name(DUMP), self.aside)
+        """Writes the frames of a witness of a model for GTKWave, and which signals are to be seen first."""
+        model = self.prover.model
+        if model.kind is Kind.WORDS and self.prover.program.dump(model, self.name(WITNESS), self.name(DUMP), self.aside).status == 0:
+            seen = shown(read_dump(self.kept / DUMP), self.property, model.clock or "")
+            (self.kept / SAVED).write_text(saved_file(DUMP, seen), encoding="utf-8")
 
     def place_of(self, found: Path) -> str:
         """A file beside the results, as `hwtool` is told it."""

@@ -31,6 +31,7 @@ class Remedy:
     kind: Kind = Kind.WORDS
 
 
+BACKENDS = {Kind.WORDS: "btor", Kind.CIRCUIT: "aiger -zinit"}
 PLAIN = Remedy([])
 BY_BITS = Remedy(["setundef -undriven -anyseq", "techmap", "aigmap"], "as a circuit", Kind.CIRCUIT)
 # By the number of the refusal, what to try in order; a circuit always goes.
@@ -52,19 +53,21 @@ class Wanted:
     top: Optional[str] = None
     script: Optional[Path] = None
     clocked_resets: bool = False
+    zero_undefined: bool = False
 
 
 @dataclass
 class Seen:
-    """What a flat design has: its clocks, each a signal and an edge, whether some register waits for none, and memories."""
+    """What a flat design has: its clocks, each a signal and an edge; registers that wait for none; memories; undefined bits."""
 
     clocks: Set[Tuple[str, bool]] = field(default_factory=set)
     asynchronous: bool = False
     memories: bool = False
+    undefined: bool = False
 
     def names(self) -> List[str]:
-        """The clocks' names."""
-        return sorted({name for name, _ in self.clocks})
+        """The clocks' names, of falling ones as such."""
+        return sorted(name if rises else f"falling {name}" for name, rises in self.clocks)
 
 
 class Reader:
@@ -82,7 +85,7 @@ class Reader:
         if ends <= VERILOG | SYSTEM_VERILOG:
             return self.having(self.of_verilog(bool(ends & SYSTEM_VERILOG)), "Verilog")
         if len(self.wanted.files) == 1 and ends <= BTOR2:
-            return self.having(self.taken(self.copied(Kind.WORDS), Kind.WORDS, ["a BTOR2 model"]), "BTOR2")
+            return self.having(self.taken(self.copied(Kind.WORDS), Kind.WORDS, ["as BTOR2"]), "BTOR2")
         if len(self.wanted.files) == 1 and ends <= AIGER:
             return self.having(self.of_circuit(), "AIGER")
         raise WordsRefused("a design is files of Verilog (.v, .sv), or one of BTOR2 (.btor2, .btor) or AIGER (.aig, .aag)")
@@ -101,45 +104,41 @@ class Reader:
 
     # ---- models and circuits
 
-    def taken(self, path: Path, kind: Kind, notes: List[str], clock: Optional[str] = None) -> Model:
+    def taken(self, path: Path, kind: Kind, notes: List[str], clock: Optional[str] = None, steps: Sequence[str] = ()) -> Model:
         """A model that `hwtool` takes, with its properties; refused in its words where it does not."""
         place = f"{self.work.name}/{path.name}"
-        said = self.program.call(*(["lower"] if kind is Kind.WORDS else ["aig-convert"]), "--engine", "--binary", "-o", f"{self.work.name}/form", place, aside=self.work)
-        if said.status != 0:
-            raise NotTaken(self.wanted.files[0], said.line)
-        (self.work / "form").unlink()
-        properties = self.of_model(path, place) if kind is Kind.WORDS else self.of_names(place)
-        return Model(kind, path, properties, notes, clock)
+        properties, inputs = (self.of_model(path, place), []) if kind is Kind.WORDS else self.of_names(place)
+        if properties:
+            self.made("lower" if kind is Kind.WORDS else "aig-convert", "--engine", "--binary", "--bad", "0", place)
+        return Model(kind, path, properties, notes, clock, list(steps), inputs)
 
     def of_model(self, path: Path, place: str) -> List[Property]:
         """The bad properties of a model in BTOR2, in the one spelling that `show` gives, with the places that Yosys noted."""
-        shown = self.listed("show", place)
+        shown = self.made("show", place)
         lines = re.findall(r"^(\d+) bad \d+(?: (\S+))?$", shown, flags=re.M)
         places = dict(re.findall(r"^(\d+) bad .*; (\S.*?)\s*$", path.read_text(encoding="utf-8", errors="replace"), flags=re.M))
         return [Property(number, name, places.get(line, "")) for number, (line, name) in enumerate(lines)]
 
     def of_circuit(self) -> Model:
         """A circuit, of which the outputs are the properties where there are no others."""
-        model = self.taken(self.copied(Kind.CIRCUIT), Kind.CIRCUIT, ["an AIGER circuit"])
+        model = self.taken(self.copied(Kind.CIRCUIT), Kind.CIRCUIT, ["as AIGER"])
         if model.properties:
             return model
-        place = f"{self.work.name}/{model.path.name}"
-        said = self.program.call("aig-convert", "--outputs", "--binary", "-o", place, place, aside=self.work)
-        if said.status != 0:
-            raise NotTaken(self.wanted.files[0], said.line)
-        return self.taken(model.path, Kind.CIRCUIT, ["an AIGER circuit", "its outputs as properties"])
+        model.path.write_text(self.made("aig-convert", "--outputs", f"{self.work.name}/{model.path.name}"), encoding="utf-8")
+        return self.taken(model.path, Kind.CIRCUIT, ["as AIGER", "its outputs as properties"])
 
-    def of_names(self, place: str) -> List[Property]:
-        """The bad properties of a circuit, by its header and its names."""
-        shown = self.listed("aig-convert", place)
-        header = shown.split("\n", 1)[0].split()
-        names = dict(re.findall(r"^b(\d+) (.*)$", shown, flags=re.M))
-        return [Property(number, names.get(str(number), "")) for number in range(int(header[6]) if len(header) > 6 else 0)]
+    def of_names(self, place: str) -> Tuple[List[Property], List[str]]:
+        """The bad properties of a circuit, and the names of its inputs, by its header and its table of names."""
+        shown = self.made("aig-convert", place)
+        header = [int(it) for it in shown.split("\n", 1)[0].split()[1:]]
+        names = dict(re.findall(r"^([bi]\d+) (.*)$", shown, flags=re.M))
+        properties = [Property(number, names.get(f"b{number}", "")) for number in range(header[5] if len(header) > 5 else 0)]
+        return properties, [names.get(f"i{number}", f"i{number}") for number in range(header[1])]
 
-    def listed(self, command: str, place: str) -> str:
-        """The text that a command makes of a model."""
-        into = self.work / "listed"
-        said = self.program.call(command, "-o", f"{self.work.name}/listed", place, aside=self.work)
+    def made(self, *words: str) -> str:
+        """The text that a command makes; refused in the words of `hwtool` where it makes none."""
+        into = self.work / "made"
+        said = self.program.call(*words, "-o", f"{self.work.name}/made", aside=self.work)
         if said.status != 0:
             raise NotTaken(self.wanted.files[0], said.line)
         text = into.read_text(encoding="utf-8", errors="replace")
@@ -154,7 +153,7 @@ class Reader:
         if shutil.which("yosys") is None:
             raise Broke(missing_line("yosys"))
         if self.wanted.script:
-            steps, notes, clock = [f"script {self.plain(self.wanted.script)}"], [f"by yosys and {self.wanted.script.name}"], None
+            steps, notes, clock = self.wanted.script.read_text(encoding="utf-8").splitlines(), [f"by yosys and {self.wanted.script.name}"], None
         else:
             steps, notes, clock = self.steps(self.seen(frontend))
         remedies = [PLAIN]
@@ -162,19 +161,15 @@ class Reader:
             remedy = remedies.pop(0)
             try:
                 path = self.work / f"model.{remedy.kind.value}"
-                self.yosys(frontend, [*steps, *remedy.steps], "aiger -zinit" if remedy.kind is Kind.CIRCUIT else "btor", path)
-                return self.taken(path, remedy.kind, [*notes, *filter(None, [remedy.note])], clock)
+                whole, backend = [*steps, *remedy.steps], BACKENDS[remedy.kind]
+                self.yosys(frontend, whole, backend, path)
+                told = [f"read_{frontend}", *whole, f"write_{backend}"]
+                return self.taken(path, remedy.kind, [*notes, *filter(None, [remedy.note])], clock, told)
             except NotTaken as fault:
                 if remedy is PLAIN:
                     remedies = list(REMEDIES.get(fault.number, []))
                 if not remedies:
                     raise
-
-    def plain(self, path: Path) -> str:
-        """A file by a name that a script of Yosys can say: a copy of it."""
-        into = self.work / "given.ys"
-        shutil.copyfile(path, into)
-        return "given.ys" if into.parent == self.work else str(into)
 
     def top(self) -> str:
         """The step that makes one module of the design."""
@@ -190,17 +185,25 @@ class Reader:
 
     def steps(self, seen: Seen) -> Tuple[List[str], List[str], Optional[str]]:
         """The steps of Yosys for what a design has; what to say of it; and its one clock, if each frame is an edge of that."""
-        clocks = f"{len(seen.clocks)} clocks ({', '.join(f'{name}' if up else f'falling {name}' for name, up in sorted(seen.clocks))})"
-        by_steps = [self.top(), "clk2fflogic", "memory_map -formal", "dffunmap"]
+        middle, note, clock = self.timing(seen)
+        notes, end = ["by yosys", note], ["dffunmap"]
+        if seen.undefined and self.wanted.zero_undefined:
+            notes, end = [*notes, "undefined bits as 0"], ["dffunmap", "setundef -undriven -zero"]
+        elif seen.undefined:
+            notes = [*notes, "undefined bits as any"]
+        return [self.top(), *middle, *end], notes, clock
+
+    def timing(self, seen: Seen) -> Tuple[List[str], str, Optional[str]]:
+        """The steps for clocks, resets, latches and memories; what to say of them; and the one clock."""
+        in_any_step = ["clk2fflogic", "memory_map -formal"]
         if len(seen.clocks) > 1 or seen.memories:
-            return by_steps, ["by yosys", clocks + ", by clk2fflogic"], None
-        one = "one clock" if seen.clocks else "no clock"
-        clock = seen.names()[0] if seen.clocks else None
+            return in_any_step, f"{len(seen.clocks)} clocks ({', '.join(seen.names())}), by clk2fflogic", None
+        one, clock = ("one clock", seen.names()[0]) if seen.clocks else ("no clock", None)
         if not seen.asynchronous:
-            return [self.top(), "memory_map", "dffunmap"], ["by yosys", one], clock
+            return ["memory_map"], one, clock
         if self.wanted.clocked_resets:
-            return [self.top(), "memory_map", "async2sync", "dffunmap"], ["by yosys", f"{one}, resets and latches with it, by async2sync"], clock
-        return by_steps, ["by yosys", f"{one}, resets or latches that do not wait for it, by clk2fflogic"], None
+            return ["memory_map", "async2sync"], f"{one}, resets and latches with it, by async2sync", clock
+        return in_any_step, f"{one}, resets or latches that do not wait for it, by clk2fflogic", None
 
     def yosys(self, frontend: str, steps: List[str], backend: str, into: Path) -> None:
         """Runs steps of Yosys over the files of the design, and writes what comes of it. Names stand where nothing takes them apart."""
@@ -208,7 +211,7 @@ class Reader:
         script.write_text("\n".join(steps) + "\n", encoding="utf-8")
         log = self.work / "yosys.log"
         words = ["yosys", "-q", "-f", frontend, "-b", backend, "-o", str(into), "-s", str(script), *map(str, self.wanted.files)]
-        ended = self.runner.run(words, Path.cwd(), log)
+        ended = self.runner.run(words, Path.cwd(), log, None, None, None)
         if ended.how is Ending.STOPPED:
             raise Stopped
         if ended.status != 0:
@@ -219,9 +222,10 @@ class NotTaken(InputRefused):
     """A model that `hwtool` refuses, with the number of the refusal."""
 
     def __init__(self, design: Path, line: str) -> None:
-        super().__init__(f"{design}: {line.split(': ', 1)[-1]}")
         found = re.search(r": (\d+) [A-Z]\w+$", line)
         self.number = int(found[1]) if found else 0
+        remedy = f"; hwtool explain {self.number} says what to do" if found else ""
+        super().__init__(f"{design}: {line.split(': ', 1)[-1]}{remedy}")
 
 
 def fault_of(ended: Ended, log: str, design: Path) -> Exception:
@@ -236,7 +240,7 @@ def seen_in(design: Dict) -> Seen:
     tops = [it for it in modules.values() if int(it.get("attributes", {}).get("top", "0"), 2)]
     module = (tops or list(modules.values()))[0]
     names = names_of(module)
-    seen = Seen()
+    seen = Seen(undefined=has_undefined(module, names))
     for cell in module["cells"].values():
         kind, ends, said = cell["type"], cell["connections"], cell["parameters"]
         seen.asynchronous |= bool(ASYNCHRONOUS.match(kind))
@@ -247,6 +251,21 @@ def seen_in(design: Dict) -> Seen:
             bit = ends["CLK"][0]
             seen.clocks.add((names.get(bit, f"bit {bit}"), said["CLK_POLARITY"].endswith("1")))
     return seen
+
+
+def has_undefined(module: Dict, names: Dict) -> bool:
+    """Whether some bit is undefined, or used and not driven; not where Yosys puts one for what is not looked at."""
+    used, driven = set(), {"0", "1"}
+    for it in module["ports"].values():
+        (used if it["direction"] == "output" else driven).update(it["bits"])
+    for cell in module["cells"].values():
+        own = any(re.search(r"\$(formal|memwr)\$", names.get(bit, "")) for bit in cell["connections"].get("Y", []))
+        for port, bits in cell["connections"].items():
+            if cell["port_directions"][port] == "output":
+                driven.update(bits)
+            else:
+                used.update(bit for bit in bits if not (own and bit == "x"))
+    return bool(used - driven)
 
 
 def names_of(module: Dict) -> Dict:

@@ -67,9 +67,11 @@ class Outcome:
         """The object of results.json."""
         it = asdict(self)
         it.update(it.pop("property"))
+        it["seconds"] = round(self.seconds, 3)
         it["verdict"] = self.verdict.value
         it["command"] = shlex.join(["hwtool", *self.command]) if self.command else ""
         for one in it["tries"]:
+            one["seconds"] = round(one["seconds"], 3)
             for claim in one["claims"]:
                 claim["verdict"] = claim["verdict"].value
         first = ["number", "name", "place", "verdict", "frame", "engine", "seconds", "check", "command", "said"]
@@ -164,6 +166,8 @@ class Folder:
         """Removes what only the run needed."""
         shutil.rmtree(self.work, ignore_errors=True)
         os.close(self._lock)
+        if not os.listdir(self.path):
+            self.path.rmdir()
 
 
 def sum_of(path: Path) -> str:
@@ -187,7 +191,7 @@ class Results:
 
     def as_json(self) -> str:
         """The text of results.json."""
-        front = {"design": self.design, "model": self.model.name, "sum": self.sum, "reading": self.model.notes, "program": self.program}
+        front = {"design": self.design, "model": self.model.name, "sum": self.sum, "reading": self.model.notes, "steps": self.model.steps, "program": self.program}
         return json.dumps({**front, "properties": [it.as_json() for it in self.outcomes]}, indent=1, ensure_ascii=False) + "\n"
 
     def as_check(self) -> str:

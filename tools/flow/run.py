@@ -84,11 +84,11 @@ class Run:
         for line in self.tools.missing:
             print(f"hwtool-flow: {line}", file=sys.stderr, flush=True)
         version = self.program.version(self.folder.work)
-        wanted = Wanted(self.words.design, self.words.top, self.words.yosys, self.words.clocked_resets)
+        wanted = Wanted(self.words.design, self.words.top, self.words.yosys, self.words.clocked_resets, self.words.zero_undefined)
         model = Reader(wanted, self.program, self.runner, self.folder.work).model()
         properties = self.chosen(model)
         teller = Teller(self.into, [str(it) for it in properties])
-        teller.say(f"reading    {self.design}: {', '.join([model.notes[0], counted(len(model.properties)), *model.notes[1:]])}")
+        teller.say(f"reading    {self.design} {', '.join([model.notes[0], counted(len(model.properties)), *model.notes[1:]])}")
         told = self.folder.adopt(model)
         results = Results(self.design, version, model, self.folder.sum, [Outcome(it) for it in model.properties])
         self.work(results, properties, told, teller)

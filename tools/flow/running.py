@@ -1,6 +1,8 @@
 """Processes: each in a session of its own, bounded in time and in what it writes, and ended with all its children."""
 import enum
+import math
 import os
+import select
 import signal
 import subprocess
 import threading
@@ -8,7 +10,7 @@ import time
 import uuid
 from dataclasses import dataclass
 from pathlib import Path
-from typing import Optional, Sequence
+from typing import Dict, Optional, Sequence
 
 # What stands around each process. Its standard input is a pipe that only hwtool-flow could write to and never does: where
 # hwtool-flow is gone, whatever ended it, the pipe ends, and the whole session is killed. $1 bounds each file that is written.
@@ -21,6 +23,7 @@ exec "$@"
 BLOCK = 512
 # The variable that marks the processes of a run, so that one which has left its session is found.
 MARK = "HWTOOL_FLOW_RUN"
+# How often it is looked at whether all is to stop, in seconds.
 LONGEST_NAP = 0.05
 
 
@@ -55,34 +58,46 @@ class Runner:
         self.stopping = threading.Event()
         self._life, self._held = os.pipe()
 
-    def run(self, words: Sequence[str], folder: Path, out: Path, err: Optional[Path] = None, seconds: Optional[float] = None,
-            most_bytes: Optional[int] = None) -> Ended:
-        """Runs a command in a folder, with its output in files, for so many seconds at most. Its children end with it."""
+    def run_own(self, words: Sequence[str], folder: Path, out: Path, err: Path, seconds: Optional[float]) -> Ended:
+        """Runs a program of ours in a folder, with its output in files, for so many seconds at most."""
+        return self._run(words, folder, out, err, seconds, subprocess.DEVNULL, dict(os.environ))
+
+    def run(self, words: Sequence[str], folder: Path, out: Path, err: Optional[Path], seconds: Optional[float], most_bytes: Optional[int]) -> Ended:
+        """Runs a program that nothing is known of: its children end with it, and none of its files gets larger than is said."""
         limit = "unlimited" if most_bytes is None else str(max(1, most_bytes // BLOCK))
         mark = uuid.uuid4().hex
+        around = ["/bin/sh", "-c", AROUND, "sh", limit, *words]
+        ended = self._run(around, folder, out, err, seconds, self._life, {**os.environ, MARK: mark})
+        kill_marked(mark)
+        return ended
+
+    def _run(self, words: Sequence[str], folder: Path, out: Path, err: Optional[Path], seconds: Optional[float], source: int,
+             environment: Dict[str, str]) -> Ended:
+        """Runs a command in a session of its own, and kills what is left of that."""
         began = time.monotonic()
         with open(out, "wb") as to_out, open(err or os.devnull, "wb") as to_err:
-            process = subprocess.Popen(
-                ["/bin/sh", "-c", AROUND, "sh", limit, *words], cwd=folder, stdin=self._life, stdout=to_out,
-                stderr=to_err if err else subprocess.STDOUT, start_new_session=True, env={**os.environ, MARK: mark})
-        how = self._wait(process.pid, None if seconds is None else began + seconds)
+            process = subprocess.Popen(words, cwd=folder, stdin=source, stdout=to_out, stderr=to_err if err else subprocess.STDOUT,
+                                       start_new_session=True, env=environment)
+        how = self._wait(process.pid, math.inf if seconds is None else began + seconds)
         # the group is killed before its leader is reaped, so that its number is still its own
         os.killpg(process.pid, signal.SIGKILL)
         process.wait()
-        kill_marked(mark)
         return Ended(how, process.returncode, time.monotonic() - began)
 
-    def _wait(self, pid: int, deadline: Optional[float]) -> Ending:
+    def _wait(self, pid: int, deadline: float) -> Ending:
         """Waits until a process has ended, is out of time, or all are to stop."""
-        nap = 0.001
-        while os.waitid(os.P_PID, pid, os.WEXITED | os.WNOHANG | os.WNOWAIT) is None:
-            if self.stopping.is_set():
-                return Ending.STOPPED
-            if deadline is not None and time.monotonic() > deadline:
-                return Ending.OUT_OF_TIME
-            time.sleep(nap)
-            nap = min(2 * nap, LONGEST_NAP)
-        return Ending.BY_ITSELF
+        end = os.pidfd_open(pid)
+        try:
+            while True:
+                left = deadline - time.monotonic()
+                if self.stopping.is_set():
+                    return Ending.STOPPED
+                if select.select([end], [], [], max(0.0, min(left, LONGEST_NAP)))[0]:
+                    return Ending.BY_ITSELF
+                if left <= 0:
+                    return Ending.OUT_OF_TIME
+        finally:
+            os.close(end)
 
 
 def kill_marked(mark: str) -> None:
