@@ -91,6 +91,7 @@ def status_of(words: argparse.Namespace, runner: Runner) -> int:
     there = Tools.found(words)
     folder = Folder(folder_named(words))
     try:
+        runner.settle(folder.path)
         return Run(words, runner, folder, there).status()
     finally:
         folder.end()
@@ -98,6 +99,7 @@ def status_of(words: argparse.Namespace, runner: Runner) -> int:
 
 def main(arguments: List[str]) -> int:
     """All of hwtool-flow; answers its exit status."""
+    sys.stdout.reconfigure(errors="backslashreplace")
     words = words_of(arguments)
     runner = Runner()
     signals = obey_signals(runner)

@@ -4,6 +4,7 @@ A new engine is a line of ENGINES. Its command is given in words, and the words 
 what it gives. It runs in a folder of its own, in which nothing else is.
 """
 import enum
+import os
 import re
 import shlex
 import shutil
@@ -46,12 +47,16 @@ class Handed(enum.Enum):
 
 @dataclass(frozen=True)
 class Engine:
-    """An engine: its words, its part of the time that is left, and what in its output tells how far it is."""
+    """An engine: its words, its part of the time that is left, and what in its output tells how far it is.
+
+    Where `proves` is said, an invariant that it writes is a claim only with these words in its output.
+    """
 
     name: str
     command: Sequence[str]
     weight: int = 1
     progress: str = r"^\s*(\d+) [+:]"
+    proves: str = ""
 
     def placeholders(self) -> List[str]:
         """The placeholders in its words."""
@@ -66,8 +71,9 @@ class Engine:
         return Gives.MODEL_WITNESS if Handed.MODEL.value in self.placeholders() else Gives.FORM_WITNESS
 
     def filled(self, values: Dict[str, str]) -> List[str]:
-        """Its words, with values for the placeholders."""
-        return [re.sub(r"\{(\w+)\}", lambda found: values[found[1]], word) for word in self.command]
+        """Its program, and its words with values for the placeholders."""
+        words = [re.sub(r"\{(\w+)\}", lambda found: values[found[1]], word) for word in self.command[1:]]
+        return [program_of(self) or self.command[0], *words]
 
     def frame_in(self, text: str) -> Optional[int]:
         """The last frame that it tells in its output, if any."""
@@ -77,7 +83,7 @@ class Engine:
 
 def abc(name: str, steps: str, weight: int) -> Engine:
     """An engine of ABC, which is handed the engine form in every case."""
-    return Engine(name, ["berkeley-abc", "-q", f"read_aiger {{form}}; {steps}; write_cex -a {{counterexample}}"], weight)
+    return Engine(name, ["berkeley-abc", "-q", f"read_aiger {{form}}; {steps}; write_cex -a {{counterexample}}"], weight, proves="Property proved")
 
 
 # Tried in this order. Each has its part of the time that is left: its weight among its own and those behind it.
@@ -93,6 +99,9 @@ SOLVERS = [
     Engine("cadical", ["cadical", "-q", "--no-binary", "{formula}", "{proof}"]),
     Engine("kissat", ["kissat", "-q", "--no-binary", "{formula}", "{proof}"]),
 ]
+
+# By which names a program may be on the path.
+NAMES = {"berkeley-abc": ["berkeley-abc", "abc", "yosys-abc"]}
 
 # The Debian package that has a program.
 PACKAGES = {"yosys": "yosys", "berkeley-abc": "berkeley-abc", "cadical": "cadical"}
@@ -131,9 +140,16 @@ def solver_named(word: str) -> Engine:
     return named(word, SOLVERS, SOLVER_WORDS, {Handed.PROOF.value})
 
 
+def program_of(engine: Engine) -> Optional[str]:
+    """Where the program of an engine stands, so that it can be run from any folder; nothing where it is not there."""
+    name = engine.command[0]
+    found = next(filter(None, map(shutil.which, NAMES.get(name, [name]))), None)
+    return found and os.path.abspath(found)
+
+
 def is_there(engine: Engine) -> bool:
     """Whether the program of an engine can be run."""
-    return shutil.which(engine.command[0]) is not None
+    return program_of(engine) is not None
 
 
 def missing_line(program: str) -> str:

@@ -1,5 +1,4 @@
 """One property: engines are tried in order, and what they claim is checked. Who claims what is not confirmed costs its time."""
-import math
 import os
 import shutil
 import threading
@@ -18,6 +17,8 @@ from .waves import read_dump, saved_file, shown
 # What an engine, and what a solver, may write into one file.
 ENGINE_BYTES = 64 << 20
 SOLVER_BYTES = 4 << 30
+# How much of an engine's last words is told.
+MOST_WORDS = 200
 FORM, WITNESS, DUMP, SAVED, INVARIANT, FORMULA, PROOF = "form.aig", "witness", "dump.vcd", "dump.gtkw", "invariant", "formula.cnf", "proof"
 
 
@@ -151,10 +152,12 @@ class Job:
         shutil.rmtree(work, ignore_errors=True)
         work.mkdir()
         ended = self.run_engine(engine, seconds, work)
-        done = Attempt(Try(engine.name, str(ended), ended.seconds))
+        end = tail_of(work / "log")
+        done = Attempt(Try(engine.name, why(ended, end), ended.seconds, engine.frame_in(end)))
         for gives in engine.gives() or [engine.says()]:
             found = work / (gives.value if engine.gives() else "log")
-            if is_file_with_text(found):
+            is_claim = gives is not Gives.INVARIANT or engine.proves in tail_of(work / "log")
+            if is_claim and is_file_with_text(found):
                 claim, done.judged = self.check(gives, found, deadline)
                 done.what.claims.append(claim)
                 if done.judged:
@@ -166,14 +169,14 @@ class Job:
         model = self.prover.model
         values = {it.value: it.value for it in Gives}
         values.update({Handed.FORM.value: FORM, Handed.MODEL.value: model.name, Handed.BAD.value: str(self.property.number)})
-        values.update({Handed.DEPTH.value: str(self.prover.depth), Handed.SECONDS.value: str(math.ceil(seconds))})
+        values.update({Handed.DEPTH.value: str(self.prover.depth), Handed.SECONDS.value: str(max(1, int(seconds)))})
         if Handed.FORM.value in engine.placeholders():
             shutil.copyfile(self.kept / FORM, work / FORM)
         if Handed.MODEL.value in engine.placeholders():
             shutil.copyfile(self.prover.folder.path / model.name, work / model.name)
         self.shown.engine, self.shown.log = engine, work / "log"
         err = None if engine.gives() else work / "log.err"
-        ended = self.prover.runner.run(program_found(engine.filled(values)), work, work / "log", err, seconds, ENGINE_BYTES)
+        ended = self.prover.runner.run(engine.filled(values), work, work / "log", err, seconds, ENGINE_BYTES)
         if ended.how is Ending.STOPPED:
             raise Stopped
         return ended
@@ -220,15 +223,14 @@ class Job:
         work.mkdir()
         shutil.copyfile(self.kept / FORMULA, work / FORMULA)
         seconds = max(0.0, deadline - time.monotonic())
-        values = {Handed.FORMULA.value: FORMULA, Handed.PROOF.value: PROOF, Handed.SECONDS.value: str(math.ceil(seconds))}
-        ended = self.prover.runner.run(program_found(solver.filled(values)), work, work / "log", None, seconds, SOLVER_BYTES)
+        values = {Handed.FORMULA.value: FORMULA, Handed.PROOF.value: PROOF, Handed.SECONDS.value: str(max(1, int(seconds)))}
+        ended = self.prover.runner.run(solver.filled(values), work, work / "log", None, seconds, SOLVER_BYTES)
         if ended.how is Ending.STOPPED:
             raise Stopped
         if not (work / PROOF).is_file():
             raise NotMade(solver.name, f"it wrote no proof: {ended}")
         os.replace(work / PROOF, self.kept / PROOF)
-        judged = self.judge(Verdict.HOLDS)
-        return judged
+        return self.judge(Verdict.HOLDS)
 
     def judge(self, verdict: Verdict) -> Judged:
         """Has what is kept of a property judged. This call alone makes a verdict."""
@@ -265,11 +267,13 @@ class NotMade(Exception):
         self.check = check
 
 
+def why(ended: Ended, log: str) -> str:
+    """How an engine ended, and its last words where that was not well."""
+    words = [line.strip() for line in log.splitlines() if line.strip()][-1:] if ended.status > 0 else []
+    return ": ".join([str(ended), *("".join(filter(str.isprintable, it))[:MOST_WORDS] for it in words)])
+
+
 def is_file_with_text(path: Path) -> bool:
     """Whether there is a plain file with something in it: no link, pipe or device."""
     return path.is_file() and not path.is_symlink() and path.stat().st_size > 0
 
-
-def program_found(words: List[str]) -> List[str]:
-    """A command whose program is where the path has it, so that it can be run from any folder."""
-    return [os.path.abspath(shutil.which(words[0]) or words[0]), *words[1:]]

@@ -1,5 +1,6 @@
 """A design as a model that `hwtool` takes: Verilog by Yosys, with the steps that docs/FLOW.md has for it; BTOR2; AIGER."""
 import json
+import os
 import re
 import shutil
 from dataclasses import dataclass, field
@@ -210,7 +211,8 @@ class Reader:
         script = self.work / "steps.ys"
         script.write_text("\n".join(steps) + "\n", encoding="utf-8")
         log = self.work / "yosys.log"
-        words = ["yosys", "-q", "-f", frontend, "-b", backend, "-o", str(into), "-s", str(script), *map(str, self.wanted.files)]
+        files = [str(it) if re.match(r"[\w/.]", str(it)) else f"./{it}" for it in self.wanted.files]
+        words = ["yosys", "-q", "-f", frontend, "-b", backend, "-o", os.path.abspath(into), "-s", os.path.abspath(script), *files]
         ended = self.runner.run(words, Path.cwd(), log, None, None, None)
         if ended.how is Ending.STOPPED:
             raise Stopped

@@ -44,6 +44,8 @@ class Try:
     engine: str
     ended: str
     seconds: float
+    # the last frame that it told, by its own word
+    frame: Optional[int] = None
     claims: List[Claim] = field(default_factory=list)
 
 
@@ -157,7 +159,7 @@ class Folder:
     def write(self, name: str, text: str, executable: bool = False) -> None:
         """Writes a file, whole or not at all."""
         part = self.work / f"{name}.part"
-        part.write_text(text, encoding="utf-8")
+        part.write_bytes(text.encode("utf-8", "backslashreplace"))
         if executable:
             part.chmod(0o755)
         os.replace(part, self.path / name)
@@ -192,7 +194,7 @@ class Results:
     def as_json(self) -> str:
         """The text of results.json."""
         front = {"design": self.design, "model": self.model.name, "sum": self.sum, "reading": self.model.notes, "steps": self.model.steps, "program": self.program}
-        return json.dumps({**front, "properties": [it.as_json() for it in self.outcomes]}, indent=1, ensure_ascii=False) + "\n"
+        return json.dumps({**front, "properties": [it.as_json() for it in self.outcomes]}, indent=1) + "\n"
 
     def as_check(self) -> str:
         """The text of check.sh."""

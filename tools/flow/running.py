@@ -25,6 +25,8 @@ BLOCK = 512
 MARK = "HWTOOL_FLOW_RUN"
 # How often it is looked at whether all is to stop, in seconds.
 LONGEST_NAP = 0.05
+# How often processes that have left their session are looked for: what is killed may take a while to be gone.
+MOST_ROUNDS = 100
 
 
 class Ending(enum.Enum):
@@ -57,6 +59,12 @@ class Runner:
     def __init__(self) -> None:
         self.stopping = threading.Event()
         self._life, self._held = os.pipe()
+        self._home = ""
+
+    def settle(self, folder: Path) -> None:
+        """Says in which folder of results this goes on, which no other run has: what a run that was killed has left is ended."""
+        self._home = f"{folder.resolve()}|"
+        kill_marked(self._home)
 
     def run_own(self, words: Sequence[str], folder: Path, out: Path, err: Path, seconds: Optional[float]) -> Ended:
         """Runs a program of ours in a folder, with its output in files, for so many seconds at most."""
@@ -65,7 +73,7 @@ class Runner:
     def run(self, words: Sequence[str], folder: Path, out: Path, err: Optional[Path], seconds: Optional[float], most_bytes: Optional[int]) -> Ended:
         """Runs a program that nothing is known of: its children end with it, and none of its files gets larger than is said."""
         limit = "unlimited" if most_bytes is None else str(max(1, most_bytes // BLOCK))
-        mark = uuid.uuid4().hex
+        mark = self._home + uuid.uuid4().hex
         around = ["/bin/sh", "-c", AROUND, "sh", limit, *words]
         ended = self._run(around, folder, out, err, seconds, self._life, {**os.environ, MARK: mark})
         kill_marked(mark)
@@ -101,9 +109,9 @@ class Runner:
 
 
 def kill_marked(mark: str) -> None:
-    """Kills the processes that were started with a mark in their environment and have left their session."""
-    wanted = f"{MARK}={mark}".encode()
-    while True:
+    """Kills the processes that were started with a mark, or one that begins so, and have left their session."""
+    wanted = os.fsencode(f"{MARK}={mark}")
+    for _ in range(MOST_ROUNDS):
         found = [pid for pid in map(int, filter(str.isdigit, os.listdir("/proc"))) if wanted in environment_of(pid)]
         if not found:
             return
@@ -112,6 +120,7 @@ def kill_marked(mark: str) -> None:
                 os.kill(pid, signal.SIGKILL)
             except ProcessLookupError:
                 pass
+        time.sleep(LONGEST_NAP / 10)
 
 
 def environment_of(pid: int) -> bytes:

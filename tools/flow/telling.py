@@ -56,7 +56,8 @@ def in_vain(it: Outcome) -> List[str]:
     lines = [f"{one.engine}: claims that it {claim.verdict.value}; not confirmed by {claim.check}: {claim.said}"
              for one in it.tries for claim in one.claims if not claim.confirmed]
     if it.verdict is Verdict.OPEN:
-        lines += [f"{one.engine}: {one.ended}, after {one.seconds:.1f} s" for one in it.tries if not one.claims]
+        lines += [f"{one.engine}: {one.ended}, after {one.seconds:.1f} s" + ("" if one.frame is None else f", in frame {one.frame} by its own word")
+                  for one in it.tries if not one.claims]
     return [*lines, *filter(None, [it.broke])]
 
 
