@@ -618,8 +618,11 @@ def try_page(place, screenshot):
     # six frames; two thirds of them around the middle; from the first; one on; all; as at first
     tally.true("zoom by the keyboard", "<title>true;1 0 4;0 0 4;1 0 4;0 0 6;0 0 6</title>" in dumped(page, 1200, press), re.findall("<title>.*</title>", dumped(page, 1200, press)))
     if screenshot:
-        words = ["chromium", "--headless", "--no-sandbox", "--disable-gpu", "--hide-scrollbars", "--window-size=980,620", f"--screenshot={screenshot}", f"{page.as_uri()}#b2"]
-        subprocess.run(words, check=True, capture_output=True, timeout=120)
+        # of the three properties the last one stands open
+        closed = page.with_name("looked-at.html")
+        closed.write_text(text.replace('<details open="">', "<details>", 2))
+        words = ["chromium", "--headless", "--no-sandbox", "--disable-gpu", "--hide-scrollbars", "--window-size=980,1260"]
+        subprocess.run([*words, f"--screenshot={screenshot}", closed.as_uri()], check=True, capture_output=True, timeout=120)
         tally.true("the screenshot", 0 < pathlib.Path(screenshot).stat().st_size < 200_000)
 
 

@@ -11,7 +11,8 @@
     telling        the lines on the terminal
     waves          the frames of a witness, signal by signal
     pictures       these frames as a picture (SVG)
-    report         the page, report.html
+    report         the page, report.html, with page.css and page.js
+    markup         pieces of it
 
 No part decides what holds: a verdict is the exit status and the words of `check-btor`, `check-aig` or `check-proof`.
 """

@@ -11,6 +11,8 @@ import shutil
 from dataclasses import dataclass
 from typing import Dict, List, Optional, Sequence
 
+from .model import Verdict
+
 
 class WordsRefused(Exception):
     """The words of the command line are refused."""
@@ -31,6 +33,11 @@ class Gives(enum.Enum):
     MODEL_WITNESS = "model_witness"
     # an invariant over the engine form, as ABC's `pdr -d -I` writes it
     INVARIANT = "invariant"
+
+    @property
+    def claims(self) -> Verdict:
+        """What it claims of the property."""
+        return Verdict.HOLDS if self is Gives.INVARIANT else Verdict.FAILS
 
 
 class Handed(enum.Enum):

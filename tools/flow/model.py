@@ -12,6 +12,14 @@ class Kind(enum.Enum):
     CIRCUIT = "aig"
 
 
+class Verdict(enum.Enum):
+    """What is known of a property."""
+
+    HOLDS = "holds"
+    FAILS = "fails"
+    OPEN = "open"
+
+
 @dataclass(frozen=True)
 class Property:
     """A bad property: its number from 0, its name if it has one, and where in the design it stands, if that is known."""

@@ -3,9 +3,10 @@
 What stands in frames (lines, boxes, marks) is one nested picture whose unit is a frame, so that a view of it is a change of
 its `viewBox`. What is written stands above it, each text with its first frame and its number of frames.
 """
-from html import escape
+from dataclasses import dataclass
 from typing import Iterator, List, Sequence, Tuple
 
+from .markup import tag, text
 from .waves import Scope, Signal
 
 NAMES, WIDTH, WIDEST_FRAME, ROW, HEAD = 200, 960, 80, 22, 26
@@ -14,37 +15,78 @@ FIRST_VIEW, MOST_FRAMES, MOST_ROWS = 12, 240, 60
 # How small a picture may become on a narrow page.
 LEAST_SIZE = 0.65
 LETTER = 7.2
-# How far the slanted ends of a word reach into its frame, and how far lines stay from the ends of their row.
-SLANT, GAP = 0.07, 4
+# How far the slanted ends of a word reach into its frame, how far lines stay from the ends of their row, and texts from its foot.
+SLANT, GAP, FOOT = 0.07, 4, 7
 HEADINGS = {Scope.INPUT: "inputs", Scope.STATE: "registers", Scope.OUTPUT: "outputs", Scope.NODE: "wires"}
+KINDS = {Scope.PROPERTY: " bad", Scope.ASSUMPTION: " assumed"}
+
+
+@dataclass(frozen=True)
+class View:
+    """The frames that a picture has, from the first to before the last; those that are shown; and how wide one is."""
+
+    first: int
+    last: int
+    begin: int
+    count: int
+    scale: float
+
+    @property
+    def width(self) -> int:
+        """The width of all that is shown."""
+        return round(self.count * self.scale)
+
+
+def view_of(frames: int, marked: int) -> View:
+    """What is shown at first of so many frames: the last ones up to the marked one."""
+    end = min(marked + 1, frames)
+    first = max(0, end - MOST_FRAMES)
+    last = min(frames, first + MOST_FRAMES)
+    begin = max(first, end - FIRST_VIEW)
+    count = min(FIRST_VIEW, last - begin)
+    return View(first, last, begin, count, min(WIDEST_FRAME, (WIDTH - NAMES) / count))
+
+
+@dataclass(frozen=True)
+class Label:
+    """A text in the middle of some frames in turn."""
+
+    value: str
+    begin: int
+    count: int
+    y: int
+    kind: str
+
+    def drawn(self, view: View) -> str:
+        """The text in the middle of what is shown of its frames; what has no room is cut, or not shown."""
+        left, right = max(self.begin, view.begin), min(self.begin + self.count, view.begin + view.count)
+        room = int(((right - left) * view.scale - 8) / LETTER)
+        shown = self.value if len(self.value) <= room else self.value[: room - 1] + "…" if room > 1 else ""
+        x = round(NAMES + ((left + right) / 2 - view.begin) * view.scale, 1) if right > left else NAMES
+        return tag("text", text(shown) if right > left else "", class_=self.kind, x=x, y=self.y, data_f=self.begin, data_n=self.count, data_v=self.value)
 
 
 def picture(signals: Sequence[Signal], marked: int, title: str) -> str:
-    """The last frames of signals up to the marked one and behind it, of which that frame is marked."""
-    frames = len(signals[0].words)
-    first = max(0, min(marked + 1, frames) - MOST_FRAMES)
-    last = min(frames, first + MOST_FRAMES)
-    view = max(first, min(marked + 1, last) - FIRST_VIEW)
+    """The last frames of signals up to the marked one, and some behind it."""
+    view = view_of(len(signals[0].words), marked)
     rows = list(placed(signals[:MOST_ROWS]))
     height = rows[-1][1] + ROW + GAP
-    visible = min(FIRST_VIEW, last - view)
-    scale = min(WIDEST_FRAME, (WIDTH - NAMES) / visible)
-    width = round(NAMES + visible * scale)
-    shapes = [f'<rect class="marked" x="{marked}" y="0" width="1" height="{height}"/>', grid(first, last, height)]
-    texts = list(frame_numbers(first, last))
-    names, scope = [], None
-    for it, y in rows:
-        names += heading(it.scope, y) if it.scope is not scope else []
-        scope = it.scope
-        shapes += boxes(it, y, first, last) if it.width > 1 else levels(it, y, first, last)
-        texts += word_texts(it, y, first, last) if it.width > 1 else []
-        names += name(it, y)
-    drawn = "".join(text(*it, view, visible, scale) for it in texts)
-    return (f'<svg class="waves" style="max-width: {width}px; min-width: {LEAST_SIZE * width:.0f}px" viewBox="0 0 {width} {height}" role="img" aria-label="{escape(title, True)}" data-first="{first}" data-last="{last}" '
-            f'data-from="{view}" data-count="{visible}" data-names="{NAMES}" data-width="{width}" data-letter="{LETTER}" data-marked="{marked}">'
-            f'<g class="names">{"".join(names)}</g>'
-            f'<svg class="frames" x="{NAMES}" y="0" width="{width - NAMES}" height="{height}" viewBox="{view} 0 {visible} {height}" preserveAspectRatio="none">{"".join(shapes)}</svg>'
-            f'<g class="texts">{drawn}</g></svg>')
+    shapes = [tag("rect", class_="marked", x=marked, y=0, width=1, height=height), grid(view, height)]
+    labels = [Label(str(frame), frame, 1, HEAD - 10, "frame") for frame in range(view.first, view.last)]
+    names: List[str] = []
+    for before, (it, y) in zip([None, *signals], rows):
+        names += [heading(it.scope, y)] if it.scope in HEADINGS and (before is None or before.scope is not it.scope) else []
+        names.append(name(it, y))
+        shapes += [box(it, y, view)] if it.width > 1 else levels(it, y, view)
+        labels += [Label(hexadecimal(word), begin, end - begin, y + ROW - FOOT, "value") for word, begin, end in runs(it, view)] if it.width > 1 else []
+    frames = tag("svg", *shapes, class_="frames", x=NAMES, y=0, width=view.width, height=height,
+                 viewBox=f"{view.begin} 0 {view.count} {height}", preserveAspectRatio="none")
+    whole = NAMES + view.width
+    return tag("svg", tag("g", *names), frames, tag("g", *(it.drawn(view) for it in labels), class_="texts"),
+               class_="waves", role="img", aria_label=title, viewBox=f"0 0 {whole} {height}",
+               style=f"max-width: {whole}px; min-width: {LEAST_SIZE * whole:.0f}px",
+               data_first=view.first, data_last=view.last, data_from=view.begin, data_count=view.count,
+               data_names=NAMES, data_width=whole, data_letter=LETTER)
 
 
 def placed(signals: Sequence[Signal]) -> Iterator[Tuple[Signal, int]]:
@@ -58,75 +100,51 @@ def placed(signals: Sequence[Signal]) -> Iterator[Tuple[Signal, int]]:
         y += ROW
 
 
-def heading(scope: Scope, y: int) -> List[str]:
+def heading(scope: Scope, y: int) -> str:
     """What stands above the first signal of a kind."""
-    return [f'<text class="kind" x="{NAMES - 8}" y="{y - 6}">{HEADINGS[scope]}</text>'] if scope in HEADINGS else []
+    return tag("text", HEADINGS[scope], class_="kind", x=NAMES - 8, y=y - 6)
 
 
-def name(it: Signal, y: int) -> List[str]:
+def name(it: Signal, y: int) -> str:
     """The name of a signal, in front of its row; the end of a long one is left out."""
     whole = it.label + (f"[{it.width - 1}:0]" if it.width > 1 else "")
     most = int((NAMES - 14) / LETTER)
     cut = whole if len(whole) <= most else whole[: most - 1] + "…"
-    kind = {Scope.PROPERTY: " bad", Scope.ASSUMPTION: " assumed"}.get(it.scope, "")
-    return [f'<text class="signal{kind}" x="{NAMES - 8}" y="{y + ROW - 7}"><title>{escape(whole)}</title>{escape(cut)}</text>']
+    return tag("text", tag("title", text(whole)), text(cut), class_=f"signal{KINDS.get(it.scope, '')}", x=NAMES - 8, y=y + ROW - FOOT)
 
 
-def grid(first: int, last: int, height: int) -> str:
+def grid(view: View, height: int) -> str:
     """A line where each frame begins."""
-    return f'<path class="grid" d="{"".join(f"M{it} {HEAD - 6}V{height}" for it in range(first, last + 1))}"/>'
+    return tag("path", class_="grid", d="".join(f"M{it} {HEAD - 6}V{height}" for it in range(view.first, view.last + 1)))
 
 
-def runs(words: Sequence[str], first: int, last: int) -> Iterator[Tuple[str, int, int]]:
-    """The words of some frames, each with the first and the last of the frames in turn that have it."""
-    begin = first
-    for frame in range(first + 1, last + 1):
-        if frame == last or words[frame] != words[begin]:
-            yield words[begin], begin, frame
+def runs(it: Signal, view: View) -> Iterator[Tuple[str, int, int]]:
+    """The words of a signal, each with the first frame that has it and the first behind that has another."""
+    begin = view.first
+    for frame in range(view.first + 1, view.last + 1):
+        if frame == view.last or it.words[frame] != it.words[begin]:
+            yield it.words[begin], begin, frame
             begin = frame
 
 
-def levels(it: Signal, y: int, first: int, last: int) -> List[str]:
-    """A bit as a line that is high or low."""
-    kind = {Scope.PROPERTY: " bad", Scope.ASSUMPTION: " assumed"}.get(it.scope, "")
+def levels(it: Signal, y: int, view: View) -> List[str]:
+    """A bit as a line that is high or low, with what is below it where it is high."""
     high, low, line, area = y + GAP, y + ROW - GAP, "", ""
-    for word, begin, end in runs(it.words, first, last):
-        level = high if word == "1" else low
-        line += f"{'L' if line else 'M'}{begin} {level}H{end}"
+    for word, begin, end in runs(it, view):
+        line += f"{'L' if line else 'M'}{begin} {high if word == '1' else low}H{end}"
         area += f"M{begin} {low}V{high}H{end}V{low}Z" if word == "1" else ""
-    filled = [f'<path class="area{kind}" d="{area}"/>'] if area else []
-    return [*filled, f'<path class="line{kind}" d="{line}"/>']
+    kind = KINDS.get(it.scope, "")
+    return [*([tag("path", class_=f"area{kind}", d=area)] if area else []), tag("path", class_=f"line{kind}", d=line)]
 
 
-def boxes(it: Signal, y: int, first: int, last: int) -> List[str]:
+def box(it: Signal, y: int, view: View) -> str:
     """A word as a box with slanted ends for all frames in turn that have it."""
     high, low, middle = y + GAP, y + ROW - GAP, y + ROW / 2
     line = "".join(f"M{begin} {middle}L{begin + SLANT} {high}H{end - SLANT}L{end} {middle}L{end - SLANT} {low}H{begin + SLANT}Z"
-                   for _, begin, end in runs(it.words, first, last))
-    return [f'<path class="line word" d="{line}"/>']
-
-
-def word_texts(it: Signal, y: int, first: int, last: int) -> Iterator[Tuple[str, int, int, int, str]]:
-    """What is written into the boxes of a word."""
-    for word, begin, end in runs(it.words, first, last):
-        yield hexadecimal(word), begin, end - begin, y + ROW - 7, "value"
+                   for _, begin, end in runs(it, view))
+    return tag("path", class_="line", d=line)
 
 
 def hexadecimal(word: str) -> str:
     """A word in hexadecimal digits, as many as its width takes."""
     return f"{int(word, 2):0{(len(word) + 3) // 4}x}"
-
-
-def frame_numbers(first: int, last: int) -> Iterator[Tuple[str, int, int, int, str]]:
-    """The numbers of frames, above them."""
-    for frame in range(first, last):
-        yield str(frame), frame, 1, HEAD - 10, "frame"
-
-
-def text(value: str, begin: int, count: int, y: int, kind: str, view: int, visible: int, scale: float) -> str:
-    """A text in the middle of what is seen of its frames; what has no room is cut, or not seen."""
-    left, right = max(begin, view), min(begin + count, view + visible)
-    room = int(((right - left) * scale - 8) / LETTER)
-    seen = "" if right <= left or room < 1 else value if len(value) <= room else value[: room - 1] + "…" if room > 1 else ""
-    x = NAMES + ((left + right) / 2 - view) * scale if seen else NAMES
-    return f'<text class="{kind}" x="{x:.1f}" y="{y}" data-f="{begin}" data-n="{count}" data-v="{escape(value, True)}">{escape(seen)}</text>'

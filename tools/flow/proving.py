@@ -5,12 +5,12 @@ import threading
 import time
 from dataclasses import dataclass, field
 from pathlib import Path
-from typing import Dict, List, Optional
+from typing import Any, Dict, Iterator, List, Optional, Tuple
 
 from .engines import Engine, Gives, Handed
-from .model import Kind, Model, Property
-from .program import Broke, Judged, Program, Stopped
-from .results import Claim, Folder, Outcome, Try, Verdict
+from .model import Kind, Model, Property, Verdict
+from .program import Broke, Judged, Program, Said, Stopped
+from .results import Claim, Folder, Outcome, Try, tries_of_json
 from .running import Ended, Ending, Runner, tail_of
 from .waves import read_dump, saved_file, shown
 
@@ -72,7 +72,7 @@ class Prover:
         with self.lock:
             return [self.running[it] for it in sorted(self.running)]
 
-    def confirm_again(self, it: Property, told: Dict) -> Optional[Outcome]:
+    def confirm_again(self, it: Property, told: Dict[str, Any]) -> Optional[Outcome]:
         """What an earlier run told of a property, where its check says so now; nothing where it does not."""
         job = Job(self, it)
         job.aside.mkdir(exist_ok=True)
@@ -84,7 +84,8 @@ class Prover:
         if not judged.confirmed:
             return None
         seconds = told.get("seconds")
-        return confirmed(it, verdict, judged, str(told.get("engine")), seconds if isinstance(seconds, float) else 0.0, [])
+        seconds = seconds if isinstance(seconds, float) else 0.0
+        return confirmed(it, verdict, judged, str(told.get("engine")), seconds, tries_of_json(told))
 
 
 # What a verdict's check reads.
@@ -122,7 +123,8 @@ class Job:
                 done = self.attempt(engine, seconds, began + self.prover.timeout)
                 tries.append(done.what)
                 if done.judged:
-                    return confirmed(self.property, done.what.claims[-1].verdict, done.judged, engine.name, time.monotonic() - began, tries)
+                    verdict = done.what.claims[-1].verdict
+                    return confirmed(self.property, verdict, done.judged, engine.name, time.monotonic() - began, tries)
             return Outcome(self.property, seconds=time.monotonic() - began, tries=tries)
         except Broke as fault:
             return Outcome(self.property, seconds=time.monotonic() - began, tries=tries, broke=str(fault))
@@ -136,7 +138,7 @@ class Job:
         if said.status != 0:
             raise Broke(said.line)
 
-    def shares(self, deadline: float):
+    def shares(self, deadline: float) -> Iterator[Tuple[Engine, float]]:
         """The engines, each with its part of the time that is left when its turn comes."""
         weights = [it.weight for it in self.prover.engines]
         for place, engine in enumerate(self.prover.engines):
@@ -158,9 +160,10 @@ class Job:
             found = work / (gives.value if engine.gives() else "log")
             is_claim = gives is not Gives.INVARIANT or engine.proves in tail_of(work / "log")
             if is_claim and is_file_with_text(found):
-                claim, done.judged = self.check(gives, found, deadline)
-                done.what.claims.append(claim)
-                if done.judged:
+                judged = self.check(gives, found, deadline)
+                done.what.claims.append(Claim(gives.claims, judged.check, judged.line, judged.confirmed))
+                if judged.confirmed:
+                    done.judged = judged
                     break
         return done
 
@@ -183,18 +186,19 @@ class Job:
 
     # ---- what it claims
 
-    def check(self, gives: Gives, found: Path, deadline: float):
-        """Has a claim checked: what came of it, and the judgement if that confirms it."""
-        verdict = Verdict.HOLDS if gives is Gives.INVARIANT else Verdict.FAILS
+    def check(self, gives: Gives, found: Path, deadline: float) -> Judged:
+        """Has a claim checked; where what a check would read cannot be made, the call that does not make it stands for the check."""
         try:
-            judged = self.judge_invariant(found, deadline) if verdict is Verdict.HOLDS else self.judge_found(gives, found)
+            if gives.claims is Verdict.HOLDS:
+                return self.judge_invariant(found, deadline)
+            judged = self.judge_found(gives, found)
+            if judged.confirmed:
+                self.draw()
+            return judged
         except NotMade as why:
-            return Claim(verdict, why.check, str(why)), None
-        if verdict is Verdict.FAILS and judged.confirmed:
-            self.draw()
-        return Claim(verdict, judged.check, judged.line, judged.confirmed), judged if judged.confirmed else None
+            return Judged([why.call], False, str(why))
 
-    def made(self, said) -> None:
+    def made(self, said: Said) -> None:
         """Goes on where a call has made what it should."""
         if said.status != 0:
             raise NotMade(said.words[0], said.line)
@@ -262,9 +266,9 @@ class Attempt:
 class NotMade(Exception):
     """What a check would read could not be made, by which call."""
 
-    def __init__(self, check: str, line: str) -> None:
+    def __init__(self, call: str, line: str) -> None:
         super().__init__(line)
-        self.check = check
+        self.call = call
 
 
 def why(ended: Ended, log: str) -> str:

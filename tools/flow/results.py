@@ -1,5 +1,4 @@
 """What is kept in NAME.flow: results.json, check.sh, and what an earlier run left of the same model."""
-import enum
 import fcntl
 import hashlib
 import json
@@ -12,19 +11,11 @@ from pathlib import Path
 from typing import Any, Dict, List, Optional, Sequence
 
 from .engines import WordsRefused
-from .model import Kind, Model, Property
+from .model import Kind, Model, Property, Verdict
 from .program import Broke
 
 RESULTS, CHECK, REPORT, WORK = "results.json", "check.sh", "report.html", "work"
 MODELS = [f"model.{kind.value}" for kind in Kind]
-
-
-class Verdict(enum.Enum):
-    """What is known of a property."""
-
-    HOLDS = "holds"
-    FAILS = "fails"
-    OPEN = "open"
 
 
 @dataclass
@@ -47,6 +38,20 @@ class Try:
     # the last frame that it told, by its own word
     frame: Optional[int] = None
     claims: List[Claim] = field(default_factory=list)
+
+    @staticmethod
+    def of_json(it: Dict[str, Any]) -> "Try":
+        """What results.json has of one."""
+        claims = [Claim(Verdict(one["verdict"]), str(one["check"]), str(one["said"]), one["confirmed"] is True) for one in it["claims"]]
+        return Try(str(it["engine"]), str(it["ended"]), float(it["seconds"]), it["frame"], claims)
+
+
+def tries_of_json(told: Dict[str, Any]) -> List[Try]:
+    """What results.json tells of the engines that were tried on a property; nothing where that was changed by hand."""
+    try:
+        return [Try.of_json(it) for it in told["tries"]]
+    except (KeyError, TypeError, ValueError):
+        return []
 
 
 @dataclass

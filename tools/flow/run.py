@@ -10,13 +10,13 @@ from pathlib import Path
 from typing import Dict, List, Optional
 
 from . import engines
-from .engines import Engine, InputRefused, WordsRefused
-from .model import Model, Property
+from .engines import Engine, WordsRefused
+from .model import Model, Property, Verdict
 from .program import Broke, Program, Stopped
 from .proving import Prover
 from .reading import Reader, Wanted
 from .report import page
-from .results import CHECK, REPORT, RESULTS, Folder, Outcome, Results, Verdict, count_of
+from .results import CHECK, REPORT, RESULTS, Folder, Outcome, Results, count_of
 from .running import Runner
 from .telling import Teller, counted, summary
 

@@ -1,9 +1,9 @@
 """The lines on the terminal: one for each property that is done, and, on a terminal, one for each that runs."""
-import sys
 from typing import List, TextIO
 
+from .model import Property, Verdict
 from .proving import Running
-from .results import Outcome, Verdict, count_of
+from .results import Outcome, count_of
 
 WIDEST_NAME = 40
 # How many running properties are shown at once.
@@ -29,7 +29,7 @@ class Teller:
         for line in in_vain(it):
             self.say(f"    {line}")
 
-    def padded(self, it) -> str:
+    def padded(self, it: Property) -> str:
         """A property, with blanks behind it."""
         return f"{str(it):{self.width}}"
 
