@@ -126,14 +126,19 @@ class Place:
             for it in ("sh", "grep", "dirname"):
                 (tools / it).symlink_to(shutil.which(it))
             (tools / "hwtool").symlink_to(self.program)
-        done = subprocess.run([tools / "sh", f"{name}/check.sh"], cwd=self.folder, env={"PATH": str(tools)}, capture_output=True, text=True, check=False)
+        done = subprocess.run(
+            [tools / "sh", f"{name}/check.sh"], cwd=self.folder, env={"PATH": str(tools)}, capture_output=True, text=True, check=False
+        )
         return done.returncode, (done.stdout.splitlines() or [done.stderr])[-1]
 
 
 def lasting(results):
     """What of results does not differ from run to run."""
     front = {key: results[key] for key in ("design", "model", "sum", "reading", "steps")}
-    return front, [{key: it[key] for key in ("number", "name", "place", "verdict", "frame", "check", "command", "said")} for it in results["properties"]]
+    return front, [
+        {key: it[key] for key in ("number", "name", "place", "verdict", "frame", "check", "command", "said")}
+        for it in results["properties"]
+    ]
 
 
 def left_over(text):
@@ -162,32 +167,53 @@ def try_designs(place):
         tally.same(f"{design}: status", ONE_FAILS if any(it != HOLDS for it in wanted) else ALL_HOLD, done.returncode)
         tally.same(f"{design}: errors", "", done.stderr)
         tally.same(f"{design}: check.sh", (0, f"{len(wanted)} confirmed, 0 not"), place.checked(name))
-        tally.true(f"{design}: the last line", done.stdout.splitlines()[-1].endswith(f"0 open; all checked; results in {name}/"), done.stdout)
+        tally.true(
+            f"{design}: the last line", done.stdout.splitlines()[-1].endswith(f"0 open; all checked; results in {name}/"), done.stdout
+        )
     try_steps(place)
 
 
 def try_steps(place):
     """What is seen in a design, and said of it; and words that say otherwise."""
-    reading = {"queue": ["by yosys", "one clock"], "two-clocks": ["by yosys", "2 clocks (see_clk, send_clk), by clk2fflogic"],
-               "reset": ["by yosys", "one clock, resets or latches that do not wait for it, by clk2fflogic"],
-               "undefined": ["by yosys", "no clock", "undefined bits as any"], "wide": ["by yosys", "one clock", "wide words as bits"]}
+    reading = {
+        "queue": ["by yosys", "one clock"],
+        "two-clocks": ["by yosys", "2 clocks (see_clk, send_clk), by clk2fflogic"],
+        "reset": ["by yosys", "one clock, resets or latches that do not wait for it, by clk2fflogic"],
+        "undefined": ["by yosys", "no clock", "undefined bits as any"],
+        "wide": ["by yosys", "one clock", "wide words as bits"],
+    }
     for name, wanted in reading.items():
         tally.same(f"{name}: what is said of it", wanted, place.results(f"{name}.flow")["reading"])
     place.run(EXAMPLES / "flow/undefined.v", "--zero-undefined", "-o", "zero.flow")
     tally.same("undefined bits as 0", [HOLDS], place.verdicts("zero.flow"))
     place.run(EXAMPLES / "flow/reset.v", "--clocked-resets", "-o", "sync.flow")
-    tally.same("resets with the clock", ([HOLDS, 0], 3), (place.verdicts("sync.flow"), len(re.findall(" state ", (place.folder / "sync.flow/model.btor2").read_text()))))
+    tally.same(
+        "resets with the clock",
+        ([HOLDS, 0], 3),
+        (place.verdicts("sync.flow"), len(re.findall(" state ", (place.folder / "sync.flow/model.btor2").read_text()))),
+    )
     (place.folder / "own.ys").write_text("prep -flatten -top undefined\nsetundef -undriven -zero\n")
     place.run(EXAMPLES / "flow/undefined.v", "--yosys", "own.ys", "-o", "own.flow")
     tally.same("a script of one's own", [HOLDS], place.verdicts("own.flow"))
+    shutil.copytree(EXAMPLES / "flow", place.folder / "recipe")
+    subprocess.run(place.words("--yosys", "queue.ys", "queue.v"), cwd=place.folder / "recipe", check=False, stdout=subprocess.DEVNULL)
+    tally.same("a script that reads and writes files", [0, HOLDS, 5], place.verdicts("recipe/queue.flow"))
     (place.folder / "outputs.aag").write_text("aag 1 0 1 1 0\n2 3\n2\no0 late\n")
     place.run("outputs.aag")
-    tally.same("outputs as properties", ([1], "late"), (place.verdicts("outputs.flow"), place.results("outputs.flow")["properties"][0]["name"]))
-    (place.folder / "edges.v").write_text("module edges(input clk);\nreg a = 0, b = 0;\nalways @(posedge clk) a <= !a;\nalways @(negedge clk) b <= a;\n"
-                                          "always @* both: assert (!(a && b));\nendmodule\n")
+    tally.same(
+        "outputs as properties", ([1], "late"), (place.verdicts("outputs.flow"), place.results("outputs.flow")["properties"][0]["name"])
+    )
+    (place.folder / "edges.v").write_text(
+        "module edges(input clk);\nreg a = 0, b = 0;\nalways @(posedge clk) a <= !a;\nalways @(negedge clk) b <= a;\n"
+        "always @* both: assert (!(a && b));\nendmodule\n"
+    )
     place.run("edges.v")
     # rises in frame 1 at the earliest, falls in frame 2
-    tally.same("both edges of a clock", (["by yosys", "2 clocks (clk, falling clk), by clk2fflogic"], [2]), (place.results("edges.flow")["reading"], place.verdicts("edges.flow")))
+    tally.same(
+        "both edges of a clock",
+        (["by yosys", "2 clocks (clk, falling clk), by clk2fflogic"], [2]),
+        (place.results("edges.flow")["reading"], place.verdicts("edges.flow")),
+    )
 
 
 def try_words(place):
@@ -199,20 +225,41 @@ def try_words(place):
     done = place.run(queue, "--property", "2", "--json")
     tally.same("the other ones stay", (ONE_FAILS, [None, HOLDS, 5]), (done.returncode, place.verdicts("queue.flow")))
     tally.same("results that are printed", (place.folder / "queue.flow/results.json").read_text(), done.stdout)
-    tally.same("a shallow search", (OPEN, [None]), (place.run(EXAMPLES / "counter.btor2", "--depth", "3", "--engine", "bmc3").returncode, place.verdicts("counter.flow")))
-    for why, words in {"a property that is none": [queue, "--property", "7"], "an engine that is none": [queue, "--engine", "none"],
-                       "a command without a form": [queue, "--engine", "it=true"], "an unknown placeholder": [queue, "--engine", "it=true {form} {else}"],
-                       "no depth": [queue, "--depth", "0"], "no time": [queue, "--timeout", "soon"], "no language": ["words.txt"], "no design": []}.items():
+    tally.same(
+        "a shallow search",
+        (OPEN, [None]),
+        (place.run(EXAMPLES / "counter.btor2", "--depth", "3", "--engine", "bmc3").returncode, place.verdicts("counter.flow")),
+    )
+    for why, words in {
+        "a property that is none": [queue, "--property", "7"],
+        "an engine that is none": [queue, "--engine", "none"],
+        "a command without a form": [queue, "--engine", "it=true"],
+        "an unknown placeholder": [queue, "--engine", "it=true {form} {else}"],
+        "no depth": [queue, "--depth", "0"],
+        "no time": [queue, "--timeout", "soon"],
+        "no language": ["words.txt"],
+        "no design": [],
+    }.items():
         (place.folder / "words.txt").write_text("")
         done = place.run(*words)
         tally.same(why, (WORDS, ""), (done.returncode, done.stdout.partition("reading")[0]))
-    inputs = {"module none(input a, output b);\nassign b = !a;\nendmodule\n": ("none.v", "assert"), "1 sort bitvec 1\n2 input 1\n": ("none.btor2", "bad"), "aag 1 1 0 0 0\n2\n": ("none.aag", "bad property"),
-              "module broken(": ("broken.v", "ERROR"), "1 sort bitvec 65\n": ("wide.btor2", "5 WidthOutOfRange; hwtool explain 5"), "aag x\n": ("broken.aag", "50 BadHeader"),
-              "1 sort bitvec 1\n2 input 1\n3 justice 1 2\n4 bad 2\n": ("justice.btor2", "90 Justice")}
+    inputs = {
+        "module none(input a, output b);\nassign b = !a;\nendmodule\n": ("none.v", "assert"),
+        "1 sort bitvec 1\n2 input 1\n": ("none.btor2", "bad"),
+        "aag 1 1 0 0 0\n2\n": ("none.aag", "bad property"),
+        "module broken(": ("broken.v", "ERROR"),
+        "1 sort bitvec 65\n": ("wide.btor2", "5 WidthOutOfRange; hwtool explain 5"),
+        "aag x\n": ("broken.aag", "50 BadHeader"),
+        "1 sort bitvec 1\n2 input 1\n3 justice 1 2\n4 bad 2\n": ("justice.btor2", "90 Justice"),
+    }
     for text, (name, wanted) in inputs.items():
         (place.folder / name).write_text(text)
         done = place.run(name)
-        tally.true(f"{name}: refused", done.returncode == REFUSED and wanted in done.stderr and name in done.stderr, f"{done.returncode} {done.stderr}")
+        tally.true(
+            f"{name}: refused",
+            done.returncode == REFUSED and wanted in done.stderr and name in done.stderr,
+            f"{done.returncode} {done.stderr}",
+        )
         tally.true(f"{name}: nothing is left", not (place.folder / name.replace(name.split(".")[-1], "flow")).exists())
     tally.same("a file that is not there", BROKE, place.run("nowhere.v").returncode)
     done = place.run(queue, "-o", ".")
@@ -223,7 +270,9 @@ def try_words(place):
 def try_terminal(place):
     """On a terminal there is a line for each property that runs, with how long and how far."""
     ours, theirs = pty.openpty()
-    words = place.words(EXAMPLES / "two-counters.btor2", "--engine", "hang=" + liar("hang", "{counterexample}"), "--engine", "bmc3", "--timeout", "3")
+    words = place.words(
+        EXAMPLES / "two-counters.btor2", "--engine", "hang=" + liar("hang", "{counterexample}"), "--engine", "bmc3", "--timeout", "3"
+    )
     process = subprocess.Popen(words, cwd=place.folder, stdout=theirs, stderr=theirs)
     os.close(theirs)
     seen = b""
@@ -320,14 +369,28 @@ def lies(files):
 # What is said of a lie: the check that does not confirm it, or that there is no claim. Of the others no more is asked than that
 # nothing is confirmed.
 SAID_OF = {
-    "cut": "lift: malformed", "a frame short": "lift: not reached: b2", "of another property": "lift: not reached: b2",
+    "cut": "lift: malformed",
+    "a frame short": "lift: not reached: b2",
+    "of another property": "lift: not reached: b2",
     "a model's witness of another property": "check-btor: accepted 1 frames, but of another property than b2",
     "the same on standard output": "check-btor: accepted 1 frames, but of another property than b2",
-    "a model's witness as one of the form": "lift: ", "no invariant": "check-proof: not derived", "no set of states": "check-proof: not derived",
-    "a set with the first state": "obligation: ", "rubbish": "lift: malformed", "rubbish as an invariant": "obligation: ",
-    "nothing": "status 0", "a text without end": "", "a crash": "killed by signal 11", "a failure": "status 1: this engine does not work", "no end": "out of time",
-    "the empty clause at once": "check-proof: not implied", "a proof of another formula": "check-proof: ", "an empty proof": "check-proof: not derived",
-    "rubbish as a proof": "check-proof: malformed", "a solver that crashes": "it wrote no proof: killed by signal 11", "a solver without end": "it wrote no proof: out of time",
+    "a model's witness as one of the form": "lift: ",
+    "no invariant": "check-proof: not derived",
+    "no set of states": "check-proof: not derived",
+    "a set with the first state": "obligation: ",
+    "rubbish": "lift: malformed",
+    "rubbish as an invariant": "obligation: ",
+    "nothing": "status 0",
+    "a text without end": "",
+    "a crash": "killed by signal 11",
+    "a failure": "status 1: this engine does not work",
+    "no end": "out of time",
+    "the empty clause at once": "check-proof: not implied",
+    "a proof of another formula": "check-proof: ",
+    "an empty proof": "check-proof: not derived",
+    "rubbish as a proof": "check-proof: malformed",
+    "a solver that crashes": "it wrote no proof: killed by signal 11",
+    "a solver without end": "it wrote no proof: out of time",
 }
 
 
@@ -341,8 +404,26 @@ def try_lies(place):
         alone = place.run(queue, "-o", "alone.flow", "--engine", f"liar={command}", "--property", "2", "--timeout", "2")
         tally.same(f"{way}, alone", (OPEN, None), (alone.returncode, place.verdict("alone.flow", 2)))
         tally.true(f"{way}: what is said", SAID_OF.get(way, "") in alone.stdout, alone.stdout + alone.stderr)
-        first = place.run(queue, "-o", "first.flow", "--engine", f"liar={command}", "--engine", "bmc3", "--engine", "pdr", "--property", "2", "--timeout", "6")
-        tally.same(f"{way}, before others", (ONE_FAILS, 5, "bmc3"), (first.returncode, place.verdict("first.flow", 2), "bmc3" if " bmc3 " in first.stdout else first.stdout + first.stderr))
+        first = place.run(
+            queue,
+            "-o",
+            "first.flow",
+            "--engine",
+            f"liar={command}",
+            "--engine",
+            "bmc3",
+            "--engine",
+            "pdr",
+            "--property",
+            "2",
+            "--timeout",
+            "6",
+        )
+        tally.same(
+            f"{way}, before others",
+            (ONE_FAILS, 5, "bmc3"),
+            (first.returncode, place.verdict("first.flow", 2), "bmc3" if " bmc3 " in first.stdout else first.stdout + first.stderr),
+        )
         tally.same(f"{way}: check.sh", (0, "1 confirmed, 0 not"), place.checked("first.flow"))
         tally.same(f"{way}: nothing goes on", [], left_over("HWTOOL_FLOW_RUN=" + str(place.folder)) + left_over("lying_engine.py"))
         for it in ("alone.flow", "first.flow"):
@@ -363,12 +444,16 @@ def try_other_forms(place):
     first, *frames = files["counterexample 2"].read_text().replace("# DONE", "").split()
     tally.same("a frame's bits", {inputs}, set(map(len, frames)))
     (place.folder / "form.witness").write_text("\n".join(["1", "b0", first, *frames, "."]) + "\n\n\r")
-    for way, command in {"a witness of the form": liar("given", place.folder / "form.witness", "{witness}"),
-                         "a witness of the form on standard output": liar("told", place.folder / "form.witness"),
-                         "a witness of the model": liar("given", files["witness 2"], "{model_witness}", handed="{model}"),
-                         "a witness of the model on standard output": liar("told", files["witness 2"], handed="{model}")}.items():
+    for way, command in {
+        "a witness of the form": liar("given", place.folder / "form.witness", "{witness}"),
+        "a witness of the form on standard output": liar("told", place.folder / "form.witness"),
+        "a witness of the model": liar("given", files["witness 2"], "{model_witness}", handed="{model}"),
+        "a witness of the model on standard output": liar("told", files["witness 2"], handed="{model}"),
+    }.items():
         done = place.run(EXAMPLES / "flow/queue.v", "-o", "other.flow", "--engine", f"other={command}", "--property", "2")
-        tally.true(way, done.returncode == ONE_FAILS and re.search(r"fails in frame 5 +checked +other", done.stdout), done.stdout + done.stderr)
+        tally.true(
+            way, done.returncode == ONE_FAILS and re.search(r"fails in frame 5 +checked +other", done.stdout), done.stdout + done.stderr
+        )
         shutil.rmtree(place.folder / "other.flow")
 
 
@@ -377,7 +462,18 @@ def try_other_forms(place):
 
 def counter_model(bads, modulo):
     """A model of a counter of six bits that goes round below a number: bad property k says that it is k modulo 60."""
-    lines = ["1 sort bitvec 1", "2 sort bitvec 6", "3 zero 2", "4 state 2 count", "5 init 2 4 3", "6 inc 2 4", f"7 constd 2 {modulo - 1}", "8 eq 1 4 7", "9 ite 2 8 3 6", "10 next 2 4 9"]
+    lines = [
+        "1 sort bitvec 1",
+        "2 sort bitvec 6",
+        "3 zero 2",
+        "4 state 2 count",
+        "5 init 2 4 3",
+        "6 inc 2 4",
+        f"7 constd 2 {modulo - 1}",
+        "8 eq 1 4 7",
+        "9 ite 2 8 3 6",
+        "10 next 2 4 9",
+    ]
     for k in range(bads):
         lines += [f"{11 + 3 * k} constd 2 {k % 60}", f"{12 + 3 * k} eq 1 4 {11 + 3 * k}", f"{13 + 3 * k} bad {12 + 3 * k} is_{k}"]
     return "\n".join(lines) + "\n", [k % 60 if k % 60 < modulo else HOLDS for k in range(bads)]
@@ -406,7 +502,13 @@ def try_going_on(place):
     tally.same("check.sh over a witness that was changed", (1, "2 confirmed, 1 not"), place.checked("queue.flow"))
     place.run("queue.v")
     tally.same("a witness that was changed by hand", lasting(first), lasting(place.results("queue.flow")))
-    for rubbish in ("", "{", "[]", '{"sum": 1}', json.dumps({**first, "properties": [1, {"number": "x"}, {"number": 2, "verdict": [], "seconds": {}}]})):
+    for rubbish in (
+        "",
+        "{",
+        "[]",
+        '{"sum": 1}',
+        json.dumps({**first, "properties": [1, {"number": "x"}, {"number": 2, "verdict": [], "seconds": {}}]}),
+    ):
         (at / "results.json").write_text(rubbish)
         tally.same(f"results.json as {rubbish[:20]!r}", ONE_FAILS, place.run("queue.v").returncode)
         tally.same("and what comes of it", lasting(first), lasting(place.results("queue.flow")))
@@ -415,12 +517,33 @@ def try_going_on(place):
     place.run("queue.v")
     tally.same("another design", [HOLDS, HOLDS, HOLDS], place.verdicts("queue.flow"))
     tally.same("its check.sh", (0, "3 confirmed, 0 not"), place.checked("queue.flow"))
-    held = subprocess.Popen(place.words("queue.v", "-o", "held.flow", "--engine", "hang=" + liar("hang", "{counterexample}")), cwd=place.folder, stdout=subprocess.DEVNULL)
-    wait_for(lambda: (place.folder / "held.flow/results.json").exists())
+    try_held(place)
+
+
+def try_held(place):
+    """Two runs in one folder; and what is left of engines when a run is stopped, or killed."""
+
+    def held(way):
+        """A run whose engine hangs in a way."""
+        words = place.words("queue.v", "-o", "held.flow", "-j", "1", "--engine", f"hang={liar(way, '{counterexample}')}")
+        process = subprocess.Popen(words, cwd=place.folder, stdout=subprocess.DEVNULL, stderr=subprocess.DEVNULL)
+        wait_for(lambda: left_over("lying_engine.py"))
+        time.sleep(0.5)
+        return process
+
+    process = held("hang")
     tally.same("two runs in one folder", BROKE, place.run("queue.v", "-o", "held.flow").returncode)
-    held.send_signal(signal.SIGINT)
-    tally.same("a signal's status", 128 + signal.SIGINT, held.wait(60))
+    process.send_signal(signal.SIGINT)
+    tally.same("a signal's status", 128 + signal.SIGINT, process.wait(60))
     tally.same("nothing goes on behind it", [], left_over("lying_engine.py"))
+    process = held("hang_and_leave")
+    process.kill()
+    process.wait()
+    wait_for(lambda: not left_over("lying_engine.py"), 5)
+    tally.same("an engine of a run that was killed", [], left_over("lying_engine.py"))
+    tally.same("its child in another session", 1, len(left_over("sleep\x003615")))
+    place.run("queue.v", "-o", "held.flow")
+    tally.same("the same behind the next run", [], left_over("sleep\x003615"))
 
 
 def wait_for(is_so, seconds=60):
@@ -443,7 +566,9 @@ def try_stopped(place):
     for number in (signal.SIGKILL, signal.SIGTERM):
         shutil.rmtree(place.folder / "counter.flow", ignore_errors=True)
         for _ in range(STOPS):
-            process = subprocess.Popen(place.words("counter.btor2", "-j", "2"), cwd=place.folder, stdout=subprocess.DEVNULL, stderr=subprocess.DEVNULL)
+            process = subprocess.Popen(
+                place.words("counter.btor2", "-j", "2"), cwd=place.folder, stdout=subprocess.DEVNULL, stderr=subprocess.DEVNULL
+            )
             try:
                 process.wait(chance.uniform(0.05, lasts / 3))
             except subprocess.TimeoutExpired:
@@ -456,9 +581,17 @@ def try_stopped(place):
                 known = place.verdicts("counter.flow")
                 tally.true("what is known so far", all(got in (None, want) for got, want in zip(known, wanted)), known)
         done = place.run("counter.btor2", "-j", "2")
-        tally.same(f"stopped by {number.name}", (ONE_FAILS, lasting(place.results("whole.flow"))), (done.returncode, lasting(place.results("counter.flow"))))
+        tally.same(
+            f"stopped by {number.name}",
+            (ONE_FAILS, lasting(place.results("whole.flow"))),
+            (done.returncode, lasting(place.results("counter.flow"))),
+        )
         tally.same("its check.sh", (0, "24 confirmed, 0 not"), place.checked("counter.flow"))
-        tally.same("what is left in the folder", sorted(it.name for it in (place.folder / "whole.flow").iterdir()), sorted(it.name for it in (place.folder / "counter.flow").iterdir()))
+        tally.same(
+            "what is left in the folder",
+            sorted(it.name for it in (place.folder / "whole.flow").iterdir()),
+            sorted(it.name for it in (place.folder / "counter.flow").iterdir()),
+        )
 
 
 def try_many(place):
@@ -493,25 +626,44 @@ def try_devices(place):
         other = ["setpriv", "--reuid=65534", "--regid=65534", "--clear-groups"]
         for it in (place.folder, *place.folder.parents):
             it.chmod(it.stat().st_mode | 0o055) if it.stat().st_uid == 0 and str(it).startswith(tempfile.gettempdir() + "/") else None
-        done = subprocess.run([*other, "/usr/bin/python3", *closed.words(EXAMPLES / "counter.btor2")[1:]], cwd=closed.folder, capture_output=True, text=True, check=False)
-        tally.true("a folder that cannot be written", done.returncode == BROKE and "Permission denied" in done.stderr, f"{done.returncode} {done.stderr}")
-    disk = place.folder / "disk"
-    disk.mkdir()
+        done = subprocess.run(
+            [*other, "/usr/bin/python3", *closed.words(EXAMPLES / "counter.btor2")[1:]],
+            cwd=closed.folder,
+            capture_output=True,
+            text=True,
+            check=False,
+        )
+        tally.true(
+            "a folder that cannot be written",
+            done.returncode == BROKE and "Permission denied" in done.stderr,
+            f"{done.returncode} {done.stderr}",
+        )
+    text, wanted = counter_model(24, 14)
+    (place.folder / "counter.btor2").write_text(text)
+    try_full_disk(place, "queue.v", [0, HOLDS, 5], (4, 12, 24, 36, 48, 64, 80, 100))
+    try_full_disk(place, "counter.btor2", wanted, (40, 60, 80, 100, 130, 160, 200, 240))
+
+
+def try_full_disk(place, design, wanted, sizes):
+    """Runs on a disk that is full too soon, with more and more room, and last with enough."""
+    disk, name = place.folder / "disk", f"disk/{pathlib.Path(design).stem}.flow"
+    disk.mkdir(exist_ok=True)
     if subprocess.run(["mount", "-t", "tmpfs", "-o", "size=4k", "none", disk], check=False, stderr=subprocess.DEVNULL).returncode != 0:
         print("left out: a full disk, since nothing can be mounted")
         return
     try:
-        for size in (4, 12, 24, 36, 48, 64, 80, 100, 128):
+        for size in sizes:
             subprocess.run(["mount", "-o", f"remount,size={size}k", disk], check=True)
-            done = place.run("queue.v", "-o", "disk/queue.flow", "-j", "2")
-            tally.true(f"a disk of {size} k", done.returncode == BROKE or (done.returncode == ONE_FAILS and "b0" in done.stdout), f"{done.returncode} {done.stderr}")
-            kept = disk / "queue.flow/results.json"
-            known = place.verdicts("disk/queue.flow") if kept.exists() else []
-            tally.true("what is known", all(got in (None, want) for got, want in zip(known, [0, HOLDS, 5])), known)
+            done = place.run(design, "-o", name, "-j", "2")
+            enough = done.returncode == ONE_FAILS and "b0" in done.stdout
+            tally.true(f"{design} on a disk of {size} k", done.returncode == BROKE or enough, f"{done.returncode} {done.stderr}")
+            kept = place.folder / name / "results.json"
+            known = place.verdicts(name) if kept.exists() else []
+            tally.true("what is known", all(got in (None, want) for got, want in zip(known, wanted)), known)
         subprocess.run(["mount", "-o", "remount,size=4m", disk], check=True)
-        place.run("queue.v", "-o", "disk/queue.flow")
-        tally.same("with room again", [0, HOLDS, 5], place.verdicts("disk/queue.flow"))
-        tally.same("its check.sh", (0, "3 confirmed, 0 not"), place.checked("disk/queue.flow"))
+        place.run(design, "-o", name)
+        tally.same(f"{design} with room again", wanted, place.verdicts(name))
+        tally.same("its check.sh", (0, f"{len(wanted)} confirmed, 0 not"), place.checked(name))
     finally:
         subprocess.run(["umount", disk], check=False)
 
@@ -520,8 +672,13 @@ def try_missing(place):
     """Tools that are not there are said, with the package that has them."""
     place = place.sub("missing")
     queue, counter = EXAMPLES / "flow/queue.v", EXAMPLES / "two-counters.btor2"
-    for gone, design, wanted in [({"yosys"}, queue, (BROKE, [])), ({"berkeley-abc"}, counter, (BROKE, [])), ({"cadical"}, counter, (ONE_FAILS, [7, None])),
-                                 ({"cadical"}, EXAMPLES / "wraps.btor2", (BROKE, [None])), ({"yosys"}, counter, (ONE_FAILS, [7, HOLDS]))]:
+    for gone, design, wanted in [
+        ({"yosys"}, queue, (BROKE, [])),
+        ({"berkeley-abc"}, counter, (BROKE, [])),
+        ({"cadical"}, counter, (ONE_FAILS, [7, None])),
+        ({"cadical"}, EXAMPLES / "wraps.btor2", (BROKE, [None])),
+        ({"yosys"}, counter, (ONE_FAILS, [7, HOLDS])),
+    ]:
         path = place.folder / f"without-{'-'.join(gone)}"
         if not path.exists():
             path.mkdir()
@@ -534,20 +691,36 @@ def try_missing(place):
         if wanted[0] == BROKE or None in wanted[1]:
             tally.true(f"without {gone}: what is said", f"apt-get install {next(iter(gone))}" in done.stderr, done.stderr)
         shutil.rmtree(place.folder / "it.flow", ignore_errors=True)
-    done = subprocess.run([sys.executable, str(TOOL), "--hwtool", "nowhere", str(counter)], cwd=place.folder, capture_output=True, text=True, check=False)
+    done = subprocess.run(
+        [sys.executable, str(TOOL), "--hwtool", "nowhere", str(counter)], cwd=place.folder, capture_output=True, text=True, check=False
+    )
     tally.true("without the program", done.returncode == BROKE and "nowhere" in done.stderr, done.stderr)
     try_broken_program(place, counter)
 
 
 def try_broken_program(place, counter):
     """A program in place of hwtool that dies, hangs up or says what it should not: no verdict comes of it."""
-    for name, text in {"dies": "kill -SEGV $$", "fails": "exit 3", "accepts": 'case $1 in check-*) echo "accepted 1 frames" ;; *) exec "$REAL" "$@" ;; esac'}.items():
+    for name, text in {
+        "dies": "kill -SEGV $$",
+        "fails": "exit 3",
+        "accepts": 'case $1 in check-*) echo "accepted 1 frames" ;; *) exec "$REAL" "$@" ;; esac',
+    }.items():
         stand_in = place.folder / name
         stand_in.write_text(f"#!/bin/sh\n{text}\n")
         stand_in.chmod(0o755)
-        done = subprocess.run([sys.executable, str(TOOL), "--hwtool", str(stand_in), "-o", "it.flow", str(counter)], cwd=place.folder, capture_output=True, text=True,
-                              check=False, env={**os.environ, "REAL": place.program})
-        tally.true(f"a program that {name}", done.returncode in (BROKE, OPEN) and "checked  " not in done.stdout, f"{done.returncode} {done.stdout}")
+        done = subprocess.run(
+            [sys.executable, str(TOOL), "--hwtool", str(stand_in), "-o", "it.flow", str(counter)],
+            cwd=place.folder,
+            capture_output=True,
+            text=True,
+            check=False,
+            env={**os.environ, "REAL": place.program},
+        )
+        tally.true(
+            f"a program that {name}",
+            done.returncode in (BROKE, OPEN) and "checked  " not in done.stdout,
+            f"{done.returncode} {done.stdout}",
+        )
         shutil.rmtree(place.folder / "it.flow", ignore_errors=True)
 
 
@@ -609,14 +782,25 @@ def try_page(place, screenshot):
         print("left out: the page in a browser, since there is no chromium")
         return
     for width in (1200, 500):
-        looked = dumped(page, width, "document.title = [document.documentElement.scrollWidth <= innerWidth, getComputedStyle(document.querySelector('.tools')).display]")
+        looked = dumped(
+            page,
+            width,
+            "document.title = [document.documentElement.scrollWidth <= innerWidth, getComputedStyle(document.querySelector('.tools')).display]",
+        )
         look_at(f"in a window of {width}", Page(looked))
         tally.true(f"the page fits {width}", "<title>true,flex</title>" in looked, re.findall("<title>.*</title>", looked))
-    press = "const it = document.querySelectorAll('figure')[1]; it.focus(); const f = it.querySelector('svg.frames'), seen = [];" \
-            "for (const key of ['+', 'Home', 'ArrowRight', '-', '0']) { it.dispatchEvent(new KeyboardEvent('keydown', {key})); seen.push(f.getAttribute('viewBox').split(' ').slice(0, 3).join(' ')); }" \
-            "document.title = [document.activeElement === it, ...seen].join(';')"
+    press = (
+        "const it = document.querySelectorAll('figure')[1]; it.focus(); const f = it.querySelector('svg.frames'), seen = [];"
+        "for (const key of ['+', 'Home', 'ArrowRight', '-', '0']) { it.dispatchEvent(new KeyboardEvent('keydown', {key}));"
+        "seen.push(f.getAttribute('viewBox').split(' ').slice(0, 3).join(' ')); }"
+        "document.title = [document.activeElement === it, ...seen].join(';')"
+    )
     # six frames; two thirds of them around the middle; from the first; one on; all; as at first
-    tally.true("zoom by the keyboard", "<title>true;1 0 4;0 0 4;1 0 4;0 0 6;0 0 6</title>" in dumped(page, 1200, press), re.findall("<title>.*</title>", dumped(page, 1200, press)))
+    tally.true(
+        "zoom by the keyboard",
+        "<title>true;1 0 4;0 0 4;1 0 4;0 0 6;0 0 6</title>" in dumped(page, 1200, press),
+        re.findall("<title>.*</title>", dumped(page, 1200, press)),
+    )
     if screenshot:
         # of the three properties the last one stands open
         closed = page.with_name("looked-at.html")
@@ -631,9 +815,19 @@ def look_at(how, seen):
     tally.same(f"{how}: rows and marks", (3, [0, 5]), (seen.rows, seen.marked))
     tally.same(f"{how}: signals", [QUEUE_SIGNALS, QUEUE_SIGNALS], list(map(len, seen.signals)))
     tally.same(f"{how}: frames", ["0 0 1", "0 0 6"], [it.rsplit(" ", 1)[0] for it in seen.views])
-    tally.same(f"{how}: the assumption and the property stand first", ["assumption 0", "assert_has_room"], [it[: len(it) // 2] for it in seen.signals[1][:2]])
+    tally.same(
+        f"{how}: the assumption and the property stand first",
+        ["assumption 0", "assert_has_room"],
+        [it[: len(it) // 2] for it in seen.signals[1][:2]],
+    )
     texts = " ".join(seen.texts)
-    for it in ("✗ fails in frame 5", "✓ holds", "hwtool check-proof --bad 1 --names model.btor2 b1/invariant b1/proof", "b2 is reached in frame 5", "queue.v:34"):
+    for it in (
+        "✗ fails in frame 5",
+        "✓ holds",
+        "hwtool check-proof --bad 1 --names model.btor2 b1/invariant b1/proof",
+        "b2 is reached in frame 5",
+        "queue.v:34",
+    ):
         tally.true(f"{how}: {it}", it in texts)
     tally.same(f"{how}: what is loaded", [], seen.loads)
 
@@ -644,7 +838,21 @@ def main():
     words.add_argument("--screenshot", metavar="FILE")
     words.add_argument("--only", metavar="NAME", help="one of the groups of tries")
     words = words.parse_args()
-    groups = {it.__name__[4:]: it for it in [try_designs, try_words, try_names, try_lies, try_other_forms, try_going_on, try_stopped, try_many, try_devices, try_missing]}
+    groups = {
+        it.__name__[4:]: it
+        for it in [
+            try_designs,
+            try_words,
+            try_names,
+            try_lies,
+            try_other_forms,
+            try_going_on,
+            try_stopped,
+            try_many,
+            try_devices,
+            try_missing,
+        ]
+    }
     groups["page"] = lambda place: try_page(place, words.screenshot and os.path.abspath(words.screenshot))
     with tempfile.TemporaryDirectory() as folder:
         place = Place(os.path.realpath(folder), os.path.abspath(words.program))

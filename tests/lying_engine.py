@@ -121,13 +121,43 @@ def leave_child(*_files):
     subprocess.Popen(["sh", "-c", "setsid sh -c 'sleep 3613 & sleep 3614' & exit"]).wait()
 
 
+def hang_and_leave(*_files):
+    """It does not end, and has a child in a session of its own."""
+    subprocess.Popen(["sleep", "3615"], start_new_session=True)
+    hang()
+
+
 def spoil(form):
     """It spoils what it was handed."""
     pathlib.Path(form).write_bytes(b"")
 
 
-WAYS = {it.__name__: it for it in [cut, a_frame_short, turned, given, told, no_invariant, all_states, the_first_state, at_once, nothing, rubbish,
-                                   without_end, a_link, a_pipe, a_folder, crash, fail, hang, leave_child, spoil]}
+WAYS = {
+    it.__name__: it
+    for it in [
+        cut,
+        a_frame_short,
+        turned,
+        given,
+        told,
+        no_invariant,
+        all_states,
+        the_first_state,
+        at_once,
+        nothing,
+        rubbish,
+        without_end,
+        a_link,
+        a_pipe,
+        a_folder,
+        crash,
+        fail,
+        hang,
+        leave_child,
+        hang_and_leave,
+        spoil,
+    ]
+}
 
 if __name__ == "__main__":
     WAYS[sys.argv[1]](*sys.argv[2 : sys.argv.index("--")])

@@ -5,7 +5,7 @@ import re
 import signal
 import sys
 from pathlib import Path
-from typing import List
+from typing import List, NoReturn
 
 from . import engines
 from .engines import InputRefused, WordsRefused
@@ -18,7 +18,8 @@ from .running import Runner
 class Words(argparse.ArgumentParser):
     """The words, of which refused ones have a status of their own."""
 
-    def error(self, message: str) -> None:
+    def error(self, message: str) -> NoReturn:
+        """Tells what is wrong with the words."""
         self.print_usage(sys.stderr)
         self.exit(Status.WORDS_REFUSED, f"hwtool-flow: {message}\n")
 
@@ -29,9 +30,14 @@ NAME.flow/: the model, witnesses, dumps, invariants, proofs, results.json, repor
 verdicts again by hwtool alone. A second run goes on where the first was stopped."""
 STATUSES = """exit statuses: 0 all hold, checked; 1 one fails; 2 an input is refused; 3 a tool is missing or broke, or a device failed;
 4 the words are refused; 5 some are open"""
-ENGINE_HELP = f"""engines to try, in this order: {', '.join(it.name for it in engines.ENGINES)}, or NAME=COMMAND. A COMMAND is handed {{form}}, the engine
-form of one property in AIGER, or {{model}}, and {{bad}}, {{depth}}, {{seconds}}. It writes {{counterexample}} as ABC does, {{witness}} of
-the form, {{model_witness}} or {{invariant}}; if it names none of these, its standard output is the witness"""
+ENGINE_HELP = f"""engines to try, in this order: {', '.join(it.name for it in engines.ENGINES)}, or NAME=COMMAND. A COMMAND is
+handed {{form}}, the engine form of one property in AIGER, or {{model}}, and {{bad}}, {{depth}}, {{seconds}}. It writes
+{{counterexample}} as ABC does, {{witness}} of the form, {{model_witness}} or {{invariant}}; if it names none of these, its standard
+output is the witness"""
+SOLVER_HELP = f"""what makes proofs in ascii DRAT: {', '.join(it.name for it in engines.SOLVERS)}, or NAME=COMMAND with {{formula}} and
+{{proof}}"""
+YOSYS_HELP = """steps of Yosys in place of those that hwtool-flow chooses; it reads the files first, where no step does, and writes the
+model last"""
 
 
 def words_of(arguments: List[str]) -> argparse.Namespace:
@@ -42,11 +48,18 @@ def words_of(arguments: List[str]) -> argparse.Namespace:
     it.add_argument("--property", action="append", metavar="K", help="only this property, by its number or name; may be said again")
     it.add_argument("--depth", type=whole, default=100, metavar="N", help="how many frames are searched for counterexamples (100)")
     it.add_argument("--timeout", type=seconds, default=60.0, metavar="SECONDS", help="what engines and solver have for each property (60)")
-    it.add_argument("-j", "--jobs", type=whole, default=len(os.sched_getaffinity(0)), metavar="N", help="how many properties are worked on side by side (one for each processor)")
+    processors = len(os.sched_getaffinity(0))
+    it.add_argument(
+        "-j", "--jobs", type=whole, default=processors, metavar="N", help=f"how many properties side by side ({processors} here)"
+    )
     it.add_argument("--engine", action="append", metavar="ENGINE", help=ENGINE_HELP)
-    it.add_argument("--solver", metavar="SOLVER", help=f"what makes proofs in ascii DRAT: {', '.join(one.name for one in engines.SOLVERS)}, or NAME=COMMAND with {{formula}} and {{proof}}")
-    it.add_argument("--yosys", type=Path, metavar="SCRIPT", help="steps of Yosys between reading the files and writing the model, in place of those that hwtool-flow chooses")
-    it.add_argument("--clocked-resets", action="store_true", help="resets and latches change with the one clock alone: async2sync, in place of clk2fflogic")
+    it.add_argument("--solver", metavar="SOLVER", help=SOLVER_HELP)
+    it.add_argument("--yosys", type=Path, metavar="SCRIPT", help=YOSYS_HELP)
+    it.add_argument(
+        "--clocked-resets",
+        action="store_true",
+        help="resets and latches change with the one clock alone: async2sync, in place of clk2fflogic",
+    )
     it.add_argument("--zero-undefined", action="store_true", help="undefined bits are 0; else they are any, in each frame anew")
     it.add_argument("-o", "--output", type=Path, metavar="FOLDER", help="the folder of results (NAME.flow)")
     it.add_argument("--json", action="store_true", help="print results.json, and all else on standard error")

@@ -90,7 +90,9 @@ class Engine:
 
 def abc(name: str, steps: str, weight: int) -> Engine:
     """An engine of ABC, which is handed the engine form in every case."""
-    return Engine(name, ["berkeley-abc", "-q", f"read_aiger {{form}}; {steps}; write_cex -a {{counterexample}}"], weight, proves="Property proved")
+    return Engine(
+        name, ["berkeley-abc", "-q", f"read_aiger {{form}}; {steps}; write_cex -a {{counterexample}}"], weight, proves="Property proved"
+    )
 
 
 # Tried in this order. Each has its part of the time that is left: its weight among its own and those behind it.
@@ -151,7 +153,7 @@ def program_of(engine: Engine) -> Optional[str]:
     """Where the program of an engine stands, so that it can be run from any folder; nothing where it is not there."""
     name = engine.command[0]
     found = next(filter(None, map(shutil.which, NAMES.get(name, [name]))), None)
-    return found and os.path.abspath(found)
+    return os.path.abspath(found) if found else None
 
 
 def is_there(engine: Engine) -> bool:

@@ -63,7 +63,16 @@ class Label:
         room = int(((right - left) * view.scale - 8) / LETTER)
         shown = self.value if len(self.value) <= room else self.value[: room - 1] + "…" if room > 1 else ""
         x = round(NAMES + ((left + right) / 2 - view.begin) * view.scale, 1) if right > left else NAMES
-        return tag("text", text(shown) if right > left else "", class_=self.kind, x=x, y=self.y, data_f=self.begin, data_n=self.count, data_v=self.value)
+        return tag(
+            "text",
+            text(shown) if right > left else "",
+            class_=self.kind,
+            x=x,
+            y=self.y,
+            data_f=self.begin,
+            data_n=self.count,
+            data_v=self.value,
+        )
 
 
 def picture(signals: Sequence[Signal], marked: int, title: str) -> str:
@@ -78,15 +87,41 @@ def picture(signals: Sequence[Signal], marked: int, title: str) -> str:
         names += [heading(it.scope, y)] if it.scope in HEADINGS and (before is None or before.scope is not it.scope) else []
         names.append(name(it, y))
         shapes += [box(it, y, view)] if it.width > 1 else levels(it, y, view)
-        labels += [Label(hexadecimal(word), begin, end - begin, y + ROW - FOOT, "value") for word, begin, end in runs(it, view)] if it.width > 1 else []
-    frames = tag("svg", *shapes, class_="frames", x=NAMES, y=0, width=view.width, height=height,
-                 viewBox=f"{view.begin} 0 {view.count} {height}", preserveAspectRatio="none")
+        labels += (
+            [Label(hexadecimal(word), begin, end - begin, y + ROW - FOOT, "value") for word, begin, end in runs(it, view)]
+            if it.width > 1
+            else []
+        )
+    frames = tag(
+        "svg",
+        *shapes,
+        class_="frames",
+        x=NAMES,
+        y=0,
+        width=view.width,
+        height=height,
+        viewBox=f"{view.begin} 0 {view.count} {height}",
+        preserveAspectRatio="none",
+    )
     whole = NAMES + view.width
-    return tag("svg", tag("g", *names), frames, tag("g", *(it.drawn(view) for it in labels), class_="texts"),
-               class_="waves", role="img", aria_label=title, viewBox=f"0 0 {whole} {height}",
-               style=f"max-width: {whole}px; min-width: {LEAST_SIZE * whole:.0f}px",
-               data_first=view.first, data_last=view.last, data_from=view.begin, data_count=view.count,
-               data_names=NAMES, data_width=whole, data_letter=LETTER)
+    return tag(
+        "svg",
+        tag("g", *names),
+        frames,
+        tag("g", *(it.drawn(view) for it in labels), class_="texts"),
+        class_="waves",
+        role="img",
+        aria_label=title,
+        viewBox=f"0 0 {whole} {height}",
+        style=f"max-width: {whole}px; min-width: {LEAST_SIZE * whole:.0f}px",
+        data_first=view.first,
+        data_last=view.last,
+        data_from=view.begin,
+        data_count=view.count,
+        data_names=NAMES,
+        data_width=whole,
+        data_letter=LETTER,
+    )
 
 
 def placed(signals: Sequence[Signal]) -> Iterator[Tuple[Signal, int]]:
@@ -140,8 +175,10 @@ def levels(it: Signal, y: int, view: View) -> List[str]:
 def box(it: Signal, y: int, view: View) -> str:
     """A word as a box with slanted ends for all frames in turn that have it."""
     high, low, middle = y + GAP, y + ROW - GAP, y + ROW / 2
-    line = "".join(f"M{begin} {middle}L{begin + SLANT} {high}H{end - SLANT}L{end} {middle}L{end - SLANT} {low}H{begin + SLANT}Z"
-                   for _, begin, end in runs(it, view))
+    line = "".join(
+        f"M{begin} {middle}L{begin + SLANT} {high}H{end - SLANT}L{end} {middle}L{end - SLANT} {low}H{begin + SLANT}Z"
+        for _, begin, end in runs(it, view)
+    )
     return tag("path", class_="line", d=line)
 
 

@@ -76,11 +76,13 @@ class Prover:
         """What an earlier run told of a property, where its check says so now; nothing where it does not."""
         job = Job(self, it)
         job.aside.mkdir(exist_ok=True)
-        verdict = next((one for one in (Verdict.FAILS, Verdict.HOLDS) if one.value == told.get("verdict")), None)
+        verdict = next((one for one in NEEDED if one.value == told.get("verdict")), None)
         if verdict is None or not all((job.kept / name).is_file() for name in NEEDED[verdict]):
             return None
-        judged = job.judge(verdict)
-        shutil.rmtree(job.aside, ignore_errors=True)
+        try:
+            judged = job.judge(verdict)
+        except Broke:
+            return None
         if not judged.confirmed:
             return None
         seconds = told.get("seconds")
@@ -280,4 +282,3 @@ def why(ended: Ended, log: str) -> str:
 def is_file_with_text(path: Path) -> bool:
     """Whether there is a plain file with something in it: no link, pipe or device."""
     return path.is_file() and not path.is_symlink() and path.stat().st_size > 0
-

@@ -15,6 +15,8 @@ from .running import Ended, Ending, Runner, tail_of
 VERILOG, SYSTEM_VERILOG, BTOR2, AIGER = {".v", ".vh"}, {".sv", ".svh"}, {".btor2", ".btor"}, {".aig", ".aag"}
 # Registers and latches of Yosys that do not wait for a clock, or not alone.
 ASYNCHRONOUS = re.compile(r"\$(adffe?|aldffe?|dffsre?|a?dlatch|dlatchsr|sr)$")
+# A step of Yosys that reads files.
+READS = re.compile(r"\s*(read|read_\w+|verific)\b")
 
 WRITE_ONE = {
     "Verilog": "as in `always @* has_room: assert (count <= 4);`",
@@ -44,6 +46,15 @@ REMEDIES = {
     ],
     11: [Remedy(["simplemap t:$dff t:$ff", "splitnets"], "registers as bits"), BY_BITS],
 }
+
+
+@dataclass(frozen=True)
+class Recipe:
+    """The steps of Yosys for a design; what to say of them; and its one clock, if each frame is an edge of that."""
+
+    steps: List[str]
+    notes: List[str]
+    clock: Optional[str] = None
 
 
 @dataclass(frozen=True)
@@ -153,24 +164,28 @@ class Reader:
         frontend = "verilog -formal -sv" if system else "verilog -formal"
         if shutil.which("yosys") is None:
             raise Broke(missing_line("yosys"))
-        if self.wanted.script:
-            steps, notes, clock = self.wanted.script.read_text(encoding="utf-8").splitlines(), [f"by yosys and {self.wanted.script.name}"], None
-        else:
-            steps, notes, clock = self.steps(self.seen(frontend))
-        remedies = [PLAIN]
-        while remedies:
-            remedy = remedies.pop(0)
-            try:
-                path = self.work / f"model.{remedy.kind.value}"
-                whole, backend = [*steps, *remedy.steps], BACKENDS[remedy.kind]
-                self.yosys(frontend, whole, backend, path)
-                told = [f"read_{frontend}", *whole, f"write_{backend}"]
-                return self.taken(path, remedy.kind, [*notes, *filter(None, [remedy.note])], clock, told)
-            except NotTaken as fault:
-                if remedy is PLAIN:
-                    remedies = list(REMEDIES.get(fault.number, []))
-                if not remedies:
-                    raise
+        recipe = self.own_recipe(self.wanted.script) if self.wanted.script else self.recipe(self.seen(frontend))
+        try:
+            return self.made_by(frontend, recipe, PLAIN)
+        except NotTaken as fault:
+            for remedy in REMEDIES.get(fault.number, []):
+                try:
+                    return self.made_by(frontend, recipe, remedy)
+                except NotTaken:
+                    pass
+            raise
+
+    def made_by(self, frontend: str, recipe: Recipe, remedy: Remedy) -> Model:
+        """The model that Yosys makes by a recipe, with a remedy at its end."""
+        path = self.work / f"model.{remedy.kind.value}"
+        steps, backend = [*recipe.steps, *remedy.steps], BACKENDS[remedy.kind]
+        self.yosys(frontend, steps, backend, path)
+        told = [*([] if reads_files(steps) else [f"read_{frontend}"]), *steps, f"write_{backend}"]
+        return self.taken(path, remedy.kind, [*recipe.notes, *filter(None, [remedy.note])], recipe.clock, told)
+
+    def own_recipe(self, script: Path) -> Recipe:
+        """The steps of a script."""
+        return Recipe(script.read_text(encoding="utf-8").splitlines(), [f"by yosys and {script.name}"])
 
     def top(self) -> str:
         """The step that makes one module of the design."""
@@ -184,34 +199,38 @@ class Reader:
         path.unlink()
         return found
 
-    def steps(self, seen: Seen) -> Tuple[List[str], List[str], Optional[str]]:
-        """The steps of Yosys for what a design has; what to say of it; and its one clock, if each frame is an edge of that."""
-        middle, note, clock = self.timing(seen)
-        notes, end = ["by yosys", note], ["dffunmap"]
+    def recipe(self, seen: Seen) -> Recipe:
+        """The steps of Yosys for what a design has."""
+        timing = self.timing(seen)
+        notes, end = ["by yosys", *timing.notes], ["dffunmap"]
         if seen.undefined and self.wanted.zero_undefined:
             notes, end = [*notes, "undefined bits as 0"], ["dffunmap", "setundef -undriven -zero"]
         elif seen.undefined:
             notes = [*notes, "undefined bits as any"]
-        return [self.top(), *middle, *end], notes, clock
+        return Recipe([self.top(), *timing.steps, *end], notes, timing.clock)
 
-    def timing(self, seen: Seen) -> Tuple[List[str], str, Optional[str]]:
-        """The steps for clocks, resets, latches and memories; what to say of them; and the one clock."""
+    def timing(self, seen: Seen) -> Recipe:
+        """The steps for clocks, resets, latches and memories."""
         in_any_step = ["clk2fflogic", "memory_map -formal"]
         if len(seen.clocks) > 1 or seen.memories:
-            return in_any_step, f"{len(seen.clocks)} clocks ({', '.join(seen.names())}), by clk2fflogic", None
+            return Recipe(in_any_step, [f"{len(seen.clocks)} clocks ({', '.join(seen.names())}), by clk2fflogic"])
         one, clock = ("one clock", seen.names()[0]) if seen.clocks else ("no clock", None)
         if not seen.asynchronous:
-            return ["memory_map"], one, clock
+            return Recipe(["memory_map"], [one], clock)
         if self.wanted.clocked_resets:
-            return ["memory_map", "async2sync"], f"{one}, resets and latches with it, by async2sync", clock
-        return in_any_step, f"{one}, resets or latches that do not wait for it, by clk2fflogic", None
+            return Recipe(["memory_map", "async2sync"], [f"{one}, resets and latches with it, by async2sync"], clock)
+        return Recipe(in_any_step, [f"{one}, resets or latches that do not wait for it, by clk2fflogic"])
 
     def yosys(self, frontend: str, steps: List[str], backend: str, into: Path) -> None:
-        """Runs steps of Yosys over the files of the design, and writes what comes of it. Names stand where nothing takes them apart."""
+        """Runs steps of Yosys over the files of the design, and writes what comes of it. Names stand where nothing takes them apart.
+
+        Where the steps of a script read files themselves, the design's are not read before."""
         script = self.work / "steps.ys"
         script.write_text("\n".join(steps) + "\n", encoding="utf-8")
         log = self.work / "yosys.log"
-        files = [str(it) if re.match(r"[\w/.]", str(it)) else f"./{it}" for it in self.wanted.files]
+        files = (
+            [] if READS.search("\n".join(steps)) else [str(it) if re.match(r"[\w/.]", str(it)) else f"./{it}" for it in self.wanted.files]
+        )
         words = ["yosys", "-q", "-f", frontend, "-b", backend, "-o", os.path.abspath(into), "-s", os.path.abspath(script), *files]
         ended = self.runner.run(words, Path.cwd(), log, None, None, None)
         if ended.how is Ending.STOPPED:
@@ -228,6 +247,11 @@ class NotTaken(InputRefused):
         self.number = int(found[1]) if found else 0
         remedy = f"; hwtool explain {self.number} says what to do" if found else ""
         super().__init__(f"{design}: {line.split(': ', 1)[-1]}{remedy}")
+
+
+def reads_files(steps: Sequence[str]) -> bool:
+    """Whether some step reads files of a design."""
+    return any(map(READS.match, steps))
 
 
 def fault_of(ended: Ended, log: str, design: Path) -> Exception:
@@ -257,7 +281,8 @@ def seen_in(design: Dict) -> Seen:
 
 def has_undefined(module: Dict, names: Dict) -> bool:
     """Whether some bit is undefined, or used and not driven; not where Yosys puts one for what is not looked at."""
-    used, driven = set(), {"0", "1"}
+    used: Set[object] = set()
+    driven: Set[object] = {"0", "1"}
     for it in module["ports"].values():
         (used if it["direction"] == "output" else driven).update(it["bits"])
     for cell in module["cells"].values():
@@ -272,7 +297,7 @@ def has_undefined(module: Dict, names: Dict) -> bool:
 
 def names_of(module: Dict) -> Dict:
     """The name of each bit of a module: one of the design's own, if there is one, and the shortest."""
-    found = {}
+    found: Dict[object, str] = {}
     for name, net in module["netnames"].items():
         for place, bit in enumerate(net["bits"]):
             one = name if len(net["bits"]) == 1 else f"{name}[{place}]"

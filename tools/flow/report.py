@@ -21,8 +21,12 @@ MEANS = {
 }
 # What the buttons of a picture do: the key that does the same, what stands on the button, and what it means.
 BUTTONS = [
-    ("+", "+", "fewer frames (+)"), ("-", "−", "more frames (-)"), ("ArrowLeft", "←", "a frame back (left)"),
-    ("ArrowRight", "→", "a frame on (right)"), ("Home", "⇤", "to the first frame (Home)"), ("0", "0", "as at first (0)"),
+    ("+", "+", "fewer frames (+)"),
+    ("-", "−", "more frames (-)"),
+    ("ArrowLeft", "←", "a frame back (left)"),
+    ("ArrowRight", "→", "a frame on (right)"),
+    ("Home", "⇤", "to the first frame (Home)"),
+    ("0", "0", "as at first (0)"),
 ]
 
 
@@ -33,17 +37,29 @@ def beside(name: str) -> str:
 
 def page(results: Results, folder: Path) -> str:
     """The page of all that a run came to, whose files stand in a folder."""
-    head = ['<meta charset="utf-8">\n<meta name="viewport" content="width=device-width, initial-scale=1">\n',
-            tag("title", text(f"{results.design}: properties")), tag("style", "\n", beside("page.css"))]
+    head = [
+        '<meta charset="utf-8">\n<meta name="viewport" content="width=device-width, initial-scale=1">\n',
+        tag("title", text(f"{results.design}: properties")),
+        tag("style", "\n", beside("page.css")),
+    ]
     sections = [section(it, results, folder, place < MOST_OPEN) for place, it in enumerate(results.outcomes)]
-    body = [front(results), table(results), tag("h2", "Property by property"), *sections, trust(results), tag("script", "\n", beside("page.js"))]
+    body = [
+        front(results),
+        table(results),
+        tag("h2", "Property by property"),
+        *sections,
+        trust(results),
+        tag("script", "\n", beside("page.js")),
+    ]
     return "<!DOCTYPE html>\n" + tag("html", tag("head", *head), "\n", tag("body", "\n", "\n".join(body)), lang="en") + "\n"
 
 
 def front(results: Results) -> str:
     """The design, how it was read, and how many properties came to what."""
-    counts = [tag("li", f"{count_of(results.outcomes, it)} {word}", class_=it.value)
-              for it, word in [(Verdict.HOLDS, "hold"), (Verdict.FAILS, "fail"), (Verdict.OPEN, "open")]]
+    counts = [
+        tag("li", f"{count_of(results.outcomes, it)} {word}", class_=it.value)
+        for it, word in [(Verdict.HOLDS, "hold"), (Verdict.FAILS, "fail"), (Verdict.OPEN, "open")]
+    ]
     read = tag("p", text(f"read {', '.join(results.model.notes)}; model "), tag("code", results.model.name), class_="soft")
     return tag("h1", text(results.design)) + read + tag("ul", *counts, class_="counts")
 
@@ -58,9 +74,20 @@ def table(results: Results) -> str:
 def row(it: Outcome) -> str:
     """A line of the table."""
     key = it.property.key
-    name = [tag("a", key, href=f"#{key}"), " ", tag("span", text(it.property.name), class_="mono"), " ", tag("span", text(it.property.place), class_="soft")]
-    cells = [tag("td", *name), tag("td", verdict_words(it), class_=f"verdict {it.verdict.value}"), tag("td", tag("code", it.check or "-")),
-             tag("td", text(it.engine or "-")), tag("td", f"{it.seconds:.1f}", class_="number")]
+    name = [
+        tag("a", key, href=f"#{key}"),
+        " ",
+        tag("span", text(it.property.name), class_="mono"),
+        " ",
+        tag("span", text(it.property.place), class_="soft"),
+    ]
+    cells = [
+        tag("td", *name),
+        tag("td", verdict_words(it), class_=f"verdict {it.verdict.value}"),
+        tag("td", tag("code", it.check or "-")),
+        tag("td", text(it.engine or "-")),
+        tag("td", f"{it.seconds:.1f}", class_="number"),
+    ]
     return tag("tr", *cells, class_="property")
 
 
@@ -73,9 +100,12 @@ def section(it: Outcome, results: Results, folder: Path, is_open: bool) -> str:
     """All about one property."""
     parts = [tag("p", MEANS[it.verdict].format(frame=it.frame))]
     if it.command:
-        parts += [tag("p", "So says this call:"), tag("pre", text(f"$ {shlex.join(['hwtool', *it.command])}\n{said_by(it)}"), class_="call")]
-    if it.verdict is Verdict.FAILS:
-        parts.append(drawn(it, results, folder))
+        parts += [
+            tag("p", "So says this call:"),
+            tag("pre", text(f"$ {shlex.join(['hwtool', *it.command])}\n{said_by(it)}"), class_="call"),
+        ]
+    if it.frame is not None:
+        parts.append(drawn(it, it.frame, results, folder))
     if it.verdict is Verdict.HOLDS:
         parts.append(tag("p", certificate(folder / it.property.key), class_="certificate"))
     parts += [tag("p", text(line), class_="soft") for line in in_vain(it)]
@@ -98,20 +128,20 @@ def links(it: Outcome, folder: Path) -> str:
     return tag("p", " · ".join(tag("a", name, href=f"{key}/{name}") for name in names), class_="soft")
 
 
-def drawn(it: Outcome, results: Results, folder: Path) -> str:
+def drawn(it: Outcome, rises: int, results: Results, folder: Path) -> str:
     """The picture of a failing property, where there is something to draw."""
     at, model, name = folder / it.property.key, results.model, it.property.name or it.property.key
     try:
-        signals = read_dump(at / DUMP) if model.kind is Kind.WORDS else read_bits(at / WITNESS, model.inputs, it.property, it.frame)
+        signals = read_dump(at / DUMP) if model.kind is Kind.WORDS else read_bits(at / WITNESS, model.inputs, it.property, rises)
         seen = shown(signals, it.property, model.clock or "")
-        svg = picture(seen, it.frame, f"the frames of {it.property} up to frame {it.frame}")
+        svg = picture(seen, rises, f"the frames of {it.property} up to frame {rises}")
     except (OSError, ValueError, IndexError, KeyError) as fault:
         return tag("p", text(f"There is no picture: {fault}"), class_="soft")
     notes = ["words in hexadecimal"]
     notes += [f"each frame is an edge of {model.clock}"] if model.clock else []
-    notes += [f"the last {MOST_FRAMES} frames up to it"] if it.frame >= MOST_FRAMES else []
+    notes += [f"the last {MOST_FRAMES} frames up to it"] if rises >= MOST_FRAMES else []
     notes += [f"{len(seen) - MOST_ROWS} more signals are in {DUMP}"] if len(seen) > MOST_ROWS else []
-    caption = tag("figcaption", f"Frame {it.frame} is marked, in which ", tag("code", text(name)), text(f" fails; {'; '.join(notes)}."))
+    caption = tag("figcaption", f"Frame {rises} is marked, in which ", tag("code", text(name)), text(f" fails; {'; '.join(notes)}."))
     buttons = [tag("button", sign, type="button", data_key=key, title=title, aria_label=title) for key, sign, title in BUTTONS]
     return tag("figure", tag("div", *buttons, class_="tools"), tag("div", svg, class_="wide"), caption, class_="frames-of", tabindex=0)
 
@@ -122,8 +152,10 @@ def certificate(at: Path) -> str:
         cubes, clauses, steps = number_in(at / INVARIANT, r"^\.p (\d+)"), number_in(at / FORMULA, r"^p cnf \d+ (\d+)"), steps_in(at / PROOF)
     except OSError as fault:
         return text(f"How large the certificate is cannot be told: {fault}")
-    return (f"The invariant: {cubes} {'set' if cubes == 1 else 'sets'} of states that are never reached. The formula that it owes has "
-            f"{clauses} clauses, and the proof that nothing satisfies it {steps} {'step' if steps == 1 else 'steps'}.")
+    return (
+        f"The invariant: {cubes} {'set' if cubes == 1 else 'sets'} of states that are never reached. The formula that it owes has "
+        f"{clauses} clauses, and the proof that nothing satisfies it {steps} {'step' if steps == 1 else 'steps'}."
+    )
 
 
 def number_in(path: Path, pattern: str) -> Optional[int]:
@@ -141,9 +173,15 @@ def steps_in(path: Path) -> int:
 def trust(results: Results) -> str:
     """What the page says of trust, and how the model came to be."""
     model = results.model
-    said = [f"Each verdict here is the exit status and the words of one call of {text(results.program)}, over ", tag("code", model.name),
-            " (SHA-256 ", tag("code", results.sum), "). Of engines and solvers nothing is trusted, and of hwtool-flow that it hands on these words: ",
-            tag("code", "sh check.sh"), " makes all the calls again, by hwtool alone."]
+    said = [
+        f"Each verdict here is the exit status and the words of one call of {text(results.program)}, over ",
+        tag("code", model.name),
+        " (SHA-256 ",
+        tag("code", results.sum),
+        "). Of engines and solvers nothing is trusted, and of hwtool-flow that it hands on these words: ",
+        tag("code", "sh check.sh"),
+        " makes all the calls again, by hwtool alone.",
+    ]
     if model.steps:
         made = tag("p", "That the model is the design's rests on Yosys and these steps:") + tag("pre", text("\n".join(model.steps)))
     else:

@@ -198,7 +198,14 @@ class Results:
 
     def as_json(self) -> str:
         """The text of results.json."""
-        front = {"design": self.design, "model": self.model.name, "sum": self.sum, "reading": self.model.notes, "steps": self.model.steps, "program": self.program}
+        front = {
+            "design": self.design,
+            "model": self.model.name,
+            "sum": self.sum,
+            "reading": self.model.notes,
+            "steps": self.model.steps,
+            "program": self.program,
+        }
         return json.dumps({**front, "properties": [it.as_json() for it in self.outcomes]}, indent=1) + "\n"
 
     def as_check(self) -> str:

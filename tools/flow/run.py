@@ -38,8 +38,8 @@ class Status(enum.IntEnum):
 def program_named(word: Optional[str]) -> str:
     """The program that checks: the one that is named, else one that stands beside this, or on the path, or was released."""
     here = Path(sys.argv[0]).resolve().parent
-    for it in [word] if word else [here / "hwtool", "hwtool", here.parent / "release" / "hwtool"]:
-        found = shutil.which(str(it))
+    for it in [word] if word else [str(here / "hwtool"), "hwtool", str(here.parent / "release" / "hwtool")]:
+        found = shutil.which(it)
         if found:
             return os.path.abspath(found)
     raise Broke(f"{word or 'hwtool'}: not there, or no program")

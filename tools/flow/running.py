@@ -70,7 +70,9 @@ class Runner:
         """Runs a program of ours in a folder, with its output in files, for so many seconds at most."""
         return self._run(words, folder, out, err, seconds, subprocess.DEVNULL, dict(os.environ))
 
-    def run(self, words: Sequence[str], folder: Path, out: Path, err: Optional[Path], seconds: Optional[float], most_bytes: Optional[int]) -> Ended:
+    def run(
+        self, words: Sequence[str], folder: Path, out: Path, err: Optional[Path], seconds: Optional[float], most_bytes: Optional[int]
+    ) -> Ended:
         """Runs a program that nothing is known of: its children end with it, and none of its files gets larger than is said."""
         limit = "unlimited" if most_bytes is None else str(max(1, most_bytes // BLOCK))
         mark = self._home + uuid.uuid4().hex
@@ -79,13 +81,28 @@ class Runner:
         kill_marked(mark)
         return ended
 
-    def _run(self, words: Sequence[str], folder: Path, out: Path, err: Optional[Path], seconds: Optional[float], source: int,
-             environment: Dict[str, str]) -> Ended:
+    def _run(
+        self,
+        words: Sequence[str],
+        folder: Path,
+        out: Path,
+        err: Optional[Path],
+        seconds: Optional[float],
+        source: int,
+        environment: Dict[str, str],
+    ) -> Ended:
         """Runs a command in a session of its own, and kills what is left of that."""
         began = time.monotonic()
         with open(out, "wb") as to_out, open(err or os.devnull, "wb") as to_err:
-            process = subprocess.Popen(words, cwd=folder, stdin=source, stdout=to_out, stderr=to_err if err else subprocess.STDOUT,
-                                       start_new_session=True, env=environment)
+            process = subprocess.Popen(
+                words,
+                cwd=folder,
+                stdin=source,
+                stdout=to_out,
+                stderr=to_err if err else subprocess.STDOUT,
+                start_new_session=True,
+                env=environment,
+            )
         how = self._wait(process.pid, math.inf if seconds is None else began + seconds)
         # the group is killed before its leader is reaped, so that its number is still its own
         os.killpg(process.pid, signal.SIGKILL)

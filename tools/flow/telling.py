@@ -25,7 +25,8 @@ class Teller:
     def done(self, it: Outcome) -> None:
         """Writes what came of a property, and what was claimed of it in vain."""
         said = {Verdict.HOLDS: "holds", Verdict.FAILS: f"fails in frame {it.frame}", Verdict.OPEN: "open"}[it.verdict]
-        self.say(f"{self.padded(it.property)}   {said:18}  {'-' if it.verdict is Verdict.OPEN else 'checked':8}  {it.engine or '-':9}  {it.seconds:.1f} s")
+        checked = "-" if it.verdict is Verdict.OPEN else "checked"
+        self.say(f"{self.padded(it.property)}   {said:18}  {checked:8}  {it.engine or '-':9}  {it.seconds:.1f} s")
         for line in in_vain(it):
             self.say(f"    {line}")
 
@@ -53,11 +54,19 @@ class Teller:
 
 def in_vain(it: Outcome) -> List[str]:
     """What is to be said of an outcome beside it: claims that no check confirmed, and what broke."""
-    lines = [f"{one.engine}: claims that it {claim.verdict.value}; not confirmed by {claim.check}: {claim.said}"
-             for one in it.tries for claim in one.claims if not claim.confirmed]
+    lines = [
+        f"{one.engine}: claims that it {claim.verdict.value}; not confirmed by {claim.check}: {claim.said}"
+        for one in it.tries
+        for claim in one.claims
+        if not claim.confirmed
+    ]
     if it.verdict is Verdict.OPEN:
-        lines += [f"{one.engine}: {one.ended}, after {one.seconds:.1f} s" + ("" if one.frame is None else f", in frame {one.frame} by its own word")
-                  for one in it.tries if not one.claims]
+        lines += [
+            f"{one.engine}: {one.ended}, after {one.seconds:.1f} s"
+            + ("" if one.frame is None else f", in frame {one.frame} by its own word")
+            for one in it.tries
+            if not one.claims
+        ]
     return [*lines, *filter(None, [it.broke])]
 
 
@@ -70,4 +79,5 @@ def summary(outcomes: List[Outcome], folder: str) -> str:
     """The last line."""
     holds, fails, left = (count_of(outcomes, it) for it in (Verdict.HOLDS, Verdict.FAILS, Verdict.OPEN))
     checked = "all checked" if not left else "all others checked" if holds + fails else "nothing checked"
-    return f"{counted(len(outcomes))}: {holds} hold{'s' * (holds == 1)}, {fails} fail{'s' * (fails == 1)}, {left} open; {checked}; results in {folder}/"
+    counts = f"{holds} hold{'s' * (holds == 1)}, {fails} fail{'s' * (fails == 1)}, {left} open"
+    return f"{counted(len(outcomes))}: {counts}; {checked}; results in {folder}/"
