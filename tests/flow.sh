@@ -182,6 +182,6 @@ for model in "$top"/examples/*.btor2 "$folder"/flow/*.btor2; do
 done
 
 count=$((count + 1))
-python3 "$top/tests/flow_tool.py" "$program" || tell "hwtool-flow is not as it should be"
+python3 "$top/tests/flow_tool.py" "$folder/bin/hwtool" || tell "hwtool-flow is not as it should be"
 echo "$count tried, $failed not as they should be"
 [ "$failed" -eq 0 ]

@@ -359,6 +359,7 @@ def lies(files):
         "the formula in place of a proof": liar("given", files["formula"], "{proof}", handed="{formula}"),
         "an empty proof": liar("nothing", "{proof}", handed="{formula}"),
         "rubbish as a proof": liar("rubbish", "{proof}", handed="{formula}"),
+        "a link as a proof": liar("a_link", "{proof}", handed="{formula}"),
         "a pipe as a proof": liar("a_pipe", "{proof}", handed="{formula}"),
         "a solver that crashes": liar("crash", "{proof}", handed="{formula}"),
         "a solver without end": liar("hang", "{proof}", handed="{formula}"),
@@ -425,6 +426,8 @@ def try_lies(place):
             (first.returncode, place.verdict("first.flow", 2), "bmc3" if " bmc3 " in first.stdout else first.stdout + first.stderr),
         )
         tally.same(f"{way}: check.sh", (0, "1 confirmed, 0 not"), place.checked("first.flow"))
+        kept = sorted(it.name for it in (place.folder / "first.flow/b2").iterdir())
+        tally.same(f"{way}: what is kept", ["dump.gtkw", "dump.vcd", "form.aig", "witness"], kept)
         tally.same(f"{way}: nothing goes on", [], left_over("HWTOOL_FLOW_RUN=" + str(place.folder)) + left_over("lying_engine.py"))
         for it in ("alone.flow", "first.flow"):
             shutil.rmtree(place.folder / it, ignore_errors=True)

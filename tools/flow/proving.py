@@ -99,6 +99,22 @@ def confirmed(it: Property, verdict: Verdict, judged: Judged, engine: str, secon
     return Outcome(it, verdict, judged.frame, engine, seconds, judged.check, judged.command, judged.line, tries)
 
 
+@dataclass
+class Attempt:
+    """A run of an engine, and the judgement that confirms what it claimed, if one does."""
+
+    what: Try
+    judged: Optional[Judged] = None
+
+
+class NotMade(Exception):
+    """What a check would read could not be made, by which call."""
+
+    def __init__(self, call: str, line: str) -> None:
+        super().__init__(line)
+        self.call = call
+
+
 class Job:
     """The work on one property: `kept` is its folder of results, `aside` what goes with the work."""
 
@@ -140,6 +156,12 @@ class Job:
         if said.status != 0:
             raise Broke(said.line)
 
+    def forget(self) -> None:
+        """Removes what was made of a claim that no check confirmed."""
+        for it in self.kept.iterdir():
+            if it.name != FORM:
+                it.unlink()
+
     def shares(self, deadline: float) -> Iterator[Tuple[Engine, float]]:
         """The engines, each with its part of the time that is left when its turn comes."""
         weights = [it.weight for it in self.prover.engines]
@@ -150,7 +172,7 @@ class Job:
 
     # ---- an engine
 
-    def attempt(self, engine: Engine, seconds: float, deadline: float) -> "Attempt":
+    def attempt(self, engine: Engine, seconds: float, deadline: float) -> Attempt:
         """Runs an engine, and has each of its claims checked."""
         work = self.aside / "engine"
         shutil.rmtree(work, ignore_errors=True)
@@ -161,12 +183,13 @@ class Job:
         for gives in engine.gives() or [engine.says()]:
             found = work / (gives.value if engine.gives() else "log")
             is_claim = gives is not Gives.INVARIANT or engine.proves in tail_of(work / "log")
-            if is_claim and is_file_with_text(found):
+            if is_claim and is_plain(found) and found.stat().st_size > 0:
                 judged = self.check(gives, found, deadline)
                 done.what.claims.append(Claim(gives.claims, judged.check, judged.line, judged.confirmed))
                 if judged.confirmed:
                     done.judged = judged
                     break
+                self.forget()
         return done
 
     def run_engine(self, engine: Engine, seconds: float, work: Path) -> Ended:
@@ -233,7 +256,7 @@ class Job:
         ended = self.prover.runner.run(solver.filled(values), work, work / "log", None, seconds, SOLVER_BYTES)
         if ended.how is Ending.STOPPED:
             raise Stopped
-        if not (work / PROOF).is_file():
+        if not is_plain(work / PROOF):
             raise NotMade(solver.name, f"it wrote no proof: {ended}")
         os.replace(work / PROOF, self.kept / PROOF)
         return self.judge(Verdict.HOLDS)
@@ -257,28 +280,12 @@ class Job:
         return str(found.relative_to(self.prover.folder.path))
 
 
-@dataclass
-class Attempt:
-    """A run of an engine, and the judgement that confirms what it claimed, if one does."""
-
-    what: Try
-    judged: Optional[Judged] = None
-
-
-class NotMade(Exception):
-    """What a check would read could not be made, by which call."""
-
-    def __init__(self, call: str, line: str) -> None:
-        super().__init__(line)
-        self.call = call
-
-
 def why(ended: Ended, log: str) -> str:
     """How an engine ended, and its last words where that was not well."""
     words = [line.strip() for line in log.splitlines() if line.strip()][-1:] if ended.status > 0 else []
     return ": ".join([str(ended), *("".join(filter(str.isprintable, it))[:MOST_WORDS] for it in words)])
 
 
-def is_file_with_text(path: Path) -> bool:
-    """Whether there is a plain file with something in it: no link, pipe or device."""
-    return path.is_file() and not path.is_symlink() and path.stat().st_size > 0
+def is_plain(path: Path) -> bool:
+    """Whether there is a plain file: no link, pipe or device."""
+    return path.is_file() and not path.is_symlink()

@@ -180,7 +180,7 @@ class Reader:
         path = self.work / f"model.{remedy.kind.value}"
         steps, backend = [*recipe.steps, *remedy.steps], BACKENDS[remedy.kind]
         self.yosys(frontend, steps, backend, path)
-        told = [*([] if reads_files(steps) else [f"read_{frontend}"]), *steps, f"write_{backend}"]
+        told = [*([] if reads_files(steps) else [f"read_{frontend} {' '.join(map(str, self.wanted.files))}"]), *steps, f"write_{backend}"]
         return self.taken(path, remedy.kind, [*recipe.notes, *filter(None, [remedy.note])], recipe.clock, told)
 
     def own_recipe(self, script: Path) -> Recipe:
