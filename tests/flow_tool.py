@@ -203,17 +203,72 @@ def try_steps(place):
     tally.same(
         "outputs as properties", ([1], "late"), (place.verdicts("outputs.flow"), place.results("outputs.flow")["properties"][0]["name"])
     )
-    (place.folder / "edges.v").write_text(
-        "module edges(input clk);\nreg a = 0, b = 0;\nalways @(posedge clk) a <= !a;\nalways @(negedge clk) b <= a;\n"
-        "always @* both: assert (!(a && b));\nendmodule\n"
-    )
-    place.run("edges.v")
+    try_own_designs(place)
+
+
+# Designs of a few lines: by the name of a file its text, what is said of it, and what is wanted of its properties.
+OWN = {
     # rises in frame 1 at the earliest, falls in frame 2
-    tally.same(
-        "both edges of a clock",
-        (["by yosys", "2 clocks (clk, falling clk), by clk2fflogic"], [2]),
-        (place.results("edges.flow")["reading"], place.verdicts("edges.flow")),
-    )
+    "edges.v": (
+        "module edges(input clk);\nreg a = 0, b = 0;\nalways @(posedge clk) a <= !a;\nalways @(negedge clk) b <= a;\n"
+        "always @* both: assert (!(a && b));\nendmodule\n",
+        ["by yosys", "2 clocks (falling clk, clk), by clk2fflogic"],
+        [2],
+    ),
+    # what is read of a clock where it rises is what it was before
+    "reads.v": (
+        "module reads(input clk);\nreg seen = 0;\nalways @(posedge clk) seen <= clk;\nalways @* never: assert (!seen);\nendmodule\n",
+        ["by yosys", "one clock, which is read too, by clk2fflogic"],
+        [HOLDS],
+    ),
+    # each clock rises in frame 1 at the earliest, and what is written there is read then
+    "memory.v": (
+        "module memory(input one, other, input [1:0] at, input word, output seen);\nreg cells [0:3];\ninteger i;\n"
+        "initial for (i = 0; i < 4; i = i + 1) cells[i] = 0;\n"
+        "always @(posedge one) cells[at] <= word;\nalways @(posedge other) cells[at] <= 0;\nassign seen = cells[at];\n"
+        "always @* dark: assert (!seen);\nendmodule\n",
+        ["by yosys", "2 clocks (one, other), by clk2fflogic"],
+        [1],
+    ),
+    # a latch is open or keeps what it had, and begins with any bit
+    "latch.v": (
+        "module latch(input open, in, output reg kept);\nalways @* if (open) kept = in;\n"
+        "always @* keeps: assert (!open || kept == in);\nalways @* dark: assert (!kept);\nendmodule\n",
+        ["by yosys", "no clock, resets or latches that do not wait for it, by clk2fflogic"],
+        [0, HOLDS],
+    ),
+    "words.sv": (
+        "module words(input logic clk);\nlogic [3:0] count = 0;\nalways_ff @(posedge clk) count <= count == 9 ? 0 : count + 1;\n"
+        "always_comb low: assert (count < 10);\nalways_comb five: assert (count != 5);\nendmodule\n",
+        ["by yosys", "one clock"],
+        [5, HOLDS],
+    ),
+    # the name of a property has those of the modules around it
+    "parts.v": (
+        "module part(input clk, output reg [1:0] n);\ninitial n = 0;\nalways @(posedge clk) n <= n + 1;\nalways @* three: assert (n != 3);\n"
+        "endmodule\nmodule whole(input clk);\nwire [1:0] a, b;\npart p(clk, a);\npart q(clk, b);\nalways @* same: assert (a == b);\nendmodule\n",
+        ["by yosys", "one clock"],
+        [3, 3, HOLDS],
+    ),
+}
+
+
+def try_own_designs(place):
+    """Designs of a few lines."""
+    for name, (text, said, wanted) in OWN.items():
+        (place.folder / name).write_text(text)
+        done = place.run(name)
+        folder = f"{pathlib.Path(name).stem}.flow"
+        tally.true(f"{name}: status", done.returncode == (ONE_FAILS if wanted != [HOLDS] else ALL_HOLD), f"{done.returncode} {done.stderr}")
+        if (place.folder / folder).exists():
+            by_name = dict(zip([it["name"] for it in place.results(folder)["properties"]], place.verdicts(folder)))
+            tally.same(f"{name}: what is said", said, place.results(folder)["reading"])
+            tally.same(f"{name}: verdicts", wanted, [by_name[it] for it in sorted(by_name)])
+    files = ["part.v", "whole.v"]
+    for file, text in zip(files, OWN["parts.v"][0].split("module whole")):
+        (place.folder / file).write_text(("module whole" if file == "whole.v" else "") + text)
+    place.run(*files, "--top", "whole", "-o", "both.flow")
+    tally.same("two files", ["p.three", "q.three", "same"], sorted(it["name"] for it in place.results("both.flow")["properties"]))
 
 
 def try_words(place):
@@ -526,20 +581,19 @@ def try_going_on(place):
 def try_held(place):
     """Two runs in one folder; and what is left of engines when a run is stopped, or killed."""
 
-    def held(way):
-        """A run whose engine hangs in a way."""
+    def held(way, until):
+        """A run whose engine hangs in a way, once there is a process with a text."""
         words = place.words("queue.v", "-o", "held.flow", "-j", "1", "--engine", f"hang={liar(way, '{counterexample}')}")
         process = subprocess.Popen(words, cwd=place.folder, stdout=subprocess.DEVNULL, stderr=subprocess.DEVNULL)
-        wait_for(lambda: left_over("lying_engine.py"))
-        time.sleep(0.5)
+        wait_for(lambda: left_over(until))
         return process
 
-    process = held("hang")
+    process = held("hang", "HWTOOL_FLOW_RUN=" + str(place.folder))
     tally.same("two runs in one folder", BROKE, place.run("queue.v", "-o", "held.flow").returncode)
     process.send_signal(signal.SIGINT)
     tally.same("a signal's status", 128 + signal.SIGINT, process.wait(60))
     tally.same("nothing goes on behind it", [], left_over("lying_engine.py"))
-    process = held("hang_and_leave")
+    process = held("hang_and_leave", "sleep\x003615")
     process.kill()
     process.wait()
     wait_for(lambda: not left_over("lying_engine.py"), 5)

@@ -3,18 +3,17 @@ import json
 import os
 import re
 import shutil
-from dataclasses import dataclass, field
+from dataclasses import dataclass
 from pathlib import Path
-from typing import Dict, List, Optional, Sequence, Set, Tuple
+from typing import List, Optional, Sequence, Tuple
 
 from .engines import InputRefused, WordsRefused, missing_line
 from .model import Kind, Model, Property
 from .program import Broke, Program, Stopped
 from .running import Ended, Ending, Runner, tail_of
+from .seeing import Seen, seen_in
 
 VERILOG, SYSTEM_VERILOG, BTOR2, AIGER = {".v", ".vh"}, {".sv", ".svh"}, {".btor2", ".btor"}, {".aig", ".aag"}
-# Registers and latches of Yosys that do not wait for a clock, or not alone.
-ASYNCHRONOUS = re.compile(r"\$(adffe?|aldffe?|dffsre?|a?dlatch|dlatchsr|sr)$")
 # A step of Yosys that reads files.
 READS = re.compile(r"\s*(read|read_\w+|verific)\b")
 
@@ -66,20 +65,6 @@ class Wanted:
     script: Optional[Path] = None
     clocked_resets: bool = False
     zero_undefined: bool = False
-
-
-@dataclass
-class Seen:
-    """What a flat design has: its clocks, each a signal and an edge; registers that wait for none; memories; undefined bits."""
-
-    clocks: Set[Tuple[str, bool]] = field(default_factory=set)
-    asynchronous: bool = False
-    memories: bool = False
-    undefined: bool = False
-
-    def names(self) -> List[str]:
-        """The clocks' names, of falling ones as such."""
-        return sorted(name if rises else f"falling {name}" for name, rises in self.clocks)
 
 
 class Reader:
@@ -213,8 +198,10 @@ class Reader:
         """The steps for clocks, resets, latches and memories."""
         in_any_step = ["clk2fflogic", "memory_map -formal"]
         if len(seen.clocks) > 1 or seen.memories:
-            return Recipe(in_any_step, [f"{len(seen.clocks)} clocks ({', '.join(seen.names())}), by clk2fflogic"])
-        one, clock = ("one clock", seen.names()[0]) if seen.clocks else ("no clock", None)
+            return Recipe(in_any_step, [f"{len(seen.clocks)} clocks ({', '.join(map(str, sorted(seen.clocks)))}), by clk2fflogic"])
+        one, clock = ("one clock", str(min(seen.clocks))) if seen.clocks else ("no clock", None)
+        if seen.reads_clock:
+            return Recipe(in_any_step, [f"{one}, which is read too, by clk2fflogic"])
         if not seen.asynchronous:
             return Recipe(["memory_map"], [one], clock)
         if self.wanted.clocked_resets:
@@ -258,49 +245,3 @@ def fault_of(ended: Ended, log: str, design: Path) -> Exception:
     """What to say of a run of Yosys that did not do well: refused where it says why."""
     errors = re.findall(r"^.*ERROR: .*", log, flags=re.M)
     return InputRefused(f"{design}: yosys: {errors[-1]}") if errors and ended.status > 0 else Broke(f"yosys: {ended}: {log.strip()[-200:]}")
-
-
-def seen_in(design: Dict) -> Seen:
-    """What Yosys's JSON of a flat design tells of clocks, registers and memories."""
-    modules = design["modules"]
-    tops = [it for it in modules.values() if int(it.get("attributes", {}).get("top", "0"), 2)]
-    module = (tops or list(modules.values()))[0]
-    names = names_of(module)
-    seen = Seen(undefined=has_undefined(module, names))
-    for cell in module["cells"].values():
-        kind, ends, said = cell["type"], cell["connections"], cell["parameters"]
-        seen.asynchronous |= bool(ASYNCHRONOUS.match(kind))
-        seen.memories |= kind.startswith("$mem")
-        if kind == "$ff":
-            seen.clocks.add(("the formal clock", True))
-        elif "CLK" in ends and "CLK_POLARITY" in said:
-            bit = ends["CLK"][0]
-            seen.clocks.add((names.get(bit, f"bit {bit}"), said["CLK_POLARITY"].endswith("1")))
-    return seen
-
-
-def has_undefined(module: Dict, names: Dict) -> bool:
-    """Whether some bit is undefined, or used and not driven; not where Yosys puts one for what is not looked at."""
-    used: Set[object] = set()
-    driven: Set[object] = {"0", "1"}
-    for it in module["ports"].values():
-        (used if it["direction"] == "output" else driven).update(it["bits"])
-    for cell in module["cells"].values():
-        own = any(re.search(r"\$(formal|memwr)\$", names.get(bit, "")) for bit in cell["connections"].get("Y", []))
-        for port, bits in cell["connections"].items():
-            if cell["port_directions"][port] == "output":
-                driven.update(bits)
-            else:
-                used.update(bit for bit in bits if not (own and bit == "x"))
-    return bool(used - driven)
-
-
-def names_of(module: Dict) -> Dict:
-    """The name of each bit of a module: one of the design's own, if there is one, and the shortest."""
-    found: Dict[object, str] = {}
-    for name, net in module["netnames"].items():
-        for place, bit in enumerate(net["bits"]):
-            one = name if len(net["bits"]) == 1 else f"{name}[{place}]"
-            if bit not in found or (one.startswith("$"), len(one), one) < (found[bit].startswith("$"), len(found[bit]), found[bit]):
-                found[bit] = one
-    return found
