@@ -677,28 +677,28 @@ def try_devices(place):
     """A full disk, and a folder that cannot be written: the status says so, and no half of a result stands."""
     place = place.sub("devices")
     shutil.copyfile(EXAMPLES / "flow/queue.v", place.folder / "queue.v")
-    if os.getuid() == 0:
-        closed = place.sub("closed")
-        closed.folder.chmod(0o755)
-        other = ["setpriv", "--reuid=65534", "--regid=65534", "--clear-groups"]
-        for it in (place.folder, *place.folder.parents):
-            it.chmod(it.stat().st_mode | 0o055) if it.stat().st_uid == 0 and str(it).startswith(tempfile.gettempdir() + "/") else None
-        done = subprocess.run(
-            [*other, "/usr/bin/python3", *closed.words(EXAMPLES / "counter.btor2")[1:]],
-            cwd=closed.folder,
-            capture_output=True,
-            text=True,
-            check=False,
-        )
-        tally.true(
-            "a folder that cannot be written",
-            done.returncode == BROKE and "Permission denied" in done.stderr,
-            f"{done.returncode} {done.stderr}",
-        )
+    try_closed_folder(place)
     text, wanted = counter_model(24, 14)
     (place.folder / "counter.btor2").write_text(text)
     try_full_disk(place, "queue.v", [0, HOLDS, 5], (4, 12, 24, 36, 48, 64, 80, 100))
     try_full_disk(place, "counter.btor2", wanted, (40, 60, 80, 100, 130, 160, 200, 240))
+
+
+def try_closed_folder(place):
+    """A folder that cannot be written: of root another user, who has copies of all that is needed."""
+    closed, copies = place.sub("closed").folder, place.sub("copies").folder
+    shutil.copytree(TOOL.parent / "flow", copies / "flow")
+    for it in (TOOL, place.program, EXAMPLES / "counter.btor2"):
+        shutil.copy(it, copies)
+    other = ["setpriv", "--reuid=65534", "--regid=65534", "--clear-groups"] if os.getuid() == 0 else []
+    for it in place.folder.parents:
+        if str(it).startswith(tempfile.gettempdir() + "/"):
+            it.chmod(0o755)
+    closed.chmod(0o555)
+    words = [*other, "/usr/bin/python3", copies / TOOL.name, copies / "counter.btor2"]
+    done = subprocess.run(words, cwd=closed, capture_output=True, text=True, check=False)
+    so = done.returncode == BROKE and "Permission denied" in done.stderr
+    tally.true("a folder that cannot be written", so, f"{done.returncode} {done.stderr}")
 
 
 def try_full_disk(place, design, wanted, sizes):
