@@ -32,6 +32,8 @@ HOLDS = "holds"
 ALL_HOLD, ONE_FAILS, REFUSED, BROKE, WORDS, OPEN = range(6)
 # How often a run is stopped at a chance time, in each of two ways.
 STOPS = 12
+# The words of the child that `hang_and_leave` of the lying engine leaves.
+SLEEPS = "sleep\x003615"
 
 # What is wanted of each property, in order: that it holds, or the first frame in which it fails.
 DESIGNS = {
@@ -141,15 +143,15 @@ def lasting(results):
     ]
 
 
-def left_over(text):
-    """The processes that have a text among their words or in their environment; of those that are gone nothing is left."""
-    found = []
+def left_over(place, words=""):
+    """The processes that engines of runs in a place have left, with some words among theirs."""
+    mark, found = b"HWTOOL_FLOW_RUN=" + os.fsencode(place.folder), []
     for it in filter(str.isdigit, os.listdir("/proc")):
         try:
-            seen = pathlib.Path(f"/proc/{it}/cmdline").read_bytes() + pathlib.Path(f"/proc/{it}/environ").read_bytes()
+            seen, environment = (pathlib.Path(f"/proc/{it}/{what}").read_bytes() for what in ("cmdline", "environ"))
         except OSError:
             continue
-        if text.encode() in seen and int(it) != os.getpid():
+        if mark in environment and words.encode() in seen:
             found.append(int(it))
     return found
 
@@ -326,7 +328,7 @@ def try_terminal(place):
     """On a terminal there is a line for each property that runs, with how long and how far."""
     ours, theirs = pty.openpty()
     words = place.words(
-        EXAMPLES / "two-counters.btor2", "--engine", "hang=" + liar("hang", "{counterexample}"), "--engine", "bmc3", "--timeout", "3"
+        EXAMPLES / "two-counters.btor2", "--engine", "hang=" + liar("hang", "{counterexample}"), "--engine", "bmc3", "--timeout", "6"
     )
     process = subprocess.Popen(words, cwd=place.folder, stdout=theirs, stderr=theirs)
     os.close(theirs)
@@ -457,7 +459,7 @@ def try_lies(place):
     queue = EXAMPLES / "flow/queue.v"
     engines, solvers = lies(files)
     for way, command in engines.items():
-        alone = place.run(queue, "-o", "alone.flow", "--engine", f"liar={command}", "--property", "2", "--timeout", "2")
+        alone = place.run(queue, "-o", "alone.flow", "--engine", f"liar={command}", "--property", "2", "--timeout", "6")
         tally.same(f"{way}, alone", (OPEN, None), (alone.returncode, place.verdict("alone.flow", 2)))
         tally.true(f"{way}: what is said", SAID_OF.get(way, "") in alone.stdout, alone.stdout + alone.stderr)
         first = place.run(
@@ -473,7 +475,7 @@ def try_lies(place):
             "--property",
             "2",
             "--timeout",
-            "6",
+            "20",
         )
         tally.same(
             f"{way}, before others",
@@ -483,11 +485,11 @@ def try_lies(place):
         tally.same(f"{way}: check.sh", (0, "1 confirmed, 0 not"), place.checked("first.flow"))
         kept = sorted(it.name for it in (place.folder / "first.flow/b2").iterdir())
         tally.same(f"{way}: what is kept", ["dump.gtkw", "dump.vcd", "form.aig", "witness"], kept)
-        tally.same(f"{way}: nothing goes on", [], left_over("HWTOOL_FLOW_RUN=" + str(place.folder)) + left_over("lying_engine.py"))
+        tally.same(f"{way}: nothing goes on", [], left_over(place))
         for it in ("alone.flow", "first.flow"):
             shutil.rmtree(place.folder / it, ignore_errors=True)
     for way, command in solvers.items():
-        done = place.run(queue, "-o", "alone.flow", "--solver", f"liar={command}", "--property", "1", "--timeout", "3")
+        done = place.run(queue, "-o", "alone.flow", "--engine", "pdr", "--solver", f"liar={command}", "--property", "1", "--timeout", "8")
         tally.same(f"{way}, alone", (OPEN, None), (done.returncode, place.verdict("alone.flow", 1)))
         tally.true(f"{way}: what is said", SAID_OF.get(way, "") in done.stdout, done.stdout + done.stderr)
         shutil.rmtree(place.folder / "alone.flow")
@@ -582,25 +584,25 @@ def try_held(place):
     """Two runs in one folder; and what is left of engines when a run is stopped, or killed."""
 
     def held(way, until):
-        """A run whose engine hangs in a way, once there is a process with a text."""
+        """A run whose engine hangs in a way, once there is a process of it with some words."""
         words = place.words("queue.v", "-o", "held.flow", "-j", "1", "--engine", f"hang={liar(way, '{counterexample}')}")
         process = subprocess.Popen(words, cwd=place.folder, stdout=subprocess.DEVNULL, stderr=subprocess.DEVNULL)
-        wait_for(lambda: left_over(until))
+        wait_for(lambda: left_over(place, until))
         return process
 
-    process = held("hang", "HWTOOL_FLOW_RUN=" + str(place.folder))
+    process = held("hang", "lying_engine.py")
     tally.same("two runs in one folder", BROKE, place.run("queue.v", "-o", "held.flow").returncode)
     process.send_signal(signal.SIGINT)
     tally.same("a signal's status", 128 + signal.SIGINT, process.wait(60))
-    tally.same("nothing goes on behind it", [], left_over("lying_engine.py"))
-    process = held("hang_and_leave", "sleep\x003615")
+    tally.same("nothing goes on behind it", [], left_over(place, "lying_engine.py"))
+    process = held("hang_and_leave", SLEEPS)
     process.kill()
     process.wait()
-    wait_for(lambda: not left_over("lying_engine.py"), 5)
-    tally.same("an engine of a run that was killed", [], left_over("lying_engine.py"))
-    tally.same("its child in another session", 1, len(left_over("sleep\x003615")))
+    wait_for(lambda: not left_over(place, "lying_engine.py"), 5)
+    tally.same("an engine of a run that was killed", [], left_over(place, "lying_engine.py"))
+    tally.same("its child in another session", 1, len(left_over(place, SLEEPS)))
     place.run("queue.v", "-o", "held.flow")
-    tally.same("the same behind the next run", [], left_over("sleep\x003615"))
+    tally.same("the same behind the next run", [], left_over(place, SLEEPS))
 
 
 def wait_for(is_so, seconds=60):
@@ -622,6 +624,7 @@ def try_stopped(place):
     chance = random.Random(1)
     for number in (signal.SIGKILL, signal.SIGTERM):
         shutil.rmtree(place.folder / "counter.flow", ignore_errors=True)
+        known = []
         for _ in range(STOPS):
             process = subprocess.Popen(
                 place.words("counter.btor2", "-j", "2"), cwd=place.folder, stdout=subprocess.DEVNULL, stderr=subprocess.DEVNULL
@@ -632,10 +635,12 @@ def try_stopped(place):
                 process.send_signal(number)
                 status = process.wait(60)
                 tally.true("a stopped run's status", status in (-number, 128 + number, ONE_FAILS), status)
-            wait_for(lambda: not left_over("HWTOOL_FLOW_RUN=" + str(place.folder)), 5)
-            tally.same("what is left of its engines", [], left_over("HWTOOL_FLOW_RUN=" + str(place.folder)))
+            wait_for(lambda: not left_over(place), 5)
+            tally.same("what is left of its engines", [], left_over(place))
             if (place.folder / "counter.flow/results.json").exists():
-                known = place.verdicts("counter.flow")
+                before, known = known, place.verdicts("counter.flow")
+                lost = [it for it, (was, now) in enumerate(zip(before, known)) if was is not None and now is None]
+                tally.same("what was known and is no more", [], lost)
                 tally.true("what is known so far", all(got in (None, want) for got, want in zip(known, wanted)), known)
         done = place.run("counter.btor2", "-j", "2")
         tally.same(
@@ -742,7 +747,7 @@ def try_missing(place):
             for it in {"sh", "yosys", "berkeley-abc", "cadical"} - gone:
                 if shutil.which(it):
                     (path / it).symlink_to(shutil.which(it))
-        done = place.run(design, "-o", "it.flow", "--timeout", "4", env={**os.environ, "PATH": str(path)})
+        done = place.run(design, "-o", "it.flow", "--engine", "bmc3", "--engine", "pdr", env={**os.environ, "PATH": str(path)})
         known = place.verdicts("it.flow") if (place.folder / "it.flow").exists() else []
         tally.same(f"without {gone}, {design.name}", wanted, (done.returncode, known))
         if wanted[0] == BROKE or None in wanted[1]:

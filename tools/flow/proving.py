@@ -57,6 +57,8 @@ class Prover:
 
     def prove(self, it: Property) -> Outcome:
         """What comes of a property."""
+        if self.runner.stopping.is_set():
+            raise Stopped
         job = Job(self, it)
         with self.lock:
             self.running[it.number] = job.shown

@@ -7,18 +7,20 @@ import shutil
 import sys
 from dataclasses import dataclass
 from pathlib import Path
-from typing import Dict, List, Optional
+from typing import Any, Dict, List, Optional
 
 from . import engines
 from .engines import Engine, WordsRefused
 from .model import Model, Property, Verdict
-from .program import Broke, Program, Stopped
+from .program import Broke, Program
 from .proving import Prover
 from .reading import Reader, Wanted
 from .report import page
 from .results import CHECK, REPORT, RESULTS, Folder, Outcome, Results, count_of
 from .running import Runner
 from .telling import Teller, counted, summary
+
+Pool = concurrent.futures.ThreadPoolExecutor
 
 # How often the lines of running properties are written anew, in seconds.
 REDRAWN = 0.2
@@ -108,36 +110,44 @@ class Run:
                 raise WordsRefused(f"no property {word}; there are {', '.join(map(str, model.properties))}")
         return [it for it in model.properties if any(it.is_named(word) for word in self.words.property)]
 
-    def work(self, results: Results, properties: List[Property], told: Dict[int, Dict], teller: Teller) -> None:
-        """Confirms again what an earlier run found, and works on the others, so many side by side. Results are kept as they come."""
+    def work(self, results: Results, properties: List[Property], told: Dict[int, Dict[str, Any]], teller: Teller) -> None:
+        """Confirms again what an earlier run found, and then works on the others, so many side by side."""
         tools, words = self.tools, self.words
         prover = Prover(results.model, self.folder, self.program, self.runner, tools.engines, tools.solver, words.depth, words.timeout)
-        numbers = {it.number for it in properties}
-        self.keep(results)
-        with concurrent.futures.ThreadPoolExecutor(words.jobs) as pool:
-            waiting = {pool.submit(self.outcome, prover, it, told.get(it.number), it.number in numbers) for it in results.model.properties}
+        with Pool(words.jobs) as pool:
             try:
-                while waiting:
-                    done, waiting = concurrent.futures.wait(waiting, REDRAWN, concurrent.futures.FIRST_COMPLETED)
-                    for outcome in [it.result() for it in done]:
-                        results.outcomes[outcome.property.number] = outcome
-                        if outcome.property.number in numbers:
-                            teller.done(outcome)
-                    if done:
-                        self.keep(results)
-                    teller.show(prover.shown(), len(waiting))
+                self.confirm_again(pool, prover, results, told)
+                self.prove(pool, prover, results, properties, teller)
+            except BaseException:
+                # whatever went wrong here, nothing goes on behind it
+                self.runner.stopping.set()
+                raise
             finally:
-                # what runs is ended, where something went wrong here; else nothing does
-                if waiting:
-                    self.runner.stopping.set()
                 teller.clear()
 
-    def outcome(self, prover: Prover, it: Property, told: Optional[Dict], is_chosen: bool) -> Outcome:
-        """What comes of a property; of one that is not chosen only what an earlier run found."""
-        if self.runner.stopping.is_set():
-            raise Stopped
-        again = prover.confirm_again(it, told) if told else None
-        return again or (prover.prove(it) if is_chosen else Outcome(it))
+    def confirm_again(self, pool: Pool, prover: Prover, results: Results, told: Dict[int, Dict[str, Any]]) -> None:
+        """Asks the checks about all that an earlier run found. Until they have answered, what that kept stays as it is."""
+        known = [it for it in results.model.properties if it.number in told]
+        for outcome in pool.map(lambda it: prover.confirm_again(it, told[it.number]), known):
+            if outcome:
+                results.outcomes[outcome.property.number] = outcome
+        self.keep(results)
+
+    def prove(self, pool: Pool, prover: Prover, results: Results, properties: List[Property], teller: Teller) -> None:
+        """Works on the properties that are open, and keeps and tells what comes of them."""
+        is_open = {it.number for it in properties if results.outcomes[it.number].verdict is Verdict.OPEN}
+        for it in properties:
+            if it.number not in is_open:
+                teller.done(results.outcomes[it.number])
+        waiting = {pool.submit(prover.prove, it) for it in properties if it.number in is_open}
+        while waiting:
+            done, waiting = concurrent.futures.wait(waiting, REDRAWN, concurrent.futures.FIRST_COMPLETED)
+            for outcome in [it.result() for it in done]:
+                results.outcomes[outcome.property.number] = outcome
+                teller.done(outcome)
+            if done:
+                self.keep(results)
+            teller.show(prover.shown(), len(waiting))
 
     def keep(self, results: Results) -> None:
         """Writes what came of all properties so far."""
