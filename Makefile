@@ -1,5 +1,6 @@
 # make install PREFIX=/usr/local DESTDIR= FROM=release: puts what was released, or what tools/release.py made in another folder,
-# where programs and libraries belong; make uninstall takes it away. make check is the gate, for which the toolchain is needed.
+# where programs and libraries belong, and hwtool-flow beside the program; make uninstall takes it away. make check is the gate, for
+# which the toolchain is needed.
 PREFIX ?= /usr/local
 FROM ?= release
 AT = $(DESTDIR)$(PREFIX)
@@ -9,12 +10,14 @@ MOVED = hwtool:bin/hwtool:755 libhwtool.a:lib/libhwtool.a:644 libhwtool.so:lib/l
 	NOTICES:$(DOCUMENTS)/NOTICES:644 PROVED.txt:$(DOCUMENTS)/PROVED.txt:644 SHA256SUMS:$(DOCUMENTS)/SHA256SUMS:644 \
 	hwtool.bash:share/bash-completion/completions/hwtool:644 _hwtool:share/zsh/site-functions/_hwtool:644 \
 	hwtool.fish:share/fish/vendor_completions.d/hwtool.fish:644
+FLOW = tools/hwtool-flow:bin/hwtool-flow:755 $(foreach it,$(notdir $(wildcard tools/flow/*.*)),tools/flow/$(it):lib/hwtool/flow/$(it):644)
+PUT = $(addprefix $(FROM)/,$(MOVED)) $(FLOW)
 .PHONY: install uninstall check
 install:
-	set -e; for it in $(MOVED); do IFS=:; set -- $$it; install -D -m "$$3" "$(FROM)/$$1" "$(AT)/$$2"; done
+	set -e; for it in $(PUT); do IFS=:; set -- $$it; install -D -m "$$3" "$$1" "$(AT)/$$2"; done
 	ln -sf libhwtool.so.1 "$(AT)/lib/libhwtool.so"
 uninstall:
-	set -e; for it in $(MOVED); do IFS=:; set -- $$it; rm -f "$(AT)/$$2"; done
-	rm -f "$(AT)/lib/libhwtool.so"; rmdir "$(AT)/$(DOCUMENTS)"
+	set -e; for it in $(PUT); do IFS=:; set -- $$it; rm -f "$(AT)/$$2"; done
+	rm -f "$(AT)/lib/libhwtool.so"; rmdir "$(AT)/$(DOCUMENTS)" "$(AT)/lib/hwtool/flow" "$(AT)/lib/hwtool"
 check:
 	.ci/run

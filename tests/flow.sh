@@ -3,7 +3,8 @@
 # (Debian: apt-get install yosys berkeley-abc cadical z3): each command of docs/FLOW.md is run, and says what stands there; and
 # each bad property of each model of examples/ is looked for by ABC in its engine form. What is found is restored and lifted,
 # and judged anew; what is proved is proved by CaDiCaL from ABC's invariant, and judged, also with a cube less. What is kept
-# in examples/ is judged too, and where GTKWave is installed (gtkwave, xvfb) the dumps of witnesses are opened.
+# in examples/ is judged too, and where GTKWave is installed (gtkwave, xvfb) the dumps of witnesses are opened. Last hwtool-flow is
+# tried, by tests/flow_tool.py.
 # It is run by hand, beside the gate: tests/flow.sh [PROGRAM]. Where one of the four is not installed it says so and ends well.
 set -u
 top=$(cd "$(dirname "$0")/.." && pwd)
@@ -19,6 +20,7 @@ trap 'rm -rf "$folder"' EXIT
 mkdir "$folder/bin"
 ln -s "$program" "$folder/bin/hwtool"
 ln -s "$top/tools/yw-witness.py" "$folder/bin/yw-witness.py"
+ln -s "$top/tools/hwtool-flow" "$folder/bin/hwtool-flow"
 PATH=$folder/bin:$PATH
 count=0
 failed=0
@@ -178,5 +180,8 @@ for model in "$top"/examples/*.btor2 "$folder"/flow/*.btor2; do
         k=$((k + 1))
     done
 done
+
+count=$((count + 1))
+python3 "$top/tests/flow_tool.py" "$folder/bin/hwtool" || tell "hwtool-flow is not as it should be"
 echo "$count tried, $failed not as they should be"
 [ "$failed" -eq 0 ]
