@@ -1,7 +1,9 @@
 -- What the literals that a lowering keeps mean: in every frame and valuation that go together they read as the model's words.
-use Rattle.std.specs.Prelude.{◌≡◌, ℕ, List, [], Some, IfSome, All, length, map, slice_get}
+use Rattle.std.specs.Prelude.{◌≡◌, ℕ, Bool, ◌==◌, List, [], ◌∷◌, Some, IfSome, All, length, map, slice_get}
 use Rattle.base.specs.Word.{bits}
 use Rattle.btor2.specs.declared.item.Item.{Item}
+use Rattle.btor2.specs.declared.item.Body.{Body}
+use Rattle.btor2.specs.declared.item.Body.TheVariants as body
 use Rattle.btor2.specs.Items.{is_bad, is_constraint, is_carried_state, width_of_body}
 use Rattle.btor2.specs.Trace.{Frame, IsFrame, IsState, IsInput, next_state}
 use Rattle.aiger.specs.declared.circuit.Latch.{Latch}
@@ -9,7 +11,7 @@ use Rattle.base.specs.Literal.{Valuation, literal_value}
 use Rattle.aiger.specs.Net.{Net, IsDefined, Satisfies, net_input_bits, latch_bits as net_latch_bits}
 use Rattle.gates.specs.Made.{Grows}
 use Rattle.blast.specs.Cost.{cost, given_width, carried_width}
-use Rattle.blast.specs.Leaves.{by_body, given_by_kind, leaf_bits, leaf_resets, observed, is_output, shown_bits, input_bits, state_bits}
+use Rattle.blast.specs.Leaves.{by_body, given_by_kind, leaf_bits, leaf_resets, is_output, shown_bits, input_bits, state_bits}
 
 -- a frame of the model and a valuation of the gates go together: they have the same bits of what is given and of what is carried
 pub record Together (items : List Item) (n : Net) (state input f : Frame) (v : Valuation) : Type 0 where
