@@ -6,8 +6,8 @@ use Rattle.std.proofs.lemmas.Bool.Decides.{nat_tests}
 use Rattle.std.proofs.lemmas.List.{length-map}
 use Rattle.std.proofs.lemmas.List.Elements.{All-nil, All-cons, All-head, All-tail, filter-append}
 use Rattle.std.proofs.lemmas.Slice.Eq.{bytes_eq-Decides}
-use Rattle.base.specs.Lines.{HasNone, whole_lines, unfinished, all_lines, line_after}
-use Rattle.base.specs.Decimals.{is_nothing, number_of}
+use Rattle.base.specs.Lines.{HasNone, whole_lines, unfinished, line_of, all_lines, line_after}
+use Rattle.base.specs.Decimals.{number_of}
 use Rattle.invariants.specs.declared.expected.Expected.{Expected}
 use Rattle.invariants.specs.declared.expected.Expected.TheVariants as expect
 use Rattle.invariants.specs.declared.why.InvariantFault.{InvariantFault}
@@ -372,7 +372,7 @@ lines_told latches number (Ok r) [] last = ended_told latches (line_after number
 lines_told latches number (Ok r) (line ∷ more) last = lines_told latches (line_after number) (admit_cube_line latches r line) more last ∙ told_more latches r line (more ++ last ∷ [])
 
 -- an end without a byte tells nothing
-same_lines : (lines : List (List ℕ)) (last : List ℕ) → filter tells_something (lines ++ last ∷ []) ≡ filter tells_something (lines ++ (if is_nothing last then [] else last ∷ []))
+same_lines : (lines : List (List ℕ)) (last : List ℕ) → filter tells_something (lines ++ last ∷ []) ≡ filter tells_something (lines ++ line_of last)
 same_lines lines [] = filter-append tells_something lines ([] ∷ []) ∙ sym (filter-append tells_something lines [])
 same_lines lines (b ∷ bs) = refl
 
