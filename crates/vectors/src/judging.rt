@@ -162,7 +162,7 @@ fn differing(alloc: Global, vectors: &mut Vec<Numbered>) -> Result<Vec<u64>, All
 /// A line for each vector that differs, by the number of its line.
 #[tactic(auto, using(crate::proofs::VectorLemmas::none_behind))]
 fn differing_lines(alloc: Global, differing: &[u64]) -> Result<String, AllocError>
-    ensures { IfOk result (λ text. string_bytes text ≡ flat_map differs_line lines_that_differ.now) }
+    ensures { IfOk result (λ text. string_bytes text ≡ flat_map differs_line differing.now) }
 {
     let mut text = String::new(alloc);
     let mut rest = differing;
@@ -175,7 +175,7 @@ fn differing_lines(alloc: Global, differing: &[u64]) -> Result<String, AllocErro
 
 /// What is told of vectors: a line for each that differs, and how many agree.
 fn report_text(alloc: Global, differing: &[u64], count: usize) -> Result<String, AllocError>
-    ensures { IfOk result (λ text. string_bytes text ≡ report lines_that_differ.now count) }
+    ensures { IfOk result (λ text. string_bytes text ≡ report differing.now count) }
 {
     let mut text = differing_lines(alloc, differing)?;
     let agree = count.saturating_sub(differing.len());
