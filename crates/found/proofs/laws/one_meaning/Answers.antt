@@ -1,19 +1,25 @@
-use Rattle.std.proofs.Common.{◌≡◌, ℕ, zero, suc, ◌+◌, ◌*◌, ◌≤◌, List, Option, None, Some, length, slice_get, refl, sym, subst, arith}
+use Rattle.std.proofs.Common.{◌≡◌, ℕ, zero, suc, ◌+◌, ◌*◌, ◌≤◌, List, [], ◌∷◌, Option, None, Some, length, slice_get, refl, sym, subst, arith}
 use Rattle.std.proofs.lemmas.Nat.{mul-le}
 use Rattle.btor2.specs.declared.item.Item.{Item}
 use Rattle.aiger.specs.Circuit.{Circuit, IsCircuit}
 use Rattle.engine.specs.EngineForm.{chosen}
-use Rattle.engine.proofs.RiseLemmas.{chosen_first}
 use Rattle.restore.specs.Counterexample.{HasProperty, place_in}
 use Rattle.witness.specs.Texts.{most_lines}
 use Rattle.found.specs.Bound.{frame_bound}
 use Rattle.found.specs.Meaning.{RisesBy, RisesInCircuitBy, IsAcceptedInCircuitBy}
 use Rattle.found.proofs.laws.one_meaning.Goals as goal
 
+-- a chosen property stands first, and alone
+one_chosen : (k : ℕ) (bads : List ℕ) → slice_get (chosen (Some k) bads) 0 ≡ slice_get bads k
+one_chosen zero [] = refl
+one_chosen (suc k) [] = refl
+one_chosen zero (b ∷ bs) = refl
+one_chosen (suc k) (b ∷ bs) = one_chosen k bs
+
 -- the property's place among those of the form
 placed : (choice : Option ℕ) (k : ℕ) (bads : List ℕ) → HasProperty choice k → slice_get (chosen choice bads) (place_in choice k) ≡ slice_get bads k
 placed None k bads has = refl
-placed (Some j) k bads has = subst (λ (i : ℕ). slice_get (chosen (Some j) bads) 0 ≡ slice_get bads i) has (chosen_first j bads)
+placed (Some j) k bads has = subst (λ (i : ℕ). slice_get (chosen (Some j) bads) 0 ≡ slice_get bads i) has (one_chosen j bads)
 
 -- the lines of so many frames of a circuit are fewer
 fewer : (items : List Item) (most n : ℕ) → n ≤ most → most * frame_bound items + 3 ≤ most_lines → n + 4 ≤ most_lines
