@@ -7,5 +7,5 @@ ghost use Rattle.orders.specs.Version.{version};
 pub fn version() -> &'static str
     ensures { result.now ≡ version }
 {
-    "0.3.0"
+    "0.4.0"
 }
