@@ -786,6 +786,22 @@ def try_broken_program(place, counter):
         shutil.rmtree(place.folder / "it.flow", ignore_errors=True)
 
 
+def try_installed(place):
+    """What `make install` puts into a folder works from there, and `make uninstall` leaves no file of it."""
+    place = place.sub("a prefix")
+    if not shutil.which("make"):
+        print("left out: what is installed, since there is no make")
+        return
+    make = ["make", "-s", "-C", str(TOP), f"PREFIX={place.folder}"]
+    subprocess.run([*make, "install"], check=True)
+    words = [place.folder / "bin/hwtool-flow", EXAMPLES / "two-counters.btor2"]
+    done = subprocess.run(words, cwd=place.folder, capture_output=True, text=True, check=False)
+    tally.same("what is installed", (ONE_FAILS, "", [7, HOLDS]), (done.returncode, done.stderr, place.verdicts("two-counters.flow")))
+    shutil.rmtree(place.folder / "two-counters.flow")
+    subprocess.run([*make, "uninstall"], check=True)
+    tally.same("what is left of it", [], [str(it) for it in place.folder.rglob("*") if not it.is_dir()])
+
+
 # ---- the page
 
 
@@ -913,6 +929,7 @@ def main():
             try_many,
             try_devices,
             try_missing,
+            try_installed,
         ]
     }
     groups["page"] = lambda place: try_page(place, words.screenshot and os.path.abspath(words.screenshot))
