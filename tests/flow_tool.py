@@ -786,6 +786,22 @@ def try_broken_program(place, counter):
         shutil.rmtree(place.folder / "it.flow", ignore_errors=True)
 
 
+def try_installed(place):
+    """What `make install` puts into a folder works from there, and `make uninstall` leaves no file of it."""
+    place = place.sub("a prefix")
+    if not shutil.which("make"):
+        print("left out: what is installed, since there is no make")
+        return
+    make = ["make", "-s", "-C", str(TOP), f"PREFIX={place.folder}"]
+    subprocess.run([*make, "install"], check=True)
+    words = [place.folder / "bin/hwtool-flow", EXAMPLES / "two-counters.btor2"]
+    done = subprocess.run(words, cwd=place.folder, capture_output=True, text=True, check=False)
+    tally.same("what is installed", (ONE_FAILS, "", [7, HOLDS]), (done.returncode, done.stderr, place.verdicts("two-counters.flow")))
+    shutil.rmtree(place.folder / "two-counters.flow")
+    subprocess.run([*make, "uninstall"], check=True)
+    tally.same("what is left of it", [], [str(it) for it in place.folder.rglob("*") if not it.is_dir()])
+
+
 # ---- the page
 
 
@@ -819,13 +835,33 @@ class Page(html.parser.HTMLParser):
             self.signals[-1][-1] += data
 
 
+def chromium(page, *words):
+    """What Chromium says of a page; it is tried again where it hangs."""
+    profile = pathlib.Path(tempfile.mkdtemp())
+    flags = ["--headless", "--no-sandbox", "--disable-gpu", "--disable-dev-shm-usage", "--no-first-run", f"--user-data-dir={profile}"]
+    try:
+        for _ in range(3):
+            # into a file: a process that it leaves may hold a pipe
+            with open(profile / "said", "w+", encoding="utf-8") as said:
+                try:
+                    subprocess.run(
+                        ["chromium", *flags, *words, page.as_uri()], stdout=said, stderr=subprocess.DEVNULL, timeout=60, check=True
+                    )
+                    said.seek(0)
+                    return said.read()
+                except subprocess.TimeoutExpired:
+                    pass
+        return "chromium hangs"
+    finally:
+        shutil.rmtree(profile, ignore_errors=True)
+
+
 def dumped(page, width, script=""):
     """What Chromium has of a page in a window of a width, after a script."""
     text = page.read_text().replace("</body>", f"<script>{script}</script></body>")
     into = page.with_name("looked-at.html")
     into.write_text(text)
-    words = ["chromium", "--headless", "--no-sandbox", "--disable-gpu", f"--window-size={width},900", "--dump-dom", into.as_uri()]
-    return subprocess.run(words, capture_output=True, text=True, timeout=120, check=True).stdout
+    return chromium(into, f"--window-size={width},900", "--dump-dom")
 
 
 def try_page(place, screenshot):
@@ -858,17 +894,14 @@ def try_page(place, screenshot):
         "document.title = [document.activeElement === it, ...seen].join(';')"
     )
     # six frames; two thirds of them around the middle; from the first; one on; all; as at first
-    tally.true(
-        "zoom by the keyboard",
-        "<title>true;1 0 4;0 0 4;1 0 4;0 0 6;0 0 6</title>" in dumped(page, 1200, press),
-        re.findall("<title>.*</title>", dumped(page, 1200, press)),
-    )
+    looked = dumped(page, 1200, press)
+    seen = "<title>true;1 0 4;0 0 4;1 0 4;0 0 6;0 0 6</title>" in looked
+    tally.true("zoom by the keyboard", seen, re.findall("<title>.*</title>", looked))
     if screenshot:
         # of the three properties the last one stands open
         closed = page.with_name("looked-at.html")
         closed.write_text(text.replace('<details open="">', "<details>", 2))
-        words = ["chromium", "--headless", "--no-sandbox", "--disable-gpu", "--hide-scrollbars", "--window-size=980,1260"]
-        subprocess.run([*words, f"--screenshot={screenshot}", closed.as_uri()], check=True, capture_output=True, timeout=120)
+        chromium(closed, "--hide-scrollbars", "--window-size=980,1260", f"--screenshot={screenshot}")
         tally.true("the screenshot", 0 < pathlib.Path(screenshot).stat().st_size < 200_000)
 
 
@@ -913,6 +946,7 @@ def main():
             try_many,
             try_devices,
             try_missing,
+            try_installed,
         ]
     }
     groups["page"] = lambda place: try_page(place, words.screenshot and os.path.abspath(words.screenshot))

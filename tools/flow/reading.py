@@ -106,7 +106,7 @@ class Reader:
         place = f"{self.work.name}/{path.name}"
         properties, inputs = (self.of_model(path, place), []) if kind is Kind.WORDS else self.of_names(place)
         if properties:
-            self.made("lower" if kind is Kind.WORDS else "aig-convert", "--engine", "--binary", "--bad", "0", place)
+            self.make("lower" if kind is Kind.WORDS else "aig-convert", "--engine", "--binary", "--bad", "0", place)
         return Model(kind, path, properties, notes, clock, list(steps), inputs)
 
     def of_model(self, path: Path, place: str) -> List[Property]:
@@ -121,7 +121,7 @@ class Reader:
         model = self.taken(self.copied(Kind.CIRCUIT), Kind.CIRCUIT, ["as AIGER"])
         if model.properties:
             return model
-        model.path.write_text(self.made("aig-convert", "--outputs", f"{self.work.name}/{model.path.name}"), encoding="utf-8")
+        os.replace(self.make("aig-convert", "--outputs", "--binary", f"{self.work.name}/{model.path.name}"), model.path)
         return self.taken(model.path, Kind.CIRCUIT, ["as AIGER", "its outputs as properties"])
 
     def of_names(self, place: str) -> Tuple[List[Property], List[str]]:
@@ -132,15 +132,16 @@ class Reader:
         properties = [Property(number, names.get(f"b{number}", "")) for number in range(header[5] if len(header) > 5 else 0)]
         return properties, [names.get(f"i{number}", f"i{number}") for number in range(header[1])]
 
-    def made(self, *words: str) -> str:
-        """The text that a command makes; refused in the words of `hwtool` where it makes none."""
-        into = self.work / "made"
+    def make(self, *words: str) -> Path:
+        """The file that a command makes; refused in the words of `hwtool` where it makes none."""
         said = self.program.call(*words, "-o", f"{self.work.name}/made", aside=self.work)
         if said.status != 0:
             raise NotTaken(self.wanted.files[0], said.line)
-        text = into.read_text(encoding="utf-8", errors="replace")
-        into.unlink()
-        return text
+        return self.work / "made"
+
+    def made(self, *words: str) -> str:
+        """The text that a command makes."""
+        return self.make(*words).read_text(encoding="utf-8", errors="replace")
 
     # ---- Verilog
 

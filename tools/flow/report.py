@@ -57,8 +57,8 @@ def page(results: Results, folder: Path) -> str:
 def front(results: Results) -> str:
     """The design, how it was read, and how many properties came to what."""
     counts = [
-        tag("li", f"{count_of(results.outcomes, it)} {word}", class_=it.value)
-        for it, word in [(Verdict.HOLDS, "hold"), (Verdict.FAILS, "fail"), (Verdict.OPEN, "open")]
+        tag("li", f"{word} {count_of(results.outcomes, it)}", class_=it.value)
+        for it, word in [(Verdict.HOLDS, "hold:"), (Verdict.FAILS, "fail:"), (Verdict.OPEN, "open:")]
     ]
     read = tag("p", text(f"read {', '.join(results.model.notes)}; model "), tag("code", results.model.name), class_="soft")
     return tag("h1", text(results.design)) + read + tag("ul", *counts, class_="counts")
