@@ -142,7 +142,7 @@ found_again c choice d text m said traces form accepted =
     let trace = traces d w.initial w.frames form.circuit says.valid.initial says.valid.frames in
     let ws : List Valuation = trace.0 in
     let verdict = reset_of (first_reset_differing 0 d.latches w.initial) (breach_from (first_bit_violated d) 0 ws) (bit_rises d w.claim ws) w.claim (length ws) m
-        (read.judged ws trace.1 ∙ sym (bits_verdict d (first_reset_differing 0 d.latches w.initial) w.claim ws says.valid.claim)) in
+    (read.judged ws trace.1 ∙ sym (bits_verdict d (first_reset_differing 0 d.latches w.initial) w.claim ws says.valid.claim)) in
     let zeros : w.initial ≡ replicate (length d.latches) false = all_zero 0 _ d.latches w.initial form.resets says.valid.initial verdict.0 in
     let begun : IsCircuitTrace d (replicate (length d.latches) false) w.frames ws = subst (λ (s : List Bool). IsCircuitTrace d s w.frames ws) zeros trace.1 in
     let wide : All (λ bits. length bits ≡ input_count c) w.frames = subst (λ (n : ℕ). All (λ bits. length bits ≡ n) w.frames) form.inputs says.valid.frames in

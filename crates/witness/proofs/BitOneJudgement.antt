@@ -46,8 +46,7 @@ shown_same c vs us circuit same =
 
 bits_judged : (c : Circuit) (w : BitWitness) → IsCircuit c → IsBitWitness c w → (j : Judgement) × JudgesBits c w j
 bits_judged c w circuit valid =
-    let trace = trace_exists c w.initial w.frames circuit valid.initial valid.frames in
-    (
+    let trace = trace_exists c w.initial w.frames circuit valid.initial valid.frames in (
       verdict (first_reset_differing 0 c.latches w.initial) (w.claim ∷ []) (length c.bads) (map (circuit_shows c) trace.0),
       λ vs h. ap (verdict (first_reset_differing 0 c.latches w.initial) (w.claim ∷ []) (length c.bads)) (shown_same c trace.0 vs circuit (trace_unique c w.initial w.frames trace.0 vs circuit trace.1 h)),
     )

@@ -123,7 +123,7 @@ pub words_verdict : (items : List Item) (different : Option ℕ) (claims : List 
     ≡ verdict different claims (length (nodes_of is_bad items)) (map (model_shows items) fs)
 words_verdict items different claims fs =
     let violated = breach_shown (model_shows items) (first_violated items) (λ f. place_of_values (is_1 f) 0 (nodes_of is_constraint items)) 0 fs in
-    let reached = first_shown claims fs (map (model_shows items) fs) 0 (nodes_of is_bad items) 
+    let reached = first_shown claims fs (map (model_shows items) fs) 0 (nodes_of is_bad items)
     (λ m h. let e : m ≡ 0 + m = omega arith in never_shown items fs m h ∙ ap (λ (k : ℕ). not (rises_in_some k (map (model_shows items) fs))) e) in
     rw (violated, reached, sym (length-map fs (model_shows items))) refl
 
