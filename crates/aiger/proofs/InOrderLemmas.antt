@@ -1,16 +1,16 @@
 -- Files whose gates stand behind their operands: the gates are ready as they stand.
-use Rattle.std.proofs.Common.{◌≡◌, ℕ, zero, suc, ◌+◌, ◌<◌, ◌≤◌, true, false, List, [], ◌∷◌, ◌++◌, map, length, nat_eq, nat_lt, inr, refl, ap, sym, ◌∙◌, subst, arith}
+use Rattle.std.proofs.Common.{◌≡◌, ℕ, zero, suc, ◌+◌, ◌<◌, ◌≤◌, true, false, List, [], ◌∷◌, ◌++◌, map, length, nat_eq, nat_lt, Option, Some, inr, refl, ap, sym, ◌∙◌, subst, arith}
 use Rattle.std.proofs.lemmas.Bool.Decides.{nat_tests}
 use Rattle.std.proofs.lemmas.List.FromFn.{length-range_with_len}
 use Rattle.std.proofs.lemmas.List.Folds.{list_any-append}
 use Rattle.std.specs.List.{list_any, range_with_len}
 use Rattle.aiger.specs.declared.circuit.Gate.{Gate}
-use Rattle.aiger.specs.Circuit.{IsCircuit}
+use Rattle.aiger.specs.Circuit.{Circuit, IsCircuit}
 use Rattle.base.specs.Literal.{variable}
 use Rattle.aiger.specs.Loose.{Loose, IsLoose, latch_variable, gate_variable, defined_variables}
 use Rattle.aiger.specs.Numbering.{WaitForEarlier, slot_of}
 use Rattle.aiger.specs.Readiness.{IsFirst}
-use Rattle.aiger.specs.Renumbering.{gate_line, gate_name, variables_numbered, has_number, is_ready, AreInTurn, IsOrder, new_gate, renumbered, circuit_by}
+use Rattle.aiger.specs.Renumbering.{gate_line, gate_name, variables_numbered, has_number, is_ready, AreInTurn, IsOrder, IsNumberingBy, IsNumberingOf, new_gate, renumbered, circuit_by}
 use Rattle.aiger.proofs.KnownLemmas.{AllKnown}
 use Rattle.aiger.proofs.NumberingLemmas.{IsSlotOf, IsCircuit-renumbered}
 use Rattle.aiger.proofs.OrderLemmas.{any_map, has_number-append, numbered-append}
@@ -92,3 +92,7 @@ by_places l places gates e f =
 pub by_order : (l : Loose) (order names : List ℕ) (gates : List Gate) → names ≡ variables_numbered l order → gates ≡ map (λ j. new_gate names (gate_line l j)) order → circuit_by l names gates ≡ renumbered l order
 by_order l order names gates e f =
     ap (circuit_by l names) f ∙ ap (λ (ns : List ℕ). circuit_by l ns (map (λ j. new_gate ns (gate_line l j)) order)) e
+
+-- a numbering by the numbers that a circuit has
+pub by_numbering : (l : Loose) (c : Circuit) (names : List ℕ) (numbering : Option (List ℕ)) → IsNumberingOf l c (Some names) → IsNumberingBy names numbering → IsNumberingOf l c numbering
+by_numbering l c names numbering of by = record { order = of.order; is_order = of.is_order; circuit = of.circuit; numbers = subst (λ (ns : List ℕ). IsNumberingBy ns numbering) of.numbers by }

@@ -1,13 +1,18 @@
 -- Places and numbers of variables in a list.
-use Rattle.std.proofs.Common.{◌≡◌, ℕ, suc, ◌+◌, ◌-◌, ◌<◌, ◌≤◌, ◌||◌, ◌==◌, Bool, true, false, not, List, [], ◌∷◌, ◌++◌, length, Some, None, ◌⊎◌, inl, inr, nat_eq, nat_lt, cond, refl, ap, sym, ◌∙◌, arith, if◌then◌else◌, append-nil, length-append}
+use Rattle.std.proofs.Common.{◌≡◌, ℕ, suc, ◌+◌, ◌-◌, ◌*◌, ◌/◌, ◌%◌, ◌<◌, ◌≤◌, ◌||◌, ◌==◌, Bool, true, false, not, List, [], ◌∷◌, ◌++◌, All, length, Some, None, ◌⊎◌, inl, inr, nat_eq, nat_lt, cond, refl, ap, sym, ◌∙◌, arith, if◌then◌else◌, append-nil, length-append}
 use Rattle.std.proofs.lemmas.List.{nil_from_length}
 use Rattle.std.proofs.lemmas.List.FromFn.{length-range_with_len}
 use Rattle.std.proofs.lemmas.Bool.Decides.{nat_tests}
-use Rattle.std.proofs.lemmas.List.Folds.{list_any-append, position_or_len_push}
+use Rattle.std.proofs.lemmas.Bool.{or_from}
+use Rattle.std.proofs.lemmas.List.Elements.{All-weaker}
+use Rattle.std.proofs.lemmas.List.Folds.{list_any-append, list_any_none, position_or_len_push}
 use Rattle.std.specs.List.{list_any, position, position_or_len, range_with_len}
+use Rattle.base.specs.Literal.{variable}
+use Rattle.aiger.specs.Limits.{greatest_count}
 use Rattle.aiger.specs.Numbering.{number_among}
+use Rattle.aiger.specs.Renumbering.{has_number, new_literal, numbered_literal}
 use Rattle.aiger.proofs.RangeLemmas.{within_range, outside_range, place_in_range, range_joined}
-use Rattle.aiger.proofs.RenumberingLemmas.{found, place_kept, place_further}
+use Rattle.aiger.proofs.RenumberingLemmas.{found, place_kept, place_further, new_of_variable}
 
 -- a place is at most the length
 pub place-le : {X : Type 0} (p : X → Bool) (xs : List X) → position_or_len p xs ≤ length xs
@@ -137,3 +142,55 @@ none_behind v k others now view none =
     let e = list_any-append (nat_eq v) (range_with_len 1 k) others in
     let t : list_any (nat_eq v) (range_with_len 1 k ++ others) ≡ false = ap (list_any (nat_eq v)) view ∙ none in
     grind (arith, nat_tests, e, t)
+
+-- ---- places of variables of any width
+
+pub nothing_at : {X : Type 0} (p : X → Bool) (xs : List X) → position_or_len p xs ≡ length xs → position p xs ≡ None
+nothing_at p xs e = let t : nat_lt (position_or_len p xs) (length xs) ≡ false = grind (arith, nat_tests) in ap (λ (b : Bool). cond b (Some (position_or_len p xs)) None) t
+
+pub something_at : {X : Type 0} (p : X → Bool) (xs : List X) (k : ℕ) → k ≡ position_or_len p xs → k < length xs → position p xs ≡ Some k
+something_at p xs k e h =
+    let t : nat_lt (position_or_len p xs) (length xs) ≡ true = grind (arith, nat_tests) in
+    ap (λ (b : Bool). cond b (Some (position_or_len p xs)) None) t ∙ ap (λ (i : ℕ). Some i) (sym e)
+
+-- a variable of more than 32 bits is not among them
+pub none_beyond : (v k : ℕ) (others now : List ℕ) → range_with_len 1 k ++ others ≡ now → length now ≤ greatest_count → All (λ x. x < 4294967296) others → 4294967296 ≤ v → position (nat_eq v) now ≡ None
+none_beyond v k others now view few small beyond =
+    let in_turn : list_any (nat_eq v) (range_with_len 1 k) ≡ false = outside_range v 1 k (inr (omega (arith, beyond, few, ap (length {A = ℕ}) view, length_joined k others))) in
+    let behind : list_any (nat_eq v) others ≡ false = list_any_none (nat_eq v) others (All-weaker (λ x. x < 4294967296) (λ x. nat_eq v x ≡ false) (λ x h. grind (arith, nat_tests, h, beyond)) others small) in
+    let none : list_any (nat_eq v) now ≡ false = ap (list_any (nat_eq v)) (sym view) ∙ list_any-append (nat_eq v) (range_with_len 1 k) others ∙ or_from _ _ in_turn behind in
+    nothing_at (nat_eq v) now (not_found v now none)
+
+-- the literal of a variable by its place
+by_test : (names : List ℕ) (lit : ℕ) (b : Bool) → has_number names lit ≡ b → numbered_literal (Some names) lit ≡ (if b then Some (new_literal names lit) else None)
+by_test names lit b e = ap (λ (t : Bool). if t then Some (new_literal names lit) else None) e
+
+pub literal_of_none : (names : List ℕ) (lit : ℕ) → 2 ≤ lit → position (nat_eq (lit / 2)) names ≡ None → numbered_literal (Some names) lit ≡ None
+literal_of_none names lit some e = by (list_any (nat_eq (variable lit)) names) refl
+  where
+    by : (b : Bool) → list_any (nat_eq (variable lit)) names ≡ b → numbered_literal (Some names) lit ≡ None
+    by true t = absurd (omega (arith, (found (variable lit) names t).0, place_missed (nat_eq (variable lit)) names e))
+    by false t =
+        let constant : (variable lit == 0) ≡ false = grind (arith, nat_tests, some) in
+        by_test names lit false (or_from _ _ constant t)
+
+pub literal_of_place : (names : List ℕ) (lit place : ℕ) → 2 ≤ lit → position (nat_eq (lit / 2)) names ≡ Some place → numbered_literal (Some names) lit ≡ Some (2 * (place + 1) + lit % 2)
+literal_of_place names lit place some e = by (list_any (nat_eq (variable lit)) names) refl
+  where
+    constant : (variable lit == 0) ≡ false
+    constant = grind (arith, nat_tests, some)
+
+    by : (b : Bool) → list_any (nat_eq (variable lit)) names ≡ b → numbered_literal (Some names) lit ≡ Some (2 * (place + 1) + lit % 2)
+    by true t =
+        let there : has_number names lit ≡ true = ap (λ (b : Bool). b || list_any (nat_eq (variable lit)) names) constant ∙ t in
+        let is : 2 * suc (position_or_len (nat_eq (variable lit)) names) + lit % 2 ≡ 2 * (place + 1) + lit % 2 = omega (arith, (place_found (nat_eq (variable lit)) names place e).0) in
+        by_test names lit true there ∙ ap (λ (n : ℕ). Some n) (new_of_variable names lit constant ∙ is)
+    by false t = absurd (omega (arith, not_found (variable lit) names t, place_found (nat_eq (variable lit)) names place e))
+
+-- variables none of which has another number have their own
+pub all_own : (k : ℕ) (others now : List ℕ) → range_with_len 1 k ++ others ≡ now → length others ≤ 0 → now ≡ range_with_len 1 (length now)
+all_own k others now view empty =
+    let none : others ≡ [] = nil_from_length others (omega (arith, empty)) in
+    let front : now ≡ range_with_len 1 k = sym view ∙ ap (λ (xs : List ℕ). range_with_len 1 k ++ xs) none ∙ append-nil (range_with_len 1 k) in
+    let many : k ≡ length now = omega (arith, ap (length {A = ℕ}) front, length-range_with_len 1 k) in
+    front ∙ ap (range_with_len 1) many

@@ -4,6 +4,7 @@ use Rattle.std.proofs.lemmas.Bool.Decides.{nat_tests}
 use Rattle.std.proofs.lemmas.Bool.{or_from}
 use Rattle.std.proofs.lemmas.List.Elements.{All-weaker, All-nil, All-cons, All-head, All-tail, All-append}
 use Rattle.std.proofs.lemmas.List.Folds.{list_any-append, map_fixed}
+use Rattle.std.proofs.lemmas.List.FromFn.{length-range_with_len}
 use Rattle.std.proofs.lemmas.List.Sums.{sum_by-cons}
 use Rattle.std.specs.List.{list_any, list_all, count_by, concat, position_or_len, range_with_len}
 use Rattle.aiger.specs.declared.circuit.Gate.{Gate}
@@ -18,10 +19,10 @@ use Rattle.aiger.specs.Net.{Net, variables, IsDefined, AreOrderedFrom}
 use Rattle.aiger.specs.Circuit.{Circuit, IsCircuit, net, section_count}
 use Rattle.aiger.specs.Loose.{IsLoose, IsDefining, IsSmall, sections_of, latch_of, latch_variable, gate_variable, defined_count, defined_variables}
 use Rattle.aiger.specs.Numbering.{WaitForEarlier, is_unknown, line_in, slot_of}
-use Rattle.aiger.specs.Renumbering.{IsRenumbered, alone, is_known, used_lines, first_undefined, has_number, new_literal, new_gate, renumbered}
+use Rattle.aiger.specs.Renumbering.{IsRenumbered, IsNumberingOf, variables_numbered, alone, is_known, used_lines, first_undefined, has_number, new_literal, new_gate, renumbered}
 use Rattle.aiger.specs.OwnLists.{own_input_lines, own_latches, own_gates, own_lists}
 use Rattle.aiger.proofs.CircuitLemmas.{AllLiterals-weaker, names_kept}
-use Rattle.aiger.proofs.InOrderLemmas.{as_they_stand, is_order, by_places}
+use Rattle.aiger.proofs.InOrderLemmas.{as_they_stand, is_order, by_places, numbered_as_they_stand}
 use Rattle.aiger.proofs.KnownLemmas.{all_known}
 use Rattle.aiger.proofs.LooseLemmas.{count_none}
 use Rattle.aiger.proofs.PlacesLemmas.{leaf_count}
@@ -292,3 +293,17 @@ module _ (c : Circuit) (valid : IsCircuit c) where
     is_order = is_order (own_lists c) (all_known (own_lists c) all_defined) wait;
     circuit = sym is_itself;
   }
+
+  -- each variable has its own number
+  pub own_numbering : IsNumberingOf (own_lists c) c None
+  unfolding own_renumbered
+  own_numbering =
+      let l = own_lists c in
+      let numbers : variables_numbered l (as_they_stand l) ≡ range_with_len 1 (variables (net c)) = numbered_as_they_stand l ∙ names in
+      let many : variables (net c) ≡ length (variables_numbered l (as_they_stand l)) = omega (arith, ap (length {A = ℕ}) numbers, length-range_with_len 1 (variables (net c))) in
+      record {
+        order = own_renumbered.order;
+        is_order = own_renumbered.is_order;
+        circuit = own_renumbered.circuit;
+        numbers = numbers ∙ ap (range_with_len 1) many;
+      }

@@ -1,10 +1,11 @@
 -- How the variables of a file get the numbers of a circuit: inputs by their lines, then latches, then gates in the order of readiness.
 use Rattle.std.specs.Prelude.{◌≡◌, ℕ, suc, ◌+◌, ◌*◌, ◌%◌, ◌<◌, Bool, true, ◌&&◌, ◌||◌, not, ◌==◌, List, [], ◌∷◌, ◌++◌, map, length, ◌⊎◌, Option, None, Some, codes, Result, Ok, Err, slice_index_or, nat_lt, nat_eq, if◌then◌else◌}
-use Rattle.std.specs.List.{list_all, list_any, position, position_or_len, concat}
+use Rattle.std.specs.List.{list_all, list_any, position, position_or_len, concat, range_with_len}
 use Rattle.aiger.specs.declared.circuit.Gate.{Gate}
 use Rattle.aiger.specs.declared.loose.GateLine.{GateLine}
 use Rattle.aiger.specs.declared.fault.LooseFault.{LooseFault}
 use Rattle.aiger.specs.declared.fault.LooseFault.TheVariants.{Undefined, Cycle, NoMemory}
+use Rattle.aiger.specs.declared.numbered.Numbered.{Numbered}
 use Rattle.base.specs.Literal.{variable}
 use Rattle.aiger.specs.Circuit.{Circuit}
 use Rattle.aiger.specs.Readiness.{AreFirst}
@@ -68,6 +69,11 @@ abbrev pub new_literal : List ℕ → ℕ → ℕ
 new_literal names lit =
     if variable lit == 0 then lit
     else 2 * suc (position_or_len (nat_eq (variable lit)) names) + lit % 2
+
+-- the literal of a circuit that a literal of a file is, where variables of the file have these numbers; none where its variable has no number. Where each variable has its own number, which is told by no list, it is the same literal
+abbrev pub numbered_literal : Option (List ℕ) → ℕ → Option ℕ
+numbered_literal None lit = Some lit
+numbered_literal (Some names) lit = if has_number names lit then Some (new_literal names lit) else None
 
 -- a gate of two operands, the greater one first
 abbrev pub ordered_gate : ℕ → ℕ → Gate
@@ -133,6 +139,23 @@ AnswersNumber l (Ok c) = IsRenumbered l c
 AnswersNumber l (Err (Undefined k)) = first_undefined l ≡ Some k
 AnswersNumber l (Err (Cycle g)) = (first_undefined l ≡ None) × IsFirstCyclic l g
 AnswersNumber l (Err NoMemory) = first_undefined l ≡ None
+
+-- variables in the order of their numbers, or no list where each has its own: they are 1, 2, 3 and so on
+abbrev pub IsNumberingBy : List ℕ → Option (List ℕ) → Type 0
+IsNumberingBy names None = names ≡ range_with_len 1 (length names)
+IsNumberingBy names (Some numbered) = numbered ≡ names
+
+-- a circuit is the lists of a file by these numbers
+pub record IsNumberingOf (l : Loose) (c : Circuit) (numbering : Option (List ℕ)) : Type 0 where
+  pub order : List ℕ
+  pub is_order : IsOrder l order
+  pub circuit : c ≡ renumbered l order
+  pub numbers : IsNumberingBy (variables_numbered l order) numbering
+
+-- the answer where the numbers are asked for, too
+abbrev pub AnswersNumbered : Loose → Result Numbered LooseFault → Type 0
+AnswersNumbered l (Ok x) = IsRenumbered l x.circuit × IsNumberingOf l x.circuit x.numbering
+AnswersNumbered l (Err e) = AnswersNumber l (Err e)
 
 -- the number that is printed for a fault
 abbrev pub loose_fault_number : LooseFault → ℕ

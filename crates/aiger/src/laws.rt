@@ -9,7 +9,7 @@ ghost use Rattle.aiger.specs.Trace.{IsCircuitTrace, SameCircuitTrace, AreInitial
 ghost use Rattle.aiger.specs.declared.fault.CircuitFault.TheVariants.{LiteralOutOfRange, TooBig};
 ghost use Rattle.aiger.specs.Loose.{Loose, IsLoose, HasDefinitions, empty_loose, with_input_line, loose_line_refusal, use_refusal};
 ghost use Rattle.aiger.specs.LooseTrace.{IsLooseTrace, AllShowSame};
-ghost use Rattle.aiger.specs.Renumbering.{IsRenumbered, IsOrder, LeadsToCycle, DependsOn, IsFirstCyclic, first_undefined, renumbered};
+ghost use Rattle.aiger.specs.Renumbering.{IsRenumbered, IsNumberingOf, IsOrder, LeadsToCycle, DependsOn, IsFirstCyclic, first_undefined, variables_numbered, numbered_literal, renumbered};
 ghost use Rattle.aiger.specs.OwnLists.{own_lists};
 ghost use Rattle.aiger.specs.Worked.{toggler, off, on, one_gate_net, crossed, backwards, straight, looped, led, far, of_each, of_each_numbered, toggler_of_any, unknown, loose_toggler, named_off, named_on};
 
@@ -61,12 +61,13 @@ pub fn renumbered_traces()
 {}
 
 /// The lists that an ascii file of a circuit has in the circuit's own numbers are lists of a file with
-/// as many inputs, latches and gates, and the circuit is these lists as numbered. It does nothing: its
-/// contract is the law.
+/// as many inputs, latches and gates, and the circuit is these lists as numbered, where each variable has
+/// its own number. It does nothing: its contract is the law.
 pub fn own_numbers()
     ensures many { (c : Circuit) → (length (own_lists c).inputs ≡ c.inputs) × (length (own_lists c).latches ≡ length c.latches) × (length (own_lists c).gates ≡ length c.gates) }
     ensures valid { (c : Circuit) → IsCircuit c → IsLoose (own_lists c) }
     ensures numbered { (c : Circuit) → IsCircuit c → IsRenumbered (own_lists c) c }
+    ensures numbering { (c : Circuit) → IsCircuit c → IsNumberingOf (own_lists c) c None }
 {}
 
 /// A file is a circuit as numbered exactly where each variable that it uses is defined and none of
@@ -133,6 +134,11 @@ pub fn worked_renumbering()
     // The number of a variable comes from its line alone.
     ensures far { (renumbered far []).outputs ≡ 2 ∷ [] }
     ensures alone { renumbered loose_toggler [] ≡ toggler_of_any }
+    // The literals of gates in either order, of a negation, and of a variable that no line defines.
+    ensures variables { (variables_numbered crossed (0 ∷ 1 ∷ []) ≡ 1 ∷ 2 ∷ 7 ∷ 6 ∷ []) × (variables_numbered backwards (1 ∷ 0 ∷ []) ≡ 1 ∷ 2 ∷ 7 ∷ 6 ∷ []) }
+    ensures literals { (numbered_literal (Some (1 ∷ 2 ∷ 7 ∷ 6 ∷ [])) 12 ≡ Some 8) × (numbered_literal (Some (1 ∷ 2 ∷ 7 ∷ 6 ∷ [])) 15 ≡ Some 7) × (numbered_literal (Some (1 ∷ 2 ∷ 7 ∷ 6 ∷ [])) 1 ≡ Some 1) }
+    ensures no_literal { numbered_literal (Some (1 ∷ 2 ∷ 7 ∷ 6 ∷ [])) 8 ≡ None }
+    ensures own_literal { numbered_literal None 9 ≡ Some 9 }
     ensures of_each { IsRenumbered of_each of_each_numbered }
     // The lists of a circuit in its own numbers.
     ensures own { ((own_lists straight).inputs ≡ 2 ∷ 4 ∷ []) × ((own_lists straight).gates ≡ record { lhs = 6; rhs0 = 5; rhs1 = 2 } ∷ record { lhs = 8; rhs0 = 6; rhs1 = 3 } ∷ []) }

@@ -1,16 +1,17 @@
 //! The lists of a file as a circuit: their variables get the numbers of a circuit.
-ghost use Rattle.std.specs.Prelude.{◌≡◌, ◌+◌, ◌++◌, [], map, ◌<◌, ◌≤◌, length, nat_le, nat_eq, not, All, None, IfOk, OnOk};
+ghost use Rattle.std.specs.Prelude.{◌≡◌, ◌+◌, ◌++◌, [], map, ◌<◌, ◌≤◌, length, nat_le, nat_eq, not, All, None, Some, IfOk, OnOk};
 ghost use Rattle.std.specs.List.{list_all, position};
 ghost use Rattle.aiger.specs.Limits.{greatest_count};
 ghost use Rattle.base.specs.Literal.{variable};
 ghost use Rattle.aiger.specs.Loose.{IsLoose, defined_variables, latch_variable};
-ghost use Rattle.aiger.specs.Renumbering.{AnswersNumber, IsOrder, first_undefined, variables_numbered};
+ghost use Rattle.aiger.specs.Renumbering.{AnswersNumber, AnswersNumbered, IsNumberingOf, IsOrder, first_undefined, variables_numbered};
 ghost use Rattle.aiger.specs.Numbering.{slots_of, IsOnce, WaitForEarlier};
 
 use crate::circuit::Circuit;
 use crate::circuit::renumbered::{gates_as_they_stand, gates_in_order};
 use crate::fault::LooseFault;
 use crate::loose::Loose;
+use crate::numbered::{Numbered, Numbering};
 use crate::numbers::Numbers;
 use crate::readiness::order_of_readiness;
 use std::alloc::{AllocError, Global};
@@ -31,6 +32,19 @@ impl Loose {
     pub fn number(&self, alloc: Global) -> Result<Circuit, LooseFault>
         ensures { AnswersNumber self.now result }
     {
+        match self.numbered(alloc) {
+            Ok(numbered) => Ok(numbered.circuit),
+            Err(fault) => Err(fault),
+        }
+    }
+
+    /// The same circuit with the numbers that the file's variables have there. These take no memory where each has its
+    /// own.
+    ///
+    /// Errors: those of `number`.
+    pub fn numbered(&self, alloc: Global) -> Result<Numbered, LooseFault>
+        ensures { AnswersNumbered self.now result }
+    {
         match self.places(alloc) {
             Ok(places) => self.number_by_places(alloc, places),
             Err(_) => self.number_without_memory(),
@@ -38,8 +52,8 @@ impl Loose {
     }
 
     /// What there is to say where memory is wanting: that is told only where each variable is defined.
-    fn number_without_memory(&self) -> Result<Circuit, LooseFault>
-        ensures { AnswersNumber self.now result }
+    fn number_without_memory(&self) -> Result<Numbered, LooseFault>
+        ensures { AnswersNumbered self.now result }
     {
         match self.undefined_line() {
             Some(line) => Err(LooseFault::Undefined(line)),
@@ -49,12 +63,18 @@ impl Loose {
 
     /// The circuit that the lists are, by the places of the defined variables. Gates that stand behind their operands are
     /// ready as they stand, and use no variable that is not defined.
-    fn number_by_places(&self, alloc: Global, places: Numbers) -> Result<Circuit, LooseFault>
+    fn number_by_places(&self, alloc: Global, places: Numbers) -> Result<Numbered, LooseFault>
         requires { places ≡ defined_variables self.now }
-        ensures { AnswersNumber self.now result }
+        ensures { AnswersNumbered self.now result }
     {
         if places.are_in_order(self.leaf_count(), self.gates()) {
-            return self.number_in_order(alloc, &places);
+            return match self.number_in_order(alloc, &places) {
+                Ok(circuit) => Ok(Numbered {
+                    circuit,
+                    numbering: Numbering::of(places),
+                }),
+                Err(fault) => Err(fault),
+            };
         }
         match self.slots(alloc, places) {
             Ok(slots) => self.number_by_slots(alloc, slots),
@@ -67,7 +87,8 @@ impl Loose {
         requires places { places.now ≡ defined_variables self.now }
         requires in_order { WaitForEarlier (defined_variables self.now) (length self.now.inputs + length self.now.latches) self.now.gates }
         requires valid { IsLoose self.now }
-        ensures { AnswersNumber self.now result }
+        ensures answers { AnswersNumber self.now result }
+        ensures numbering { IfOk result (λ c. IsNumberingOf self.now c (Some places.now)) }
     {
         if let Some(line) = self.undefined_with(&[]) {
             return Err(LooseFault::Undefined(line));
@@ -77,9 +98,9 @@ impl Loose {
     }
 
     /// The circuit that lists whose gates may stand in any order are, by what their gates wait for.
-    fn number_by_slots(&self, alloc: Global, slots: Vec<u32>) -> Result<Circuit, LooseFault>
+    fn number_by_slots(&self, alloc: Global, slots: Vec<u32>) -> Result<Numbered, LooseFault>
         requires { slots.items ≡ slots_of (defined_variables self.now) (length self.now.inputs + length self.now.latches) self.now.gates }
-        ensures { AnswersNumber self.now result }
+        ensures { AnswersNumbered self.now result }
     {
         match self.undefined_by_slots(&slots) {
             Some(line) => Err(LooseFault::Undefined(line)),
@@ -100,10 +121,10 @@ impl Loose {
     }
 
     /// The circuit of lists whose gates may stand in any order, where each variable is defined.
-    fn number_by_readiness(&self, alloc: Global, slots: Vec<u32>) -> Result<Circuit, LooseFault>
+    fn number_by_readiness(&self, alloc: Global, slots: Vec<u32>) -> Result<Numbered, LooseFault>
         requires known { first_undefined self.now ≡ None }
         requires slots { slots.items ≡ slots_of (defined_variables self.now) (length self.now.inputs + length self.now.latches) self.now.gates }
-        ensures { AnswersNumber self.now result }
+        ensures { AnswersNumbered self.now result }
     {
         let (order, heads) = order_of_readiness(alloc, slots, self.gates().len())?;
         match first_left(heads) {
@@ -113,17 +134,21 @@ impl Loose {
     }
 
     /// The circuit of lists whose gates are ready in this order.
-    fn number_by_order(&self, alloc: Global, order: &[u32]) -> Result<Circuit, LooseFault>
+    fn number_by_order(&self, alloc: Global, order: &[u32]) -> Result<Numbered, LooseFault>
         requires known { first_undefined self.now ≡ None }
         requires order { IsOrder self.now order.now }
         requires few { length order.now ≤ length self.now.gates }
         requires valid { IsLoose self.now }
-        ensures { AnswersNumber self.now result }
+        ensures { AnswersNumbered self.now result }
     {
         let mut numbers = self.room_for(alloc, self.leaf_count() + order.len())?;
         self.push_leaves(&mut numbers)?;
         let gates = gates_in_order(alloc, &mut numbers, self.gates(), order)?;
-        Ok(Circuit::renumbered(alloc, self, &numbers, gates)?)
+        let circuit = Circuit::renumbered(alloc, self, &numbers, gates)?;
+        Ok(Numbered {
+            circuit,
+            numbering: Numbering::of(numbers),
+        })
     }
 
     /// How many inputs and latches there are.

@@ -1,10 +1,10 @@
 //! Variables in the order of their numbers, and the literals that have these numbers.
-ghost use Rattle.std.specs.Prelude.{◌≡◌, ℕ, ◌<◌, ◌≤◌, ◌+◌, true, false, [], ◌∷◌, ◌++◌, map, length, nat_eq, IfOk, OnOk};
-ghost use Rattle.std.specs.List.{list_any, position_or_len};
+ghost use Rattle.std.specs.Prelude.{◌≡◌, ℕ, ◌<◌, ◌≤◌, ◌+◌, true, false, Some, [], ◌∷◌, ◌++◌, map, length, nat_eq, IfOk, OnOk, IfSome};
+ghost use Rattle.std.specs.List.{list_any, position, position_or_len, range_with_len};
 ghost use Rattle.aiger.specs.Limits.{greatest_count};
 ghost use Rattle.base.specs.Literal.{variable};
 ghost use Rattle.aiger.specs.Loose.{latch_variable, gate_variable};
-ghost use Rattle.aiger.specs.Renumbering.{new_literal};
+ghost use Rattle.aiger.specs.Renumbering.{new_literal, numbered_literal};
 ghost use Rattle.aiger.specs.Numbering.{IsOnce, WaitForEarlier, number_among, slot_of, slots_of};
 ghost use Rattle.aiger.specs.VariableNumbers.{number_kept};
 
@@ -27,7 +27,7 @@ pub struct Numbers {
 }
 
 impl Model for Numbers {
-    ghost use Rattle.std.specs.Prelude.{◌≡◌, ◌++◌, ℕ, List};
+    ghost use Rattle.std.specs.Prelude.{◌≡◌, ◌<◌, ◌++◌, ℕ, List, All};
     ghost use Rattle.std.specs.List.{range_with_len};
     ghost use Rattle.aiger.specs.Numbering.{number_among};
     ghost use Rattle.aiger.specs.VariableNumbers.{number_kept};
@@ -36,7 +36,7 @@ impl Model for Numbers {
 
     ghost view = { λ n. range_with_len 1 n.in_turn ++ n.variables.items };
 
-    ghost invariant = { λ n. (v : ℕ) → number_kept n.numbers v ≡ number_among n.variables.items v };
+    ghost invariant = { λ n. ((v : ℕ) → number_kept n.numbers v ≡ number_among n.variables.items v) × All (λ v. v < 4294967296) n.variables.items };
 }
 
 impl Numbers {
@@ -197,6 +197,44 @@ impl Numbers {
         }
         let number = self.place(lit.var()) as u32 + 1;
         Lit::new(2 * number + lit.number() % 2)
+    }
+
+    /// A literal of any width by its variable's number, where that is 0 or has one.
+    pub fn known_literal(&self, number: u64) -> Option<u64>
+        requires { length self.now ≤ greatest_count }
+        ensures { result ≡ numbered_literal (Some self.now) number }
+    {
+        if number < 2 {
+            return Some(number);
+        }
+        match self.known_place(number / 2) {
+            Some(place) => Some(2 * (place as u64 + 1) + number % 2),
+            None => None,
+        }
+    }
+
+    /// The place of a variable of any width, from 0, where it is among them.
+    fn known_place(&self, variable: u64) -> Option<usize>
+        requires { length self.now ≤ greatest_count }
+        ensures place { result ≡ position (nat_eq variable) self.now }
+        ensures within { IfSome result (λ place. place < greatest_count) }
+    {
+        let count = self.in_turn as usize + self.variables.len();
+        let Ok(variable) = u32::try_from(variable) else {
+            return None;
+        };
+        let place = self.place(variable);
+        if place == count {
+            return None;
+        }
+        Some(place)
+    }
+
+    /// Whether all of them have their own numbers. Of an answer of no, no more is said.
+    pub fn are_own(&self) -> bool
+        ensures { result ≡ true → self.now ≡ range_with_len 1 (length self.now) }
+    {
+        self.variables.is_empty()
     }
 
     /// Literals by their variables' numbers.

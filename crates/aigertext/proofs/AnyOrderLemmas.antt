@@ -1,14 +1,17 @@
 -- A text whose gates are read onto the lists of a file is read as these lists.
-use Rattle.std.proofs.Common.{◌≡◌, ℕ, suc, ◌+◌, ◌*◌, ◌<◌, ◌≤◌, List, [], ◌∷◌, ◌++◌, length, drop, get_or, All, Option, Result, Ok, refl, sym, ap, subst, ◌∙◌, append_assoc, append-nil, inl, inr, arith}
+use Rattle.std.proofs.Common.{◌≡◌, ℕ, suc, ◌+◌, ◌*◌, ◌<◌, ◌≤◌, List, [], ◌∷◌, ◌++◌, length, drop, get_or, All, Bool, Option, Result, Ok, Err, refl, sym, ap, subst, ◌∙◌, append_assoc, append-nil, inl, inr, arith}
 use Rattle.std.specs.Io.KnownBytes.{prepend_known, Keeps, IsAtEnd}
 use Rattle.std.specs.Prelude.{IfSome}
 use Rattle.std.proofs.KnownBytes.{Keeps-trans}
 use Rattle.std.proofs.lemmas.List.{drop_more, drop_all}
 use Rattle.std.proofs.lemmas.List.Elements.{All-nil, All-append}
 use Rattle.aiger.specs.declared.circuit.Gate.{Gate}
+use Rattle.aiger.specs.declared.fault.LooseFault.{LooseFault}
 use Rattle.aiger.specs.declared.loose.GateLine.{GateLine}
+use Rattle.aiger.specs.declared.numbered.Numbered.{Numbered}
 use Rattle.aiger.specs.Circuit.{Circuit}
 use Rattle.aiger.specs.Loose.{Loose, IsLoose, with_gate_line}
+use Rattle.aiger.specs.Renumbering.{AnswersNumbered}
 use Rattle.aigertext.specs.declared.reading.counts.Counts.{Counts}
 use Rattle.aigertext.specs.declared.fault.Stop.{Stop}
 use Rattle.aigertext.specs.declared.forms.Form.TheVariants.{Ascii}
@@ -16,10 +19,12 @@ use Rattle.aigertext.specs.Ascii.{numbers_line}
 use Rattle.aigertext.specs.Binary.{gates_text}
 use Rattle.aigertext.specs.Counts.{AreSmall, Fits, counts_of_file}
 use Rattle.aigertext.specs.Spelling.{AreLines, IsGateLine, AreUpTo, IsAsciiText, use_lines}
+use Rattle.aigertext.specs.Numbering.{IsNumberingOfText}
+use Rattle.aigertext.specs.Passes.{AnswersWanted, AreNumbersOf}
 use Rattle.aigertext.specs.Reading.{line_at, header_of}
 use Rattle.aigertext.specs.AsciiReading.{lists_of_file, AnswersNamed, AnswersLists}
 use Rattle.aigertext.specs.InOrder.{line_texts, IsLineUpTo, IsPutOnLists, StandBefore, PutsText}
-use Rattle.aigertext.proofs.AsciiStandsLemmas.{IsCircuitLaw, ascii-stands}
+use Rattle.aigertext.proofs.AsciiStandsLemmas.{IsCircuitLaw, ascii-stands, numbers_of_lists}
 use Rattle.aigertext.proofs.BackLemmas.{not_err}
 use Rattle.aigertext.proofs.FileBackLemmas.{lists-back}
 use Rattle.aigertext.proofs.FileReadLemmas.{lists-read}
@@ -110,6 +115,11 @@ pub own_all : (greatest first : ℕ) (gs : List Gate) (l m : Loose) (variable in
 own_all greatest first gs l m variable index p all =
     subst (IsPutOnLists greatest l m) (sym (append-nil p.0) ∙ ap (λ (hs : List Gate). p.0 ++ gates_text Ascii variable hs) (sym (drop_all index gs all)) ∙ p.1.1) p.1.0
 
+-- lists that were numbered have their numbers, wanted or not
+pub numbers_wanted : (l : Loose) (wanted : Bool) (r : Result Numbered LooseFault) → AnswersNumbered l r → AnswersWanted l wanted r
+numbers_wanted l wanted (Ok x) answers = (answers.0, λ is. answers.1)
+numbers_wanted l wanted (Err e) answers = answers
+
 -- lists that are answered by a circuit are that, with the names
 pub only_named : (h : Counts) (text : List ℕ) (l : Loose) (names : List ℕ) (c : Circuit) → AnswersLists h text (Ok (l, names)) (Ok c) → AnswersNamed l names (Ok c)
 only_named h text l names c (inl named) = named
@@ -140,11 +150,23 @@ module _ (h : Counts) (before : List ℕ) (l : Loose) (s : StandBefore h before 
       ∙ subst (λ (g : Counts). lists_of_file g (b.inputs ++ (b.latches ++ (use_lines l ++ (line_texts l.gates ++ names)))) ≡ Ok (l, names)) counts
       (lists-read h.variables l valid b.unnamed s.small.variables up_to b.inputs b.latches (line_texts l.gates) names b.are_inputs b.are_latches (are_lines l.gates))
 
+  whole_header : line_at header_of (before ++ (line_texts l.gates ++ names)) ≡ Ok ((Ascii, h), s.lines ++ (line_texts l.gates ++ names))
+  whole_header =
+      let f = line-front header_of before (Ascii, h) s.lines s.header in
+      ap (line_at header_of) (ap (λ (t : List ℕ). t ++ (line_texts l.gates ++ names)) f.parts ∙ append_assoc f.front s.lines (line_texts l.gates ++ names)) ∙ f.again (s.lines ++ (line_texts l.gates ++ names))
+
   -- and it spells the circuit that they are
   pub spelled_by_lists : IsCircuitLaw → (c : Circuit) → AnswersNamed l names (Ok c) → IsAsciiText (before ++ (line_texts l.gates ++ names)) c
   spelled_by_lists law c named =
-      let f = line-front header_of before (Ascii, h) s.lines s.header in
-      let header : line_at header_of (before ++ (line_texts l.gates ++ names)) ≡ Ok ((Ascii, h), s.lines ++ (line_texts l.gates ++ names)) =
-      ap (line_at header_of) (ap (λ (t : List ℕ). t ++ (line_texts l.gates ++ names)) f.parts ∙ append_assoc f.front s.lines (line_texts l.gates ++ names)) ∙ f.again (s.lines ++ (line_texts l.gates ++ names)) in
-      ascii-stands law (before ++ (line_texts l.gates ++ names)) c h (s.lines ++ (line_texts l.gates ++ names)) header
+      ascii-stands law (before ++ (line_texts l.gates ++ names)) c h (s.lines ++ (line_texts l.gates ++ names)) whole_header
       (subst (λ (x : Result (Loose × List ℕ) Stop). AnswersLists h (s.lines ++ (line_texts l.gates ++ names)) x (Ok c)) (sym lists_read) (inl named))
+
+  -- by their numbers
+  pub numbered_by_lists : IsCircuitLaw → (c : Circuit) (numbering : Option (List ℕ)) → AreNumbersOf l names c numbering → IsNumberingOfText (before ++ (line_texts l.gates ++ names)) c numbering
+  numbered_by_lists law c numbering n = record {
+    form = Ascii;
+    counts = h;
+    behind = s.lines ++ (line_texts l.gates ++ names);
+    header = whole_header;
+    body = numbers_of_lists law h (s.lines ++ (line_texts l.gates ++ names)) l names c numbering s.small s.fits lists_read n;
+  }

@@ -1,10 +1,12 @@
 -- An ascii text that stands for a circuit is read as it, and what is read stands for the text.
-use Rattle.std.proofs.Common.{◌≡◌, ℕ, ◌≤◌, List, [], ◌∷◌, ◌++◌, length, Result, Ok, Err, refl, sym, ap, subst, ◌∙◌, append_assoc, inl, inr, ◌⊎◌}
+use Rattle.std.proofs.Common.{◌≡◌, ℕ, ◌≤◌, List, [], ◌∷◌, ◌++◌, length, Bool, true, Option, Result, Ok, Err, refl, sym, ap, subst, ◌∙◌, append_assoc, inl, inr, ◌⊎◌}
+use Rattle.std.specs.Prelude.{IfOk}
 use Rattle.aiger.specs.declared.circuit.Section.{Section}
+use Rattle.aiger.specs.declared.numbered.Numbered.{Numbered}
 use Rattle.aiger.specs.Circuit.{Circuit, IsCircuit, NameMap}
 use Rattle.aiger.specs.Limits.{greatest_count}
 use Rattle.aiger.specs.Loose.{Loose, IsLoose, sections_of}
-use Rattle.aiger.specs.Renumbering.{IsRenumbered}
+use Rattle.aiger.specs.Renumbering.{IsRenumbered, IsNumberingOf}
 use Rattle.aiger.proofs.SectionNameLemmas.{few_positions}
 use Rattle.aigertext.specs.declared.reading.counts.Counts.{Counts}
 use Rattle.aigertext.specs.declared.fault.Stop.{Stop}
@@ -12,6 +14,8 @@ use Rattle.aigertext.specs.declared.forms.Form.{Form}
 use Rattle.aigertext.specs.declared.forms.Form.TheVariants.{Ascii, Binary}
 use Rattle.aigertext.specs.Counts.{AreSmall, Fits, counts_of_file}
 use Rattle.aigertext.specs.Spelling.{IsHeader, IsAsciiText, SpellsCircuit, use_lines}
+use Rattle.aigertext.specs.Numbering.{IsNumberingOfLists, IsNumberingOfBody, IsNumberingOfText}
+use Rattle.aigertext.specs.Passes.{AreNumbersOf}
 use Rattle.aigertext.specs.Reading.{line_at, header_of, names_at}
 use Rattle.aigertext.specs.AsciiReading.{lists_of_file, AnswersNamed, AnswersUndefined, AnswersCycle, AnswersLists, AnswersBody, AnswersHeader, AnswersText}
 use Rattle.aigertext.proofs.BackLemmas.{SaysAt, line-back}
@@ -100,6 +104,27 @@ ascii-stands circuit text c h rest header answers = by (lists_of_file h rest) re
     by : (r : Result (Loose × List ℕ) Stop) → lists_of_file h rest ≡ r → AnswersLists h rest r (Ok c) → IsAsciiText text c
     by (Ok x) e a = named x.0 x.1 (lists-back h rest x.0 x.1 (header_small text rest Ascii h header).small k.fits e) a
     by (Err w) e a = absurd (not_stopped c w a)
+
+-- their numbers are those of what stands behind the header
+pub numbers_of_lists : IsCircuitLaw → (h : Counts) (text : List ℕ) (l : Loose) (names : List ℕ) (c : Circuit) (numbering : Option (List ℕ)) → AreSmall h → Fits Ascii h → lists_of_file h text ≡ Ok (l, names) → AreNumbersOf l names c numbering
+    → IsNumberingOfLists h text c numbering
+numbers_of_lists circuit h text l names c numbering small fits read n =
+    let b = lists-back h text l names small fits read in
+    let few = λ (s : Section). few_positions s n.bare (circuit l n.bare b.valid n.is_renumbered) in
+    let bare : n.bare.names ≡ [] = ap (λ (d : Circuit). d.names) n.is_renumbered.circuit ∙ b.unnamed in
+    let e = end-back n.bare c names few (ap (λ (ns : NameMap). record n.bare { names = ns }) bare) n.named in
+    record { lists = l; names = names; read = read; numbers = subst (λ (d : Circuit). IsNumberingOf l d numbering) e.same n.numbers }
+
+pub file_numbers : IsCircuitLaw → (h : Counts) (text : List ℕ) (l : Loose) (names : List ℕ) (wanted : Bool) (r : Result Numbered Stop) → AreSmall h → Fits Ascii h → lists_of_file h text ≡ Ok (l, names)
+    → (wanted ≡ true → IfOk r (λ x. AreNumbersOf l names x.circuit x.numbering)) → wanted ≡ true → IfOk r (λ x. IsNumberingOfLists h text x.circuit x.numbering)
+file_numbers circuit h text l names wanted (Ok x) small fits read numbers is = numbers_of_lists circuit h text l names x.circuit x.numbering small fits read (numbers is)
+file_numbers circuit h text l names wanted (Err e) small fits read numbers is = tt
+
+-- and of the text
+pub text_numbers : (form : Form) (h : Counts) (text behind : List ℕ) (wanted : Bool) (r : Result Numbered Stop) → line_at header_of text ≡ Ok ((form, h), behind)
+    → (wanted ≡ true → IfOk r (λ x. IsNumberingOfBody form h behind x.circuit x.numbering)) → wanted ≡ true → IfOk r (λ x. IsNumberingOfText text x.circuit x.numbering)
+text_numbers form h text behind wanted (Ok x) header numbers is = record { form = form; counts = h; behind = behind; header = header; body = numbers is }
+text_numbers form h text behind wanted (Err e) header numbers is = tt
 
 -- ---- either form
 

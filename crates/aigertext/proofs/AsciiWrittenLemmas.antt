@@ -1,5 +1,5 @@
 -- What is written in the ascii form stands for the circuit that was written.
-use Rattle.std.proofs.Common.{◌≡◌, ℕ, zero, suc, ◌+◌, ◌*◌, ◌≤◌, List, [], ◌∷◌, length, All, refl, sym, subst, arith}
+use Rattle.std.proofs.Common.{◌≡◌, ℕ, zero, suc, ◌+◌, ◌*◌, ◌≤◌, List, [], ◌∷◌, length, All, None, refl, sym, subst, arith}
 use Rattle.std.specs.List.Sorted.{IsStrictlySortedBy}
 use Rattle.std.proofs.lemmas.List.Elements.{All-nil, All-cons, All-head, All-tail}
 use Rattle.aiger.specs.declared.circuit.Gate.{Gate}
@@ -8,7 +8,7 @@ use Rattle.aiger.specs.Net.{variables, AreOrderedFrom}
 use Rattle.aiger.specs.Circuit.{Circuit, IsCircuit, IsNamed, net}
 use Rattle.aiger.specs.Loose.{IsLoose}
 use Rattle.aiger.specs.OwnLists.{own_input_lines, own_latches, own_gates, own_lists}
-use Rattle.aiger.specs.Renumbering.{IsRenumbered}
+use Rattle.aiger.specs.Renumbering.{IsRenumbered, IsNumberingOf}
 use Rattle.aigertext.specs.declared.reading.counts.Counts.{Counts}
 use Rattle.aigertext.specs.declared.forms.Form.TheVariants.{Ascii}
 use Rattle.aigertext.specs.Ascii.{numbers_line, header, reset_numbers, input_lines, all_names}
@@ -79,6 +79,9 @@ OwnValid = (c : Circuit) → IsCircuit c → IsLoose (own_lists c)
 
 abbrev pub OwnNumbered : Type 0
 OwnNumbered = (c : Circuit) → IsCircuit c → IsRenumbered (own_lists c) c
+
+abbrev pub OwnNumbering : Type 0
+OwnNumbering = (c : Circuit) → IsCircuit c → IsNumberingOf (own_lists c) c None
 
 abbrev pub OwnMany : Type 0
 OwnMany = (c : Circuit) → (length (own_lists c).inputs ≡ c.inputs) × (length (own_lists c).latches ≡ length c.latches) × (length (own_lists c).gates ≡ length c.gates)

@@ -1,5 +1,5 @@
 -- A text that was read onto a circuit spells it, or has the fault, and what was read of any text gives back its bytes.
-use Rattle.std.proofs.Common.{◌≡◌, ◌≢◌, ℕ, suc, ◌+◌, ◌-◌, ◌*◌, ◌^◌, ◌<◌, ◌≤◌, List, [], ◌∷◌, ◌++◌, length, take, Option, Some, Result, Ok, Err, refl, sym, ap, subst, ◌∙◌, append_assoc, append-nil, length-append, inl, inr, arith}
+use Rattle.std.proofs.Common.{◌≡◌, ◌≢◌, ℕ, suc, ◌+◌, ◌-◌, ◌*◌, ◌^◌, ◌<◌, ◌≤◌, List, [], ◌∷◌, ◌++◌, length, take, Option, Some, None, Result, Ok, Err, refl, sym, ap, subst, ◌∙◌, append_assoc, append-nil, length-append, inl, inr, arith}
 use Rattle.std.specs.Prelude.{IfSome}
 use Rattle.std.specs.Io.KnownBytes.{prepend_known, Keeps, IsAtEnd}
 use Rattle.std.proofs.KnownBytes.{Keeps-trans}
@@ -11,7 +11,7 @@ use Rattle.aiger.specs.Limits.{greatest_count}
 use Rattle.aiger.specs.Net.{variables, AreOrderedFrom}
 use Rattle.aiger.specs.Circuit.{Circuit, IsCircuit, net, fresh_circuit, fresh_latch}
 use Rattle.aiger.specs.OwnLists.{own_lists}
-use Rattle.aiger.specs.Renumbering.{IsRenumbered}
+use Rattle.aiger.specs.Renumbering.{IsRenumbered, IsNumberingOf}
 use Rattle.aiger.proofs.SectionNameLemmas.{few_positions}
 use Rattle.aigertext.specs.declared.reading.counts.Counts.{Counts}
 use Rattle.aigertext.specs.declared.reading.front.Front.{Front}
@@ -26,9 +26,10 @@ use Rattle.aigertext.specs.Reading.{◌>>=◌, line_at, header_of, gate_at, gate
 use Rattle.aigertext.specs.AsciiReading.{lists_of_file, AnswersNamed, AnswersLists, AnswersHeader, AnswersText}
 use Rattle.aiger.specs.Loose.{Loose}
 use Rattle.base.specs.Lines.{IsLine}
+use Rattle.aigertext.specs.Numbering.{IsNumberingOfText}
 use Rattle.aigertext.specs.Passes.{onto, with_more_gates, latch_in, latches_in}
 use Rattle.aigertext.specs.InOrder.{uses_at, uses_of, IsFront, HasFront, text_with, ArePutGates, PutsText, Finishes, IsFinish, ReadsOnto}
-use Rattle.aigertext.proofs.AsciiWrittenLemmas.{OwnValid, OwnNumbered, OwnMany, up_to, written_inputs, written_gates}
+use Rattle.aigertext.proofs.AsciiWrittenLemmas.{OwnValid, OwnNumbered, OwnMany, OwnNumbering, up_to, written_inputs, written_gates}
 use Rattle.aigertext.proofs.BackLemmas.{ok_same, err_same, not_err, bind-then, line-back}
 use Rattle.aigertext.proofs.FieldLemmas.{line_read}
 use Rattle.aigertext.proofs.GateLemmas.{gates-read, gates-read-on}
@@ -191,21 +192,36 @@ module _ (h : Counts) (uses : List Latch × Properties) (before : List ℕ) (gs 
         whole_text _ (s.line ++ 10 ∷ []) (input_lines 1 h.inputs) s.l.bytes (property_lines (nameless h.inputs uses.0 uses.1 gs)) (gates_text Ascii (suc (h.inputs + h.latches)) gs) names s.before_is
         ∙ ap (λ (n : ℕ). (s.line ++ 10 ∷ []) ++ (input_lines 1 h.inputs ++ (s.l.bytes ++ (property_lines (nameless h.inputs uses.0 uses.1 gs) ++ (gates_text Ascii (suc (h.inputs + n)) gs ++ names))))) (sym s.l.count)
 
+    own_read : lists_of_file h lists_text ≡ Ok (own_lists (nameless h.inputs uses.0 uses.1 gs), names)
+    own_read =
+        subst (λ (g : Counts). lists_of_file g lists_text ≡ Ok (own_lists (nameless h.inputs uses.0 uses.1 gs), names)) own_counts
+        (lists-read h.variables (own_lists (nameless h.inputs uses.0 uses.1 gs)) (own_valid (nameless h.inputs uses.0 uses.1 gs) f.valid) refl s.k.few_first.0 own_up_to
+        (input_lines 1 h.inputs) s.l.bytes (gates_text Ascii (suc (h.inputs + length uses.0)) gs) names (written_inputs 1 h.inputs) s.l.lines (written_gates (suc (h.inputs + length uses.0)) gs))
+
+    own_header : line_at header_of (text_with Ascii h before gs names) ≡ Ok ((Ascii, h), lists_text)
+    own_header = ap (line_at header_of) (own_whole ∙ append_assoc s.line (10 ∷ []) lists_text) ∙ line_read header_of s.line lists_text (Ascii, h) s.said.0 s.said.1
+
     -- such lists are read, and the answer is that of the names
     ascii-answer : AnswersText (text_with Ascii h before gs names) r
     unfolding AnswersText
     ascii-answer =
-        let lists = own_lists (nameless h.inputs uses.0 uses.1 gs) in
-        let read : lists_of_file h lists_text ≡ Ok (lists, names) =
-        subst (λ (g : Counts). lists_of_file g lists_text ≡ Ok (lists, names)) own_counts
-        (lists-read h.variables (own_lists (nameless h.inputs uses.0 uses.1 gs)) (own_valid (nameless h.inputs uses.0 uses.1 gs) f.valid) refl s.k.few_first.0 own_up_to
-        (input_lines 1 h.inputs) s.l.bytes (gates_text Ascii (suc (h.inputs + length uses.0)) gs) names (written_inputs 1 h.inputs) s.l.lines (written_gates (suc (h.inputs + length uses.0)) gs)) in
-        let named : AnswersNamed lists names r = record { circuit = nameless h.inputs uses.0 uses.1 gs; is_renumbered = own_numbered (nameless h.inputs uses.0 uses.1 gs) f.valid; is = sym f.are_names } in
+        let named : AnswersNamed (own_lists (nameless h.inputs uses.0 uses.1 gs)) names r = record { circuit = nameless h.inputs uses.0 uses.1 gs; is_renumbered = own_numbered (nameless h.inputs uses.0 uses.1 gs) f.valid; is = sym f.are_names } in
         let file : AnswersLists h lists_text (lists_of_file h lists_text) r =
-        subst (λ (x : Result (Loose × List ℕ) Stop). AnswersLists h lists_text x r) (sym read) (inl named) in
-        let header : line_at header_of (text_with Ascii h before gs names) ≡ Ok ((Ascii, h), lists_text) =
-        ap (line_at header_of) (own_whole ∙ append_assoc s.line (10 ∷ []) lists_text) ∙ line_read header_of s.line lists_text (Ascii, h) s.said.0 s.said.1 in
-        subst (λ (x : Result ((Form × Counts) × List ℕ) Stop). AnswersHeader x r) (sym header) file
+        subst (λ (x : Result (Loose × List ℕ) Stop). AnswersLists h lists_text x r) (sym own_read) (inl named) in
+        subst (λ (x : Result ((Form × Counts) × List ℕ) Stop). AnswersHeader x r) (sym own_header) file
+
+    -- each variable has its own number
+    ascii-numbered : OwnNumbering → (c : Circuit) → r ≡ Ok c → IsNumberingOfText (text_with Ascii h before gs names) c None
+    ascii-numbered own_numbering c is =
+        let bare : Circuit = nameless h.inputs uses.0 uses.1 gs in
+        let e = end-back (nameless h.inputs uses.0 uses.1 gs) c names (λ (x : Section). few_positions x (nameless h.inputs uses.0 uses.1 gs) f.valid) refl (f.are_names ∙ is) in
+        record {
+          form = Ascii;
+          counts = h;
+          behind = lists_text;
+          header = own_header;
+          body = record { lists = own_lists bare; names = names; read = own_read; numbers = subst (λ (d : Circuit). IsNumberingOf (own_lists bare) d None) e.same (own_numbering bare f.valid) };
+        }
 
     ascii-spelled : (c : Circuit) → r ≡ Ok c → IsAsciiText (text_with Ascii h before gs names) c
     ascii-spelled c is =
@@ -389,25 +405,36 @@ module _ (form : Form) (h : Counts) (uses : List Latch × Properties) (before : 
       by : (i l : ℕ) → i ≡ h.inputs → l ≡ h.latches → i + l + length c1.gates ≤ greatest_count → suc (h.inputs + h.latches) + length c1.gates ≤ 2 ^ 32
       by i l is1 is2 small = omega (arith, small)
 
+-- in the binary form each variable has its own number
+binary-numbered : (h : Counts) (uses : List Latch × Properties) (before : List ℕ) → IsFront Binary h uses before → (gs : List Gate) (names : List ℕ) (c : Circuit) → IsNumberingOfText (text_with Binary h before gs names) c None
+binary-numbered h uses before front gs names c =
+    let other = gates_text Binary (suc (h.inputs + h.latches)) gs ++ names in
+    record { form = Binary; counts = h; behind = front.lines ++ other; header = front.header other; body = refl }
+
 -- the names were read, or reading stops at one
-finish_reads : OwnValid → OwnNumbered → OwnMany → {X : Type 0} (form : Form) (h : Counts) (uses : List Latch × Properties) (before : List ℕ) → IsFront form h uses before → (gs : List Gate) (names : List ℕ) (c : Circuit) (r : Result X Stop)
+finish_reads : OwnValid → OwnNumbered → OwnMany → OwnNumbering → {X : Type 0} (form : Form) (h : Counts) (uses : List Latch × Properties) (before : List ℕ) → IsFront form h uses before → (gs : List Gate) (names : List ℕ) (c : Circuit) (r : Result X Stop)
     → AreOrderedFrom (suc (h.inputs + h.latches)) gs → suc (h.inputs + h.latches) + length gs ≤ 2 ^ 32 → length gs ≡ h.gates → IsFinish h uses gs c names r → ReadsOnto c (text_with form h before gs names) r
-finish_reads own_valid own_numbered own_many Ascii h uses before front gs names c (Ok x) ordered few many f =
-    inl (ascii-spelled h uses before gs names many front.fits own_valid own_numbered own_many (Ok c) f.0 (spelled Ascii h uses before gs front) c refl)
-finish_reads own_valid own_numbered own_many Binary h uses before front gs names c (Ok x) ordered few many f =
-    inr (binary-spelled h uses before gs names many front.fits c f.1 f.0 (spelled Binary h uses before gs front))
-finish_reads own_valid own_numbered own_many form h uses before front gs names c (Err e) ordered few many (inl full) = inl full
-finish_reads own_valid own_numbered own_many Ascii h uses before front gs names c (Err e) ordered few many (inr f) =
+finish_reads own_valid own_numbered own_many own_numbering Ascii h uses before front gs names c (Ok x) ordered few many f =
+    let s = spelled Ascii h uses before gs front in (
+      inl (ascii-spelled h uses before gs names many front.fits own_valid own_numbered own_many (Ok c) f.0 s c refl),
+      ascii-numbered h uses before gs names many front.fits own_valid own_numbered own_many (Ok c) f.0 s own_numbering c refl,
+    )
+finish_reads own_valid own_numbered own_many own_numbering Binary h uses before front gs names c (Ok x) ordered few many f = (
+  inr (binary-spelled h uses before gs names many front.fits c f.1 f.0 (spelled Binary h uses before gs front)),
+  binary-numbered h uses before front gs names c,
+)
+finish_reads own_valid own_numbered own_many own_numbering form h uses before front gs names c (Err e) ordered few many (inl full) = inl full
+finish_reads own_valid own_numbered own_many own_numbering Ascii h uses before front gs names c (Err e) ordered few many (inr f) =
     inr (ascii-answer h uses before gs names many front.fits own_valid own_numbered own_many (Err e) f (spelled Ascii h uses before gs front))
-finish_reads own_valid own_numbered own_many Binary h uses before front gs names c (Err e) ordered few many (inr f) =
+finish_reads own_valid own_numbered own_many own_numbering Binary h uses before front gs names c (Err e) ordered few many (inr f) =
     inr (stops_at_name h uses before front gs names ordered few e many f)
 
 module _ (form : Form) (h : Counts) (uses : List Latch × Properties) (before : List ℕ) (front : IsFront form h uses before) (c0 c1 : Circuit) (n : ℕ) (window names : List ℕ)
     (bare : c0 ≡ with_more_gates (fresh_circuit h.inputs h.latches) c0.gates) (puts : PutsText (ArePutGates form) c0 c1 n (Some window) (Some names)) (valid : IsCircuit c1) where
-  pub reads_left : OwnValid → OwnNumbered → OwnMany → {X : Type 0} (c : Circuit) (r : Result X Stop) → length c1.gates ≡ h.gates → IsFinish h uses c1.gates c names r → ReadsOnto c (text_with form h before c0.gates window) r
-  reads_left own_valid own_numbered own_many c r many f =
+  pub reads_left : OwnValid → OwnNumbered → OwnMany → OwnNumbering → {X : Type 0} (c : Circuit) (r : Result X Stop) → length c1.gates ≡ h.gates → IsFinish h uses c1.gates c names r → ReadsOnto c (text_with form h before c0.gates window) r
+  reads_left own_valid own_numbered own_many own_numbering c r many f =
       subst (λ (t : List ℕ). ReadsOnto c t r) (text_then form h uses before front c0 c1 n window names bare puts valid)
-      (finish_reads own_valid own_numbered own_many form h uses before front c1.gates names c r (in_order form h uses before front c0 c1 n window names bare puts valid) (few_gates form h uses before front c0 c1 n window names bare puts valid) many f)
+      (finish_reads own_valid own_numbered own_many own_numbering form h uses before front c1.gates names c r (in_order form h uses before front c0 c1 n window names bare puts valid) (few_gates form h uses before front c0 c1 n window names bare puts valid) many f)
 
 pub gate_answer : (form : Form) (h : Counts) (uses : List Latch × Properties) (before : List ℕ) (front : IsFront form h uses before) (c0 c1 : Circuit) (n : ℕ) (window names : List ℕ) (bare : c0 ≡ with_more_gates (fresh_circuit h.inputs h.latches) c0.gates)
     (puts : PutsText (ArePutGates form) c0 c1 n (Some window) (Some names)) (valid : IsCircuit c1) (e : Stop) (own : ℕ) → (form ≡ Ascii → length c0.gates ≡ h.gates) → length c1.gates ≤ h.gates → length c1.gates ≢ h.gates → own ≡ 2 * (variables (net c1) + 1) → gate_at own names ≡ Err e

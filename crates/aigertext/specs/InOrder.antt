@@ -1,9 +1,10 @@
 -- Words between the parts of the reader of a text that is read straight onto a circuit, of whose gates a piece is held: a binary text, or an ascii text whose variables have a circuit's numbers in turn, and whose gates stand behind their operands.
-use Rattle.std.specs.Prelude.{◌≡◌, ℕ, suc, ◌≤◌, ◌+◌, ◌*◌, List, [], ◌∷◌, ◌++◌, All, length, take, Option, Some, None, Result, Ok, Err, ◌⊎◌, IfSome}
+use Rattle.std.specs.Prelude.{◌≡◌, ℕ, suc, ◌≤◌, ◌+◌, ◌*◌, List, [], ◌∷◌, ◌++◌, All, length, take, Bool, Option, Some, None, Result, Ok, Err, ◌⊎◌, IfSome}
 use Rattle.std.specs.Io.KnownBytes.{Consumes}
 use Rattle.aiger.specs.declared.circuit.Gate.{Gate}
 use Rattle.aiger.specs.declared.circuit.Latch.{Latch}
 use Rattle.aiger.specs.declared.loose.GateLine.{GateLine}
+use Rattle.aiger.specs.declared.numbered.Numbered.{Numbered}
 use Rattle.aiger.specs.Loose.{Loose}
 use Rattle.aiger.specs.Net.{variables}
 use Rattle.aiger.specs.Circuit.{Circuit, IsCircuit, net}
@@ -21,6 +22,7 @@ use Rattle.aigertext.specs.declared.reading.front.Front.{Front}
 use Rattle.aigertext.specs.Counts.{AreSmall, Fits}
 use Rattle.aigertext.specs.PropertyLists.{numbers_of}
 use Rattle.aigertext.specs.Spelling.{SpellsCircuit}
+use Rattle.aigertext.specs.Numbering.{IsNumberingOfText}
 use Rattle.aigertext.specs.AsciiReading.{lists_of_file, AnswersText}
 use Rattle.aigertext.specs.Reading.{◌>>=◌, line_at, header_of, Properties, properties_at, nameless, names_at}
 use Rattle.aigertext.specs.Passes.{with_more_gates, latches_in, ReadsText}
@@ -72,9 +74,9 @@ abbrev pub IsFinish : {X : Type 0} → Counts → List Latch × Properties → L
 IsFinish h uses gates c names (Ok x) = Finishes h uses gates (Ok c) names × IsCircuit c
 IsFinish h uses gates c names (Err e) = (e.why ≡ why.NoMemory) ⊎ Finishes h uses gates (Err e) names
 
--- a text was read onto a circuit that it spells, or reading it stops, or memory ran out
+-- a text was read onto a circuit that it spells in its own numbers, or reading it stops, or memory ran out
 abbrev pub ReadsOnto : {X : Type 0} → Circuit → List ℕ → Result X Stop → Type 0
-ReadsOnto c text (Ok x) = SpellsCircuit text c
+ReadsOnto c text (Ok x) = SpellsCircuit text c × IsNumberingOfText text c None
 ReadsOnto c text (Err e) = (e.why ≡ why.NoMemory) ⊎ AnswersText text (Err e)
 
 -- ---- the lists of a file
@@ -119,18 +121,23 @@ pub record FollowEachOther {A : Type 0} (Puts : A → A → List ℕ → Type 0)
   pub both : (x y z : A) (front behind : List ℕ) → Puts x y front → Puts y z behind → Puts x z (front ++ behind)
 
 -- what was read is the circuit or the fault of a text that is the source's, where that is known
-pub record IsReadOf (known : Option (List ℕ)) (r : Result Circuit ReadFault) : Type 0 where
+pub record IsReadOf (known : Option (List ℕ)) (wanted : Bool) (r : Result Numbered ReadFault) : Type 0 where
   pub text : List ℕ
   pub is : IfSome known (λ all. text ≡ all)
-  pub reads : ReadsText text r
+  pub reads : ReadsText text wanted r
 
 -- what was taken from a source: the circuit that its bytes spell, their fault, or all of them
-abbrev pub IsTakenFrom : Option (List ℕ) → Taken → Type 0
-IsTakenFrom known (taken.Circuit c) = IsReadOf known (Ok c)
-IsTakenFrom known (taken.Fault e) = IsReadOf known (Err e)
-IsTakenFrom known (taken.Text text) = IfSome known (λ all. text.items ≡ all)
+abbrev pub IsTakenFrom : Option (List ℕ) → Bool → Taken → Type 0
+IsTakenFrom known wanted (taken.Circuit x) = IsReadOf known wanted (Ok x)
+IsTakenFrom known wanted (taken.Fault e) = IsReadOf known wanted (Err e)
+IsTakenFrom known wanted (taken.Text text) = IfSome known (λ all. text.items ≡ all)
 
--- the same, where nothing stands for a circuit that was there before
-abbrev pub IsTakenOnto : Option (List ℕ) → Circuit → Option Taken → Type 0
-IsTakenOnto known c None = IsReadOf known (Ok c)
-IsTakenOnto known c (Some t) = IsTakenFrom known t
+-- the same, where nothing stands for a circuit that was there before, in its own numbers
+abbrev pub IsTakenOnto : Option (List ℕ) → Bool → Circuit → Option Taken → Type 0
+IsTakenOnto known wanted c None = IsReadOf known wanted (Ok (record { circuit = c; numbering = None }))
+IsTakenOnto known wanted c (Some t) = IsTakenFrom known wanted t
+
+-- what was read of a source, or the fault of a device that failed
+abbrev pub IsReadFrom : Option (List ℕ) → Bool → Result Numbered ReadFault → Type 0
+IsReadFrom known wanted (Ok x) = IsReadOf known wanted (Ok x)
+IsReadFrom known wanted (Err e) = (e ≡ record { place = 0; why = why.Device }) ⊎ IsReadOf known wanted (Err e)

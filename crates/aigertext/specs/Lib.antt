@@ -4,6 +4,7 @@ pub mod Whys
 pub mod Spelling
 pub mod Reading
 pub mod AsciiReading
+pub mod Numbering
 pub mod Counts
 pub mod PropertyLists
 pub mod Passes

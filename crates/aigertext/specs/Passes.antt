@@ -1,10 +1,15 @@
 -- Words between the parts of the reader: lines of latches in both forms, what was read of a text, and what a circuit has of it.
-use Rattle.std.specs.Prelude.{◌≡◌, ℕ, ◌+◌, ◌-◌, ◌==◌, List, [], ◌∷◌, ◌++◌, Result, Ok, Err, ◌⊎◌, if◌then◌else◌}
+use Rattle.std.specs.Prelude.{◌≡◌, ℕ, ◌+◌, ◌-◌, ◌==◌, List, [], ◌∷◌, ◌++◌, Bool, true, Option, Result, Ok, Err, ◌⊎◌, if◌then◌else◌}
 use Rattle.aiger.specs.declared.circuit.Gate.{Gate}
 use Rattle.aiger.specs.declared.circuit.Latch.{Latch}
 use Rattle.aiger.specs.Circuit.{Circuit}
+use Rattle.aiger.specs.declared.numbered.Numbered.{Numbered}
+use Rattle.aiger.specs.declared.fault.LooseFault.{LooseFault}
+use Rattle.aiger.specs.Loose.{Loose}
+use Rattle.aiger.specs.Renumbering.{IsRenumbered, IsNumberingOf, AnswersNumber}
 use Rattle.aigertext.specs.AsciiReading.{IsAsciiFaultOf}
 use Rattle.aigertext.specs.Spelling.{SpellsCircuit}
+use Rattle.aigertext.specs.Numbering.{IsNumberingOfText}
 use Rattle.aigertext.specs.declared.fault.ReadFault.{ReadFault}
 use Rattle.aigertext.specs.declared.fault.Stop.{Stop}
 use Rattle.aigertext.specs.declared.fault.Why.{Why}
@@ -12,7 +17,7 @@ use Rattle.aigertext.specs.declared.fault.Why.TheVariants as why
 use Rattle.base.specs.Decimals.{number_of}
 use Rattle.aigertext.specs.declared.forms.Form.{Form}
 use Rattle.aigertext.specs.declared.forms.Form.TheVariants.{Ascii, Binary}
-use Rattle.aigertext.specs.Reading.{◌>>=◌, some_or, fields, lines_at, next_fields, next_of, delta_at, below, at_or_below}
+use Rattle.aigertext.specs.Reading.{◌>>=◌, some_or, fields, lines_at, next_fields, next_of, names_at, delta_at, below, at_or_below}
 
 -- ---- latches in both forms
 
@@ -68,6 +73,20 @@ WasToBeRead view r read = ReadsBy (λ e. e.why) view r (λ answer. read ≡ answ
 abbrev pub IsLineReadOf : {X A : Type 0} → (X → A) → Result X Why → Result A Why → Type 0
 IsLineReadOf view r read = ReadsBy (λ w. w) view r (λ answer. read ≡ answer)
 
+-- ---- numbers of variables
+
+-- lists of a file were numbered, and where they were wanted the numbers are theirs
+abbrev pub AnswersWanted : Loose → Bool → Result Numbered LooseFault → Type 0
+AnswersWanted l wanted (Ok x) = IsRenumbered l x.circuit × (wanted ≡ true → IsNumberingOf l x.circuit x.numbering)
+AnswersWanted l wanted (Err e) = AnswersNumber l (Err e)
+
+-- the lists of a file are by these numbers a circuit, which has the names of a text then
+pub record AreNumbersOf (l : Loose) (names : List ℕ) (c : Circuit) (numbering : Option (List ℕ)) : Type 0 where
+  pub bare : Circuit
+  pub is_renumbered : IsRenumbered l bare
+  pub numbers : IsNumberingOf l bare numbering
+  pub named : names_at bare names ≡ Ok c
+
 -- ---- whole texts
 
 -- what is told where reading stops, of so many bytes: want of memory has place 0, and no text has a device's fault
@@ -82,7 +101,7 @@ IsTextWhy why.NoMemory = ⊥
 IsTextWhy why.Device = ⊥
 IsTextWhy w = Unit {0}
 
--- a text was read as a circuit that it spells or has the fault, unless memory ran out
-abbrev pub ReadsText : List ℕ → Result Circuit ReadFault → Type 0
-ReadsText text (Ok c) = SpellsCircuit text c
-ReadsText text (Err e) = (e ≡ record { place = 0; why = why.NoMemory }) ⊎ (IsTextWhy e.why × IsAsciiFaultOf text e)
+-- a text was read as a circuit that it spells, with its numbers where they were wanted, or has the fault, unless memory ran out
+abbrev pub ReadsText : List ℕ → Bool → Result Numbered ReadFault → Type 0
+ReadsText text wanted (Ok x) = SpellsCircuit text x.circuit × (wanted ≡ true → IsNumberingOfText text x.circuit x.numbering)
+ReadsText text wanted (Err e) = (e ≡ record { place = 0; why = why.NoMemory }) ⊎ (IsTextWhy e.why × IsAsciiFaultOf text e)

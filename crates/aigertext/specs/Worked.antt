@@ -43,3 +43,7 @@ all_kinds =
 -- an input, whose negation is an output
 abbrev pub negated_input : Circuit
 negated_input = record nothing { inputs = 1; outputs = 3 ∷ [] }
+
+-- an input, a latch that takes a gate's bit, and the gate of the input and the latch's negation
+abbrev pub in_turn : Circuit
+in_turn = record nothing { inputs = 1; latches = record { next = 6; reset = Zero } ∷ []; gates = record { rhs0 = 5; rhs1 = 2 } ∷ [] }

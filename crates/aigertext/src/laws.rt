@@ -8,12 +8,14 @@ ghost use Rattle.aigertext.specs.declared.forms.Form.{Form};
 ghost use Rattle.aigertext.specs.declared.forms.Form.TheVariants as form;
 ghost use Rattle.aigertext.specs.Spelling.{IsAsciiText, IsBinaryText};
 ghost use Rattle.aiger.specs.Loose.{empty_loose};
+ghost use Rattle.aiger.specs.Renumbering.{numbered_literal};
 ghost use Rattle.aiger.specs.declared.circuit.Reset.TheVariants as reset;
 ghost use Rattle.aigertext.specs.AsciiReading.{lists_of_file, behind_lines, lines_before, AnswersText};
 ghost use Rattle.aigertext.specs.declared.reading.counts.Counts.{Counts};
 ghost use Rattle.aigertext.specs.declared.fault.Stop.{Stop};
 ghost use Rattle.aigertext.specs.declared.fault.Why.TheVariants as why;
-ghost use Rattle.aigertext.specs.Worked.{text_toggler, free_state, one_gate, one_output, all_kinds, nothing, negated_input};
+ghost use Rattle.aigertext.specs.Numbering.{IsNumberingOfText};
+ghost use Rattle.aigertext.specs.Worked.{text_toggler, free_state, one_gate, one_output, all_kinds, nothing, negated_input, in_turn};
 
 use aiger::laws::{circuit_with_a_name, one_renumbering, own_numbers};
 
@@ -164,6 +166,18 @@ pub fn worked_ascii_lists()
         ≡ Err (record { left = 6; why = why.GateOrder }) }
     ensures undefined { stop (behind_lines (lines_before (record { variables = 4; inputs = 1; latches = 0; outputs = 0; gates = 2; bads = 0; constraints = 0; justice = 0; fair = 0 }) 1) (codes "2\n4 4 2\n6 8 2\n")) why.Undefined
         ≡ record { left = 6; why = why.Undefined } }
+{}
+
+/// Worked rows: an ascii text whose input, latch and gate have the variables 5, 3 and 2, as 1, 2 and 3 of the circuit; the
+/// literals of both, and none of a variable that it does not define. Its variables have not their own numbers, nor other
+/// ones, and those of a binary text have.
+pub fn worked_numberings()
+    ensures numbers { IsNumberingOfText (codes "aag 5 1 1 0 1\n10\n6 4\n4 10 7\n") in_turn (Some (5 ∷ 3 ∷ 2 ∷ [])) }
+    ensures literals { (numbered_literal (Some (5 ∷ 3 ∷ 2 ∷ [])) 11 ≡ Some 3) × (numbered_literal (Some (5 ∷ 3 ∷ 2 ∷ [])) 4 ≡ Some 6) }
+    ensures undefined { numbered_literal (Some (5 ∷ 3 ∷ 2 ∷ [])) 8 ≡ None }
+    ensures own { ¬ IsNumberingOfText (codes "aag 5 1 1 0 1\n10\n6 4\n4 10 7\n") in_turn None }
+    ensures exchanged { ¬ IsNumberingOfText (codes "aag 5 1 1 0 1\n10\n6 4\n4 10 7\n") in_turn (Some (3 ∷ 5 ∷ 2 ∷ [])) }
+    ensures binary { IsNumberingOfText (codes "aig 3 2 0 1 1\n6\n" ++ 2 ∷ 2 ∷ []) one_output None }
 {}
 
 /// Worked rows: a text of the ascii form that is read, and where reading others stops and why.

@@ -9,5 +9,5 @@ mod writing;
 
 pub use fault::{ReadFault, Why};
 pub use forms::Form;
-pub use reading::read;
+pub use reading::{read, read_numbered};
 pub use writing::{write, write_ascii, write_binary};

@@ -1,11 +1,12 @@
 //! Reading circuits.
-ghost use Rattle.std.specs.Prelude.{◌≡◌, ◌⊎◌, ℕ, List, Option, Some, Ok, IfOk, IfErr, IfSome, OnOk};
+ghost use Rattle.std.specs.Prelude.{◌≡◌, ◌⊎◌, ℕ, List, true, Option, Some, Ok, IfOk, IfErr, IfSome, OnOk};
 ghost use Rattle.std.specs.Io.KnownBytes.{IsAtEnd};
 ghost use Rattle.base.specs.Device.{HasRisen};
 ghost use Rattle.aiger.specs.Circuit.{Circuit as CircuitValue};
 ghost use Rattle.aigertext.specs.Reading.{line_at, header_of};
 ghost use Rattle.aigertext.specs.Counts.{AreSmall, Fits};
-ghost use Rattle.aigertext.specs.InOrder.{IsTakenFrom, IsReadOf};
+ghost use Rattle.aigertext.specs.InOrder.{IsTakenFrom, IsReadFrom, IsReadOf};
+ghost use Rattle.aigertext.specs.Numbering.{IsNumberingOfText, without_numbers};
 ghost use Rattle.aigertext.specs.declared.forms.Form.TheVariants as form;
 ghost use Rattle.aigertext.specs.AsciiReading.{AnswersText, IsAsciiFaultOf, GivesCircuit};
 ghost use Rattle.aigertext.specs.Spelling.{SpellsCircuit};
@@ -41,8 +42,8 @@ use crate::reading::finishing::read_left;
 use crate::reading::front::uses;
 use crate::reading::lines::{fault, header_line, stop};
 use crate::reading::taking::{Taken, take};
-use aiger::Circuit;
 use aiger::laws::{circuit_with_a_name, one_renumbering};
+use aiger::{Circuit, Numbered};
 use base::{ReadAllFault, Source};
 use std::alloc::Global;
 
@@ -64,36 +65,65 @@ fn read_lines(alloc: Global, counts: &Counts, text: &[u8], lines: &[u8]) -> Resu
 
 /// The circuit that a text spells; its first word decides the form.
 #[tactic(auto, unfolding(crate::specs::AsciiReading::AnswersText))]
-fn read_known(alloc: Global, text: &[u8]) -> Result<Circuit, Stop>
-    ensures { ReadsBy (λ e. e.why) (λ c. c) result (AnswersText text.now) }
+fn read_known(alloc: Global, text: &[u8], wanted: bool) -> Result<Numbered, Stop>
+    ensures answers { ReadsBy (λ e. e.why) (λ x. x.circuit) result (AnswersText text.now) }
+    ensures numbering { wanted ≡ true → IfOk result (λ x. IsNumberingOfText text.now x.circuit x.numbering) }
 {
     let ((form, counts), lines) = header_line(text)?;
     match form {
-        Form::Binary => read_lines(alloc, &counts, text, lines),
-        Form::Ascii => read_file(alloc, &counts, lines),
+        Form::Binary => match read_lines(alloc, &counts, text, lines) {
+            Ok(circuit) => Ok(Numbered::own(circuit)),
+            Err(stop) => Err(stop),
+        },
+        Form::Ascii => read_file(alloc, &counts, lines, wanted),
     }
 }
 
 /// The circuit that a text spells, or its fault.
-fn read_text(alloc: Global, text: &[u8]) -> Result<Circuit, ReadFault>
-    ensures { ReadsText text.now result }
+fn read_text(alloc: Global, text: &[u8], wanted: bool) -> Result<Numbered, ReadFault>
+    ensures { ReadsText text.now wanted result }
 {
     one_renumbering();
     circuit_with_a_name();
-    match read_known(alloc, text) {
-        Ok(circuit) => Ok(circuit),
+    match read_known(alloc, text, wanted) {
+        Ok(numbered) => Ok(numbered),
         Err(stop) => Err(fault(text.len() as u64, stop)),
     }
 }
 
 /// The circuit of what was taken from a source, or its fault.
-fn read_taken(alloc: Global, taken: Taken) -> Result<Circuit, ReadFault>
-    ensures { (known : Option (List ℕ)) → IsTakenFrom known taken → IsReadOf known result }
+fn read_taken(alloc: Global, taken: Taken, wanted: bool) -> Result<Numbered, ReadFault>
+    ensures { (known : Option (List ℕ)) → IsTakenFrom known wanted taken → IsReadOf known wanted result }
 {
     match taken {
-        Taken::Circuit(circuit) => Ok(circuit),
+        Taken::Circuit(numbered) => Ok(numbered),
         Taken::Fault(fault) => Err(fault),
-        Taken::Text(text) => read_text(alloc, text.as_slice()),
+        Taken::Text(text) => read_text(alloc, text.as_slice(), wanted),
+    }
+}
+
+/// The circuit that a source's bytes spell, with its numbers where they are wanted, or why there is none.
+fn read_source<S: Source>(
+    alloc: Global,
+    source: &mut S,
+    wanted: bool,
+) -> Result<Numbered, ReadFault>
+    ensures read { IsReadFrom (S.to_come source.old) wanted result }
+    ensures end { OnOk result (IsAtEnd (S.to_come source.new)) }
+    ensures counted { OnOk result (S.failures source.new ≡ S.failures source.old) }
+    ensures device { IfErr result (λ e. e.why ≡ why.Device → HasRisen (S.failures source.old) (S.failures source.new)) }
+    ensures unfailed { IfErr result (λ e. ¬ (e.why ≡ why.Device) → S.failures source.new ≡ S.failures source.old) }
+{
+    match take(alloc, source, wanted) {
+        Ok(taken) => read_taken(alloc, taken, wanted),
+        Err(ReadAllFault::Device) => Err(ReadFault {
+            place: 0,
+            why: Why::Device,
+        }),
+        Err(ReadAllFault::NoMemory) => Err(ReadFault {
+            place: 0,
+            why: Why::NoMemory,
+        }),
     }
 }
 
@@ -122,10 +152,32 @@ pub fn read<S: Source>(alloc: Global, source: &mut S) -> Result<Circuit, ReadFau
 {
     one_answer();
     one_renumbering();
-    let why = match take(alloc, source) {
-        Ok(taken) => return read_taken(alloc, taken),
-        Err(ReadAllFault::Device) => Why::Device,
-        Err(ReadAllFault::NoMemory) => Why::NoMemory,
-    };
-    Err(ReadFault { place: 0, why })
+    match read_source(alloc, source, false) {
+        Ok(numbered) => Ok(numbered.circuit),
+        Err(fault) => Err(fault),
+    }
+}
+
+/// The same circuit with the numbers that the variables of the text have there: what literal of the circuit a literal of
+/// the text is. Of a binary text, and of an ascii text in a circuit's numbers, they are the same and take no memory; else
+/// they take some words for each variable that is defined.
+///
+/// Errors: those of `read`.
+pub fn read_numbered<S: Source>(alloc: Global, source: &mut S) -> Result<Numbered, ReadFault>
+    ensures found { IfOk result (λ x. IfSome (S.to_come source.old) (λ text. AnswersText text (Ok x.circuit))) }
+    ensures spells { IfOk result (λ x. IfSome (S.to_come source.old) (λ text. SpellsCircuit text x.circuit)) }
+    // the numbers are those of the text
+    ensures numbering { IfOk result (λ x. IfSome (S.to_come source.old) (λ text. IsNumberingOfText text x.circuit x.numbering)) }
+    ensures only { (text : List ℕ) (c : CircuitValue) → S.to_come source.old ≡ Some text → AnswersText text (Ok c) → GivesCircuit (without_numbers result) c }
+    ensures each { (text : List ℕ) (c : CircuitValue) → S.to_come source.old ≡ Some text → SpellsCircuit text c → GivesCircuit (without_numbers result) c }
+    ensures fault { IfErr result (λ e. IfSome (S.to_come source.old) (λ text. (e.why ≡ why.Device) ⊎ ((e.why ≡ why.NoMemory) ⊎ IsAsciiFaultOf text e))) }
+    ensures end { OnOk result (IsAtEnd (S.to_come source.new)) }
+    ensures counted { OnOk result (S.failures source.new ≡ S.failures source.old) }
+    ensures device { IfErr result (λ e. e.why ≡ why.Device → HasRisen (S.failures source.old) (S.failures source.new)) }
+    ensures unfailed { IfErr result (λ e. ¬ (e.why ≡ why.Device) → S.failures source.new ≡ S.failures source.old) }
+    ensures place { IfErr result (λ e. (e.why ≡ why.Device) ⊎ (e.why ≡ why.NoMemory) → e.place ≡ 0) }
+{
+    one_answer();
+    one_renumbering();
+    read_source(alloc, source, true)
 }

@@ -1,6 +1,6 @@
 //! An ascii text whose inputs and latches are in order, but one of whose gates is out of turn: its gates are read onto the
 //! lists of a file. Where these are no circuit, or a line is spelled otherwise, the text is put together again.
-ghost use Rattle.std.specs.Prelude.{◌≡◌, ◌+◌, ◌≤◌, ◌++◌, [], Some, length, Ok, IfOk, IfErr, IfSome, OnOk, IsErrOf};
+ghost use Rattle.std.specs.Prelude.{◌≡◌, ◌+◌, ◌≤◌, ◌++◌, [], Some, length, Ok, IfOk, IfSome, OnOk, IsErrOf};
 ghost use Rattle.std.specs.Io.KnownBytes.{prepend_known, IsAtEnd};
 ghost use Rattle.base.specs.Device.{HasRisen};
 ghost use Rattle.aigertext.specs.Binary.{gates_text};
@@ -92,9 +92,10 @@ pub fn take_onto<S: Source>(
     lists: &mut Loose,
     window: &mut Vec<u8>,
     source: &mut S,
+    wanted: bool,
 ) -> Result<Taken, ReadAllFault>
     requires { StandBefore counts.now before.now lists.old }
-    ensures taken { IfOk result (IsTakenFrom (prepend_known (before.now ++ (line_texts lists.old.gates ++ window.old.items)) (S.to_come source.old))) }
+    ensures taken { IfOk result (IsTakenFrom (prepend_known (before.now ++ (line_texts lists.old.gates ++ window.old.items)) (S.to_come source.old)) wanted) }
     ensures end { OnOk result (IsAtEnd (S.to_come source.new)) }
     ensures counted { OnOk result (S.failures source.new ≡ S.failures source.old) }
     ensures device { IsErrOf result ReadAllFault.Device → HasRisen (S.failures source.old) (S.failures source.new) }
@@ -111,8 +112,8 @@ pub fn take_onto<S: Source>(
         return Ok(Taken::Text(text));
     }
     read_rest(window, source)?;
-    if let Ok(circuit) = named(alloc, lists, counts, before, window.as_slice()) {
-        return Ok(Taken::Circuit(circuit));
+    if let Ok(numbered) = named(alloc, lists, counts, before, window.as_slice(), wanted) {
+        return Ok(Taken::Circuit(numbered));
     }
     let text = restored(alloc, before, lists.gates(), window.as_slice());
     Ok(Taken::Text(text.ok_or(ReadAllFault::NoMemory)?))

@@ -1,11 +1,12 @@
 //! Reading what stands behind the header of an ascii text.
-ghost use Rattle.std.specs.Prelude.{◌≡◌, ◌-◌, ◌≤◌, Ok, length};
+ghost use Rattle.std.specs.Prelude.{◌≡◌, ◌-◌, ◌≤◌, true, Ok, length, IfOk};
 ghost use Rattle.std.specs.List.{sum_by};
 ghost use Rattle.aiger.specs.Loose.{empty_loose};
 ghost use Rattle.aiger.specs.Renumbering.{used_lines};
 ghost use Rattle.aigertext.specs.declared.forms.Form.TheVariants as form;
 ghost use Rattle.aigertext.specs.AsciiReading.{lists_of_file, behind_lines, lines_before, AnswersLists};
-ghost use Rattle.aigertext.specs.Passes.{WasToBeRead, ReadsBy};
+ghost use Rattle.aigertext.specs.Numbering.{IsNumberingOfLists};
+ghost use Rattle.aigertext.specs.Passes.{WasToBeRead, ReadsBy, AnswersWanted, AreNumbersOf};
 ghost use Rattle.aigertext.specs.PropertyLists.{no_lists, file_lists, properties_onto};
 ghost use Rattle.aigertext.specs.Counts.{AreSmall, Fits};
 
@@ -16,7 +17,8 @@ use crate::reading::lines::stop;
 use crate::reading::names::give_names;
 use crate::reading::properties::{PropertyLines, read_properties};
 use crate::reading::property_lists::put_properties;
-use aiger::{Circuit, GateLine, LatchLine, Lit, Loose, LooseFault};
+use aiger::laws::one_renumbering;
+use aiger::{GateLine, LatchLine, Lit, Loose, LooseFault, Numbered};
 use base::next_line;
 use std::alloc::Global;
 
@@ -113,6 +115,20 @@ fn uses_before_gates(lists: &Loose) -> usize
         + lists.fair().len()
 }
 
+/// The circuit that the lists of a file are, with the numbers of its variables where these are wanted; else they are not
+/// kept.
+fn numbered(alloc: Global, lists: &Loose, wanted: bool) -> Result<Numbered, LooseFault>
+    ensures { AnswersWanted lists.now wanted result }
+{
+    if wanted {
+        return lists.numbered(alloc);
+    }
+    match lists.number(alloc) {
+        Ok(circuit) => Ok(Numbered::own(circuit)),
+        Err(fault) => Err(fault),
+    }
+}
+
 /// The circuit that the lists of a file are, with the names behind them; else reading stops at the first line that uses a
 /// variable that none defines, or at the first gate that leads to a cycle, or at a name.
 pub fn named(
@@ -121,14 +137,16 @@ pub fn named(
     counts: &Counts,
     text: &[u8],
     names: &[u8],
-) -> Result<Circuit, Stop>
+    wanted: bool,
+) -> Result<Numbered, Stop>
     requires { AreSmall counts.now }
-    ensures { ReadsBy (λ e. e.why) (λ c. c) result (AnswersLists counts.now text.now (Ok (lists.now, names.now))) }
+    ensures answers { ReadsBy (λ e. e.why) (λ x. x.circuit) result (AnswersLists counts.now text.now (Ok (lists.now, names.now))) }
+    ensures numbering { wanted ≡ true → IfOk result (λ x. AreNumbersOf lists.now names.now x.circuit x.numbering) }
 {
-    match lists.number(alloc) {
-        Ok(mut circuit) => {
-            give_names(&mut circuit, names)?;
-            Ok(circuit)
+    match numbered(alloc, lists, wanted) {
+        Ok(mut numbered) => {
+            give_names(&mut numbered.circuit, names)?;
+            Ok(numbered)
         }
         Err(LooseFault::Undefined(k)) => Err(stop(from_use(text, counts, k), Why::Undefined)),
         Err(LooseFault::Cycle(gate)) => {
@@ -140,12 +158,19 @@ pub fn named(
 }
 
 /// The circuit behind a header of the ascii form. No list is made by a number of the header.
-pub fn read_file(alloc: Global, counts: &Counts, text: &[u8]) -> Result<Circuit, Stop>
+pub fn read_file(
+    alloc: Global,
+    counts: &Counts,
+    text: &[u8],
+    wanted: bool,
+) -> Result<Numbered, Stop>
     requires small { AreSmall counts.now }
     requires fits { Fits form.Ascii counts.now }
-    ensures { ReadsBy (λ e. e.why) (λ c. c) result (AnswersLists counts.now text.now (lists_of_file counts.now text.now)) }
+    ensures answers { ReadsBy (λ e. e.why) (λ x. x.circuit) result (AnswersLists counts.now text.now (lists_of_file counts.now text.now)) }
+    ensures numbering { wanted ≡ true → IfOk result (λ x. IsNumberingOfLists counts.now text.now x.circuit x.numbering) }
 {
+    one_renumbering();
     let mut lists = Loose::new(alloc);
     let names = read_lists(alloc, &mut lists, counts, text)?;
-    named(alloc, &lists, counts, text, names)
+    named(alloc, &lists, counts, text, names, wanted)
 }

@@ -15,15 +15,15 @@ use crate::reading::front::{Front, read_front};
 use crate::reading::gates::read_gates;
 use crate::reading::lines::fault;
 use crate::reading::pieces::read_rest;
-use aiger::Circuit;
+use aiger::{Circuit, Numbered};
 use base::{ReadAllFault, Source};
 use std::alloc::Global;
 
 /// What was taken from a source.
 #[derive(Drop)]
 pub(crate) enum Taken {
-    /// The circuit that its bytes spell.
-    Circuit(Circuit),
+    /// The circuit that its bytes spell, with its numbers where they are wanted.
+    Circuit(Numbered),
     /// The fault of its bytes.
     Fault(ReadFault),
     /// All of its bytes, of which nothing is said yet.
@@ -57,11 +57,12 @@ fn read_onto<S: Source>(
     circuit: &mut Circuit,
     window: &mut Vec<u8>,
     source: &mut S,
+    wanted: bool,
 ) -> Result<Option<Taken>, ReadAllFault>
     requires front { IsFront front.now.form front.now.counts (uses_of front.now) before.now }
     requires small { AreSmall front.now.counts }
     requires fresh { circuit.old ≡ fresh_circuit front.now.counts.inputs front.now.counts.latches }
-    ensures taken { IfOk result (IsTakenOnto (prepend_known (before.now ++ window.old.items) (S.to_come source.old)) circuit.new) }
+    ensures taken { IfOk result (IsTakenOnto (prepend_known (before.now ++ window.old.items) (S.to_come source.old)) wanted circuit.new) }
     ensures end { OnOk result (IsAtEnd (S.to_come source.new)) }
     ensures counted { OnOk result (S.failures source.new ≡ S.failures source.old) }
     ensures device { IsErrOf result ReadAllFault.Device → HasRisen (S.failures source.old) (S.failures source.new) }
@@ -76,7 +77,7 @@ fn read_onto<S: Source>(
         let Some((counts, mut lists)) = lists_so_far(alloc, before, first, circuit.gates()) else {
             return Err(ReadAllFault::NoMemory);
         };
-        let taken = take_onto(alloc, before, &counts, &mut lists, window, source)?;
+        let taken = take_onto(alloc, before, &counts, &mut lists, window, source, wanted)?;
         return Ok(Some(taken));
     }
     read_rest(window, source)?;
@@ -95,10 +96,11 @@ fn take_behind<S: Source>(
     before: &[u8],
     gates: &[u8],
     source: &mut S,
+    wanted: bool,
 ) -> Result<Taken, ReadAllFault>
     requires front { IsFront front.now.form front.now.counts (uses_of front.now) before.now }
     requires small { AreSmall front.now.counts }
-    ensures taken { IfOk result (IsTakenFrom (prepend_known (before.now ++ gates.now) (S.to_come source.old))) }
+    ensures taken { IfOk result (IsTakenFrom (prepend_known (before.now ++ gates.now) (S.to_come source.old)) wanted) }
     ensures end { OnOk result (IsAtEnd (S.to_come source.new)) }
     ensures counted { OnOk result (S.failures source.new ≡ S.failures source.old) }
     ensures device { IsErrOf result ReadAllFault.Device → HasRisen (S.failures source.old) (S.failures source.new) }
@@ -110,18 +112,26 @@ fn take_behind<S: Source>(
     let Ok(mut circuit) = Circuit::new(alloc, front.counts.inputs, front.counts.latches) else {
         return Err(ReadAllFault::NoMemory);
     };
-    if let Some(taken) = read_onto(alloc, front, before, &mut circuit, &mut window, source)? {
+    if let Some(taken) = read_onto(
+        alloc,
+        front,
+        before,
+        &mut circuit,
+        &mut window,
+        source,
+        wanted,
+    )? {
         return Ok(taken);
     }
-    Ok(Taken::Circuit(circuit))
+    Ok(Taken::Circuit(Numbered::own(circuit)))
 }
 
 /// Takes all of a source. Of a binary text and of an ascii text in order only the lines before the gates are held, and a
 /// piece of the gates.
 ///
 /// Errors: `Device` where the source failed in this call, `NoMemory` where a growth was refused.
-pub fn take<S: Source>(alloc: Global, source: &mut S) -> Result<Taken, ReadAllFault>
-    ensures taken { IfOk result (IsTakenFrom (S.to_come source.old)) }
+pub fn take<S: Source>(alloc: Global, source: &mut S, wanted: bool) -> Result<Taken, ReadAllFault>
+    ensures taken { IfOk result (IsTakenFrom (S.to_come source.old) wanted) }
     ensures end { OnOk result (IsAtEnd (S.to_come source.new)) }
     ensures counted { OnOk result (S.failures source.new ≡ S.failures source.old) }
     ensures device { IsErrOf result ReadAllFault.Device → HasRisen (S.failures source.old) (S.failures source.new) }
@@ -132,7 +142,7 @@ pub fn take<S: Source>(alloc: Global, source: &mut S) -> Result<Taken, ReadAllFa
         None => Ok(Taken::Text(text)),
         Some((front, place)) => {
             let (before, gates) = text.as_slice().split_at(place);
-            take_behind(alloc, &front, before, gates, source)
+            take_behind(alloc, &front, before, gates, source, wanted)
         }
     }
 }

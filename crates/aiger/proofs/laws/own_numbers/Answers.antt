@@ -1,4 +1,4 @@
-use Rattle.aiger.proofs.OwnLemmas.{as_many, own_valid, own_renumbered}
+use Rattle.aiger.proofs.OwnLemmas.{as_many, own_valid, own_renumbered, own_numbering}
 use Rattle.aiger.proofs.laws.own_numbers.Goals as goal
 
 pub returns-clause-valid : goal.returns-clause-valid
@@ -9,3 +9,6 @@ returns-clause-numbered x = own_renumbered
 
 pub returns-clause-many : goal.returns-clause-many
 returns-clause-many x = as_many
+
+pub returns-clause-numbering : goal.returns-clause-numbering
+returns-clause-numbering x = own_numbering

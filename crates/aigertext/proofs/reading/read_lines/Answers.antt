@@ -25,7 +25,7 @@ pub returns : goal.returns
 returns c =
     let p = whole_parts c.in_ok-front.front c.args.counts.now c.args.text.now c.args.lines.now c.in_ok-front.gates.now c.in_ok-front.ensures.form c.in_ok-front.ensures.counts c.requires.header c.requires.fits c.in_ok-front.ensures.reads in
     spells-read c.one_renumbering.ensures.circuit c.args.text.now c.read_left.new.circuit
-    (subst (λ t. SpellsCircuit t c.read_left.new.circuit) (whole_text_is _ _ (uses_of c.in_ok-front.front) c.args.text.now c.in_ok-front.gates.now p c.in-Ok.circuit c.in-Ok.ensures.ok) (c.in_ok-read_left.ensures p.before p.front))
+    (subst (λ t. SpellsCircuit t c.read_left.new.circuit) (whole_text_is _ _ (uses_of c.in_ok-front.front) c.args.text.now c.in_ok-front.gates.now p c.in-Ok.circuit c.in-Ok.ensures.ok) (c.in_ok-read_left.ensures p.before p.front).0)
 
 pub returns-in_err-read_left : goal.returns-in_err-read_left
 returns-in_err-read_left c =

@@ -5,7 +5,7 @@ use Rattle.aiger.specs.Circuit.{IsCircuit}
 use Rattle.base.specs.Literal.{variable}
 use Rattle.aiger.specs.Loose.{Loose, latch_variable}
 use Rattle.aiger.specs.Numbering.{IsOnce, line_in, gate_name_at}
-use Rattle.aiger.specs.Renumbering.{new_gate, variables_numbered, renumbered, circuit_by}
+use Rattle.aiger.specs.Renumbering.{IsNumberingBy, new_gate, variables_numbered, renumbered, circuit_by}
 use Rattle.aiger.proofs.InOrderLemmas.{by_order}
 use Rattle.aiger.proofs.KnownLemmas.{all_known}
 use Rattle.aiger.proofs.NumberingLemmas.{IsCircuit-renumbered}
@@ -44,9 +44,10 @@ renumbered-requires-clause-valid c =
 
 pub returns : goal.returns
 returns c =
-    record {
-      known = c.requires.known;
-      order = c.args.order.now;
-      is_order = c.requires.order;
-      circuit = c.in_ok-renumbered.ensures ∙ circuit_is c.args.self.now c.args.order.now _ _ _ _ c.in_ok-push_leaves.ensures.numbers c.gates.ensures.items c.in_ok-gates.ensures.numbers c.in_ok-gates.ensures.gates;
-    }
+    let l : Loose = c.args.self.now in
+    let order : List ℕ = c.args.order.now in
+    let circuit = c.in_ok-circuit.ensures ∙ circuit_is l order _ _ _ _ c.in_ok-push_leaves.ensures.numbers c.gates.ensures.items c.in_ok-gates.ensures.numbers c.in_ok-gates.ensures.gates in
+    let numbers = c.in_ok-gates.ensures.numbers ∙ are_numbered l order _ _ c.in_ok-push_leaves.ensures.numbers c.gates.ensures.items in (
+      record { known = c.requires.known; order = order; is_order = c.requires.order; circuit = circuit },
+      record { order = order; is_order = c.requires.order; circuit = circuit; numbers = subst (λ (ns : List ℕ). IsNumberingBy ns c.of.result) numbers c.of.ensures },
+    )

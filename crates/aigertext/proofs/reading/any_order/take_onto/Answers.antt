@@ -3,7 +3,7 @@ use Rattle.std.specs.Prelude.{IfSome}
 use Rattle.std.specs.Io.KnownBytes.{Keeps, prepend_known}
 use Rattle.std.proofs.KnownBytes.{Keeps-trans}
 use Rattle.aigertext.specs.InOrder.{line_texts}
-use Rattle.aigertext.proofs.AnyOrderLemmas.{only_named, stand_more, lists_kept, all_lists_kept, spelled_by_lists}
+use Rattle.aigertext.proofs.AnyOrderLemmas.{only_named, stand_more, lists_kept, all_lists_kept, spelled_by_lists, numbered_by_lists}
 use Rattle.aigertext.proofs.PutsLemmas.{at_end}
 use Rattle.aigertext.proofs.reading.any_order.take_onto.Goals as goal
 
@@ -25,8 +25,13 @@ returns-in-Ok-clause-taken g c =
       is =
           all_lists_kept c.args.counts.now c.args.before.now c.args.lists.now lists _ c.args.window.now.items c.read_gates.new.window.items rest _ _ _ c.requires c.in_ok-read_gates.ensures.puts c.in_ok-read_rest-2.ensures.bytes c.in_ok-read_rest-2.ensures.end;
       reads =
-          inl (spelled_by_lists c.args.counts.now c.args.before.now lists (stand_more c.args.counts.now c.args.before.now _ c.args.lists.now lists c.requires c.in_ok-read_gates.ensures.puts.puts).0 c.gates.ensures.valid
-          (ap length (sym c.gates.ensures.items) ∙ omega (arith, c.if-gates-count.false)) rest c.one_renumbering.ensures.circuit c.in-Ok.circuit (only_named _ _ _ _ c.in-Ok.circuit (rw c.as_slice-2.ensures.value at c.in-Ok.ensures)));
+          let stand = (stand_more c.args.counts.now c.args.before.now _ c.args.lists.now lists c.requires c.in_ok-read_gates.ensures.puts.puts).0 in
+          let many = ap length (sym c.gates.ensures.items) ∙ omega (arith, c.if-gates-count.false) in
+          let law = c.one_renumbering.ensures.circuit in
+          let numbered = c.in-Ok.numbered in (
+            inl (spelled_by_lists c.args.counts.now c.args.before.now lists stand c.gates.ensures.valid many rest law numbered.circuit (only_named _ _ _ _ numbered.circuit (rw c.as_slice-2.ensures.value at c.in-Ok.ensures.answers))),
+            λ wanted. numbered_by_lists c.args.counts.now c.args.before.now lists stand c.gates.ensures.valid many rest law numbered.circuit numbered.numbering (rw c.as_slice-2.ensures.value at (c.in-Ok.ensures.numbering wanted)),
+          );
     }
 
 pub returns-clause-taken : goal.returns-clause-taken

@@ -7,7 +7,7 @@ pub returns-then-gates : goal.returns-then-gates
 returns-then-gates c = λ before front.
     let own = c.own_numbers.ensures in
     reads_left c.args.front.now.form c.args.front.now.counts (uses_of c.args.front.now) before front c.args.circuit.now c.push_gates-names.new.self _ c.args.window.now c.push_gates-names.result.now c.requires.bare c.push_gates-names.ensures.puts c.gates-2.ensures.valid
-    own.valid own.numbered own.many c.finish.new.circuit c.finish.result (ap length (sym c.gates-2.ensures.items) ∙ c.if-gates.true) c.finish.ensures
+    own.valid own.numbered own.many own.numbering c.finish.new.circuit c.finish.result (ap length (sym c.gates-2.ensures.items) ∙ c.if-gates.true) c.finish.ensures
 
 pub returns-in-Err : goal.returns-in-Err
 returns-in-Err c = λ before front.

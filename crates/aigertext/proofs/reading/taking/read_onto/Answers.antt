@@ -12,7 +12,9 @@ returns-in-Ok-clause-taken g c = record {
       text_all c.args.front.now.form c.args.front.now.counts c.args.before.now c.args.circuit.now c.read_gates.new.target c.in_ok-passed.passed c.args.window.now.items c.read_gates.new.window.items
       (g.S.Source.to_come c.args.source.now) (g.S.Source.to_come c.read_gates.new.source) c.requires.fresh c.in_ok-passed.ensures.puts
       c.read_rest.new.bytes.items (g.S.Source.to_come c.read_rest.new.source) c.in_ok-read_rest.ensures.bytes c.in_ok-read_rest.ensures.end;
-  reads = rw c.as_slice.ensures.value at (c.in-Ok.ensures c.args.before.now c.requires.front);
+  reads =
+      let read = rw c.as_slice.ensures.value at (c.in-Ok.ensures c.args.before.now c.requires.front) in
+      (read.0, λ wanted. read.1);
 }
 
 pub returns-in-Err-clause-taken : goal.returns-in-Err-clause-taken
@@ -23,7 +25,7 @@ returns-in-Err-clause-taken g c = record {
       (g.S.Source.to_come c.args.source.now) (g.S.Source.to_come c.read_gates.new.source) c.requires.fresh c.in_ok-passed.ensures.puts
       c.read_rest.new.bytes.items (g.S.Source.to_come c.read_rest.new.source) c.in_ok-read_rest.ensures.bytes c.in_ok-read_rest.ensures.end;
   reads =
-      fault_read _ c.in_ok-total.total c.in-Err.stop c.fault.result
+      fault_read _ c.args.wanted c.in_ok-total.total c.in-Err.stop c.fault.result
       (text_long c.args.front.now.form c.args.front.now.counts c.args.before.now c.args.circuit.now c.read_gates.new.target c.in_ok-passed.passed c.args.window.now.items c.read_gates.new.window.items
       (g.S.Source.to_come c.args.source.now) (g.S.Source.to_come c.read_gates.new.source) c.requires.fresh c.in_ok-passed.ensures.puts
       c.in_ok-total.total c.read_rest.new.bytes.items (omega (arith, rw c.in_ok-total.ensures.ok_part at c.total-total.ensures, c.len.ensures)))
@@ -40,4 +42,4 @@ returns-then-is_out_of_turn-clause-taken g c =
     let kept =
     subst (λ t. Keeps (prepend_known (c.args.before.now ++ c.args.window.now.items) k0) (prepend_known t k1)) own
     (text_kept f.form f.counts c.args.before.now c.args.circuit.now c.read_gates.new.target c.in_ok-passed.passed c.args.window.now.items window k0 k1 c.requires.fresh c.in_ok-passed.ensures.puts) in
-    taken_kept _ _ c.in_ok-taken.taken kept c.in_ok-taken.ensures.taken
+    taken_kept _ _ c.args.wanted c.in_ok-taken.taken kept c.in_ok-taken.ensures.taken
