@@ -8,7 +8,8 @@ use Rattle.clauses.specs.declared.judgement.Judgement.TheVariants as judgement
 use Rattle.base.specs.Literal.{Valuation, literal_value}
 use Rattle.clauses.specs.Formula.{Formula, SatisfiesClause, SatisfiesClauses, IsUnsatisfiable}
 use Rattle.clauses.specs.Propagation.{Literals, no_literal, Holds, IsClosure, MeetsConflict, Implied, IsModel}
-use Rattle.clauses.specs.Proofs.{addition, deletion, Ended, ended, ProofFault, ProofReading, read_proof}
+use Rattle.clauses.specs.Proofs.{addition, deletion, Ended, ended, ProofFault, ProofReading}
+use Rattle.clauses.specs.ProofForms.{read_proof}
 use Rattle.clauses.specs.Without.{IsLastAlike, IsWithout}
 use Rattle.clauses.specs.Judgements.{at_end, JudgesSteps, JudgesProof}
 use Rattle.clauses.specs.Without.IsWithout.{last, none}

@@ -21,4 +21,7 @@ pub mod NumeralLemmas
 pub mod WordLemmas
 pub mod StepReaderLemmas
 pub mod TextLemmas
+pub mod TextJudgeLemmas
+pub mod NumberLemmas
+pub mod BytesLemmas
 pub mod ProofJudgeLemmas

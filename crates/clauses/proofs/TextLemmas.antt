@@ -1,16 +1,15 @@
 -- The words of the rest of a text, with a byte more in front.
 use Rattle.std.proofs.Common.{◌≡◌, ℕ, suc, ◌==◌, Bool, true, false, List, [], ◌∷◌, ◌++◌, map, length, inl, inr, refl, sym, ap, ap₂, ◌∙◌, append_assoc, append-nil}
-use Rattle.std.specs.Prelude.{nat_lt, if◌then◌else◌}
+use Rattle.std.specs.Prelude.{nat_lt}
 use Rattle.std.specs.List.{list_any}
 use Rattle.std.proofs.lemmas.List.{map-append}
 use Rattle.std.proofs.lemmas.Bool.{cases_Bool, eqb-true, or_parts, or_from}
-use Rattle.base.specs.Decimals.{is_nothing}
 use Rattle.base.specs.Lines.{IsLine, onto_first, whole_lines, all_lines, line_of}
 use Rattle.base.proofs.LineLemmas.{whole_lines-line, unfinished-line, whole_lines-last, unfinished-last}
 use Rattle.clauses.specs.declared.why.Why.TheVariants as why
-use Rattle.clauses.specs.declared.proof_judge.Place.TheVariants as place
+use Rattle.clauses.specs.declared.text_judge.Place.TheVariants as place
 use Rattle.clauses.specs.Proofs.{is_proof_blank, ends_word, proof_words, token_of, faulty, Mark, mark, is_proof_comment, most_proof_lines, line_marks, lines_marks}
-use Rattle.clauses.specs.ProofJudges.{this_line, next_lines, word_marks, marks_behind}
+use Rattle.clauses.specs.TextJudges.{this_line, next_lines, word_marks, marks_behind}
 
 -- ---- lines
 

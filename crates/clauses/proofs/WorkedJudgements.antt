@@ -8,7 +8,8 @@ use Rattle.clauses.specs.declared.judgement.Judgement.TheVariants as judgement
 use Rattle.clauses.specs.Formula.{Formula}
 use Rattle.clauses.specs.Propagation.{Literals, no_literal, IsClosed, Holds, IsClosure, MeetsConflict, Implied}
 use Rattle.clauses.specs.Propagation.Conflict.{opposite}
-use Rattle.clauses.specs.Proofs.{ProofReading, read_proof, ended, addition, deletion}
+use Rattle.clauses.specs.Proofs.{ProofReading, ended, addition, deletion}
+use Rattle.clauses.specs.ProofForms.{read_proof}
 use Rattle.clauses.specs.Judgements.{JudgesReading, JudgesProof}
 use Rattle.clauses.specs.Without.{AreSameClause, NoneAlikeFrom, IsWithout}
 use Rattle.clauses.specs.Without.IsWithout.{last, none}
@@ -49,17 +50,26 @@ pub reads-cut_off : read_proof 3 (codes "1 0\nd\n") ≡ record { steps = ended 1
 unfolding number_of is_decimal capped_value
 reads-cut_off = refl
 
-reads-first : read_proof 3 (codes "1 0\n2 0\n") ≡ record { steps = ended 1 (addition (2 ∷ [])) ∷ ended 2 (addition (4 ∷ [])) ∷ []; fault = None }
+abbrev first_two : ProofReading
+first_two = record { steps = ended 1 (addition (2 ∷ [])) ∷ ended 2 (addition (4 ∷ [])) ∷ []; fault = None }
+
+abbrev first_alone : ProofReading
+first_alone = record { steps = ended 1 (addition (2 ∷ 4 ∷ [])) ∷ []; fault = None }
+
+reads-first : read_proof 3 (codes "1 0\n2 0\n") ≡ first_two
 unfolding number_of is_decimal capped_value
 reads-first = refl
 
-reads-one : read_proof 3 (codes "1 2 0\n") ≡ record { steps = ended 1 (addition (2 ∷ 4 ∷ [])) ∷ []; fault = None }
+reads-one : read_proof 3 (codes "1 2 0\n") ≡ first_alone
 unfolding number_of is_decimal capped_value
 reads-one = refl
 
 reads-one_more : read_proof 3 (codes "1 2 0\n1 x 0\n") ≡ record { steps = ended 1 (addition (2 ∷ 4 ∷ [])) ∷ []; fault = Some (record { line = 2; why = why.BadWord }) }
 unfolding number_of is_decimal capped_value
 reads-one_more = refl
+
+abbrev first_cut : ProofReading
+first_cut = record { steps = ended 1 (addition (2 ∷ 4 ∷ [])) ∷ []; fault = Some (record { line = 2; why = why.CutOff }) }
 
 -- ---- how it is judged
 
@@ -121,20 +131,24 @@ eight-closure = nothing_closure all_eight (closed all_eight no_literal refl)
 nine-closure : IsClosure nine no_literal no_literal
 nine-closure = nothing_closure nine (closed nine no_literal refl)
 
+three-judged : JudgesReading eight three_steps (judgement.Derived 3)
+three-judged =
+    inr (all_eight-free, (no_literal, (eight-closure, inr (all_eight-implied, inr (nine-free, (no_literal, (nine-closure, inr (nine-implied, inr (ten-free, (one 2, (ten-closure, inr (ten-implied, inl (eleven-met, refl)))))))))))))
+
+two-judged : JudgesReading eight first_two (judgement.NotImplied 1)
+two-judged = inr (all_eight-free, (no_literal, (eight-closure, inl (all_eight-not_implied, refl))))
+
+one-judged : JudgesReading eight first_alone judgement.NotDerived
+one-judged = inr (all_eight-free, (no_literal, (eight-closure, inr (all_eight-implied, inr (nine-free, (no_literal, (nine-closure, refl)))))))
+
 pub judges-derived : JudgesProof eight (codes "1 2 0\n1 0\n2 0\n") (judgement.Derived 3)
-judges-derived =
-    judged eight (codes "1 2 0\n1 0\n2 0\n") three_steps (judgement.Derived 3) reads-steps
-    (inr (all_eight-free, (no_literal, (eight-closure, inr (all_eight-implied, inr (nine-free, (no_literal, (nine-closure, inr (nine-implied, inr (ten-free, (one 2, (ten-closure, inr (ten-implied, inl (eleven-met, refl))))))))))))))
+judges-derived = judged eight (codes "1 2 0\n1 0\n2 0\n") three_steps (judgement.Derived 3) reads-steps three-judged
 
 pub judges-not_implied : JudgesProof eight (codes "1 0\n2 0\n") (judgement.NotImplied 1)
-judges-not_implied =
-    judged eight (codes "1 0\n2 0\n") (record { steps = ended 1 (addition (2 ∷ [])) ∷ ended 2 (addition (4 ∷ [])) ∷ []; fault = None }) (judgement.NotImplied 1) reads-first
-    (inr (all_eight-free, (no_literal, (eight-closure, inl (all_eight-not_implied, refl)))))
+judges-not_implied = judged eight (codes "1 0\n2 0\n") first_two (judgement.NotImplied 1) reads-first two-judged
 
 pub judges-not_derived : JudgesProof eight (codes "1 2 0\n") judgement.NotDerived
-judges-not_derived =
-    judged eight (codes "1 2 0\n") (record { steps = ended 1 (addition (2 ∷ 4 ∷ [])) ∷ []; fault = None }) judgement.NotDerived reads-one
-    (inr (all_eight-free, (no_literal, (eight-closure, inr (all_eight-implied, inr (nine-free, (no_literal, (nine-closure, refl))))))))
+judges-not_derived = judged eight (codes "1 2 0\n") first_alone judgement.NotDerived reads-one one-judged
 
 pub judges-malformed : JudgesProof eight (codes "1 2 0\n1 x 0\n") (judgement.Malformed 2 why.BadWord)
 judges-malformed =
@@ -143,6 +157,20 @@ judges-malformed =
 
 pub judges-by_itself : JudgesProof (record { variables = 1; clauses = (2 ∷ []) ∷ (3 ∷ []) ∷ [] }) (codes "x") (judgement.Derived 0)
 judges-by_itself = inl (λ s c holds. opposite 2 (given ((2 ∷ []) ∷ (3 ∷ []) ∷ []) s c 0 0 (omega arith) (omega arith) refl) (given ((2 ∷ []) ∷ (3 ∷ []) ∷ []) s c 1 0 (omega arith) (omega arith) refl), refl)
+
+pub judges_binary-derived : JudgesProof eight (97 ∷ 2 ∷ 4 ∷ 0 ∷ 97 ∷ 2 ∷ 0 ∷ 97 ∷ 4 ∷ 0 ∷ []) (judgement.Derived 3)
+judges_binary-derived = judged eight (97 ∷ 2 ∷ 4 ∷ 0 ∷ 97 ∷ 2 ∷ 0 ∷ 97 ∷ 4 ∷ 0 ∷ []) three_steps (judgement.Derived 3) refl three-judged
+
+pub judges_binary-not_implied : JudgesProof eight (97 ∷ 2 ∷ 0 ∷ 97 ∷ 4 ∷ 0 ∷ []) (judgement.NotImplied 1)
+judges_binary-not_implied = judged eight (97 ∷ 2 ∷ 0 ∷ 97 ∷ 4 ∷ 0 ∷ []) first_two (judgement.NotImplied 1) refl two-judged
+
+pub judges_binary-not_derived : JudgesProof eight (97 ∷ 2 ∷ 4 ∷ 0 ∷ []) judgement.NotDerived
+judges_binary-not_derived = judged eight (97 ∷ 2 ∷ 4 ∷ 0 ∷ []) first_alone judgement.NotDerived refl one-judged
+
+pub judges_binary-malformed : JudgesProof eight (97 ∷ 2 ∷ 4 ∷ 0 ∷ 97 ∷ 2 ∷ []) (judgement.Malformed 2 why.CutOff)
+judges_binary-malformed =
+    judged eight (97 ∷ 2 ∷ 4 ∷ 0 ∷ 97 ∷ 2 ∷ []) first_cut (judgement.Malformed 2 why.CutOff) refl
+    (inr (all_eight-free, (no_literal, (eight-closure, inr (all_eight-implied, inr (nine-free, (no_literal, (nine-closure, refl))))))))
 
 -- ---- a clause taken away
 

@@ -7,7 +7,8 @@ use Rattle.clauses.specs.declared.judgement.Judgement.TheVariants as judgement
 use Rattle.clauses.specs.Formula.{Formula}
 use Rattle.clauses.specs.Propagation.{Literals, no_literal, IsClosure, MeetsConflict, Implied}
 use Rattle.clauses.specs.Without.{IsWithout}
-use Rattle.clauses.specs.Proofs.{addition, deletion, Ended, ended, ProofFault, ProofReading, read_proof}
+use Rattle.clauses.specs.Proofs.{addition, deletion, Ended, ended, ProofFault, ProofReading}
+use Rattle.clauses.specs.ProofForms.{read_proof}
 
 -- where the steps have ended
 abbrev pub at_end : Option ProofFault → Judgement

@@ -2,6 +2,8 @@ pub mod Formula
 pub mod FormulaTexts
 pub mod Propagation
 pub mod Proofs
+pub mod BinaryProofs
+pub mod ProofForms
 pub mod FormulaKept
 pub mod Without
 pub mod Judgements
@@ -21,4 +23,6 @@ pub mod StepJudges
 pub mod Numerals
 pub mod Words
 pub mod StepReaders
+pub mod TextJudges
+pub mod Numbers
 pub mod ProofJudges

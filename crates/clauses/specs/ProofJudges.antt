@@ -1,112 +1,116 @@
--- What a judge of proofs holds, and which texts it stands for.
-use Rattle.std.specs.Prelude.{◌≡◌, ℕ, suc, ◌+◌, ◌*◌, ◌<◌, ◌≤◌, Bool, true, false, List, [], ◌∷◌, ◌++◌, ◌==◌, if◌then◌else◌, length, map}
+-- What a judge of proofs in either form holds, and which texts it stands for.
+use Rattle.std.specs.Prelude.{◌≡◌, ℕ, ◌≤◌, Bool, true, false, nat_lt, List, [], ◌∷◌, ◌++◌}
 use Rattle.std.specs.List.{list_any}
-use Rattle.base.specs.Lines.{whole_lines, all_lines}
-use Rattle.clauses.specs.declared.proof_judge.Place.{Place}
-use Rattle.clauses.specs.declared.proof_judge.Place.TheVariants as place
+use Rattle.clauses.specs.declared.number.Number.{Number}
+use Rattle.clauses.specs.declared.proof_judge.Form.{Form}
+use Rattle.clauses.specs.declared.proof_judge.Form.TheVariants as form
 use Rattle.clauses.specs.declared.proof_judge.ProofJudge.TheInside.{Inside}
-use Rattle.clauses.specs.declared.word.Word.{Word}
 use Rattle.clauses.specs.Formula.{Formula}
-use Rattle.clauses.specs.Proofs.{is_proof_blank, proof_words, token_of, Mark, mark, most_proof_lines, lines_marks}
-use Rattle.clauses.specs.Words.{SpellsWord}
-use Rattle.clauses.specs.StepReaders.{StepReader, StandsForWords, BeginsReader}
+use Rattle.clauses.specs.Proofs.{Mark, most_proof_lines}
+use Rattle.clauses.specs.BinaryProofs.{number_pieces, step_marks, binary_marks}
+use Rattle.clauses.specs.ProofForms.{is_binary_proof}
+use Rattle.clauses.specs.Numbers.{SpellsNumber}
+use Rattle.clauses.specs.StepReaders.{StandsForWords}
+use Rattle.clauses.specs.TextJudges.{TextJudge, BeginsText, StandsForLines}
 
--- ---- the rest of a text
-
--- its bytes before the first byte 10
-abbrev pub this_line : List ℕ → List ℕ
-this_line [] = []
-this_line (b ∷ bs) = if b == 10 then [] else b ∷ this_line bs
-
--- its bytes behind the first byte 10
-abbrev pub next_lines : List ℕ → List ℕ
-next_lines [] = []
-next_lines (b ∷ bs) = if b == 10 then bs else next_lines bs
-
--- the word that ends, where it has bytes
-abbrev pub word_marks : ℕ → ℕ → List ℕ → List Mark
-word_marks variables line [] = []
-word_marks variables line (b ∷ bs) = mark line (token_of variables (b ∷ bs)) ∷ []
-
--- what the rest says, in a line that begins, behind the first bytes of a word, or in a comment
-abbrev pub marks_behind : ℕ → Place → ℕ → List ℕ → List ℕ → List Mark
-marks_behind variables place.Begins line word rest = lines_marks variables line (all_lines rest)
-marks_behind variables place.Within line word rest = map (λ w. mark line (token_of variables w)) (proof_words (word ++ this_line rest)) ++ lines_marks variables (suc line) (all_lines (next_lines rest))
-marks_behind variables place.Comment line word rest = lines_marks variables (suc line) (all_lines (next_lines rest))
-
--- ---- a judge
-
--- the reader of the words that ended, the count of variables, the line, where the next byte stands in it, and what is kept of the word that has begun
+-- the judge of texts, which has the reader of steps too, the count of variables, in which form the text is, the number of the step, and what is kept of
+-- the number that has begun
 pub record ProofJudge : Type 0 where
-  pub reader : StepReader
+  pub text : TextJudge
   pub variables : ℕ
-  pub line : ℕ
-  pub place : Place
-  pub word : Word
+  pub form : Form
+  pub step : ℕ
+  pub number : Number
 
--- the literals of its variables are those below its reader's limit
-pub record IsProofJudge (j : Inside) : Type 0 where
-  pub limit : j.reader.judge.propagator.limit ≡ 2 * j.variables + 2
-  pub few : j.variables < 2147483647
+-- what is seen of a judge
+abbrev pub judge_of : Inside → ProofJudge
+judge_of j = record { text = j.text; variables = j.text.variables; form = j.form; step = j.step; number = j.number }
 
--- a word has no blanks, and outside of words nothing has begun
-abbrev pub IsTokenAt : Place → List ℕ → Type 0
-IsTokenAt place.Begins word = word ≡ []
-IsTokenAt place.Within word = list_any is_proof_blank word ≡ false
-IsTokenAt place.Comment word = word ≡ []
+-- ---- a proof in the binary form
 
--- a line that begins may be one too many
-abbrev pub IsFew : Place → ℕ → Type 0
-IsFew place.Begins line = line ≤ suc most_proof_lines
-IsFew place.Within line = line ≤ most_proof_lines
-IsFew place.Comment line = line ≤ most_proof_lines
+abbrev pub is_within : Form → Bool
+is_within form.Empty = false
+is_within form.Letter = false
+is_within form.Lines = false
+is_within form.Steps = false
+is_within form.Literals = true
 
--- some words are those of a text but for its last bytes, which are pending, whatever follows
-pub record Scanned (j : ProofJudge) (text pending : List ℕ) (marks : List Mark) : Type 0 where
-  pub word : List ℕ
-  pub spells : SpellsWord j.word word
-  pub plain : IsTokenAt j.place word
-  pub few : IsFew j.place j.line
-  pub reads : (more : List ℕ) → lines_marks j.variables 1 (all_lines (text ++ more)) ≡ marks ++ marks_behind j.variables j.place j.line word (pending ++ more)
-  pub last : (more : List ℕ) → suc (length (whole_lines (text ++ more))) ≡ j.line + length (whole_lines (pending ++ more))
+-- a byte that ends a number
+abbrev pub ends_number : ℕ → Bool
+ends_number b = nat_lt b 128
+
+-- outside of steps no number has begun
+abbrev pub IsNumberAt : Bool → List ℕ → Type 0
+IsNumberAt true bytes = Unit {0}
+IsNumberAt false bytes = bytes ≡ []
+
+-- a step that has not begun may be one too many
+abbrev pub IsFewSteps : Bool → ℕ → Type 0
+IsFewSteps true step = step ≤ most_proof_lines
+IsFewSteps false step = Unit {0}
+
+-- some words are those of a text, whatever follows
+pub record ScannedBytes (j : ProofJudge) (text : List ℕ) (marks : List Mark) (within : Bool) : Type 0 where
+  pub bytes : List ℕ
+  pub spells : SpellsNumber j.number bytes
+  pub unended : list_any ends_number bytes ≡ false
+  pub begun : IsNumberAt within bytes
+  pub few : IsFewSteps within j.step
+  pub reads : (more : List ℕ) → binary_marks j.text.variables (text ++ more) ≡ marks ++ step_marks j.text.variables j.step within (number_pieces (bytes ++ more))
 
 -- where nothing more is read they are the first words, and else all
-abbrev pub ScannedAt : ProofJudge → List ℕ → List ℕ → List Mark → Bool → Type 0
-ScannedAt j text pending marks true = (more : List ℕ) → (rest : List Mark) × (lines_marks j.variables 1 (all_lines (text ++ more)) ≡ marks ++ rest)
-ScannedAt j text pending marks false = Scanned j text pending marks
+abbrev pub ScannedBytesAt : ProofJudge → List ℕ → List Mark → Bool → Bool → Type 0
+ScannedBytesAt j text marks within true = (more : List ℕ) → (rest : List Mark) × (binary_marks j.text.variables (text ++ more) ≡ marks ++ rest)
+ScannedBytesAt j text marks within false = ScannedBytes j text marks within
 
--- it stands for a text over a formula, but for last bytes that are pending
-pub record StandsBefore (f : Formula) (j : ProofJudge) (text pending : List ℕ) : Type 0 where
-  pub variables : j.variables ≡ f.variables
+-- it stands for a text in the binary form over a formula, before a step or within one
+pub record StandsAtBytes (f : Formula) (j : ProofJudge) (text : List ℕ) (within : Bool) : Type 0 where
+  pub variables : j.text.variables ≡ f.variables
   pub marks : List Mark
-  pub words : StandsForWords f j.reader marks
-  pub scanned : ScannedAt j text pending marks j.reader.closed
+  pub words : StandsForWords f j.text.reader marks
+  pub scanned : ScannedBytesAt j text marks within j.text.reader.closed
 
--- it stands for a text over a formula, of which no byte is pending
-abbrev pub StandsThrough : Formula → ProofJudge → List ℕ → Type 0
-StandsThrough f j text = StandsBefore f j text []
+abbrev pub StandsForBytesIn : Form → Formula → ProofJudge → List ℕ → Type 0
+StandsForBytesIn form.Empty f j text = ⊥
+StandsForBytesIn form.Letter f j text = ⊥
+StandsForBytesIn form.Lines f j text = ⊥
+StandsForBytesIn form.Steps f j text = StandsAtBytes f j text false
+StandsForBytesIn form.Literals f j text = StandsAtBytes f j text true
 
--- it has a formula's clauses, and took no byte
-pub record BeginsText (f : Formula) (j : ProofJudge) : Type 0 where
-  pub reader : BeginsReader f j.reader
-  pub variables : j.variables ≡ f.variables
-  pub line : j.line ≡ 1
-  pub place : j.place ≡ place.Begins
-  pub word : SpellsWord j.word []
-
--- it stands for a text over a formula; where that is empty, more clauses can be given
-abbrev pub StandsForText : Formula → ProofJudge → List ℕ → Type 0
-StandsForText f j [] = BeginsText f j
-StandsForText f j (b ∷ bs) = StandsThrough f j (b ∷ bs)
+abbrev pub StandsForBytes : Formula → ProofJudge → List ℕ → Type 0
+StandsForBytes f j text = StandsForBytesIn j.form f j text
 
 -- where nothing more is read some words are the first of a text, and else all of them
-abbrev pub AreMarksAt : ProofJudge → List ℕ → List Mark → Bool → Type 0
-AreMarksAt j text marks true = (rest : List Mark) × (lines_marks j.variables 1 (all_lines text) ≡ marks ++ rest)
-AreMarksAt j text marks false = (lines_marks j.variables 1 (all_lines text) ≡ marks) × (suc (length (whole_lines text)) ≡ j.line)
+abbrev pub AreWordsAt : ProofJudge → List ℕ → List Mark → Bool → Type 0
+AreWordsAt j text marks true = (rest : List Mark) × (binary_marks j.text.variables text ≡ marks ++ rest)
+AreWordsAt j text marks false = binary_marks j.text.variables text ≡ marks
 
--- it took all words of a text
-pub record EndsText (f : Formula) (j : ProofJudge) (text : List ℕ) : Type 0 where
-  pub variables : j.variables ≡ f.variables
+-- it took all words of a text in the binary form
+pub record EndsBytes (f : Formula) (j : ProofJudge) (text : List ℕ) : Type 0 where
+  pub variables : j.text.variables ≡ f.variables
   pub marks : List Mark
-  pub words : StandsForWords f j.reader marks
-  pub all : AreMarksAt j text marks j.reader.closed
+  pub words : StandsForWords f j.text.reader marks
+  pub all : AreWordsAt j text marks j.text.reader.closed
+
+-- ---- a proof in either form
+
+-- a text is binary, or is not, whatever follows
+abbrev pub IsInForm : Bool → List ℕ → Type 0
+IsInForm binary text = (more : List ℕ) → is_binary_proof (text ++ more) ≡ binary
+
+-- it has a formula's clauses, and took no byte in either form
+pub record BeginsProof (f : Formula) (j : ProofJudge) : Type 0 where
+  pub text : BeginsText f j.text
+  pub step : j.step ≡ 1
+  pub number : SpellsNumber j.number []
+
+-- it stands for a text over a formula: no byte, or a `d` alone, which is kept, or one whose form is known
+abbrev pub StandsIn : Form → Formula → ProofJudge → List ℕ → Type 0
+StandsIn form.Empty f j text = (text ≡ []) × BeginsProof f j
+StandsIn form.Letter f j text = (text ≡ 100 ∷ []) × BeginsProof f j
+StandsIn form.Lines f j text = IsInForm false text × StandsForLines f j.text text
+StandsIn form.Steps f j text = IsInForm true text × StandsAtBytes f j text false
+StandsIn form.Literals f j text = IsInForm true text × StandsAtBytes f j text true
+
+abbrev pub StandsForText : Formula → ProofJudge → List ℕ → Type 0
+StandsForText f j text = StandsIn j.form f j text

@@ -1,11 +1,11 @@
--- What is read of the text of a proof, in the ascii form of DRAT (N. Wetzler, M. Heule, W. Hunt, "DRAT-trim: Efficient checking and trimming using
+-- What is read of the text of a proof, in the text form of DRAT (N. Wetzler, M. Heule, W. Hunt, "DRAT-trim: Efficient checking and trimming using
 -- expressive clausal proofs", SAT 2014): a step is the literals of a clause and `0`, which adds the clause, and with a `d` before it takes the clause away.
 -- This project's own: blanks and ends of lines part words and mean nothing else, a line whose first byte is `c` is passed over, numbers have no zeros in
 -- front and no plus, and what the first fault is.
 use Rattle.std.specs.Prelude.{ℕ, suc, ◌+◌, ◌*◌, ◌^◌, Bool, true, false, not, ◌||◌, ◌==◌, nat_lt, if◌then◌else◌, List, [], ◌∷◌, ◌++◌, length, map, Option, Some, None, codes}
 use Rattle.std.specs.Str.{bytes_eq}
 use Rattle.base.specs.Decimals.{is_nothing, number_of}
-use Rattle.base.specs.Lines.{whole_lines, unfinished, onto_first, all_lines}
+use Rattle.base.specs.Lines.{whole_lines, onto_first, all_lines}
 use Rattle.clauses.specs.declared.why.Why.{Why}
 use Rattle.clauses.specs.declared.why.Why.TheVariants as why
 
@@ -59,7 +59,7 @@ abbrev pub is_proof_comment : List ℕ → Bool
 is_proof_comment [] = false
 is_proof_comment (b ∷ bs) = b == 99
 
--- the most lines of a proof
+-- the most lines of a proof, and the most steps in the binary form
 abbrev pub most_proof_lines : ℕ
 most_proof_lines = 2 ^ 62
 
@@ -80,7 +80,7 @@ pub data Step : Type 0 where
   addition : List ℕ → Step
   deletion : List ℕ → Step
 
--- a step, and the line of its `0`
+-- a step, and the line of its `0`; in the binary form its number
 pub data Ended : Type 0 where
   ended : ℕ → Step → Ended
 
@@ -114,6 +114,6 @@ reading_from last deleting clause (mark n deletes ∷ marks) = if has_begun dele
 reading_from last deleting clause (mark n (literal l) ∷ marks) = reading_from last deleting (clause ++ l ∷ []) marks
 reading_from last deleting clause (mark n (faulty w) ∷ marks) = refused n w
 
--- what a text reads as, over a formula of so many variables
-abbrev pub read_proof : ℕ → List ℕ → ProofReading
-read_proof variables text = reading_from (suc (length (whole_lines text))) false [] (lines_marks variables 1 (all_lines text))
+-- what a text in this form reads as, over a formula of so many variables
+abbrev pub read_text_proof : ℕ → List ℕ → ProofReading
+read_text_proof variables text = reading_from (suc (length (whole_lines text))) false [] (lines_marks variables 1 (all_lines text))

@@ -2,7 +2,8 @@
 use crate::why::Why;
 use std::fmt;
 
-/// What is said of the text of a proof over a formula: the first of these that its steps meet.
+/// What is said of the text of a proof over a formula: the first of these that its steps meet. In the binary form a step's line
+/// is its number, counted from 1.
 #[derive(Clone, Copy, PartialEq, Eq)]
 pub enum Judgement {
     /// With the step that ends in this line propagation meets a conflict by itself, so nothing satisfies the formula; in

@@ -1,5 +1,5 @@
 //! Laws of unit propagation, and worked rows, as functions with no code.
-ghost use Rattle.std.specs.Prelude.{◌≡◌, ℕ, true, List, [], ◌∷◌, None, Some, codes};
+ghost use Rattle.std.specs.Prelude.{◌≡◌, ℕ, true, false, List, [], ◌∷◌, None, Some, codes};
 ghost use Rattle.base.specs.Literal.{Valuation};
 ghost use Rattle.clauses.specs.Formula.{Formula, SatisfiesClause, IsUnsatisfiable};
 ghost use Rattle.clauses.specs.Propagation.{Literals, no_literal, IsModel, IsClosedUnder, IsClosure, Implied, MeetsConflict};
@@ -8,7 +8,8 @@ ghost use Rattle.clauses.specs.declared.why.Why.TheVariants as why;
 ghost use Rattle.clauses.specs.declared.judgement.Judgement.{Judgement};
 ghost use Rattle.clauses.specs.declared.judgement.Judgement.TheVariants as judgement;
 ghost use Rattle.clauses.specs.FormulaTexts.{formula_text};
-ghost use Rattle.clauses.specs.Proofs.{read_proof, ended, addition, deletion};
+ghost use Rattle.clauses.specs.Proofs.{ended, addition, deletion};
+ghost use Rattle.clauses.specs.ProofForms.{is_binary_proof, read_proof};
 ghost use Rattle.clauses.specs.Judgements.{JudgesProof};
 ghost use Rattle.clauses.specs.Without.{IsWithout};
 ghost use Rattle.clauses.specs.StepJudges.{StepJudge, BeginsSteps, StandsForSteps};
@@ -91,6 +92,32 @@ pub fn worked_reading()
     ensures cut_off { read_proof 3 (codes "1 0\nd\n") ≡ record { steps = ended 1 (addition (2 ∷ [])) ∷ []; fault = Some (record { line = 3; why = why.CutOff }) } }
 {}
 
+/// Worked rows: what is read of proofs in the binary form: the same three steps, a deletion, a number of two bytes; a needless
+/// byte, a variable too many, no literal, a byte between steps, and texts that end within a step.
+pub fn worked_binary_reading()
+    ensures steps { read_proof 3 (97 ∷ 2 ∷ 4 ∷ 0 ∷ 97 ∷ 2 ∷ 0 ∷ 97 ∷ 4 ∷ 0 ∷ []) ≡ three_steps }
+    ensures deletes { read_proof 3 (100 ∷ 7 ∷ 0 ∷ 97 ∷ 0 ∷ []) ≡ record { steps = ended 1 (deletion (7 ∷ [])) ∷ ended 2 (addition []) ∷ []; fault = None } }
+    ensures two_bytes { read_proof 70 (97 ∷ 131 ∷ 1 ∷ 0 ∷ []) ≡ record { steps = ended 1 (addition (131 ∷ [])) ∷ []; fault = None } }
+    ensures needless { read_proof 3 (97 ∷ 2 ∷ 0 ∷ 97 ∷ 130 ∷ 0 ∷ 0 ∷ []) ≡ record { steps = ended 1 (addition (2 ∷ [])) ∷ []; fault = Some (record { line = 2; why = why.BadWord }) } }
+    ensures variable { read_proof 3 (97 ∷ 8 ∷ 0 ∷ []) ≡ record { steps = []; fault = Some (record { line = 1; why = why.BadVariable }) } }
+    ensures no_literal { read_proof 3 (97 ∷ 1 ∷ 0 ∷ []) ≡ record { steps = []; fault = Some (record { line = 1; why = why.BadWord }) } }
+    ensures between { read_proof 3 (97 ∷ 2 ∷ 0 ∷ 10 ∷ 97 ∷ []) ≡ record { steps = ended 1 (addition (2 ∷ [])) ∷ []; fault = Some (record { line = 2; why = why.BadWord }) } }
+    ensures cut_off { read_proof 3 (97 ∷ 2 ∷ 0 ∷ 97 ∷ []) ≡ record { steps = ended 1 (addition (2 ∷ [])) ∷ []; fault = Some (record { line = 2; why = why.CutOff }) } }
+    ensures cut_number { read_proof 3 (97 ∷ 130 ∷ []) ≡ record { steps = []; fault = Some (record { line = 1; why = why.CutOff }) } }
+{}
+
+/// Worked rows: an `a` is binary, and so is a `d` with no space behind it; a `d` alone, one with a space, and digits are text,
+/// and a binary proof that first takes away a clause of the literal 32 is malformed.
+pub fn worked_forms()
+    ensures addition { is_binary_proof (97 ∷ []) ≡ true }
+    ensures deletion { is_binary_proof (100 ∷ 2 ∷ 0 ∷ []) ≡ true }
+    ensures letter { is_binary_proof (100 ∷ []) ≡ false }
+    ensures spaced { is_binary_proof (codes "d 1 0\n") ≡ false }
+    ensures digits { is_binary_proof (codes "1 0\n") ≡ false }
+    ensures nothing { is_binary_proof [] ≡ false }
+    ensures misread { read_proof 16 (100 ∷ 32 ∷ 0 ∷ []) ≡ record { steps = []; fault = Some (record { line = 1; why = why.BadWord }) } }
+{}
+
 /// Worked rows: all eight clauses of three variables are refuted by three steps, the second of which alone is not implied,
 /// and not by none.
 pub fn worked_judgements()
@@ -99,6 +126,14 @@ pub fn worked_judgements()
     ensures not_derived { JudgesProof eight (codes "1 2 0\n") judgement.NotDerived }
     ensures malformed { JudgesProof eight (codes "1 2 0\n1 x 0\n") (judgement.Malformed 2 why.BadWord) }
     ensures by_itself { JudgesProof (record { variables = 1; clauses = (2 ∷ []) ∷ (3 ∷ []) ∷ [] }) (codes "x") (judgement.Derived 0) }
+{}
+
+/// Worked rows: the same of proofs in the binary form.
+pub fn worked_binary_judgements()
+    ensures derived { JudgesProof eight (97 ∷ 2 ∷ 4 ∷ 0 ∷ 97 ∷ 2 ∷ 0 ∷ 97 ∷ 4 ∷ 0 ∷ []) (judgement.Derived 3) }
+    ensures not_implied { JudgesProof eight (97 ∷ 2 ∷ 0 ∷ 97 ∷ 4 ∷ 0 ∷ []) (judgement.NotImplied 1) }
+    ensures not_derived { JudgesProof eight (97 ∷ 2 ∷ 4 ∷ 0 ∷ []) judgement.NotDerived }
+    ensures malformed { JudgesProof eight (97 ∷ 2 ∷ 4 ∷ 0 ∷ 97 ∷ 2 ∷ []) (judgement.Malformed 2 why.CutOff) }
 {}
 
 /// Worked rows: of clauses that have the same literals in some order the last is taken away; none is where there is none.

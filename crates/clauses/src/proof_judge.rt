@@ -1,73 +1,58 @@
-//! The judge of the texts of proofs.
-ghost use Rattle.std.specs.Prelude.{◌≡◌, ◌+◌, ◌*◌, ◌-◌, ◌^◌, ◌<◌, ◌++◌, ◌∷◌, [], List, ℕ, false, min, nat_lt, All, IfOk};
+//! The judge of proofs, in the text form or in the binary form.
+ghost use Rattle.std.specs.Prelude.{◌≡◌, ◌+◌, ◌*◌, ◌<◌, ◌++◌, ◌∷◌, [], List, ℕ, false, All, IfOk};
 ghost use Rattle.clauses.specs.Formula.{Formula as FormulaValue};
-ghost use Rattle.clauses.specs.Proofs.{is_proof_blank, most_proof_lines, Mark};
-ghost use Rattle.clauses.specs.Judgements.{JudgesProof};
-ghost use Rattle.clauses.specs.Words.{SpellsWord};
-ghost use Rattle.clauses.specs.StepReaders.{StandsForWords};
-ghost use Rattle.clauses.specs.ProofJudges.{ProofJudge as ProofJudgeValue, word_marks, StandsBefore, StandsThrough, StandsForText, EndsText};
-ghost use Rattle.clauses.specs.declared.proof_judge.Place.TheVariants as place;
+ghost use Rattle.clauses.specs.Judgements.{JudgesProof, JudgesReading};
+ghost use Rattle.clauses.specs.BinaryProofs.{read_binary_proof};
+ghost use Rattle.clauses.specs.ProofJudges.{ProofJudge as ProofJudgeValue, is_within, StandsForBytes, StandsForText, EndsBytes};
+ghost use Rattle.clauses.specs.declared.proof_judge.Form.TheVariants as form;
 
 use crate::fault::ClauseFault;
 use crate::formula::Formula;
 use crate::judgement::Judgement;
-use crate::step_reader::StepReader;
+use crate::number::Number;
+use crate::text_judge::{TextJudge, is_too_many};
 use crate::why::Why;
-use crate::word::Word;
+use crate::word::Token;
 use std::alloc::Global;
 
-/// The most lines of a proof, 2^62.
-const MOST_LINES: u64 = 4611686018427387904;
-
-/// Where the next byte stands.
+/// In which form a text is, and where the next byte stands in the binary form.
 #[derive(Clone, Copy)]
-pub(crate) enum Place {
-    /// It is the first of a line.
-    Begins,
-    /// It is in a line of words.
-    Within,
-    /// It is in a comment.
-    Comment,
-}
-
-/// Whether a byte is a space, a tab or a carriage return.
-fn is_blank(byte: u8) -> bool
-    ensures { result ≡ is_proof_blank byte }
-{
-    byte == b' ' || byte == b'\t' || byte == b'\r'
-}
-
-/// Whether a line is one too many.
-fn is_too_many(line: u64) -> bool
-    ensures { result ≡ nat_lt most_proof_lines line }
-{
-    line > MOST_LINES
+pub(crate) enum Form {
+    /// No byte came.
+    Empty,
+    /// A `d` came, by which the form is not known yet.
+    Letter,
+    /// It is in the text form.
+    Lines,
+    /// It is in the binary form, and no step has begun.
+    Steps,
+    /// It is in the binary form, within a step.
+    Literals,
 }
 
 /// A judge of proofs over a formula, whose clauses it is given first: it is fed a text piece by piece, and keeps none of it.
-/// Beside the judge of its steps it holds the literals of the step that has begun, and a fixed number of words. Where memory
-/// was wanting it says so in the end.
+/// A text is in the binary form where its first byte is `a`, or is `d`, and the second is there and is no space; else it is
+/// in the text form. Beside the judge of its steps it holds the literals of the step that has begun, and a fixed number of
+/// words. Where memory was wanting it says so in the end.
 ///
 /// Clauses see what it holds; which texts it stands for is a relation to that.
 #[derive(Drop)]
 pub struct ProofJudge {
-    reader: StepReader,
-    variables: u32,
-    // the line of the next byte, counted from 1
-    line: u64,
-    place: Place,
-    // the word that has begun
-    word: Word,
+    // the judge of the text form, whose reader of steps has the words of the binary form too
+    text: TextJudge,
+    form: Form,
+    // the number of the step in the binary form, counted from 1
+    step: u64,
+    // the number that has begun in the binary form
+    number: Number,
 }
 
 impl std::marker::Model for ProofJudge {
-    ghost use Rattle.clauses.specs.ProofJudges.{ProofJudge as ProofJudgeValue, IsProofJudge};
+    ghost use Rattle.clauses.specs.ProofJudges.{ProofJudge as ProofJudgeValue, judge_of};
 
     ghost Value = { ProofJudgeValue };
 
-    ghost view = { λ j. record { reader = j.reader; variables = j.variables; line = j.line; place = j.place; word = j.word } };
-
-    ghost invariant = { IsProofJudge };
+    ghost view = { judge_of };
 }
 
 impl ProofJudge {
@@ -79,13 +64,12 @@ impl ProofJudge {
         ensures stands { IfOk result (λ judge. StandsForText (record { variables = variables; clauses = [] }) judge []) }
         ensures variables { IfOk result (λ judge. judge.variables ≡ variables) }
     {
-        let reader = StepReader::new(alloc, variables)?;
+        let text = TextJudge::new(alloc, variables)?;
         Ok(ProofJudge {
-            reader,
-            variables,
-            line: 1,
-            place: Place::Begins,
-            word: Word::new(),
+            text,
+            form: Form::Empty,
+            step: 1,
+            number: Number::new(),
         })
     }
 
@@ -117,107 +101,166 @@ impl ProofJudge {
         ensures stands { (f : FormulaValue) → StandsForText f self.old [] → StandsForText (record f { clauses = f.clauses ++ clause.now ∷ [] }) self.new [] }
         ensures variables { self.new.variables ≡ self.old.variables }
     {
-        self.reader.give(clause);
+        self.text.give(clause);
+    }
+
+    /// In which form the text is.
+    fn form(&self) -> Form
+        ensures { result ≡ self.now.form }
+    {
+        self.form
     }
 
     /// Whether nothing more is read.
     fn is_closed(&self) -> bool
-        ensures { result ≡ self.now.reader.closed }
+        ensures { result ≡ self.now.text.reader.closed }
     {
-        self.reader.is_closed()
+        self.text.is_closed()
     }
 
-    /// Where the next byte stands.
-    fn place(&self) -> Place
-        ensures { result ≡ self.now.place }
+    /// Whether the next byte stands within a step of the binary form.
+    fn is_within(&self) -> bool
+        ensures { result ≡ is_within self.now.form }
     {
-        self.place
+        match self.form {
+            Form::Literals => true,
+            Form::Empty | Form::Letter | Form::Lines | Form::Steps => false,
+        }
     }
 
-    /// The word that has begun ends, where one has.
-    fn end_word(&mut self)
-        requires { self.old.reader.closed ≡ false }
-        ensures words { (f : FormulaValue) (marks : List Mark) (bytes : List ℕ) → SpellsWord self.old.word bytes → StandsForWords f self.old.reader marks → StandsForWords f self.new.reader (marks ++ word_marks self.old.variables self.old.line bytes) }
-        ensures word { (bytes : List ℕ) → SpellsWord self.old.word bytes → SpellsWord self.new.word [] }
-        ensures same { (self.new.variables ≡ self.old.variables) × (self.new.line ≡ self.old.line) × (self.new.place ≡ self.old.place) }
+    /// Takes the byte by which a step begins.
+    fn begin_step(&mut self, byte: u8)
+        requires open { self.old.text.reader.closed ≡ false }
+        requires before { self.old.form ≡ form.Steps }
+        ensures { (f : FormulaValue) (text : List ℕ) → StandsForBytes f self.old text → StandsForBytes f self.new (text ++ byte ∷ []) }
     {
-        if self.word.is_empty() {
+        if is_too_many(self.step) {
+            self.text.refuse(self.step, Why::TooLong);
             return;
         }
-        self.reader.take(self.line, self.word.token(self.variables));
-        self.word = Word::new();
+        if byte == b'a' {
+            self.form = Form::Literals;
+            return;
+        }
+        if byte == b'd' {
+            self.text.take_word(self.step, Token::Deletes);
+            self.form = Form::Literals;
+            return;
+        }
+        self.text.refuse(self.step, Why::BadWord);
     }
 
-    /// The line ends.
-    fn end_line(&mut self)
-        ensures { self.new ≡ record self.old { line = min (self.old.line + 1) (2 ^ 64 - 1); place = place.Begins } }
-    {
-        self.line = self.line.saturating_add(1);
-        self.place = Place::Begins;
-    }
-
-    /// Takes a byte in a line of words.
+    /// Takes a byte within a step.
     fn take_within(&mut self, byte: u8)
-        requires open { self.old.reader.closed ≡ false }
-        requires within { self.old.place ≡ place.Within }
-        ensures stands { (f : FormulaValue) (text : List ℕ) → StandsBefore f self.old text (byte ∷ []) → StandsThrough f self.new text }
-        ensures variables { self.new.variables ≡ self.old.variables }
+        requires open { self.old.text.reader.closed ≡ false }
+        requires within { self.old.form ≡ form.Literals }
+        ensures { (f : FormulaValue) (text : List ℕ) → StandsForBytes f self.old text → StandsForBytes f self.new (text ++ byte ∷ []) }
     {
-        if byte == b'\n' {
-            self.end_word();
-            self.end_line();
+        if byte >= 128 {
+            self.number = self.number.with(byte);
             return;
         }
-        if is_blank(byte) {
-            self.end_word();
+        if self.number.is_end(byte) {
+            self.text.take_word(self.step, Token::Ends);
+            self.step = self.step.saturating_add(1);
+            self.form = Form::Steps;
+            self.number = Number::new();
             return;
         }
-        self.word = self.word.with(byte);
+        let token = self.number.token(byte, self.text.variables());
+        self.text.take_word(self.step, token);
+        self.number = Number::new();
     }
 
-    /// Takes the first byte of a line.
-    fn begin_line(&mut self, byte: u8)
-        requires open { self.old.reader.closed ≡ false }
-        requires begins { self.old.place ≡ place.Begins }
-        ensures stands { (f : FormulaValue) (text : List ℕ) → StandsBefore f self.old text (byte ∷ []) → StandsThrough f self.new text }
-        ensures variables { self.new.variables ≡ self.old.variables }
-    {
-        if is_too_many(self.line) {
-            self.reader.refuse(self.line, Why::TooLong);
-            return;
-        }
-        if byte == b'c' {
-            self.place = Place::Comment;
-            return;
-        }
-        self.place = Place::Within;
-        self.take_within(byte);
-    }
-
-    /// Takes a byte of a comment.
-    fn pass(&mut self, byte: u8)
-        requires open { self.old.reader.closed ≡ false }
-        requires comment { self.old.place ≡ place.Comment }
-        ensures stands { (f : FormulaValue) (text : List ℕ) → StandsBefore f self.old text (byte ∷ []) → StandsThrough f self.new text }
-        ensures variables { self.new.variables ≡ self.old.variables }
-    {
-        if byte == b'\n' {
-            self.end_line();
-        }
-    }
-
-    /// Takes a byte of the text behind those before.
-    fn take(&mut self, byte: u8)
-        ensures stands { (f : FormulaValue) (text : List ℕ) → StandsForText f self.old text → StandsForText f self.new (text ++ byte ∷ []) }
-        ensures variables { self.new.variables ≡ self.old.variables }
+    /// Takes a byte of a text in the binary form behind those before.
+    fn take_byte(&mut self, byte: u8)
+        ensures { (f : FormulaValue) (text : List ℕ) → StandsForBytes f self.old text → StandsForBytes f self.new (text ++ byte ∷ []) }
     {
         if self.is_closed() {
             return;
         }
-        match self.place() {
-            Place::Begins => self.begin_line(byte),
-            Place::Within => self.take_within(byte),
-            Place::Comment => self.pass(byte),
+        match self.form() {
+            Form::Steps => self.begin_step(byte),
+            Form::Literals => self.take_within(byte),
+            Form::Empty | Form::Letter | Form::Lines => {}
+        }
+    }
+
+    /// Takes the first byte of a text.
+    fn begin(&mut self, byte: u8)
+        requires { self.old.form ≡ form.Empty }
+        ensures { (f : FormulaValue) (text : List ℕ) → StandsForText f self.old text → StandsForText f self.new (text ++ byte ∷ []) }
+    {
+        if byte == b'd' {
+            self.form = Form::Letter;
+            return;
+        }
+        if byte == b'a' {
+            self.form = Form::Steps;
+            self.take_byte(byte);
+            return;
+        }
+        self.form = Form::Lines;
+        self.text.take(byte);
+    }
+
+    /// Takes the byte behind a first `d`, and by it both.
+    fn go_on(&mut self, byte: u8)
+        requires { self.old.form ≡ form.Letter }
+        ensures { (f : FormulaValue) (text : List ℕ) → StandsForText f self.old text → StandsForText f self.new (text ++ byte ∷ []) }
+    {
+        if byte == b' ' {
+            self.form = Form::Lines;
+            self.text.take(b'd');
+            self.text.take(byte);
+            return;
+        }
+        self.form = Form::Steps;
+        self.take_byte(b'd');
+        self.take_byte(byte);
+    }
+
+    /// Takes a byte of the text behind those before.
+    fn take(&mut self, byte: u8)
+        ensures { (f : FormulaValue) (text : List ℕ) → StandsForText f self.old text → StandsForText f self.new (text ++ byte ∷ []) }
+    {
+        match self.form() {
+            Form::Empty => self.begin(byte),
+            Form::Letter => self.go_on(byte),
+            Form::Lines => self.text.take(byte),
+            Form::Steps => self.take_byte(byte),
+            Form::Literals => self.take_byte(byte),
+        }
+    }
+
+    /// Takes bytes of the text one by one.
+    fn take_all(&mut self, bytes: &[u8])
+        ensures { (f : FormulaValue) (text : List ℕ) → StandsForText f self.old text → StandsForText f self.new (text ++ bytes.now) }
+    {
+        for byte in bytes {
+            self.take(*byte);
+        }
+    }
+
+    /// Takes bytes of a text in the binary form.
+    fn feed_bytes(&mut self, bytes: &[u8])
+        ensures { (f : FormulaValue) (text : List ℕ) → StandsForBytes f self.old text → StandsForBytes f self.new (text ++ bytes.now) }
+    {
+        for byte in bytes {
+            self.take_byte(*byte);
+        }
+    }
+
+    /// Takes bytes in the form that is known by those before, or one by one.
+    fn feed_rest(&mut self, bytes: &[u8])
+        ensures { (f : FormulaValue) (text : List ℕ) → StandsForText f self.old text → StandsForText f self.new (text ++ bytes.now) }
+    {
+        match self.form() {
+            Form::Empty => self.take_all(bytes),
+            Form::Letter => self.take_all(bytes),
+            Form::Lines => self.text.feed(bytes),
+            Form::Steps => self.feed_bytes(bytes),
+            Form::Literals => self.feed_bytes(bytes),
         }
     }
 
@@ -226,30 +269,50 @@ impl ProofJudge {
     pub fn feed(&mut self, bytes: &[u8])
         ensures { (f : FormulaValue) (text : List ℕ) → StandsForText f self.old text → StandsForText f self.new (text ++ bytes.now) }
     {
-        for byte in bytes {
-            self.take(*byte);
-        }
+        // behind two bytes the form is known
+        let (front, rest) = bytes.split_at(bytes.len().min(2));
+        self.take_all(front);
+        self.feed_rest(rest);
     }
 
-    /// The text ends.
-    fn end_text(&mut self)
-        ensures { (f : FormulaValue) (text : List ℕ) → StandsForText f self.old text → EndsText f self.new text }
+    /// A text in the binary form ends.
+    fn end_bytes(&mut self)
+        ensures { (f : FormulaValue) (text : List ℕ) → StandsForBytes f self.old text → EndsBytes f self.new text }
     {
         if self.is_closed() {
             return;
         }
-        self.end_word();
+        if self.is_within() {
+            self.text.refuse(self.step, Why::CutOff);
+        }
+    }
+
+    /// The judgement of a text in the binary form, which ends.
+    fn judge_bytes(&mut self) -> Result<Judgement, ClauseFault>
+        ensures { (f : FormulaValue) (text : List ℕ) → StandsForBytes f self.old text → IfOk result (λ j. JudgesReading f (read_binary_proof f.variables text) j) }
+    {
+        self.end_bytes();
+        self.text.judge_words()
     }
 
     /// The judgement of the text, which ends.
     fn judgement(&mut self) -> Result<Judgement, ClauseFault>
         ensures { (f : FormulaValue) (text : List ℕ) → StandsForText f self.old text → IfOk result (λ j. JudgesProof f text j) }
     {
-        self.end_text();
-        self.reader.finish(self.line)
+        match self.form() {
+            Form::Empty => self.text.judgement(),
+            Form::Letter => {
+                self.text.take(b'd');
+                self.text.judgement()
+            }
+            Form::Lines => self.text.judgement(),
+            Form::Steps => self.judge_bytes(),
+            Form::Literals => self.judge_bytes(),
+        }
     }
 
-    /// The judgement of the text: of every one that the judge stands for.
+    /// The judgement of the text: of every one that the judge stands for. A judgement's line is that of a text in the text
+    /// form, and the number of the step, counted from 1, of one in the binary form.
     ///
     /// Errors: `NoMemory` where a growth was refused.
     pub fn finish(self) -> Result<Judgement, ClauseFault>

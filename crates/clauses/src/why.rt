@@ -1,20 +1,21 @@
-//! Why a line of a proof is refused.
+//! Why a line of a proof, or a step in the binary form, is refused.
 ghost use Rattle.std.specs.Prelude.{◌≡◌};
 ghost use Rattle.clauses.specs.Printed.{proof_why_number, proof_why_name};
 
 use std::fmt;
 use thiserror::Error;
 
-/// Why a line of a proof is refused.
+/// Why a line of a proof, or a step in the binary form, is refused.
 #[derive(Clone, Copy, Debug, PartialEq, Eq, Error)]
 pub enum Why {
-    /// A word is no literal, no `0` that ends a step, and no `d` that begins one.
+    /// A word is no literal, no `0` that ends a step, and no `d` that begins one; in the binary form a byte between steps is
+    /// neither `a` nor `d`, or a number is no literal or has a needless last byte.
     BadWord,
     /// A literal's variable is beyond those of the formula.
     BadVariable,
     /// The text ends within a step.
     CutOff,
-    /// There are more than 2^62 lines.
+    /// There are more than 2^62 lines, or steps in the binary form.
     TooLong,
 }
 

@@ -48,7 +48,8 @@ const TOGETHER: Given = (2, &[&[2, 4], &[2, 5]]);
 /// A clause of one literal, and one that this shortens.
 const UNIT: Given = (3, &[&[2], &[3, 4, 6]]);
 
-/// Formulas, and proofs over them. The steps of the first proof over all eight clauses are left out and turned one by one.
+/// Formulas, and proofs over them, in the text form and in the binary one. The steps of the first proof over all eight clauses
+/// are left out and turned one by one.
 const ROWS: [Row; 8] = [
     (
         &NONE,
@@ -78,6 +79,33 @@ const ROWS: [Row; 8] = [
             ("1 2 0\n-1 0\n2 0\n", Judgement::NotImplied { line: 2 }),
             ("1 2 0\n1 0\n-2 0\n", Judgement::Derived { line: 3 }),
             ("1 2 0\nd 2 1 0\n1 0\n", Judgement::NotImplied { line: 3 }),
+            (
+                "a\x02\x04\x00a\x02\x00a\x04\x00",
+                Judgement::Derived { line: 3 },
+            ),
+            (
+                "a\x02\x04\x00a\x02\x00a\x04\x00a",
+                Judgement::Derived { line: 3 },
+            ),
+            ("a\x02\x00", Judgement::NotImplied { line: 1 }),
+            (
+                "a\x02\x04\x00d\x04\x02\x00a\x02\x00",
+                Judgement::NotImplied { line: 3 },
+            ),
+            (
+                "a\x02\x04\x00a\x02",
+                Judgement::Malformed {
+                    line: 2,
+                    why: Why::CutOff,
+                },
+            ),
+            (
+                "a\x02\x04\x00 a\x02\x00",
+                Judgement::Malformed {
+                    line: 2,
+                    why: Why::BadWord,
+                },
+            ),
             (
                 "c 1 0\n1 2 0\nc\nd 7 0\n",
                 Judgement::Malformed {

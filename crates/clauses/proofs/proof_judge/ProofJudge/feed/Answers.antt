@@ -1,12 +1,10 @@
-use Rattle.std.proofs.Common.{◌≡◌, List, ℕ, ◌++◌, ◌∷◌, [], ◌+◌, take, get_or, append_assoc, subst, sym, ap, ◌∙◌}
-use Rattle.std.proofs.lemmas.List.{take_more}
+use Rattle.std.proofs.Common.{List, ℕ, ◌++◌, ap, ap₂, subst, ◌∙◌, append_assoc, take-append-drop}
 use Rattle.clauses.specs.ProofJudges.{StandsForText}
 use Rattle.clauses.proofs.proof_judge.ProofJudge.feed.Goals as goal
 
-pub loop-byte-preserved : goal.loop-byte-preserved
-loop-byte-preserved c f text stands =
-    let front : List ℕ = take c.loop-byte.byte-index c.args.bytes.now in
-    let byte = get_or c.args.bytes.now c.loop-byte.byte-index 0 in
-    let whole : (text ++ front) ++ byte ∷ [] ≡ text ++ take (c.loop-byte.byte-index + 1) c.args.bytes.now =
-    append_assoc text front (byte ∷ []) ∙ ap (λ (l : List ℕ). text ++ l) (sym (take_more c.args.bytes.now c.loop-byte.byte-index 0 c.loop-byte-test.true)) in
-    subst (StandsForText f c.take.new.self) whole (c.take.ensures.stands f (text ++ front) (c.loop-byte.invariant f text stands))
+pub returns : goal.returns
+returns c f text b =
+    subst (StandsForText f c.feed_rest.new.self)
+    (append_assoc text c.split_at.result.0.now c.split_at.result.1.now
+    ∙ ap (λ (l : List ℕ). text ++ l) (ap₂ (λ (l r : List ℕ). l ++ r) c.split_at.ensures.front c.split_at.ensures.back ∙ take-append-drop _ c.args.bytes.now))
+    (c.feed_rest.ensures f (text ++ c.split_at.result.0.now) (c.take_all.ensures f text b))

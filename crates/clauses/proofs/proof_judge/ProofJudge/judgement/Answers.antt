@@ -1,10 +1,19 @@
-use Rattle.std.proofs.Common.{sym, subst}
-use Rattle.clauses.specs.Proofs.{read_proof}
-use Rattle.clauses.specs.ProofJudges.{ProofJudge, EndsText}
-use Rattle.clauses.proofs.ProofJudgeLemmas.{reads_text}
+use Rattle.std.proofs.Common.{ap, sym, subst, inl, inr, ◌∙◌}
+use Rattle.clauses.specs.ProofJudges.{ProofJudge, judge_of, StandsForText}
+use Rattle.clauses.proofs.ProofJudgeLemmas.{judges_empty, judges_letter, judges_lines, judges_bytes}
 use Rattle.clauses.proofs.proof_judge.ProofJudge.judgement.Goals as goal
 
-pub returns : goal.returns
-returns c f text s =
-    let e : EndsText f (record { reader = c.self.inside.reader; variables = c.self.inside.variables; line = c.self.inside.line; place = c.self.inside.place; word = c.self.inside.word }) text = subst (λ (x : ProofJudge). EndsText f x text) (sym c.self.view_is) (c.end_text.ensures f text s) in
-    c.finish.ensures.judges f e.marks (read_proof f.variables text) e.words (reads_text f (record { reader = c.self.inside.reader; variables = c.self.inside.variables; line = c.self.inside.line; place = c.self.inside.place; word = c.self.inside.word }) text e)
+pub returns-in-Empty : goal.returns-in-Empty
+returns-in-Empty c f text b = judges_empty f (judge_of c.self.inside) text c.judgement.result (ap (λ (x : ProofJudge). x.form) c.self.view_is ∙ (sym c.form.ensures ∙ c.in-Empty.is)) (c.judgement.ensures f) (subst (λ (x : ProofJudge). StandsForText f x text) (sym c.self.view_is) b)
+
+pub returns-in-Letter : goal.returns-in-Letter
+returns-in-Letter c f text b = judges_letter f (judge_of c.self.inside) c.take.new.self text c.judgement-in-Letter.result (ap (λ (x : ProofJudge). x.form) c.self.view_is ∙ (sym c.form.ensures ∙ c.in-Letter.is)) (c.take.ensures.stands f) (c.judgement-in-Letter.ensures f) (subst (λ (x : ProofJudge). StandsForText f x text) (sym c.self.view_is) b)
+
+pub returns-in-Lines : goal.returns-in-Lines
+returns-in-Lines c f text b = judges_lines f (judge_of c.self.inside) text c.judgement-in-Lines.result (ap (λ (x : ProofJudge). x.form) c.self.view_is ∙ (sym c.form.ensures ∙ c.in-Lines.is)) (c.judgement-in-Lines.ensures f) (subst (λ (x : ProofJudge). StandsForText f x text) (sym c.self.view_is) b)
+
+pub returns-in-Steps : goal.returns-in-Steps
+returns-in-Steps c f text b = judges_bytes f c.args.self.now text c.judge_bytes.result (inl (sym c.form.ensures ∙ c.in-Steps.is)) (c.judge_bytes.ensures f) b
+
+pub returns-in-Literals : goal.returns-in-Literals
+returns-in-Literals c f text b = judges_bytes f c.args.self.now text c.judge_bytes-in-Literals.result (inr (sym c.form.ensures ∙ c.in-Literals.is)) (c.judge_bytes-in-Literals.ensures f) b

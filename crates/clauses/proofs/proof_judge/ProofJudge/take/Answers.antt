@@ -1,21 +1,13 @@
-use Rattle.std.proofs.Common.{[], ◌∷◌, ◌++◌, sym, ◌∙◌}
-use Rattle.clauses.proofs.ProofJudgeLemmas.{byte_comes, byte_passed, stands_through, stands_behind}
+use Rattle.std.proofs.Common.{ap, sym, subst, [], ◌∷◌, inl, inr, ◌∙◌}
+use Rattle.clauses.specs.ProofJudges.{ProofJudge, judge_of, StandsForText}
+use Rattle.clauses.proofs.ProofJudgeLemmas.{lines_more, bytes_more}
 use Rattle.clauses.proofs.proof_judge.ProofJudge.take.Goals as goal
 
-pub returns-then-is_closed-clause-stands : goal.returns-then-is_closed-clause-stands
-returns-then-is_closed-clause-stands c f text s = stands_behind f c.args.self.now text c.args.byte (byte_passed f c.args.self.now text c.args.byte (sym c.is_closed.ensures ∙ c.if-is_closed.true) (stands_through f c.args.self.now text s))
+pub returns-in-Lines : goal.returns-in-Lines
+returns-in-Lines c f text b = lines_more f (judge_of c.self.inside) c.take.new.self text (c.args.byte ∷ []) (ap (λ (x : ProofJudge). x.form) c.self.view_is ∙ (sym c.form.ensures ∙ c.in-Lines.is)) (c.take.ensures.stands f) (subst (λ (x : ProofJudge). StandsForText f x text) (sym c.self.view_is) b)
 
-pub returns-in-Begins-clause-stands : goal.returns-in-Begins-clause-stands
-returns-in-Begins-clause-stands c f text s =
-    stands_behind f c.begin_line.new.self text c.args.byte
-    (c.begin_line.ensures.stands f (text ++ c.args.byte ∷ []) (byte_comes f c.args.self.now text c.args.byte (sym c.is_closed.ensures ∙ c.if-is_closed.false) (stands_through f c.args.self.now text s)))
+pub returns-in-Steps : goal.returns-in-Steps
+returns-in-Steps c f text b = bytes_more f c.args.self.now c.take_byte.new.self text (c.args.byte ∷ []) (inl (sym c.form.ensures ∙ c.in-Steps.is)) (c.take_byte.ensures f) b
 
-pub returns-in-Within-clause-stands : goal.returns-in-Within-clause-stands
-returns-in-Within-clause-stands c f text s =
-    stands_behind f c.take_within.new.self text c.args.byte
-    (c.take_within.ensures.stands f (text ++ c.args.byte ∷ []) (byte_comes f c.args.self.now text c.args.byte (sym c.is_closed.ensures ∙ c.if-is_closed.false) (stands_through f c.args.self.now text s)))
-
-pub returns-in-Comment-clause-stands : goal.returns-in-Comment-clause-stands
-returns-in-Comment-clause-stands c f text s =
-    stands_behind f c.pass.new.self text c.args.byte
-    (c.pass.ensures.stands f (text ++ c.args.byte ∷ []) (byte_comes f c.args.self.now text c.args.byte (sym c.is_closed.ensures ∙ c.if-is_closed.false) (stands_through f c.args.self.now text s)))
+pub returns-in-Literals : goal.returns-in-Literals
+returns-in-Literals c f text b = bytes_more f c.args.self.now c.take_byte-in-Literals.new.self text (c.args.byte ∷ []) (inr (sym c.form.ensures ∙ c.in-Literals.is)) (c.take_byte-in-Literals.ensures f) b

@@ -1,21 +1,25 @@
-use Rattle.std.proofs.Common.{[], ◌∷◌, ap, sym, subst, ◌∙◌}
-use Rattle.std.proofs.lemmas.Bool.{eq-eqb, ne_eqb}
-use Rattle.clauses.specs.ProofJudges.{ProofJudge, StandsBefore}
-use Rattle.clauses.proofs.ProofJudgeLemmas.{word_line, word_blank, stands_letter}
+use Rattle.std.proofs.Common.{ℕ, [], ◌∷◌, ◌++◌, sym, ap, subst, refl, ◌∙◌, arith}
+use Rattle.std.proofs.lemmas.Bool.{lt-ltb, le-ltb}
+use Rattle.clauses.specs.declared.proof_judge.Form.TheVariants as form
+use Rattle.clauses.specs.Words.{token_said}
+use Rattle.clauses.specs.BinaryProofs.{number_said}
+use Rattle.clauses.specs.ProofJudges.{ProofJudge, judge_of, StandsForBytes}
+use Rattle.clauses.proofs.ProofJudgeLemmas.{number_on, step_ends, number_ends}
 use Rattle.clauses.proofs.proof_judge.ProofJudge.take_within.Goals as goal
 
-pub returns-then-byte-eq10-clause-stands : goal.returns-then-byte-eq10-clause-stands
-returns-then-byte-eq10-clause-stands c f text b =
-    word_line f c.args.self.now c.end_word.new.self c.end_line.new.self text c.args.byte c.requires.open c.requires.within (eq-eqb c.args.byte 10 c.if-byte-eq10.true)
-    (c.end_word.ensures.words, c.end_word.ensures.word) c.end_word.ensures.same c.end_line.ensures b
+pub returns-then-byte-ge128 : goal.returns-then-byte-ge128
+returns-then-byte-ge128 c f text b =
+    number_on f (judge_of c.self.inside) (record { text = c.self.inside.text; variables = c.self.inside.text.variables; form = c.self.inside.form; step = c.self.inside.step; number = c.with-self-inside.result }) text c.args.byte (ap (λ (x : ProofJudge). x.text.reader.closed) c.self.view_is ∙ c.requires.open)
+    (ap (λ (x : ProofJudge). x.form) c.self.view_is ∙ c.requires.within) (le-ltb c.args.byte 128 c.if-byte-ge128.true) refl refl refl c.with-self-inside.ensures (subst (λ (x : ProofJudge). StandsForBytes f x text) (sym c.self.view_is) b)
 
-pub returns-then-is_blank-clause-stands : goal.returns-then-is_blank-clause-stands
-returns-then-is_blank-clause-stands c f text b =
-    word_blank f c.args.self.now c.end_word-then-is_blank.new.self text c.args.byte c.requires.open c.requires.within (ne_eqb c.args.byte 10 c.if-byte-eq10.false) (sym c.is_blank.ensures ∙ c.if-is_blank.true)
-    (c.end_word-then-is_blank.ensures.words, c.end_word-then-is_blank.ensures.word) c.end_word-then-is_blank.ensures.same b
+pub returns-then-is_end : goal.returns-then-is_end
+returns-then-is_end c f text b =
+    step_ends f (judge_of c.self.inside) (record { text = c.take_word.new.self; variables = c.take_word.new.self.variables; form = form.Steps; step = c.saturating_add-self-inside.result; number = c.new-self-inside.result }) text c.args.byte (ap (λ (x : ProofJudge). x.text.reader.closed) c.self.view_is ∙ c.requires.open)
+    (ap (λ (x : ProofJudge). x.form) c.self.view_is ∙ c.requires.within) (lt-ltb c.args.byte 128 (omega (arith, c.if-byte-ge128.false))) (λ bytes s. sym (c.is_end.ensures bytes s) ∙ c.if-is_end.true)
+    c.take_word.ensures.variables c.saturating_add-self-inside.ensures c.new-self-inside.ensures c.take_word.ensures.words (subst (λ (x : ProofJudge). StandsForBytes f x text) (sym c.self.view_is) b)
 
-pub returns-clause-stands : goal.returns-clause-stands
-returns-clause-stands c f text b =
-    stands_letter f (record { reader = c.self.inside.reader; variables = c.self.inside.variables; line = c.self.inside.line; place = c.self.inside.place; word = c.self.inside.word }) text c.args.byte c.with-self-inside.result (ap (λ (x : ProofJudge). x.reader.closed) c.self.view_is ∙ c.requires.open) (ap (λ (x : ProofJudge). x.place) c.self.view_is ∙ c.requires.within)
-    (ne_eqb c.args.byte 10 c.if-byte-eq10.false) (sym c.is_blank.ensures ∙ c.if-is_blank.false) c.with-self-inside.ensures
-    (subst (λ (x : ProofJudge). StandsBefore f x text (c.args.byte ∷ [])) (sym c.self.view_is) b)
+pub returns : goal.returns
+returns c f text b =
+    number_ends f (judge_of c.self.inside) (record { text = c.take_word-2.new.self; variables = c.take_word-2.new.self.variables; form = c.self.inside.form; step = c.self.inside.step; number = c.new-self-inside-2.result }) text c.args.byte (token_said c.token-token.result) (ap (λ (x : ProofJudge). x.text.reader.closed) c.self.view_is ∙ c.requires.open)
+    (ap (λ (x : ProofJudge). x.form) c.self.view_is ∙ c.requires.within) (lt-ltb c.args.byte 128 (omega (arith, c.if-byte-ge128.false))) (λ bytes s. sym (c.is_end.ensures bytes s) ∙ c.if-is_end.false)
+    (λ bytes s. c.token-token.ensures.said bytes s ∙ ap (λ (v : ℕ). number_said v (bytes ++ c.args.byte ∷ [])) c.variables.ensures.variables) c.take_word-2.ensures.variables refl refl c.new-self-inside-2.ensures c.take_word-2.ensures.words (subst (λ (x : ProofJudge). StandsForBytes f x text) (sym c.self.view_is) b)
