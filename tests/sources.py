@@ -3,14 +3,20 @@
 counted calls of `base`, one for each operator, and is counted in the one tally of a run.
 
 Outside comments and contracts no case of the two enums of operators is named, a circuit's gates are read in `runs` alone,
-`Tally::new` is called in the `new` of the two runs alone, and `witness` and `lift` make no counted call. Prints what breaks
-one of these rules, and ends with status 0 where nothing does, else 1."""
+`Tally::new` is called in the `new` of the two runs alone, and `witness` and `lift` make no counted call. In `runs` the list of
+a circuit's gates is handed to one function, which does nothing but hand it on to the counted call for many gates: there the
+operands of a gate are named in the one place that tells them to `base`, and what tells them is called by nothing. Prints what
+breaks one of these rules, and ends with status 0 where nothing does, else 1."""
 import pathlib
 import re
 import sys
 
 CRATES = pathlib.Path(__file__).resolve().parent.parent / "crates"
-COUNTED = ("unary", "binary", "ite", "slice", "uext", "sext", "concat", "take_all")
+COUNTED = ("unary", "binary", "ite", "slice", "uext", "sext", "concat", "take", "take_all", "gate", "gate_all")
+# Where `runs` hands a circuit's gates on, the call that counts them, and what tells `base` their operands.
+HANDED = r"settle_gates\(\s*self\.circuit\.gates\(\)"
+HANDS_ON = "{gate_all(&Operands(gates),first,bits,tally);}"
+TELLS = "{letgate=&self.0[k];(gate.rhs0.number(),gate.rhs1.number())}"
 
 
 def without_blocks(text, opening):
@@ -48,8 +54,30 @@ def functions(text):
         yield found[1], text[start:at]
 
 
+def gate_faults():
+    """What `runs` does with the gates of a circuit but to hand them to the counted call."""
+    tells, hands_on = 0, 0
+    for file in sorted((CRATES / "runs/src").rglob("*.rt")):
+        text, name = code(file), file.relative_to(CRATES)
+        if len(re.findall(r"\bgates\(\)", text)) != len(re.findall(HANDED, text)):
+            yield f"{name}: reads a circuit's gates"
+        for of, body in functions(text):
+            packed = re.sub(r"\s+", "", body)
+            told, handed = (of, packed) == ("operands", TELLS), (of, packed) == ("settle_gates", HANDS_ON)
+            tells, hands_on = tells + told, hands_on + handed
+            if re.search(r"\brhs[01]\b", body) and not told:
+                yield f"{name}: names the operands of a gate in {of}"
+            if re.search(r"\.operands\b|::operands\b", body):
+                yield f"{name}: asks for the operands of a gate in {of}"
+            if re.search(r"\bOperands\b", body) and not handed:
+                yield f"{name}: makes a list of gates in {of}"
+    if (tells, hands_on) != (1, 1):
+        yield f"runs: gates are told to base in {tells} places, and handed to the counted call in {hands_on}"
+
+
 def faults():
     tallies = []
+    yield from gate_faults()
     for crate in ("runs", "witness", "lift"):
         for file in sorted((CRATES / crate / "src").rglob("*.rt")):
             text, name = code(file), file.relative_to(CRATES)

@@ -20,3 +20,4 @@ pub mod DecimalLemmas
 pub mod StepLemmas
 pub mod RowLemmas
 pub mod LiteralLemmas
+mod GateLemmas

@@ -1,5 +1,5 @@
 -- Literals and valuations ("AIGER 1.9 and Beyond", literals: 2v is variable v, 2v + 1 its negation, 0 is false and 1 is true).
-use Rattle.std.specs.Prelude.{ℕ, ◌+◌, ◌*◌, ◌/◌, ◌%◌, Bool, true, false, not, ◌==◌, if◌then◌else◌}
+use Rattle.std.specs.Prelude.{◌≡◌, ℕ, ◌+◌, ◌*◌, ◌/◌, ◌%◌, Bool, true, false, not, ◌&&◌, ◌==◌, if◌then◌else◌, List, slice_index_or}
 
 -- a valuation says of each variable whether it is true; only those that a circuit or a formula has mean something
 abbrev pub Valuation : Type 0
@@ -19,3 +19,11 @@ literal_value v l =
     if l == 0 then false
     else (if l == 1 then true
     else (if l % 2 == 0 then v (variable l) else not (v (variable l))))
+
+-- the valuation of a list of bits: the k-th is that of variable k
+abbrev pub valuation_of : List Bool → Valuation
+valuation_of bits k = slice_index_or bits k false
+
+-- a variable is true exactly where both of two literals are
+abbrev pub IsAnd : Valuation → ℕ → ℕ → ℕ → Type 0
+IsAnd v gate left right = v gate ≡ (literal_value v left && literal_value v right)

@@ -1,6 +1,7 @@
 //! Words and their operators, steps, the devices that bytes come from and go to, and lines and decimals of a text.
 #![tactic(auto)]
 
+mod and_gates;
 mod counter;
 mod decimals;
 mod device;
@@ -22,6 +23,7 @@ mod trials;
 mod width;
 mod words;
 
+pub use and_gates::{AndGates, gate_all, literal_bit};
 pub use counter::Counter;
 pub use decimals::decimal;
 pub use device::DeviceFault;

@@ -3,13 +3,13 @@ use Rattle.std.proofs.Common.{◌≡◌, ℕ, suc, ◌+◌, ◌<◌, ◌≤◌, 
 use Rattle.std.proofs.lemmas.List.{length-map, length-set, length-replicate, get_or-map, get_or-replicate, get_or-set_other}
 use Rattle.aiger.specs.declared.circuit.Latch.{Latch}
 use Rattle.aiger.specs.declared.circuit.Reset.TheVariants.{Zero}
-use Rattle.base.specs.Literal.{Valuation, variable, literal_value}
+use Rattle.base.specs.Literal.{Valuation, variable, literal_value, valuation_of}
 use Rattle.aiger.specs.Net.{variables, IsDefined, SatisfiesFrom, net_input_bits, latch_bits}
 use Rattle.aiger.specs.Circuit.{Circuit, IsCircuit, net}
 use Rattle.aiger.specs.Trace.{IsCircuitFrame, SameCircuitFrame, next_latch_bits}
 use Rattle.aiger.proofs.TraceLemmas.{literal_value-agree, bits_from-agree, SameFrame-from_bits}
 use Rattle.runs.specs.CircuitRun.{CircuitRun, reset_bit, reset_bits, no_inputs}
-use Rattle.runs.specs.CircuitHolds.{valuation_of, KeepsBits}
+use Rattle.runs.specs.CircuitHolds.{KeepsBits}
 use Rattle.runs.proofs.BitPassLemmas.{bits_from-is, bits_from-set}
 
 -- runs with equal parts are equal

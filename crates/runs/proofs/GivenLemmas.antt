@@ -2,12 +2,13 @@
 use Rattle.std.proofs.Common.{◌≡◌, ℕ, ◌<◌, Bool, true, false, cond, nat_eq, eq-eqb, List, [], ◌∷◌, ◌++◌, length, map, get_or, set, Some, ⊎_elim, refl, sym, ap, ◌∙◌, append_assoc, arith}
 use Rattle.std.proofs.lemmas.Bool.{cases_eq, ne_eqb}
 use Rattle.std.proofs.lemmas.List.{length-map, length-set, get_or-map, get_or-set_same, get_or-set_other, ext_get_or}
+use Rattle.std.specs.List.{AllByRecursion}
 use Rattle.btor2.specs.declared.item.Item.{Item}
 use Rattle.btor2.specs.declared.item.Body.{Body}
 use Rattle.btor2.specs.declared.item.Body.TheVariants as body
 use Rattle.btor2.specs.Items.{find_item, is_state, is_input, is_free}
 use Rattle.btor2.specs.Check.{IsWellFormed}
-use Rattle.btor2.specs.Trace.{Frame, state_word, LineHolds, LinesHold, IsFrame}
+use Rattle.btor2.specs.Trace.{Frame, state_word, LineHolds, IsFrame}
 use Rattle.btor2.proofs.ModelLemmas.{IsIn, find_item-in}
 use Rattle.runs.specs.Frames.{is_leaf, ids_of, kind_rank, given_at, given_leaves}
 use Rattle.runs.proofs.RankLemmas.{rank-below, ids-rank, length-ids, state_leaf, input_leaf, either_word}
@@ -26,7 +27,7 @@ line_given items state state' input input' f id (body.Input s) of_state of_input
 line_given items state state' input input' f id _ of_state of_input h = h
 
 lines_given : (items : List Item) (state state' input input' f : Frame) (before rest : List Item) → items ≡ before ++ rest → ((x : Item) → IsIn items x → is_state x.body ≡ true → state_word items state input x.id ≡ state_word items state' input' x.id)
-    → ((x : Item) → IsIn items x → is_input x.body ≡ true → input x.id ≡ input' x.id) → LinesHold items state input f rest → LinesHold items state' input' f rest
+    → ((x : Item) → IsIn items x → is_input x.body ≡ true → input x.id ≡ input' x.id) → AllByRecursion (λ (x : Item). LineHolds items state input f x.id x.body) rest → AllByRecursion (λ (x : Item). LineHolds items state' input' f x.id x.body) rest
 lines_given items state state' input input' f before [] e of_states of_inputs h = tt
 lines_given items state state' input input' f before (x ∷ xs) e of_states of_inputs h =
     let at : IsIn items x = record { before = before; after = xs; splits = e } in (

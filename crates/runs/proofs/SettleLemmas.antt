@@ -2,12 +2,13 @@
 use Rattle.std.proofs.Common.{◌≡◌, ◌≢◌, ℕ, ◌^◌, ◌<◌, ◌≤◌, Bool, true, false, cond, List, [], ◌∷◌, ◌++◌, length, get_or, set, Option, Some, None, MatchOption, is_some, option_and_then, unwrap_or, ⊎_elim, refl, sym, ap, subst, ◌∙◌, append_assoc, append-nil, arith}
 use Rattle.std.proofs.lemmas.Option.{none-some, same_Some}
 use Rattle.std.proofs.lemmas.List.{length-set, get_or-set_same, get_or-set_other}
+use Rattle.std.specs.List.{AllByRecursion}
 use Rattle.btor2.specs.declared.item.Item.{Item}
 use Rattle.btor2.specs.declared.item.Body.{Body}
 use Rattle.btor2.specs.declared.item.Body.TheVariants as body
 use Rattle.btor2.specs.Items.{find_item, node_width, width_of_body}
 use Rattle.btor2.specs.Check.{IsWellFormed}
-use Rattle.btor2.specs.Trace.{Frame, bits_of, LineHolds, LinesHold, IsFrame}
+use Rattle.btor2.specs.Trace.{Frame, bits_of, LineHolds, IsFrame}
 use Rattle.btor2.proofs.AppendLemmas.{find_item-append, found_cases}
 use Rattle.btor2.proofs.ModelLemmas.{IsIn, IsAccepted-at, find_item-in}
 use Rattle.runs.specs.declared.nodes.Node.{Node}
@@ -111,7 +112,7 @@ module _ (items : List Item) (x : Item) (o : Operator) (values : List ℕ) (foun
         many = rest.many ∙ length-set values (slot items x.id) (operator_value o values);
       })
 
-pub line_at : (items : List Item) (state input f : Frame) (before after : List Item) (x : Item) → LinesHold items state input f (before ++ x ∷ after) → LineHolds items state input f x.id x.body
+pub line_at : (items : List Item) (state input f : Frame) (before after : List Item) (x : Item) → AllByRecursion (λ (x : Item). LineHolds items state input f x.id x.body) (before ++ x ∷ after) → LineHolds items state input f x.id x.body
 line_at items state input f [] after x h = h.0
 line_at items state input f (y ∷ ys) after x h = line_at items state input f ys after x h.1
 
@@ -132,7 +133,7 @@ module _ (items : List Item) (whole : IsWellFormed items) (state input f : Frame
       node_gives items before xs x splits whole f fits values many held state input x.id x.body accepted.says has
       (λ is. stays x.id x found has (leaf_no_operator items x.body is) ∙ leaves x there is)
       (λ is. stays x.id x found has (constant_no_operator items x.body is) ∙ constants x.id x found is) own
-      (line_at items state input f before xs x (subst (LinesHold items state input f) splits frame))
+      (line_at items state input f before xs x (subst (AllByRecursion (λ (x : Item). LineHolds items state input f x.id x.body)) splits frame))
       in
       elim (operator_of items x.body)
       as (λ p. operator_of items x.body ≡ p → (has_value x.body ≡ true → MatchOption p (get_or values (slot items x.id) 0 ≡ f x.id) (λ o. OperatorFits o values × (operator_value o values ≡ f x.id)))

@@ -1,12 +1,13 @@
 -- The words that a run's lists have for the items of a kind, and frames of them.
 use Rattle.std.proofs.Common.{◌≡◌, ℕ, ◌^◌, ◌<◌, Bool, true, List, [], ◌∷◌, ◌++◌, length, map, get_or, Some, is_some, refl, sym, ap, subst, ◌∙◌, append_assoc, arith}
 use Rattle.std.proofs.lemmas.List.{length-map, get_or-map, ext_get_or}
+use Rattle.std.specs.List.{AllByRecursion}
 use Rattle.btor2.specs.declared.item.Item.{Item}
 use Rattle.btor2.specs.declared.item.Body.{Body}
 use Rattle.btor2.specs.declared.item.Body.TheVariants as body
 use Rattle.btor2.specs.Items.{find_item, node_width, is_input, is_state, is_free}
 use Rattle.btor2.specs.Check.{IsWellFormed}
-use Rattle.btor2.specs.Trace.{Frame, bits_of, LineHolds, LinesHold, IsFrame, StateFits, InputFits, StatesFit, InputsFit, IsState, IsInput}
+use Rattle.btor2.specs.Trace.{Frame, bits_of, LineHolds, IsFrame, StateFits, InputFits, IsState, IsInput}
 use Rattle.btor2.proofs.ModelLemmas.{IsIn, find_item-in}
 use Rattle.btor2.proofs.TraceLemmas.{words_fit_frame, frame_exists}
 use Rattle.btor2.specs.Lists.{of_kind}
@@ -51,14 +52,14 @@ input_fits items input id (body.Input s) h = h refl
 input_fits items input id (body.State s) h = λ free. h refl
 input_fits items input id _ h = tt
 
-states_fit : (items : List Item) (state : Frame) (before rest : List Item) → items ≡ before ++ rest → ((y : Item) → IsIn items y → is_state y.body ≡ true → state y.id < 2 ^ bits_of items y.id) → StatesFit items state rest
+states_fit : (items : List Item) (state : Frame) (before rest : List Item) → items ≡ before ++ rest → ((y : Item) → IsIn items y → is_state y.body ≡ true → state y.id < 2 ^ bits_of items y.id) → AllByRecursion (λ (x : Item). StateFits items state x.id x.body) rest
 states_fit items state before [] e h = tt
 states_fit items state before (x ∷ xs) e h = (
   state_fits items state x.id x.body (h x (record { before = before; after = xs; splits = e })),
   states_fit items state (before ++ x ∷ []) xs (e ∙ sym (append_assoc before (x ∷ []) xs)) h,
 )
 
-inputs_fit : (items : List Item) (input : Frame) (before rest : List Item) → items ≡ before ++ rest → ((y : Item) → IsIn items y → is_leaf y.body ≡ true → input y.id < 2 ^ bits_of items y.id) → InputsFit items input rest
+inputs_fit : (items : List Item) (input : Frame) (before rest : List Item) → items ≡ before ++ rest → ((y : Item) → IsIn items y → is_leaf y.body ≡ true → input y.id < 2 ^ bits_of items y.id) → AllByRecursion (λ (x : Item). InputFits items input x.id x.body) rest
 inputs_fit items input before [] e h = tt
 inputs_fit items input before (x ∷ xs) e h = (
   input_fits items input x.id x.body (h x (record { before = before; after = xs; splits = e })),
@@ -103,7 +104,7 @@ module _ (items : List Item) (w : IsWellFormed items) (values : List ℕ) (many 
   leaf_now f frame y at leaf =
       let found = find_item-in items y w at in
       leaf_word items states_now inputs_now f y.id (get_or values (slot items y.id) 0) y.body leaf
-      (line_at items states_now inputs_now f at.before at.after y (subst (LinesHold items states_now inputs_now f) at.splits frame))
+      (line_at items states_now inputs_now f at.before at.after y (subst (AllByRecursion (λ (x : Item). LineHolds items states_now inputs_now f x.id x.body)) at.splits frame))
       (given-at is_state items values y.id y found) (given_now y.id y found)
 
   -- in a frame of given words each node's word fits

@@ -1,14 +1,18 @@
 -- What a run of a circuit keeps.
-use Rattle.std.specs.Prelude.{◌≡◌, ◌+◌, Bool, true, false, List, length, slice_index_or}
-use Rattle.base.specs.Literal.{Valuation}
+use Rattle.std.specs.Prelude.{◌≡◌, ℕ, ◌+◌, Bool, true, false, List, length, map, slice_index}
+use Rattle.base.specs.Literal.{valuation_of}
+use Rattle.aiger.specs.declared.circuit.Gate.{Gate}
 use Rattle.aiger.specs.Net.{variables, Satisfies, net_input_bits, latch_bits}
 use Rattle.aiger.specs.Circuit.{Circuit, IsCircuit, net}
 use Rattle.runs.specs.declared.bit_run.BitRun.TheInside.{Inside}
 use Rattle.runs.specs.CircuitRun.{CircuitRun}
 
--- the valuation of a list of bits: the k-th is the bit of variable k
-abbrev pub valuation_of : List Bool → Valuation
-valuation_of bits k = slice_index_or bits k false
+-- the operands of each gate, by its position
+abbrev pub left_operand : List Gate → ℕ → ℕ
+left_operand gates = slice_index (map (λ g. g.rhs0) gates)
+
+abbrev pub right_operand : List Gate → ℕ → ℕ
+right_operand gates = slice_index (map (λ g. g.rhs1) gates)
 
 -- what contracts see of a run
 abbrev pub circuit_run_of : Inside → CircuitRun

@@ -1,21 +1,37 @@
 //! The passes over the lists of bits of a run.
-ghost use Rattle.std.specs.Prelude.{◌≡◌, ℕ, ◌+◌, ◌<◌, ◌≤◌, false, length, All, slice_index_or, slice_set};
-ghost use Rattle.base.specs.Steps.{one_more, more_steps};
-ghost use Rattle.base.specs.Literal.{variable, literal_value};
+ghost use Rattle.std.specs.Prelude.{◌≡◌, ℕ, ◌+◌, ◌<◌, ◌≤◌, false, length, All, slice_index_or};
+ghost use Rattle.base.specs.Steps.{more_steps};
+ghost use Rattle.base.specs.Literal.{variable, literal_value, valuation_of};
 ghost use Rattle.aiger.specs.Net.{AreOrderedFrom, SatisfiesFrom};
 ghost use Rattle.runs.specs.CircuitRun.{reset_bit};
-ghost use Rattle.runs.specs.CircuitHolds.{valuation_of};
 
-use aiger::{Gate, Latch, Lit, Reset};
-use base::Tally;
+use aiger::{Gate, Latch, Reset};
+use base::{AndGates, Tally, gate_all, literal_bit, take_all};
 
-/// The bit of a literal, by those of 0 and of the variables.
-pub(crate) fn literal_bit(bits: &[bool], lit: Lit) -> bool
-    requires inside { variable lit < length bits.now }
-    requires constant { slice_index_or bits.now 0 false ≡ false }
-    ensures { result ≡ literal_value (valuation_of bits.now) lit }
-{
-    bits[lit.var() as usize] != (lit.number() % 2 == 1)
+/// The gates of a circuit as those that `base` counts and evaluates.
+#[derive(Drop)]
+struct Operands<'a>(&'a [Gate]);
+
+impl<'a> AndGates for Operands<'a> {
+    ghost use Rattle.std.specs.Prelude.{length};
+    ghost use Rattle.runs.specs.CircuitHolds.{left_operand, right_operand};
+
+    ghost count = { λ g. length g.0.now };
+
+    ghost left = { λ g. left_operand g.0.now };
+
+    ghost right = { λ g. right_operand g.0.now };
+
+    #[inline(always)]
+    fn count(&self) -> usize {
+        self.0.len()
+    }
+
+    #[inline(always)]
+    fn operands(&self, k: usize) -> (u32, u32) {
+        let gate = &self.0[k];
+        (gate.rhs0.number(), gate.rhs1.number())
+    }
 }
 
 /// Gives each gate its bit, from those before it; `first` is the variable of the first gate. One step for each.
@@ -29,25 +45,7 @@ pub(crate) fn settle_gates(gates: &[Gate], first: usize, bits: &mut [bool], tall
     ensures as_many { length bits.new ≡ length bits.old }
     ensures steps { tally.new ≡ more_steps (length gates.now) tally.old }
 {
-    let mut steps = tally.taken();
-    for k in 0..gates.len() {
-        let gate = &gates[k];
-        let left = literal_bit(bits, gate.rhs0);
-        let right = literal_bit(bits, gate.rhs1);
-        bits[first + k] = base::gate(left, right, &mut steps);
-    }
-    *tally = steps;
-}
-
-/// Takes the bit of a latch's next literal as the `k`-th of those taken. One step.
-fn take_next(latch: &Latch, bits: &[bool], k: usize, taken: &mut [bool], tally: &mut Tally)
-    requires inside { variable latch.now.next < length bits.now }
-    requires constant { slice_index_or bits.now 0 false ≡ false }
-    requires there { k < length taken.old }
-    ensures taken { taken.new ≡ slice_set taken.old k (literal_value (valuation_of bits.now) latch.now.next) }
-    ensures step { tally.new ≡ one_more tally.old }
-{
-    taken[k] = base::take(literal_bit(bits, latch.next), tally);
+    gate_all(&Operands(gates), first, bits, tally);
 }
 
 /// Takes the bits of the latches' next literals. One step for each.
@@ -59,11 +57,10 @@ pub(crate) fn take_nexts(latches: &[Latch], bits: &[bool], taken: &mut [bool], t
     ensures as_many { length taken.new ≡ length taken.old }
     ensures steps { tally.new ≡ more_steps (length latches.now) tally.old }
 {
-    let mut steps = tally.taken();
+    take_all(latches.len(), tally);
     for (k, latch) in latches.iter().enumerate() {
-        take_next(latch, bits, k, taken, &mut steps);
+        taken[k] = literal_bit(bits, latch.next.number());
     }
-    *tally = steps;
 }
 
 /// The bit that a latch begins with.
@@ -94,9 +91,7 @@ pub(crate) fn put_bits(taken: &[bool], first: usize, bits: &mut [bool])
     ensures others { (p : ℕ) → p < first → slice_index_or bits.new p false ≡ slice_index_or bits.old p false }
     ensures as_many { length bits.new ≡ length bits.old }
 {
-    for (k, bit) in taken.iter().enumerate() {
-        bits[first + k] = *bit;
-    }
+    bits[first..first + taken.len()].copy_from_slice(taken);
 }
 
 /// Puts 0 for each input.
@@ -107,7 +102,5 @@ pub(crate) fn clear_inputs(inputs: usize, bits: &mut [bool])
     ensures constant { slice_index_or bits.new 0 false ≡ slice_index_or bits.old 0 false }
     ensures as_many { length bits.new ≡ length bits.old }
 {
-    for k in 0..inputs {
-        bits[1 + k] = false;
-    }
+    bits[1..1 + inputs].fill(false);
 }

@@ -7,9 +7,7 @@ ghost use Rattle.aiger.specs.Circuit.{net};
 ghost use Rattle.aiger.specs.Trace.{next_latch_bits};
 ghost use Rattle.runs.specs.CircuitRun.{IsFrameNow, circuit_start, no_inputs, settle_steps, circuit_held};
 
-use crate::bit_passes::{
-    clear_inputs, literal_bit, put_bits, settle_gates, take_first_bits, take_nexts,
-};
+use crate::bit_passes::{clear_inputs, put_bits, settle_gates, take_first_bits, take_nexts};
 use crate::fault::NewFault;
 use aiger::{Circuit, Lit};
 use base::Tally;
@@ -126,7 +124,7 @@ impl<'a> BitRun<'a> {
         requires settled { self.now.settled ≡ true }
         ensures { (v : Valuation) → IsFrameNow self.now v → result ≡ literal_value v lit }
     {
-        literal_bit(&self.bits, lit)
+        base::literal_bit(&self.bits, lit.number())
     }
 
     /// Whether a constraint holds. `i` counts the constraints.

@@ -1,8 +1,6 @@
 use Rattle.std.proofs.Common.{◌≡◌, ℕ, ◌<◌, length, get_or, false}
 use Rattle.aiger.specs.declared.circuit.Latch.{Latch}
-use Rattle.base.specs.Literal.{literal_value}
-use Rattle.runs.specs.CircuitHolds.{valuation_of}
-use Rattle.base.specs.Steps.{more_steps}
+use Rattle.base.specs.Literal.{literal_value, valuation_of}
 use Rattle.runs.proofs.bit_passes.take_nexts.Given as goal
 
 abbrev pub invariant-loop-k : goal.invariant-loop-k
@@ -10,5 +8,4 @@ invariant-loop-k l =
     record {
       taken : (j : ℕ) (d : Latch) → j < l.k → get_or l.taken j false ≡ literal_value (valuation_of l.bits) (get_or l.latches j d).next;
       as_many : length l.taken ≡ length l.fn.taken;
-      steps : l.steps ≡ more_steps l.k l.fn.tally;
     }

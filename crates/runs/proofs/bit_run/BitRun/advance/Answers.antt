@@ -2,11 +2,10 @@ use Rattle.std.proofs.Common.{◌≡◌, ℕ, ◌+◌, ◌<◌, Bool, true, fals
 use Rattle.std.proofs.lemmas.List.{with_items_is}
 use Rattle.std.specs.Vec.{with_items}
 use Rattle.aiger.specs.declared.circuit.Latch.{Latch}
-use Rattle.base.specs.Literal.{Valuation, literal_value}
+use Rattle.base.specs.Literal.{Valuation, literal_value, valuation_of}
 use Rattle.aiger.specs.Trace.{next_latch_bits}
 use Rattle.base.specs.Steps.{more_steps}
 use Rattle.runs.specs.CircuitRun.{CircuitRun, IsFrameNow}
-use Rattle.runs.specs.CircuitHolds.{valuation_of}
 use Rattle.runs.proofs.BitRunLemmas.{AfterAdvance, latches_in, inputs_in, nexts_inside, advance_keeps, circuit_run_same}
 use Rattle.runs.proofs.bit_run.BitRun.advance.Goals as goal
 use Rattle.runs.proofs.bit_run.BitRun.advance.Goals.{After-clear_inputs}

@@ -4,8 +4,8 @@ use Rattle.std.specs.Vec.{with_items}
 use Rattle.aiger.specs.declared.circuit.Gate.{Gate}
 use Rattle.aiger.specs.Net.{SatisfiesFrom}
 use Rattle.base.specs.Steps.{more_steps}
-use Rattle.runs.specs.CircuitHolds.{valuation_of}
 use Rattle.base.proofs.StepLemmas.{more_steps-sum}
+use Rattle.base.specs.Literal.{valuation_of}
 use Rattle.runs.proofs.BitRunLemmas.{AfterSettle, latches_in, inputs_in, settle_keeps, circuit_run_same}
 use Rattle.runs.proofs.bit_run.BitRun.settle.Goals as goal
 use Rattle.runs.proofs.bit_run.BitRun.settle.Goals.{After-settle_gates}
