@@ -1,13 +1,13 @@
 -- From what the latches and the properties of a circuit read as to whole traces.
 use Rattle.std.proofs.Common.{◌≡◌, ◌==◌, Bool, List, [], ◌∷◌, map, refl, ap, subst, ◌∙◌}
-use Rattle.std.specs.List.{AllZip}
+use Rattle.std.specs.List.{AllZip, AllByRecursion}
 use Rattle.base.specs.Shown.{Shown}
 use Rattle.btor2.specs.declared.item.Item.{Item}
 use Rattle.btor2.specs.declared.item.Body.{Body}
 use Rattle.btor2.specs.declared.item.Body.TheVariants as body
 use Rattle.btor2.specs.Items.{is_bad, is_constraint}
 use Rattle.btor2.specs.Reachability.{values_of}
-use Rattle.btor2.specs.Trace.{Frame, IsFrame, IsState, IsInput, AreInputs, IsTrace, next_state}
+use Rattle.btor2.specs.Trace.{Frame, IsFrame, IsState, IsInput, IsTrace, next_state}
 use Rattle.base.specs.Literal.{Valuation}
 use Rattle.aiger.specs.Circuit.{Circuit, net}
 use Rattle.aiger.specs.Trace.{IsCircuitFrame, IsCircuitTrace, next_latch_bits as next_bits}
@@ -52,7 +52,7 @@ together items c state input f v fits in_fits frame circuit_frame =
     record { frame = frame; state_fits = fits; input_fits = in_fits; satisfied = circuit_frame.gates; inputs = circuit_frame.inputs; latches = circuit_frame.latches }
 
 -- the two traces from the same bits show the same in every frame
-pub show_same : (items : List Item) (c : Circuit) → Observes items c → (state : Frame) (inputs fs : List Frame) (vs : List Valuation) → IsState items state → AreInputs items inputs → IsTrace items state inputs fs → IsCircuitTrace c (state_bits items state) (map (input_bits items) inputs) vs → AllZip (ShowsSame items c) fs vs
+pub show_same : (items : List Item) (c : Circuit) → Observes items c → (state : Frame) (inputs fs : List Frame) (vs : List Valuation) → IsState items state → AllByRecursion (IsInput items) inputs → IsTrace items state inputs fs → IsCircuitTrace c (state_bits items state) (map (input_bits items) inputs) vs → AllZip (ShowsSame items c) fs vs
 show_same items c o state [] [] [] fits in_fit t u = tt
 show_same items c o state [] [] (v ∷ vs) fits in_fit t u = u
 show_same items c o state [] (f ∷ fs) vs fits in_fit t u = absurd t

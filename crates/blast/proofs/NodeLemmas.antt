@@ -1,6 +1,6 @@
 -- The rows of nodes: what stays as gates are added, and what each form makes.
 use Rattle.std.proofs.Common.{◌≡◌, ℕ, zero, suc, ◌+◌, ◌*◌, ◌<◌, ◌≤◌, Bool, true, cond, List, [], ◌∷◌, ◌++◌, length, Option, Some, None, IfSome, unwrap_or, option_and_then, slice_get, get_or, take, drop, map, All, refl, sym, ap, ap₂, subst, ◌∙◌, arith, length-append, append_assoc}
-use Rattle.std.specs.List.{range_with_len}
+use Rattle.std.specs.List.{range_with_len, AllByRecursion}
 use Rattle.std.proofs.lemmas.Option.{none-some, same_Some, slice_get-get_or}
 use Rattle.std.proofs.lemmas.List.{take_at, drop_at, length-map}
 use Rattle.std.proofs.lemmas.List.Elements.{All-nil, All-cons, All-map}
@@ -14,7 +14,7 @@ use Rattle.base.proofs.BitLemmas.{length-bits, word-bits, bits-word_of_length}
 use Rattle.btor2.specs.declared.item.Item.{Item}
 use Rattle.btor2.specs.Items.{find_item, position_of, width_of_body, node_width}
 use Rattle.btor2.specs.Check.{IsWellFormed}
-use Rattle.btor2.specs.Trace.{Frame, bits_of, LineHolds, LinesHold, IsFrame}
+use Rattle.btor2.specs.Trace.{Frame, bits_of, LineHolds, IsFrame}
 use Rattle.btor2.specs.Leaves.{kind_width}
 use Rattle.btor2.proofs.AppendLemmas.{is_some_from, then_parts, node_width-append}
 use Rattle.btor2.proofs.ModelLemmas.{IsIn-from_find, node_width-at, node_width-range, position_of-at}
@@ -68,7 +68,7 @@ reads_some items n id width row None e r = tt
 reads_some items n id width row (Some k) e r = subst (λ (j : ℕ). ReadsWord items n id j row) (sym e) r
 
 -- what an item's line says of a frame, from what all lines say
-pub LineHolds-at : (items : List Item) (state input f : Frame) (lines : List Item) (k : ℕ) (x : Item) → LinesHold items state input f lines → slice_get lines k ≡ Some x → LineHolds items state input f x.id x.body
+pub LineHolds-at : (items : List Item) (state input f : Frame) (lines : List Item) (k : ℕ) (x : Item) → AllByRecursion (λ (x : Item). LineHolds items state input f x.id x.body) lines → slice_get lines k ≡ Some x → LineHolds items state input f x.id x.body
 LineHolds-at items state input f [] k x h at = absurd (none-some x at)
 LineHolds-at items state input f (y ∷ ys) zero x h at = subst (λ (z : Item). LineHolds items state input f z.id z.body) (same_Some y x at) h.0
 LineHolds-at items state input f (y ∷ ys) (suc k) x h at = LineHolds-at items state input f ys k x h.1 at

@@ -29,7 +29,7 @@ use Rattle.gates.specs.Bound.{unary_bound, binary_bound}
 use Rattle.gates.specs.Made.{Grows}
 use Rattle.gates.proofs.GrowthLemmas.{Grows-refl, Grows-trans, variables-grown}
 use Rattle.blast.specs.Leaves.{by_body, given_by_kind, leaf_bits, input_bits}
-use Rattle.blast.specs.Cost.{line_cost, cost, input_width, free_width, given_width, bound}
+use Rattle.blast.specs.Cost.{line_cost, cost, input_width, given_width, bound}
 use Rattle.blast.specs.declared.nodes.NextLeaf.{NextLeaf}
 use Rattle.blast.specs.Reads.{Together, RowReads, leaves_only, LowersNodes}
 use Rattle.blast.specs.Table.{MakesNode, MakesRow, IsOperand, cost_among, next_leaf, next_after, LowersFront}
@@ -95,10 +95,10 @@ line_fits items place n rows next x front at fits =
 -- the bits that are given are those of the inputs and those of the free states
 given_parts : (items : List Item) (input : Frame) (v : Valuation) → bits_from 1 (given_width items) v ≡ input_bits items input
     → (bits_from 1 (input_width items) v ≡ given_by_kind (by_body is_input) (leaf_bits items input) items)
-    × (bits_from (1 + input_width items) (free_width items) v ≡ given_by_kind (is_free_state items) (leaf_bits items input) items)
+    × (bits_from (1 + input_width items) (kind_width items (is_free_state items) items) v ≡ given_by_kind (is_free_state items) (leaf_bits items input) items)
 given_parts items input v e =
-    same_parts (bits_from 1 (input_width items) v) (bits_from (1 + input_width items) (free_width items) v) (given_by_kind (by_body is_input) (leaf_bits items input) items) (given_by_kind (is_free_state items) (leaf_bits items input) items)
-    (sym (bits_from-append 1 (input_width items) (free_width items) v) ∙ e)
+    same_parts (bits_from 1 (input_width items) v) (bits_from (1 + input_width items) (kind_width items (is_free_state items) items) v) (given_by_kind (by_body is_input) (leaf_bits items input) items) (given_by_kind (is_free_state items) (leaf_bits items input) items)
+    (sym (bits_from-append 1 (input_width items) (kind_width items (is_free_state items) items) v) ∙ e)
     (length-bits_from 1 (input_width items) v ∙ sym (length-leaves items (by_body is_input) input items))
 
 -- a leaf's row: it is one of a kind whose bits are so many variables from a first one on, and `own` has its word in a frame

@@ -1,7 +1,7 @@
 -- From initial words to initial bits and back, and what rises in a model and in a circuit that lowers it.
 use Rattle.std.proofs.Common.{◌≡◌, ℕ, zero, suc, ◌+◌, ◌/◌, ◌^◌, ◌<◌, Bool, true, false, List, [], ◌∷◌, ◌++◌, length, map, drop, replicate, All, Option, Some, None, ◌&&◌, not, option_and_then, unwrap_or, refl, sym, ap, ap₂, subst, ◌∙◌, length-append, arith}
 use Rattle.std.specs.Prelude.{if◌then◌else◌}
-use Rattle.std.specs.List.{AllZip}
+use Rattle.std.specs.List.{AllZip, AllByRecursion}
 use Rattle.std.proofs.lemmas.List.{length-map}
 use Rattle.std.proofs.lemmas.List.Elements.{All-nil, All-cons, All-head, All-tail}
 use Rattle.base.specs.Word.{word, bits}
@@ -9,7 +9,7 @@ use Rattle.base.proofs.BitLemmas.{length-bits, word-bits}
 use Rattle.btor2.specs.declared.item.Item.{Item}
 use Rattle.btor2.specs.Items.{is_input, is_free_state, is_carried_state, names_state, constant_of, init_value, init_word}
 use Rattle.btor2.specs.Check.{IsWellFormed}
-use Rattle.btor2.specs.Trace.{Frame, bits_of, AreInputs, IsInitial, IsTrace}
+use Rattle.btor2.specs.Trace.{Frame, bits_of, IsInitial, IsTrace, IsInput}
 use Rattle.btor2.proofs.ModelLemmas.{IsInitOf-from_value}
 use Rattle.btor2.proofs.IdLemmas.{state_item}
 use Rattle.btor2.proofs.InitLemmas.{fitting_inputs, fitting_states, init_word_below, init_words_say, inits_hold, init_not_free}
@@ -173,7 +173,7 @@ input_lists_again : (items : List Item) (inputs : List (List Bool)) → IsWellFo
 input_lists_again items [] w many = refl
 input_lists_again items (input ∷ inputs) w many = ap₂ ◌∷◌ (input_bits_again items input w (All-head (λ (i : List Bool). length i ≡ given_width items) input inputs many)) (input_lists_again items inputs w (All-tail (λ (i : List Bool). length i ≡ given_width items) input inputs many))
 
-inputs_fit : (items : List Item) (inputs : List (List Bool)) → AreInputs items (map (inputs_from items) inputs)
+inputs_fit : (items : List Item) (inputs : List (List Bool)) → AllByRecursion (IsInput items) (map (inputs_from items) inputs)
 inputs_fit items [] = tt
 inputs_fit items (input ∷ inputs) = (fitting_inputs items (inputs_from items input) (inputs_below items input) items, inputs_fit items inputs)
 

@@ -17,23 +17,14 @@ use Rattle.blast.specs.declared.fault.ConvertFault.TheVariants as fault
 use Rattle.blast.specs.Lowering.{Lowers}
 use Rattle.blast.specs.Refusal.{AnswersLowering, lowering_refusal}
 
--- all that was to come is a text of some model that nothing speaks against, and what was written is the text of a circuit that lowers it
-pub record Converts (known written now : Option (List ℕ)) (form : Form) : Type 0 where
+-- all that was to come is a text of some model that nothing speaks against, and what is said of what was written holds of the text of a circuit that lowers it
+pub record Converts (known : Option (List ℕ)) (form : Form) (Written : List ℕ → Type 0) : Type 0 where
   pub items : List Item
   pub circuit : Circuit
   pub text : IsModelOf known items
   pub accepted : lowering_refusal items ≡ None
   pub lowers : Lowers items circuit
-  pub appends : Appends written now (circuit_text form circuit)
-
--- all that was to come is a text of some model that nothing speaks against, and only a beginning of the text of a circuit that lowers it was written
-pub record BeginsToConvert (known written now : Option (List ℕ)) (form : Form) : Type 0 where
-  pub items : List Item
-  pub circuit : Circuit
-  pub text : IsModelOf known items
-  pub accepted : lowering_refusal items ≡ None
-  pub lowers : Lowers items circuit
-  pub appends : AppendsBeginning written now (circuit_text form circuit)
+  pub appends : Written (circuit_text form circuit)
 
 -- the text is of some model, whose lowering is refused for this reason
 pub record RefusesModel (known : Option (List ℕ)) (e : LowerFault) : Type 0 where
@@ -42,12 +33,12 @@ pub record RefusesModel (known : Option (List ℕ)) (e : LowerFault) : Type 0 wh
   pub text : IsModelOf known items
   pub answer : AnswersLowering {T = Circuit} (Err e) (lowering_refusal items)
 
--- what a conversion's answer says: done, the model refused, or the write failed; why a text is refused says TellsFirstFault. `known` is the bytes to come; `written` and `now` are what the sink held before and holds after
+-- what a conversion's answer says: done, the circuit's text is written; the model refused; or the write failed, only a beginning of that text is; why a text is refused says TellsFirstFault. `known` is the bytes to come; `written` and `now` are what the sink held before and holds after
 abbrev pub AnswersConversion : Option (List ℕ) → Option (List ℕ) → Option (List ℕ) → Form → Result (Unit {0}) ConvertFault → Type 0
-AnswersConversion known written now form (Ok u) = Converts known written now form
+AnswersConversion known written now form (Ok u) = Converts known form (Appends written now)
 AnswersConversion known written now form (Err (fault.Read e)) = Unit {0}
 AnswersConversion known written now form (Err (fault.Lower e)) = RefusesModel known e
-AnswersConversion known written now form (Err (fault.Write e)) = BeginsToConvert known written now form
+AnswersConversion known written now form (Err (fault.Write e)) = Converts known form (AppendsBeginning written now)
 
 -- the fault is of what stands behind the reading, the lowering or the write: a model that was read is never told as unread
 abbrev pub IsBehindReading : ConvertFault → Type 0

@@ -7,7 +7,6 @@ use Rattle.btor2.specs.Items.{is_input, is_state, is_free_state, is_carried_stat
 use Rattle.btor2.specs.Trace.{bits_of}
 use Rattle.btor2.specs.Leaves.{kind_width}
 use Rattle.gates.specs.Bound.{unary_bound, binary_bound, ite_bound}
-use Rattle.blast.specs.Leaves.{by_body}
 
 -- the gate bound of a line: an operator's at the width of its operands, 0 for every other line
 abbrev pub line_cost : List Item → Body → ℕ
@@ -20,22 +19,19 @@ line_cost items _ = 0
 abbrev pub cost : List Item → ℕ
 cost items = sum_by (λ x. line_cost items x.body) items
 
--- how many bits the inputs, the states, the free states and the other states of a model have together
+-- how many bits the inputs, the states, and the states that are not free of a model have together
 abbrev pub input_width : List Item → ℕ
-input_width items = kind_width items (by_body is_input) items
+input_width items = kind_width items (λ x. is_input x.body) items
 
 abbrev pub state_width : List Item → ℕ
-state_width items = kind_width items (by_body is_state) items
-
-abbrev pub free_width : List Item → ℕ
-free_width items = kind_width items (is_free_state items) items
+state_width items = kind_width items (λ x. is_state x.body) items
 
 abbrev pub carried_width : List Item → ℕ
 carried_width items = kind_width items (is_carried_state items) items
 
 -- how many bits are given in each frame: those of the inputs and of the free states. So many inputs the circuit of a model has, and as many latches as bits that are carried
 abbrev pub given_width : List Item → ℕ
-given_width items = input_width items + free_width items
+given_width items = input_width items + kind_width items (is_free_state items) items
 
 -- the most variables that the circuit of a model takes: one for each input bit, each state bit and each gate
 abbrev pub bound : List Item → ℕ

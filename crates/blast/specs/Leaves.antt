@@ -25,7 +25,7 @@ leaf_bits items f x = bits (bits_of items x.id) (f x.id)
 
 -- the bits of the words that are given in a frame, leaf after leaf: of all inputs, and then of all free states
 abbrev pub input_bits : List Item → Frame → List Bool
-input_bits items input = given_by_kind (by_body is_input) (leaf_bits items input) items ++ given_by_kind (is_free_state items) (leaf_bits items input) items
+input_bits items input = given_by_kind (λ x. is_input x.body) (leaf_bits items input) items ++ given_by_kind (is_free_state items) (leaf_bits items input) items
 
 -- the bits of the words that are carried into a frame, state after state: of all states that are not free
 abbrev pub state_bits : List Item → Frame → List Bool
@@ -47,7 +47,7 @@ leaf_names items x = bit_names x.symbol 0 (bits_of items x.id)
 
 -- the names of the bits that are given: of all inputs, and then of all free states
 abbrev pub input_names : List Item → Names
-input_names items = given_by_kind (by_body is_input) (leaf_names items) items ++ given_by_kind (is_free_state items) (leaf_names items) items
+input_names items = given_by_kind (λ x. is_input x.body) (leaf_names items) items ++ given_by_kind (is_free_state items) (leaf_names items) items
 
 -- the names of the bits that are carried: of all states that are not free
 abbrev pub state_names : List Item → Names
@@ -59,11 +59,11 @@ own_name x = x.symbol ∷ []
 
 -- the names of the bad properties
 abbrev pub bad_names : List Item → Names
-bad_names items = given_by_kind (by_body is_bad) own_name items
+bad_names items = given_by_kind (λ x. is_bad x.body) own_name items
 
 -- the names of the constraints
 abbrev pub constraint_names : List Item → Names
-constraint_names items = given_by_kind (by_body is_constraint) own_name items
+constraint_names items = given_by_kind (λ x. is_constraint x.body) own_name items
 
 -- how a latch begins for a bit of an init constant
 abbrev pub reset_of_bit : Bool → Reset
@@ -99,12 +99,8 @@ shown_bits items f _ = []
 
 -- the bits that are shown in a frame, output after output
 abbrev pub output_bits : List Item → Frame → List Bool
-output_bits items f = given_by_kind (by_body is_output) (λ x. shown_bits items f x.body) items
+output_bits items f = given_by_kind (λ x. is_output x.body) (λ x. shown_bits items f x.body) items
 
--- the names of the bits of an output line, from bit 0 on
-abbrev pub shown_names : List Item → Item → Names
-shown_names items x = bit_names x.symbol 0 (shown_width items x.body)
-
--- the names of the bits that are shown
+-- the names of the bits that are shown: of each output line's, from bit 0 on
 abbrev pub output_names : List Item → Names
-output_names items = given_by_kind (by_body is_output) (shown_names items) items
+output_names items = given_by_kind (λ x. is_output x.body) (λ x. bit_names x.symbol 0 (shown_width items x.body)) items

@@ -1,9 +1,9 @@
 -- A circuit lowers a model (the profile of this project, over the traces of both formats).
 use Rattle.std.specs.Prelude.{◌≡◌, ◌≤◌, List, [], length, map}
-use Rattle.std.specs.List.{AllZip}
+use Rattle.std.specs.List.{AllZip, AllByRecursion}
 use Rattle.btor2.specs.declared.item.Item.{Item}
 use Rattle.btor2.specs.Check.{IsWellFormed}
-use Rattle.btor2.specs.Trace.{Frame, IsInitial, AreInputs, IsTrace}
+use Rattle.btor2.specs.Trace.{Frame, IsInitial, IsTrace, IsInput}
 use Rattle.btor2.specs.Reachability.{model_shows}
 use Rattle.base.specs.Literal.{Valuation, literal_value}
 use Rattle.aiger.specs.declared.circuit.Section.TheVariants as section
@@ -40,7 +40,7 @@ pub record Lowers (items : List Item) (c : Circuit) : Type 0 where
   -- there are at most the stated number of gates
   pub few_gates : length c.gates ≤ cost items
   -- from all initial words and under all given words, the two traces from the same bits show the same in every frame
-  pub frames : (state : Frame) (inputs : List Frame) → IsInitial items state → AreInputs items inputs
+  pub frames : (state : Frame) (inputs : List Frame) → IsInitial items state → AllByRecursion (IsInput items) inputs
       → (fs : List Frame) → IsTrace items state inputs fs
       → (vs : List Valuation) → IsCircuitTrace c (state_bits items state) (map (input_bits items) inputs) vs
       → AllZip (ShowsSame items c) fs vs

@@ -1,5 +1,7 @@
 //! Theorems on the definitions of lowerings, costs, leaves and refusals, as functions with no code.
 ghost use Rattle.std.specs.Prelude.{◌≡◌, ◌↔◌, ℕ, ◌+◌, ◌==◌, if◌then◌else◌, List, [], ◌∷◌, true, false, map, None, Some, codes, length};
+ghost use Rattle.std.specs.List.{AllByRecursion};
+ghost use Rattle.btor2.specs.Leaves.{kind_width};
 ghost use Rattle.base.specs.Literal.{Valuation};
 ghost use Rattle.aiger.specs.Circuit.{Circuit, IsCircuit};
 ghost use Rattle.aiger.specs.Trace.{AreInitial, IsCircuitTrace};
@@ -10,11 +12,11 @@ ghost use Rattle.base.specs.declared.operators.Binary.TheVariants as binary;
 ghost use Rattle.btor2.specs.declared.item.Item.{Item};
 ghost use Rattle.btor2.specs.declared.item.Body.TheVariants as body;
 ghost use Rattle.btor2.specs.Check.{IsWellFormed};
-ghost use Rattle.btor2.specs.Trace.{Frame, IsInitial, AreInputs};
+ghost use Rattle.btor2.specs.Trace.{Frame, IsInitial, IsInput};
 ghost use Rattle.btor2.specs.Worked.{toggler_model, open_ends};
 ghost use Rattle.blast.specs.declared.fault.LowerFault.TheVariants as fault;
-ghost use Rattle.blast.specs.Cost.{line_cost, cost, input_width, state_width, free_width, given_width, carried_width, bound};
-ghost use Rattle.btor2.specs.Items.{is_input, is_state};
+ghost use Rattle.blast.specs.Cost.{line_cost, cost, input_width, state_width, given_width, carried_width, bound};
+ghost use Rattle.btor2.specs.Items.{is_input, is_state, is_free_state};
 ghost use Rattle.btor2.specs.Lists.{HaveNexts};
 ghost use Rattle.blast.specs.Leaves.{by_body, given_by_kind, leaf_bits, leaf_names, leaf_resets, bit_name, input_bits, state_bits, input_names, state_names, output_names, bad_names, constraint_names, resets_of_word, state_resets, output_bits};
 ghost use Rattle.blast.specs.Lowering.{Lowers};
@@ -30,7 +32,7 @@ pub fn a_lowered_circuit_runs()
     ensures initial { (items : List Item) (c : Circuit) → Lowers items c
         → (state : Frame) → IsInitial items state → AreInitial c.latches (state_bits items state) }
     ensures exists { (items : List Item) (c : Circuit) → Lowers items c
-        → (state : Frame) (inputs : List Frame) → IsInitial items state → AreInputs items inputs
+        → (state : Frame) (inputs : List Frame) → IsInitial items state → AllByRecursion (IsInput items) inputs
         → (vs : List Valuation) × IsCircuitTrace c (state_bits items state) (map (input_bits items) inputs) vs }
 {
     aiger::laws::exactly_one_trace();
@@ -138,7 +140,7 @@ pub fn worked_costs()
     ensures masked_bound { bound masked ≡ 6 }
     ensures follower_inputs { input_width named_follower ≡ 1 }
     ensures follower_states { state_width named_follower ≡ 2 }
-    ensures follower_free { free_width named_follower ≡ 1 }
+    ensures follower_free { kind_width named_follower (is_free_state named_follower) named_follower ≡ 1 }
     ensures follower_given { given_width named_follower ≡ 2 }
     ensures follower_carried { carried_width named_follower ≡ 1 }
     ensures follower_bound { bound named_follower ≡ 3 }

@@ -1,6 +1,7 @@
 -- What an item says that no row of the table refuses.
 use Rattle.std.proofs.Common.{◌≡◌, ℕ, ◌+◌, ◌-◌, ◌<◌, ◌≤◌, Bool, true, false, not, ◌&&◌, ◌||◌, cond, nat_le, nat_lt, ◌==◌, eqb-true, List, [], ◌∷◌, length, Option, Some, None, is_some, is_none, unwrap_or, option_and_then, refl, sym, ap, ap₂, ◌∙◌}
 use Rattle.std.specs.List.{list_all}
+use Rattle.std.specs.Option.{option_map_or}
 use Rattle.std.proofs.lemmas.Option.{none-some}
 use Rattle.std.proofs.lemmas.Bool.{leb-true, leb-false, ltb-true, and_parts, not-false}
 use Rattle.base.specs.Widths.{unary_width, binary_width, is_of_bits}
@@ -9,7 +10,7 @@ use Rattle.btor2.specs.declared.item.Body.{Body}
 use Rattle.btor2.specs.declared.item.Body.TheVariants as body
 use Rattle.btor2.specs.declared.fault.PushFault.{PushFault}
 use Rattle.btor2.specs.Items.{find_item, sort_width, node_width, constant_of, names_state, init_value, next_value, named_sort, operands}
-use Rattle.btor2.specs.Check.{most_items, greatest_id, id_is_out_of_range, id_is_taken, is_no_sort, sort_is_missing, operand_is_missing, state_is_none, width_is_out_of_range, is_no_slice, slice_is_out_of_range, widths_agree, widths_differ, constant_fits, constant_does_not_fit, init_is_not_constant, is_second_init, is_second_next, first_row, table, refusal}
+use Rattle.btor2.specs.Check.{most_items, greatest_id, id_is_out_of_range, id_is_taken, sort_is_missing, operand_is_missing, state_is_none, width_is_out_of_range, is_no_slice, slice_is_out_of_range, widths_agree, widths_differ, constant_fits, constant_does_not_fit, init_is_not_constant, is_second_init, is_second_next, first_row, table, refusal}
 use Rattle.btor2.proofs.AppendLemmas.{some_of, none_of}
 
 -- each of some ids
@@ -137,7 +138,7 @@ each_bit items (a ∷ more) there h =
 
 -- the rows that speak of a body, none of which applies
 record Passes (items : List Item) (b : Body) : Type 0 where
-  sort : is_no_sort items (named_sort b) ≡ false
+  sort : option_map_or (λ s. is_none (sort_width items s)) (named_sort b) false ≡ false
   nodes : Each (HasWidth items) (operands b)
   state : state_is_none items b ≡ false
   width : width_is_out_of_range b ≡ false

@@ -2,12 +2,13 @@
 use Rattle.std.proofs.Common.{◌≡◌, ℕ, ◌<◌, ◌^◌, Bool, true, false, cond, nat_eq, eqb-true, List, [], ◌∷◌, ◌++◌, Option, Some, None, option_and_then, unwrap_or, refl, sym, ap, subst, ◌∙◌, pow_pos}
 use Rattle.std.specs.Option.{option_or}
 use Rattle.std.proofs.lemmas.Option.{none-some, same_Some}
+use Rattle.std.specs.List.{AllByRecursion}
 use Rattle.btor2.specs.declared.item.Item.{Item}
 use Rattle.btor2.specs.declared.item.Body.{Body}
 use Rattle.btor2.specs.declared.item.Body.TheVariants as body
 use Rattle.btor2.specs.Items.{find_item, width_of_body, node_width, constant_word, constant_of_body, constant_of, init_for, init_value}
 use Rattle.btor2.specs.Check.{IsWellFormed}
-use Rattle.btor2.specs.Trace.{Frame, bits_of, LineHolds, LinesHold, StateFits, StatesFit, InputFits, InputsFit, InitHolds, InitsHold}
+use Rattle.btor2.specs.Trace.{Frame, bits_of, LineHolds, StateFits, InputFits, InitHolds}
 use Rattle.btor2.proofs.AppendLemmas.{then_parts, is_some_from}
 use Rattle.btor2.proofs.ModelLemmas.{IsIn-from_find, find_item-in}
 use Rattle.btor2.proofs.TraceLemmas.{line_among, frame_exists, words_fit_frame}
@@ -22,11 +23,11 @@ zero_input items id (body.Input s) = pow_pos (bits_of items id)
 zero_input items id (body.State s) = λ free. pow_pos (bits_of items id)
 zero_input items id _ = tt
 
-zero_states : (items xs : List Item) → StatesFit items (λ id. 0) xs
+zero_states : (items xs : List Item) → AllByRecursion (λ (x : Item). StateFits items (λ id. 0) x.id x.body) xs
 zero_states items [] = tt
 zero_states items (x ∷ xs) = (zero_state items x.id x.body, zero_states items xs)
 
-zero_inputs : (items xs : List Item) → InputsFit items (λ id. 0) xs
+zero_inputs : (items xs : List Item) → AllByRecursion (λ (x : Item). InputFits items (λ id. 0) x.id x.body) xs
 zero_inputs items [] = tt
 zero_inputs items (x ∷ xs) = (zero_input items x.id x.body, zero_inputs items xs)
 
@@ -50,7 +51,7 @@ constant_below items id word w e =
     let wide : node_width items y.id ≡ Some width.0 = ap (option_and_then (λ (x : Item). width_of_body items x.body)) (find_item-in items y w at.0) ∙ width.1 in
     let own : bits_of items y.id ≡ width.0 = ap (λ (o : Option ℕ). unwrap_or o 0) wide in
     let some = frame_exists items (λ id. 0) (λ id. 0) w in
-    let line = line_among items (λ id. 0) (λ id. 0) some.0 at.0.before at.0.after y (subst (LinesHold items (λ id. 0) (λ id. 0) some.0) at.0.splits some.1) in
+    let line = line_among items (λ id. 0) (λ id. 0) some.0 at.0.before at.0.after y (subst (AllByRecursion (λ (x : Item). LineHolds items (λ id. 0) (λ id. 0) some.0 x.id x.body)) at.0.splits some.1) in
     let is = constant_in_frame items (λ id. 0) (λ id. 0) some.0 y.id word y.body (subst (λ (n : ℕ). constant_word n y.body ≡ Some word) (sym own) width.2) line in
     let below = words_fit_frame items (λ id. 0) (λ id. 0) some.0 w (zero_states items items) (zero_inputs items items) some.1 y.id (is_some_from (node_width items y.id) width.0 wide) in
     subst (λ (n : ℕ). word < 2 ^ bits_of items n) (sym at.1) (subst (λ (n : ℕ). n < 2 ^ bits_of items y.id) is below)
@@ -66,7 +67,7 @@ init_among items xs state id v (body.Init s t u) h rest e =
     by false test e = rest e
 init_among items xs state id v _ h rest e = rest e
 
-pub inits_say : (items xs : List Item) (state : Frame) (id v : ℕ) → InitsHold items state xs → init_value xs id ≡ Some v → constant_of items v ≡ Some (state id)
+pub inits_say : (items xs : List Item) (state : Frame) (id v : ℕ) → AllByRecursion (λ (x : Item). InitHolds items state x.body) xs → init_value xs id ≡ Some v → constant_of items v ≡ Some (state id)
 inits_say items [] state id v h e = absurd (none-some v e)
 inits_say items (x ∷ xs) state id v h e = init_among items xs state id v x.body h.0 (inits_say items xs state id v h.1) e
 

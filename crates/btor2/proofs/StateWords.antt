@@ -1,10 +1,11 @@
 -- The word of a state in a frame.
 use Rattle.std.proofs.Common.{◌≡◌, ℕ, Bool, true, false, ◌&&◌, cond, List, Option, Some, None, is_some, is_none, option_and_then, refl, sym, ap, subst, ◌∙◌}
+use Rattle.std.specs.List.{AllByRecursion}
 use Rattle.btor2.specs.declared.item.Item.{Item}
 use Rattle.btor2.specs.declared.item.Body.{Body}
 use Rattle.btor2.specs.declared.item.Body.TheVariants as body
 use Rattle.btor2.specs.Items.{find_item, is_state, names_state, init_value, next_value, is_free}
-use Rattle.btor2.specs.Trace.{Frame, state_word, LineHolds, LinesHold, IsFrame}
+use Rattle.btor2.specs.Trace.{Frame, state_word, LineHolds, IsFrame}
 use Rattle.btor2.proofs.ModelLemmas.{IsIn-from_find}
 use Rattle.btor2.proofs.TraceLemmas.{line_among}
 
@@ -26,7 +27,7 @@ pub state_has_word : (items : List Item) (state input f : Frame) (id : ℕ) → 
 state_has_word items state input f id h named =
     let there = state_found (find_item items id) named in
     let at = IsIn-from_find items id there.0 there.1 in
-    let line = line_among items state input f at.0.before at.0.after there.0 (subst (LinesHold items state input f) at.0.splits h) in
+    let line = line_among items state input f at.0.before at.0.after there.0 (subst (AllByRecursion (λ (x : Item). LineHolds items state input f x.id x.body)) at.0.splits h) in
     subst (λ (k : ℕ). f k ≡ state_word items state input k) (sym at.1) (state_line items state input f there.0.id there.0.body there.2 line)
 
 pub carried_word : (items : List Item) (state input f : Frame) (id : ℕ) → IsFrame items state input f → names_state items id ≡ true → is_free items id ≡ false → f id ≡ state id

@@ -3,6 +3,7 @@ use Rattle.std.proofs.Common.{◌≡◌, ℕ, zero, suc, ◌+◌, ◌-◌, ◌^�
 use Rattle.std.proofs.lemmas.Option.{none-some}
 use Rattle.std.proofs.lemmas.Bool.{cases_eq, ne_eqb, true≢false, and_parts, ltb-true}
 use Rattle.std.proofs.Math.Nat.{pow-suc}
+use Rattle.std.specs.List.{AllByRecursion}
 use Rattle.base.specs.Operator.{unary_value, binary_value, ite_value, slice_value, uext_value, sext_value, concat_value}
 use Rattle.base.specs.Widths.{unary_width, binary_width}
 use Rattle.base.proofs.SignedLaws.{wrapped_below}
@@ -12,7 +13,7 @@ use Rattle.btor2.specs.declared.item.Body.{Body}
 use Rattle.btor2.specs.declared.item.Body.TheVariants as body
 use Rattle.btor2.specs.Items.{find_item, node_sort, operands, sort_width, width_of_body, node_width, is_state, names_state, next_value, is_free}
 use Rattle.btor2.specs.Check.{IsWellFormed, IsWellFormedAfter}
-use Rattle.btor2.specs.Trace.{Frame, bits_of, line_word, LineHolds, LinesHold, IsFrame, next_state, IsTrace, InputFits, StateFits, InputsFit, StatesFit, IsInput, IsState, SameFrame, SameTrace}
+use Rattle.btor2.specs.Trace.{Frame, bits_of, line_word, LineHolds, IsFrame, next_state, IsTrace, InputFits, StateFits, IsInput, IsState, SameFrame, SameTrace}
 use Rattle.btor2.proofs.AppendLemmas.{found_cases, find_item-append, find_item-after, sort_width-append, node_width-append, some_of, is_some_from, then_parts}
 use Rattle.btor2.proofs.AcceptedLemmas.{Each, HasWidth, BodyIsAccepted, IsAccepted, IsAccepted-from_refusal}
 use Rattle.btor2.proofs.ModelLemmas.{find_item-in, find_item-own, IsIn, IsNextOf-from_value, IsWellFormed-front, IsWellFormed-push, sort_width-range, node_width-range}
@@ -25,7 +26,7 @@ node_found items a n h =
     (parts.0, parts.1, is_some_from (node_sort parts.0.body) sort.0 sort.1)
 
 -- the line of an item among others
-pub line_among : (items : List Item) (state input f : Frame) (before after : List Item) (x : Item) → LinesHold items state input f (before ++ x ∷ after) → LineHolds items state input f x.id x.body
+pub line_among : (items : List Item) (state input f : Frame) (before after : List Item) (x : Item) → AllByRecursion (λ (x : Item). LineHolds items state input f x.id x.body) (before ++ x ∷ after) → LineHolds items state input f x.id x.body
 line_among items state input f [] after x h = h.0
 line_among items state input f (y ∷ ys) after x h = line_among items state input f ys after x h.1
 
@@ -83,7 +84,7 @@ found_last : (front : List Item) (x : Item) → find_item front x.id ≡ None �
 found_last front x h = find_item-after front (x ∷ []) x.id h ∙ find_item-own x []
 
 lines_kept : (items : List Item) (state input f g : Frame) (front list : List Item) → IsWellFormedAfter front list → Agrees (front ++ list) f g
-    → LinesHold items state input f list → LinesHold items state input g list
+    → AllByRecursion (λ (x : Item). LineHolds items state input f x.id x.body) list → AllByRecursion (λ (x : Item). LineHolds items state input g x.id x.body) list
 lines_kept items state input f g front [] w agree h = tt
 lines_kept items state input f g front (x ∷ xs) w agree h =
     let accepted = IsAccepted-from_refusal front x w.0 in
@@ -120,13 +121,13 @@ put_word-kept items f id word none k there =
     (λ differs. rw (ne_eqb k id differs) refl)
     (cases_eq k id)
 
-lines_join : (items : List Item) (state input f : Frame) (xs ys : List Item) → LinesHold items state input f xs → LinesHold items state input f ys → LinesHold items state input f (xs ++ ys)
+lines_join : (items : List Item) (state input f : Frame) (xs ys : List Item) → AllByRecursion (λ (x : Item). LineHolds items state input f x.id x.body) xs → AllByRecursion (λ (x : Item). LineHolds items state input f x.id x.body) ys → AllByRecursion (λ (x : Item). LineHolds items state input f x.id x.body) (xs ++ ys)
 lines_join items state input f [] ys h k = k
 lines_join items state input f (x ∷ xs) ys h k = (h.0, lines_join items state input f xs ys h.1 k)
 
 -- a frame of the lines so far is continued to all lines
-frame_from : (items : List Item) (state input f : Frame) (before rest : List Item) → IsWellFormed before → IsWellFormedAfter before rest → LinesHold items state input f before
-    → (g : Frame) × LinesHold items state input g (before ++ rest)
+frame_from : (items : List Item) (state input f : Frame) (before rest : List Item) → IsWellFormed before → IsWellFormedAfter before rest → AllByRecursion (λ (x : Item). LineHolds items state input f x.id x.body) before
+    → (g : Frame) × AllByRecursion (λ (x : Item). LineHolds items state input g x.id x.body) (before ++ rest)
 frame_from items state input f before [] w r h = (f, rw append-nil h)
 frame_from items state input f before (x ∷ xs) w r h =
     let accepted = IsAccepted-from_refusal before x r.0 in
@@ -185,7 +186,7 @@ line_same items before state state' input f g x states accepted same h k node =
     word_same (line_word items state' input g x.id x.body) (f x.id) (g x.id) there (word_kept _ _ (f x.id) (f x.id) words refl h) k
 
 same_from : (items : List Item) (state state' input f g : Frame) (before rest : List Item) → ((k : ℕ) → state k ≡ state' k) → IsWellFormedAfter before rest
-    → LinesHold items state input f rest → LinesHold items state' input g rest → SameNodes before f g → SameNodes (before ++ rest) f g
+    → AllByRecursion (λ (x : Item). LineHolds items state input f x.id x.body) rest → AllByRecursion (λ (x : Item). LineHolds items state' input g x.id x.body) rest → SameNodes before f g → SameNodes (before ++ rest) f g
 same_from items state state' input f g before [] states w h k same = rw append-nil same
 same_from items state state' input f g before (x ∷ xs) states w h k same =
     let accepted = IsAccepted-from_refusal before x w.0 in
@@ -337,7 +338,7 @@ bits_own : (items : List Item) (x : Item) → IsWellFormed items → IsIn items 
 bits_own items x w at = ap (λ (o : Option Item). unwrap_or (option_and_then (λ (y : Item). width_of_body items y.body) o) 0) (find_item-in items x w at)
 
 fits_from : (items : List Item) (state input f : Frame) (before rest : List Item) → IsWellFormed items → items ≡ before ++ rest → IsWellFormedAfter before rest
-    → StatesFit items state rest → InputsFit items input rest → LinesHold items state input f rest → WordsFit items before f → WordsFit items (before ++ rest) f
+    → AllByRecursion (λ (x : Item). StateFits items state x.id x.body) rest → AllByRecursion (λ (x : Item). InputFits items input x.id x.body) rest → AllByRecursion (λ (x : Item). LineHolds items state input f x.id x.body) rest → WordsFit items before f → WordsFit items (before ++ rest) f
 fits_from items state input f before [] whole e w states inputs h fits = rw append-nil fits
 fits_from items state input f before (x ∷ xs) whole e w states inputs h fits =
     let accepted = IsAccepted-from_refusal before x w.0 in
@@ -379,7 +380,7 @@ state_after items f id _ w named nexts fits = tt
 
 states_after : (items : List Item) (f : Frame) (before rest : List Item) → IsWellFormed items → items ≡ before ++ rest
     → HasNexts items → ((k : ℕ) → is_some (node_width items k) ≡ true → f k < 2 ^ bits_of items k)
-    → StatesFit items (next_state items f) rest
+    → AllByRecursion (λ (x : Item). StateFits items (next_state items f) x.id x.body) rest
 states_after items f before [] w e nexts fits = tt
 states_after items f before (x ∷ xs) w e nexts fits = (
   state_after items f x.id x.body w (names_own items x w (record { before = before; after = xs; splits = e })) nexts fits,

@@ -1,6 +1,7 @@
 -- Which items a model refuses, and why: the rows of one table, of which the first that applies is answered.
 use Rattle.std.specs.Prelude.{◌≡◌, ℕ, Bool, true, false, not, ◌&&◌, ◌||◌, List, [], ◌∷◌, ◌++◌, ◌+◌, ◌-◌, ◌^◌, length, drop, pos, neg_ℤ, int_le, int_lt, option_and_then, Option, Some, None, Result, Ok, Err, ◌==◌, nat_le, nat_lt, if◌then◌else◌, is_some, is_none, unwrap_or, ◌⊎◌}
 use Rattle.std.specs.List.{list_all}
+use Rattle.std.specs.Option.{option_map_or}
 use Rattle.base.specs.Widths.{unary_width, binary_width, is_of_bits}
 use Rattle.btor2.specs.declared.item.Item.{Item}
 use Rattle.btor2.specs.declared.item.Body.{Body}
@@ -25,12 +26,8 @@ unfoldable pub id_is_taken : List Item → Item → Bool
 id_is_taken items x = is_some (find_item items x.id)
 
 -- the sort that it names is no earlier sort
-abbrev pub is_no_sort : List Item → Option ℕ → Bool
-is_no_sort items None = false
-is_no_sort items (Some s) = is_none (sort_width items s)
-
 unfoldable pub sort_is_missing : List Item → Body → Bool
-sort_is_missing items b = is_no_sort items (named_sort b)
+sort_is_missing items b = option_map_or (λ s. is_none (sort_width items s)) (named_sort b) false
 
 -- an operand is no earlier node with a value
 unfoldable pub operand_is_missing : List Item → Body → Bool

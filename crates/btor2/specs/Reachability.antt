@@ -1,11 +1,12 @@
 -- Whether a bad property of a model can rise ("Btor2, BtorMC and Boolector 3.0", sequential models).
 use Rattle.std.specs.Prelude.{◌≡◌, ℕ, Bool, true, ◌==◌, List, map, flat_map}
+use Rattle.std.specs.List.{AllByRecursion}
 use Rattle.base.specs.Shown.{Shown, rises_within}
 use Rattle.btor2.specs.declared.item.Item.{Item}
 use Rattle.btor2.specs.declared.item.Body.{Body}
 use Rattle.btor2.specs.Items.{is_bad, is_constraint, operands}
 use Rattle.btor2.specs.Lists.{of_kind}
-use Rattle.btor2.specs.Trace.{Frame, IsInitial, AreInputs, IsTrace}
+use Rattle.btor2.specs.Trace.{Frame, IsInitial, IsTrace, IsInput}
 
 -- the nodes of the bad properties, or of the constraints, in file order
 abbrev pub nodes_of : (Body → Bool) → List Item → List ℕ
@@ -25,6 +26,6 @@ pub record CanRise (items : List Item) (b : ℕ) : Type 0 where
   pub inputs : List Frame
   pub frames : List Frame
   pub initial : IsInitial items state
-  pub given : AreInputs items inputs
+  pub given : AllByRecursion (IsInput items) inputs
   pub trace : IsTrace items state inputs frames
   pub rises : rises_within b (map (model_shows items) frames) ≡ true

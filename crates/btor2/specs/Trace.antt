@@ -2,6 +2,7 @@
 -- A frame is a function from ids to words, and means something at nodes with a value. In each frame the words of the inputs and of the free states are
 -- given anew; the words of the other states are carried from the frame before.
 use Rattle.std.specs.Prelude.{◌≡◌, ℕ, ◌<◌, ◌^◌, true, false, List, [], ◌∷◌, Option, Some, IfSome, option_map, unwrap_or, is_some, if◌then◌else◌}
+use Rattle.std.specs.List.{AllByRecursion, AllZip}
 use Rattle.base.specs.Operator.{unary_value, binary_value, ite_value, slice_value, uext_value, sext_value, concat_value}
 use Rattle.btor2.specs.declared.item.Item.{Item}
 use Rattle.btor2.specs.declared.item.Body.{Body}
@@ -37,14 +38,9 @@ line_word items state input f id b = constant_word (bits_of items id) b
 abbrev pub LineHolds : List Item → Frame → Frame → Frame → ℕ → Body → Type 0
 LineHolds items state input f id b = IfSome (line_word items state input f id b) (λ w. f id ≡ w)
 
--- each of some lines holds
-abbrev pub LinesHold : List Item → Frame → Frame → Frame → List Item → Type 0
-LinesHold items state input f [] = Unit {0}
-LinesHold items state input f (x ∷ xs) = LineHolds items state input f x.id x.body × LinesHold items state input f xs
-
--- a frame of a model from carried words and given words
+-- a frame of a model from carried words and given words: each line holds
 abbrev pub IsFrame : List Item → Frame → Frame → Frame → Type 0
-IsFrame items state input f = LinesHold items state input f items
+IsFrame items state input f = AllByRecursion (λ (x : Item). LineHolds items state input f x.id x.body) items
 
 -- the words that are carried into the frame after f: each state has the word of its next node
 abbrev pub next_state : List Item → Frame → Frame
@@ -73,40 +69,21 @@ abbrev pub InitHolds : List Item → Frame → Body → Type 0
 InitHolds items state (body.Init s t v) = constant_of items v ≡ Some (state t)
 InitHolds items state _ = Unit {0}
 
-abbrev pub InputsFit : List Item → Frame → List Item → Type 0
-InputsFit items input [] = Unit {0}
-InputsFit items input (x ∷ xs) = InputFits items input x.id x.body × InputsFit items input xs
-
-abbrev pub StatesFit : List Item → Frame → List Item → Type 0
-StatesFit items state [] = Unit {0}
-StatesFit items state (x ∷ xs) = StateFits items state x.id x.body × StatesFit items state xs
-
-abbrev pub InitsHold : List Item → Frame → List Item → Type 0
-InitsHold items state [] = Unit {0}
-InitsHold items state (x ∷ xs) = InitHolds items state x.body × InitsHold items state xs
-
--- words for the inputs and the free states of one frame, and for those of each of some frames
+-- words for the inputs and the free states of one frame
 abbrev pub IsInput : List Item → Frame → Type 0
-IsInput items input = InputsFit items input items
-
-abbrev pub AreInputs : List Item → List Frame → Type 0
-AreInputs items [] = Unit {0}
-AreInputs items (input ∷ inputs) = IsInput items input × AreInputs items inputs
+IsInput items input = AllByRecursion (λ (x : Item). InputFits items input x.id x.body) items
 
 -- words for the states that are carried, and those of them that agree with the init lines
 abbrev pub IsState : List Item → Frame → Type 0
-IsState items state = StatesFit items state items
+IsState items state = AllByRecursion (λ (x : Item). StateFits items state x.id x.body) items
 
 pub record IsInitial (items : List Item) (state : Frame) : Type 0 where
   pub fits : IsState items state
-  pub inits : InitsHold items state items
+  pub inits : AllByRecursion (λ (x : Item). InitHolds items state x.body) items
 
 -- two frames have the same word at each node with a value, and two traces the same frames
 abbrev pub SameFrame : List Item → Frame → Frame → Type 0
 SameFrame items f g = (id : ℕ) → is_some (node_width items id) ≡ true → f id ≡ g id
 
 abbrev pub SameTrace : List Item → List Frame → List Frame → Type 0
-SameTrace items [] [] = Unit {0}
-SameTrace items [] (g ∷ gs) = ⊥
-SameTrace items (f ∷ fs) [] = ⊥
-SameTrace items (f ∷ fs) (g ∷ gs) = SameFrame items f g × SameTrace items fs gs
+SameTrace items fs gs = AllZip (SameFrame items) fs gs

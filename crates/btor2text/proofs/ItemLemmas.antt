@@ -1,6 +1,7 @@
 -- What a line's tokens are read as is what they spell, and what they spell is read.
 use Rattle.std.proofs.Common.{◌≡◌, ℕ, true, List, [], ◌∷◌, ◌++◌, Option, Some, None, Ok, Err, decimal, refl, ap, subst, ◌∙◌, inl, inr, arith}
 use Rattle.std.specs.Prelude.{IfSome}
+use Rattle.std.specs.Option.{option_to_list}
 use Rattle.base.proofs.DecimalLemmas.{chosen}
 use Rattle.btor2.specs.declared.item.Item.{Item}
 use Rattle.btor2.specs.declared.item.Body.{Body}
@@ -8,7 +9,7 @@ use Rattle.btor2.specs.Symbols.{is_symbol}
 use Rattle.btor2text.specs.declared.fault.Why.TheVariants as why
 use Rattle.btor2text.specs.declared.forms.Form.{Form}
 use Rattle.btor2text.specs.Words.{form_name}
-use Rattle.btor2text.specs.Spelling.{symbol_tokens, SaysBody, SpellsItem}
+use Rattle.btor2text.specs.Spelling.{SaysBody, SpellsItem}
 use Rattle.btor2text.specs.Reading.{◌>>=◌, Tokens, plain_at, form_at, body_at, symbol_end, symbol_at, item_at}
 use Rattle.btor2text.proofs.BoundLemmas.{Fits}
 use Rattle.btor2text.proofs.PlaceLemmas.{bind_ok, ok_is, plain_at_takes, plain_at-decimal}
@@ -20,20 +21,20 @@ use Rattle.btor2text.proofs.BodyLemmas.{body_form, body_at_takes, says_again}
 abbrev pub IsSymbolOption : Option (List ℕ) → Type 0
 IsSymbolOption s = IfSome s (λ bytes. is_symbol bytes ≡ true)
 
-symbol_end_takes : (token : List ℕ) (rest : Tokens) (s : Option (List ℕ)) → is_symbol token ≡ true → symbol_end token rest ≡ Ok s → (token ∷ rest ≡ symbol_tokens s) × IsSymbolOption s
-symbol_end_takes token [] s valid e = subst (λ (o : Option (List ℕ)). (token ∷ [] ≡ symbol_tokens o) × IsSymbolOption o) (ok_is (Some token) s e) (refl, valid)
+symbol_end_takes : (token : List ℕ) (rest : Tokens) (s : Option (List ℕ)) → is_symbol token ≡ true → symbol_end token rest ≡ Ok s → (token ∷ rest ≡ option_to_list s) × IsSymbolOption s
+symbol_end_takes token [] s valid e = subst (λ (o : Option (List ℕ)). (token ∷ [] ≡ option_to_list o) × IsSymbolOption o) (ok_is (Some token) s e) (refl, valid)
 symbol_end_takes token (other ∷ rest) s valid e = absurd cc
 
-symbol_at_takes : (tokens : Tokens) (s : Option (List ℕ)) → symbol_at tokens ≡ Ok s → (tokens ≡ symbol_tokens s) × IsSymbolOption s
+symbol_at_takes : (tokens : Tokens) (s : Option (List ℕ)) → symbol_at tokens ≡ Ok s → (tokens ≡ option_to_list s) × IsSymbolOption s
 unfolding symbol_at
-symbol_at_takes [] s e = subst (λ (o : Option (List ℕ)). ([] ≡ symbol_tokens o) × IsSymbolOption o) (ok_is None s e) (refl, tt)
+symbol_at_takes [] s e = subst (λ (o : Option (List ℕ)). ([] ≡ option_to_list o) × IsSymbolOption o) (ok_is None s e) (refl, tt)
 symbol_at_takes (token ∷ rest) s e =
     elim (chosen (is_symbol token) (symbol_end token rest) (Err why.BadSymbol) (Ok s) e) [
       | inl h ↦ symbol_end_takes token rest s h.0 h.1
       | inr h ↦ absurd cc
     ]
 
-symbol_at-again : (s : Option (List ℕ)) → IsSymbolOption s → symbol_at (symbol_tokens s) ≡ Ok s
+symbol_at-again : (s : Option (List ℕ)) → IsSymbolOption s → symbol_at (option_to_list s) ≡ Ok s
 unfolding symbol_at
 symbol_at-again None h = refl
 symbol_at-again (Some token) h = rw h refl
@@ -65,11 +66,11 @@ item_takes tokens x e =
     let s = bind_ok (symbol_at b.0.1) (λ s. Ok (record { id = i.0.0; symbol = s; body = b.0.0 })) x b.2 in
     subst (λ (y : Item). Fits y → SpellsItem tokens y) {x = record { id = i.0.0; symbol = s.0; body = b.0.0 }} (ok_is (record { id = i.0.0; symbol = s.0; body = b.0.0 }) x s.2) (spelled tokens i.0 f.0 b.0 s.0 i.1 f.1 b.1 s.1)
 
-read_again : (x : Item) (tokens : Tokens) → Fits x → SaysBody x.body tokens → IsSymbolOption x.symbol → item_at (decimal x.id ∷ tokens ++ symbol_tokens x.symbol) ≡ Ok x
+read_again : (x : Item) (tokens : Tokens) → Fits x → SaysBody x.body tokens → IsSymbolOption x.symbol → item_at (decimal x.id ∷ tokens ++ option_to_list x.symbol) ≡ Ok x
 unfolding item_at
 read_again x tokens fits says symbol =
     let a = says_again x.body tokens says fits.body in
-    rw (a.parts, plain_at-decimal x.id (form_name (body_form x.body) ∷ a.behind ++ symbol_tokens x.symbol) (omega (arith, fits.id.1)), form_at-again (body_form x.body) (a.behind ++ symbol_tokens x.symbol), a.again (symbol_tokens x.symbol), symbol_at-again x.symbol symbol) refl
+    rw (a.parts, plain_at-decimal x.id (form_name (body_form x.body) ∷ a.behind ++ option_to_list x.symbol) (omega (arith, fits.id.1)), form_at-again (body_form x.body) (a.behind ++ option_to_list x.symbol), a.again (option_to_list x.symbol), symbol_at-again x.symbol symbol) refl
 
 pub item_again : (tokens : Tokens) (x : Item) → SpellsItem tokens x → Fits x → item_at tokens ≡ Ok x
 item_again tokens x spelled fits = ap item_at spelled.tokens ∙ read_again x spelled.form fits spelled.says spelled.symbol

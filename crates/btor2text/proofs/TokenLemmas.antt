@@ -6,7 +6,8 @@ use Rattle.std.proofs.lemmas.Bool.Decides.{nat_tests}
 use Rattle.std.proofs.lemmas.List.{drop_more, take_all, drop_all, take-append-drop}
 use Rattle.bstr.specs.Bytes.{is_in, not_in}
 use Rattle.base.specs.Lines.{to_first}
-use Rattle.btor2text.specs.Tokens.{is_blank, pieces, is_some_bytes, before_comment, tokens, begins_blank, begins_token}
+use Rattle.base.specs.Decimals.{is_nothing}
+use Rattle.btor2text.specs.Tokens.{is_blank, pieces, before_comment, tokens, begins_blank, begins_token}
 
 -- the blanks as a set of bytes
 abbrev pub blanks : List ℕ
@@ -53,7 +54,7 @@ pieces-word_blank (c ∷ cs) b rest h blank =
     rw (parts.0, pieces-word_blank cs b rest parts.1 blank) refl
 
 abbrev tokens_of : List (List ℕ) → List (List ℕ)
-tokens_of ps = before_comment (filter is_some_bytes ps)
+tokens_of ps = before_comment (filter (λ p. not (is_nothing p)) ps)
 
 -- a word that opens no comment is a token
 word_is_token : (c : ℕ) (cs : List ℕ) (ps : List (List ℕ)) → not (is_blank c || (c == 59)) ≡ true → tokens_of ((c ∷ cs) ∷ ps) ≡ (c ∷ cs) ∷ tokens_of ps

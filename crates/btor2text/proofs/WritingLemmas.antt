@@ -3,13 +3,14 @@ use Rattle.std.proofs.Common.{◌≡◌, ℕ, true, refl, ◌^◌, lit<, suc, �
 use Rattle.std.specs.Char.{digit_char}
 use Rattle.std.proofs.lemmas.Fmt.{length-decimal-le}
 use Rattle.std.proofs.lemmas.List.{take-append-drop}
+use Rattle.std.specs.Option.{option_to_list}
 use Rattle.btor2.specs.declared.item.Item.{Item}
 use Rattle.btor2.specs.declared.item.Body.{Body}
 use Rattle.btor2.specs.declared.item.Body.TheVariants as body
 use Rattle.btor2.specs.Check.{IsWellFormed}
 use Rattle.btor2.proofs.ModelLemmas.{IsIn, refusal-at, IsWellFormed-front}
 use Rattle.btor2text.specs.Digits.{last_digits}
-use Rattle.btor2text.specs.Spelling.{form_tokens, symbol_tokens}
+use Rattle.btor2text.specs.Spelling.{form_tokens}
 use Rattle.btor2text.specs.Writing.{behind_spaces, in_front, head_tokens, justice_operands, HasFewDigits, written_line, written}
 use Rattle.btor2text.proofs.BoundLemmas.{BodyFits, accepted_fits}
 
@@ -49,16 +50,16 @@ form_parts (body.Justice nodes) rest = refl
 form_parts _ rest = refl
 
 -- a line from its end to its front
-pub line_parts : (x : Item) → written_line x ≡ decimal x.id ++ in_front (head_tokens x.body) (in_front (map decimal (justice_operands x.body)) (in_front (symbol_tokens x.symbol) (10 ∷ [])))
+pub line_parts : (x : Item) → written_line x ≡ decimal x.id ++ in_front (head_tokens x.body) (in_front (map decimal (justice_operands x.body)) (in_front (option_to_list x.symbol) (10 ∷ [])))
 line_parts x =
     ap (λ (l : List ℕ). decimal x.id ++ l)
-    (front_is (form_tokens x.body ++ symbol_tokens x.symbol) (10 ∷ [])
-    ∙ front_then (form_tokens x.body) (symbol_tokens x.symbol) (10 ∷ [])
-    ∙ form_parts x.body (in_front (symbol_tokens x.symbol) (10 ∷ [])))
+    (front_is (form_tokens x.body ++ option_to_list x.symbol) (10 ∷ [])
+    ∙ front_then (form_tokens x.body) (option_to_list x.symbol) (10 ∷ [])
+    ∙ form_parts x.body (in_front (option_to_list x.symbol) (10 ∷ [])))
 
 -- the line of an item without operands behind its form
-pub whole_line : (x : Item) → justice_operands x.body ≡ [] → written_line x ≡ decimal x.id ++ in_front (head_tokens x.body) (in_front (symbol_tokens x.symbol) (10 ∷ []))
-whole_line x none = line_parts x ∙ ap (λ (nodes : List ℕ). decimal x.id ++ in_front (head_tokens x.body) (in_front (map decimal nodes) (in_front (symbol_tokens x.symbol) (10 ∷ [])))) none
+pub whole_line : (x : Item) → justice_operands x.body ≡ [] → written_line x ≡ decimal x.id ++ in_front (head_tokens x.body) (in_front (option_to_list x.symbol) (10 ∷ []))
+whole_line x none = line_parts x ∙ ap (λ (nodes : List ℕ). decimal x.id ++ in_front (head_tokens x.body) (in_front (map decimal nodes) (in_front (option_to_list x.symbol) (10 ∷ [])))) none
 
 -- no operands, as a test tells it
 pub no_operands : (nodes : List ℕ) → true ≡ (length nodes == 0) → nodes ≡ []
@@ -66,9 +67,9 @@ no_operands [] h = refl
 no_operands (a ∷ nodes) h = absurd (omega (arith, eqb-true (suc (length nodes)) 0 (sym h)))
 
 -- a line in its three pieces
-pub line_pieces : (x : Item) → written_line x ≡ (decimal x.id ++ in_front (head_tokens x.body) []) ++ (behind_spaces (map decimal (justice_operands x.body)) ++ in_front (symbol_tokens x.symbol) (10 ∷ []))
+pub line_pieces : (x : Item) → written_line x ≡ (decimal x.id ++ in_front (head_tokens x.body) []) ++ (behind_spaces (map decimal (justice_operands x.body)) ++ in_front (option_to_list x.symbol) (10 ∷ []))
 line_pieces x =
-    let end = in_front (symbol_tokens x.symbol) (10 ∷ []) in
+    let end = in_front (option_to_list x.symbol) (10 ∷ []) in
     let operands = map decimal (justice_operands x.body) in
     line_parts x
     ∙ ap (λ (l : List ℕ). decimal x.id ++ l) (front_apart (head_tokens x.body) (in_front operands end) ∙ ap (λ (l : List ℕ). in_front (head_tokens x.body) [] ++ l) (sym (front_is operands end)))

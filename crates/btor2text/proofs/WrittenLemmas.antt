@@ -13,6 +13,7 @@ use Rattle.std.proofs.lemmas.Str.Parse.{digit_from_value}
 use Rattle.std.proofs.lemmas.Int.Digits.{digits_value_push}
 use Rattle.std.proofs.lemmas.List.Folds.{list_all-append}
 use Rattle.std.proofs.lemmas.List.Elements.{All-from_recursion}
+use Rattle.std.specs.Option.{option_to_list}
 use Rattle.base.specs.Lines.{IsLine, text_of_lines}
 use Rattle.base.proofs.LineLemmas.{EachLine}
 use Rattle.base.specs.declared.operators.Unary.{Unary}
@@ -30,7 +31,7 @@ use Rattle.btor2.proofs.ModelLemmas.{IsWellFormed-push}
 use Rattle.btor2text.specs.Tokens.{is_blank, tokens, begins_token}
 use Rattle.btor2text.specs.Words.{unary_name, binary_name}
 use Rattle.btor2text.specs.Digits.{are_digits_of, IsNumber, last_digits}
-use Rattle.btor2text.specs.Spelling.{form_tokens, symbol_tokens, SaysBody, SpellsItem, SpellsAll, StandsFor}
+use Rattle.btor2text.specs.Spelling.{form_tokens, SaysBody, SpellsItem, SpellsAll, StandsFor}
 use Rattle.btor2text.specs.Writing.{behind_spaces, written}
 use Rattle.btor2text.proofs.BoundLemmas.{IsId, SignedFits, BodyFits, Fits, accepted_fits}
 use Rattle.btor2text.proofs.StandsLemmas.{spells_line}
@@ -238,7 +239,7 @@ says_written _ fits few = refl
 
 -- ---- lines
 
-symbol_words : (s : Option (List ℕ)) → IfSome s (λ bytes. is_symbol bytes ≡ true) → AreWords (symbol_tokens s)
+symbol_words : (s : Option (List ℕ)) → IfSome s (λ bytes. is_symbol bytes ≡ true) → AreWords (option_to_list s)
 symbol_words None h = tt
 symbol_words (Some []) h = absurd cc
 symbol_words (Some (b ∷ bs)) h =
@@ -248,25 +249,25 @@ symbol_words (Some (b ∷ bs)) h =
 
 -- the bytes of an item's line
 abbrev line_text : Item → List ℕ
-line_text x = decimal x.id ++ behind_spaces (form_tokens x.body ++ symbol_tokens x.symbol)
+line_text x = decimal x.id ++ behind_spaces (form_tokens x.body ++ option_to_list x.symbol)
 
-line_words : (x : Item) → Fits x → HasSoundParts x → AreWords (form_tokens x.body ++ symbol_tokens x.symbol)
-line_words x fits writable = are_words-append (form_tokens x.body) (symbol_tokens x.symbol) (form_words x.body fits.body writable.operands) (symbol_words x.symbol writable.symbol)
+line_words : (x : Item) → Fits x → HasSoundParts x → AreWords (form_tokens x.body ++ option_to_list x.symbol)
+line_words x fits writable = are_words-append (form_tokens x.body) (option_to_list x.symbol) (form_words x.body fits.body writable.operands) (symbol_words x.symbol writable.symbol)
 
 line_spells : (x : Item) → Fits x → HasSoundParts x → SpellsItem (tokens (line_text x)) x
 line_spells x fits writable = record {
   form = form_tokens x.body;
-  tokens = tokens_behind (decimal x.id) (form_tokens x.body ++ symbol_tokens x.symbol) (id_word x.id fits.id) (line_words x fits writable);
+  tokens = tokens_behind (decimal x.id) (form_tokens x.body ++ option_to_list x.symbol) (id_word x.id fits.id) (line_words x fits writable);
   says = says_written x.body fits.body writable.operands;
   symbol = writable.symbol;
 }
 
 line_is_line : (x : Item) → Fits x → HasSoundParts x → IsLine (line_text x)
-line_is_line x fits writable = line_append (decimal x.id) (behind_spaces (form_tokens x.body ++ symbol_tokens x.symbol)) (no_ends (decimal x.id) (id_word x.id fits.id).printed) (words_line (form_tokens x.body ++ symbol_tokens x.symbol) (line_words x fits writable))
+line_is_line x fits writable = line_append (decimal x.id) (behind_spaces (form_tokens x.body ++ option_to_list x.symbol)) (no_ends (decimal x.id) (id_word x.id fits.id).printed) (words_line (form_tokens x.body ++ option_to_list x.symbol) (line_words x fits writable))
 
 written_text : (items : List Item) → written items ≡ text_of_lines (map line_text items)
 written_text [] = refl
-written_text (x ∷ xs) = ap₂ (λ (a b : List ℕ). a ++ b) (sym (append_assoc (decimal x.id) (behind_spaces (form_tokens x.body ++ symbol_tokens x.symbol)) (10 ∷ []))) (written_text xs)
+written_text (x ∷ xs) = ap₂ (λ (a b : List ℕ). a ++ b) (sym (append_assoc (decimal x.id) (behind_spaces (form_tokens x.body ++ option_to_list x.symbol)) (10 ∷ []))) (written_text xs)
 
 lines_spell : (before items : List Item) → IsWellFormed before → IsWellFormedAfter before items → HaveSoundParts items → SpellsAll (map tokens (map line_text items)) items
 lines_spell before [] h well writable = tt

@@ -1,6 +1,7 @@
 -- Which texts stand for which models ("Btor2, BtorMC and Boolector 3.0", syntax).
-use Rattle.std.specs.Prelude.{◌≡◌, ℕ, ◌-◌, ◌^◌, ◌<◌, true, List, [], ◌∷◌, ◌++◌, length, Option, Some, None, IfSome, codes, decimal, map, All}
+use Rattle.std.specs.Prelude.{◌≡◌, ℕ, ◌-◌, ◌^◌, ◌<◌, true, List, [], ◌∷◌, ◌++◌, length, Option, IfSome, codes, decimal, map, All}
 use Rattle.std.specs.Fmt.{signed_decimal}
+use Rattle.std.specs.Option.{option_to_list}
 use Rattle.base.specs.Lines.{text_of_lines, IsLine}
 use Rattle.btor2.specs.declared.item.Item.{Item}
 use Rattle.btor2.specs.declared.item.Body.{Body}
@@ -46,15 +47,10 @@ SaysBody (body.Consth s d v) form = (digits : List ℕ) × (form ≡ codes "cons
 SaysBody (body.Justice nodes) form = (form ≡ form_tokens (body.Justice nodes)) × (length nodes < 2 ^ 64 - 1)
 SaysBody b form = form ≡ form_tokens b
 
--- the tokens of a symbol: itself, or none
-abbrev pub symbol_tokens : Option (List ℕ) → List (List ℕ)
-symbol_tokens None = []
-symbol_tokens (Some symbol) = symbol ∷ []
-
--- the tokens of a line spell an item: its id, its form, and its symbol, which is a symbol's bytes
+-- the tokens of a line spell an item: its id, its form, and its symbol where it has one, which is a symbol's bytes
 pub record SpellsItem (line : List (List ℕ)) (x : Item) : Type 0 where
   pub form : List (List ℕ)
-  pub tokens : line ≡ decimal x.id ∷ form ++ symbol_tokens x.symbol
+  pub tokens : line ≡ decimal x.id ∷ form ++ option_to_list x.symbol
   pub says : SaysBody x.body form
   pub symbol : IfSome x.symbol (λ bytes. is_symbol bytes ≡ true)
 

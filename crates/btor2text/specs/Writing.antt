@@ -1,9 +1,10 @@
 -- The writer's text of a model: the one spelling that it gives.
 use Rattle.std.specs.Prelude.{ℕ, ◌≤◌, List, [], ◌∷◌, ◌++◌, length, codes, decimal, flat_map}
+use Rattle.std.specs.Option.{option_to_list}
 use Rattle.btor2.specs.declared.item.Item.{Item}
 use Rattle.btor2.specs.declared.item.Body.{Body}
 use Rattle.btor2.specs.declared.item.Body.TheVariants as body
-use Rattle.btor2text.specs.Spelling.{form_tokens, symbol_tokens}
+use Rattle.btor2text.specs.Spelling.{form_tokens}
 
 -- each of some tokens behind a space
 abbrev pub behind_spaces : List (List ℕ) → List ℕ
@@ -25,7 +26,7 @@ justice_operands _ = []
 
 -- the line of an item: its id, its form and its symbol, where it has one, with one space between, and byte 10
 abbrev pub written_line : Item → List ℕ
-written_line x = decimal x.id ++ (behind_spaces (form_tokens x.body ++ symbol_tokens x.symbol) ++ 10 ∷ [])
+written_line x = decimal x.id ++ (behind_spaces (form_tokens x.body ++ option_to_list x.symbol) ++ 10 ∷ [])
 
 -- the text of a model: a line for each item
 abbrev pub written : List Item → List ℕ

@@ -2,10 +2,11 @@
 
 ghost use Rattle.std.specs.Prelude.{◌≡◌, [], ◌≤◌, ◌+◌, ◌∷◌, ◌++◌, length, map, decimal, OnOk, OnErr};
 ghost use Rattle.std.specs.Io.KnownBytes.{Appends};
+ghost use Rattle.std.specs.Option.{option_to_list};
 ghost use Rattle.base.specs.Device.{CountsFaults, AppendsBeginning};
 ghost use Rattle.btor2.specs.Check.{IsWellFormed};
 ghost use Rattle.base.specs.Pieces.{Puts};
-ghost use Rattle.btor2text.specs.Spelling.{symbol_tokens, StandsFor};
+ghost use Rattle.btor2text.specs.Spelling.{StandsFor};
 ghost use Rattle.btor2text.specs.Reading.{text_on};
 ghost use Rattle.btor2text.specs.Writing.{behind_spaces, in_front, head_tokens, justice_operands, HasFewDigits, written_line, written};
 
@@ -124,7 +125,7 @@ fn operands(body: &Body) -> &[u32]
 
 /// Makes it the end of a line: the symbol behind a space, where there is one, and byte 10.
 fn make_end(line: &mut Line, symbol: &Option<Symbol>)
-    ensures end { line.new ≡ in_front (symbol_tokens symbol.now) (10 ∷ []) }
+    ensures end { line.new ≡ in_front (option_to_list symbol.now) (10 ∷ []) }
     ensures short { length line.new ≤ 257 }
 {
     line.clear();

@@ -12,7 +12,8 @@ use Rattle.witness.specs.declared.why.Why.TheVariants as why
 use Rattle.witness.specs.Texts.{digit, claim}
 use Rattle.witness.specs.BitTexts.{bit_line}
 use Rattle.witness.specs.Readings.{lines_read}
-use Rattle.witness.specs.BitAdmits.{claim_at, bits_at, BitPlace, AtHeader, AtClaim, AtInitial, AtFirst, AtLater, AtDone, BitRead, after_claim, after_initial, after_frame, bit_admit_at, bit_admit, bit_reader}
+use Rattle.witness.specs.BitAdmits.{claim_at, bits_at, BitPlace, AtHeader, AtClaim, AtInitial, AtFirst, AtLater, AtDone, BitRead, after_frame, bit_admit_at, bit_admit, bit_reader}
+use Rattle.witness.proofs.StepWords.{after_claim, after_initial}
 use Rattle.witness.proofs.BitReadLemmas.{bits_are_line, claim_is_line}
 use Rattle.restore.proofs.BitPlaceLemmas.{PlaceAt, place_of_lines}
 use Rattle.lift.specs.Lifted.{piece, bits_of_line, initial_piece, frame_piece}

@@ -15,7 +15,7 @@ use Rattle.btor2.specs.Symbols.{is_symbol}
 use Rattle.btor2.specs.Lists.{of_kind as leaves_of}
 use Rattle.btor2.specs.Leaves.{kind_width}
 use Rattle.blast.specs.Cost.{input_width}
-use Rattle.witness.specs.Texts.{Assignment, Parts, Witness, shape_of, has_free, is_free_index, free_of, digit, symbol_part, assignment_line, assignment_lines, are_distinct, IsAssignment}
+use Rattle.witness.specs.Texts.{Assignment, Parts, Witness, shape_of, has_free, is_free_index, free_of, digit, symbol_part, assignment_line, are_distinct, IsAssignment}
 use Rattle.witness.specs.BitTexts.{BitWitness}
 use Rattle.lift.specs.Lifted.{at_frame, name_in_frame, names, word_line, word_lines}
 
@@ -126,14 +126,14 @@ abbrev widths_in : List Item → List Item → List ℕ
 widths_in items xs = map (λ (x : Item). bits_of items x.id) xs
 
 pub assigned_lines : (items : List Item) (takes : Item → Bool) (name : Item → Option (List ℕ)) (widths front : List ℕ) (index : ℕ) (xs : List Item) (bs : List Bool) → Behind widths front (widths_in items xs) index → kind_width items takes xs ≤ length bs
-    → assignment_lines widths (assigned items takes name index xs bs) ≡ word_lines items takes name index xs bs
+    → map (assignment_line widths) (assigned items takes name index xs bs) ≡ word_lines items takes name index xs bs
 assigned_lines items takes name widths front index [] bs at long = refl
 assigned_lines items takes name widths front index (x ∷ xs) bs at long =
     by (takes x) (one_leaf_more items takes x xs (length bs) long) (λ cs. assigned_lines items takes name widths (front ++ bits_of items x.id ∷ []) (suc index) xs cs (next_behind widths front (widths_in items xs) (bits_of items x.id) index at))
   where
     by : (b : Bool) → (if b then bits_of items x.id else 0) + kind_width items takes xs ≤ length bs
-        → ((cs : List Bool) → kind_width items takes xs ≤ length cs → assignment_lines widths (assigned items takes name (suc index) xs cs) ≡ word_lines items takes name (suc index) xs cs)
-        → assignment_lines widths (if b then assign index (take (bits_of items x.id) bs) (name x) ∷ assigned items takes name (suc index) xs (drop (bits_of items x.id) bs) else assigned items takes name (suc index) xs bs)
+        → ((cs : List Bool) → kind_width items takes xs ≤ length cs → map (assignment_line widths) (assigned items takes name (suc index) xs cs) ≡ word_lines items takes name (suc index) xs cs)
+        → map (assignment_line widths) (if b then assign index (take (bits_of items x.id) bs) (name x) ∷ assigned items takes name (suc index) xs (drop (bits_of items x.id) bs) else assigned items takes name (suc index) xs bs)
         ≡ (if b then word_line index (take (bits_of items x.id) bs) (name x) ∷ word_lines items takes name (suc index) xs (drop (bits_of items x.id) bs) else word_lines items takes name (suc index) xs bs)
     by true long rest =
         ap₂ ◌∷◌

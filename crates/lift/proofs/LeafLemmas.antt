@@ -4,13 +4,13 @@ use Rattle.base.specs.Lines.{text_of_lines}
 use Rattle.btor2.specs.declared.item.Item.{Item}
 use Rattle.btor2.specs.declared.leaves.Leaves.{Leaves}
 use Rattle.btor2.specs.declared.leaves.Leaves.TheVariants as leaves
-use Rattle.btor2.specs.Items.{is_free}
+use Rattle.btor2.specs.Items.{is_free, is_input, is_state}
 use Rattle.btor2.specs.Lists.{places, width_at}
 use Rattle.btor2.specs.Leaves.{list_of, kind_of, is_leaf_at, leaf_width}
 use Rattle.btor2.specs.Check.{IsWellFormed}
 use Rattle.btor2.specs.Trace.{bits_of}
 use Rattle.btor2.proofs.LeafLemmas.{item_behind, bits_of-at, leaf_at}
-use Rattle.lift.specs.Lifted.{word_line, word_lines, lifted_input_lines, carried_lines, free_lines}
+use Rattle.lift.specs.Lifted.{word_line, word_lines, free_lines}
 use Rattle.lift.specs.Kept.{taken_line, placed_lines, leaf_lines}
 
 -- one leaf
@@ -44,6 +44,13 @@ placed_from l takes name items before (x ∷ xs) n index bits is e w agree =
         ∙ one_leaf (is_leaf_at items l n) (takes x) (unwrap_or (width_at items n) 0) (bits_of items x.id) index (name x) bits (placed_lines l items name (suc index) (places (list_of l) (suc n) xs))
         (word_lines items takes name (suc index) (filter (λ (y : Item). list_of l y.body) xs)) (leaf_at items l n x at ∙ agree x own) (bits_of-at items n x w at) (rest (suc index))
     by false own rest = rest index bits
+
+-- the lines of all inputs, and of the states that are carried from frame to frame
+abbrev pub lifted_input_lines : List Item → (Item → Option (List ℕ)) → List Bool → List (List ℕ)
+lifted_input_lines items name bits = word_lines items (λ x. true) name 0 (filter (λ x. is_input x.body) items) bits
+
+abbrev pub carried_lines : List Item → (Item → Option (List ℕ)) → List Bool → List (List ℕ)
+carried_lines items name bits = word_lines items (λ x. not (is_free items x.id)) name 0 (filter (λ x. is_state x.body) items) bits
 
 pub inputs_placed : (items : List Item) (name : Item → Option (List ℕ)) (bits : List Bool) → IsWellFormed items → leaf_lines leaves.Inputs items name bits ≡ text_of_lines (lifted_input_lines items name bits)
 inputs_placed items name bits w = placed_from leaves.Inputs (λ x. true) name items [] items 0 0 bits refl refl w (λ x own. own)

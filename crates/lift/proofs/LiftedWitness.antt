@@ -13,12 +13,13 @@ use Rattle.btor2.specs.Trace.{bits_of}
 use Rattle.btor2.specs.Leaves.{kind_width}
 use Rattle.btor2.specs.Lists.{of_kind as leaves_of}
 use Rattle.blast.specs.Leaves.{by_body}
-use Rattle.blast.specs.Cost.{input_width, free_width, given_width, carried_width}
-use Rattle.witness.specs.Texts.{Shape, Assignment, shape_of, has_free, is_free_index, claim, assignment_line, assignment_lines, states_lines, frame_lines, witness_lines, are_distinct, IsAssignment, IsPart, IsFreePart, IsLaterFrame, AreFrames, IsWitness}
+use Rattle.blast.specs.Cost.{input_width, given_width, carried_width}
+use Rattle.witness.specs.Texts.{Shape, Assignment, shape_of, has_free, is_free_index, claim, assignment_line, states_lines, frame_lines, witness_lines, are_distinct, IsAssignment, IsPart, IsFreePart, AreFrames, IsWitness, AreParts}
 use Rattle.witness.specs.BitTexts.{BitWitness, bit_line, bit_witness_lines}
 use Rattle.witness.proofs.PieceLemmas.{bits_of_digits}
 use Rattle.witness.proofs.BitReadLemmas.{bits_are_no_end}
-use Rattle.lift.specs.Lifted.{names, lifted_input_lines, carried_lines, free_lines, initial_piece, free_piece, frame_piece, bits_of_line, piece, lifted_lines}
+use Rattle.lift.proofs.LeafLemmas.{lifted_input_lines, carried_lines}
+use Rattle.lift.specs.Lifted.{names, free_lines, initial_piece, free_piece, frame_piece, bits_of_line, piece, lifted_lines}
 use Rattle.lift.proofs.AssignedLemmas.{any_leaf, takes_free, takes_carried, assigned_inputs, assigned_carried, assigned_free, later_parts, later_frames, lifted_frames, lifted_witness, are_names, assigned_lines, assigned_fit, indices, assigned_distinct, both_distinct, flag_of_index, free_flags, carried_flags}
 use Rattle.lift.proofs.PutLemmas.{hash}
 
@@ -40,7 +41,7 @@ and_any false = refl
 wide_inputs : (items : List Item) → input_width items ≡ kind_width items any_leaf (leaves_of is_input items)
 wide_inputs items = width_among items is_input any_leaf (by_body is_input) (λ x. and_any (is_input x.body)) items
 
-wide_free : (items : List Item) → free_width items ≡ kind_width items (takes_free items) (leaves_of is_state items)
+wide_free : (items : List Item) → kind_width items (is_free_state items) items ≡ kind_width items (takes_free items) (leaves_of is_state items)
 wide_free items = width_among items is_state (takes_free items) (is_free_state items) (λ x. refl) items
 
 wide_carried : (items : List Item) → carried_width items ≡ kind_width items (takes_carried items) (leaves_of is_state items)
@@ -61,13 +62,13 @@ AreWide items frames = AllByRecursion (λ bs. length bs ≡ given_width items) f
 
 -- ---- the lines of words
 
-inputs_written : (items : List Item) (name : Item → Option (List ℕ)) (bs : List Bool) → length bs ≡ given_width items → assignment_lines (shape_of items).inputs (assigned_inputs items name bs) ≡ lifted_input_lines items name bs
+inputs_written : (items : List Item) (name : Item → Option (List ℕ)) (bs : List Bool) → length bs ≡ given_width items → map (assignment_line (shape_of items).inputs) (assigned_inputs items name bs) ≡ lifted_input_lines items name bs
 inputs_written items name bs h = assigned_lines items any_leaf name (shape_of items).inputs [] 0 (leaves_of is_input items) bs (refl, refl) (inputs_enough items bs h)
 
-free_written : (items : List Item) (name : Item → Option (List ℕ)) (bs : List Bool) → length bs ≡ given_width items → assignment_lines (shape_of items).states (assigned_free items name (drop (input_width items) bs)) ≡ free_lines items name (drop (input_width items) bs)
+free_written : (items : List Item) (name : Item → Option (List ℕ)) (bs : List Bool) → length bs ≡ given_width items → map (assignment_line (shape_of items).states) (assigned_free items name (drop (input_width items) bs)) ≡ free_lines items name (drop (input_width items) bs)
 free_written items name bs h = assigned_lines items (takes_free items) name (shape_of items).states [] 0 (leaves_of is_state items) (drop (input_width items) bs) (refl, refl) (free_enough items bs h)
 
-carried_written : (items : List Item) (name : Item → Option (List ℕ)) (bs : List Bool) → length bs ≡ carried_width items → assignment_lines (shape_of items).states (assigned_carried items name bs) ≡ carried_lines items name bs
+carried_written : (items : List Item) (name : Item → Option (List ℕ)) (bs : List Bool) → length bs ≡ carried_width items → map (assignment_line (shape_of items).states) (assigned_carried items name bs) ≡ carried_lines items name bs
 carried_written items name bs h = assigned_lines items (takes_carried items) name (shape_of items).states [] 0 (leaves_of is_state items) bs (refl, refl) (carried_enough items bs h)
 
 -- ---- the lines of frames
@@ -90,10 +91,10 @@ later_lines : (named : Bool) (items : List Item) (k : ℕ) (frames : List (List 
 later_lines named items k [] h = refl
 later_lines named items k (bs ∷ more) h =
     let rest = later_lines named items (suc k) more h.1 in
-    let own : piece named items (suc (suc (suc (suc k)))) (bit_line bs) ≡ states_lines (shape_of items).states (suc k) (later_parts named items (suc k) bs).states ++ (64 ∷ decimal (suc k)) ∷ assignment_lines (shape_of items).inputs (assigned_inputs items (names named (suc k)) bs) =
+    let own : piece named items (suc (suc (suc (suc k)))) (bit_line bs) ≡ states_lines (shape_of items).states (suc k) (later_parts named items (suc k) bs).states ++ (64 ∷ decimal (suc k)) ∷ map (assignment_line (shape_of items).inputs) (assigned_inputs items (names named (suc k)) bs) =
     frame_is named items (suc k) bs ∙ ap₂ (λ (s i : List (List ℕ)). s ++ (64 ∷ decimal (suc k)) ∷ i) (sym (later_states named items k bs h.0)) (sym (inputs_written items (names named (suc k)) bs h.0)) in
     ap₂ ◌++◌ own rest
-    ∙ regroup (64 ∷ decimal (suc k)) (states_lines (shape_of items).states (suc k) (later_parts named items (suc k) bs).states) (assignment_lines (shape_of items).inputs (assigned_inputs items (names named (suc k)) bs)) (frame_lines (shape_of items) (suc (suc k)) (later_frames named items (suc (suc k)) more)) (codes "." ∷ [])
+    ∙ regroup (64 ∷ decimal (suc k)) (states_lines (shape_of items).states (suc k) (later_parts named items (suc k) bs).states) (map (assignment_line (shape_of items).inputs) (assigned_inputs items (names named (suc k)) bs)) (frame_lines (shape_of items) (suc (suc k)) (later_frames named items (suc (suc k)) more)) (codes "." ∷ [])
 
 -- the first frame behind the initial bits
 regroup_first : {A : Type 0} (h : A) (c f t e : List A) → (h ∷ c) ++ ((f ++ t) ++ e) ≡ ((h ∷ (c ++ f)) ++ t) ++ e
@@ -103,9 +104,9 @@ first_lines : (named : Bool) (items : List Item) (initial bs : List Bool) (more 
     → lifted_lines named items 2 (bit_line initial ∷ (map bit_line (bs ∷ more) ++ codes "." ∷ [])) ≡ frame_lines (shape_of items) 0 (lifted_frames named items initial (bs ∷ more)) ++ codes "." ∷ []
 first_lines named items initial bs more few h =
     let shape : Shape = shape_of items in
-    let carried : List (List ℕ) = assignment_lines shape.states (assigned_carried items (names named 0) initial) in
-    let free : List (List ℕ) = assignment_lines shape.states (assigned_free items (names named 0) (drop (input_width items) bs)) in
-    let inputs : List (List ℕ) = assignment_lines shape.inputs (assigned_inputs items (names named 0) bs) in
+    let carried : List (List ℕ) = map (assignment_line shape.states) (assigned_carried items (names named 0) initial) in
+    let free : List (List ℕ) = map (assignment_line shape.states) (assigned_free items (names named 0) (drop (input_width items) bs)) in
+    let inputs : List (List ℕ) = map (assignment_line shape.inputs) (assigned_inputs items (names named 0) bs) in
     let later : List (List ℕ) = frame_lines shape 1 (later_frames named items 1 more) in
     let end : List (List ℕ) = codes "." ∷ [] in
     let initial_is : piece named items 2 (bit_line initial) ≡ (35 ∷ decimal 0) ∷ carried = ap (initial_piece named items) (bits_of_digits initial) ∙ ap₂ ◌∷◌ (sym hash) (sym (carried_written items (names named 0) initial few)) in
@@ -159,16 +160,16 @@ first_states named items initial bs few h =
           ∙ both_distinct (indices (assigned_carried items (names named 0) initial)) (indices (assigned_free items (names named 0) behind)) (assigned_distinct items (takes_carried items) (names named 0) 0 (leaves_of is_state items) initial) (assigned_distinct items (takes_free items) (names named 0) 0 (leaves_of is_state items) behind) (apart items (names named 0) initial behind);
     }
 
-later_is : (named : Bool) (k : ℕ) (items : List Item) (bs : List Bool) → length bs ≡ given_width items → IsLaterFrame (shape_of items) (later_parts named items k bs)
+later_is : (named : Bool) (k : ℕ) (items : List Item) (bs : List Bool) → length bs ≡ given_width items → AreParts (shape_of items) (IsFreePart (shape_of items)) (later_parts named items k bs)
 later_is named k items bs h = record { states = by (has_free (shape_of items)) refl; inputs = inputs_part named k items bs h }
   where
     by : (b : Bool) → has_free (shape_of items) ≡ b → IfSome (if b then Some (assigned_free items (names named k) (drop (input_width items) bs)) else None) (IsFreePart (shape_of items))
     by true some = record { some = some; part = free_part named k items bs h; free = All-from_recursion (λ (a : Assignment). is_free_index (shape_of items) a.index ≡ true) (assigned_free items (names named k) (drop (input_width items) bs)) (free_flags items (names named k) (drop (input_width items) bs)) }
     by false none = tt
 
-all_later : (named : Bool) (k : ℕ) (items : List Item) (frames : List (List Bool)) → AreWide items frames → All (IsLaterFrame (shape_of items)) (later_frames named items k frames)
-all_later named k items [] h = All-nil (IsLaterFrame (shape_of items))
-all_later named k items (bs ∷ more) h = All-cons (IsLaterFrame (shape_of items)) (later_parts named items k bs) (later_frames named items (suc k) more) (later_is named k items bs h.0) (all_later named (suc k) items more h.1)
+all_later : (named : Bool) (k : ℕ) (items : List Item) (frames : List (List Bool)) → AreWide items frames → All (AreParts (shape_of items) (IsFreePart (shape_of items))) (later_frames named items k frames)
+all_later named k items [] h = All-nil (AreParts (shape_of items) (IsFreePart (shape_of items)))
+all_later named k items (bs ∷ more) h = All-cons (AreParts (shape_of items) (IsFreePart (shape_of items))) (later_parts named items k bs) (later_frames named items (suc k) more) (later_is named k items bs h.0) (all_later named (suc k) items more h.1)
 
 pub lifted_is_witness : (named : Bool) (items : List Item) (w : BitWitness) → w.claim < (shape_of items).bads → w.frames ≢ [] → length w.initial ≡ carried_width items → AreWide items w.frames → IsWitness (shape_of items) (lifted_witness named items w)
 lifted_is_witness named items w below some few given =

@@ -7,7 +7,7 @@ use Rattle.std.proofs.lemmas.Bool.{not-true}
 use Rattle.btor2.specs.declared.item.Item.{Item}
 use Rattle.btor2.specs.Items.{is_input, is_state, is_free, names_state, init_word, is_free_state, is_carried_state}
 use Rattle.btor2.specs.Check.{IsWellFormed}
-use Rattle.btor2.specs.Trace.{bits_of, IsState, AreInputs}
+use Rattle.btor2.specs.Trace.{bits_of, IsState, IsInput}
 use Rattle.btor2.specs.Lists.{of_kind as leaves_of}
 use Rattle.btor2.proofs.InitLemmas.{init_word_below, fitting_inputs, fitting_states}
 use Rattle.blast.specs.Cost.{input_width, given_width, carried_width}
@@ -167,7 +167,7 @@ words_below items name parts bs id is h = by (names_state items id)
 pub initial_fits : (named : Bool) (items : List Item) (b : BitWitness) → IsWellFormed items → b.frames ≢ [] → IsState items (initial_words items (words_lifted named items b))
 initial_fits named items b w some = fitting_states items (initial_words items (words_lifted named items b)) (λ id. initial_below named items b id w some) items
 
-later_fit : (named : Bool) (k : ℕ) (items : List Item) (frames : List (List Bool)) → AreInputs items (map (given_words items) (map frame_words (later_frames named items k frames)))
+later_fit : (named : Bool) (k : ℕ) (items : List Item) (frames : List (List Bool)) → AllByRecursion (IsInput items) (map (given_words items) (map frame_words (later_frames named items k frames)))
 later_fit named k items [] = tt
 later_fit named k items (bs ∷ more) = (
   fitting_inputs items (given_words items (frame_words (later_parts named items k bs)))
@@ -176,10 +176,10 @@ later_fit named k items (bs ∷ more) = (
   later_fit named (suc k) items more,
 )
 
-frames_fit : (named : Bool) (items : List Item) (initial : List Bool) (frames : List (List Bool)) → AreInputs items (map (given_words items) (map frame_words (lifted_frames named items initial frames)))
+frames_fit : (named : Bool) (items : List Item) (initial : List Bool) (frames : List (List Bool)) → AllByRecursion (IsInput items) (map (given_words items) (map frame_words (lifted_frames named items initial frames)))
 frames_fit named items initial [] = tt
 frames_fit named items initial (bs ∷ more) =
     (fitting_inputs items (given_words items (frame_words (first_parts named items initial bs))) (λ id. words_below items (names named 0) (frame_words (first_parts named items initial bs)) bs id refl (first_below named items initial bs id)) items, later_fit named 1 items more)
 
-pub given_fit : (named : Bool) (items : List Item) (b : BitWitness) → AreInputs items (given_frames items (words_lifted named items b))
+pub given_fit : (named : Bool) (items : List Item) (b : BitWitness) → AllByRecursion (IsInput items) (given_frames items (words_lifted named items b))
 given_fit named items b = frames_fit named items b.initial b.frames

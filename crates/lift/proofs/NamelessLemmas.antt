@@ -11,7 +11,7 @@ use Rattle.aiger.specs.Circuit.{Circuit}
 use Rattle.blast.specs.Cost.{input_width}
 use Rattle.blast.specs.Lowering.{Lowers}
 use Rattle.witness.specs.declared.judgement.Judgement.{Judgement}
-use Rattle.witness.specs.Texts.{Assignment, Parts, Shape, Says, shape_of, has_free, most_lines, assignment_line, assignment_lines, states_lines, frame_lines, witness_lines}
+use Rattle.witness.specs.Texts.{Assignment, Parts, Shape, Says, shape_of, has_free, most_lines, assignment_line, states_lines, frame_lines, witness_lines}
 use Rattle.witness.specs.Admits.{Read, read_text, witness_of}
 use Rattle.witness.specs.Judgements.{FrameWords, Words, pairs_of, frame_words, JudgesWords, Judges}
 use Rattle.witness.specs.BitTexts.{BitWitness, BitSays}
@@ -89,7 +89,7 @@ same_words named items b =
 
 -- ---- in as many lines
 
-as_many_assignments : (widths : List ℕ) (list : List Assignment) → length (assignment_lines widths (map nameless list)) ≡ length (assignment_lines widths list)
+as_many_assignments : (widths : List ℕ) (list : List Assignment) → length (map (assignment_line widths) (map nameless list)) ≡ length (map (assignment_line widths) list)
 as_many_assignments widths list = length-map (map nameless list) (assignment_line widths) ∙ (length-map list nameless ∙ sym (length-map list (assignment_line widths)))
 
 as_many_states : (widths : List ℕ) (k : ℕ) (o : Option (List Assignment)) → length (states_lines widths k (option_map (map nameless) o)) ≡ length (states_lines widths k o)
@@ -104,10 +104,10 @@ as_many_in_frames shape k (p ∷ parts) =
       as_many_states shape.states k p.states,
       as_many_assignments shape.inputs p.inputs,
       as_many_in_frames shape (suc k) parts,
-      length-append (states_lines shape.states k (nameless_parts p).states) ((64 ∷ decimal k) ∷ (assignment_lines shape.inputs (map nameless p.inputs) ++ frame_lines shape (suc k) (map nameless_parts parts))),
-      length-append (states_lines shape.states k p.states) ((64 ∷ decimal k) ∷ (assignment_lines shape.inputs p.inputs ++ frame_lines shape (suc k) parts)),
-      length-append (assignment_lines shape.inputs (map nameless p.inputs)) (frame_lines shape (suc k) (map nameless_parts parts)),
-      length-append (assignment_lines shape.inputs p.inputs) (frame_lines shape (suc k) parts),
+      length-append (states_lines shape.states k (nameless_parts p).states) ((64 ∷ decimal k) ∷ (map (assignment_line shape.inputs) (map nameless p.inputs) ++ frame_lines shape (suc k) (map nameless_parts parts))),
+      length-append (states_lines shape.states k p.states) ((64 ∷ decimal k) ∷ (map (assignment_line shape.inputs) p.inputs ++ frame_lines shape (suc k) parts)),
+      length-append (map (assignment_line shape.inputs) (map nameless p.inputs)) (frame_lines shape (suc k) (map nameless_parts parts)),
+      length-append (map (assignment_line shape.inputs) p.inputs) (frame_lines shape (suc k) parts),
     )
 
 as_many_lines : (named : Bool) (items : List Item) (b : BitWitness) → length (witness_lines (shape_of items) [] (lifted_witness named items b)) ≡ length (witness_lines (shape_of items) [] (lifted_witness false items b))

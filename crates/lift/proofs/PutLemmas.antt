@@ -19,9 +19,9 @@ use Rattle.btor2.specs.Check.{IsWellFormed}
 use Rattle.blast.specs.Cost.{input_width}
 use Rattle.witness.specs.Texts.{digit, symbol_part, shape_of, has_free}
 use Rattle.witness.proofs.ShapeLemmas.{free_at_places}
-use Rattle.lift.specs.Lifted.{names, word_line, initial_piece, free_piece, frame_piece, lifted_input_lines}
+use Rattle.lift.specs.Lifted.{names, word_line, initial_piece, free_piece, frame_piece}
 use Rattle.lift.specs.Kept.{KeptLine, line_bits_kept, kept_frame, kept_piece, taken_line, placed_lines, leaf_lines}
-use Rattle.lift.proofs.LeafLemmas.{inputs_placed, carried_placed, free_placed}
+use Rattle.lift.proofs.LeafLemmas.{lifted_input_lines, inputs_placed, carried_placed, free_placed}
 
 -- the digits of a word, of which the highest is left
 pub digits_left : (bits : List Bool) (left : ℕ) (b d : Bool) → left < length bits → b ≡ get_or bits left d

@@ -41,30 +41,24 @@ word_lines items takes name index (x ∷ xs) bits =
     then word_line index (take (bits_of items x.id) bits) (name x) ∷ word_lines items takes name (suc index) xs (drop (bits_of items x.id) bits)
     else word_lines items takes name (suc index) xs bits
 
--- of all inputs, of the states that are carried from frame to frame, and of those that are free; an index counts all inputs, or all states, in file order
-abbrev pub lifted_input_lines : List Item → (Item → Option (List ℕ)) → List Bool → List (List ℕ)
-lifted_input_lines items name bits = word_lines items (λ x. true) name 0 (filter (λ x. is_input x.body) items) bits
-
-abbrev pub carried_lines : List Item → (Item → Option (List ℕ)) → List Bool → List (List ℕ)
-carried_lines items name bits = word_lines items (λ x. not (is_free items x.id)) name 0 (filter (λ x. is_state x.body) items) bits
-
+-- of the states that are free; an index counts all states in file order
 abbrev pub free_lines : List Item → (Item → Option (List ℕ)) → List Bool → List (List ℕ)
 free_lines items name bits = word_lines items (λ x. is_free items x.id) name 0 (filter (λ x. is_state x.body) items) bits
 
 -- ---- pieces
 
--- of the initial bits: the words of the carried states
+-- of the initial bits: the words of the states that are carried from frame to frame; an index counts all states in file order
 abbrev pub initial_piece : Bool → List Item → List Bool → List (List ℕ)
-initial_piece named items bits = codes "#0" ∷ carried_lines items (names named 0) bits
+initial_piece named items bits = codes "#0" ∷ word_lines items (λ x. not (is_free items x.id)) (names named 0) 0 (filter (λ x. is_state x.body) items) bits
 
 -- of the bits of the free states in a frame: in the first frame their words follow those of the initial bits, in a later one they stand behind a line of their own, where there is a free state
 abbrev pub free_piece : Bool → List Item → ℕ → List Bool → List (List ℕ)
 free_piece named items zero bits = free_lines items (names named 0) bits
 free_piece named items (suc k) bits = if has_free (shape_of items) then (35 ∷ decimal (suc k)) ∷ free_lines items (names named (suc k)) bits else []
 
--- of the bits of a frame: those of the inputs come first, and then those of the free states
+-- of the bits of a frame: those of the inputs come first, whose index counts all inputs in file order, and then those of the free states
 abbrev pub frame_piece : Bool → List Item → ℕ → List Bool → List (List ℕ)
-frame_piece named items k bits = free_piece named items k (drop (input_width items) bits) ++ (64 ∷ decimal k) ∷ lifted_input_lines items (names named k) bits
+frame_piece named items k bits = free_piece named items k (drop (input_width items) bits) ++ (64 ∷ decimal k) ∷ word_lines items (λ x. true) (names named k) 0 (filter (λ x. is_input x.body) items) bits
 
 -- the bits of a line
 abbrev pub bits_of_line : List ℕ → List Bool

@@ -7,8 +7,9 @@ use Rattle.aiger.specs.Circuit.{Circuit}
 use Rattle.witness.specs.declared.why.Why.{Why}
 use Rattle.witness.specs.declared.why.Why.TheVariants as why
 use Rattle.witness.specs.Texts.{most_lines}
-use Rattle.witness.specs.Readings.{Reading, nothing_admitted, one_more_line, next_line, lines_behind, lines_read}
-use Rattle.witness.specs.BitAdmits.{claim_at, bits_at, BitPlace, AtHeader, AtClaim, AtInitial, AtFirst, AtLater, AtDone, BitRead, after_claim, after_initial, after_frame, bit_admit_at, bit_admit, bit_reader}
+use Rattle.witness.specs.Readings.{Reading, one_more_line, next_line, lines_behind, lines_read, so_far}
+use Rattle.witness.specs.BitAdmits.{claim_at, bits_at, BitPlace, AtHeader, AtClaim, AtInitial, AtFirst, AtLater, AtDone, BitRead, after_frame, bit_admit_at, bit_admit, bit_reader}
+use Rattle.witness.proofs.StepWords.{after_claim, after_initial}
 use Rattle.witness.proofs.ReadingLemmas.{lines_append}
 
 -- ---- lines that are admitted
@@ -40,7 +41,7 @@ counted_from c g n (line ∷ lines) h =
 pub counted : (c : Circuit) (lines : List (List ℕ)) → Counted (lines_read (bit_reader c) lines) (length lines)
 counted c lines =
     let same : 0 + length lines ≡ length lines = omega arith in
-    subst (Counted (lines_read (bit_reader c) lines)) same (counted_from c (nothing_admitted (bit_reader c)) 0 lines (record { few = omega arith; all = λ e. refl }))
+    subst (Counted (lines_read (bit_reader c) lines)) same (counted_from c (so_far 0 (bit_reader c).nothing) 0 lines (record { few = omega arith; all = λ e. refl }))
 
 -- ---- the place of the next line, by how many lines are admitted
 
@@ -117,13 +118,13 @@ placed_from c g n (line ∷ lines) h =
     let same : n + 1 + length lines ≡ n + suc (length lines) = omega arith in
     subst (Placed (lines_behind (bit_reader c) (next_line (bit_reader c) g line) lines)) same (placed_from c (next_line (bit_reader c) g line) (n + 1) lines (placed_line c g n line g.refused refl h))
 
-nothing_placed : (c : Circuit) → Placed (nothing_admitted (bit_reader c)) 0
+nothing_placed : (c : Circuit) → Placed (so_far 0 (bit_reader c).nothing) 0
 nothing_placed c e = refl
 
 pub place_of_lines : (c : Circuit) (lines : List (List ℕ)) → (lines_read (bit_reader c) lines).refused ≡ None → PlaceAt (length lines) (lines_read (bit_reader c) lines).read.place
 place_of_lines c lines none =
     let same : 0 + length lines ≡ length lines = omega arith in
-    subst (λ (n : ℕ). PlaceAt n (lines_read (bit_reader c) lines).read.place) same (placed_from c (nothing_admitted (bit_reader c)) 0 lines (nothing_placed c) none)
+    subst (λ (n : ℕ). PlaceAt n (lines_read (bit_reader c) lines).read.place) same (placed_from c (so_far 0 (bit_reader c).nothing) 0 lines (nothing_placed c) none)
 
 -- ---- a line more
 
@@ -139,7 +140,7 @@ pub record Adds (c : Circuit) (lines : List (List ℕ)) (line : List ℕ) : Type
   pub reads : bit_admit c (lines_read (bit_reader c) lines).read line ≡ Ok (lines_read (bit_reader c) (lines ++ line ∷ [])).read
 
 next_is : (c : Circuit) (lines : List (List ℕ)) (line : List ℕ) → lines_read (bit_reader c) (lines ++ line ∷ []) ≡ next_line (bit_reader c) (lines_read (bit_reader c) lines) line
-next_is c lines line = lines_append (bit_reader c) (nothing_admitted (bit_reader c)) lines (line ∷ [])
+next_is c lines line = lines_append (bit_reader c) (so_far 0 (bit_reader c).nothing) lines (line ∷ [])
 
 passes : (c : Circuit) (lines : List (List ℕ)) (line : List ℕ) (g : Reading BitRead) → next_line (bit_reader c) (lines_read (bit_reader c) lines) line ≡ g → g.admitted ≡ (lines_read (bit_reader c) lines).admitted → g.read ≡ (lines_read (bit_reader c) lines).read → Passes c lines line
 passes c lines line g is same read = record { count = ap (λ (x : Reading BitRead). x.admitted) (next_is c lines line ∙ is) ∙ same; read = ap (λ (x : Reading BitRead). x.read) (next_is c lines line ∙ is) ∙ read }

@@ -13,7 +13,8 @@ use Rattle.engine.specs.EngineForm.{begins, all_hold}
 use Rattle.witness.specs.declared.why.Why.{Why}
 use Rattle.witness.specs.BitTexts.{bit_line}
 use Rattle.witness.specs.Readings.{lines_read, reading}
-use Rattle.witness.specs.BitAdmits.{claim_at, BitPlace, AtHeader, AtClaim, AtInitial, AtFirst, AtLater, AtDone, BitRead, after_claim, bit_admit_at, bit_admit, bit_reader, is_done}
+use Rattle.witness.specs.BitAdmits.{claim_at, BitPlace, AtHeader, AtClaim, AtInitial, AtFirst, AtLater, AtDone, BitRead, bit_admit_at, bit_admit, bit_reader, is_done}
+use Rattle.witness.proofs.StepWords.{after_claim}
 use Rattle.restore.specs.Frames.{frame_of}
 use Rattle.restore.specs.Restored.{rises_in, own_inputs, cut_inputs, written_frames, opening}
 use Rattle.restore.specs.FormWitness.{property_of, restored_frame_lines, last_line, read_restored, form_restored_text}

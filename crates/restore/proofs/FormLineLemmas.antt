@@ -11,7 +11,8 @@ use Rattle.witness.specs.declared.why.Why.{Why}
 use Rattle.witness.specs.declared.why.Why.TheVariants as why
 use Rattle.witness.specs.Texts.{claim}
 use Rattle.witness.specs.Readings.{lines_read, reading}
-use Rattle.witness.specs.BitAdmits.{claim_at, bits_at, BitPlace, AtHeader, AtClaim, AtInitial, AtFirst, AtLater, AtDone, BitRead, after_claim, after_initial, after_frame, bit_admit_at, bit_admit, bit_reader, admitted_lines, is_done}
+use Rattle.witness.specs.BitAdmits.{claim_at, bits_at, BitPlace, AtHeader, AtClaim, AtInitial, AtFirst, AtLater, AtDone, BitRead, after_frame, bit_admit_at, bit_admit, bit_reader, admitted_lines, is_done}
+use Rattle.witness.proofs.StepWords.{after_claim, after_initial}
 use Rattle.witness.proofs.BitReadLemmas.{bits_are_line, claim_is_line}
 use Rattle.witness.proofs.TextEndLemmas.{whole_lines-part, whole_lines-line_end}
 use Rattle.restore.specs.FormSteps.{read_of}

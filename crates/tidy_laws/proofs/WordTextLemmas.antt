@@ -19,7 +19,7 @@ use Rattle.btor2.proofs.ModelLemmas.{width_of_body-range}
 use Rattle.base.proofs.BitLemmas.{length-bits}
 use Rattle.btor2.specs.Symbols.{is_printed, is_symbol}
 use Rattle.btor2.proofs.SymbolLemmas.{symbol_printed}
-use Rattle.witness.specs.Texts.{Shape, shape_of, widths_of, digit, Assignment, Parts, Witness, binary, symbol_part, assignment_line, assignment_lines, claim, claims_line, states_lines, frame_lines, witness_lines, is_comment, IsAssignment, IsPart, IsFreePart, IsFirstFrame, IsLaterFrame, AreFrames, most_lines, Says}
+use Rattle.witness.specs.Texts.{Shape, shape_of, widths_of, digit, Assignment, Parts, Witness, binary, symbol_part, assignment_line, claim, claims_line, states_lines, frame_lines, witness_lines, is_comment, IsAssignment, IsPart, IsFreePart, AreFrames, most_lines, Says, AreParts}
 use Rattle.witness.proofs.PieceLemmas.{binary_digits}
 use Rattle.witness.proofs.AssignmentLemmas.{assignment_line_is_line, claims_line_is_line}
 use Rattle.witness.proofs.ReadLemmas.{IsSmall, frames_have_lines}
@@ -157,7 +157,7 @@ all_append : (front back : List (List ℕ)) → ArePartLines front → ArePartLi
 all_append [] back f b = b
 all_append (line ∷ front) back f b = (f.0, all_append front back f.1 b)
 
-assignments_same : (widths : List ℕ) (list : List Assignment) → length widths < 2 ^ 64 → HaveBits widths → AllByRecursion (IsAssignment widths) list → ArePartLines (assignment_lines widths list)
+assignments_same : (widths : List ℕ) (list : List Assignment) → length widths < 2 ^ 64 → HaveBits widths → AllByRecursion (IsAssignment widths) list → ArePartLines (map (assignment_line widths) list)
 assignments_same widths [] small have each = tt
 assignments_same widths (a ∷ list) small have each = (assignment_same widths a small have each.0, assignments_same widths list small have each.1)
 
@@ -171,27 +171,27 @@ record IsSound (shape : Shape) : Type 0 where
   pub states : HaveBits shape.states
   pub inputs : HaveBits shape.inputs
 
-frames_same : (shape : Shape) (k : ℕ) (frames : List Parts) → IsSound shape → k + length frames ≤ 2 ^ 62 → AllByRecursion (IsFirstFrame shape) frames → ArePartLines (frame_lines shape k frames)
+frames_same : (shape : Shape) (k : ℕ) (frames : List Parts) → IsSound shape → k + length frames ≤ 2 ^ 62 → AllByRecursion (AreParts shape (IsPart shape.states)) frames → ArePartLines (frame_lines shape k frames)
 frames_same shape k [] sound few all = tt
 frames_same shape k (parts ∷ more) sound few all =
     let lt : k < 2 ^ 64 = omega arith in
     let fewer : suc k + length more ≤ 2 ^ 62 = omega arith in
     let here = assignments_same shape.inputs parts.inputs sound.small.inputs sound.inputs (recursion_from_All (IsAssignment shape.inputs) parts.inputs all.0.inputs.each) in
-    let behind_it = all_append (assignment_lines shape.inputs parts.inputs) (frame_lines shape (suc k) more) here (frames_same shape (suc k) more sound fewer all.1) in
-    all_append (states_lines shape.states k parts.states) ((64 ∷ decimal k) ∷ (assignment_lines shape.inputs parts.inputs ++ frame_lines shape (suc k) more))
+    let behind_it = all_append (map (assignment_line shape.inputs) parts.inputs) (frame_lines shape (suc k) more) here (frames_same shape (suc k) more sound fewer all.1) in
+    all_append (states_lines shape.states k parts.states) ((64 ∷ decimal k) ∷ (map (assignment_line shape.inputs) parts.inputs ++ frame_lines shape (suc k) more))
     (states_same shape.states k parts.states sound.small.states sound.states lt all.0.states) (marked_line 64 k (omega arith) lt, behind_it)
 
 any_states : (shape : Shape) (states : Option (List Assignment)) → IfSome states (IsFreePart shape) → IfSome states (IsPart shape.states)
 any_states shape None free = tt
 any_states shape (Some list) free = free.part
 
-later_is_first : (shape : Shape) (more : List Parts) → AllByRecursion (IsLaterFrame shape) more → AllByRecursion (IsFirstFrame shape) more
+later_is_first : (shape : Shape) (more : List Parts) → AllByRecursion (AreParts shape (IsFreePart shape)) more → AllByRecursion (AreParts shape (IsPart shape.states)) more
 later_is_first shape [] later = tt
 later_is_first shape (parts ∷ more) later = (record { states = any_states shape parts.states later.0.states; inputs = later.0.inputs }, later_is_first shape more later.1)
 
-all_are_frames : (shape : Shape) (frames : List Parts) → AreFrames shape frames → AllByRecursion (IsFirstFrame shape) frames
+all_are_frames : (shape : Shape) (frames : List Parts) → AreFrames shape frames → AllByRecursion (AreParts shape (IsPart shape.states)) frames
 all_are_frames shape [] valid = absurd valid
-all_are_frames shape (first ∷ more) valid = (valid.0, later_is_first shape more (recursion_from_All (IsLaterFrame shape) more valid.1))
+all_are_frames shape (first ∷ more) valid = (valid.0, later_is_first shape more (recursion_from_All (AreParts shape (IsFreePart shape)) more valid.1))
 
 -- ---- claims
 

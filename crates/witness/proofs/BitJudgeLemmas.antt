@@ -7,9 +7,9 @@ use Rattle.std.proofs.lemmas.Result.{IfOk-at_ok}
 use Rattle.aiger.specs.Circuit.{Circuit}
 use Rattle.witness.specs.declared.why.Why.{Why}
 use Rattle.witness.specs.declared.bit_scan.Scan.{Scan}
-use Rattle.witness.specs.Readings.{Reading, nothing_admitted, lines_read}
+use Rattle.witness.specs.Readings.{Reading, lines_read, so_far}
 use Rattle.witness.specs.Stands.{IsOfLines}
-use Rattle.witness.specs.BitAdmits.{claim_at, bits_at, BitPlace, AtHeader, AtClaim, AtInitial, AtFirst, AtLater, AtDone, BitRead, no_line_read, after_claim, after_initial, after_frame, bit_admit_at, bit_admit, bit_reader, is_done, bit_witness_of}
+use Rattle.witness.specs.BitAdmits.{claim_at, bits_at, BitPlace, AtHeader, AtClaim, AtInitial, AtFirst, AtLater, AtDone, BitRead, no_line_read, after_frame, bit_admit_at, bit_admit, bit_reader, is_done, bit_witness_of}
 use Rattle.witness.specs.BitScans.{Scans}
 use Rattle.witness.specs.BitStands.{is_header, BitJudge, bit_judging, StandsForBits, bit_place_of, PlaysAt}
 use Rattle.witness.proofs.TextEndLemmas.{whole_lines-line_end, unfinished-line_end}
@@ -25,6 +25,7 @@ use Rattle.aiger.specs.Reachability.{circuit_shows}
 use Rattle.witness.specs.BitJudgements.{first_reset_differing, JudgesBits}
 use Rattle.witness.specs.BitPlays.{BitPlay, PlaysBits, TracedBits}
 use Rattle.witness.specs.Judgements.{first_of, verdict}
+use Rattle.witness.proofs.StepWords.{after_claim, after_initial}
 use Rattle.witness.proofs.BitReadLemmas.{done}
 use Rattle.witness.proofs.ShownLemmas.{bits_verdict}
 
@@ -62,7 +63,7 @@ abbrev InFrames : ℕ → BitRead → Type 0
 InFrames n r = (length r.frames ≤ n) × (is_header r.place ≡ true → n ≡ 0)
 
 in_frames : (c : Circuit) (lines : List (List ℕ)) → InFrames (lines_read (bit_reader c) lines).admitted (lines_read (bit_reader c) lines).read
-in_frames c lines = holds_behind (bit_reader c) InFrames line_more (nothing_admitted (bit_reader c)) lines (omega arith, λ e. refl)
+in_frames c lines = holds_behind (bit_reader c) InFrames line_more (so_far 0 (bit_reader c).nothing) lines (omega arith, λ e. refl)
   where
     line_more : (n : ℕ) (r next : BitRead) (line : List ℕ) → bit_admit c r line ≡ Ok next → InFrames n r → InFrames (n + 1) next
     line_more n r next line is h =

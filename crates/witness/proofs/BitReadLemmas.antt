@@ -20,13 +20,14 @@ use Rattle.witness.specs.Texts.{digit, claim, most_lines}
 use Rattle.witness.specs.Readings.{next_line, lines_read, reading}
 use Rattle.witness.specs.Admits.{Claim, claim_of, is_value_byte}
 use Rattle.witness.specs.BitTexts.{BitWitness, bit_line, bit_witness_lines, IsBitWitness, BitSays}
-use Rattle.witness.specs.BitAdmits.{judged_claim, claim_at, bits_at, BitPlace, AtClaim, AtInitial, AtFirst, AtLater, AtDone, BitRead, no_line_read, after_claim, after_initial, after_frame, bit_admit, is_done, bit_reader, read_bit_text, bit_witness_of, AtHeader, bit_admit_at, admitted_lines}
+use Rattle.witness.specs.BitAdmits.{judged_claim, claim_at, bits_at, BitPlace, AtClaim, AtInitial, AtFirst, AtLater, AtDone, BitRead, no_line_read, after_frame, bit_admit, is_done, bit_reader, read_bit_text, bit_witness_of, AtHeader, bit_admit_at, admitted_lines}
 use Rattle.witness.specs.BitJudgements.{differs_from_reset, first_reset_differing, makes_no_bit_claim}
 use Rattle.witness.proofs.ReadingLemmas.{by_test, admit_all, admit_parts, admitted, stopped, stays, text_is_read, text_was_read, Ends, no_more_lines, one_line, more_lines, Begins, admitted_begins, before_begins, none_begins, beginning_is_admitted as reading_is_admitted}
 use Rattle.witness.proofs.PieceLemmas.{digits_are_values, digits_determine, bits_of_digits, digits_of_bits}
 use Rattle.witness.proofs.ClaimLemmas.{piece_is_claim}
 use Rattle.witness.specs.Beginnings.{IsBitBeginning}
 use Rattle.witness.specs.declared.why.Why.TheVariants as why
+use Rattle.witness.proofs.StepWords.{after_claim, after_initial}
 
 -- ---- single lines
 

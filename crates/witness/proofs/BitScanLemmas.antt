@@ -7,8 +7,9 @@ use Rattle.std.proofs.Math.Seq.{take-append_seam, take-length}
 use Rattle.base.specs.Decimals.{is_digit, are_digits, is_decimal, capped_value, number_of, number_more}
 use Rattle.base.proofs.DecimalLemmas.{digit_range, capped_value-nil, capped_value_more}
 use Rattle.witness.specs.declared.bit_scan.Scan.{Scan}
-use Rattle.witness.specs.Admits.{is_value_byte, Claim, claim_with, claim_of}
+use Rattle.witness.specs.Admits.{is_value_byte, Claim, claim_of}
 use Rattle.witness.specs.BitScans.{behind_first, Scans, scan_more, has_decimal, claimed}
+use Rattle.witness.proofs.StepWords.{claim_with}
 use Rattle.std.proofs.Math.Bool.{and-true, or-false, and-false}
 
 -- a number with a digit more

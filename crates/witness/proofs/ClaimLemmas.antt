@@ -6,7 +6,8 @@ use Rattle.std.proofs.lemmas.Result.{IfOk-at_ok}
 use Rattle.base.specs.Decimals.{number_of}
 use Rattle.base.proofs.DecimalLemmas.{chosen, number_is_decimal, number_of-decimal, decimal_without}
 use Rattle.witness.specs.Texts.{claim, claims_line, are_distinct}
-use Rattle.witness.specs.Admits.{between_spaces, Claim, claim_with, claim_of, with_claim, claims_of, judged_claims, claims_at}
+use Rattle.witness.specs.Admits.{between_spaces, Claim, claim_of, claims_of, judged_claims, claims_at}
+use Rattle.witness.proofs.StepWords.{claim_with, with_claim}
 use Rattle.witness.proofs.ReadingLemmas.{by_test}
 use Rattle.witness.proofs.PieceLemmas.{between_spaces-last, between_spaces-more, with_spaces, some_piece, parts_of_line}
 

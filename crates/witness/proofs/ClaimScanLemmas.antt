@@ -10,10 +10,11 @@ use Rattle.witness.specs.declared.why.Why.TheVariants as why
 use Rattle.witness.specs.declared.bit_scan.Scan.{Scan}
 use Rattle.witness.specs.declared.word_claims.ClaimScan.{ClaimScan}
 use Rattle.witness.specs.Texts.{are_distinct}
-use Rattle.witness.specs.Admits.{between_spaces, Claim, claim_of, with_claim, claims_of, judged_claims, claims_at}
+use Rattle.witness.specs.Admits.{between_spaces, Claim, claim_of, claims_of, judged_claims, claims_at}
 use Rattle.witness.specs.BitScans.{Scans}
 use Rattle.witness.specs.Fits.{is_set, NoneIsSet, AreClaimed}
 use Rattle.witness.specs.WordClaims.{and_claim, are_fit, AreTold, AreClaims}
+use Rattle.witness.proofs.StepWords.{with_claim}
 use Rattle.witness.proofs.PieceLemmas.{between_spaces-last, between_spaces-more}
 use Rattle.witness.proofs.ReadLemmas.{distinct_more}
 use Rattle.witness.proofs.FitLemmas.{flagged_more}

@@ -6,7 +6,7 @@ use Rattle.btor2.specs.declared.item.Item.{Item}
 use Rattle.witness.specs.declared.why.Why.{Why}
 use Rattle.witness.specs.declared.why.Why.TheVariants as why
 use Rattle.witness.specs.Texts.{Shape, Parts, shape_of, most_lines}
-use Rattle.witness.specs.Readings.{Reading, one_more_line, next_line_of, next_line, lines_read, reading, nothing_admitted}
+use Rattle.witness.specs.Readings.{Reading, one_more_line, next_line_of, next_line, lines_read, reading, so_far}
 use Rattle.witness.specs.Admits.{Read, admit, word_reader}
 use Rattle.witness.specs.ClosedWords.{said_in, ClosesAtMostOne}
 use Rattle.witness.proofs.TextEndLemmas.{whole_lines-part, one_byte, whole_lines-line_end}
@@ -35,7 +35,7 @@ unfolding reading
 line_closes_one items text bytes line =
     let reader = word_reader (shape_of items) in
     let all : lines_read reader (whole_lines (text ++ (bytes ++ 10 ∷ []))) ≡ next_line reader (lines_read reader (whole_lines text)) (unfinished text ++ bytes) =
-    ap (lines_read reader) (whole_lines-line_end text bytes line) ∙ lines_append reader (nothing_admitted reader) (whole_lines text) ((unfinished text ++ bytes) ∷ []) in
+    ap (lines_read reader) (whole_lines-line_end text bytes line) ∙ lines_append reader (so_far 0 reader.nothing) (whole_lines text) ((unfinished text ++ bytes) ∷ []) in
     subst (λ (g : Reading Read). ClosesAtMostOne (said_in items text) g.read) (sym all) (next_closes (shape_of items) (lines_read reader (whole_lines text)) (unfinished text ++ bytes))
 
 -- bytes of a line that has not ended

@@ -1,6 +1,6 @@
 -- Frames of a run, one after another, and what one of them says in the words of judgements.
 use Rattle.std.proofs.Common.{◌≡◌, ℕ, suc, ◌+◌, ◌<◌, ◌≤◌, Bool, true, false, cond, ◌&&◌, nat_eq, List, [], ◌∷◌, ◌++◌, length, map, get_or, drop, flat_map, slice_get, Option, Some, None, IfSome, is_none, option_and_then, refl, sym, ap, ap₂, subst, ◌∙◌, append_assoc, arith, ◌||◌, set, not, inl, inr}
-use Rattle.std.specs.List.{position_from, list_any}
+use Rattle.std.specs.List.{position_from, list_any, AllByRecursion}
 use Rattle.std.proofs.Math.Seq.{drop-cons}
 use Rattle.std.proofs.lemmas.List.{length-map, drop_all, get_or-set_same, get_or-set_other}
 use Rattle.btor2.specs.declared.item.Item.{Item}
@@ -8,7 +8,7 @@ use Rattle.btor2.specs.declared.item.Body.{Body}
 use Rattle.btor2.specs.Items.{operands, is_input, is_state, is_bad, is_constraint, constant_of, init_value, next_value, init_word, find_item, position_of, is_free}
 use Rattle.btor2.specs.Check.{IsWellFormed}
 use Rattle.btor2.specs.Lists.{places, of_kind, init_place, constant_at}
-use Rattle.btor2.specs.Trace.{Frame, state_word, LineHolds, LinesHold, IsFrame, IsTrace}
+use Rattle.btor2.specs.Trace.{Frame, state_word, LineHolds, IsFrame, IsTrace}
 use Rattle.btor2.proofs.ModelLemmas.{find_item-in}
 use Rattle.runs.specs.Run.{property_id, is_one, Run, IsNow, zeros}
 use Rattle.runs.proofs.RankLemmas.{nth, length-places, IsNth, length-ids, state_leaf, input_leaf, either_word}
@@ -35,7 +35,7 @@ line_agrees items s t i j f id (body.State n) states inputs h = h ∙ states ref
 line_agrees items s t i j f id _ states inputs h = h
 
 lines_agree : (items : List Item) (s t i j f : Frame) (before rest : List Item) → IsWellFormed items → items ≡ before ++ rest → SameAt is_state items (state_word items s i) (state_word items t j) → SameAt is_input items i j
-    → LinesHold items s i f rest → LinesHold items t j f rest
+    → AllByRecursion (λ (x : Item). LineHolds items s i f x.id x.body) rest → AllByRecursion (λ (x : Item). LineHolds items t j f x.id x.body) rest
 lines_agree items s t i j f before [] w e states inputs h = tt
 lines_agree items s t i j f before (x ∷ xs) w e states inputs h =
     let found = find_item-in items x w (record { before = before; after = xs; splits = e }) in (
@@ -60,7 +60,7 @@ free_differs_not items (Some v) n word given_word carried e = ap (differs (const
 state_differs : (items : List Item) (s i f : Frame) (x : Item) → is_state x.body ≡ true → LineHolds items s i f x.id x.body → differs (init_word items x.id) (f x.id) ≡ differs (init_word items x.id) (s x.id)
 state_differs items s i f x is h = free_differs_not items (init_value items x.id) (next_value items x.id) (f x.id) (i x.id) (s x.id) (line_state items s i f x.id x.body is h)
 
-different_from : (items : List Item) (s i f : Frame) (n : ℕ) (rest : List Item) → LinesHold items s i f rest
+different_from : (items : List Item) (s i f : Frame) (n : ℕ) (rest : List Item) → AllByRecursion (λ (x : Item). LineHolds items s i f x.id x.body) rest
     → position_from (λ (x : Item). differs (init_word items x.id) (f x.id)) n (of_kind is_state rest) ≡ position_from (λ (x : Item). differs (init_word items x.id) (s x.id)) n (of_kind is_state rest)
 different_from items s i f n [] h = refl
 different_from items s i f n (x ∷ xs) h = by (λ m. different_from items s i f m xs h.1) (is_state x.body) refl

@@ -15,13 +15,14 @@ use Rattle.aiger.specs.Trace.{IsCircuitTrace as IsBitTrace, next_latch_bits as n
 use Rattle.witness.specs.declared.why.Why.{Why}
 use Rattle.witness.specs.declared.why.Why.TheVariants as why
 use Rattle.witness.specs.Texts.{Shape, Assignment, Parts, has_free, is_comment, shape_of, most_lines}
-use Rattle.witness.specs.Readings.{Reader, Reading, one_more_line, next_line_of, next_line, lines_read, reading, nothing_admitted}
-use Rattle.witness.specs.Admits.{claims_at, assignment_at, state_assignment_at, Place, AtStatus, AtClaims, AtParts, InStates, InFrame, AtEnd, Read, opens_frame, opens_states, begins_part, after_claims, after_assignment, in_part, admit_at, admit, word_reader}
+use Rattle.witness.specs.Readings.{Reader, Reading, one_more_line, next_line_of, next_line, lines_read, reading, so_far}
+use Rattle.witness.specs.Admits.{claims_at, assignment_at, state_assignment_at, Place, AtStatus, AtClaims, AtParts, InStates, InFrame, AtEnd, Read, opens_frame, opens_states, begins_part, in_part, admit_at, admit, word_reader}
 use Rattle.witness.specs.Judgements.{frame_words, initial_words, given_words, given_frames}
 use Rattle.witness.specs.WordPlays.{frames_alone}
 use Rattle.witness.specs.ClosedWords.{said_in, IsClosedTrace, closed_word_frames}
-use Rattle.witness.specs.BitAdmits.{claim_at, bits_at, BitPlace, AtHeader, AtClaim, AtInitial, AtFirst, AtLater, AtDone, BitRead, after_claim, after_initial, after_frame, bit_admit_at, bit_admit, bit_reader, closed_frames}
+use Rattle.witness.specs.BitAdmits.{claim_at, bits_at, BitPlace, AtHeader, AtClaim, AtInitial, AtFirst, AtLater, AtDone, BitRead, after_frame, bit_admit_at, bit_admit, bit_reader, closed_frames}
 use Rattle.witness.specs.Reached.{word_claimed, bits_said_in, IsClosedBitTrace, bit_claimed}
+use Rattle.witness.proofs.StepWords.{after_claims, after_assignment, after_claim, after_initial}
 use Rattle.aiger.proofs.TraceLemmas.{trace_exists}
 use Rattle.witness.proofs.BitReadLemmas.{bits_are_line}
 use Rattle.witness.proofs.TextEndLemmas.{whole_lines-line_end, whole_lines-part}
@@ -60,13 +61,13 @@ module _ {R : Type 0} (reader : Reader R) (Holds : R → Type 0) (Steps : R → 
       by None = limit (nat_le most_lines g.admitted)
 
   held : (lines : List (List ℕ)) → Holds (lines_read reader lines).read
-  held lines = holds_behind reader (λ (n : ℕ) (r : R). Holds r) (λ n r next line e h. holds r next line e h) (nothing_admitted reader) lines first
+  held lines = holds_behind reader (λ (n : ℕ) (r : R). Holds r) (λ n r next line e h. holds r next line e h) (so_far 0 reader.nothing) lines first
 
   pub line_steps : (text bytes : List ℕ) → IsLine bytes → Steps (reading reader text).read (reading reader (text ++ (bytes ++ 10 ∷ []))).read
   unfolding reading
   line_steps text bytes line =
       let all : lines_read reader (whole_lines (text ++ (bytes ++ 10 ∷ []))) ≡ next_line reader (lines_read reader (whole_lines text)) (unfinished text ++ bytes) =
-      ap (lines_read reader) (whole_lines-line_end text bytes line) ∙ lines_append reader (nothing_admitted reader) (whole_lines text) ((unfinished text ++ bytes) ∷ []) in
+      ap (lines_read reader) (whole_lines-line_end text bytes line) ∙ lines_append reader (so_far 0 reader.nothing) (whole_lines text) ((unfinished text ++ bytes) ∷ []) in
       subst (λ (g : Reading R). Steps (lines_read reader (whole_lines text)).read g.read) (sym all) (step_by (lines_read reader (whole_lines text)) (unfinished text ++ bytes) (held (whole_lines text)))
 
 -- ---- the claims of a text over a model
@@ -249,7 +250,7 @@ stays_bits r h = record { early = h; frames = inl refl; claim = λ some. refl; i
 bits_held : (c : Circuit) (text : List ℕ) → EarlyBits (bits_said_in c text)
 unfolding reading
 bits_held c text =
-    holds_behind (bit_reader c) (λ (n : ℕ) (r : BitRead). EarlyBits r) (λ n r next line e h. (bits_step c r next line e h).early) (nothing_admitted (bit_reader c)) (whole_lines text) (λ e. refl)
+    holds_behind (bit_reader c) (λ (n : ℕ) (r : BitRead). EarlyBits r) (λ n r next line e h. (bits_step c r next line e h).early) (so_far 0 (bit_reader c).nothing) (whole_lines text) (λ e. refl)
 
 bits_line : (c : Circuit) (text bytes : List ℕ) → IsLine bytes → BitSteps (bits_said_in c text) (bits_said_in c (text ++ (bytes ++ 10 ∷ [])))
 bits_line c text bytes line =
@@ -346,7 +347,7 @@ counted_next c r next line is h = IfOk-at_ok (Counted c) is (counted_line c r li
 counted_text : (c : Circuit) (text : List ℕ) → Counted c (bits_said_in c text)
 unfolding reading
 counted_text c text =
-    holds_behind (bit_reader c) (λ (n : ℕ) (r : BitRead). Counted c r) (λ n r next line e h. counted_next c r next line e h) (nothing_admitted (bit_reader c)) (whole_lines text)
+    holds_behind (bit_reader c) (λ (n : ℕ) (r : BitRead). Counted c r) (λ n r next line e h. counted_next c r next line e h) (so_far 0 (bit_reader c).nothing) (whole_lines text)
     (record { early = λ e. refl; initial = λ e. absurd cc; frames = All-nil (λ (bits : List Bool). length bits ≡ c.inputs) })
 
 pub bit_trace_exists : (c : Circuit) (text : List ℕ) → IsCircuit c → (vs : List Valuation) × IsClosedBitTrace c text vs

@@ -13,9 +13,10 @@ use Rattle.witness.specs.declared.why.Why.{Why}
 use Rattle.witness.specs.declared.why.Why.TheVariants as why
 use Rattle.witness.specs.Texts.{Shape, Assignment, Parts, is_comment, shape_of}
 use Rattle.witness.specs.Readings.{is_nothing}
-use Rattle.witness.specs.Admits.{Cut, to_front, cut_at_space, value_of, with_symbol, with_index, assignment_at, may_name, state_assignment_at, Place, AtStatus, AtClaims, AtParts, InStates, InFrame, AtEnd, Read, begins_part, admit_at, admit}
+use Rattle.witness.specs.Admits.{cut_at_space, value_of, with_symbol, with_index, assignment_at, may_name, state_assignment_at, Place, AtStatus, AtClaims, AtParts, InStates, InFrame, AtEnd, Read, begins_part, admit_at, admit}
 use Rattle.witness.specs.KeptLines.{kept, AreAlike, IsNarrowShape, AreNarrow}
 use Rattle.witness.specs.WordStands.{WordReader, GivesLine, is_alone}
+use Rattle.witness.proofs.StepWords.{Cut, to_front}
 use Rattle.witness.proofs.WordValueLemmas.{other_length}
 
 -- ---- more bytes

@@ -21,6 +21,7 @@ pub mod BitScanLemmas
 pub mod BitPlayLemmas
 pub mod BitReaderLemmas
 pub mod StandsLemmas
+pub mod StepWords
 pub mod BitJudgeLemmas
 pub mod FeedLemmas
 pub mod WordValueLemmas

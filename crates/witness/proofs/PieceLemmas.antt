@@ -10,7 +10,8 @@ use Rattle.witness.specs.Texts.{digit, binary, symbol_part}
 use Rattle.std.proofs.lemmas.Result.{IfOk-at_ok}
 use Rattle.witness.proofs.ReadingLemmas.{by_test}
 use Rattle.base.specs.Lines.{to_first}
-use Rattle.witness.specs.Admits.{to_front, cut_at_space, between_spaces, is_value_byte, value_of}
+use Rattle.witness.specs.Admits.{cut_at_space, between_spaces, is_value_byte, value_of}
+use Rattle.witness.proofs.StepWords.{to_front}
 
 -- ---- what stands before the first space
 

@@ -10,8 +10,9 @@ use Rattle.std.proofs.lemmas.List.Elements.{All-weaker, recursion_from_All}
 use Rattle.std.proofs.lemmas.List.Folds.{list_any-append}
 use Rattle.std.proofs.lemmas.Slice.Eq.{bytes_eq-Decides}
 use Rattle.base.proofs.DecimalLemmas.{decimal_without}
-use Rattle.witness.specs.Texts.{Shape, has_free, Assignment, Parts, assignment_line, assignment_lines, states_lines, frame_lines, is_comment, are_distinct, IsAssignment, IsPart, IsFreePart, IsLaterFrame, Witness, claims_line, witness_lines, IsFirstFrame, AreFrames, IsWitness, most_lines, Says}
-use Rattle.witness.specs.Admits.{assignment_at, may_name, state_assignment_at, claims_at, AtStatus, AtClaims, AtParts, InStates, InFrame, AtEnd, Read, nothing_read, states_closed, frame_closed, admit, word_reader, read_text}
+use Rattle.witness.specs.Texts.{Shape, has_free, Assignment, Parts, assignment_line, states_lines, frame_lines, is_comment, are_distinct, IsAssignment, IsPart, IsFreePart, Witness, claims_line, witness_lines, AreFrames, IsWitness, most_lines, Says, AreParts}
+use Rattle.witness.specs.Admits.{assignment_at, may_name, state_assignment_at, claims_at, AtStatus, AtClaims, AtParts, InStates, InFrame, AtEnd, Read, nothing_read, frame_closed, admit, word_reader, read_text}
+use Rattle.witness.proofs.StepWords.{states_closed}
 use Rattle.witness.proofs.ReadingLemmas.{admit_all, admitted, text_is_read}
 use Rattle.witness.proofs.AssignmentLemmas.{stands_in, assignment_at-assignment_line, state_assignment_at-assignment_line, IsPlain, assignment_line_is_plain, assignment_line_is_line, claims_line_is_line}
 use Rattle.base.specs.Lines.{IsLine, whole_lines, unfinished}
@@ -158,10 +159,10 @@ moved before a list h = ap (λ (l : List Assignment). are_distinct (indices l)) 
 part_read : (shape : Shape) (widths : List ℕ) (at : List Assignment → Read) (Valid : Assignment → Type 0)
     → ((before : List Assignment) (a : Assignment) → Valid a → stands_in a.index before ≡ false → admit shape (at before) (assignment_line widths a) ≡ Ok (at (before ++ a ∷ [])))
     → (before list : List Assignment) (tail : List (List ℕ)) → AllByRecursion Valid list → are_distinct (indices (before ++ list)) ≡ true
-    → admit_all (word_reader shape) (at before) (assignment_lines widths list ++ tail) ≡ admit_all (word_reader shape) (at (before ++ list)) tail
+    → admit_all (word_reader shape) (at before) (map (assignment_line widths) list ++ tail) ≡ admit_all (word_reader shape) (at (before ++ list)) tail
 part_read shape widths at Valid step before [] tail each distinct = ap (λ (l : List Assignment). admit_all (word_reader shape) (at l) tail) (sym (append-nil before))
 part_read shape widths at Valid step before (a ∷ list) tail each distinct =
-    admitted (word_reader shape) (at before) (assignment_line widths a) (at (before ++ a ∷ [])) (assignment_lines widths list ++ tail) (step before a each.0 (new_index before a list distinct))
+    admitted (word_reader shape) (at before) (assignment_line widths a) (at (before ++ a ∷ [])) (map (assignment_line widths) list ++ tail) (step before a each.0 (new_index before a list distinct))
     ∙ (part_read shape widths at Valid step (before ++ a ∷ []) list tail each.1 (moved before a list distinct)
     ∙ ap (λ (l : List Assignment). admit_all (word_reader shape) (at l) tail) (append_assoc before (a ∷ []) list))
 
@@ -183,7 +184,7 @@ each_may_stand shape [] list part = (part, All-weaker (IsAssignment shape.states
 each_may_stand shape (x ∷ xs) list part = (part.part, part.free)
 
 states_part : (shape : Shape) (claims : List ℕ) (closed : List Parts) (list : List Assignment) (tail : List (List ℕ)) → IsSmall shape → IsStates shape closed list
-    → admit_all (word_reader shape) (in_states claims closed []) (assignment_lines shape.states list ++ tail) ≡ admit_all (word_reader shape) (in_states claims closed list) tail
+    → admit_all (word_reader shape) (in_states claims closed []) (map (assignment_line shape.states) list ++ tail) ≡ admit_all (word_reader shape) (in_states claims closed list) tail
 states_part shape claims closed list tail small part =
     let are = each_may_stand shape closed list part in
     part_read shape shape.states (in_states claims closed) (λ a. IsAssignment shape.states a × MayStand shape closed a)
@@ -196,13 +197,13 @@ states_part shape claims closed list tail small part =
 
 -- with the line behind it
 pub states_read : (shape : Shape) (claims : List ℕ) (closed : List Parts) (list : List Assignment) (tail : List (List ℕ)) → IsSmall shape → IsStates shape closed list
-    → admit_all (word_reader shape) (in_states claims closed []) (assignment_lines shape.states list ++ ((64 ∷ decimal (length closed)) ∷ tail)) ≡ admit_all (word_reader shape) (in_frame claims closed (Some list) []) tail
+    → admit_all (word_reader shape) (in_states claims closed []) (map (assignment_line shape.states) list ++ ((64 ∷ decimal (length closed)) ∷ tail)) ≡ admit_all (word_reader shape) (in_frame claims closed (Some list) []) tail
 states_read shape claims closed list tail small part =
     states_part shape claims closed list ((64 ∷ decimal (length closed)) ∷ tail) small part
     ∙ admitted (word_reader shape) (in_states claims closed list) (64 ∷ decimal (length closed)) (in_frame claims closed (Some list) []) tail (states_end shape (in_states claims closed list) refl)
 
 inputs_part : (shape : Shape) (claims : List ℕ) (closed : List Parts) (states : Option (List Assignment)) (list : List Assignment) (tail : List (List ℕ)) → IsSmall shape → IsPart shape.inputs list
-    → admit_all (word_reader shape) (in_frame claims closed states []) (assignment_lines shape.inputs list ++ tail) ≡ admit_all (word_reader shape) (in_frame claims closed states list) tail
+    → admit_all (word_reader shape) (in_frame claims closed states []) (map (assignment_line shape.inputs) list ++ tail) ≡ admit_all (word_reader shape) (in_frame claims closed states list) tail
 inputs_part shape claims closed states list tail small part =
     part_read shape shape.inputs (in_frame claims closed states) (IsAssignment shape.inputs)
     (λ before a is new. line_in_frame shape (in_frame claims closed states before) (assignment_line shape.inputs a) (before ++ a ∷ []) refl (assignment_line_is_plain shape.inputs a small.inputs is) (assignment_at-assignment_line shape.inputs before a small.inputs is new)) []
@@ -212,10 +213,10 @@ inputs_part shape claims closed states list tail small part =
 
 -- lines behind those of some frames
 pub frame_lines-behind : (shape : Shape) (k : ℕ) (next : Parts) (more : List Parts) (behind : List (List ℕ))
-    → frame_lines shape k (next ∷ more) ++ behind ≡ states_lines shape.states k next.states ++ ((64 ∷ decimal k) ∷ (assignment_lines shape.inputs next.inputs ++ (frame_lines shape (suc k) more ++ behind)))
+    → frame_lines shape k (next ∷ more) ++ behind ≡ states_lines shape.states k next.states ++ ((64 ∷ decimal k) ∷ (map (assignment_line shape.inputs) next.inputs ++ (frame_lines shape (suc k) more ++ behind)))
 frame_lines-behind shape k next more behind =
     let states : List (List ℕ) = states_lines shape.states k next.states in
-    let here : List (List ℕ) = assignment_lines shape.inputs next.inputs in
+    let here : List (List ℕ) = map (assignment_line shape.inputs) next.inputs in
     let rest : List (List ℕ) = frame_lines shape (suc k) more in
     append_assoc states ((64 ∷ decimal k) ∷ (here ++ rest)) behind ∙ ap (λ (ls : List (List ℕ)). states ++ ((64 ∷ decimal k) ∷ ls)) (append_assoc here rest behind)
 
@@ -230,12 +231,12 @@ next_begins shape claims closed states list (Some free) tail small part =
     let k : ℕ = suc (length closed) in
     let others : List Parts = closed ++ parts_of states list ∷ [] in
     let count : k ≡ length others = omega (arith, length-append closed (parts_of states list ∷ [])) in
-    admitted (word_reader shape) (in_frame claims closed states list) (35 ∷ decimal k) (in_states claims others []) (assignment_lines shape.states free ++ ((64 ∷ decimal k) ∷ tail)) (next_states shape (in_frame claims closed states list) refl part.some)
-    ∙ (ap (λ (n : ℕ). admit_all (word_reader shape) (in_states claims others []) (assignment_lines shape.states free ++ ((64 ∷ decimal n) ∷ tail))) count
+    admitted (word_reader shape) (in_frame claims closed states list) (35 ∷ decimal k) (in_states claims others []) (map (assignment_line shape.states) free ++ ((64 ∷ decimal k) ∷ tail)) (next_states shape (in_frame claims closed states list) refl part.some)
+    ∙ (ap (λ (n : ℕ). admit_all (word_reader shape) (in_states claims others []) (map (assignment_line shape.states) free ++ ((64 ∷ decimal n) ∷ tail))) count
     ∙ states_read shape claims others free tail small (later_states shape closed (parts_of states list) free part))
 
-pub frames_part : (shape : Shape) (claims : List ℕ) (closed : List Parts) (states : Option (List Assignment)) (list : List Assignment) (more : List Parts) → IsSmall shape → IsPart shape.inputs list → AllByRecursion (IsLaterFrame shape) more
-    → admit_all (word_reader shape) (in_frame claims closed states []) (assignment_lines shape.inputs list ++ (frame_lines shape (suc (length closed)) more ++ codes "." ∷ [])) ≡ Ok (at_end claims (closed ++ parts_of states list ∷ more))
+pub frames_part : (shape : Shape) (claims : List ℕ) (closed : List Parts) (states : Option (List Assignment)) (list : List Assignment) (more : List Parts) → IsSmall shape → IsPart shape.inputs list → AllByRecursion (AreParts shape (IsFreePart shape)) more
+    → admit_all (word_reader shape) (in_frame claims closed states []) (map (assignment_line shape.inputs) list ++ (frame_lines shape (suc (length closed)) more ++ codes "." ∷ [])) ≡ Ok (at_end claims (closed ++ parts_of states list ∷ more))
 frames_part shape claims closed states list [] small part parts =
     inputs_part shape claims closed states list (codes "." ∷ []) small part
     ∙ admitted (word_reader shape) (in_frame claims closed states list) (codes ".") (at_end claims (closed ++ parts_of states list ∷ [])) [] (last_line shape (in_frame claims closed states list) refl)
@@ -243,7 +244,7 @@ frames_part shape claims closed states list (next ∷ more) small part parts =
     let k : ℕ = suc (length closed) in
     let others : List Parts = closed ++ parts_of states list ∷ [] in
     let count : suc k ≡ suc (length others) = omega (arith, length-append closed (parts_of states list ∷ [])) in
-    let here : List (List ℕ) = assignment_lines shape.inputs next.inputs in
+    let here : List (List ℕ) = map (assignment_line shape.inputs) next.inputs in
     let tail : List (List ℕ) = frame_lines shape (suc k) more ++ codes "." ∷ [] in
     inputs_part shape claims closed states list (frame_lines shape k (next ∷ more) ++ codes "." ∷ []) small part
     ∙ (ap (admit_all (word_reader shape) (in_frame claims closed states list)) (frame_lines-behind shape k next more (codes "." ∷ []))
@@ -263,13 +264,13 @@ first_begins : (shape : Shape) (claims : List ℕ) (states : Option (List Assign
     → admit_all (word_reader shape) (at_parts claims) (states_lines shape.states 0 states ++ ((64 ∷ decimal 0) ∷ tail)) ≡ admit_all (word_reader shape) (in_frame claims [] states []) tail
 first_begins shape claims None tail small part = admitted (word_reader shape) (at_parts claims) (64 ∷ decimal 0) (in_frame claims [] None []) tail (frames_begin shape (at_parts claims) refl)
 first_begins shape claims (Some list) tail small part =
-    admitted (word_reader shape) (at_parts claims) (35 ∷ decimal 0) (in_states claims [] []) (assignment_lines shape.states list ++ ((64 ∷ decimal 0) ∷ tail)) (states_begin shape (at_parts claims) refl)
+    admitted (word_reader shape) (at_parts claims) (35 ∷ decimal 0) (in_states claims [] []) (map (assignment_line shape.states) list ++ ((64 ∷ decimal 0) ∷ tail)) (states_begin shape (at_parts claims) refl)
     ∙ states_read shape claims [] list tail small part
 
-frames_read : (shape : Shape) (claims : List ℕ) (first : Parts) (more : List Parts) → IsSmall shape → IsFirstFrame shape first → AllByRecursion (IsLaterFrame shape) more
+frames_read : (shape : Shape) (claims : List ℕ) (first : Parts) (more : List Parts) → IsSmall shape → AreParts shape (IsPart shape.states) first → AllByRecursion (AreParts shape (IsFreePart shape)) more
     → admit_all (word_reader shape) (at_parts claims) (frames_and_end shape (first ∷ more)) ≡ Ok (at_end claims (first ∷ more))
 frames_read shape claims first more small parts later =
-    let tail : List (List ℕ) = assignment_lines shape.inputs first.inputs ++ (frame_lines shape 1 more ++ codes "." ∷ []) in
+    let tail : List (List ℕ) = map (assignment_line shape.inputs) first.inputs ++ (frame_lines shape 1 more ++ codes "." ∷ []) in
     ap (admit_all (word_reader shape) (at_parts claims)) (frame_lines-behind shape 0 first more (codes "." ∷ []))
     ∙ (first_begins shape claims first.states tail small parts.states
     ∙ frames_part shape claims [] first.states first.inputs more small parts.inputs later)
@@ -289,7 +290,7 @@ all_read w = at_end w.claims w.frames
 all_frames_read : (shape : Shape) (claims : List ℕ) (frames : List Parts) → IsSmall shape → AreFrames shape frames
     → admit_all (word_reader shape) (at_parts claims) (frames_and_end shape frames) ≡ Ok (at_end claims frames)
 all_frames_read shape claims [] small valid = absurd valid
-all_frames_read shape claims (first ∷ more) small valid = frames_read shape claims first more small valid.0 (recursion_from_All (IsLaterFrame shape) more valid.1)
+all_frames_read shape claims (first ∷ more) small valid = frames_read shape claims first more small valid.0 (recursion_from_All (AreParts shape (IsFreePart shape)) more valid.1)
 
 witness_read : (shape : Shape) (comments : List (List ℕ)) (w : Witness) → IsSmall shape → AllByRecursion (λ line. is_comment line ≡ true) comments → IsWitness shape w
     → admit_all (word_reader shape) nothing_read (witness_lines shape comments w) ≡ Ok (all_read w)
@@ -307,12 +308,12 @@ each_append : (front back : List (List ℕ)) → EachLine front → EachLine bac
 each_append [] back f b = b
 each_append (line ∷ front) back f b = (f.0, each_append front back f.1 b)
 
-each_assignment : (widths : List ℕ) (list : List Assignment) → length widths < 2 ^ 64 → AllByRecursion (IsAssignment widths) list → EachLine (assignment_lines widths list)
+each_assignment : (widths : List ℕ) (list : List Assignment) → length widths < 2 ^ 64 → AllByRecursion (IsAssignment widths) list → EachLine (map (assignment_line widths) list)
 each_assignment widths [] small each = tt
 each_assignment widths (a ∷ list) small each = (assignment_line_is_line widths a small each.0, each_assignment widths list small each.1)
 
 -- any frame is one that the first may be
-later_is_first : (shape : Shape) (more : List Parts) → AllByRecursion (IsLaterFrame shape) more → AllByRecursion (IsFirstFrame shape) more
+later_is_first : (shape : Shape) (more : List Parts) → AllByRecursion (AreParts shape (IsFreePart shape)) more → AllByRecursion (AreParts shape (IsPart shape.states)) more
 later_is_first shape [] later = tt
 later_is_first shape (parts ∷ more) later = (record { states = any_states shape parts.states later.0.states; inputs = later.0.inputs }, later_is_first shape more later.1)
   where
@@ -320,22 +321,22 @@ later_is_first shape (parts ∷ more) later = (record { states = any_states shap
     any_states shape None free = tt
     any_states shape (Some list) free = free.part
 
-each_are_frames : (shape : Shape) (frames : List Parts) → AreFrames shape frames → AllByRecursion (IsFirstFrame shape) frames
+each_are_frames : (shape : Shape) (frames : List Parts) → AreFrames shape frames → AllByRecursion (AreParts shape (IsPart shape.states)) frames
 each_are_frames shape [] valid = absurd valid
-each_are_frames shape (first ∷ more) valid = (valid.0, later_is_first shape more (recursion_from_All (IsLaterFrame shape) more valid.1))
+each_are_frames shape (first ∷ more) valid = (valid.0, later_is_first shape more (recursion_from_All (AreParts shape (IsFreePart shape)) more valid.1))
 
 each_states : (widths : List ℕ) (k : ℕ) (states : Option (List Assignment)) → length widths < 2 ^ 64 → k < 2 ^ 64 → IfSome states (IsPart widths) → EachLine (states_lines widths k states)
 each_states widths k None small lt part = tt
 each_states widths k (Some list) small lt part = (decimal_without 10 k (omega arith) lt, each_assignment widths list small (recursion_from_All (IsAssignment widths) list part.each))
 
-each_frame : (shape : Shape) (k : ℕ) (frames : List Parts) → IsSmall shape → k + length frames ≤ 2 ^ 62 → AllByRecursion (IsFirstFrame shape) frames → EachLine (frame_lines shape k frames)
+each_frame : (shape : Shape) (k : ℕ) (frames : List Parts) → IsSmall shape → k + length frames ≤ 2 ^ 62 → AllByRecursion (AreParts shape (IsPart shape.states)) frames → EachLine (frame_lines shape k frames)
 each_frame shape k [] small few all = tt
 each_frame shape k (parts ∷ more) small few all =
     let lt : k < 2 ^ 64 = omega arith in
     let fewer : suc k + length more ≤ 2 ^ 62 = omega arith in
     let here = each_assignment shape.inputs parts.inputs small.inputs (recursion_from_All (IsAssignment shape.inputs) parts.inputs all.0.inputs.each) in
-    let inputs = each_append (assignment_lines shape.inputs parts.inputs) (frame_lines shape (suc k) more) here (each_frame shape (suc k) more small fewer all.1) in
-    each_append (states_lines shape.states k parts.states) ((64 ∷ decimal k) ∷ (assignment_lines shape.inputs parts.inputs ++ frame_lines shape (suc k) more))
+    let inputs = each_append (map (assignment_line shape.inputs) parts.inputs) (frame_lines shape (suc k) more) here (each_frame shape (suc k) more small fewer all.1) in
+    each_append (states_lines shape.states k parts.states) ((64 ∷ decimal k) ∷ (map (assignment_line shape.inputs) parts.inputs ++ frame_lines shape (suc k) more))
     (each_states shape.states k parts.states small.states lt all.0.states) (decimal_without 10 k (omega arith) lt, inputs)
 
 -- each frame has a line
@@ -343,8 +344,8 @@ pub frames_have_lines : (shape : Shape) (k : ℕ) (frames : List Parts) → leng
 frames_have_lines shape k [] = omega arith
 frames_have_lines shape k (parts ∷ more) =
     let others = frames_have_lines shape (suc k) more in
-    let behind : List (List ℕ) = (64 ∷ decimal k) ∷ (assignment_lines shape.inputs parts.inputs ++ frame_lines shape (suc k) more) in
-    omega (arith, length-append (states_lines shape.states k parts.states) behind, length-append (assignment_lines shape.inputs parts.inputs) (frame_lines shape (suc k) more))
+    let behind : List (List ℕ) = (64 ∷ decimal k) ∷ (map (assignment_line shape.inputs) parts.inputs ++ frame_lines shape (suc k) more) in
+    omega (arith, length-append (states_lines shape.states k parts.states) behind, length-append (map (assignment_line shape.inputs) parts.inputs) (frame_lines shape (suc k) more))
 
 few_frames : (shape : Shape) (comments : List (List ℕ)) (w : Witness) → length (witness_lines shape comments w) ≤ most_lines → length w.frames ≤ 2 ^ 62
 few_frames shape comments w few =

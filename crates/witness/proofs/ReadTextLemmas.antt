@@ -1,5 +1,5 @@
 -- A text that is read says what it is read as, and whole lines are all admitted exactly where further lines make them the text of a witness.
-use Rattle.std.proofs.Common.{◌≡◌, ℕ, suc, ◌+◌, ◌<◌, ◌≤◌, ◌==◌, true, false, ◌&&◌, List, [], ◌∷◌, ◌++◌, Option, Some, None, IfSome, Result, Ok, Err, IfOk, length, decimal, codes, append_assoc, length-append, refl, sym, ap, subst, ◌∙◌, arith}
+use Rattle.std.proofs.Common.{◌≡◌, ℕ, suc, ◌+◌, ◌<◌, ◌≤◌, ◌==◌, true, false, ◌&&◌, List, [], ◌∷◌, ◌++◌, Option, Some, None, IfSome, Result, Ok, Err, IfOk, length, decimal, codes, append_assoc, length-append, refl, sym, ap, subst, ◌∙◌, arith, map}
 use Rattle.std.specs.List.{list_any, AllByRecursion}
 use Rattle.std.specs.Str.{bytes_eq}
 use Rattle.std.proofs.lemmas.Bool.{and_parts}
@@ -11,8 +11,8 @@ use Rattle.base.specs.Lines.{IsLine, text_of_lines, whole_lines, unfinished}
 use Rattle.base.proofs.LineLemmas.{EachLine, each_front, lines_are_lines, parts_of_text}
 use Rattle.base.proofs.DecimalLemmas.{decimal_without}
 use Rattle.witness.specs.declared.why.Why.{Why}
-use Rattle.witness.specs.Texts.{Shape, is_free_index, has_free, Assignment, Parts, Witness, assignment_line, assignment_lines, claims_line, states_lines, frame_lines, is_comment, are_distinct, IsAssignment, IsPart, IsFreePart, IsLaterFrame, AreFrames, most_lines, Says}
-use Rattle.witness.specs.Admits.{Place, AtStatus, AtClaims, AtParts, InStates, InFrame, AtEnd, begins_part, opens_frame, opens_states, assignment_at, may_name, state_assignment_at, after_assignment, claims_at, after_claims, states_closed, frame_closed, Read, nothing_read, admit_at, admit, is_at_end, word_reader, read_text, witness_of}
+use Rattle.witness.specs.Texts.{Shape, is_free_index, has_free, Assignment, Parts, Witness, assignment_line, claims_line, states_lines, frame_lines, is_comment, are_distinct, IsAssignment, IsPart, IsFreePart, AreFrames, most_lines, Says, AreParts}
+use Rattle.witness.specs.Admits.{Place, AtStatus, AtClaims, AtParts, InStates, InFrame, AtEnd, begins_part, opens_frame, opens_states, assignment_at, may_name, state_assignment_at, claims_at, frame_closed, Read, nothing_read, admit_at, admit, is_at_end, word_reader, read_text, witness_of}
 use Rattle.witness.specs.WordStands.{NoFrame}
 use Rattle.witness.proofs.ClaimLemmas.{AreBelow, claims_are_line, claims_at-claims_line}
 use Rattle.witness.proofs.AssignmentLemmas.{stands_in, assignment_is_line, state_assignment_is_line}
@@ -20,6 +20,7 @@ use Rattle.witness.proofs.ReadingLemmas.{by_test, admit_all, admit_parts, text_w
 use Rattle.witness.proofs.ReadLemmas.{IsSmall, indices, stands_in-indices, distinct_with, parts_of, in_states, in_frame, IsStates, later_states, frame_lines-behind, all_read, says_read, status_line, line_of_claims, frames_begin, states_end, last_line, frames_have_lines}
 use Rattle.witness.specs.Beginnings.{IsBeginning}
 use Rattle.witness.specs.ClosedWords.{admitted_word_lines}
+use Rattle.witness.proofs.StepWords.{after_assignment, after_claims, states_closed}
 
 -- ---- parts and frames with one more
 
@@ -50,31 +51,31 @@ AreClosed shape closed = (closed ≡ [] → ⊥) → AreFrames shape closed
 -- with the one that is open
 frames_more : (shape : Shape) (closed : List Parts) (states : Option (List Assignment)) (list : List Assignment) → AreClosed shape closed → IfSome states (IsStates shape closed) → IsPart shape.inputs list
     → AreFrames shape (closed ++ parts_of states list ∷ [])
-frames_more shape [] states list closed part inputs = (record { states = part; inputs = inputs }, All-nil (IsLaterFrame shape))
+frames_more shape [] states list closed part inputs = (record { states = part; inputs = inputs }, All-nil (AreParts shape (IsFreePart shape)))
 frames_more shape (first ∷ more) states list closed part inputs =
     let before = closed (λ e. cc) in
-    (before.0, All-push (IsLaterFrame shape) more (parts_of states list) before.1 (record { states = part; inputs = inputs }))
+    (before.0, All-push (AreParts shape (IsFreePart shape)) more (parts_of states list) before.1 (record { states = part; inputs = inputs }))
 
 frame_lines-append : (shape : Shape) (k : ℕ) (xs ys : List Parts) → frame_lines shape k (xs ++ ys) ≡ frame_lines shape k xs ++ frame_lines shape (k + length xs) ys
 frame_lines-append shape k [] ys = ap (λ (n : ℕ). frame_lines shape n ys) (omega arith)
 frame_lines-append shape k (parts ∷ xs) ys =
     let count : suc k + length xs ≡ k + suc (length xs) = omega arith in
     let states : List (List ℕ) = states_lines shape.states k parts.states in
-    let here : List (List ℕ) = assignment_lines shape.inputs parts.inputs in
+    let here : List (List ℕ) = map (assignment_line shape.inputs) parts.inputs in
     let rest : List (List ℕ) = frame_lines shape (suc k) xs in
     ap (λ (ls : List (List ℕ)). states ++ ((64 ∷ decimal k) ∷ (here ++ ls))) (frame_lines-append shape (suc k) xs ys ∙ ap (λ (n : ℕ). rest ++ frame_lines shape n ys) count)
     ∙ sym (frame_lines-behind shape k parts xs (frame_lines shape (k + suc (length xs)) ys))
 
 -- the same of one frame behind others
 one_frame : (shape : Shape) (closed : List Parts) (states : Option (List Assignment)) (list : List Assignment)
-    → frame_lines shape 0 (closed ++ parts_of states list ∷ []) ≡ frame_lines shape 0 closed ++ (states_lines shape.states (length closed) states ++ ((64 ∷ decimal (length closed)) ∷ assignment_lines shape.inputs list))
+    → frame_lines shape 0 (closed ++ parts_of states list ∷ []) ≡ frame_lines shape 0 closed ++ (states_lines shape.states (length closed) states ++ ((64 ∷ decimal (length closed)) ∷ map (assignment_line shape.inputs) list))
 one_frame shape closed states list =
     let count : 0 + length closed ≡ length closed = omega arith in
     let front : List (List ℕ) = frame_lines shape 0 closed in
     let header : List ℕ = 64 ∷ decimal (length closed) in
     frame_lines-append shape 0 closed (parts_of states list ∷ [])
     ∙ (ap (λ (n : ℕ). front ++ frame_lines shape n (parts_of states list ∷ [])) count
-    ∙ ap (λ (ls : List (List ℕ)). front ++ (states_lines shape.states (length closed) states ++ (header ∷ ls))) (append-nil (assignment_lines shape.inputs list)))
+    ∙ ap (λ (ls : List (List ℕ)). front ++ (states_lines shape.states (length closed) states ++ (header ∷ ls))) (append-nil (map (assignment_line shape.inputs) list)))
 
 -- one more assignment in the last frame
 frame_lines-assignment : (shape : Shape) (closed : List Parts) (states : Option (List Assignment)) (before : List Assignment) (a : Assignment)
@@ -84,7 +85,7 @@ frame_lines-assignment shape closed states before a =
     let front : List (List ℕ) = frame_lines shape 0 closed in
     let part : List (List ℕ) = states_lines shape.states (length closed) states in
     let header : List ℕ = 64 ∷ decimal (length closed) in
-    let here : List (List ℕ) = assignment_lines widths before in
+    let here : List (List ℕ) = map (assignment_line widths) before in
     let more : List (List ℕ) = assignment_line widths a ∷ [] in
     ap (λ (ls : List (List ℕ)). ls ++ more) (one_frame shape closed states before)
     ∙ (append_assoc front (part ++ (header ∷ here)) more
@@ -112,7 +113,7 @@ frame_lines-states shape closed parts =
 states_lines-assignment : (widths : List ℕ) (front : List (List ℕ)) (k : ℕ) (before : List Assignment) (a : Assignment)
     → (front ++ states_lines widths k (Some before)) ++ assignment_line widths a ∷ [] ≡ front ++ states_lines widths k (Some (before ++ a ∷ []))
 states_lines-assignment widths front k before a =
-    append_assoc front ((35 ∷ decimal k) ∷ assignment_lines widths before) (assignment_line widths a ∷ [])
+    append_assoc front ((35 ∷ decimal k) ∷ map (assignment_line widths) before) (assignment_line widths a ∷ [])
     ∙ ap (λ (ls : List (List ℕ)). front ++ ((35 ∷ decimal k) ∷ ls)) (sym (map-append (assignment_line widths) before (a ∷ [])))
 
 -- the line behind a part of states

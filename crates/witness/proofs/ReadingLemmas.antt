@@ -1,7 +1,7 @@
 -- Lines of a witness of either kind: how far they are admitted, and which whole lines further lines make a whole witness.
 use Rattle.std.proofs.Common.{◌≡◌, ℕ, nat_le, Bool, true, false, cond, not, ◌&&◌, Some, None, refl, ◌⊎◌, suc, ◌+◌, ◌<◌, ◌≤◌, List, [], ◌∷◌, ◌++◌, Option, Result, Ok, Err, IfOk, length, append_assoc, length-append, inl, inr, sym, ap, ap₂, subst, ◌∙◌, arith}
 use Rattle.witness.specs.Texts.{most_lines}
-use Rattle.witness.specs.Readings.{last_refusal, Reader, Reading, so_far, nothing_admitted, one_more_line, next_line_of, next_line, lines_behind, lines_read, reading, is_nothing, refused_for, read_or_fault, text_read}
+use Rattle.witness.specs.Readings.{last_refusal, Reader, Reading, so_far, one_more_line, next_line_of, next_line, lines_behind, lines_read, reading, is_nothing, refused_for, read_or_fault, text_read}
 use Rattle.std.proofs.lemmas.Bool.{cases_lt, le-leb, lt-leb}
 use Rattle.std.proofs.lemmas.List.{append-nil}
 use Rattle.base.specs.Lines.{IsLine, text_of_lines, whole_lines, unfinished}
@@ -273,7 +273,7 @@ module _ {R : Type 0} (reader : Reader R) where
     before_begins text before line behind split count few =
         let each : EachLine before = each_front before (line ∷ behind) (subst EachLine split (lines_are_lines text)) in
         let whole : whole_lines (text_of_lines before) ≡ before = lines_of_text before each in
-        let nothing : Reading R = nothing_admitted reader in
+        let nothing : Reading R = so_far 0 reader.nothing in
         let all : (lines_behind reader (lines_behind reader nothing before) (line ∷ behind)).admitted ≡ length before =
         ap (λ (g : Reading R). g.admitted) (sym (ap (lines_behind reader nothing) split ∙ lines_append nothing before (line ∷ behind))) ∙ count in
         admitted_begins (text_of_lines before) (unfinished_of_text before) (omega (arith, few, ap length whole))
@@ -294,7 +294,7 @@ module _ {R : Type 0} (reader : Reader R) where
       let joined : whole_lines text ≡ front ++ behind = split ∙ sym (append_assoc before (line ∷ []) behind) in
       let each : EachLine front = each_front front behind (subst EachLine joined (lines_are_lines text)) in
       let whole : whole_lines (text_of_lines front) ≡ front = lines_of_text front each in
-      let nothing : Reading R = nothing_admitted reader in
+      let nothing : Reading R = so_far 0 reader.nothing in
       let all : (lines_behind reader nothing front).admitted ≡ length front =
       ap (λ (ls : List (List ℕ)). (lines_behind reader nothing ls).admitted) (sym whole) ∙ (beginning_is_admitted (text_of_lines front) further final h ∙ ap length whole) in
       let same : (lines_behind reader (lines_behind reader nothing front) behind).admitted ≡ length before =

@@ -7,7 +7,7 @@ use Rattle.witness.specs.declared.why.Why.TheVariants as why
 use Rattle.witness.specs.declared.judgement.Judgement.{Judgement}
 use Rattle.witness.specs.declared.judgement.Judgement.TheVariants as judgement
 use Rattle.witness.specs.Texts.{most_lines}
-use Rattle.witness.specs.Readings.{Reading, so_far, nothing_admitted, next_line, lines_read, reading, is_nothing, last_refusal, Fault, refused_for, read_or_fault, text_read}
+use Rattle.witness.specs.Readings.{Reading, so_far, next_line, lines_read, reading, is_nothing, last_refusal, Fault, refused_for, read_or_fault, text_read}
 use Rattle.witness.specs.Judgements.{JudgesAs}
 use Rattle.witness.specs.Stands.{Judge, Judging, IsOfLines, StandsForLines}
 use Rattle.witness.proofs.ReadingLemmas.{whole_is, goes, lines_append, few_read}
@@ -53,7 +53,7 @@ module _ {R Q L : Type 0} (g : Judging R Q L) (claims_more : ClaimsMore g) (line
   claim_stays e = sym (or-false j.no_claim) ∙ claim_with false e
 
   one_more : lines_read g.reader (lines ++ line ∷ []) ≡ next_line g.reader now line
-  one_more = lines_append g.reader (nothing_admitted g.reader) lines (line ∷ [])
+  one_more = lines_append g.reader (so_far 0 g.reader.nothing) lines (line ∷ [])
 
   refused_then : (q : Q) (w : Why) (no_claim : Bool) → next_line g.reader now line ≡ record now { refused = Some w } → no_claim ≡ g.makes_no_claim (lines ++ line ∷ []) → g.Counts q now.read
       → IsOfLines g (record j { reader = q; refused = Some w; no_claim = no_claim }) (lines ++ line ∷ []) []

@@ -9,7 +9,7 @@ use Rattle.std.proofs.lemmas.List.Sums.{fails_before_first}
 use Rattle.base.proofs.CutLemmas.{IsCut, none_passes}
 use Rattle.base.specs.Lines.{HasNone}
 use Rattle.witness.specs.declared.why.Why.{Why}
-use Rattle.witness.specs.Admits.{Cut, cut_at_space, value_of, with_symbol, with_value, with_index, assignment_at}
+use Rattle.witness.specs.Admits.{cut_at_space, value_of, with_symbol, with_value, with_index, assignment_at}
 use Rattle.witness.specs.WordValues.{IsAsValueRead, word_with, word_behind, pair_with, assigned_by, assigned}
 use Rattle.witness.proofs.PieceLemmas.{cut_at_space-parts}
 use Rattle.base.specs.Decimals.{number_of}
@@ -18,6 +18,7 @@ use Rattle.witness.specs.Texts.{Assignment}
 use Rattle.witness.specs.Fits.{is_set, IsFlagged}
 use Rattle.witness.specs.Judgements.{pairs_of}
 use Rattle.witness.specs.declared.why.Why.TheVariants as why
+use Rattle.witness.proofs.StepWords.{Cut}
 
 -- ---- where the first space stands
 

@@ -11,8 +11,8 @@ use Rattle.btor2.specs.declared.item.Item.{Item}
 use Rattle.witness.specs.declared.why.Why.{Why}
 use Rattle.witness.specs.Texts.{Shape, Assignment, Parts, has_free, is_comment, shape_of, most_lines}
 use Rattle.witness.proofs.WordPlayLemmas.{goes_steps, between_behind, word_is}
-use Rattle.witness.specs.Readings.{Reading, so_far, nothing_admitted, one_more_line, next_line_of, next_line, lines_behind, lines_read, reading, is_nothing}
-use Rattle.witness.specs.Admits.{claims_at, assignment_at, state_assignment_at, Place, AtStatus, AtClaims, AtParts, InStates, InFrame, AtEnd, Read, nothing_read, frame_closed, opens_frame, opens_states, begins_part, after_claims, after_assignment, in_part, admit_at, admit, word_reader, is_at_end, witness_of}
+use Rattle.witness.specs.Readings.{Reading, so_far, one_more_line, next_line_of, next_line, lines_behind, lines_read, reading, is_nothing}
+use Rattle.witness.specs.Admits.{claims_at, assignment_at, state_assignment_at, Place, AtStatus, AtClaims, AtParts, InStates, InFrame, AtEnd, Read, nothing_read, frame_closed, opens_frame, opens_states, begins_part, in_part, admit_at, admit, word_reader, is_at_end, witness_of}
 use Rattle.btor2.specs.Reachability.{nodes_of, model_shows}
 use Rattle.witness.specs.Fits.{first_unreached, AreClaimed, NoneIsSet, RisesAmong}
 use Rattle.witness.specs.Judgements.{frame_words, makes_no_claim, FrameWords, words_of, Words, initial_words, given_words, given_frames, verdict, JudgesWords, first_of, first_different}
@@ -34,6 +34,7 @@ use Rattle.witness.proofs.FrameLemmas.{as_many_frames}
 use Rattle.runs.specs.Run.{IsNow}
 use Rattle.witness.proofs.ReadTextLemmas.{ended}
 use Rattle.witness.specs.declared.why.Why.TheVariants as why
+use Rattle.witness.proofs.StepWords.{after_claims, after_assignment}
 use Rattle.witness.proofs.ShownLemmas.{words_verdict}
 
 -- ---- what an admitted line changes
@@ -226,7 +227,7 @@ abbrev InFrames : ℕ → Read → Type 0
 InFrames n r = (length r.closed ≤ n) × (r.place ≡ AtEnd → r.closed ≡ [] → ⊥)
 
 pub in_frames : (shape : Shape) (lines : List (List ℕ)) → InFrames (lines_read (word_reader shape) lines).admitted (lines_read (word_reader shape) lines).read
-in_frames shape lines = holds_behind (word_reader shape) InFrames line_more (nothing_admitted (word_reader shape)) lines (omega arith, λ e none. cc)
+in_frames shape lines = holds_behind (word_reader shape) InFrames line_more (so_far 0 (word_reader shape).nothing) lines (omega arith, λ e none. cc)
   where
     line_more : (n : ℕ) (r next : Read) (line : List ℕ) → admit shape r line ≡ Ok next → InFrames n r → InFrames (n + 1) next
     line_more n r next line is h =

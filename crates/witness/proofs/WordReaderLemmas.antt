@@ -10,7 +10,7 @@ use Rattle.witness.specs.declared.why.Why.TheVariants as why
 use Rattle.witness.specs.declared.word_reader.Place.{Place as CodePlace}
 use Rattle.witness.specs.declared.word_reader.Place.TheVariants as code
 use Rattle.witness.specs.Texts.{Assignment, Parts, is_free_index, has_free, shape_of, is_comment}
-use Rattle.witness.specs.Admits.{Place, AtClaims, AtParts, InStates, InFrame, AtEnd, Read, nothing_read, cut_at_space, names_free, may_name, state_assignment_at, claims_at, opens_frame, opens_states, begins_part, states_closed, frame_closed, admit}
+use Rattle.witness.specs.Admits.{Place, AtClaims, AtParts, InStates, InFrame, AtEnd, Read, nothing_read, cut_at_space, may_name, state_assignment_at, claims_at, opens_frame, opens_states, begins_part, frame_closed, admit}
 use Rattle.witness.specs.Judgements.{FrameWords, pairs_of, frame_words}
 use Rattle.witness.specs.Fits.{AreClaimed}
 use Rattle.std.specs.List.{list_any}
@@ -21,6 +21,7 @@ use Rattle.witness.specs.WordClaims.{AreClaims}
 use Rattle.witness.proofs.ShapeLemmas.{free_at_places}
 use Rattle.witness.specs.WordPlays.{WordPlay, IsStart, GoesOn, Plays, frame_steps, MayGive, GivesState, GivesInput, nothing_given}
 use Rattle.witness.specs.WordStands.{WordReader, place_of, here_of, NoFrame, SaidAt, ClaimsAt, ReadsWords, GivesLine, is_alone}
+use Rattle.witness.proofs.StepWords.{names_free, states_closed}
 use Rattle.std.proofs.lemmas.List.{map-append, length-map, get_or-map, get_or_past}
 use Rattle.std.proofs.lemmas.List.Elements.{All-nil, All-from_get_or, All-map}
 use Rattle.runs.specs.Frames.{ids_of}

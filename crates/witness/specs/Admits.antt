@@ -1,7 +1,8 @@
 -- Lines of a witness, admitted one by one after the lines before them, and the first why of a line that is not ("Btor2, BtorMC and Boolector 3.0", witness
 -- format; the whys and their order are this project's).
-use Rattle.std.specs.Prelude.{ℕ, suc, Bool, true, false, ◌&&◌, ◌||◌, ◌==◌, nat_lt, List, [], ◌∷◌, ◌++◌, Option, Some, None, Result, Ok, Err, codes, decimal, map, length, reverse, slice_index, if◌then◌else◌}
+use Rattle.std.specs.Prelude.{ℕ, suc, Bool, true, false, ◌&&◌, ◌||◌, ◌==◌, nat_lt, List, [], ◌∷◌, ◌++◌, Option, Some, None, Result, Ok, Err, codes, decimal, map, option_map, option_and_then, length, reverse, slice_index, if◌then◌else◌}
 use Rattle.std.specs.List.{list_any, list_all}
+use Rattle.std.specs.Option.{option_map_or}
 use Rattle.std.specs.Str.{bytes_eq}
 use Rattle.base.specs.Lines.{to_first}
 use Rattle.base.specs.Word.{word}
@@ -10,20 +11,14 @@ use Rattle.btor2.specs.Symbols.{is_symbol}
 use Rattle.witness.specs.declared.why.Why.{Why}
 use Rattle.witness.specs.declared.why.Why.TheVariants as why
 use Rattle.witness.specs.Texts.{Shape, is_free_index, has_free, Assignment, Parts, Witness, is_comment, are_distinct}
-use Rattle.witness.specs.Readings.{Reader, Fault, text_read}
+use Rattle.witness.specs.Readings.{Reader, Fault, with_said, text_read}
 
 -- ---- a line's pieces
 
 -- the bytes before the first space, and those behind it where there is one
-abbrev pub Cut : Type 0
-Cut = List ℕ × Option (List ℕ)
-
-abbrev pub to_front : ℕ → Cut → Cut
-to_front b cut = (b ∷ cut.0, cut.1)
-
-abbrev pub cut_at_space : List ℕ → Cut
+abbrev pub cut_at_space : List ℕ → List ℕ × Option (List ℕ)
 cut_at_space [] = ([], None)
-cut_at_space (b ∷ bs) = if b == 32 then ([], Some bs) else to_front b (cut_at_space bs)
+cut_at_space (b ∷ bs) = if b == 32 then ([], Some bs) else (b ∷ (cut_at_space bs).0, (cut_at_space bs).1)
 
 -- what stands between single spaces
 abbrev pub between_spaces : List ℕ → List (List ℕ)
@@ -37,24 +32,17 @@ pub record Claim : Type 0 where
   pub justice : Bool
   pub index : ℕ
 
-abbrev pub claim_with : Bool → Option ℕ → Option Claim
-claim_with justice None = None
-claim_with justice (Some i) = Some (record { justice = justice; index = i })
-
 -- `b<i>` or `j<i>`
 abbrev pub claim_of : List ℕ → Option Claim
 claim_of [] = None
-claim_of (b ∷ bs) = if b == 98 then claim_with false (number_of bs) else (if b == 106 then claim_with true (number_of bs) else None)
-
-abbrev pub with_claim : Option Claim → Option (List Claim) → Option (List Claim)
-with_claim None more = None
-with_claim (Some c) None = None
-with_claim (Some c) (Some more) = Some (c ∷ more)
+claim_of (b ∷ bs) =
+    if b == 98 then option_map (λ i. record { justice = false; index = i }) (number_of bs)
+    else (if b == 106 then option_map (λ i. record { justice = true; index = i }) (number_of bs) else None)
 
 -- the claims of all pieces, where each is one
 abbrev pub claims_of : List (List ℕ) → Option (List Claim)
 claims_of [] = Some []
-claims_of (piece ∷ pieces) = with_claim (claim_of piece) (claims_of pieces)
+claims_of (piece ∷ pieces) = option_and_then (λ c. option_map (λ more. c ∷ more) (claims_of pieces)) (claim_of piece)
 
 abbrev pub judged_claims : ℕ → Option (List Claim) → Result (List ℕ) Why
 judged_claims bads None = Err why.BadClaim
@@ -100,15 +88,10 @@ with_index widths before rest (Some i) =
 unfoldable pub assignment_at : List ℕ → List Assignment → List ℕ → Result (List Assignment) Why
 assignment_at widths before line = with_index widths before (cut_at_space line).1 (number_of (cut_at_space line).0)
 
--- a number that is there and is the index of a free state
-abbrev pub names_free : Shape → Option ℕ → Bool
-names_free shape None = false
-names_free shape (Some i) = is_free_index shape i
-
--- which may stand in a part of states: any in the first frame, and behind frames one of a free state
+-- which index may stand in a part of states: any in the first frame, and behind frames one that is there and is of a free state
 abbrev pub may_name : {A : Type 0} → Shape → List A → Option ℕ → Bool
 may_name shape [] index = true
-may_name shape (x ∷ xs) index = names_free shape index
+may_name shape (x ∷ xs) index = option_map_or (is_free_index shape) index false
 
 -- the same in a part of states behind these frames: 114 also where the index may not stand there
 unfoldable pub state_assignment_at : {A : Type 0} → Shape → List A → List Assignment → List ℕ → Result (List Assignment) Why
@@ -139,10 +122,6 @@ pub record Read : Type 0 where
 abbrev pub nothing_read : Read
 nothing_read = record { place = AtStatus; claims = []; closed = []; states = None; open_part = [] }
 
--- the states' part is closed, and the frame's inputs follow
-abbrev pub states_closed : Read → Read
-states_closed r = record r { place = InFrame; states = Some r.open_part; open_part = [] }
-
 -- the frame is closed, and the next line stands at a place
 abbrev pub frame_closed : Place → Read → Read
 frame_closed next r = record r { place = next; closed = r.closed ++ record { states = r.states; inputs = r.open_part } ∷ []; states = None; open_part = [] }
@@ -159,27 +138,19 @@ abbrev pub begins_part : List ℕ → Bool
 begins_part [] = false
 begins_part (b ∷ bs) = (b == 35) || ((b == 64) || (b == 46))
 
-abbrev pub after_claims : Read → Result (List ℕ) Why → Result Read Why
-after_claims r (Ok claims) = Ok (record r { place = AtParts; claims = claims })
-after_claims r (Err w) = Err w
-
-abbrev pub after_assignment : Read → Result (List Assignment) Why → Result Read Why
-after_assignment r (Ok list) = Ok (record r { open_part = list })
-after_assignment r (Err w) = Err w
-
 -- an assignment of the part that is open, where the line does not begin as others do
 abbrev pub in_part : Read → List ℕ → Result (List Assignment) Why → Result Read Why
-in_part r line assigned = if begins_part line then Err why.FrameOrder else after_assignment r assigned
+in_part r line assigned = if begins_part line then Err why.FrameOrder else with_said (λ (list : List Assignment). record r { open_part = list }) assigned
 
 -- A whole line after the admitted lines. A part of states behind the first frame is there only where there is a free state.
 abbrev pub admit_at : Shape → Read → List ℕ → Place → Result Read Why
 admit_at shape r line AtStatus = if is_comment line then Ok r else (if bytes_eq line (codes "sat") then Ok (record r { place = AtClaims }) else Err why.BadHeader)
-admit_at shape r line AtClaims = after_claims r (claims_at shape.bads line)
+admit_at shape r line AtClaims = with_said (λ (claims : List ℕ). record r { place = AtParts; claims = claims }) (claims_at shape.bads line)
 admit_at shape r line AtParts =
     if opens_states 0 line then Ok (record r { place = InStates })
     else (if opens_frame 0 line then Ok (record r { place = InFrame }) else Err why.FrameOrder)
 admit_at shape r line InStates =
-    if opens_frame (length r.closed) line then Ok (states_closed r) else in_part r line (state_assignment_at shape r.closed r.open_part line)
+    if opens_frame (length r.closed) line then Ok (record r { place = InFrame; states = Some r.open_part; open_part = [] }) else in_part r line (state_assignment_at shape r.closed r.open_part line)
 admit_at shape r line InFrame =
     if opens_frame (suc (length r.closed)) line then Ok (frame_closed InFrame r)
     else (if opens_states (suc (length r.closed)) line && has_free shape then Ok (frame_closed InStates r)

@@ -6,7 +6,7 @@ use Rattle.std.specs.Str.{bytes_eq}
 use Rattle.aiger.specs.Circuit.{Circuit}
 use Rattle.witness.specs.declared.why.Why.{Why}
 use Rattle.witness.specs.declared.why.Why.TheVariants as why
-use Rattle.witness.specs.Readings.{Reader, Fault, reading, text_read}
+use Rattle.witness.specs.Readings.{Reader, Fault, with_said, reading, text_read}
 use Rattle.witness.specs.Admits.{Claim, claim_of, is_value_byte}
 use Rattle.witness.specs.BitTexts.{BitWitness}
 
@@ -48,23 +48,14 @@ pub record BitRead : Type 0 where
 abbrev pub no_line_read : BitRead
 no_line_read = record { place = AtHeader; claim = 0; initial = []; frames = [] }
 
-abbrev pub after_claim : BitRead → Result ℕ Why → Result BitRead Why
-after_claim r (Ok i) = Ok (record r { place = AtInitial; claim = i })
-after_claim r (Err w) = Err w
-
-abbrev pub after_initial : BitRead → Result (List Bool) Why → Result BitRead Why
-after_initial r (Ok bits) = Ok (record r { place = AtFirst; initial = bits })
-after_initial r (Err w) = Err w
-
 abbrev pub after_frame : BitRead → Result (List Bool) Why → Result BitRead Why
-after_frame r (Ok bits) = Ok (record r { place = AtLater; frames = r.frames ++ bits ∷ [] })
-after_frame r (Err w) = Err w
+after_frame r line = with_said (λ (bits : List Bool). record r { place = AtLater; frames = r.frames ++ bits ∷ [] }) line
 
 -- a whole line after the admitted lines
 abbrev pub bit_admit_at : Circuit → BitRead → List ℕ → BitPlace → Result BitRead Why
 bit_admit_at c r line AtHeader = if bytes_eq line (codes "1") then Ok (record r { place = AtClaim }) else Err why.BadHeader
-bit_admit_at c r line AtClaim = after_claim r (claim_at (length c.bads) line)
-bit_admit_at c r line AtInitial = after_initial r (bits_at (length c.latches) line)
+bit_admit_at c r line AtClaim = with_said (λ (i : ℕ). record r { place = AtInitial; claim = i }) (claim_at (length c.bads) line)
+bit_admit_at c r line AtInitial = with_said (λ (bits : List Bool). record r { place = AtFirst; initial = bits }) (bits_at (length c.latches) line)
 bit_admit_at c r line AtFirst = if bytes_eq line (codes ".") then Err why.FrameOrder else after_frame r (bits_at c.inputs line)
 bit_admit_at c r line AtLater = if bytes_eq line (codes ".") then Ok (record r { place = AtDone }) else after_frame r (bits_at c.inputs line)
 bit_admit_at c r line AtDone = Err why.Trailing

@@ -12,7 +12,8 @@ use Rattle.aiger.specs.Reachability.{circuit_shows}
 use Rattle.witness.specs.declared.judgement.Judgement.{Judgement}
 use Rattle.witness.specs.Judgements.{verdict, JudgesAs}
 use Rattle.witness.specs.BitTexts.{BitWitness}
-use Rattle.witness.specs.BitAdmits.{read_bit_text, bit_witness_of}
+use Rattle.witness.specs.Readings.{text_read}
+use Rattle.witness.specs.BitAdmits.{bit_reader, bit_witness_of}
 
 -- ---- what is looked for
 
@@ -43,4 +44,4 @@ JudgesBits c w j =
 
 -- the judgement of a text over a circuit
 abbrev pub BitJudges : Circuit → List ℕ → Judgement → Type 0
-BitJudges c text j = JudgesAs (λ r. JudgesBits c (bit_witness_of r)) (makes_no_bit_claim (whole_lines text)) (read_bit_text c text) j
+BitJudges c text j = JudgesAs (λ r. JudgesBits c (bit_witness_of r)) (makes_no_bit_claim (whole_lines text)) (text_read (bit_reader c) text) j

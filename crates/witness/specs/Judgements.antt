@@ -14,8 +14,8 @@ use Rattle.btor2.specs.Reachability.{nodes_of, model_shows}
 use Rattle.witness.specs.declared.judgement.Judgement.{Judgement}
 use Rattle.witness.specs.declared.judgement.Judgement.TheVariants as judgement
 use Rattle.witness.specs.Texts.{Assignment, Parts, Witness, shape_of, is_comment, most_lines}
-use Rattle.witness.specs.Readings.{Fault}
-use Rattle.witness.specs.Admits.{read_text, witness_of}
+use Rattle.witness.specs.Readings.{Fault, text_read}
+use Rattle.witness.specs.Admits.{word_reader, witness_of}
 
 -- ---- the words that a witness gives
 
@@ -121,7 +121,7 @@ makes_no_claim n (line ∷ lines) =
 -- what is judged of what was read, by the model's one trace from its words
 abbrev pub JudgesWords : List Item → Words → Judgement → Type 0
 JudgesWords items w j =
-    (fs : List Frame) → IsTrace items (initial_words items w) (given_frames items w) fs
+    (fs : List Frame) → IsTrace items (initial_words items w) (map (given_words items) w.frames) fs
     → j ≡ verdict (first_different items (initial_words items w)) w.claims (length (nodes_of is_bad items)) (map (model_shows items) fs)
 
 -- what is judged of a text, where its status says so of a claim and it reads so, by what is judged of what it says
@@ -132,4 +132,4 @@ JudgesAs Says false (Ok r) j = Says r j
 
 -- the judgement of a text over a model
 abbrev pub Judges : List Item → List ℕ → Judgement → Type 0
-Judges items text j = JudgesAs (λ r. JudgesWords items (words_of (witness_of r))) (makes_no_claim 0 (whole_lines text)) (read_text (shape_of items) text) j
+Judges items text j = JudgesAs (λ r. JudgesWords items (words_of (witness_of r))) (makes_no_claim 0 (whole_lines text)) (text_read (word_reader (shape_of items)) text) j

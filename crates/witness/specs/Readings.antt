@@ -19,12 +19,14 @@ pub record Reading (R : Type 0) : Type 0 where
   pub read : R
   pub refused : Option Why
 
+-- what is read behind a line that says something: what is put there of that, or why the line says nothing
+abbrev pub with_said : {A R : Type 0} → (A → R) → Result A Why → Result R Why
+with_said put (Ok x) = Ok (put x)
+with_said put (Err w) = Err w
+
 -- so many are, and none is refused
 abbrev pub so_far : {R : Type 0} → ℕ → R → Reading R
 so_far n r = record { admitted = n; read = r; refused = None }
-
-abbrev pub nothing_admitted : {R : Type 0} → Reader R → Reading R
-nothing_admitted reader = so_far 0 reader.nothing
 
 abbrev pub one_more_line : {R : Type 0} → Reading R → Result R Why → Reading R
 one_more_line g (Ok r) = so_far (g.admitted + 1) r
@@ -44,7 +46,7 @@ lines_behind reader g [] = g
 lines_behind reader g (line ∷ lines) = lines_behind reader (next_line reader g line) lines
 
 abbrev pub lines_read : {R : Type 0} → Reader R → List (List ℕ) → Reading R
-lines_read reader lines = lines_behind reader (nothing_admitted reader) lines
+lines_read reader lines = lines_behind reader (so_far 0 reader.nothing) lines
 
 -- how far the whole lines of a text are admitted
 unfoldable pub reading : {R : Type 0} → Reader R → List ℕ → Reading R
@@ -63,12 +65,9 @@ pub record Fault : Type 0 where
   pub line : ℕ
   pub why : Why
 
-abbrev pub fault_at : ℕ → Why → Fault
-fault_at n w = record { line = n + 1; why = w }
-
 abbrev pub refused_for : {R : Type 0} → Reading R → Option Why → Result R Fault
 refused_for g None = Ok g.read
-refused_for g (Some w) = Err (fault_at g.admitted w)
+refused_for g (Some w) = Err (record { line = g.admitted + 1; why = w })
 
 -- what the lines read as, with the bytes behind the last of them, or the fault
 abbrev pub read_or_fault : {R : Type 0} → (R → Bool) → Reading R → List ℕ → Option Why → Result R Fault

@@ -9,6 +9,7 @@ use Rattle.btor2.specs.declared.item.Body.{Body}
 use Rattle.btor2.specs.Items.{is_input, is_state, is_bad, is_free}
 use Rattle.btor2.specs.Trace.{bits_of}
 use Rattle.btor2.specs.Symbols.{is_symbol}
+pub use Rattle.btor2.specs.Symbols.{is_comment}
 
 -- What a witness needs to know of a model: how many bad properties it has, the widths of its states and of its inputs, and which of the states are free,
 -- in file order.
@@ -76,9 +77,6 @@ symbol_part (Some symbol) = 32 ∷ symbol
 abbrev pub assignment_line : List ℕ → Assignment → List ℕ
 assignment_line widths a = decimal a.index ++ 32 ∷ binary (slice_index widths a.index) a.word ++ symbol_part a.symbol
 
-abbrev pub assignment_lines : List ℕ → List Assignment → List (List ℕ)
-assignment_lines widths list = map (assignment_line widths) list
-
 -- `b<i>`, with one space between
 abbrev pub claim : ℕ → List ℕ
 claim i = 98 ∷ decimal i
@@ -91,24 +89,19 @@ claims_line (i ∷ j ∷ more) = claim i ++ 32 ∷ claims_line (j ∷ more)
 -- the line `#<k>` and the words of states
 abbrev pub states_lines : List ℕ → ℕ → Option (List Assignment) → List (List ℕ)
 states_lines widths k None = []
-states_lines widths k (Some list) = (35 ∷ decimal k) ∷ assignment_lines widths list
+states_lines widths k (Some list) = (35 ∷ decimal k) ∷ map (assignment_line widths) list
 
 -- for frames from k on: the part of states, where there is one, the line `@<k>` and the inputs' words
 abbrev pub frame_lines : Shape → ℕ → List Parts → List (List ℕ)
 frame_lines shape k [] = []
 frame_lines shape k (parts ∷ more) =
-    states_lines shape.states k parts.states ++ ((64 ∷ decimal k) ∷ (assignment_lines shape.inputs parts.inputs ++ frame_lines shape (suc k) more))
+    states_lines shape.states k parts.states ++ ((64 ∷ decimal k) ∷ (map (assignment_line shape.inputs) parts.inputs ++ frame_lines shape (suc k) more))
 
 -- all lines: comments, the status, the claims, the frames and the end
 abbrev pub witness_lines : Shape → List (List ℕ) → Witness → List (List ℕ)
 witness_lines shape comments w = comments ++ (codes "sat" ∷ (claims_line w.claims ∷ (frame_lines shape 0 w.frames ++ codes "." ∷ [])))
 
 -- ---- what may be written
-
--- a line that begins with `;`
-abbrev pub is_comment : List ℕ → Bool
-is_comment [] = false
-is_comment (b ∷ bs) = b == 59
 
 -- no number stands twice
 abbrev pub are_distinct : List ℕ → Bool
@@ -132,19 +125,15 @@ pub record IsFreePart (shape : Shape) (list : List Assignment) : Type 0 where
   pub part : IsPart shape.states list
   pub free : All (λ a. is_free_index shape a.index ≡ true) list
 
--- the parts of the first frame, and of a later one
-pub record IsFirstFrame (shape : Shape) (parts : Parts) : Type 0 where
-  pub states : IfSome parts.states (IsPart shape.states)
-  pub inputs : IsPart shape.inputs parts.inputs
-
-pub record IsLaterFrame (shape : Shape) (parts : Parts) : Type 0 where
-  pub states : IfSome parts.states (IsFreePart shape)
+-- the parts of a frame: that of states, where there is one, is as it may be there
+pub record AreParts (shape : Shape) (MayBe : List Assignment → Type 0) (parts : Parts) : Type 0 where
+  pub states : IfSome parts.states MayBe
   pub inputs : IsPart shape.inputs parts.inputs
 
 -- there is a first frame, and any number of later ones
 abbrev pub AreFrames : Shape → List Parts → Type 0
 AreFrames shape [] = ⊥
-AreFrames shape (first ∷ later) = IsFirstFrame shape first × All (IsLaterFrame shape) later
+AreFrames shape (first ∷ later) = AreParts shape (IsPart shape.states) first × All (AreParts shape (IsFreePart shape)) later
 
 -- what a witness may say over a model of this shape
 pub record IsWitness (shape : Shape) (w : Witness) : Type 0 where

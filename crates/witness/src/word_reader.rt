@@ -1,12 +1,13 @@
 //! The lines of a witness over a model, admitted one after the other.
-ghost use Rattle.std.specs.Prelude.{◌≡◌, ℕ, ◌&&◌, ◌<◌, ◌+◌, ◌-◌, ◌^◌, true, Bool, List, [], ◌++◌, IfNone, IfOk, IfSome, OnErr, length, slice_index};
+ghost use Rattle.std.specs.Prelude.{◌≡◌, ℕ, ◌&&◌, ◌<◌, ◌+◌, ◌-◌, ◌^◌, true, false, Bool, List, [], ◌++◌, IfNone, IfOk, IfSome, OnErr, length, slice_index};
+ghost use Rattle.std.specs.Option.{option_map_or};
 ghost use Rattle.btor2.specs.declared.item.Item.{Item};
 ghost use Rattle.btor2.specs.Items.{is_state, is_bad};
 ghost use Rattle.btor2.specs.Lists.{places, is_free_at, first_init_without_next};
 ghost use Rattle.btor2.specs.Trace.{Frame};
 ghost use Rattle.runs.specs.Refusal.{AnswersNew};
-ghost use Rattle.witness.specs.Texts.{has_free, shape_of};
-ghost use Rattle.witness.specs.Admits.{Read, nothing_read, opens_states, names_free, cut_at_space};
+ghost use Rattle.witness.specs.Texts.{has_free, shape_of, is_free_index};
+ghost use Rattle.witness.specs.Admits.{Read, nothing_read, opens_states, cut_at_space};
 ghost use Rattle.base.specs.Decimals.{number_of};
 ghost use Rattle.btor2.specs.Reachability.{nodes_of};
 ghost use Rattle.witness.specs.Fits.{first_unreached, NoneIsSet, RisesAmong, AreClaimed, is_set};
@@ -154,7 +155,7 @@ impl<'a> WordReader<'a> {
     /// Whether an assignment may stand in a part of states: any in the first frame, and behind it one of a free state.
     fn may_assign(&self, line: &[u8]) -> bool
         ensures first { self.now.play.frames ≡ 0 → result ≡ true }
-        ensures later { 0 < self.now.play.frames → result ≡ names_free (shape_of self.now.play.items) (number_of (cut_at_space line.now).0) }
+        ensures later { 0 < self.now.play.frames → result ≡ option_map_or (is_free_index (shape_of self.now.play.items)) (number_of (cut_at_space line.now).0) false }
     {
         let model = self.play.model();
         if self.play.frames() == 0 {

@@ -5,7 +5,7 @@ use Rattle.std.specs.Fmt.{digits}
 use Rattle.base.specs.Lines.{IsLine}
 use Rattle.base.specs.Decimals.{is_decimal, capped_value, number_of}
 use Rattle.btor2.specs.Worked.{follower}
-use Rattle.witness.specs.Texts.{Shape, shape_of, is_free_index, Assignment, Parts, is_comment, IsAssignment, IsPart, IsLaterFrame}
+use Rattle.witness.specs.Texts.{Shape, shape_of, is_free_index, Assignment, Parts, is_comment, IsAssignment, IsPart, AreParts, IsFreePart}
 use Rattle.witness.specs.Readings.{next_line, reading}
 use Rattle.witness.specs.Admits.{AtEnd, Read, claims_at, value_of, assignment_at, state_assignment_at, admit}
 use Rattle.witness.specs.Worked.{given_zero, follows}
@@ -34,7 +34,7 @@ returns c =
           let first : IsPart (1 ∷ 1 ∷ []) (one 0 0 ∷ []) =
           record { each = All-from_recursion (IsAssignment (1 ∷ 1 ∷ [])) (one 0 0 ∷ []) (record { index = lit< tt; word = lit< tt; symbol = tt }, tt); distinct = refl } in
           let second : Parts = record { states = Some (one 0 0 ∷ []); inputs = one 0 0 ∷ [] } in
-          let later : IsLaterFrame shape second =
+          let later : AreParts shape (IsFreePart shape) second =
           record {
             states = record { some = refl; part = first; free = All-from_recursion (λ (a : Assignment). is_free_index shape a.index ≡ true) (one 0 0 ∷ []) (refl, tt) };
             inputs = inputs;
@@ -49,7 +49,7 @@ returns c =
                   some_claim = λ e. cc;
                   claims = All-from_recursion (λ i. i < 1) (0 ∷ []) (lit< tt, tt);
                   distinct = refl;
-                  frames = (record { states = both; inputs = inputs }, All-from_recursion (IsLaterFrame shape) (second ∷ []) (later, tt));
+                  frames = (record { states = both; inputs = inputs }, All-from_recursion (AreParts shape (IsFreePart shape)) (second ∷ []) (later, tt));
                 };
             few = lit≤ tt;
           };

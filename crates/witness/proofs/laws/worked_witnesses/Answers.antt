@@ -2,7 +2,7 @@ use Rattle.std.proofs.Common.{[], ◌∷◌, Some, None, codes, refl, ◌≡◌,
 use Rattle.std.proofs.Math.Dec.{lit<, lit≤}
 use Rattle.std.proofs.lemmas.List.Elements.{All-from_recursion, All-nil}
 use Rattle.base.specs.Lines.{IsLine}
-use Rattle.witness.specs.Texts.{IsAssignment, IsLaterFrame, shape_of, is_comment}
+use Rattle.witness.specs.Texts.{IsAssignment, shape_of, is_comment, AreParts, IsFreePart}
 use Rattle.btor2.specs.Worked.{toggler_model}
 use Rattle.std.specs.Fmt.{digits}
 use Rattle.btor2.specs.Check.{refusal, id_is_out_of_range, id_is_taken, sort_is_missing, operand_is_missing, state_is_none, width_is_out_of_range, slice_is_out_of_range, widths_differ, constant_does_not_fit, init_is_not_constant, is_second_init, is_second_next, justice_is_empty}
@@ -36,7 +36,7 @@ returns c =
                       };
                   inputs = record { each = All-nil (IsAssignment []); distinct = refl };
                 },
-                All-from_recursion (IsLaterFrame (shape_of toggler_model)) (given_zero ∷ []) (record { states = tt; inputs = record { each = All-nil (IsAssignment []); distinct = refl } }, tt),
+                All-from_recursion (AreParts (shape_of toggler_model) (IsFreePart (shape_of toggler_model))) (given_zero ∷ []) (record { states = tt; inputs = record { each = All-nil (IsAssignment []); distinct = refl } }, tt),
               );
             };
         few = lit≤ tt;

@@ -1,8 +1,8 @@
 use Rattle.std.proofs.Common.{ap, sym, ◌∙◌}
 use Rattle.base.specs.Decimals.{number_of}
-use Rattle.witness.specs.Admits.{Cut}
 use Rattle.witness.proofs.WordFieldLemmas.{cut_alone, cut_once}
 use Rattle.witness.proofs.word_fields.index_of.Goals as goal
+use Rattle.witness.proofs.StepWords.{Cut}
 
 pub returns-in-None : goal.returns-in-None
 returns-in-None c = c.decimal.ensures ∙ ap (λ (x : Cut). number_of x.0) (sym (cut_alone c.args.line.now c.in-None.ensures))

@@ -1,6 +1,6 @@
 use Rattle.std.proofs.Common.{ℕ, sym, ap, subst}
-use Rattle.witness.specs.Admits.{Cut}
 use Rattle.witness.specs.WordValues.{IsAsValueRead, word_behind}
+use Rattle.witness.proofs.StepWords.{Cut}
 use Rattle.witness.proofs.WordFieldLemmas.{cut_alone, cut_once}
 use Rattle.witness.proofs.word_fields.word_of.Goals as goal
 

@@ -5,8 +5,9 @@ use Rattle.btor2.specs.Items.{is_state}
 use Rattle.btor2.specs.Lists.{places}
 use Rattle.btor2.specs.declared.item.Item.{Item}
 use Rattle.witness.specs.Texts.{shape_of}
-use Rattle.witness.specs.Admits.{cut_at_space, names_free}
+use Rattle.witness.specs.Admits.{cut_at_space}
 use Rattle.witness.specs.WordStands.{WordReader}
+use Rattle.witness.proofs.StepWords.{names_free}
 use Rattle.witness.proofs.WordReaderLemmas.{free_index, no_free_index}
 use Rattle.witness.proofs.word_reader.WordReader.may_assign.Goals as goal
 
