@@ -160,6 +160,20 @@ uint32_t hwtool_check_proof_aig(const uint8_t *circuit, size_t circuit_length, s
                                 size_t invariant_length, const uint8_t *proof, size_t proof_length,
                                 struct hwtool_verdict *verdict, struct hwtool_refusal *refusal);
 
+/* Writes in DIMACS what a witness circuit, in AIGER of either form, owes for the bad property at position `bad` of a BTOR2 model,
+ * or with `aiger` of an AIGER circuit: one of its circuit, or with `over_form` of its engine form with this property alone.
+ * Answers DONE and TOO_SMALL with `needed`, TEXT_REFUSED, MODEL_REFUSED, SECOND_REFUSED, NO_MEMORY. */
+uint32_t hwtool_obligation_circuit(const uint8_t *first, size_t first_length, bool aiger, bool over_form, size_t bad,
+                                   const uint8_t *witness, size_t witness_length, uint8_t *buffer, size_t buffer_length,
+                                   size_t *needed, struct hwtool_refusal *refusal);
+
+/* Judges a proof in DRAT of what that witness circuit owes. With a verdict of kind 0 the bad property rises in no frame up to
+ * which the constraints hold, from any initial state under every input sequence. Answers DONE with `verdict`, TEXT_REFUSED,
+ * MODEL_REFUSED, SECOND_REFUSED, NO_MEMORY. */
+uint32_t hwtool_check_proof_circuit(const uint8_t *first, size_t first_length, bool aiger, bool over_form, size_t bad,
+                                    const uint8_t *witness, size_t witness_length, const uint8_t *proof, size_t proof_length,
+                                    struct hwtool_verdict *verdict, struct hwtool_refusal *refusal);
+
 /* The version, which is that of the program, as HWTOOL_VERSION has it for this header; not ended by a zero byte. Answers DONE and
  * TOO_SMALL with `needed`. */
 uint32_t hwtool_version(uint8_t *buffer, size_t buffer_length, size_t *needed);

@@ -101,7 +101,8 @@ def called(call, given, verdict, text, circuit, file, invariant=None, bad=None):
         about = invariant if refusal.number == 196 else file
         return 2, b"", f"{about}: {place_of(status, refusal, circuit)}{numbered(refusal.number)}\n".encode()
     if status == 5:
-        return 2, b"", f"{invariant}: line {refusal.place}: {numbered(refusal.number)}\n".encode()
+        place = "" if 210 <= refusal.number < 217 else f"{'byte' if refusal.number < 160 else 'line'} {refusal.place}: "
+        return 2, b"", f"{invariant}: {place}{numbered(refusal.number)}\n".encode()
     assert status == 0, f"status {status}"
     told = b"" if not verdict else (judgement(found) if bad is None else proof_judgement(found, bad)).encode()
     code = 0 if not verdict or found.kind == 0 else 1
@@ -120,7 +121,7 @@ def cost(first, file):
 FLAGS = {
     "check-btor": ((), 2), "check-aig": ((), 2), "lower": (("--ascii", "--binary"), 1), "aig-convert": (("--ascii", "--binary"), 1),
     "lift": (("--engine", "--abc", "--names"), 2), "restore": (("--abc",), 2), "wave": (("--all",), 2), "cost": ((), 1),
-    "obligation": (("--aiger",), 2), "check-proof": (("--aiger",), 3),
+    "obligation": (("--aiger", "--circuit", "--engine"), 2), "check-proof": (("--aiger", "--circuit", "--engine"), 3),
 }  # fmt: skip
 
 
@@ -149,6 +150,7 @@ def answer(command, flags, bad, names, texts):
     file, circuit = names[0], command in ("check-aig", "aig-convert", "restore") or "--aiger" in flags
     binary, by_name = ctypes.c_bool("--binary" in flags), ctypes.c_bool("--names" in flags)
     # without a choice the only one is meant
+    over = ctypes.c_bool("--aiger" in flags), ctypes.c_bool("--engine" in flags)
     position, choice = size(bad or 0), (ctypes.c_bool(bad is not None), size(bad or 0))
     if command == "check-btor":
         return called(library.hwtool_check_btor, (*first, *second), True, False, circuit, file)
@@ -172,6 +174,11 @@ def answer(command, flags, bad, names, texts):
         title = f"{names[0]} {names[1]}".encode()
         every = ctypes.c_bool("--all" in flags)
         return called(library.hwtool_wave, (*first, every, *of(title), *second), True, True, circuit, file)
+    if command == "obligation" and "--circuit" in flags:
+        return called(library.hwtool_obligation_circuit, (*first, *over, position, *second), False, True, circuit, file, names[1])
+    if command == "check-proof" and "--circuit" in flags:
+        given = (*first, *over, position, *second, *third)
+        return called(library.hwtool_check_proof_circuit, given, True, False, circuit, file, names[1], bad or 0)
     if command == "obligation":
         call = library.hwtool_obligation_aig if circuit else library.hwtool_obligation
         return called(call, (*first, position, *second), False, True, circuit, file, names[1])

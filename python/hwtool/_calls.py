@@ -5,7 +5,7 @@ from __future__ import annotations
 import ctypes
 import operator
 import os
-from typing import List, NoReturn, Optional, SupportsIndex, Tuple, Union
+from typing import List, NoReturn, Optional, Sequence, SupportsIndex, Tuple, Union
 
 from ._answers import Cost, Dump, Kind, Lifted, ProofKind, ProofVerdict, Restored, Verdict
 from ._library import DONE, MODEL_REFUSED, NO_MEMORY, SECOND_REFUSED, TEXT_REFUSED, RawRefusal, RawVerdict, call, library_version, written
@@ -16,6 +16,9 @@ Text = Union[bytes, bytearray, memoryview, str, "os.PathLike[str]", "os.PathLike
 
 # The refusal of an obligation that is too big, which is told of the invariant as a whole.
 _TOO_MANY_CUBES = 196
+
+# The refusals of a witness circuit as a whole.
+_NO_TEST = range(210, 217)
 
 
 class _Given:
@@ -59,17 +62,19 @@ def _position(bad: SupportsIndex) -> int:
     return position
 
 
-def _refuse(status: int, raw: RawRefusal, kind: str, first: _Given, invariant: Optional[_Given] = None) -> NoReturn:
+def _refuse(status: int, raw: RawRefusal, kind: str, first: _Given, second: Optional[_Given] = None, second_kind: str = "invariant") -> NoReturn:
     """Tells why a call is not done."""
     if status == NO_MEMORY:
         raise MemoryError("hwtool: no memory")
     number, place = raw.number, raw.place
     if status == TEXT_REFUSED:
         raise Refused(number, name(number), kind, "byte" if kind == "circuit" else "line", place, first.file)
-    if invariant is not None and status == SECOND_REFUSED:
-        raise Refused(number, name(number), "invariant", "line", place, invariant.file)
-    if invariant is not None and number == _TOO_MANY_CUBES:
-        raise Refused(number, name(number), "invariant", file=invariant.file)
+    if second is not None and status == SECOND_REFUSED and second_kind == "invariant":
+        raise Refused(number, name(number), second_kind, "line", place, second.file)
+    if second is not None and status == SECOND_REFUSED:
+        raise Refused(number, name(number), second_kind, None if number in _NO_TEST else "byte", None if number in _NO_TEST else place, second.file)
+    if second is not None and number == _TOO_MANY_CUBES:
+        raise Refused(number, name(number), "invariant", file=second.file)
     if status == MODEL_REFUSED:
         raise Refused(number, name(number), kind, "item" if place else None, place or None, first.file)
     raise RuntimeError(f"hwtool: the library answered the status {status}")
@@ -235,12 +240,13 @@ def wave(model: Text, witness: Text, *, all: bool = False, title: bytes = b"") -
     return Dump(*_with_verdict("hwtool_wave", given, "model", first, second, False))
 
 
-def _owed(call_name: str, kind: str, text: Text, bad: SupportsIndex, invariant: Text) -> bytes:
-    """The formula that an invariant owes."""
-    first, second = _Given(text), _Given(invariant)
-    status, refusal, formula = written(call_name, [*first.words, _position(bad), *second.words], first.room + second.room)
+def _owed(call_name: str, kind: str, text: Text, bad: SupportsIndex, certificate: Text, over: Sequence[bool] = (), of: str = "invariant") -> bytes:
+    """The formula that a certificate owes, of a kind that these flags choose."""
+    first, second = _Given(text), _Given(certificate)
+    given = [*first.words, *over, _position(bad), *second.words]
+    status, refusal, formula = written(call_name, given, first.room + second.room)
     if status != DONE:
-        _refuse(status, refusal, kind, first, second)
+        _refuse(status, refusal, kind, first, second, of)
     return formula
 
 
@@ -260,13 +266,15 @@ def obligation_aig(circuit: Text, bad: SupportsIndex, invariant: Text) -> bytes:
     return _owed("hwtool_obligation_aig", "circuit", circuit, bad, invariant)
 
 
-def _certified(call_name: str, kind: str, text: Text, bad: SupportsIndex, invariant: Text, proof: Text) -> ProofVerdict:
-    """Judges a proof of what an invariant owes."""
-    first, second, third, position = _Given(text), _Given(invariant), _Given(proof), _position(bad)
+def _certified(
+    call_name: str, kind: str, text: Text, bad: SupportsIndex, certificate: Text, proof: Text, over: Sequence[bool] = (), of: str = "invariant"
+) -> ProofVerdict:
+    """Judges a proof of what a certificate owes, of a kind that these flags choose."""
+    first, second, third, position = _Given(text), _Given(certificate), _Given(proof), _position(bad)
     raw = RawVerdict()
-    status, refusal = call(call_name, [*first.words, position, *second.words, *third.words], ctypes.byref(raw))
+    status, refusal = call(call_name, [*first.words, *over, position, *second.words, *third.words], ctypes.byref(raw))
     if status != DONE:
-        _refuse(status, refusal, kind, first, second)
+        _refuse(status, refusal, kind, first, second, of)
     found = ProofKind(raw.kind)
     if found is ProofKind.MALFORMED:
         return ProofVerdict(found, position, raw.first, raw.why, name(raw.why))
@@ -274,7 +282,7 @@ def _certified(call_name: str, kind: str, text: Text, bad: SupportsIndex, invari
 
 
 def check_proof(model: Text, bad: SupportsIndex, invariant: Text, proof: Text) -> ProofVerdict:
-    """Judges a proof, in ascii DRAT, of what `obligation` writes. Where it holds, the bad property rises in no frame up to which
+    """Judges a proof, in DRAT, of what `obligation` writes. Where it holds, the bad property rises in no frame up to which
     the constraints hold, from any initial state under every input sequence; neither engine nor solver is trusted.
 
     Raises Refused as `obligation` does; a proof that is none is judged as malformed.
@@ -286,6 +294,35 @@ def check_proof_aig(circuit: Text, bad: SupportsIndex, invariant: Text, proof: T
     """The same of what `obligation_aig` writes, for an AIGER circuit of either form: from any initial bits that agree with its
     resets. Raises Refused as `obligation_aig` does."""
     return _certified("hwtool_check_proof_aig", "circuit", circuit, bad, invariant, proof)
+
+
+def _first_kind(aiger: bool) -> str:
+    """What the first text of a call on witness circuits is."""
+    return "circuit" if aiger else "model"
+
+
+def obligation_circuit(first: Text, bad: SupportsIndex, witness: Text, *, aiger: bool = False, over_form: bool = False) -> bytes:
+    """The formula, in DIMACS CNF, that a witness circuit owes for the bad property at position `bad`, from 0, of a BTOR2 model, or
+    with `aiger` of an AIGER circuit: where nothing satisfies it, the property rises in no frame up to which the constraints hold.
+
+    The witness circuit is an AIGER circuit of either form, of the model's circuit or the circuit, or with `over_form` of its
+    engine form with that property alone. Raises Refused where the first text is none, a model is not lowered, there is no such
+    property or engine form, or the witness circuit is none.
+    """
+    over = [bool(aiger), bool(over_form)]
+    return _owed("hwtool_obligation_circuit", _first_kind(aiger), first, bad, witness, over, "witness circuit")
+
+
+def check_proof_circuit(
+    first: Text, bad: SupportsIndex, witness: Text, proof: Text, *, aiger: bool = False, over_form: bool = False
+) -> ProofVerdict:
+    """Judges a proof, in DRAT, of what `obligation_circuit` writes. Where it holds, the bad property rises in no frame up to which
+    the constraints hold, from any initial state under every input sequence; neither engine nor solver is trusted.
+
+    Raises Refused as `obligation_circuit` does; a proof that is none is judged as malformed.
+    """
+    over = [bool(aiger), bool(over_form)]
+    return _certified("hwtool_check_proof_circuit", _first_kind(aiger), first, bad, witness, proof, over, "witness circuit")
 
 
 def version() -> str:

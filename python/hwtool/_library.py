@@ -55,6 +55,8 @@ _CALLS = {
     "hwtool_check_proof": [*_TEXT, ctypes.c_size_t, *_TEXT, *_TEXT, *_VERDICT, *_REFUSAL],
     "hwtool_obligation_aig": [*_TEXT, ctypes.c_size_t, *_TEXT, *_BUFFER, *_REFUSAL],
     "hwtool_check_proof_aig": [*_TEXT, ctypes.c_size_t, *_TEXT, *_TEXT, *_VERDICT, *_REFUSAL],
+    "hwtool_obligation_circuit": [*_TEXT, ctypes.c_bool, ctypes.c_bool, ctypes.c_size_t, *_TEXT, *_BUFFER, *_REFUSAL],
+    "hwtool_check_proof_circuit": [*_TEXT, ctypes.c_bool, ctypes.c_bool, ctypes.c_size_t, *_TEXT, *_TEXT, *_VERDICT, *_REFUSAL],
     "hwtool_name": [ctypes.c_uint32, *_BUFFER],
     "hwtool_version": [*_BUFFER],
 }

@@ -70,9 +70,9 @@ class Refused(Exception):
     """A text, or what it says, is not taken. `str` of it is the line that the program prints.
 
     - `number` and `name`: what is wrong with it, as docs/REFUSALS.md of the repository tells;
-    - `kind`: which text it is, `model`, `circuit` or `invariant`;
+    - `kind`: which text it is, `model`, `circuit`, `invariant` or `witness circuit`;
     - `unit` and `place`: where it is. `line`, from 1, of the text of a model or an invariant; `byte`, from 0, of that of a
-      circuit; `item`, the id of a line of a model that is well-formed and not taken by this call; both None where it is about
+      circuit or a witness circuit; `item`, the id of a line of a model that is well-formed and not taken by this call; both None where it is about
       the whole;
     - `file`: the path that the text was read from, or None;
     - `remedy`: what to do about it. Where it depends, a line for each case.

@@ -919,7 +919,7 @@ CASES: Dict[int, Tuple[Tuple[str, str, str, str], ...]] = {
             'Formulas and proofs',
             'BadWord',
             'a word is no literal, no `0` that ends a step, and no `d` that begins one',
-            'let the solver write its proof in ascii, as CaDiCaL does with `--no-binary`',
+            'see that the file is a proof in DRAT, whole, as text or in the binary form',
         ),
     ),
     162: (
@@ -1152,6 +1152,70 @@ CASES: Dict[int, Tuple[Tuple[str, str, str, str], ...]] = {
             'Write',
             'the sink failed; a beginning of the tidied text was written',
             'see that there is room and that the output is open',
+        ),
+    ),
+    210: (
+        (
+            'Witness circuits',
+            'Justice',
+            'the witness circuit has a justice property',
+            'take the justice properties out: a witness circuit is about its one property alone',
+        ),
+    ),
+    211: (
+        (
+            'Witness circuits',
+            'Fair',
+            'the witness circuit has a fairness constraint',
+            'take the fairness constraints out: they matter to justice properties alone',
+        ),
+    ),
+    212: (
+        (
+            'Witness circuits',
+            'NoProperty',
+            'the witness circuit has neither a bad property nor an output',
+            'see that the file is whole, and that it is a witness circuit',
+        ),
+    ),
+    213: (
+        (
+            'Witness circuits',
+            'SeveralProperties',
+            'the witness circuit has several bad properties, or none and several outputs',
+            'write it with one bad property, which is 1 where one of them is',
+        ),
+    ),
+    214: (
+        (
+            'Witness circuits',
+            'NoSuchLiteral',
+            'the name `= N` of an input or latch of the witness circuit says a literal that the circuit does not have',
+            'see that the witness circuit is of this circuit, with the numbers of its literals',
+        ),
+    ),
+    215: (
+        (
+            'Witness circuits',
+            'NoSuchBad',
+            'the circuit has no bad property of this number',
+            'count bad properties from 0; the last line of `hwtool show` tells how many a model has, B in the header how many a circuit',
+        ),
+    ),
+    216: (
+        (
+            'Witness circuits',
+            'TooBig',
+            'the inputs of the test and the bound on its gates sum to more than 2^30',
+            'make a circuit for each bad property, of what it and the constraints depend on, of both circuits',
+        ),
+    ),
+    217: (
+        (
+            'Witness circuits',
+            'NoMemory',
+            'a growth was refused while a test was made',
+            'give the program more memory',
         ),
     ),
 }

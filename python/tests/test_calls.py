@@ -238,7 +238,7 @@ class Certificates(unittest.TestCase):
         verdict = hwtool.check_proof(KEPT, 0, NO_CUBE, b"2 0\n+2 0\n")
         self.assertEqual(verdict, ProofVerdict(ProofKind.MALFORMED, 0, line=2, why=161, why_name="BadWord"))
         self.assertEqual((str(verdict), verdict.holds), ("malformed line 2: 161 BadWord", False))
-        self.assertIn("--no-binary", verdict.remedy)
+        self.assertIn("DRAT", verdict.remedy)
 
 
 class Refusals(unittest.TestCase):

@@ -80,6 +80,13 @@ static void check_proof_aig(struct answer *a) {
     a->status = hwtool_check_proof_aig(OF(CIRCUIT), 0, LITERAL(NEVER_ONE), LITERAL("2 0\n"), &a->verdict, &a->refusal);
 }
 
+static void obligation_circuit(struct answer *a) {
+    a->status = hwtool_obligation_circuit(OF(CIRCUIT), true, false, 0, OF(CIRCUIT), INTO);
+}
+static void check_proof_circuit(struct answer *a) {
+    a->status = hwtool_check_proof_circuit(OF(CIRCUIT), true, false, 0, OF(CIRCUIT), LITERAL("2 0\n"), &a->verdict, &a->refusal);
+}
+
 static const struct {
     const char *name;
     void (*call)(struct answer *);
@@ -88,7 +95,8 @@ static const struct {
     {"convert", convert}, {"engine_form", engine_form}, {"lift", lift}, {"wave", wave},
     {"obligation", obligation}, {"check_proof", check_proof}, {"restore", restore}, {"restore_abc", restore_abc},
     {"lift_engine", lift_engine}, {"lift_engine_abc", lift_engine_abc}, {"obligation_aig", obligation_aig},
-    {"check_proof_aig", check_proof_aig},
+    {"check_proof_aig", check_proof_aig}, {"obligation_circuit", obligation_circuit},
+    {"check_proof_circuit", check_proof_circuit},
 };
 
 static struct answer ample, before, now;

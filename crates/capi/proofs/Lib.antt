@@ -1,3 +1,4 @@
+pub mod GuardedLemmas
 pub mod HoldsLemmas
 pub mod LiftedLemmas
 pub mod NameLemmas

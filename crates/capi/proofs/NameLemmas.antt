@@ -53,6 +53,7 @@ of_none number parts each none = record {
   formulas = λ it. not_of number parts none _ _ (each.formulas it);
   claims = λ it. not_of number parts none _ _ (each.claims it);
   tidying = λ it. not_of number parts none _ _ (each.tidying it);
+  tests = λ it. not_of number parts none _ _ (each.tests it);
   certificates = λ it. not_of number parts none _ _ (each.certificates it);
 }
 

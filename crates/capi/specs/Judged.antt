@@ -1,5 +1,5 @@
 -- What the exported calls answer, said of the bytes that they are given.
-use Rattle.std.specs.Prelude.{◌≡◌, ℕ, List, None, Some}
+use Rattle.std.specs.Prelude.{◌≡◌, ◌⊎◌, ℕ, List, None, Some}
 use Rattle.btor2.specs.declared.item.Item.{Item}
 use Rattle.btor2.specs.Check.{IsWellFormed}
 use Rattle.btor2.specs.Lists.{first_init_without_next}
@@ -9,6 +9,7 @@ use Rattle.btor2text.specs.Spelling.{StandsFor}
 use Rattle.btor2text.specs.Whys.{printed_number}
 use Rattle.aiger.specs.Circuit.{Circuit, IsCircuit}
 use Rattle.aigertext.specs.declared.fault.ReadFault.{ReadFault as CircuitFault}
+use Rattle.aigertext.specs.declared.fault.Why.TheVariants as circuit_why
 use Rattle.aigertext.specs.AsciiReading.{IsAsciiFaultOf as IsCircuitFaultOf}
 use Rattle.aigertext.specs.Spelling.{SpellsCircuit}
 use Rattle.aigertext.specs.Whys.{circuit_why_number}
@@ -66,6 +67,10 @@ pub record CallTellsNoCircuit (text : List ℕ) (refusal : Refusal) : Type 0 whe
   pub fault : CircuitFault
   pub first : IsCircuitFaultOf text fault
   pub told : refusal ≡ record { number = circuit_why_number fault.why; place = fault.place }
+
+-- why a text is not read as a circuit: its first fault, a device that failed, or want of memory
+abbrev pub IsUnreadCircuit : List ℕ → CircuitFault → Type 0
+IsUnreadCircuit text e = (e.why ≡ circuit_why.Device) ⊎ ((e.why ≡ circuit_why.NoMemory) ⊎ IsCircuitFaultOf text e)
 
 -- a text is of a model over which nothing is judged, and this is the number of that and the id of its first state with an init and no next
 pub record IsUnjudged (text : List ℕ) (refusal : Refusal) : Type 0 where

@@ -1,4 +1,5 @@
 -- What the library for C programs answers.
+pub mod Guarded
 pub mod Judged
 pub mod Written
 pub mod Lifted

@@ -13,6 +13,8 @@ use Rattle.btor2.specs.Faults.{symbol_fault_name, symbol_fault_number}
 use Rattle.btor2.specs.declared.symbol.SymbolFault.{SymbolFault}
 use Rattle.btor2text.specs.Whys.{line_why_name, printed_number}
 use Rattle.btor2text.specs.declared.fault.Why.{Why}
+use Rattle.certificates.specs.Faults.{test_name, test_number}
+use Rattle.certificates.specs.declared.fault.TestFault.{TestFault}
 use Rattle.clauses.specs.Faults.{clause_name, clause_number, formula_name, formula_number}
 use Rattle.clauses.specs.Printed.{proof_why_name as proof_name, proof_why_number as proof_number}
 use Rattle.clauses.specs.declared.fault.ClauseFault.{ClauseFault}
@@ -80,6 +82,7 @@ pub record HasEach (parts : List Part) : Type 0 where
   pub formulas : (fault : FormulaFault) → Explains parts (formula_number fault) (formula_name fault)
   pub claims : (fault : ClaimFault) → Explains parts (claim_number fault) (claim_name fault)
   pub tidying : (fault : TidyFault) → Explains parts (tidy_number fault) (tidy_name fault)
+  pub tests : (fault : TestFault) → Explains parts (test_number fault) (test_name fault)
   pub certificates : (fault : CertificateFault) → Explains parts (certificate_number fault) (certificate_name fault)
 
 -- some bytes are the name that the first row with a number has in a table of each refusal of each library
@@ -110,4 +113,5 @@ pub record IsOfNone (number : ℕ) : Type 0 where
   pub formulas : (fault : FormulaFault) → formula_number fault ≢ number
   pub claims : (fault : ClaimFault) → claim_number fault ≢ number
   pub tidying : (fault : TidyFault) → tidy_number fault ≢ number
+  pub tests : (fault : TestFault) → test_number fault ≢ number
   pub certificates : (fault : CertificateFault) → certificate_number fault ≢ number

@@ -7,7 +7,7 @@ ghost use Rattle.capi.specs.Written.{Fills, Needs};
 
 use crate::answers::{DONE, Refusal, Stop, Verdict, tell};
 use crate::buffers::hand_over;
-use crate::certificates::{certify_over, owe_over};
+use crate::certifying::{certify_over, owe_over};
 use crate::reading::read_circuit;
 use base::{Sink, VecSink};
 use std::alloc::Global;

@@ -4,7 +4,7 @@
 
 mod answers;
 mod buffers;
-mod certificates;
+mod certifying;
 mod circuit_certificates;
 mod engine_lifting;
 mod engines;
@@ -14,5 +14,6 @@ mod lowering;
 mod names;
 mod reading;
 mod restoring;
+mod witness_circuits;
 
 pub use answers::{Refusal, Verdict};

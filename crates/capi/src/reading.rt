@@ -1,12 +1,14 @@
 //! Reading texts in memory.
-ghost use Rattle.std.specs.Prelude.{IfOk, IfErr};
+ghost use Rattle.std.specs.Prelude.{List, ℕ, IfOk, IfErr};
 ghost use Rattle.btor2.specs.Check.{IsWellFormed};
 ghost use Rattle.btor2text.specs.Spelling.{StandsFor};
+ghost use Rattle.aigertext.specs.Numbering.{IsNumberingOfText};
 ghost use Rattle.aigertext.specs.Spelling.{SpellsCircuit};
-ghost use Rattle.capi.specs.Judged.{CallTellsNoCircuit, CallTellsNoModel, IsStop};
+ghost use Rattle.capi.specs.Judged.{CallTellsNoCircuit, CallTellsNoModel, IsStop, IsUnreadCircuit};
 
 use crate::answers::{Refusal, Stop};
-use aiger::Circuit;
+use aiger::{Circuit, Numbered};
+use aigertext::ReadFault;
 use btor2::Model;
 use std::alloc::Global;
 
@@ -28,6 +30,19 @@ pub(crate) fn read_model(alloc: Global, text: &[u8]) -> Result<Model, Stop>
     }
 }
 
+/// Why a call stops where the text of a circuit is not read.
+fn circuit_stop(fault: ReadFault) -> Stop
+    ensures { (text : List ℕ) → IsUnreadCircuit text fault → IsStop (CallTellsNoCircuit text) (λ _. ⊥) result }
+{
+    match fault.why {
+        aigertext::Why::Device | aigertext::Why::NoMemory => Stop::NoMemory,
+        why => Stop::Text(Refusal {
+            number: why.number(),
+            place: fault.place,
+        }),
+    }
+}
+
 /// Reads the text of a circuit, of either form.
 pub(crate) fn read_circuit(alloc: Global, text: &[u8]) -> Result<Circuit, Stop>
     ensures read { IfOk result (λ circuit. SpellsCircuit text.now circuit) }
@@ -36,12 +51,19 @@ pub(crate) fn read_circuit(alloc: Global, text: &[u8]) -> Result<Circuit, Stop>
     let mut source = text;
     match aigertext::read(alloc, &mut source) {
         Ok(circuit) => Ok(circuit),
-        Err(fault) => match fault.why {
-            aigertext::Why::Device | aigertext::Why::NoMemory => Err(Stop::NoMemory),
-            why => Err(Stop::Text(Refusal {
-                number: why.number(),
-                place: fault.place,
-            })),
-        },
+        Err(fault) => Err(circuit_stop(fault)),
+    }
+}
+
+/// Reads the text of a circuit, of either form, with the numbering of the text.
+pub(crate) fn read_numbered(alloc: Global, text: &[u8]) -> Result<Numbered, Stop>
+    ensures read { IfOk result (λ numbered. SpellsCircuit text.now numbered.circuit) }
+    ensures numbering { IfOk result (λ numbered. IsNumberingOfText text.now numbered.circuit numbered.numbering) }
+    ensures refused { IfErr result (IsStop (CallTellsNoCircuit text.now) (λ _. ⊥)) }
+{
+    let mut source = text;
+    match aigertext::read_numbered(alloc, &mut source) {
+        Ok(numbered) => Ok(numbered),
+        Err(fault) => Err(circuit_stop(fault)),
     }
 }

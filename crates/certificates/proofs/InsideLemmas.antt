@@ -36,16 +36,16 @@ pub record AreShared (c : Circuit) (m : Mapping) : Type 0 where
   pub inputs : All (IsSharedIn (net c)) m.inputs
   pub latches : All (IsSharedIn (net c)) m.latches
 
-pub mapping_inside : (c w : Circuit) → are_inside c (said_by_names w) ≡ true → AreShared c (mapping_of c w)
-mapping_inside c w e = by (says_some (said_by_names w))
+pub mapping_inside : (n : Option (List ℕ)) (c w : Circuit) → are_inside c (said_by_names n w) ≡ true → AreShared c (mapping_of n c w)
+mapping_inside n c w e = by (says_some (said_by_names n w))
   where
     other : Mapping
     other = record { inputs = in_order 1 c.inputs w.inputs; latches = in_order (suc c.inputs) (length c.latches) (length w.latches) }
 
-    by : (b : Bool) → AreShared c (if b then said_by_names w else other)
+    by : (b : Bool) → AreShared c (if b then said_by_names n w else other)
     by true =
-        let both = and_parts (list_all (is_inside (variables (net c))) (said_by_names w).inputs) (list_all (is_inside (variables (net c))) (said_by_names w).latches) e in
-        record { inputs = all_inside (net c) (said_by_names w).inputs both.0; latches = all_inside (net c) (said_by_names w).latches both.1 }
+        let both = and_parts (list_all (is_inside (variables (net c))) (said_by_names n w).inputs) (list_all (is_inside (variables (net c))) (said_by_names n w).latches) e in
+        record { inputs = all_inside (net c) (said_by_names n w).inputs both.0; latches = all_inside (net c) (said_by_names n w).latches both.1 }
     by false =
         record {
           inputs = order_inside (net c) 1 c.inputs 0 w.inputs (omega arith);

@@ -1,5 +1,5 @@
 -- What is known where nothing speaks against a test.
-use Rattle.std.proofs.Common.{◌≡◌, ℕ, Bool, true, false, not, Option, None, Some, refl}
+use Rattle.std.proofs.Common.{◌≡◌, ℕ, Bool, true, false, not, List, Option, None, Some, refl}
 use Rattle.std.specs.Prelude.{if◌then◌else◌, nat_lt, ◌==◌, length}
 use Rattle.std.proofs.lemmas.Bool.{not-false}
 use Rattle.aiger.specs.Limits.{greatest_count}
@@ -21,8 +21,8 @@ fifth false false false false true rest h = absurd (cc)
 fifth false false false false false rest h = refl
 
 -- the names say literals of the circuit
-pub accepted_inside : (c : Circuit) (k : ℕ) (w : Circuit) → test_refusal c k w ≡ None → are_inside c (said_by_names w) ≡ true
-accepted_inside c k w h =
-    not-false (are_inside c (said_by_names w))
-    (fifth (nat_lt 0 (length w.justice)) (nat_lt 0 (length w.fair)) (length (property_candidates w) == 0) (nat_lt 1 (length (property_candidates w))) (not (are_inside c (said_by_names w)))
+pub accepted_inside : (n : Option (List ℕ)) (c : Circuit) (k : ℕ) (w : Circuit) → test_refusal n c k w ≡ None → are_inside c (said_by_names n w) ≡ true
+accepted_inside n c k w h =
+    not-false (are_inside c (said_by_names n w))
+    (fifth (nat_lt 0 (length w.justice)) (nat_lt 0 (length w.fair)) (length (property_candidates w) == 0) (nat_lt 1 (length (property_candidates w))) (not (are_inside c (said_by_names n w)))
     (if not (nat_lt k (length c.bads)) then Some fault.NoSuchBad else (if nat_lt greatest_count (test_bound c w) then Some fault.TooBig else None)) h)

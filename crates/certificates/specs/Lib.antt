@@ -3,6 +3,7 @@ pub mod Faults
 pub mod Guards
 pub mod Made
 pub mod Mapping
+pub mod Owing
 pub mod Parts
 pub mod Refusal
 pub mod Tests

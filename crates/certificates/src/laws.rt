@@ -1,15 +1,16 @@
 //! Laws of certificates and their tests, and worked rows: functions that do nothing, whose contracts are the laws.
-ghost use Rattle.std.specs.Prelude.{◌≡◌, ℕ, List, [], None, Some, codes};
+ghost use Rattle.std.specs.Prelude.{◌≡◌, ◌∷◌, ℕ, List, [], Option, None, Some, codes};
 ghost use Rattle.aiger.specs.Circuit.{Circuit, IsCircuit};
 ghost use Rattle.aiger.specs.Reachability.{CanRiseInCircuit};
 ghost use Rattle.aiger.specs.Worked.{toggler};
 ghost use Rattle.clauses.specs.declared.judgement.Judgement.TheVariants as judgement;
-ghost use Rattle.clauses.specs.Formula.{IsUnsatisfiable};
+ghost use Rattle.clauses.specs.Formula.{Formula, IsUnsatisfiable};
 ghost use Rattle.clauses.specs.Judgements.{JudgesProof};
 ghost use Rattle.invariants.specs.Obligation.{obligation};
 ghost use Rattle.certificates.specs.Mapping.{Mapping, IsMappingOf, shared_literal, mapping_of};
 ghost use Rattle.certificates.specs.Certificate.{IsCertificate};
 ghost use Rattle.certificates.specs.Guards.{Guards};
+ghost use Rattle.certificates.specs.Owing.{IsTestedFormula, IsTestedOverForm};
 ghost use Rattle.certificates.specs.Tests.{IsTestOf};
 ghost use Rattle.certificates.specs.Worked.{stays_off, watcher, output_watcher, named_watcher, shared_latch, own_latch, watched_latch, watched_nothing};
 
@@ -37,7 +38,7 @@ pub fn certified_property_never_rises()
 
 /// A law: what is shared speaks of the inputs and latches of the witness circuit.
 pub fn shared_is_a_mapping()
-    ensures { (c : Circuit) (w : Circuit) → IsMappingOf w (mapping_of c w) }
+    ensures { (n : Option (List ℕ)) (c : Circuit) (w : Circuit) → IsMappingOf w (mapping_of n c w) }
 {}
 
 /// A law: the formula of a test, which is the obligation of no cubes over it, is unsatisfiable exactly where the witness
@@ -57,6 +58,22 @@ pub fn proved_property_never_rises()
     unsatisfiable_where_it_guards();
     clauses::laws::derived_is_unsatisfiable();
     guarded_property_never_rises();
+}
+
+/// A law: where a text is judged as a proof over the formula that the text of a witness circuit owes, the bad property rises in
+/// no frame up to which the circuit's constraints hold, in no trace from initial bits that agree with its resets.
+pub fn owed_formula_proved_never_rises()
+    ensures { (n : Option (List ℕ)) (c : Circuit) (k : ℕ) (witness : Option (List ℕ)) (f : Formula) (text : List ℕ) (line : ℕ) → IsTestedFormula n c k witness f → JudgesProof f text (judgement.Derived line) → ¬ CanRiseInCircuit c k }
+{
+    proved_property_never_rises();
+}
+
+/// A law: the same of a witness circuit of the engine form with the bad property.
+pub fn owed_formula_over_form_proved_never_rises()
+    ensures { (c : Circuit) (k : ℕ) (witness : Option (List ℕ)) (f : Formula) (text : List ℕ) (line : ℕ) → IsTestedOverForm c k witness f → JudgesProof f text (judgement.Derived line) → ¬ CanRiseInCircuit c k }
+{
+    owed_formula_proved_never_rises();
+    engine::laws::bad_properties_rise_alike();
 }
 
 /// A law: each certificate of the competition owes an unsatisfiable formula.
@@ -93,13 +110,14 @@ pub fn worked_certificates()
 
 /// Worked rows: names and what they say, and what is shared by a name, in order, or where there is nothing to stand for.
 pub fn worked_names()
-    ensures shared { shared_literal (Some (codes "= 12")) ≡ Some 12 }
-    ensures zero { shared_literal (Some (codes "= 0")) ≡ Some 0 }
-    ensures padded { shared_literal (Some (codes "= 012")) ≡ None }
-    ensures bare { shared_literal (Some (codes "=")) ≡ None }
-    ensures other { shared_literal (Some (codes "count[3]")) ≡ None }
-    ensures unnamed { shared_literal None ≡ None }
-    ensures named { mapping_of stays_off named_watcher ≡ watched_latch }
-    ensures in_order { mapping_of stays_off stays_off ≡ shared_latch }
-    ensures none { mapping_of stays_off watcher ≡ watched_nothing }
+    ensures shared { shared_literal None (Some (codes "= 12")) ≡ Some 12 }
+    ensures zero { shared_literal None (Some (codes "= 0")) ≡ Some 0 }
+    ensures padded { shared_literal None (Some (codes "= 012")) ≡ None }
+    ensures bare { shared_literal None (Some (codes "=")) ≡ None }
+    ensures renumbered { shared_literal (Some (5 ∷ 3 ∷ [])) (Some (codes "= 7")) ≡ Some 5 }
+    ensures other { shared_literal None (Some (codes "count[3]")) ≡ None }
+    ensures unnamed { shared_literal None None ≡ None }
+    ensures named { mapping_of None stays_off named_watcher ≡ watched_latch }
+    ensures in_order { mapping_of None stays_off stays_off ≡ shared_latch }
+    ensures none { mapping_of None stays_off watcher ≡ watched_nothing }
 {}

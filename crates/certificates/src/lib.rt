@@ -8,8 +8,12 @@ mod fault;
 pub mod laws;
 mod making;
 mod mapping;
+mod owing;
 mod sizes;
 mod starts;
+mod witness_fault;
 
 pub use fault::TestFault;
 pub use making::test_circuit;
+pub use owing::{owed_formula, owed_formula_over_form};
+pub use witness_fault::WitnessFault;

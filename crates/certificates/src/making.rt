@@ -16,14 +16,19 @@ use crate::copies::{first_frames, next_frames, variable_literals};
 use crate::fault::TestFault;
 use crate::mapping::{Shared, are_inside, shared_of};
 use crate::sizes::{test_bound, test_inputs};
-use aiger::{Circuit, CircuitFault, GREATEST_COUNT, Lit};
+use aiger::{Circuit, CircuitFault, GREATEST_COUNT, Lit, Numbering};
 use gates::{GateFault, Gates, HashGates};
 use std::alloc::Global;
 
 /// Why a witness circuit has no test for a bad property, want of memory apart: the first refusal that applies. It takes no
 /// memory.
-fn why_no_test(circuit: &Circuit, bad: usize, witness: &Circuit) -> Option<TestFault>
-    ensures first { result ≡ test_refusal circuit.now bad witness.now }
+fn why_no_test(
+    numbering: &Numbering,
+    circuit: &Circuit,
+    bad: usize,
+    witness: &Circuit,
+) -> Option<TestFault>
+    ensures first { result ≡ test_refusal numbering.now circuit.now bad witness.now }
 {
     let properties = property_literals(witness);
     if witness.justice_count() > 0 {
@@ -34,7 +39,7 @@ fn why_no_test(circuit: &Circuit, bad: usize, witness: &Circuit) -> Option<TestF
         Some(TestFault::NoProperty)
     } else if properties.len() > 1 {
         Some(TestFault::SeveralProperties)
-    } else if !are_inside(circuit, witness) {
+    } else if !are_inside(numbering, circuit, witness) {
         Some(TestFault::NoSuchLiteral)
     } else if bad >= circuit.bads().len() {
         Some(TestFault::NoSuchBad)
@@ -158,6 +163,7 @@ fn with_bad(mut made: Circuit, lit: Lit) -> Result<Circuit, TestFault>
 /// The test of a witness circuit that nothing speaks against, over a maker that has made no gate yet.
 fn test_over(
     alloc: Global,
+    numbering: &Numbering,
     circuit: &Circuit,
     bad: usize,
     witness: &Circuit,
@@ -165,13 +171,13 @@ fn test_over(
     inputs: &[Lit],
     mut gates: HashGates,
 ) -> Result<Circuit, TestFault>
-    requires accepted { test_refusal circuit.now bad witness.now ≡ None }
+    requires accepted { test_refusal numbering.now circuit.now bad witness.now ≡ None }
     requires valid { IsCircuit circuit.now }
     requires witness { IsCircuit witness.now }
-    requires shared { mapping_in shared.now ≡ mapping_of circuit.now witness.now }
+    requires shared { mapping_in shared.now ≡ mapping_of numbering.now circuit.now witness.now }
     requires inputs { inputs.now ≡ map (λ k. 2 * k) (range_with_len 1 (test_inputs circuit.now witness.now)) }
     requires bare { gates ≡ bare_test circuit.now witness.now }
-    ensures ok { IfOk result (λ t. IsTestOf circuit.now bad witness.now (mapping_of circuit.now witness.now) t) }
+    ensures ok { IfOk result (λ t. IsTestOf circuit.now bad witness.now (mapping_of numbering.now circuit.now witness.now) t) }
     ensures memory { IfErr result (λ e. e ≡ TestFault.NoMemory) }
 {
     let parts = cut(circuit, witness, inputs);
@@ -185,16 +191,17 @@ fn test_over(
 /// The test of a witness circuit that nothing speaks against, where this is shared.
 fn test_with(
     alloc: Global,
+    numbering: &Numbering,
     circuit: &Circuit,
     bad: usize,
     witness: &Circuit,
     shared: &Shared,
 ) -> Result<Circuit, TestFault>
-    requires accepted { test_refusal circuit.now bad witness.now ≡ None }
+    requires accepted { test_refusal numbering.now circuit.now bad witness.now ≡ None }
     requires valid { IsCircuit circuit.now }
     requires witness { IsCircuit witness.now }
-    requires shared { mapping_in shared.now ≡ mapping_of circuit.now witness.now }
-    ensures ok { IfOk result (λ t. IsTestOf circuit.now bad witness.now (mapping_of circuit.now witness.now) t) }
+    requires shared { mapping_in shared.now ≡ mapping_of numbering.now circuit.now witness.now }
+    ensures ok { IfOk result (λ t. IsTestOf circuit.now bad witness.now (mapping_of numbering.now circuit.now witness.now) t) }
     ensures memory { IfErr result (λ e. e ≡ TestFault.NoMemory) }
 {
     let count = test_inputs(circuit, witness) as u32;
@@ -203,7 +210,9 @@ fn test_with(
         Err(_) => return Err(TestFault::NoMemory),
     };
     match HashGates::new(alloc, count, 0) {
-        Ok(gates) => test_over(alloc, circuit, bad, witness, shared, &inputs, gates),
+        Ok(gates) => test_over(
+            alloc, numbering, circuit, bad, witness, shared, &inputs, gates,
+        ),
         Err(GateFault::NoMemory) => Err(TestFault::NoMemory),
         Err(GateFault::TooBig) => unreachable!(),
     }
@@ -212,18 +221,19 @@ fn test_with(
 /// The test of a witness circuit that nothing speaks against.
 fn accepted_test(
     alloc: Global,
+    numbering: &Numbering,
     circuit: &Circuit,
     bad: usize,
     witness: &Circuit,
 ) -> Result<Circuit, TestFault>
-    requires { test_refusal circuit.now bad witness.now ≡ None }
-    ensures ok { IfOk result (λ t. IsTestOf circuit.now bad witness.now (mapping_of circuit.now witness.now) t) }
+    requires { test_refusal numbering.now circuit.now bad witness.now ≡ None }
+    ensures ok { IfOk result (λ t. IsTestOf circuit.now bad witness.now (mapping_of numbering.now circuit.now witness.now) t) }
     ensures memory { IfErr result (λ e. e ≡ TestFault.NoMemory) }
 {
     // what circuits keep
     let _ = (circuit.variables(), witness.variables());
-    let shared = shared_of(alloc, circuit, witness)?;
-    test_with(alloc, circuit, bad, witness, &shared)
+    let shared = shared_of(alloc, numbering, circuit, witness)?;
+    test_with(alloc, numbering, circuit, bad, witness, &shared)
 }
 
 /// The test of a witness circuit for the bad property of a circuit with a number, counted from 0: a circuit without latches,
@@ -231,7 +241,7 @@ fn accepted_test(
 /// never rises where a proof shows that the test's does not (`laws::proved_property_never_rises`).
 ///
 /// The property of a witness circuit is its one bad property, or where it has none its one output. An input or a latch of it
-/// that is named `= N` stands for the literal N of the circuit; where none is, the first inputs and latches stand for those
+/// that is named `= N` stands for the literal N of the circuit, by the numbering of its file; where none is, the first inputs and latches stand for those
 /// of the circuit, in order. All others are its own. The test's inputs are those of the circuit, its latches, its inputs in
 /// the next frame, then inputs, latches and inputs in the next frame of the witness circuit, of which nothing reads those
 /// that stand for something. A gate is made once where both circuits have it. The gates are at most those of both circuits
@@ -249,14 +259,15 @@ fn accepted_test(
 pub fn test_circuit(
     alloc: Global,
     circuit: &Circuit,
+    numbering: &Numbering,
     bad: usize,
     witness: &Circuit,
 ) -> Result<Circuit, TestFault>
-    ensures ok { IfOk result (λ t. IsTestOf circuit.now bad witness.now (mapping_of circuit.now witness.now) t) }
-    ensures answer { AnswersTest result (test_refusal circuit.now bad witness.now) }
+    ensures ok { IfOk result (λ t. IsTestOf circuit.now bad witness.now (mapping_of numbering.now circuit.now witness.now) t) }
+    ensures answer { AnswersTest result (test_refusal numbering.now circuit.now bad witness.now) }
 {
-    match why_no_test(circuit, bad, witness) {
+    match why_no_test(numbering, circuit, bad, witness) {
         Some(fault) => Err(fault),
-        None => accepted_test(alloc, circuit, bad, witness),
+        None => accepted_test(alloc, numbering, circuit, bad, witness),
     }
 }

@@ -5,12 +5,15 @@ ghost use Rattle.std.specs.Prelude.{is_some, Option, ℕ};
 ghost use Rattle.aiger.specs.Limits.{greatest_count};
 ghost use Rattle.aiger.specs.Net.{variables};
 ghost use Rattle.aiger.specs.Circuit.{net, name_of};
-ghost use Rattle.certificates.specs.Mapping.{said_literal, shared_literal, names_said_in, said_by_names, is_inside, are_inside, in_place, in_order, mapping_of};
+ghost use Rattle.certificates.specs.Mapping.{said_literal, said_by_numbering, shared_literal, names_said_in, said_by_names, is_inside, are_inside, in_place, in_order, mapping_of};
 
-use aiger::{Circuit, Lit, Section};
+use aiger::{Circuit, GREATEST_COUNT, Lit, Numbering, Section};
 use base::decimal;
 use gates::variable_literal;
 use std::alloc::{AllocError, Global};
+
+/// A literal that no circuit has.
+const UNDEFINED: u64 = 2 * (GREATEST_COUNT as u64 + 1);
 
 /// For each input and each latch of a witness circuit the literal of the circuit that it stands for, or none.
 #[derive(Drop)]
@@ -31,12 +34,31 @@ fn said_literal(name: &[u8]) -> Option<u64>
     }
 }
 
-/// The literal that the name of a position says.
-fn shared_literal(witness: &Circuit, section: Section, position: usize) -> Option<u64>
-    ensures { result ≡ shared_literal (name_of witness.now section position) }
+/// A literal by the numbers of the circuit, of one by those of its file, where one is said. One that the file does not define
+/// is none of any circuit.
+fn said_by_numbering(numbering: &Numbering, said: Option<u64>) -> Option<u64>
+    ensures { result ≡ said_by_numbering numbering.now said }
+{
+    match said {
+        Some(number) => match numbering.literal(number) {
+            Some(literal) => Some(literal),
+            None => Some(UNDEFINED),
+        },
+        None => None,
+    }
+}
+
+/// The literal of the circuit that the name of a position says.
+fn shared_literal(
+    numbering: &Numbering,
+    witness: &Circuit,
+    section: Section,
+    position: usize,
+) -> Option<u64>
+    ensures { result ≡ shared_literal numbering.now (name_of witness.now section position) }
 {
     match witness.name(section, position) {
-        Some(name) => said_literal(name),
+        Some(name) => said_by_numbering(numbering, said_literal(name)),
         None => None,
     }
 }
@@ -52,11 +74,19 @@ fn is_inside(circuit: &Circuit, said: Option<u64>) -> bool
 }
 
 /// Whether all names of a section say literals of the circuit, or none.
-fn are_said_inside(circuit: &Circuit, witness: &Circuit, section: Section) -> bool
-    ensures { result ≡ list_all (is_inside (variables (net circuit.now))) (names_said_in section witness.now) }
+fn are_said_inside(
+    numbering: &Numbering,
+    circuit: &Circuit,
+    witness: &Circuit,
+    section: Section,
+) -> bool
+    ensures { result ≡ list_all (is_inside (variables (net circuit.now))) (names_said_in numbering.now section witness.now) }
 {
     for position in 0..witness.count(section) {
-        if !is_inside(circuit, shared_literal(witness, section, position)) {
+        if !is_inside(
+            circuit,
+            shared_literal(numbering, witness, section, position),
+        ) {
             return false;
         }
     }
@@ -64,19 +94,19 @@ fn are_said_inside(circuit: &Circuit, witness: &Circuit, section: Section) -> bo
 }
 
 /// Whether all names of inputs and latches say literals of the circuit, or none.
-pub(crate) fn are_inside(circuit: &Circuit, witness: &Circuit) -> bool
-    ensures { result ≡ are_inside circuit.now (said_by_names witness.now) }
+pub(crate) fn are_inside(numbering: &Numbering, circuit: &Circuit, witness: &Circuit) -> bool
+    ensures { result ≡ are_inside circuit.now (said_by_names numbering.now witness.now) }
 {
-    are_said_inside(circuit, witness, Section::Input)
-        && are_said_inside(circuit, witness, Section::Latch)
+    are_said_inside(numbering, circuit, witness, Section::Input)
+        && are_said_inside(numbering, circuit, witness, Section::Latch)
 }
 
 /// Whether some name of a section says a literal.
-fn says_some_in(witness: &Circuit, section: Section) -> bool
-    ensures { result ≡ list_any (λ (l : Option ℕ). is_some l) (names_said_in section witness.now) }
+fn says_some_in(numbering: &Numbering, witness: &Circuit, section: Section) -> bool
+    ensures { result ≡ list_any (λ (l : Option ℕ). is_some l) (names_said_in numbering.now section witness.now) }
 {
     for position in 0..witness.count(section) {
-        if shared_literal(witness, section, position).is_some() {
+        if shared_literal(numbering, witness, section, position).is_some() {
             return true;
         }
     }
@@ -101,16 +131,20 @@ fn literal(circuit: &Circuit, said: Option<u64>) -> Option<Lit>
 /// What the names of a section say.
 fn said_in(
     alloc: Global,
+    numbering: &Numbering,
     circuit: &Circuit,
     witness: &Circuit,
     section: Section,
 ) -> Result<Vec<Option<Lit>>, AllocError>
-    requires { list_all (is_inside (variables (net circuit.now))) (names_said_in section witness.now) ≡ true }
-    ensures { IfOk result (λ said. said.items ≡ names_said_in section witness.now) }
+    requires { list_all (is_inside (variables (net circuit.now))) (names_said_in numbering.now section witness.now) ≡ true }
+    ensures { IfOk result (λ said. said.items ≡ names_said_in numbering.now section witness.now) }
 {
     let mut said = Vec::new(alloc);
     for position in 0..witness.count(section) {
-        let one = literal(circuit, shared_literal(witness, section, position));
+        let one = literal(
+            circuit,
+            shared_literal(numbering, witness, section, position),
+        );
         match said.push(one) {
             Ok(()) => {}
             Err(_) => return Err(AllocError),
@@ -154,15 +188,16 @@ fn in_order(
 /// What the names of inputs and latches say.
 fn shared_by_names(
     alloc: Global,
+    numbering: &Numbering,
     circuit: &Circuit,
     witness: &Circuit,
 ) -> Result<Shared, AllocError>
-    requires { are_inside circuit.now (said_by_names witness.now) ≡ true }
-    ensures inputs { IfOk result (λ shared. shared.inputs.items ≡ (said_by_names witness.now).inputs) }
-    ensures latches { IfOk result (λ shared. shared.latches.items ≡ (said_by_names witness.now).latches) }
+    requires { are_inside circuit.now (said_by_names numbering.now witness.now) ≡ true }
+    ensures inputs { IfOk result (λ shared. shared.inputs.items ≡ (said_by_names numbering.now witness.now).inputs) }
+    ensures latches { IfOk result (λ shared. shared.latches.items ≡ (said_by_names numbering.now witness.now).latches) }
 {
-    let inputs = said_in(alloc, circuit, witness, Section::Input)?;
-    let latches = said_in(alloc, circuit, witness, Section::Latch)?;
+    let inputs = said_in(alloc, numbering, circuit, witness, Section::Input)?;
+    let latches = said_in(alloc, numbering, circuit, witness, Section::Latch)?;
     Ok(Shared { inputs, latches })
 }
 
@@ -188,15 +223,18 @@ fn shared_in_order(
 /// literal, the first ones stand for those of the circuit, in order. The error is want of memory.
 pub(crate) fn shared_of(
     alloc: Global,
+    numbering: &Numbering,
     circuit: &Circuit,
     witness: &Circuit,
 ) -> Result<Shared, AllocError>
-    requires { are_inside circuit.now (said_by_names witness.now) ≡ true }
-    ensures inputs { IfOk result (λ shared. shared.inputs.items ≡ (mapping_of circuit.now witness.now).inputs) }
-    ensures latches { IfOk result (λ shared. shared.latches.items ≡ (mapping_of circuit.now witness.now).latches) }
+    requires { are_inside circuit.now (said_by_names numbering.now witness.now) ≡ true }
+    ensures inputs { IfOk result (λ shared. shared.inputs.items ≡ (mapping_of numbering.now circuit.now witness.now).inputs) }
+    ensures latches { IfOk result (λ shared. shared.latches.items ≡ (mapping_of numbering.now circuit.now witness.now).latches) }
 {
-    if says_some_in(witness, Section::Input) || says_some_in(witness, Section::Latch) {
-        shared_by_names(alloc, circuit, witness)
+    if says_some_in(numbering, witness, Section::Input)
+        || says_some_in(numbering, witness, Section::Latch)
+    {
+        shared_by_names(alloc, numbering, circuit, witness)
     } else {
         shared_in_order(alloc, circuit, witness)
     }

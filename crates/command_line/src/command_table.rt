@@ -1,6 +1,6 @@
 //! The table of the commands: their words, and what help says of them.
 
-use orders::{Given, Task};
+use orders::{Certificate, Given, Task};
 use wave::Shown;
 
 /// What a word of a command is.
@@ -39,7 +39,7 @@ pub(crate) struct Row {
 pub(crate) const WITNESS: &str = "WITNESS";
 
 /// The names of the second and the third file of a command on certificates.
-pub(crate) const INVARIANT: &str = "INVARIANT";
+pub(crate) const CERTIFICATE: &str = "CERTIFICATE";
 
 pub(crate) const PROOF: &str = "PROOF";
 
@@ -67,6 +67,9 @@ pub(crate) const AIGER: &str = "aiger";
 pub(crate) const ENGINE: &str = "engine";
 
 pub(crate) const BAD: &str = "bad";
+
+/// The flag for a witness circuit in place of an invariant.
+pub(crate) const CIRCUIT: &str = "circuit";
 
 /// The flag for outputs as bad properties.
 pub(crate) const OUTPUTS: &str = "outputs";
@@ -119,18 +122,31 @@ const FORM_WITNESS: Word = Word {
     help: "The file of an AIGER witness of the engine form, or with --abc of what ABC writes, or - for standard input",
 };
 
-/// An invariant.
-const INVARIANT_FILE: Word = Word {
-    name: INVARIANT,
+/// A certificate.
+const CERTIFICATE_FILE: Word = Word {
+    name: CERTIFICATE,
     kind: Kind::File,
-    help: "The file of an invariant over the engine form of the bad property, as ABC writes it by pdr -d -I, or - for standard input",
+    help: "The file of an invariant over the engine form of the bad property, as ABC writes it by pdr -d -I, or with --circuit of a witness circuit, or - for standard input",
+};
+
+/// That the certificate is a witness circuit, and of which circuit.
+const WITNESS_CIRCUIT: Word = Word {
+    name: CIRCUIT,
+    kind: Kind::Flag,
+    help: "The certificate is a witness circuit, in AIGER of either form, whose inputs and latches named = N stand for literal N of the circuit",
+};
+
+const CERTIFIED_FORM: Word = Word {
+    name: ENGINE,
+    kind: Kind::FlagWith(CIRCUIT),
+    help: "The witness circuit is one of the engine form of the circuit with the bad property",
 };
 
 /// A proof.
 const PROOF_FILE: Word = Word {
     name: PROOF,
     kind: Kind::File,
-    help: "The file of a proof of the obligation, in ascii DRAT, or - for standard input",
+    help: "The file of a proof of the obligation, in DRAT, as text or binary, or - for standard input",
 };
 
 /// That it is not told how far work is.
@@ -361,27 +377,31 @@ pub(crate) static ROWS: [Row; 13] = [
     },
     Row {
         word: "obligation",
-        task: Task::Obligation(Given::Model, None),
-        about: "Write the formula that nothing satisfies where an invariant shows that a bad property never rises, in DIMACS on standard output",
+        task: Task::Obligation(Given::Model, Certificate::Invariant, None),
+        about: "Write the formula that nothing satisfies where an invariant or a witness circuit shows that a bad property never rises, in DIMACS on standard output",
         words: &[
             MODEL_FILE,
             QUIET_FLAG,
             OUTPUT_FILE,
-            INVARIANT_FILE,
+            CERTIFICATE_FILE,
             AIGER_FLAG,
+            WITNESS_CIRCUIT,
+            CERTIFIED_FORM,
             CLAIMED_BAD,
         ],
     },
     Row {
         word: "check-proof",
-        task: Task::CheckProof(Given::Model, None),
-        about: "Judge an invariant and a proof of its obligation: whether a bad property never rises",
+        task: Task::CheckProof(Given::Model, Certificate::Invariant, None),
+        about: "Judge an invariant or a witness circuit, and a proof of its obligation: whether a bad property never rises",
         words: &[
             MODEL_FILE,
             QUIET_FLAG,
             CERTIFIED_NAMES,
-            INVARIANT_FILE,
+            CERTIFICATE_FILE,
             AIGER_FLAG,
+            WITNESS_CIRCUIT,
+            CERTIFIED_FORM,
             CLAIMED_BAD,
             PROOF_FILE,
         ],

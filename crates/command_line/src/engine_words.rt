@@ -1,9 +1,9 @@
 //! The words about engine forms, and what they make of a command.
 
-use crate::command_table::{ABC, AIGER, BAD, ENGINE, INVARIANT, row_of};
+use crate::command_table::{ABC, AIGER, BAD, CERTIFICATE, CIRCUIT, ENGINE, row_of};
 use base::decimal;
 use clap::ArgMatches;
-use orders::{Given, Task};
+use orders::{Certificate, Given, Task};
 
 /// What is told of words that choose a bad property and no engine form.
 const BAD_ALONE: &str = "words: --bad goes with --engine\n";
@@ -15,7 +15,7 @@ const NO_POSITION: &str = "words: --bad takes the position of a bad property, fr
 /// nothing else.
 fn speaks_of_one(word: &str, words: &ArgMatches<'_>) -> bool {
     let always = matches!(row_of(word), Some(row) if matches!(row.task, Task::Restore(_)));
-    always || words.get_flag(ENGINE) || words.get_flag(ABC) || words.get_str(INVARIANT).is_some()
+    always || words.get_flag(ENGINE) || words.get_flag(ABC) || words.get_str(CERTIFICATE).is_some()
 }
 
 /// The bad properties of the engine form that the words of a command ask for: all, or the one at a position; none where
@@ -46,6 +46,17 @@ fn given_of(words: &ArgMatches<'_>) -> Given {
     }
 }
 
+/// What the second file of a command on certificates is.
+fn certificate_of(words: &ArgMatches<'_>) -> Certificate {
+    if !words.get_flag(CIRCUIT) {
+        Certificate::Invariant
+    } else if words.get_flag(ENGINE) {
+        Certificate::CircuitOfForm
+    } else {
+        Certificate::Circuit
+    }
+}
+
 /// A command, where an engine form is asked for the one that writes it, or that is over one: over a counterexample in the
 /// form that ABC writes, or over a witness.
 pub(crate) fn with_engine(
@@ -65,8 +76,8 @@ pub(crate) fn with_engine(
         Task::Restore(_) => Task::RestoreForm(choice),
         Task::Lift if words.get_flag(ABC) => Task::LiftFound(choice),
         Task::Lift => Task::LiftForm(choice),
-        Task::Obligation(..) => Task::Obligation(given_of(words), choice),
-        Task::CheckProof(..) => Task::CheckProof(given_of(words), choice),
+        Task::Obligation(..) => Task::Obligation(given_of(words), certificate_of(words), choice),
+        Task::CheckProof(..) => Task::CheckProof(given_of(words), certificate_of(words), choice),
         task => task,
     }
 }

@@ -13,6 +13,8 @@ ghost use Rattle.btor2.specs.Faults.{symbol_fault_name, symbol_fault_number};
 ghost use Rattle.btor2.specs.declared.symbol.SymbolFault.{SymbolFault};
 ghost use Rattle.btor2text.specs.Whys.{line_why_name, printed_number};
 ghost use Rattle.btor2text.specs.declared.fault.Why.{Why};
+ghost use Rattle.certificates.specs.Faults.{test_name, test_number};
+ghost use Rattle.certificates.specs.declared.fault.TestFault.{TestFault};
 ghost use Rattle.clauses.specs.Faults.{clause_name, clause_number, formula_name, formula_number};
 ghost use Rattle.clauses.specs.Printed.{proof_why_name as proof_name, proof_why_number as proof_number};
 ghost use Rattle.clauses.specs.declared.fault.ClauseFault.{ClauseFault};
@@ -41,7 +43,7 @@ ghost use Rattle.witness.specs.Printed.{why_number as witness_number, why_name a
 ghost use Rattle.witness.specs.declared.fault.JudgeFault.{JudgeFault};
 ghost use Rattle.witness.specs.declared.why.Why.{Why as WitnessWhy};
 
-mod certificates;
+mod certified;
 mod circuits;
 mod models;
 mod often;
@@ -72,7 +74,7 @@ pub struct Part {
 /// What all refusals mean and what to do about them. A refusal may have several cases, also in several parts.
 ///
 /// Each refusal of each library is there, by the number and the name that the library gives it.
-pub fn refusal_table() -> [Part; 18]
+pub fn refusal_table() -> [Part; 19]
     // the number of a why of a model's text that a push gives is its own, which is printed for it
     ensures models { (why : Why) → Explains result (printed_number why) (line_why_name why) }
     ensures symbols { (fault : SymbolFault) → Explains result (symbol_fault_number fault) (symbol_fault_name fault) }
@@ -94,6 +96,7 @@ pub fn refusal_table() -> [Part; 18]
     ensures formulas { (fault : FormulaFault) → Explains result (formula_number fault) (formula_name fault) }
     ensures claims { (fault : ClaimFault) → Explains result (claim_number fault) (claim_name fault) }
     ensures tidying { (fault : TidyFault) → Explains result (tidy_number fault) (tidy_name fault) }
+    ensures tests { (fault : TestFault) → Explains result (test_number fault) (test_name fault) }
     ensures certificates { (fault : CertificateFault) → Explains result (certificate_number fault) (certificate_name fault) }
 {
     [
@@ -159,11 +162,15 @@ pub fn refusal_table() -> [Part; 18]
         },
         Part {
             title: "Formulas and proofs",
-            rows: certificates::proofs(),
+            rows: certified::proofs(),
         },
         Part {
             title: "Invariants and certificates",
-            rows: certificates::invariants(),
+            rows: certified::invariants(),
+        },
+        Part {
+            title: "Witness circuits",
+            rows: certified::witness_circuits(),
         },
         Part {
             title: "Tidied witnesses",

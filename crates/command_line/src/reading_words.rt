@@ -4,7 +4,7 @@ ghost use Rattle.std.specs.Prelude.{◌≡◌, IfOk, false, option_map};
 ghost use Rattle.orders.specs.Files.{names_standard_input, reads_input_twice};
 
 use crate::command_table::{
-    ALL, ASCII, BINARY, INVARIANT, Kind, NAMES, OUTPUT, OUTPUTS, PICK, PROOF, QUIET, ROWS, Row,
+    ALL, ASCII, BINARY, CERTIFICATE, Kind, NAMES, OUTPUT, OUTPUTS, PICK, PROOF, QUIET, ROWS, Row,
     WITNESS, Word, row_of,
 };
 use crate::engine_words::{engine_properties, with_engine};
@@ -155,7 +155,7 @@ fn output_of<'a>(words: &ArgMatches<'a>) -> Option<&'a str> {
 fn second_of<'a>(words: &ArgMatches<'a>) -> Option<&'a str> {
     match words.get_str(WITNESS) {
         Some(name) => Some(name),
-        None => words.get_str(INVARIANT),
+        None => words.get_str(CERTIFICATE),
     }
 }
 
@@ -167,7 +167,7 @@ fn with_names(task: Task) -> Task {
         Task::Lift => Task::Named(Named::Lift),
         Task::LiftFound(choice) => Task::Named(Named::LiftFound(choice)),
         Task::LiftForm(choice) => Task::Named(Named::LiftForm(choice)),
-        Task::CheckProof(given, choice) => Task::Named(Named::CheckProof(given, choice)),
+        Task::CheckProof(given, by, choice) => { Task::Named(Named::CheckProof(given, by, choice)) }
         task => task,
     }
 }

@@ -88,11 +88,11 @@ AnswersByName named.CheckAig first second third before now told told' a = Judged
 AnswersByName named.Lift first second third before now told told' a = Judged (IsLifted true first second before now told told') a
 AnswersByName (named.LiftFound choice) first second third before now told told' a = LiftsFound true choice first second before now told told' a
 AnswersByName (named.LiftForm choice) first second third before now told told' a = Judged (IsFormLifted true choice first second before now told told') a
-AnswersByName (named.CheckProof g choice) first second third before now told told' a = CertifiesByName g choice first second third before now told told' a
+AnswersByName (named.CheckProof g by choice) first second third before now told told' a = CertifiesByName g by choice first second third before now told told' a
 
 -- what a command has done that answers so. Of `first`, `second` and `third` each, all bytes that were to come are known, or none are; `before` and `now` stand on standard output, `told` and `told'` on standard error
 unfoldable pub Answers : Task → Form → Answer → Option (List ℕ) → Option (List ℕ) → Option (List ℕ) → Option (List ℕ) → Option (List ℕ) → Option (List ℕ) → Option (List ℕ) → Type 0
-Answers task.Lower form answer.Done first second third before now told told' = Converts first before now form
+Answers task.Lower form answer.Done first second third before now told told' = Converts first form (Appends before now)
 Answers (task.LowerForEngines choice) form answer.Done first second third before now told told' = LowersForEngines first before now form choice
 Answers task.CheckBtor form a first second third before now told told' = Judged (IsJudged first second before now) a
 Answers task.Show form answer.Done first second third before now told told' = ShowsModel first before now
@@ -111,8 +111,8 @@ Answers (task.LiftFound choice) form a first second third before now told told' 
 Answers (task.LiftForm choice) form a first second third before now told told' = Judged (IsFormLifted false choice first second before now told told') a
 Answers (task.Named n) form a first second third before now told told' = AnswersByName n first second third before now told told' a
 Answers task.Vectors form a first second third before now told told' = Compares first before now a
-Answers (task.Obligation g choice) form answer.Done first second third before now told told' = WritesOwed g choice first second before now
-Answers (task.CheckProof g choice) form a first second third before now told told' = Certifies g choice first second third before now a
+Answers (task.Obligation g by choice) form answer.Done first second third before now told told' = WritesOwed g by choice first second before now
+Answers (task.CheckProof g by choice) form a first second third before now told told' = Certifies g by choice first second third before now a
 Answers _ form a first second third before now told told' = ⊥
 
 -- a command has one file
@@ -126,8 +126,8 @@ has_one_file (task.LiftFound choice) = false
 has_one_file (task.LiftForm choice) = false
 has_one_file (task.Wave shown) = false
 has_one_file (task.Named n) = false
-has_one_file (task.Obligation g choice) = false
-has_one_file (task.CheckProof g choice) = false
+has_one_file (task.Obligation g by choice) = false
+has_one_file (task.CheckProof g by choice) = false
 has_one_file _ = true
 
 -- what the first file of a command is
@@ -143,15 +143,15 @@ first_file task.CheckAig = first_is.Circuit
 first_file (task.Restore choice) = first_is.Circuit
 first_file (task.RestoreForm choice) = first_is.Circuit
 first_file (task.Named named.CheckAig) = first_is.Circuit
-first_file (task.Obligation g choice) = first_is.Certified
-first_file (task.CheckProof g choice) = first_is.Certified
-first_file (task.Named (named.CheckProof g choice)) = first_is.Certified
+first_file (task.Obligation g by choice) = first_is.Certified
+first_file (task.CheckProof g by choice) = first_is.Certified
+first_file (task.Named (named.CheckProof g by choice)) = first_is.Certified
 first_file _ = first_is.Model
 
 -- a command has three files
 unfoldable pub has_three_files : Task → Bool
-has_three_files (task.CheckProof g choice) = true
-has_three_files (task.Named (named.CheckProof g choice)) = true
+has_three_files (task.CheckProof g by choice) = true
+has_three_files (task.Named (named.CheckProof g by choice)) = true
 has_three_files _ = false
 
 -- a command that is done tells nothing on standard error

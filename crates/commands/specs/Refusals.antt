@@ -12,7 +12,7 @@ use Rattle.tasks.specs.declared.refusals.Device.TheVariants as device
 use Rattle.tasks.specs.declared.refusals.Fault.{Fault}
 use Rattle.tasks.specs.declared.refusals.Refusal.{Refusal}
 use Rattle.tasks.specs.declared.refusals.Refusal.TheVariants as refusal
-use Rattle.tasks.specs.Refusals.{IsFaultyInvariant, IsNoCircuit, IsNoModel, IsNoVectorList, IsNotClaimed, IsNotForEngines, IsNotJudged, IsNotLowered}
+use Rattle.tasks.specs.Refusals.{IsFaultyCertificate, IsNoCircuit, IsNoModel, IsNoVectorList, IsNotCertifiable, IsNotClaimed, IsNotForEngines, IsNotJudged, IsNotLowered}
 use Rattle.tasks.specs.Outputs.{IsNotWithOutputs, IsNotWithOutputsForEngines}
 
 -- the first text has this fault, for which a command refuses it that says by name what its judgement is about
@@ -22,7 +22,7 @@ RefusesByName named.CheckAig known f = IsNoCircuit known f
 RefusesByName named.Lift known f = IsNotLowered known f
 RefusesByName (named.LiftFound choice) known f = IsNotClaimed claimed.Found given.Model choice known f
 RefusesByName (named.LiftForm choice) known f = IsNotForEngines given.Model choice known f
-RefusesByName (named.CheckProof g choice) known f = IsNotClaimed claimed.Certified g choice known f
+RefusesByName (named.CheckProof g by choice) known f = IsNotCertifiable by g choice known f
 
 -- the first text has this fault, for which a command refuses it
 unfoldable pub RefusesTask : Task → Option (List ℕ) → Fault → Type 0
@@ -45,14 +45,14 @@ RefusesTask (task.Wave shown) known f = IsNotJudged known f
 RefusesTask (task.Named n) known f = RefusesByName n known f
 RefusesTask (task.TidyWitness pick) known f = ⊥
 RefusesTask task.Vectors known f = IsNoVectorList known f
-RefusesTask (task.Obligation g choice) known f = IsNotClaimed claimed.Certified g choice known f
-RefusesTask (task.CheckProof g choice) known f = IsNotClaimed claimed.Certified g choice known f
+RefusesTask (task.Obligation g by choice) known f = IsNotCertifiable by g choice known f
+RefusesTask (task.CheckProof g by choice) known f = IsNotCertifiable by g choice known f
 
 -- the second text has this fault, for which a command refuses it
 abbrev pub RefusesSecond : Task → Option (List ℕ) → Option (List ℕ) → Fault → Type 0
-RefusesSecond (task.Obligation g choice) first second f = IsFaultyInvariant g choice first second f
-RefusesSecond (task.CheckProof g choice) first second f = IsFaultyInvariant g choice first second f
-RefusesSecond (task.Named (named.CheckProof g choice)) first second f = IsFaultyInvariant g choice first second f
+RefusesSecond (task.Obligation g by choice) first second f = IsFaultyCertificate by g choice first second f
+RefusesSecond (task.CheckProof g by choice) first second f = IsFaultyCertificate by g choice first second f
+RefusesSecond (task.Named (named.CheckProof g by choice)) first second f = IsFaultyCertificate by g choice first second f
 RefusesSecond _ first second f = ⊥
 
 -- of lifting a witness

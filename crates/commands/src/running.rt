@@ -41,15 +41,15 @@ use tasks::{
 ///   engine form of either, whose bad properties can rise exactly where those of the model or circuit can), the
 ///   witness is accepted and the line that says so was written, with `wave` the dump of its frames too, all of the model's text and the line of its counts were
 ///   written, or both lines of its cost, or the lifted text of a witness that is accepted, or the witness that a
-///   counterexample is restored to and that is accepted, or that all vectors agree, or the text of the formula that an
-///   invariant owes, or that a certificate holds: then the bad property that is claimed of the model or circuit rises in no
+///   counterexample is restored to and that is accepted, or that all vectors agree, or the text of the formula that a
+///   certificate owes, or that a certificate holds: then the bad property that is claimed of the model or circuit rises in no
 ///   frame up to which its constraints hold, from any initial state, under every input sequence.
 /// - 1: the witness is judged and not accepted, and the line of its judgement, or what it is lifted or restored to, was
 ///   written; or a line of a counterexample is faulty, and what those before it are restored to was; or the lines of
 ///   vectors that differ were; or the line was that tells why a certificate does not hold.
-/// - 2: the first file is refused, or, where it is an invariant, the second. Nothing was written to `out`, no device
+/// - 2: the first file is refused, or, where it is a certificate, the second. Nothing was written to `out`, no device
 ///   failed, and the line on `err` names the file and tells the first fault of its text, or the first that speaks against
-///   its model, or against an obligation of its cubes.
+///   its model, or against an obligation of its cubes, or a test of its circuit.
 /// - 3: a device failed, and the line on `err` names it, or `err` itself failed; or memory was wanting, and no device
 ///   failed.
 /// - 4: the words leave open which bad property of the first file is claimed. Nothing was written to `out`, no device failed,
@@ -198,14 +198,14 @@ fn obey_on_certificates<A: Source, B: Source, T: Source, O: Sink, E: Sink, W: Wa
     ensures no_third { has_three_files task ≡ false → third.new ≡ third.old }
 {
     match task {
-        Task::Obligation(given, choice) => {
-            write_obligation(alloc, given, choice, first, second, out, watch)
+        Task::Obligation(given, by, choice) => {
+            write_obligation(alloc, given, by, choice, first, second, out, watch)
         }
-        Task::CheckProof(given, choice) => check_proof(
-            alloc, false, given, choice, first, second, third, out, err, watch,
+        Task::CheckProof(given, by, choice) => check_proof(
+            alloc, false, given, by, choice, first, second, third, out, err, watch,
         ),
-        Task::Named(Named::CheckProof(given, choice)) => check_proof(
-            alloc, true, given, choice, first, second, third, out, err, watch,
+        Task::Named(Named::CheckProof(given, by, choice)) => check_proof(
+            alloc, true, given, by, choice, first, second, third, out, err, watch,
         ),
         _ => unreachable!(),
     }

@@ -14,7 +14,7 @@ use Rattle.aiger.specs.Trace.{next_latch_bits}
 use Rattle.base.proofs.LiteralLemmas.{literal_value-negation, literal_value-even, literal_value-odd}
 use Rattle.clauses.specs.Formula.{IsLiteral}
 use Rattle.invariants.specs.Invariants.{AreOver, state_bit, is_in_cube, is_outside}
-use Rattle.invariants.specs.Obligation.{over, gate_clauses, gates_clauses, now_literal, outside_clause, taken_literal, truth_variable, next_literal, next_clauses, nexts_clauses}
+use Rattle.invariants.specs.Obligation.{over, gate_clauses, gates_clauses, outside_clause, taken_literal, truth_variable, next_literal, next_clauses, nexts_clauses}
 use Rattle.invariants.proofs.BitLemmas.{formula_bit, clause_bit, or_not, not_or, not_or_self, two, three, two_all}
 
 -- ---- literals
@@ -85,23 +85,23 @@ state_odd : (state : List Bool) (l : ℕ) → l % 2 ≢ 0 → state_bit state l 
 state_odd state l e = grind (arith, nat_tests)
 
 -- a literal over latches says of a state what its literal of the circuit says
-pub now_bit : (d : Circuit) (a : Valuation) (l : ℕ) → IsLiteral (length d.latches) l → literal_value a (now_literal d l) ≡ state_bit (latch_bits (net d) a) l
+pub now_bit : (d : Circuit) (a : Valuation) (l : ℕ) → IsLiteral (length d.latches) l → literal_value a (2 * d.inputs + l) ≡ state_bit (latch_bits (net d) a) l
 now_bit d a l h =
     let at : get_or (latch_bits (net d) a) (l / 2 - 1) false ≡ a (suc d.inputs + (l / 2 - 1)) = get_or-bits_from (suc d.inputs) (length d.latches) a (l / 2 - 1) (omega (arith, h.0, h.1)) in
     ⊎_elim
     (λ (e : l % 2 ≡ 0).
-    let is : now_literal d l ≡ 2 * (suc d.inputs + (l / 2 - 1)) = omega (arith, h.0) in
+    let is : 2 * d.inputs + l ≡ 2 * (suc d.inputs + (l / 2 - 1)) = omega (arith, h.0) in
     ap (literal_value a) is ∙ (literal_value-even a (suc d.inputs + (l / 2 - 1)) (omega arith) ∙ (sym at ∙ sym (state_even (latch_bits (net d) a) l e))))
     (λ (ne : l % 2 ≢ 0).
-    let is : now_literal d l ≡ 2 * (suc d.inputs + (l / 2 - 1)) + 1 = omega (arith, h.0) in
+    let is : 2 * d.inputs + l ≡ 2 * (suc d.inputs + (l / 2 - 1)) + 1 = omega (arith, h.0) in
     ap (literal_value a) is ∙ (literal_value-odd a (suc d.inputs + (l / 2 - 1)) (omega arith) ∙ (ap not (sym at) ∙ sym (state_odd (latch_bits (net d) a) l ne))))
     (cases_eq (l % 2) 0)
 
 outside_bit : (d : Circuit) (a : Valuation) (cube : List ℕ) → All (IsLiteral (length d.latches)) cube → clause_bit a (outside_clause d cube) ≡ not (is_in_cube (latch_bits (net d) a) cube)
 outside_bit d a [] all = refl
 outside_bit d a (l ∷ ls) all =
-    let own : literal_value a (negation (now_literal d l)) ≡ not (state_bit (latch_bits (net d) a) l) =
-    literal_value-negation a (now_literal d l) ∙ ap not (now_bit d a l (All-head (IsLiteral (length d.latches)) l ls all)) in
+    let own : literal_value a (negation (2 * d.inputs + l)) ≡ not (state_bit (latch_bits (net d) a) l) =
+    literal_value-negation a (2 * d.inputs + l) ∙ ap not (now_bit d a l (All-head (IsLiteral (length d.latches)) l ls all)) in
     ap₂ ◌||◌ own (outside_bit d a ls (All-tail (IsLiteral (length d.latches)) l ls all))
     ∙ or_not (state_bit (latch_bits (net d) a) l) (is_in_cube (latch_bits (net d) a) ls)
 

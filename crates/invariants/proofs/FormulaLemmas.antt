@@ -10,7 +10,7 @@ use Rattle.aiger.specs.Circuit.{Circuit, IsCircuit, net}
 use Rattle.base.specs.Literal.{negation}
 use Rattle.clauses.specs.Formula.{IsLiteral, IsFormula}
 use Rattle.invariants.specs.Invariants.{AreOver, bad_literal}
-use Rattle.invariants.specs.Obligation.{truth_variable, rise_variable, cube_variable, over, gate_clauses, gates_clauses, now_literal, outside_clause, taken_literal, next_literal, next_clauses, nexts_clauses, rise_clause, fails_clause, now_clauses, failing_clauses, obligation}
+use Rattle.invariants.specs.Obligation.{truth_variable, rise_variable, cube_variable, over, gate_clauses, gates_clauses, outside_clause, taken_literal, next_literal, next_clauses, nexts_clauses, fails_clause, now_clauses, failing_clauses, obligation}
 use Rattle.invariants.proofs.ClauseLemmas.{next_even, next_odd, literals_from, from_more}
 
 -- a clause of a formula of so many variables, and clauses
@@ -69,13 +69,13 @@ gates_are n truth v [] low high one below o = All-nil (IsClause n)
 gates_are n truth v (g ∷ gs) low high one below o =
     All-append (IsClause n) (gate_clauses truth v g) (gates_clauses truth (suc v) gs) (gate_are n truth v g low high one (omega arith) o.0 o.1) (gates_are n truth (suc v) gs low high (omega arith) (omega arith) o.2)
 
-pub now_is : (d : Circuit) (n l : ℕ) → truth_variable d ≤ n → IsLiteral (length d.latches) l → IsLiteral n (negation (now_literal d l))
-now_is d n l high h = negated n (now_literal d l) (omega (arith, h.0), omega (arith, h.1))
+pub now_is : (d : Circuit) (n l : ℕ) → truth_variable d ≤ n → IsLiteral (length d.latches) l → IsLiteral n (negation (2 * d.inputs + l))
+now_is d n l high h = negated n (2 * d.inputs + l) (omega (arith, h.0), omega (arith, h.1))
 
 pub outside_is : (d : Circuit) (n : ℕ) (cube : List ℕ) → truth_variable d ≤ n → All (IsLiteral (length d.latches)) cube → IsClause n (outside_clause d cube)
 outside_is d n [] high all = All-nil (IsLiteral n)
 outside_is d n (l ∷ ls) high all =
-    All-cons (IsLiteral n) (negation (now_literal d l)) (outside_clause d ls) (now_is d n l high (All-head (IsLiteral (length d.latches)) l ls all))
+    All-cons (IsLiteral n) (negation (2 * d.inputs + l)) (outside_clause d ls) (now_is d n l high (All-head (IsLiteral (length d.latches)) l ls all))
     (outside_is d n ls high (All-tail (IsLiteral (length d.latches)) l ls all))
 
 outsides_are : (d : Circuit) (n : ℕ) (cubes : List (List ℕ)) → truth_variable d ≤ n → AreOver (length d.latches) cubes → AreClauses n (map (outside_clause d) cubes)
@@ -130,7 +130,7 @@ failing_are : (d : Circuit) (n : ℕ) (cubes : List (List ℕ)) → rise_variabl
 failing_are d n cubes high valid =
     let nexts : List (List ℕ) = nexts_clauses d (cube_variable d) cubes in
     let last : List (List ℕ) = fails_clause d (length cubes) ∷ [] in
-    All-cons (IsClause n) (rise_clause d) (nexts ++ last)
+    All-cons (IsClause n) ((2 * rise_variable d + 1) ∷ over (truth_variable d) (bad_literal d) ∷ []) (nexts ++ last)
     (two_of n (2 * rise_variable d + 1) (over (truth_variable d) (bad_literal d)) (negative n (rise_variable d) (omega arith) (omega arith)) (over_is n (truth_variable d) (bad_literal d) (omega arith) (omega arith) (bad_below d d.bads valid.defined.bads)))
     (All-append (IsClause n) nexts last (nexts_are d n (cube_variable d) cubes (omega arith) valid (omega arith) (omega arith))
     (All-cons (IsClause n) (fails_clause d (length cubes)) []

@@ -14,7 +14,7 @@ use Rattle.base.proofs.LiteralLemmas.{literal_value-even, literal_value-odd}
 use Rattle.aiger.proofs.TraceLemmas.{AgreeBelow, literal_value-agree, bits_from-agree}
 use Rattle.clauses.specs.Formula.{IsUnsatisfiable}
 use Rattle.invariants.specs.Invariants.{AreOver, is_in_cube, is_outside, bad_literal, KeepsCubes, IsInductive}
-use Rattle.invariants.specs.Obligation.{truth_variable, rise_variable, cube_variable, over, gates_clauses, outside_clause, nexts_clauses, rise_clause, fails_clause, now_clauses, failing_clauses, obligation_clauses, obligation}
+use Rattle.invariants.specs.Obligation.{truth_variable, rise_variable, cube_variable, over, gates_clauses, outside_clause, nexts_clauses, fails_clause, now_clauses, failing_clauses, obligation}
 use Rattle.invariants.proofs.BitLemmas.{formula_bit, clause_bit, formula_true, formula_satisfied, two, one_is, not_or_self}
 use Rattle.invariants.proofs.ClauseLemmas.{over-value, gates_hold, gates_pass, outside_bits, literals_from, nexts_hold, TellNext, nexts_pass, some_next}
 
@@ -23,14 +23,14 @@ record Parts (d : Circuit) (cubes : List (List ℕ)) (a : Valuation) : Type 0 wh
   truth : a (truth_variable d) ≡ true
   gates : formula_bit a (gates_clauses (truth_variable d) (suc (d.inputs + length d.latches)) d.gates) ≡ true
   outside : formula_bit a (map (outside_clause d) cubes) ≡ true
-  rise : clause_bit a (rise_clause d) ≡ true
+  rise : clause_bit a ((2 * rise_variable d + 1) ∷ over (truth_variable d) (bad_literal d) ∷ []) ≡ true
   nexts : formula_bit a (nexts_clauses d (cube_variable d) cubes) ≡ true
   fails : clause_bit a (fails_clause d (length cubes)) ≡ true
 
 truth_bit : (d : Circuit) (a : Valuation) → clause_bit a ((2 * truth_variable d) ∷ []) ≡ a (truth_variable d)
 truth_bit d a = one_is (literal_value a (2 * truth_variable d)) ∙ literal_value-even a (truth_variable d) (omega arith)
 
-parted : (d : Circuit) (cubes : List (List ℕ)) (a : Valuation) → formula_bit a (obligation_clauses d cubes) ≡ true → Parts d cubes a
+parted : (d : Circuit) (cubes : List (List ℕ)) (a : Valuation) → formula_bit a (now_clauses d cubes ++ failing_clauses d cubes) ≡ true → Parts d cubes a
 parted d cubes a all =
     let gates : List (List ℕ) = gates_clauses (truth_variable d) (suc (d.inputs + length d.latches)) d.gates in
     let outs : List (List ℕ) = map (outside_clause d) cubes in
@@ -39,7 +39,7 @@ parted d cubes a all =
     let both = and_parts (formula_bit a (now_clauses d cubes)) (formula_bit a (failing_clauses d cubes)) (sym (list_all-append (clause_bit a) (now_clauses d cubes) (failing_clauses d cubes)) ∙ all) in
     let first = and_parts (clause_bit a ((2 * truth_variable d) ∷ [])) (formula_bit a (gates ++ outs)) both.0 in
     let second = and_parts (formula_bit a gates) (formula_bit a outs) (sym (list_all-append (clause_bit a) gates outs) ∙ first.1) in
-    let third = and_parts (clause_bit a (rise_clause d)) (formula_bit a (nexts ++ last)) both.1 in
+    let third = and_parts (clause_bit a ((2 * rise_variable d + 1) ∷ over (truth_variable d) (bad_literal d) ∷ [])) (formula_bit a (nexts ++ last)) both.1 in
     let fourth = and_parts (formula_bit a nexts) (formula_bit a last) (sym (list_all-append (clause_bit a) nexts last) ∙ third.1) in
     record {
       truth = sym (truth_bit d a) ∙ first.0;
@@ -50,7 +50,7 @@ parted d cubes a all =
       fails = (and_parts (clause_bit a (fails_clause d (length cubes))) true fourth.1).0;
     }
 
-joined : (d : Circuit) (cubes : List (List ℕ)) (a : Valuation) → Parts d cubes a → formula_bit a (obligation_clauses d cubes) ≡ true
+joined : (d : Circuit) (cubes : List (List ℕ)) (a : Valuation) → Parts d cubes a → formula_bit a (now_clauses d cubes ++ failing_clauses d cubes) ≡ true
 joined d cubes a p =
     let gates : List (List ℕ) = gates_clauses (truth_variable d) (suc (d.inputs + length d.latches)) d.gates in
     let outs : List (List ℕ) = map (outside_clause d) cubes in
@@ -61,7 +61,7 @@ joined d cubes a p =
     list_all-append (clause_bit a) (now_clauses d cubes) (failing_clauses d cubes) ∙ ap₂ ◌&&◌ now failing
 
 -- what the clause of the bad property says
-rise_bit : (d : Circuit) (a : Valuation) → a (truth_variable d) ≡ true → clause_bit a (rise_clause d) ≡ (not (a (rise_variable d)) || literal_value a (bad_literal d))
+rise_bit : (d : Circuit) (a : Valuation) → a (truth_variable d) ≡ true → clause_bit a ((2 * rise_variable d + 1) ∷ over (truth_variable d) (bad_literal d) ∷ []) ≡ (not (a (rise_variable d)) || literal_value a (bad_literal d))
 rise_bit d a on =
     ap₂ two (literal_value-odd a (rise_variable d) (omega arith)) (over-value a (truth_variable d) (bad_literal d) (omega arith) on)
     ∙ ap (λ (b : Bool). not (a (rise_variable d)) || b) (one_is (literal_value a (bad_literal d)))
@@ -77,7 +77,7 @@ none_rises false c h e = refl
 
 pub refuted : (d : Circuit) (cubes : List (List ℕ)) → AreOver (length d.latches) cubes → IsInductive d cubes → IsUnsatisfiable (obligation d cubes)
 refuted d cubes over inductive a sat =
-    let p = parted d cubes a (formula_true a (obligation_clauses d cubes) sat) in
+    let p = parted d cubes a (formula_true a (now_clauses d cubes ++ failing_clauses d cubes) sat) in
     let frame : IsCircuitFrame d (latch_bits (net d) a) (net_input_bits (net d) a) a =
     record { gates = gates_hold a (truth_variable d) (suc (d.inputs + length d.latches)) d.gates (omega arith) (omega arith) p.truth p.gates; inputs = refl; latches = refl } in
     let keeps : KeepsCubes d cubes a = inductive (latch_bits (net d) a) (net_input_bits (net d) a) a frame (sym (outside_bits d a cubes over) ∙ p.outside) in
@@ -140,7 +140,7 @@ bad_below d (b ∷ bads) all = let h : IsDefined (net d) b = All-head (IsDefined
 
 -- everything of the obligation but its last clause holds of a frame from a state in no cube, and the last one says whether the invariant is left
 framed : (d : Circuit) (cubes : List (List ℕ)) (state input : List Bool) (v : Valuation) → IsCircuit d → AreOver (length d.latches) cubes → IsCircuitFrame d state input v → is_outside state cubes ≡ true
-    → (literal_value v (bad_literal d) || not (is_outside (next_latch_bits d v) cubes)) ≡ true → formula_bit (assigned d cubes v) (obligation_clauses d cubes) ≡ true
+    → (literal_value v (bad_literal d) || not (is_outside (next_latch_bits d v) cubes)) ≡ true → formula_bit (assigned d cubes v) (now_clauses d cubes ++ failing_clauses d cubes) ≡ true
 framed d cubes state input v valid over frame out leaves =
     let a : Valuation = assigned d cubes v in
     let agree : AgreeBelow (truth_variable d) v a = λ k low high. assigned-below d cubes v k high in
@@ -167,7 +167,7 @@ pub proved : (d : Circuit) (cubes : List (List ℕ)) → IsCircuit d → AreOver
 proved d cubes valid over unsat state input v frame out = by (literal_value v (bad_literal d)) (is_outside (next_latch_bits d v) cubes) refl refl
   where
     left : (literal_value v (bad_literal d) || not (is_outside (next_latch_bits d v) cubes)) ≡ true → ⊥
-    left leaves = unsat (assigned d cubes v) (formula_satisfied (assigned d cubes v) (obligation_clauses d cubes) (framed d cubes state input v valid over frame out leaves))
+    left leaves = unsat (assigned d cubes v) (formula_satisfied (assigned d cubes v) (now_clauses d cubes ++ failing_clauses d cubes) (framed d cubes state input v valid over frame out leaves))
 
     by : (b m : Bool) → literal_value v (bad_literal d) ≡ b → is_outside (next_latch_bits d v) cubes ≡ m → KeepsCubes d cubes v
     by true m e f = absurd (left (ap (λ (x : Bool). x || not (is_outside (next_latch_bits d v) cubes)) e))

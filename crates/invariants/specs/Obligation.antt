@@ -38,13 +38,9 @@ abbrev pub gates_clauses : ℕ → ℕ → List Gate → List (List ℕ)
 gates_clauses truth v [] = []
 gates_clauses truth v (g ∷ gs) = gate_clauses truth v g ++ gates_clauses truth (suc v) gs
 
--- the circuit's literal for one over latches
-abbrev pub now_literal : Circuit → ℕ → ℕ
-now_literal d l = 2 * d.inputs + l
-
--- the state is not in a cube
+-- the state is not in a cube, whose literals over latches are those of the circuit behind its inputs
 abbrev pub outside_clause : Circuit → List ℕ → List ℕ
-outside_clause d cube = map (λ l. negation (now_literal d l)) cube
+outside_clause d cube = map (λ l. negation (2 * d.inputs + l)) cube
 
 -- the literal that a latch, counted from 0, takes for the next state
 abbrev pub taken_literal : Circuit → ℕ → ℕ
@@ -65,10 +61,6 @@ abbrev pub nexts_clauses : Circuit → ℕ → List (List ℕ) → List (List �
 nexts_clauses d v [] = []
 nexts_clauses d v (cube ∷ cubes) = next_clauses d v cube ++ nexts_clauses d (suc v) cubes
 
--- where its variable is true, the bad property rises
-abbrev pub rise_clause : Circuit → List ℕ
-rise_clause d = (2 * rise_variable d + 1) ∷ over (truth_variable d) (bad_literal d) ∷ []
-
 -- the bad property rises, or the next state is in one of so many cubes
 abbrev pub fails_clause : Circuit → ℕ → List ℕ
 fails_clause d count = (2 * rise_variable d) ∷ map (λ v. 2 * v) (range_with_len (cube_variable d) count)
@@ -79,14 +71,12 @@ now_clauses d cubes =
     ((2 * truth_variable d) ∷ [])
     ∷ (gates_clauses (truth_variable d) (suc (d.inputs + length d.latches)) d.gates ++ map (outside_clause d) cubes)
 
--- the clauses of what is to fail: that the bad property rises, or the next state is in a cube
+-- the clauses of what is to fail: where its variable is true, the bad property rises; and it rises, or the next state is in a cube
 abbrev pub failing_clauses : Circuit → List (List ℕ) → List (List ℕ)
-failing_clauses d cubes = rise_clause d ∷ (nexts_clauses d (cube_variable d) cubes ++ fails_clause d (length cubes) ∷ [])
+failing_clauses d cubes =
+    ((2 * rise_variable d + 1) ∷ over (truth_variable d) (bad_literal d) ∷ [])
+    ∷ (nexts_clauses d (cube_variable d) cubes ++ fails_clause d (length cubes) ∷ [])
 
--- all clauses, in this order
-abbrev pub obligation_clauses : Circuit → List (List ℕ) → List (List ℕ)
-obligation_clauses d cubes = now_clauses d cubes ++ failing_clauses d cubes
-
--- the formula
+-- the formula: all clauses, in this order
 abbrev pub obligation : Circuit → List (List ℕ) → Formula
-obligation d cubes = record { variables = rise_variable d + length cubes; clauses = obligation_clauses d cubes }
+obligation d cubes = record { variables = rise_variable d + length cubes; clauses = now_clauses d cubes ++ failing_clauses d cubes }

@@ -1,9 +1,10 @@
 //! Judging certificates of bad properties of circuits.
-ghost use Rattle.std.specs.Prelude.{◌≡◌, ℕ, IfErr, IfOk, OnOk};
+ghost use Rattle.std.specs.Prelude.{◌≡◌, ℕ, [], IfErr, IfOk, OnOk};
 ghost use Rattle.std.specs.Io.KnownBytes.{IsAtEnd};
 ghost use Rattle.base.specs.Device.{CountsFaults};
 ghost use Rattle.aiger.specs.Reachability.{CanRiseInCircuit};
 ghost use Rattle.clauses.specs.declared.judgement.Judgement.TheVariants as judgement;
+ghost use Rattle.clauses.specs.ProofJudges.{StandsForText};
 ghost use Rattle.invariants.specs.Certificates.{CountsCertificate, IsCertified, IsJudgedProof, IsNotCertified, IsOfProof, WithoutFormOf, WithoutFormula};
 ghost use Rattle.invariants.specs.Feeding.{FedAll};
 
@@ -12,7 +13,7 @@ use crate::claims::owed_formula;
 use crate::laws::certified_property_never_rises;
 use aiger::Circuit;
 use base::{DeviceFault, Source};
-use clauses::{Formula, Judgement, ProofJudge};
+use clauses::{ClauseFault, Formula, Judgement, ProofJudge};
 use std::alloc::Global;
 
 /// How many bytes one call of a source is asked for.
@@ -36,19 +37,28 @@ fn feed_all<P: Source>(judge: &mut ProofJudge, proof: &mut P) -> Result<(), Devi
     }
 }
 
+/// A judge of proofs over a formula, which it has taken over: the formula itself is not held beside it.
+fn judge_of(alloc: Global, formula: Formula) -> Result<ProofJudge, ClauseFault>
+    ensures { IfOk result (λ judge. StandsForText formula judge []) }
+{
+    ProofJudge::over(alloc, &formula)
+}
+
 /// Reads a source to its end and judges its text as a proof over a formula. Of the text only what one call gives is held at
 /// a time, and beside it what the judge holds.
-fn judge_proof<P: Source>(
+///
+/// Errors: `Judge` where the judge of proofs was refused a growth, and `Device` where the source failed.
+pub fn judge_proof<P: Source>(
     alloc: Global,
-    formula: &Formula,
+    formula: Formula,
     proof: &mut P,
 ) -> Result<Judgement, CertificateFault>
-    ensures judged { IfOk result (IsJudgedProof formula.now (P.to_come proof.old)) }
+    ensures judged { IfOk result (IsJudgedProof formula (P.to_come proof.old)) }
     ensures end { OnOk result (IsAtEnd (P.to_come proof.new)) }
     ensures fault { IfErr result IsOfProof }
     ensures counted { (old : ℕ) → CountsCertificate result old old (P.failures proof.old) (P.failures proof.new) }
 {
-    let mut judge = ProofJudge::over(alloc, formula)?;
+    let mut judge = judge_of(alloc, formula)?;
     feed_all(&mut judge, proof)?;
     Ok(judge.finish()?)
 }
@@ -56,7 +66,7 @@ fn judge_proof<P: Source>(
 /// Judges a certificate of the bad property of a circuit at a position, from 0: reads the text of an invariant and that of a
 /// proof to their ends, and judges the proof over the formula that the invariant owes. Where it is judged as `Derived`, the
 /// property rises in no frame up to which the circuit's constraints hold, in no trace from initial bits that agree with its
-/// resets. Of the proof only what one call gives is held at a time, and beside it the formula and what the judge holds.
+/// resets. Of the proof only what one call gives is held at a time, and beside it what the judge holds.
 ///
 /// Errors, of which the first that applies in this order is answered: `Claim` where the invariant owes no formula, and then
 /// nothing of the proof is read; `Judge` where the judge of proofs was refused a growth, and `Device` where the proof's
@@ -81,5 +91,5 @@ pub fn judge_certificate<S: Source, P: Source>(
 {
     certified_property_never_rises();
     let formula = owed_formula(alloc, circuit, bad, invariant)?;
-    judge_proof(alloc, &formula, proof)
+    judge_proof(alloc, formula, proof)
 }

@@ -20,7 +20,7 @@ mod why;
 mod words;
 
 pub use certificate_fault::CertificateFault;
-pub use certificates::judge_certificate;
+pub use certificates::{judge_certificate, judge_proof};
 pub use claim_fault::ClaimFault;
 pub use claims::owed_formula;
 pub use fault::ObligationFault;

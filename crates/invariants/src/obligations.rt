@@ -1,11 +1,11 @@
 //! The obligation of an invariant over a circuit.
-ghost use Rattle.std.specs.Prelude.{◌≡◌, ℕ, suc, ◌+◌, ◌*◌, ◌<◌, ◌≤◌, [], ◌∷◌, length, map, All, IfOk, OnOk, slice_index_or};
+ghost use Rattle.std.specs.Prelude.{◌≡◌, ℕ, suc, ◌+◌, ◌*◌, ◌<◌, ◌≤◌, [], ◌∷◌, ◌++◌, length, map, All, IfOk, OnOk, slice_index_or};
 ghost use Rattle.std.specs.List.{range_with_len};
 ghost use Rattle.aiger.specs.Circuit.{IsCircuit};
 ghost use Rattle.base.specs.Literal.{negation};
 ghost use Rattle.clauses.specs.Formula.{IsLiteral};
 ghost use Rattle.invariants.specs.Invariants.{AreOver, bad_literal};
-ghost use Rattle.invariants.specs.Obligation.{over, gate_clauses, gates_clauses, now_literal, outside_clause, truth_variable, rise_variable, cube_variable, next_literal, next_clauses, nexts_clauses, fails_clause, now_clauses, failing_clauses, obligation_clauses, obligation};
+ghost use Rattle.invariants.specs.Obligation.{over, gate_clauses, gates_clauses, outside_clause, truth_variable, rise_variable, cube_variable, next_literal, next_clauses, nexts_clauses, fails_clause, now_clauses, failing_clauses, obligation};
 ghost use Rattle.invariants.specs.Made.{AddsClauses};
 ghost use Rattle.invariants.specs.Refusal.{obligation_refusal, RefusesObligation};
 
@@ -249,8 +249,8 @@ fn put_all(
 ) -> Result<(), ClauseFault>
     requires latches { invariant.now.latches ≡ length circuit.now.latches }
     requires few { rise_variable circuit.now + length invariant.now.cubes ≤ 2147483646 }
-    requires literals { AreOver formula.old.variables (obligation_clauses circuit.now invariant.now.cubes) }
-    ensures { OnOk result (AddsClauses formula.old formula.new (obligation_clauses circuit.now invariant.now.cubes)) }
+    requires literals { AreOver formula.old.variables (now_clauses circuit.now invariant.now.cubes ++ failing_clauses circuit.now invariant.now.cubes) }
+    ensures { OnOk result (AddsClauses formula.old formula.new (now_clauses circuit.now invariant.now.cubes ++ failing_clauses circuit.now invariant.now.cubes)) }
 {
     put_now(alloc, formula, circuit, invariant)?;
     put_failing(alloc, formula, circuit, invariant)

@@ -1,6 +1,6 @@
 //! Tests of witness circuits with ample memory, by their ascii texts, and witness circuits that have none.
 use crate::circuits::{Call, circuit_of, is_spelled};
-use aiger::{Circuit, Reset, Section};
+use aiger::{Circuit, Numbering, Reset, Section};
 use aigertext::Form;
 use certificates::{TestFault, test_circuit};
 use std::alloc::Global;
@@ -169,7 +169,7 @@ const ROWS: [Row; 12] = [
 
 /// Whether what a row says is answered for its circuits.
 fn has_test(alloc: Global, circuit: &Circuit, witness: &Circuit, row: &Row) -> bool {
-    match test_circuit(alloc, circuit, row.bad, witness) {
+    match test_circuit(alloc, circuit, &Numbering::own(), row.bad, witness) {
         Ok(test) => match row.answer {
             Ok(text) => is_spelled(&test, Form::Ascii, text),
             Err(_) => false,

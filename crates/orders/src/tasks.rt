@@ -29,9 +29,8 @@ pub enum Named {
     /// Lifts a witness of the engine form of a model's circuit, with all bad properties or with the one at a position, to a
     /// witness of the model, with names behind words.
     LiftForm(Option<usize>),
-    /// Judges a certificate, an invariant and a proof, of a bad property of what is given: of the one at a position, or of the
-    /// only one.
-    CheckProof(Given, Option<usize>),
+    /// Judges a certificate and a proof, of a bad property of what is given: of the one at a position, or of the only one.
+    CheckProof(Given, Certificate, Option<usize>),
 }
 
 /// What the first file of a command on certificates gives.
@@ -41,6 +40,17 @@ pub enum Given {
     Model,
     /// A circuit.
     Circuit,
+}
+
+/// What the second file of a command on certificates is.
+#[derive(Clone, Copy, PartialEq, Eq)]
+pub enum Certificate {
+    /// An invariant of the engine form with the bad property.
+    Invariant,
+    /// A witness circuit of the circuit.
+    Circuit,
+    /// A witness circuit of its engine form with the bad property.
+    CircuitOfForm,
 }
 
 /// The commands.
@@ -88,11 +98,11 @@ pub enum Task {
     TidyWitness(u64),
     /// Judges vectors of operators.
     Vectors,
-    /// Writes the formula that an invariant owes for a bad property of what is given: for the one at a position, or for the
+    /// Writes the formula that a certificate owes for a bad property of what is given: for the one at a position, or for the
     /// only one.
-    Obligation(Given, Option<usize>),
-    /// Judges a certificate, an invariant and a proof of the formula that it owes.
-    CheckProof(Given, Option<usize>),
+    Obligation(Given, Certificate, Option<usize>),
+    /// Judges a certificate and a proof of the formula that it owes.
+    CheckProof(Given, Certificate, Option<usize>),
 }
 
 /// A command, the form of the circuits that it writes, and the names of its files.

@@ -21,6 +21,9 @@ use Rattle.wave.specs.declared.fault.WaveFault.{WaveFault}
 use Rattle.wave.specs.declared.fault.WaveFault.TheVariants as wave
 use Rattle.vectors.specs.declared.lines.LinesFault.{LinesFault}
 use Rattle.vectors.specs.declared.lines.LinesFault.TheVariants as lines
+use Rattle.certificates.specs.declared.fault.TestFault.TheVariants as test
+use Rattle.certificates.specs.declared.witness_fault.WitnessFault.{WitnessFault}
+use Rattle.certificates.specs.declared.witness_fault.WitnessFault.TheVariants as witness
 use Rattle.invariants.specs.declared.why.InvariantFault.{InvariantFault}
 use Rattle.invariants.specs.declared.why.InvariantWhy.{InvariantWhy}
 use Rattle.invariants.specs.declared.why.InvariantWhy.TheVariants as invariant_why
@@ -115,6 +118,19 @@ abbrev pub of_claim : ClaimFault → Refusal
 of_claim (claim.Form e) = of_engine_form e
 of_claim (claim.Invariant e) = of_invariant_for e e.why
 of_claim (claim.Obligation e) = of_obligation e
+
+-- of the formula that a witness circuit owes, by the why of its text's fault
+abbrev pub of_witness_reading_for : CircuitFault → CircuitWhy → Refusal
+of_witness_reading_for e circuit_why.Device = refusal.Failed device.Second
+of_witness_reading_for e circuit_why.NoMemory = refusal.NoMemory
+of_witness_reading_for e _ = refusal.Second (fault.Circuit e)
+
+-- of the formula that a witness circuit owes
+abbrev pub of_witness : WitnessFault → Refusal
+of_witness (witness.Form e) = of_engine_form e
+of_witness (witness.Text e) = of_witness_reading_for e e.why
+of_witness (witness.Test test.NoMemory) = refusal.NoMemory
+of_witness (witness.Test e) = refusal.Second (fault.Test e)
 
 -- of judging a certificate
 abbrev pub of_certificate : CertificateFault → Refusal

@@ -1,5 +1,5 @@
 -- What a task says that is not done: the fault that its input has, or which file or stream failed, and the line that tells it.
-use Rattle.std.specs.Prelude.{◌≡◌, ◌⊎◌, ℕ, ◌<◌, List, [], ◌++◌, length, Option, None, Some, Err, IfSome, unwrap_or, unsigned_abs, codes, decimal}
+use Rattle.std.specs.Prelude.{◌≡◌, ◌⊎◌, ℕ, ◌<◌, ◌≤◌, List, [], ◌++◌, length, Option, None, Some, Err, IfSome, unwrap_or, unsigned_abs, codes, decimal}
 use Rattle.base.specs.declared.reasons.Reason.{Reason}
 use Rattle.base.specs.declared.reasons.Reason.TheVariants as reason
 use Rattle.btor2.specs.declared.item.Item.{Item}
@@ -19,6 +19,9 @@ use Rattle.engine.specs.Faults.{engine_fault_number as engine_number, engine_fau
 use Rattle.engine.specs.Refusal.{engine_refusal}
 use Rattle.engine.specs.declared.fault.EngineFault.{EngineFault}
 use Rattle.vectors.specs.Vectors.{IsFirstBad}
+use Rattle.certificates.specs.Faults.{test_number, test_name}
+use Rattle.certificates.specs.Refusal.{test_refusal}
+use Rattle.certificates.specs.declared.fault.TestFault.TheVariants as test
 use Rattle.invariants.specs.Certificates.{AreCubes, IsFormFor}
 use Rattle.invariants.specs.Faults.{invariant_why_number as invariant_number, invariant_why_name as invariant_name, obligation_number, obligation_name}
 use Rattle.invariants.specs.Reading.{ReadsCubes}
@@ -33,11 +36,14 @@ use Rattle.tasks.specs.declared.refusals.Fault.{Fault}
 use Rattle.tasks.specs.declared.refusals.Fault.TheVariants as fault
 use Rattle.tasks.specs.declared.refusals.Refusal.{Refusal}
 use Rattle.tasks.specs.declared.refusals.Refusal.TheVariants as refusal
+use Rattle.orders.specs.declared.tasks.Certificate.{Certificate}
+use Rattle.orders.specs.declared.tasks.Certificate.TheVariants as certificate
 use Rattle.orders.specs.declared.tasks.Given.{Given}
 use Rattle.orders.specs.declared.tasks.Given.TheVariants as given
-use Rattle.tasks.specs.Certificates.{GivesItsCircuit}
+use Rattle.tasks.specs.Certificates.{GivesItsCircuit, IsGivenNumbering}
 use Rattle.tasks.specs.Names.{harmless}
 use Rattle.btor2text.specs.Spelling.{IsModelOf}
+use Rattle.aigertext.specs.Spelling.{IsCircuitText}
 use Rattle.tasks.specs.Claims.{IsClaim}
 
 -- ---- lines
@@ -74,10 +80,12 @@ fault_said (fault.Outputs e) = numbered_name (circuit_fault_number e) (circuit_f
 fault_said (fault.Engine e) = numbered_name (engine_number e) (engine_name e)
 fault_said (fault.Invariant e) = place_said (codes "line ") e.line (numbered_name (invariant_number e.why) (invariant_name e.why))
 fault_said (fault.Obligation e) = numbered_name (obligation_number e) (obligation_name e)
+fault_said (fault.Test e) = numbered_name (test_number e) (test_name e)
 fault_said (fault.NoNext id) = item_said id (judge_number (judge.NoNext id)) (judge_name (judge.NoNext id))
 fault_said (fault.Vector n) = place_said (codes "line ") n (codes "bad vector\n")
 fault_said (fault.Unchosen claimed.Found) = codes "--bad K says which bad property rises: the K that the engine form was made for, or of a form of all, that of ABC's Output K of miter\n"
 fault_said (fault.Unchosen claimed.Certified) = codes "--bad K says which bad property holds: the K that the engine form of the invariant was made for\n"
+fault_said (fault.Unchosen claimed.Guarded) = codes "--bad K says which bad property holds: the one that the witness circuit is a certificate of\n"
 
 -- the line that tells a fault of a file
 abbrev pub fault_line : List ℕ → Fault → List ℕ
@@ -244,6 +252,41 @@ IsNotClaimed c g choice known (fault.Engine e) = GivesNoForm g choice known e �
 IsNotClaimed c g choice known (fault.Unchosen c') = (c' ≡ c) × GivesUnchosen g choice known
 IsNotClaimed c g choice known f = IsNotGiven g known f
 
+-- no bad property of a circuit can be guarded: there is none at the place that is chosen, or none at all; or there are several, and none is chosen
+abbrev pub IsUnguarded : Option ℕ → Circuit → Fault → Type 0
+IsUnguarded choice c (fault.Test e) = (e ≡ test.NoSuchBad) × (length c.bads ≤ unwrap_or choice 0)
+IsUnguarded choice c (fault.Unchosen c') = (c' ≡ claimed.Guarded) × ((choice ≡ None) × (1 < length c.bads))
+IsUnguarded choice c _ = ⊥
+
+-- the first text gives a circuit, of which no bad property can be guarded
+pub record GivesUnguarded (g : Given) (choice : Option ℕ) (known : Option (List ℕ)) (f : Fault) : Type 0 where
+  pub circuit : Circuit
+  pub gives : GivesItsCircuit g known circuit
+  pub unguarded : IsUnguarded choice circuit f
+
+-- the first text gives no circuit, or one of which no bad property can be guarded
+abbrev pub IsNotGuarded : Given → Option ℕ → Option (List ℕ) → Fault → Type 0
+IsNotGuarded g choice known (fault.Test e) = GivesUnguarded g choice known (fault.Test e)
+IsNotGuarded g choice known (fault.Unchosen c) = GivesUnguarded g choice known (fault.Unchosen c)
+IsNotGuarded g choice known f = IsNotGiven g known f
+
+-- the first text has this fault, for which no certificate of this kind is judged over what it gives
+abbrev pub IsNotCertifiable : Certificate → Given → Option ℕ → Option (List ℕ) → Fault → Type 0
+IsNotCertifiable certificate.Invariant g choice known f = IsNotClaimed claimed.Certified g choice known f
+IsNotCertifiable certificate.Circuit g choice known f = IsNotGuarded g choice known f
+IsNotCertifiable certificate.CircuitOfForm g choice known f = IsNotClaimed claimed.Guarded g choice known f
+
+-- no bad property of a circuit is claimed so by a certificate of this kind
+abbrev pub IsUnclaimedBy : Certificate → Option ℕ → Circuit → Fault → Type 0
+IsUnclaimedBy certificate.Invariant choice c f = (choice ≡ None) × IsUnclaimed claimed.Certified c f
+IsUnclaimedBy certificate.Circuit choice c f = IsUnguarded choice c f
+IsUnclaimedBy certificate.CircuitOfForm choice c f = (choice ≡ None) × IsUnclaimed claimed.Guarded c f
+
+-- this is the first that speaks against the engine form that a certificate of this kind speaks of
+abbrev pub IsWithoutFormBy : Certificate → Circuit → ℕ → Fault → Type 0
+IsWithoutFormBy certificate.Circuit c k f = ⊥
+IsWithoutFormBy _ c k f = IsWithoutForm c (Some k) f
+
 -- ---- the fault of a second input
 
 -- a text is no invariant over a circuit, and this is the fault of its first faulty line; or there is no obligation of its cubes
@@ -258,10 +301,30 @@ pub record IsFaultyFor (c : Circuit) (k : ℕ) (invariant : Option (List ℕ)) (
   pub is_form : IsFormFor c k form
   pub faulty : IsFaultyOver form invariant f
 
--- the second text has this fault, for the bad property that is claimed of the circuit that the first gives
-pub record IsFaultyInvariant (g : Given) (choice : Option ℕ) (first second : Option (List ℕ)) (f : Fault) : Type 0 where
+-- a text is no circuit, and this is its first fault; or it is a witness circuit without a test, and this is the first refusal that applies
+abbrev pub IsFaultyWitness : Option (List ℕ) → Circuit → ℕ → Option (List ℕ) → Fault → Type 0
+IsFaultyWitness n c k second (fault.Circuit e) = IfSome second (λ text. IsCircuitFaultOf text e)
+IsFaultyWitness n c k second (fault.Test e) = (w : Circuit) × IsCircuitText second w × (test_refusal n c k w ≡ Some e)
+IsFaultyWitness n c k second _ = ⊥
+
+-- a circuit has an engine form with this bad property, and a text has this fault as a witness circuit of that
+pub record IsFaultyOverForm (c : Circuit) (k : ℕ) (second : Option (List ℕ)) (f : Fault) : Type 0 where
+  pub form : Circuit
+  pub is_form : IsFormFor c k form
+  pub faulty : IsFaultyWitness None form 0 second f
+
+-- a text has this fault as a certificate of this kind
+abbrev pub IsFaultyBy : Certificate → Option (List ℕ) → Circuit → ℕ → Option (List ℕ) → Fault → Type 0
+IsFaultyBy certificate.Invariant n c k second f = IsFaultyFor c k second f
+IsFaultyBy certificate.Circuit n c k second f = IsFaultyWitness n c k second f
+IsFaultyBy certificate.CircuitOfForm n c k second f = IsFaultyOverForm c k second f
+
+-- the second text has this fault as a certificate of this kind, for the bad property that is claimed of the circuit that the first gives
+pub record IsFaultyCertificate (by : Certificate) (g : Given) (choice : Option ℕ) (first second : Option (List ℕ)) (f : Fault) : Type 0 where
   pub circuit : Circuit
+  pub numbering : Option (List ℕ)
   pub claim : ℕ
   pub gives : GivesItsCircuit g first circuit
+  pub is_numbering : IsGivenNumbering g first circuit numbering
   pub is_claim : IsClaim choice circuit claim
-  pub faulty : IsFaultyFor circuit claim second f
+  pub faulty : IsFaultyBy by numbering circuit claim second f

@@ -2,7 +2,7 @@
 #![tactic(auto)]
 
 mod answers;
-mod certificates;
+mod certifying;
 mod circuits;
 mod engines;
 mod files;
@@ -11,6 +11,7 @@ mod judgements;
 mod models;
 mod names;
 mod outputs;
+mod owing;
 mod progress;
 mod reasons;
 mod refusals;
@@ -22,7 +23,7 @@ mod vector_reports;
 mod waving;
 
 pub use answers::Answer;
-pub use certificates::{check_proof, write_obligation};
+pub use certifying::{check_proof, write_obligation};
 pub use circuits::{check_circuit, check_circuit_by_name, convert_circuit, read_circuit};
 pub use engines::{convert_for_engines, lower_for_engines};
 pub use files::{LateFile, NoFile, Stream, open_input};

@@ -45,7 +45,7 @@ pub fn lower_model<A: Source, O: Sink, W: Watch>(
     out: &mut O,
     watch: &mut W,
 ) -> Result<Answer, Refusal>
-    ensures done { OnOk result (Converts (A.to_come first.old) (O.written out.old) (O.written out.new) form) }
+    ensures done { OnOk result (Converts (A.to_come first.old) form (Appends (O.written out.old) (O.written out.new))) }
     ensures answer { IfOk result (λ answer. answer ≡ Answer.Done) }
     ensures refused { IfErr result (IfInput (IsNotLowered (A.to_come first.old))) }
     ensures unwritten { IfErr result (IfInput (λ _. out.new ≡ out.old)) }

@@ -5,11 +5,12 @@ ghost use Rattle.std.specs.String.{string_bytes};
 ghost use Rattle.tasks.specs.declared.refusals.Fault.TheVariants as fault_is;
 ghost use Rattle.tasks.specs.declared.refusals.Refusal.TheVariants as refusal;
 ghost use Rattle.tasks.specs.Refusals.{about, fault_said, item_said, numbered_name, status_of_fault};
-ghost use Rattle.tasks.specs.Conversions.{of_reading, of_circuit_reading, of_lowering, of_outputs, of_engine_form, of_conversion, of_judging, of_dumping, of_reading_all, of_lines, of_invariant_for, of_obligation, of_claim, of_certificate};
+ghost use Rattle.tasks.specs.Conversions.{of_reading, of_circuit_reading, of_lowering, of_outputs, of_engine_form, of_conversion, of_judging, of_dumping, of_reading_all, of_lines, of_invariant_for, of_obligation, of_claim, of_certificate, of_witness};
 
 use aiger::CircuitFault;
 use base::ReadAllFault;
 use blast::{ConvertFault, LowerFault};
+use certificates::{TestFault, WitnessFault};
 use engine::EngineFault;
 use invariants::{CertificateFault, ClaimFault, InvariantFault, InvariantWhy, ObligationFault};
 use orders::{REFUSED, WORDS_REFUSED};
@@ -35,6 +36,8 @@ pub enum Fault {
     Invariant(InvariantFault),
     /// There is no obligation of the invariant.
     Obligation(ObligationFault),
+    /// The witness circuit has no test, or the circuit has no such bad property.
+    Test(TestFault),
     /// The state of this id has an init and no next, and nothing is judged over it.
     NoNext(u64),
     /// This line, from 1, writes no vector.
@@ -48,8 +51,10 @@ pub enum Fault {
 pub enum Claimed {
     /// A counterexample, in which it rises.
     Found,
-    /// A certificate, by which it holds.
+    /// An invariant, by which it holds.
     Certified,
+    /// A witness circuit, by which it holds.
+    Guarded,
 }
 
 /// The files and streams of a command.
@@ -239,6 +244,23 @@ impl From<ClaimFault> for Refusal {
     }
 }
 
+impl From<WitnessFault> for Refusal {
+    ghost from_gives = { λ e r. r ≡ of_witness e };
+
+    fn from(fault: WitnessFault) -> Refusal {
+        match fault {
+            WitnessFault::Form(fault) => Refusal::from(fault),
+            WitnessFault::Text(fault) => match fault.why {
+                aigertext::Why::Device => Refusal::Failed(Device::Second),
+                aigertext::Why::NoMemory => Refusal::NoMemory,
+                _ => Refusal::Second(Fault::Circuit(fault)),
+            },
+            WitnessFault::Test(TestFault::NoMemory) => Refusal::NoMemory,
+            WitnessFault::Test(fault) => Refusal::Second(Fault::Test(fault)),
+        }
+    }
+}
+
 impl From<CertificateFault> for Refusal {
     ghost from_gives = { λ e r. r ≡ of_certificate e };
 
@@ -263,7 +285,11 @@ impl From<AllocError> for Refusal {
 const UNCHOSEN_FOUND: &str =
     ": --bad K says which bad property rises: the K that the engine form was made for, or of a form of all, that of ABC's Output K of miter\n";
 
-/// What is told where they leave open which one a certificate claims.
+/// What is told where they leave open which one a witness circuit guards.
+const UNCHOSEN_GUARDED: &str =
+    ": --bad K says which bad property holds: the one that the witness circuit is a certificate of\n";
+
+/// What is told where they leave open which one an invariant claims.
 const UNCHOSEN_CERTIFIED: &str =
     ": --bad K says which bad property holds: the K that the engine form of the invariant was made for\n";
 
@@ -305,6 +331,7 @@ impl Fault {
                 format!(in alloc; "{file}: line {line}: {number} {name}\n")
             }
             Fault::Obligation(fault) => plain_line(alloc, file, fault.number(), fault.name()),
+            Fault::Test(fault) => plain_line(alloc, file, fault.number(), fault.name()),
             Fault::NoNext(id) => {
                 let fault = JudgeFault::NoNext(*id);
                 item_line(alloc, file, *id, fault.number(), fault.name())
@@ -317,6 +344,7 @@ impl Fault {
             Fault::Unchosen(Claimed::Certified) => {
                 format!(in alloc; "{file}{UNCHOSEN_CERTIFIED}")
             }
+            Fault::Unchosen(Claimed::Guarded) => format!(in alloc; "{file}{UNCHOSEN_GUARDED}"),
         }
     }
 }

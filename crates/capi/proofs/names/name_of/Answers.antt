@@ -24,6 +24,7 @@ returns-clause-named c = is_name (λ name. name.now) c.name_among.result c.args.
       formulas = c.refusal_table.ensures.formulas;
       claims = c.refusal_table.ensures.claims;
       tidying = c.refusal_table.ensures.tidying;
+      tests = c.refusal_table.ensures.tests;
       certificates = c.refusal_table.ensures.certificates;
     })
     c.name_among.ensures
@@ -51,6 +52,7 @@ returns-clause-unnamed c = is_of_none (λ name. name.now) c.name_among.result c.
       formulas = c.refusal_table.ensures.formulas;
       claims = c.refusal_table.ensures.claims;
       tidying = c.refusal_table.ensures.tidying;
+      tests = c.refusal_table.ensures.tests;
       certificates = c.refusal_table.ensures.certificates;
     })
     c.name_among.ensures

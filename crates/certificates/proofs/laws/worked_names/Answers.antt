@@ -23,3 +23,7 @@ returns-clause-other c = refl
 pub returns-clause-named : goal.returns-clause-named
 unfolding number_of is_decimal capped_value
 returns-clause-named c = refl
+
+pub returns-clause-renumbered : goal.returns-clause-renumbered
+unfolding number_of is_decimal capped_value
+returns-clause-renumbered c = refl

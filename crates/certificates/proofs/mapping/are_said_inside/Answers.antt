@@ -9,7 +9,7 @@ use Rattle.certificates.proofs.mapping.are_said_inside.Goals as goal
 pub returns-then-not-is_inside : goal.returns-then-not-is_inside
 returns-then-not-is_inside c =
     let circuit = c.args.circuit.now in
-    let said = λ (position : ℕ). shared_literal (name_of c.args.witness.now c.args.section position) in
+    let said = λ (position : ℕ). shared_literal c.args.numbering.now (name_of c.args.witness.now c.args.section position) in
     let here : is_inside (variables (net circuit)) (said c.loop-position.position) ≡ false =
     ap (is_inside (variables (net circuit))) (sym c.shared_literal.ensures) ∙ (sym c.is_inside.ensures ∙ cc) in
     sym (one_fails (is_inside (variables (net circuit))) said c.count-position-end.result c.loop-position.position c.loop-position-test.true here)
@@ -18,7 +18,7 @@ returns-then-not-is_inside c =
 pub loop-position-preserved : goal.loop-position-preserved
 loop-position-preserved c =
     let circuit = c.args.circuit.now in
-    let said = λ (position : ℕ). shared_literal (name_of c.args.witness.now c.args.section position) in
+    let said = λ (position : ℕ). shared_literal c.args.numbering.now (name_of c.args.witness.now c.args.section position) in
     let here : is_inside (variables (net circuit)) (said c.loop-position.position) ≡ true =
     ap (is_inside (variables (net circuit))) (sym c.shared_literal.ensures) ∙ (sym c.is_inside.ensures ∙ cc) in
     all_more (is_inside (variables (net circuit))) said c.loop-position.position c.loop-position.invariant here

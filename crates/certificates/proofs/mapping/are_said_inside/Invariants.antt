@@ -6,4 +6,4 @@ use Rattle.certificates.specs.Mapping.{shared_literal, is_inside}
 use Rattle.certificates.proofs.mapping.are_said_inside.Given as goal
 
 abbrev pub invariant-loop-position : goal.invariant-loop-position
-invariant-loop-position l = list_all (is_inside (variables (net l.circuit))) (map (λ position. shared_literal (name_of l.witness l.section position)) (range_with_len 0 l.position)) ≡ true
+invariant-loop-position l = list_all (is_inside (variables (net l.circuit))) (map (λ position. shared_literal l.numbering (name_of l.witness l.section position)) (range_with_len 0 l.position)) ≡ true

@@ -5,4 +5,4 @@ use Rattle.certificates.specs.Mapping.{shared_literal}
 use Rattle.certificates.proofs.mapping.says_some_in.Given as goal
 
 abbrev pub invariant-loop-position : goal.invariant-loop-position
-invariant-loop-position l = list_any (λ (l : Option ℕ). is_some l) (map (λ position. shared_literal (name_of l.witness l.section position)) (range_with_len 0 l.position)) ≡ false
+invariant-loop-position l = list_any (λ (l : Option ℕ). is_some l) (map (λ position. shared_literal l.numbering (name_of l.witness l.section position)) (range_with_len 0 l.position)) ≡ false

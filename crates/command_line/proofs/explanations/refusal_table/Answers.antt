@@ -9,6 +9,7 @@ use Rattle.tidy.specs.Answers.{tidy_fault_name as tidy_name, tidy_fault_number a
 use Rattle.wave.specs.Answers.{wave_fault_name as wave_name, wave_fault_number as wave_number}
 use Rattle.command_line.specs.Explanations.{has_row}
 use Rattle.command_line.specs.declared.explanations.Explanation.{Explanation}
+use Rattle.certificates.specs.Faults.{test_name, test_number}
 use Rattle.clauses.specs.Faults.{clause_name, clause_number, formula_name, formula_number}
 use Rattle.clauses.specs.Printed.{proof_why_name as proof_name, proof_why_number as proof_number}
 use Rattle.invariants.specs.Faults.{certificate_name, certificate_number, claim_name, claim_number}
@@ -93,4 +94,9 @@ returns-clause-certificates c (certificate.Device) =
 pub returns-clause-tidying : goal.returns-clause-tidying
 returns-clause-tidying c = λ fault.
     let has : List Explanation → Bool = has_row (tidy_number fault) (tidy_name fault) in
-    behind_nine has c.often.result.now c.texts.result.now c.items.result.now c.names.result.now c.lowering.result.now c.runs.result.now c.witness_texts.result.now c.bit_texts.result.now c.gates.result.now _ (behind_six has c.calls.result.now c.lifting.result.now c.texts-2.result.now c.engines.result.now c.counterexamples.result.now c.dumps.result.now _ (behind (has c.proofs.result.now) _ (behind (has c.invariants.result.now) _ (here (has c.tidying.result.now) _ (c.tidying.ensures fault)))))
+    behind_nine has c.often.result.now c.texts.result.now c.items.result.now c.names.result.now c.lowering.result.now c.runs.result.now c.witness_texts.result.now c.bit_texts.result.now c.gates.result.now _ (behind_six has c.calls.result.now c.lifting.result.now c.texts-2.result.now c.engines.result.now c.counterexamples.result.now c.dumps.result.now _ (behind (has c.proofs.result.now) _ (behind (has c.invariants.result.now) _ (behind (has c.witness_circuits.result.now) _ (here (has c.tidying.result.now) _ (c.tidying.ensures fault))))))
+
+pub returns-clause-tests : goal.returns-clause-tests
+returns-clause-tests c = λ fault.
+    let has : List Explanation → Bool = has_row (test_number fault) (test_name fault) in
+    behind_nine has c.often.result.now c.texts.result.now c.items.result.now c.names.result.now c.lowering.result.now c.runs.result.now c.witness_texts.result.now c.bit_texts.result.now c.gates.result.now _ (behind_six has c.calls.result.now c.lifting.result.now c.texts-2.result.now c.engines.result.now c.counterexamples.result.now c.dumps.result.now _ (behind (has c.proofs.result.now) _ (behind (has c.invariants.result.now) _ (here (has c.witness_circuits.result.now) _ (c.witness_circuits.ensures fault)))))

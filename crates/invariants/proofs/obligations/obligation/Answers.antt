@@ -1,7 +1,7 @@
-use Rattle.std.proofs.Common.{◌≡◌, ℕ, ◌+◌, length, sym, ap, subst, ◌∙◌, arith}
+use Rattle.std.proofs.Common.{◌≡◌, ℕ, ◌+◌, ◌++◌, length, sym, ap, subst, ◌∙◌, arith}
 use Rattle.clauses.specs.Formula.{Formula}
 use Rattle.invariants.specs.Invariants.{AreOver}
-use Rattle.invariants.specs.Obligation.{rise_variable, obligation_clauses}
+use Rattle.invariants.specs.Obligation.{rise_variable, now_clauses, failing_clauses}
 use Rattle.invariants.proofs.FormulaLemmas.{is_formula}
 use Rattle.invariants.proofs.obligations.obligation.Goals as goal
 
@@ -11,5 +11,5 @@ put_all-requires-clause-literals c =
     let cubes = c.args.invariant.now.cubes in
     let many : c.variables-rise.result + 2 + c.cube_count-count.result ≡ rise_variable d + length cubes = omega (arith, c.variables-rise.ensures.count, c.cube_count-count.ensures.count) in
     let is : c.new-formula.result.variables ≡ rise_variable d + length cubes = ap (λ (f : Formula). f.variables) c.new-formula.ensures ∙ many in
-    subst (λ (n : ℕ). AreOver n (obligation_clauses d cubes)) (sym is)
+    subst (λ (n : ℕ). AreOver n (now_clauses d cubes ++ failing_clauses d cubes)) (sym is)
     (is_formula d cubes c.variables-rise.ensures.valid (subst (λ (n : ℕ). AreOver n cubes) c.requires c.cube_count-count.ensures.over))

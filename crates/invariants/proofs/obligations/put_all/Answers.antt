@@ -1,5 +1,5 @@
-use Rattle.std.proofs.Common.{refl}
-use Rattle.invariants.specs.Obligation.{now_clauses, failing_clauses, obligation_clauses}
+use Rattle.std.proofs.Common.{◌++◌, refl}
+use Rattle.invariants.specs.Obligation.{now_clauses, failing_clauses}
 use Rattle.invariants.proofs.PutLemmas.{over_front, leaves_all, leaves_less}
 use Rattle.invariants.proofs.obligations.put_all.Goals as goal
 
@@ -8,6 +8,6 @@ put_now-requires-clause-literals c = over_front c.args.formula.now.variables (no
 
 pub put_failing-requires-clause-literals : goal.put_failing-requires-clause-literals
 put_failing-requires-clause-literals c =
-    let all = obligation_clauses c.args.circuit.now c.args.invariant.now.cubes in
+    let all = now_clauses c.args.circuit.now c.args.invariant.now.cubes ++ failing_clauses c.args.circuit.now c.args.invariant.now.cubes in
     (leaves_less c.args.formula.now c.args.formula.now c.put_now.new.formula all all (now_clauses c.args.circuit.now c.args.invariant.now.cubes) (failing_clauses c.args.circuit.now c.args.invariant.now.cubes) refl
     (leaves_all c.args.formula.now all c.requires.literals) c.in_ok-put_now.ensures).literals

@@ -1,0 +1,12 @@
+use Rattle.std.proofs.Common.{subst}
+use Rattle.clauses.specs.declared.judgement.Judgement.TheVariants as judgement
+use Rattle.clauses.specs.Formula.{Formula}
+use Rattle.clauses.specs.Judgements.{JudgesProof}
+use Rattle.certificates.specs.Mapping.{mapping_of}
+use Rattle.certificates.proofs.laws.owed_formula_proved_never_rises.Goals as goal
+
+pub returns : goal.returns
+returns c numbering circuit k witness f text line a judged rise =
+    let is = a.tested in
+    c.proved_property_never_rises.ensures circuit k is.witness (mapping_of numbering circuit is.witness) a.test text line is.is_test
+    (subst (λ (g : Formula). JudgesProof g text (judgement.Derived line)) a.is_obligation judged) rise
