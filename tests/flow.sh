@@ -2,9 +2,10 @@
 # From a design in Verilog to a counterexample or a proof that is judged, where yosys, berkeley-abc, cadical and z3 are installed
 # (Debian: apt-get install yosys berkeley-abc cadical z3): each command of docs/FLOW.md is run, and says what stands there; and
 # each bad property of each model of examples/ is looked for by ABC in its engine form. What is found is restored and lifted,
-# and judged anew; what is proved is proved by CaDiCaL from ABC's invariant, and judged, also with a cube less. What is kept
-# in examples/ is judged too, and where GTKWave is installed (gtkwave, xvfb) the dumps of witnesses are opened. Last hwtool-flow is
-# tried, by tests/flow_tool.py.
+# and judged anew; what is proved is proved by CaDiCaL from ABC's invariant, and judged, also with a cube less. Witness circuits are
+# made of that invariant, and of inductions over each property, and judged whole and spoilt. What is kept in examples/ is judged too,
+# and where GTKWave is installed (gtkwave, xvfb) the dumps of witnesses are opened. Last small circuits by chance are tried with
+# witness circuits, by tests/witness_circuits.py, and hwtool-flow, by tests/flow_tool.py.
 # It is run by hand, beside the gate: tests/flow.sh [PROGRAM]. Where one of the four is not installed it says so and ends well.
 set -u
 top=$(cd "$(dirname "$0")/.." && pwd)
@@ -20,6 +21,7 @@ trap 'rm -rf "$folder"' EXIT
 mkdir "$folder/bin"
 ln -s "$program" "$folder/bin/hwtool"
 ln -s "$top/tools/yw-witness.py" "$folder/bin/yw-witness.py"
+ln -s "$top/tools/witness-circuit.py" "$folder/bin/witness-circuit.py"
 ln -s "$top/tools/hwtool-flow" "$folder/bin/hwtool-flow"
 PATH=$folder/bin:$PATH
 count=0
@@ -131,6 +133,50 @@ holds() {
     done
 }
 
+# over CIRCUIT WITNESS_CIRCUIT WORD ..: a witness circuit holds where it guards the property of that circuit, and so do those that
+# are made of it by spoiling it, and nowhere else
+over() {
+    count=$((count + 1))
+    python3 "$top/tests/witness_circuits.py" "$folder/bin/hwtool" --over "$@" >over.log || tell "$*: $(cat over.log)"
+}
+
+# circuits MODEL CIRCUIT K WORD: witness circuits of the invariant that ABC found, if it did, and of inductions. WORD is --rises where
+# the property can rise
+circuits() {
+    cp form.aig "form-$3.aig"
+    echo "${4-}" >"rises-$3"
+    if [ -s inv.pla ]; then
+        count=$((count + 1))
+        witness-circuit.py --invariant inv.pla -o "of-$3.aig" form.aig || tell "$1, b$3: no witness circuit of the invariant"
+        hwtool obligation --circuit --engine --bad "$3" -o o.cnf "$1" "of-$3.aig" || tell "$1, b$3: no obligation of a witness circuit"
+        refuted || tell "$1, b$3: CaDiCaL does not refute the obligation of a witness circuit"
+        hwtool obligation --circuit --engine --aiger --bad "$3" -o c.cnf "$2" "of-$3.aig" || tell "$1, b$3: none over the circuit"
+        cmp -s o.cnf c.cnf || tell "$1, b$3: another obligation of a witness circuit over the circuit"
+        hwtool check-proof --circuit --engine --bad "$3" "$1" "of-$3.aig" o.drat >told
+        [ "$(cat told)" = "holds: b$3" ] || tell "$1, b$3: a witness circuit of the invariant: $(cat told)"
+        cadical -q o.cnf o.drat >log
+        hwtool check-proof --circuit --engine --aiger --bad "$3" "$2" "of-$3.aig" o.drat >told
+        [ "$(cat told)" = "holds: b$3" ] || tell "$1, b$3: the same by a binary proof over the circuit: $(cat told)"
+    fi
+    for depth in 1 2 3; do
+        witness-circuit.py --induction "$depth" --bad "$3" -o induction.aag "$2" || tell "$1, b$3: no witness circuit of an induction"
+        over "$2" induction.aag --number "$3" ${4:+"$4"} -- --bad "$3" "$1"
+    done
+}
+
+# of_others MODEL: the witness circuits of invariants over the engine form of each property of the model
+of_others() {
+    for witness in of-*.aig; do
+        [ -f "$witness" ] || continue
+        for form in form-*.aig; do
+            k=${form#form-}
+            k=${k%.aig}
+            rises=$(cat "rises-$k")
+            over "$form" "$witness" ${rises:+"$rises"} -- --engine --bad "$k" "$1"
+        done
+    done
+}
+
 # opens MODEL WITNESS: the dump of a witness is read by GTKWave's converter, and by GTKWave, which has all its signals; where
 # they are installed
 opens() {
@@ -147,6 +193,12 @@ opens() {
 for proof in "$top"/examples/*.proof; do
     count=$((count + 1))
     base=${proof%.proof}
+    if [ ! -f "$base.invariant" ]; then
+        set -- "$base.btor2"
+        [ -f "$1" ] || set -- --aiger "$base.aag"
+        [ "$(hwtool check-proof --circuit "$@" "$base"-witness.a?g "$proof")" = "holds: b0" ] || tell "$proof: it does not hold"
+        continue
+    fi
     k=$(hwtool show "$base.btor2" | sed -n 's/^; .* \([0-9]*\) bad, .*/\1/p')
     k=$((k - 1))
     [ "$(hwtool check-proof --bad "$k" "$base.btor2" "$base.invariant" "$proof")" = "holds: b$k" ] || tell "$proof: it does not hold"
@@ -161,7 +213,9 @@ for model in "$top"/examples/*.btor2 "$folder"/flow/*.btor2; do
     hwtool lower -o circuit.aag "$model" 2>/dev/null || continue
     bads=$(hwtool show "$model" | sed -n 's/^; .* \([0-9]*\) bad, .*/\1/p')
     k=0
+    rm -f of-*.aig form-*.aig
     while [ "$k" -lt "$bads" ]; do
+        rm -f inv.pla
         hwtool lower --engine --bad "$k" --binary -o form.aig "$model" || tell "$model, b$k: no engine form"
         ways=
         for engine in "bmc3 -F 40" "strash; bmc3 -F 40" "pdr -T 20" "strash; pdr -T 20"; do
@@ -174,13 +228,21 @@ for model in "$top"/examples/*.btor2 "$folder"/flow/*.btor2; do
         done
         case $ways in
         *found*proved* | *proved*found*) tell "$model, b$k: found by one engine, and excluded by another" ;;
-        *proved*) holds "$model" circuit.aag "$k" ;;
+        *proved*)
+            holds "$model" circuit.aag "$k"
+            circuits "$model" circuit.aag "$k"
+            ;;
+        *found*) circuits "$model" circuit.aag "$k" --rises ;;
+        *) circuits "$model" circuit.aag "$k" ;;
         esac
         echo "$(basename "$model") b$k:${ways:- nothing found}"
         k=$((k + 1))
     done
+    of_others "$model"
 done
 
+count=$((count + 1))
+python3 "$top/tests/witness_circuits.py" "$folder/bin/hwtool" || tell "a witness circuit is not worth what it should be"
 count=$((count + 1))
 python3 "$top/tests/flow_tool.py" "$folder/bin/hwtool" || tell "hwtool-flow is not as it should be"
 echo "$count tried, $failed not as they should be"

@@ -27,6 +27,7 @@ import time
 TOP = pathlib.Path(__file__).resolve().parent.parent
 TOOL = TOP / "tools/hwtool-flow"
 LIAR = TOP / "tests/lying_engine.py"
+MAKER = TOP / "tools/witness-circuit.py"
 EXAMPLES = TOP / "examples"
 HOLDS = "holds"
 ALL_HOLD, ONE_FAILS, REFUSED, BROKE, WORDS, OPEN = range(6)
@@ -55,6 +56,10 @@ DESIGNS = {
     "guarded.btor2": [HOLDS],
     "wraps.btor2": [HOLDS],
     "two-counters.btor2": [7, HOLDS],
+    "skips.btor2": [HOLDS],
+    "apart.btor2": [HOLDS],
+    "drains.btor2": [HOLDS],
+    "ring.aag": [HOLDS],
     "twice.aag": [1],
 }
 
@@ -363,6 +368,15 @@ def try_names(place):
 # ---- engines that lie
 
 
+def maker(way, before=""):
+    """The command of an engine that writes a witness circuit, made in a way by the script, behind the words of a shell."""
+    script = f"{before}{sys.executable} {MAKER} {way} -o {{witness_circuit}} {{form}}"
+    return shlex.join(["sh", "-c", script]) if before else script
+
+
+BY_INVARIANT = maker("--invariant found", 'berkeley-abc -q "read_aiger {form}; strash; pdr -d -I found" >&2; ')
+
+
 def liar(way, *files, handed="{form}"):
     """The command of an engine that lies in a way; what it is handed stands at its end, where it does not look."""
     return shlex.join([sys.executable, str(LIAR), way, *map(str, files)]).replace("'{", "{").replace("}'", "}") + f" -- {handed}"
@@ -373,6 +387,9 @@ def true_files(place):
     place.run(EXAMPLES / "flow/queue.v", "-o", "true.flow")
     at = place.folder / "true.flow"
     files = {"invariant": at / "b1/invariant", "proof": at / "b1/proof", "formula": at / "b1/formula.cnf"}
+    files["witness circuit"] = place.folder / "true1.aig"
+    words = ["--invariant", files["invariant"], "-o", files["witness circuit"], at / "b1/form.aig"]
+    subprocess.run([sys.executable, MAKER, *words], check=True)
     for number in (0, 2):
         into = place.folder / f"true{number}.cex"
         abc = f"read_aiger {at}/b{number}/form.aig; bmc3 -F 40; write_cex -a {into}"
@@ -396,6 +413,16 @@ def lies(files):
         "no set of states": liar("all_states", "{invariant}"),
         "a set with the first state": liar("the_first_state", "{invariant}"),
         "an invariant of another property": liar("given", files["invariant"], "{invariant}"),
+        "a witness circuit that is always safe": liar("always_safe", "{witness_circuit}"),
+        "a witness circuit that is never met": liar("never_met", "{witness_circuit}"),
+        "a witness circuit of a literal that is not there": liar("no_such_literal", "{witness_circuit}"),
+        "a witness circuit of two properties": liar("two_properties", "{witness_circuit}"),
+        "a witness circuit of another property": liar("given", files["witness circuit"], "{witness_circuit}"),
+        "the form as its own witness circuit": liar("given", "{form}", "{witness_circuit}"),
+        "an induction that does not go through": maker("--induction 3"),
+        "an invariant as a witness circuit": liar("given", files["invariant"], "{witness_circuit}"),
+        "rubbish as a witness circuit": liar("rubbish", "{witness_circuit}"),
+        "a witness circuit without end": liar("without_end", "{witness_circuit}"),
         "nothing": liar("nothing", "{counterexample}"),
         "rubbish": liar("rubbish", "{counterexample}"),
         "rubbish as an invariant": liar("rubbish", "{invariant}"),
@@ -436,6 +463,15 @@ SAID_OF = {
     "no invariant": "check-proof: not derived",
     "no set of states": "check-proof: not derived",
     "a set with the first state": "obligation: ",
+    "a witness circuit that is always safe": "check-proof: not derived",
+    "a witness circuit that is never met": "check-proof: not derived",
+    "a witness circuit of a literal that is not there": "214 NoSuchLiteral",
+    "a witness circuit of two properties": "213 SeveralProperties",
+    "a witness circuit of another property": "check-proof: not derived",
+    "the form as its own witness circuit": "check-proof: not derived",
+    "an induction that does not go through": "check-proof: not derived",
+    "an invariant as a witness circuit": "obligation: ",
+    "rubbish as a witness circuit": "obligation: ",
     "rubbish": "lift: malformed",
     "rubbish as an invariant": "obligation: ",
     "nothing": "status 0",
@@ -515,6 +551,32 @@ def try_other_forms(place):
             way, done.returncode == ONE_FAILS and re.search(r"fails in frame 5 +checked +other", done.stdout), done.stdout + done.stderr
         )
         shutil.rmtree(place.folder / "other.flow")
+    try_witness_circuits(place)
+
+
+def try_witness_circuits(place):
+    """Engines that give witness circuits, of a model and of a circuit; what is kept, confirmed again, and not where it was changed."""
+    designs = {"flow/queue.v": (1, [None, HOLDS, None]), "skips.btor2": (0, [HOLDS]), "ring.aag": (0, [HOLDS])}
+    for way, command in {"three frames": maker("--induction 3"), "an invariant": BY_INVARIANT}.items():
+        for design, (number, wanted) in designs.items():
+            what, at = f"{design}, a witness circuit of {way}", place.folder / "circuit.flow"
+            words = [EXAMPLES / design, "-o", "circuit.flow", "--property", number]
+            done = place.run(*words, "--engine", f"other={command}")
+            tally.same(f"{what}: verdicts", (ALL_HOLD, wanted), (done.returncode, place.verdicts("circuit.flow")))
+            tally.same(f"{what}: check.sh", (0, "1 confirmed, 0 not"), place.checked("circuit.flow"))
+            kept = sorted(it.name for it in (at / f"b{number}").iterdir())
+            tally.same(f"{what}: what is kept", ["form.aig", "formula.cnf", "proof", "witness-circuit"], kept)
+            tally.true(f"{what}: the page", "The witness circuit has " in (at / "report.html").read_text())
+            mark = place.folder / "called"
+            again = place.run(*words, "--engine", f"touch=touch {mark} {{form}}")
+            seen = again.returncode, place.verdicts("circuit.flow"), mark.exists()
+            tally.same(f"{what}: a second run", (ALL_HOLD, wanted, False), seen)
+            (at / f"b{number}/witness-circuit").write_text("aag 0 0 0 0 0 1\n0\n")
+            tally.same(f"{what}: check.sh over another one", (1, "0 confirmed, 1 not"), place.checked("circuit.flow"))
+            again = place.run(*words, "--engine", "bmc3")
+            seen = again.returncode, place.verdict("circuit.flow", number)
+            tally.same(f"{what}: a second run over another one", (OPEN, None), seen)
+            shutil.rmtree(at)
 
 
 # ---- runs that go on

@@ -59,6 +59,26 @@ def the_first_state(into):
     pathlib.Path(into).write_text(".i 1\n.o 1\n.p 1\n.ilb lo0\n.ob inv\n0 1\n.e\n")
 
 
+def always_safe(into):
+    """A witness circuit whose property never fails, so that the property would hold in each state."""
+    pathlib.Path(into).write_text("aag 0 0 0 0 0 1\n0\n")
+
+
+def never_met(into):
+    """A witness circuit with a constraint that is never met."""
+    pathlib.Path(into).write_text("aag 0 0 0 0 0 1 1\n0\n0\n")
+
+
+def no_such_literal(into):
+    """A witness circuit, one input of which stands for a literal that is not there."""
+    pathlib.Path(into).write_text("aag 1 1 0 0 0 1\n2\n2\ni0 = 99999999\n")
+
+
+def two_properties(into):
+    """A circuit with two bad properties."""
+    pathlib.Path(into).write_text("aag 0 0 0 0 0 2\n0\n0\n")
+
+
 def at_once(into):
     """A proof whose first step is the empty clause."""
     pathlib.Path(into).write_text("0\n")
@@ -143,6 +163,10 @@ WAYS = {
         no_invariant,
         all_states,
         the_first_state,
+        always_safe,
+        never_met,
+        no_such_literal,
+        two_properties,
         at_once,
         nothing,
         rubbish,

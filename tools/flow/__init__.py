@@ -3,7 +3,7 @@
     command_line   the words, the order of things, the exit status
     reading        a design as a model: Verilog by Yosys, BTOR2, AIGER
     seeing         what a design in Verilog has: clocks, resets, memories, undefined bits
-    model          what is proved of: a model or a circuit, and its properties
+    model          what is proved of: a model or a circuit, and its properties; and what shows a verdict
     engines        the table of engines and solvers, and those that the words name
     running        processes: each in a session of its own, bounded, ended with its children
     program        the calls of `hwtool`, and what its words say

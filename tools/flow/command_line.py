@@ -26,14 +26,14 @@ class Words(argparse.ArgumentParser):
 
 ABOUT = """From a design to verdicts that hwtool has checked: Verilog by Yosys, BTOR2 or AIGER. Engines look for counterexamples and
 proofs of each property; what they claim counts only where check-btor, check-aig or check-proof confirms it. Results go into
-NAME.flow/: the model, witnesses, dumps, invariants, proofs, results.json, report.html, and check.sh, which confirms all
+NAME.flow/: the model, witnesses, dumps, certificates, proofs, results.json, report.html, and check.sh, which confirms all
 verdicts again by hwtool alone. A second run goes on where the first was stopped."""
 STATUSES = """exit statuses: 0 all hold, checked; 1 one fails; 2 an input is refused; 3 a tool is missing or broke, or a device failed;
 4 the words are refused; 5 some are open"""
 ENGINE_HELP = f"""engines to try, in this order: {', '.join(it.name for it in engines.ENGINES)}, or NAME=COMMAND. A COMMAND is
 handed {{form}}, the engine form of one property in AIGER, or {{model}}, and {{bad}}, {{depth}}, {{seconds}}. It writes
-{{counterexample}} as ABC does, {{witness}} of the form, {{model_witness}} or {{invariant}}; if it names none of these, its standard
-output is the witness"""
+{{counterexample}} as ABC does, {{witness}} of the form, {{model_witness}}, {{invariant}}, or {{witness_circuit}} of the form; if it
+names none of these, its standard output is the witness"""
 SOLVER_HELP = f"""what makes proofs in ascii DRAT: {', '.join(it.name for it in engines.SOLVERS)}, or NAME=COMMAND with {{formula}} and
 {{proof}}"""
 YOSYS_HELP = """steps of Yosys in place of those that hwtool-flow chooses; it reads the files first, where no step does, and writes the

@@ -11,7 +11,7 @@ import shutil
 from dataclasses import dataclass
 from typing import Dict, List, Optional, Sequence
 
-from .model import Verdict
+from .model import Evidence, Verdict
 
 
 class WordsRefused(Exception):
@@ -33,11 +33,19 @@ class Gives(enum.Enum):
     MODEL_WITNESS = "model_witness"
     # an invariant over the engine form, as ABC's `pdr -d -I` writes it
     INVARIANT = "invariant"
+    # a witness circuit of the engine form, as the AIGER format has it
+    WITNESS_CIRCUIT = "witness_circuit"
+
+    @property
+    def evidence(self) -> Evidence:
+        """What a check is handed of it."""
+        certificates = {Gives.INVARIANT: Evidence.INVARIANT, Gives.WITNESS_CIRCUIT: Evidence.WITNESS_CIRCUIT}
+        return certificates.get(self, Evidence.WITNESS)
 
     @property
     def claims(self) -> Verdict:
         """What it claims of the property."""
-        return Verdict.HOLDS if self is Gives.INVARIANT else Verdict.FAILS
+        return self.evidence.shows
 
 
 class Handed(enum.Enum):
@@ -56,7 +64,7 @@ class Handed(enum.Enum):
 class Engine:
     """An engine: its words, its part of the time that is left, and what in its output tells how far it is.
 
-    Where `proves` is said, an invariant that it writes is a claim only with these words in its output.
+    Where `proves` is said, what it writes of a property that holds is a claim only with these words in its output.
     """
 
     name: str

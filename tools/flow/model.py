@@ -20,6 +20,19 @@ class Verdict(enum.Enum):
     OPEN = "open"
 
 
+class Evidence(enum.Enum):
+    """What shows a verdict, with a proof where a property holds; the value is the name of its file."""
+
+    WITNESS = "witness"
+    INVARIANT = "invariant"
+    WITNESS_CIRCUIT = "witness-circuit"
+
+    @property
+    def shows(self) -> Verdict:
+        """The verdict that it shows."""
+        return Verdict.FAILS if self is Evidence.WITNESS else Verdict.HOLDS
+
+
 @dataclass(frozen=True)
 class Property:
     """A bad property: its number from 0, its name if it has one, and where in the design it stands, if that is known."""

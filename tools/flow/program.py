@@ -4,7 +4,7 @@ from dataclasses import dataclass
 from pathlib import Path
 from typing import List, Optional, Sequence
 
-from .model import Kind, Model
+from .model import Evidence, Kind, Model
 from .running import Ending, Runner, head_of
 
 # What a check has at least, however short the time for engines is.
@@ -91,9 +91,10 @@ class Program:
         form = ["--abc"] if by_abc else []
         return self.call(*back, *form, "--bad", str(number), "-o", into, model.name, found, aside=aside)
 
-    def formula(self, model: Model, number: int, invariant: str, into: str, aside: Path) -> Said:
-        """Writes the formula that nothing satisfies where an invariant is one."""
-        return self.call("obligation", *of_kind(model), "--bad", str(number), "-o", into, model.name, invariant, aside=aside)
+    def formula(self, model: Model, number: int, evidence: Evidence, certificate: str, into: str, aside: Path) -> Said:
+        """Writes the formula that nothing satisfies where an invariant is one, or a witness circuit guards the property."""
+        words = ["obligation", *of_kind(model, evidence), "--bad", str(number), "-o", into, model.name, certificate]
+        return self.call(*words, aside=aside)
 
     def dump(self, model: Model, witness: str, into: str, aside: Path) -> Said:
         """Writes the frames of a witness as a value change dump."""
@@ -110,13 +111,14 @@ class Program:
             return Judged(said.words, True, said.line, int(reached[1]))
         return Judged(said.words, False, said.line + (f", but of another property than b{number}" if said.status == 0 else ""))
 
-    def judge_holding(self, model: Model, number: int, invariant: str, proof: str, aside: Path) -> Judged:
-        """Whether an invariant and a proof show that this property holds."""
-        words = ["check-proof", *of_kind(model), "--bad", str(number), "--names", model.name, invariant, proof]
+    def judge_holding(self, model: Model, number: int, evidence: Evidence, certificate: str, proof: str, aside: Path) -> Judged:
+        """Whether an invariant or a witness circuit, and a proof, show that this property holds."""
+        words = ["check-proof", *of_kind(model, evidence), "--bad", str(number), "--names", model.name, certificate, proof]
         said = self.call(*words, aside=aside)
         return Judged(said.words, said.status == 0 and said.out.splitlines()[:1] == [f"holds: b{number}"], said.line)
 
 
-def of_kind(model: Model) -> List[str]:
-    """The word that says of a certificate that it is over a circuit."""
-    return ["--aiger"] if model.kind is Kind.CIRCUIT else []
+def of_kind(model: Model, evidence: Evidence) -> List[str]:
+    """The words that say what a certificate is, and what it is over."""
+    over_form = ["--circuit", "--engine"] if evidence is Evidence.WITNESS_CIRCUIT else []
+    return [*over_form, *(["--aiger"] if model.kind is Kind.CIRCUIT else [])]

@@ -8,7 +8,7 @@ from pathlib import Path
 from typing import Any, Dict, Iterator, List, Optional, Tuple
 
 from .engines import Engine, Gives, Handed
-from .model import Kind, Model, Property, Verdict
+from .model import Evidence, Kind, Model, Property, Verdict
 from .program import Broke, Judged, Program, Said, Stopped
 from .results import Claim, Folder, Outcome, Try, tries_of_json
 from .running import Ended, Ending, Runner, tail_of
@@ -19,7 +19,8 @@ ENGINE_BYTES = 64 << 20
 SOLVER_BYTES = 4 << 30
 # How much of an engine's last words is told.
 MOST_WORDS = 200
-FORM, WITNESS, DUMP, SAVED, INVARIANT, FORMULA, PROOF = "form.aig", "witness", "dump.vcd", "dump.gtkw", "invariant", "formula.cnf", "proof"
+FORM, DUMP, SAVED, FORMULA, PROOF = "form.aig", "dump.vcd", "dump.gtkw", "formula.cnf", "proof"
+WITNESS = Evidence.WITNESS.value
 
 
 @dataclass
@@ -78,22 +79,18 @@ class Prover:
         """What an earlier run told of a property, where its check says so now; nothing where it does not."""
         job = Job(self, it)
         job.aside.mkdir(exist_ok=True)
-        verdict = next((one for one in NEEDED if one.value == told.get("verdict")), None)
-        if verdict is None or not all((job.kept / name).is_file() for name in NEEDED[verdict]):
+        evidence = next((one for one in Evidence if one.shows.value == told.get("verdict") and job.is_kept(one)), None)
+        if evidence is None:
             return None
         try:
-            judged = job.judge(verdict)
+            judged = job.judge(evidence)
         except Broke:
             return None
         if not judged.confirmed:
             return None
         seconds = told.get("seconds")
         seconds = seconds if isinstance(seconds, float) else 0.0
-        return confirmed(it, verdict, judged, str(told.get("engine")), seconds, tries_of_json(told))
-
-
-# What a verdict's check reads.
-NEEDED = {Verdict.FAILS: [WITNESS], Verdict.HOLDS: [INVARIANT, PROOF]}
+        return confirmed(it, evidence.shows, judged, str(told.get("engine")), seconds, tries_of_json(told))
 
 
 def confirmed(it: Property, verdict: Verdict, judged: Judged, engine: str, seconds: float, tries: List[Try]) -> Outcome:
@@ -158,6 +155,11 @@ class Job:
         if said.status != 0:
             raise Broke(said.line)
 
+    def is_kept(self, evidence: Evidence) -> bool:
+        """Whether all that a check reads is kept."""
+        names = [evidence.value, *([PROOF] if evidence.shows is Verdict.HOLDS else [])]
+        return all((self.kept / it).is_file() for it in names)
+
     def forget(self) -> None:
         """Removes what was made of a claim that no check confirmed."""
         for it in self.kept.iterdir():
@@ -184,7 +186,7 @@ class Job:
         done = Attempt(Try(engine.name, why(ended, end), ended.seconds, engine.frame_in(end)))
         for gives in engine.gives() or [engine.says()]:
             found = work / (gives.value if engine.gives() else "log")
-            is_claim = gives is not Gives.INVARIANT or engine.proves in tail_of(work / "log")
+            is_claim = gives.claims is Verdict.FAILS or engine.proves in tail_of(work / "log")
             if is_claim and is_plain(found) and found.stat().st_size > 0:
                 judged = self.check(gives, found, deadline)
                 done.what.claims.append(Claim(gives.claims, judged.check, judged.line, judged.confirmed))
@@ -217,7 +219,7 @@ class Job:
         """Has a claim checked; where what a check would read cannot be made, the call that does not make it stands for the check."""
         try:
             if gives.claims is Verdict.HOLDS:
-                return self.judge_invariant(found, deadline)
+                return self.judge_certificate(gives.evidence, found, deadline)
             judged = self.judge_found(gives, found)
             if judged.confirmed:
                 self.draw()
@@ -240,15 +242,16 @@ class Job:
         if gives is not Gives.MODEL_WITNESS:
             by_abc = gives is Gives.ABC_COUNTEREXAMPLE
             self.made(program.witness(model, self.property.number, place, by_abc, self.name(WITNESS), self.aside))
-        return self.judge(Verdict.FAILS)
+        return self.judge(Evidence.WITNESS)
 
-    def judge_invariant(self, found: Path, deadline: float) -> Judged:
-        """Has a solver refute what an invariant owes, and the proof judged."""
+    def judge_certificate(self, evidence: Evidence, found: Path, deadline: float) -> Judged:
+        """Has a solver refute what an invariant or a witness circuit owes, and the proof judged."""
         program, model, solver = self.prover.program, self.prover.model, self.prover.solver
         if solver is None:
             raise NotMade("check-proof", "there is no solver that could make a proof")
-        shutil.copyfile(found, self.kept / INVARIANT)
-        self.made(program.formula(model, self.property.number, self.name(INVARIANT), self.name(FORMULA), self.aside))
+        certificate = self.name(evidence.value)
+        shutil.copyfile(found, self.kept / evidence.value)
+        self.made(program.formula(model, self.property.number, evidence, certificate, self.name(FORMULA), self.aside))
         work = self.aside / "solver"
         shutil.rmtree(work, ignore_errors=True)
         work.mkdir()
@@ -261,14 +264,14 @@ class Job:
         if not is_plain(work / PROOF):
             raise NotMade(solver.name, f"it wrote no proof: {ended}")
         os.replace(work / PROOF, self.kept / PROOF)
-        return self.judge(Verdict.HOLDS)
+        return self.judge(evidence)
 
-    def judge(self, verdict: Verdict) -> Judged:
+    def judge(self, evidence: Evidence) -> Judged:
         """Has what is kept of a property judged. This call alone makes a verdict."""
         program, model, number = self.prover.program, self.prover.model, self.property.number
-        if verdict is Verdict.FAILS:
+        if evidence is Evidence.WITNESS:
             return program.judge_failure(model, number, self.name(WITNESS), self.aside)
-        return program.judge_holding(model, number, self.name(INVARIANT), self.name(PROOF), self.aside)
+        return program.judge_holding(model, number, evidence, self.name(evidence.value), self.name(PROOF), self.aside)
 
     def draw(self) -> None:
         """Writes the frames of a witness of a model for GTKWave, and which signals are to be seen first."""

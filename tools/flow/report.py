@@ -5,9 +5,9 @@ from pathlib import Path
 from typing import Optional
 
 from .markup import tag, text
-from .model import Kind, Verdict
+from .model import Evidence, Kind, Verdict
 from .pictures import MOST_FRAMES, MOST_ROWS, picture
-from .proving import DUMP, FORMULA, INVARIANT, PROOF, SAVED, WITNESS
+from .proving import DUMP, FORMULA, PROOF, SAVED, WITNESS
 from .results import Outcome, Results, count_of
 from .telling import in_vain
 from .waves import read_bits, read_dump, shown
@@ -19,6 +19,8 @@ MEANS = {
     Verdict.FAILS: "There is a run from an initial state, in which all assumptions hold and the property fails in frame {frame}.",
     Verdict.OPEN: "Nothing is known of it: no engine claimed what a check confirmed.",
 }
+# The files of certificates.
+CERTIFICATES = [it.value for it in Evidence if it.shows is Verdict.HOLDS]
 # What the buttons of a picture do: the key that does the same, what stands on the button, and what it means.
 BUTTONS = [
     ("+", "+", "fewer frames (+)"),
@@ -124,7 +126,7 @@ def said_by(it: Outcome) -> str:
 def links(it: Outcome, folder: Path) -> str:
     """The files of a property."""
     key = it.property.key
-    names = [name for name in (WITNESS, DUMP, SAVED, INVARIANT, FORMULA, PROOF) if (folder / key / name).exists()]
+    names = [name for name in (WITNESS, DUMP, SAVED, *CERTIFICATES, FORMULA, PROOF) if (folder / key / name).exists()]
     return tag("p", " · ".join(tag("a", name, href=f"{key}/{name}") for name in names), class_="soft")
 
 
@@ -147,15 +149,25 @@ def drawn(it: Outcome, rises: int, results: Results, folder: Path) -> str:
 
 
 def certificate(at: Path) -> str:
-    """How large a certificate is: the invariant, the formula that it owes, and the proof that refutes that."""
+    """How large a certificate is: the invariant or witness circuit, the formula that it owes, and the proof that refutes that."""
     try:
-        cubes, clauses, steps = number_in(at / INVARIANT, r"^\.p (\d+)"), number_in(at / FORMULA, r"^p cnf \d+ (\d+)"), steps_in(at / PROOF)
+        what, clauses, steps = reason(at), number_in(at / FORMULA, r"^p cnf \d+ (\d+)"), steps_in(at / PROOF)
     except OSError as fault:
         return text(f"How large the certificate is cannot be told: {fault}")
     return (
-        f"The invariant: {cubes} {'set' if cubes == 1 else 'sets'} of states that are never reached. The formula that it owes has "
-        f"{clauses} clauses, and the proof that nothing satisfies it {steps} {'step' if steps == 1 else 'steps'}."
+        f"{what} The formula that it owes has {clauses} clauses, and the proof that nothing satisfies it {steps} "
+        f"{'step' if steps == 1 else 'steps'}."
     )
+
+
+def reason(at: Path) -> str:
+    """How large an invariant is, or a witness circuit."""
+    circuit = at / Evidence.WITNESS_CIRCUIT.value
+    if circuit.exists():
+        latches, gates = (number_in(circuit, rf"^a[ai]g(?: \d+){{{place}}} (\d+)") for place in (2, 4))
+        return f"The witness circuit has {latches} latches and {gates} gates."
+    cubes = number_in(at / Evidence.INVARIANT.value, r"^\.p (\d+)")
+    return f"The invariant: {cubes} {'set' if cubes == 1 else 'sets'} of states that are never reached."
 
 
 def number_in(path: Path, pattern: str) -> Optional[int]:
