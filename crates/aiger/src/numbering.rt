@@ -1,11 +1,10 @@
 //! The lists of a file as a circuit: their variables get the numbers of a circuit.
-ghost use Rattle.std.specs.Prelude.{◌≡◌, ◌+◌, ◌++◌, [], map, ◌<◌, ◌≤◌, length, nat_le, nat_eq, not, All, None, Some, IfOk, OnOk};
+ghost use Rattle.std.specs.Prelude.{◌≡◌, ◌+◌, ◌++◌, [], map, ◌<◌, ◌≤◌, length, nat_le, nat_eq, not, None, Some, IfOk, OnOk};
 ghost use Rattle.std.specs.List.{list_all, position};
-ghost use Rattle.aiger.specs.Limits.{greatest_count};
 ghost use Rattle.base.specs.Literal.{variable};
 ghost use Rattle.aiger.specs.Loose.{IsLoose, defined_variables, latch_variable};
-ghost use Rattle.aiger.specs.Renumbering.{AnswersNumber, AnswersNumbered, IsNumberingOf, IsOrder, first_undefined, variables_numbered};
-ghost use Rattle.aiger.specs.Numbering.{slots_of, IsOnce, WaitForEarlier};
+ghost use Rattle.aiger.specs.Renumbering.{AnswersNumber, AnswersNumbered, IsNumberingOf, IsOrder, first_undefined};
+ghost use Rattle.aiger.specs.Numbering.{slots_of, WaitForEarlier};
 
 use crate::circuit::Circuit;
 use crate::circuit::renumbered::{gates_as_they_stand, gates_in_order};

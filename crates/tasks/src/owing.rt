@@ -1,6 +1,6 @@
 //! Which bad property a certificate is about, the formula that it owes for it, and the judgement of a proof over that.
 
-ghost use Rattle.std.specs.Prelude.{◌≡◌, ℕ, List, None, Option, Some, IfOk, IfErr};
+ghost use Rattle.std.specs.Prelude.{◌≡◌, ◌<◌, ℕ, List, length, None, Option, Some, IfOk, IfErr};
 ghost use Rattle.aiger.specs.Circuit.{Circuit};
 ghost use Rattle.aiger.specs.Reachability.{CanRiseInCircuit};
 ghost use Rattle.certificates.specs.Owing.{IsTestedFormula, IsTestedOverForm};
@@ -25,6 +25,7 @@ use std::alloc::Global;
 /// The bad property of a circuit that a witness circuit is to guard: the chosen one, or the only one.
 fn guarded_claim(circuit: &Circuit, choice: Option<usize>) -> Result<usize, Fault>
     ensures claim { IfOk result (IsClaim choice circuit.now) }
+    ensures there { IfOk result (λ claim. claim < length circuit.now.bads) }
     ensures unguarded { IfErr result (IsUnguarded choice circuit.now) }
 {
     let count = circuit.bads().len();

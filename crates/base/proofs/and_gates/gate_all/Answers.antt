@@ -1,4 +1,4 @@
-use Rattle.std.proofs.Common.{◌≡◌, ◌∙◌, arith, rules}
+use Rattle.std.proofs.Common.{arith, rules}
 use Rattle.base.proofs.GateLemmas.{AreAnds-more}
 use Rattle.base.proofs.and_gates.gate_all.Goals as goal
 

@@ -1,4 +1,4 @@
-use Rattle.std.proofs.Common.{ℕ, Err, refl, sym, subst}
+use Rattle.std.proofs.Common.{Err, refl, sym, subst}
 use Rattle.clauses.specs.declared.judgement.Judgement.{Judgement}
 use Rattle.tasks.specs.declared.refusals.Refusal.{Refusal}
 use Rattle.tasks.specs.Statuses.{CountsAll}
