@@ -1,9 +1,9 @@
 -- A number that a table of all refusals has no name for is that of none.
 use Rattle.std.proofs.Common.{◌≡◌, ◌≢◌, ℕ, ◌==◌, Bool, true, false, ◌||◌, ◌&&◌, List, [], ◌∷◌, Option, None, Some, IfSome, option_map, refl, sym, ap, subst, ◌∙◌, if◌then◌else◌}
 use Rattle.std.specs.Str.{bytes_eq}
-use Rattle.command_line.specs.Explanations.{Explains, has_row}
-use Rattle.command_line.specs.declared.explanations.Explanation.{Explanation}
-use Rattle.command_line.specs.declared.explanations.Part.{Part}
+use Rattle.explanations.specs.Explanations.{Explains, has_row}
+use Rattle.explanations.specs.declared.table.Explanation.{Explanation}
+use Rattle.explanations.specs.declared.table.Part.{Part}
 use Rattle.std.specs.List.{list_any}
 use Rattle.capi.specs.Named.{HasEach, IsRefusalName, IsOfNone, name_among, name_listed, or_name}
 

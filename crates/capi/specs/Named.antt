@@ -41,9 +41,9 @@ use Rattle.witness.specs.Answers.{judge_name, judge_number}
 use Rattle.witness.specs.Printed.{why_number as witness_number, why_name as witness_name}
 use Rattle.witness.specs.declared.fault.JudgeFault.{JudgeFault}
 use Rattle.witness.specs.declared.why.Why.{Why as WitnessWhy}
-use Rattle.command_line.specs.Explanations.{Explains}
-use Rattle.command_line.specs.declared.explanations.Explanation.{Explanation}
-use Rattle.command_line.specs.declared.explanations.Part.{Part}
+use Rattle.explanations.specs.Explanations.{Explains}
+use Rattle.explanations.specs.declared.table.Explanation.{Explanation}
+use Rattle.explanations.specs.declared.table.Part.{Part}
 
 -- the name of the first of some rows that has a number
 abbrev pub name_listed : ℕ → List Explanation → Option (List ℕ)

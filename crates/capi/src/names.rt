@@ -5,7 +5,7 @@ ghost use Rattle.capi.specs.Named.{IsRefusalName, IsOfNone, name_among, name_lis
 ghost use Rattle.capi.specs.Written.{Fills, Needs};
 
 use crate::buffers::hand_over;
-use command_line::{Explanation, Part, refusal_table};
+use explanations::{Explanation, Part, refusal_table};
 use orders::version;
 
 /// The status where no refusal has a number.

@@ -8,12 +8,11 @@ use crate::command_table::{
     WITNESS, Word, row_of,
 };
 use crate::engine_words::{engine_properties, with_engine};
-use crate::explaining::{Sought, explain};
-use crate::explanations::refusal_table;
 use aigertext::Form;
 use base::decimal;
 use clap::error::ErrorKind;
 use clap::{Arg, ArgAction, ArgMatches, Command, Error};
+use explanations::{Sought, explain, refusal_table};
 use orders::{Named, Order, STANDARD_INPUT, STANDARD_OUTPUT, Stop, Task, version};
 use std::alloc::{AllocError, AllocGlobal, Global};
 use std::convert::AsStr;

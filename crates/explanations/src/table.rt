@@ -20,7 +20,7 @@ ghost use Rattle.clauses.specs.Printed.{proof_why_name as proof_name, proof_why_
 ghost use Rattle.clauses.specs.declared.fault.ClauseFault.{ClauseFault};
 ghost use Rattle.clauses.specs.declared.fault.FormulaFault.{FormulaFault};
 ghost use Rattle.clauses.specs.declared.why.Why.{Why as ProofWhy};
-ghost use Rattle.command_line.specs.Explanations.{Explains};
+ghost use Rattle.explanations.specs.Explanations.{Explains};
 ghost use Rattle.engine.specs.Faults.{engine_fault_name as engine_name, engine_fault_number as engine_number};
 ghost use Rattle.engine.specs.declared.fault.EngineFault.{EngineFault};
 ghost use Rattle.gates.specs.Faults.{gate_fault_name as gate_name, gate_fault_number as gate_number};

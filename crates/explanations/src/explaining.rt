@@ -2,9 +2,9 @@
 
 ghost use Rattle.std.specs.Prelude.{◌≡◌, ◌++◌, ◌⊎◌, Bool, [], IfOk, OnOk, option_map};
 ghost use Rattle.std.specs.String.{string_bytes};
-ghost use Rattle.command_line.specs.Explanations.{explained, has_name, has_sought_number, is_of_first_line, is_of_line, is_same, is_sought, is_told, row_lines, told_part, told_parts, told_row};
+ghost use Rattle.explanations.specs.Explanations.{explained, has_name, has_sought_number, is_of_first_line, is_of_line, is_same, is_sought, is_told, row_lines, told_part, told_parts, told_row};
 
-use crate::explanations::{Explanation, Part};
+use crate::table::{Explanation, Part};
 use base::decimal;
 use orders::Stop;
 use std::alloc::{AllocError, Global};

@@ -5,8 +5,8 @@ use Rattle.btor2.specs.declared.fault.PushFault.{PushFault}
 use Rattle.btor2text.specs.Whys.{line_why_name, printed_number}
 use Rattle.btor2text.specs.declared.fault.Why.{Why}
 use Rattle.btor2text.specs.declared.fault.Why.TheVariants as why
-use Rattle.command_line.specs.Explanations.{Has, HasOwn, has_row}
-use Rattle.command_line.specs.declared.explanations.Explanation.{Explanation}
+use Rattle.explanations.specs.Explanations.{Has, HasOwn, has_row}
+use Rattle.explanations.specs.declared.table.Explanation.{Explanation}
 
 pub here : (first rest : Bool) → first ≡ true → (first || rest) ≡ true
 here true rest is = refl

@@ -1,6 +1,6 @@
 //! Refusals of witnesses.
 
-ghost use Rattle.command_line.specs.Explanations.{Has};
+ghost use Rattle.explanations.specs.Explanations.{Has};
 ghost use Rattle.lift.specs.Answers.{lift_fault_name, lift_fault_number};
 ghost use Rattle.lift.specs.declared.fault.LiftFault.{LiftFault};
 ghost use Rattle.runs.specs.Faults.{new_name, new_number};

@@ -7,7 +7,7 @@ ghost use Rattle.clauses.specs.Printed.{proof_why_name, proof_why_number};
 ghost use Rattle.clauses.specs.declared.fault.ClauseFault.{ClauseFault};
 ghost use Rattle.clauses.specs.declared.fault.FormulaFault.{FormulaFault};
 ghost use Rattle.clauses.specs.declared.why.Why.{Why};
-ghost use Rattle.command_line.specs.Explanations.{Has};
+ghost use Rattle.explanations.specs.Explanations.{Has};
 ghost use Rattle.invariants.specs.Faults.{certificate_name, certificate_number, obligation_name, obligation_number, invariant_why_name as invariant_name, invariant_why_number as invariant_number};
 ghost use Rattle.invariants.specs.declared.certificate_fault.CertificateFault.TheVariants as certificate;
 ghost use Rattle.invariants.specs.declared.fault.ObligationFault.{ObligationFault};

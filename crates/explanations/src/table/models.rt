@@ -7,7 +7,7 @@ ghost use Rattle.btor2text.specs.declared.fault.Why.{Why};
 ghost use Rattle.blast.specs.Faults.{convert_name, convert_number, lower_name, lower_number};
 ghost use Rattle.blast.specs.declared.fault.ConvertFault.{ConvertFault};
 ghost use Rattle.blast.specs.declared.fault.LowerFault.{LowerFault};
-ghost use Rattle.command_line.specs.Explanations.{Has, HasOwn};
+ghost use Rattle.explanations.specs.Explanations.{Has, HasOwn};
 
 use super::Explanation;
 

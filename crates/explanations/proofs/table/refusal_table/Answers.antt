@@ -7,16 +7,16 @@ use Rattle.lift.specs.Answers.{lift_fault_name as lift_name, lift_fault_number a
 use Rattle.restore.specs.Faults.{restore_why_name as restore_name, restore_why_number as restore_number}
 use Rattle.tidy.specs.Answers.{tidy_fault_name as tidy_name, tidy_fault_number as tidy_number}
 use Rattle.wave.specs.Answers.{wave_fault_name as wave_name, wave_fault_number as wave_number}
-use Rattle.command_line.specs.Explanations.{has_row}
-use Rattle.command_line.specs.declared.explanations.Explanation.{Explanation}
+use Rattle.explanations.specs.Explanations.{has_row}
+use Rattle.explanations.specs.declared.table.Explanation.{Explanation}
 use Rattle.certificates.specs.Faults.{test_name, test_number}
 use Rattle.clauses.specs.Faults.{clause_name, clause_number, formula_name, formula_number}
 use Rattle.clauses.specs.Printed.{proof_why_name as proof_name, proof_why_number as proof_number}
 use Rattle.invariants.specs.Faults.{certificate_name, certificate_number, claim_name, claim_number}
 use Rattle.invariants.specs.declared.certificate_fault.CertificateFault.TheVariants as certificate
 use Rattle.invariants.specs.declared.claim_fault.ClaimFault.TheVariants as claim
-use Rattle.command_line.proofs.TableLemmas.{behind, behind_nine, behind_six, here, in_models}
-use Rattle.command_line.proofs.explanations.refusal_table.Goals as goal
+use Rattle.explanations.proofs.TableLemmas.{behind, behind_nine, behind_six, here, in_models}
+use Rattle.explanations.proofs.table.refusal_table.Goals as goal
 
 pub returns-clause-models : goal.returns-clause-models
 returns-clause-models c = λ why. in_models why _ _ c.texts.result.now c.items.result.now (c.texts.ensures why) c.items.ensures

@@ -5,9 +5,9 @@ use Rattle.std.specs.Str.{bytes_eq, str_eq_ignore_ascii_case}
 use Rattle.btor2text.specs.Whys.{line_why_number as why_number, line_why_name as why_name}
 use Rattle.btor2text.specs.declared.fault.Why.{Why}
 use Rattle.btor2text.specs.declared.fault.Why.TheVariants as why
-use Rattle.command_line.specs.declared.explanations.Explanation.{Explanation}
-use Rattle.command_line.specs.declared.explanations.Part.{Part}
-use Rattle.command_line.specs.declared.explaining.Sought.{Sought}
+use Rattle.explanations.specs.declared.table.Explanation.{Explanation}
+use Rattle.explanations.specs.declared.table.Part.{Part}
+use Rattle.explanations.specs.declared.explaining.Sought.{Sought}
 
 -- ---- what is sought
 

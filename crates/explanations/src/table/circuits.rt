@@ -6,7 +6,7 @@ ghost use Rattle.aiger.specs.declared.fault.CircuitFault.{CircuitFault};
 ghost use Rattle.aiger.specs.declared.fault.LooseFault.{LooseFault};
 ghost use Rattle.aigertext.specs.Whys.{circuit_why_name, circuit_why_number};
 ghost use Rattle.aigertext.specs.declared.fault.Why.{Why};
-ghost use Rattle.command_line.specs.Explanations.{Has};
+ghost use Rattle.explanations.specs.Explanations.{Has};
 ghost use Rattle.engine.specs.Faults.{engine_fault_name as engine_name, engine_fault_number as engine_number};
 ghost use Rattle.engine.specs.declared.fault.EngineFault.{EngineFault};
 ghost use Rattle.gates.specs.Faults.{gate_fault_name, gate_fault_number};
