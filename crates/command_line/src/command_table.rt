@@ -1,6 +1,6 @@
 //! The table of the commands: their words, and what help says of them.
 
-use orders::{Certificate, Given, Task};
+use orders::{Certificate, CertificateTask, CircuitTask, Given, ModelTask, Task, TextTask};
 use wave::Shown;
 
 /// What a word of a command is.
@@ -290,7 +290,7 @@ const CLAIMED_BAD: Word = Word {
 pub(crate) static ROWS: [Row; 13] = [
     Row {
         word: "lower",
-        task: Task::Lower,
+        task: Task::Text(TextTask::Lower),
         about: "Lower a BTOR2 model to an AIGER circuit on standard output",
         words: &[
             MODEL_FILE,
@@ -304,25 +304,25 @@ pub(crate) static ROWS: [Row; 13] = [
     },
     Row {
         word: "check-btor",
-        task: Task::CheckBtor,
+        task: Task::Model(ModelTask::CheckBtor),
         about: "Judge a BTOR2 witness over a model",
         words: &[MODEL_FILE, QUIET_FLAG, BTOR_WITNESS, MODEL_NAMES],
     },
     Row {
         word: "show",
-        task: Task::Show,
+        task: Task::Model(ModelTask::Show),
         about: "Write a BTOR2 model in the one spelling that this program gives",
         words: &[MODEL_FILE, QUIET_FLAG, OUTPUT_FILE],
     },
     Row {
         word: "cost",
-        task: Task::Cost,
+        task: Task::Model(ModelTask::Cost),
         about: "Tell how many gates and variables the circuit of a BTOR2 model has at most",
         words: &[MODEL_FILE, QUIET_FLAG],
     },
     Row {
         word: "aig-convert",
-        task: Task::AigConvert,
+        task: Task::Circuit(CircuitTask::AigConvert),
         about: "Write an AIGER circuit of either form in one, its variables numbered as in the binary form",
         words: &[
             CIRCUIT_FILE,
@@ -337,13 +337,13 @@ pub(crate) static ROWS: [Row; 13] = [
     },
     Row {
         word: "check-aig",
-        task: Task::CheckAig,
+        task: Task::Circuit(CircuitTask::CheckAig),
         about: "Judge an AIGER witness over a circuit",
         words: &[CIRCUIT_FILE, QUIET_FLAG, AIGER_WITNESS, CIRCUIT_NAMES],
     },
     Row {
         word: "lift",
-        task: Task::Lift,
+        task: Task::Model(ModelTask::Lift),
         about: "Lift an AIGER witness of a model's circuit to a BTOR2 witness on standard output",
         words: &[
             MODEL_FILE,
@@ -358,7 +358,7 @@ pub(crate) static ROWS: [Row; 13] = [
     },
     Row {
         word: "restore",
-        task: Task::Restore(None),
+        task: Task::Circuit(CircuitTask::Restore(None)),
         about: "Restore a witness of the engine form of a circuit to an AIGER witness of the circuit on standard output",
         words: &[
             CIRCUIT_FILE,
@@ -371,13 +371,17 @@ pub(crate) static ROWS: [Row; 13] = [
     },
     Row {
         word: "wave",
-        task: Task::Wave(Shown::Named),
+        task: Task::Model(ModelTask::Wave(Shown::Named)),
         about: "Judge a BTOR2 witness over a model, and write its frames as a value change dump (VCD) to standard output",
         words: &[MODEL_FILE, QUIET_FLAG, BTOR_WITNESS, OUTPUT_FILE, ALL_FLAG],
     },
     Row {
         word: "obligation",
-        task: Task::Obligation(Given::Model, Certificate::Invariant, None),
+        task: Task::Certificate(CertificateTask::Obligation(
+            Given::Model,
+            Certificate::Invariant,
+            None,
+        )),
         about: "Write the formula that nothing satisfies where an invariant or a witness circuit shows that a bad property never rises, in DIMACS on standard output",
         words: &[
             MODEL_FILE,
@@ -392,7 +396,11 @@ pub(crate) static ROWS: [Row; 13] = [
     },
     Row {
         word: "check-proof",
-        task: Task::CheckProof(Given::Model, Certificate::Invariant, None),
+        task: Task::Certificate(CertificateTask::CheckProof(
+            Given::Model,
+            Certificate::Invariant,
+            None,
+        )),
         about: "Judge an invariant or a witness circuit, and a proof of its obligation: whether a bad property never rises",
         words: &[
             MODEL_FILE,
@@ -408,13 +416,13 @@ pub(crate) static ROWS: [Row; 13] = [
     },
     Row {
         word: "tidy-witness",
-        task: Task::TidyWitness(1),
+        task: Task::Text(TextTask::TidyWitness(1)),
         about: "Write the strict text of a witness as tools write it, for check-btor, check-aig and the others: blanks at a line's end, stray lines, comments and what stands behind the witness go, and x becomes 0, one of the runs that it stands for",
         words: &[LOOSE_WITNESS, QUIET_FLAG, OUTPUT_FILE, PICK_NUMBER],
     },
     Row {
         word: "vectors",
-        task: Task::Vectors,
+        task: Task::Text(TextTask::Vectors),
         about: "Compare what operators give, in the evaluator and in a circuit, with lines of vectors",
         words: &[VECTOR_FILE, QUIET_FLAG],
     },

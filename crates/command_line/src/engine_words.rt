@@ -3,7 +3,7 @@
 use crate::command_table::{ABC, AIGER, BAD, CERTIFICATE, CIRCUIT, ENGINE, row_of};
 use base::decimal;
 use clap::ArgMatches;
-use orders::{Certificate, Given, Task};
+use orders::{Certificate, CertificateTask, CircuitTask, Given, ModelTask, Task, TextTask};
 
 /// What is told of words that choose a bad property and no engine form.
 const BAD_ALONE: &str = "words: --bad goes with --engine\n";
@@ -14,7 +14,8 @@ const NO_POSITION: &str = "words: --bad takes the position of a bad property, fr
 /// Whether words are about an engine form: they ask for one, or for what is over one, as those of a command that reads
 /// nothing else.
 fn speaks_of_one(word: &str, words: &ArgMatches<'_>) -> bool {
-    let always = matches!(row_of(word), Some(row) if matches!(row.task, Task::Restore(_)));
+    let always =
+        matches!(row_of(word), Some(row) if matches!(row.task, Task::Circuit(CircuitTask::Restore(_))));
     always || words.get_flag(ENGINE) || words.get_flag(ABC) || words.get_str(CERTIFICATE).is_some()
 }
 
@@ -57,6 +58,30 @@ fn certificate_of(words: &ArgMatches<'_>) -> Certificate {
     }
 }
 
+/// A command on a circuit that is about its engine form.
+fn on_circuit(task: CircuitTask, words: &ArgMatches<'_>, choice: Option<usize>) -> CircuitTask {
+    match task {
+        CircuitTask::AigConvert => CircuitTask::ConvertForEngines(choice),
+        CircuitTask::ConvertOutputs => CircuitTask::ConvertOutputsForEngines(choice),
+        CircuitTask::Restore(_) if words.get_flag(ABC) => CircuitTask::Restore(choice),
+        CircuitTask::Restore(_) => CircuitTask::RestoreForm(choice),
+        task => task,
+    }
+}
+
+/// A command on a certificate, with what is given and what the certificate is.
+fn on_certificate(
+    task: CertificateTask,
+    words: &ArgMatches<'_>,
+    choice: Option<usize>,
+) -> CertificateTask {
+    let (given, certificate) = (given_of(words), certificate_of(words));
+    match task {
+        CertificateTask::Obligation(..) => CertificateTask::Obligation(given, certificate, choice),
+        CertificateTask::CheckProof(..) => CertificateTask::CheckProof(given, certificate, choice),
+    }
+}
+
 /// A command, where an engine form is asked for the one that writes it, or that is over one: over a counterexample in the
 /// form that ABC writes, or over a witness.
 pub(crate) fn with_engine(
@@ -69,15 +94,13 @@ pub(crate) fn with_engine(
         None => return task,
     };
     match task {
-        Task::Lower => Task::LowerForEngines(choice),
-        Task::AigConvert => Task::ConvertForEngines(choice),
-        Task::ConvertOutputs => Task::ConvertOutputsForEngines(choice),
-        Task::Restore(_) if words.get_flag(ABC) => Task::Restore(choice),
-        Task::Restore(_) => Task::RestoreForm(choice),
-        Task::Lift if words.get_flag(ABC) => Task::LiftFound(choice),
-        Task::Lift => Task::LiftForm(choice),
-        Task::Obligation(..) => Task::Obligation(given_of(words), certificate_of(words), choice),
-        Task::CheckProof(..) => Task::CheckProof(given_of(words), certificate_of(words), choice),
+        Task::Text(TextTask::Lower) => Task::Model(ModelTask::LowerForEngines(choice)),
+        Task::Model(ModelTask::Lift) if words.get_flag(ABC) => {
+            Task::Model(ModelTask::LiftFound(choice))
+        }
+        Task::Model(ModelTask::Lift) => Task::Model(ModelTask::LiftForm(choice)),
+        Task::Circuit(task) => Task::Circuit(on_circuit(task, words, choice)),
+        Task::Certificate(task) => Task::Certificate(on_certificate(task, words, choice)),
         task => task,
     }
 }

@@ -13,7 +13,9 @@ use base::decimal;
 use clap::error::ErrorKind;
 use clap::{Arg, ArgAction, ArgMatches, Command, Error};
 use explanations::{Sought, explain, refusal_table};
-use orders::{Named, Order, STANDARD_INPUT, STANDARD_OUTPUT, Stop, Task, version};
+use orders::{
+    CircuitTask, ModelTask, Order, STANDARD_INPUT, STANDARD_OUTPUT, Stop, Task, TextTask, version,
+};
 use std::alloc::{AllocError, AllocGlobal, Global};
 use std::convert::AsStr;
 use std::env::Env;
@@ -158,23 +160,12 @@ fn second_of<'a>(words: &ArgMatches<'a>) -> Option<&'a str> {
     }
 }
 
-/// A command, where names are asked for the one that knows them.
-fn with_names(task: Task) -> Task {
-    match task {
-        Task::CheckBtor => Task::Named(Named::CheckBtor),
-        Task::CheckAig => Task::Named(Named::CheckAig),
-        Task::Lift => Task::Named(Named::Lift),
-        Task::LiftFound(choice) => Task::Named(Named::LiftFound(choice)),
-        Task::LiftForm(choice) => Task::Named(Named::LiftForm(choice)),
-        Task::CheckProof(given, by, choice) => { Task::Named(Named::CheckProof(given, by, choice)) }
-        task => task,
-    }
-}
-
 /// A command, where outputs are to be bad properties the one that makes them so.
 fn with_outputs(task: Task, words: &ArgMatches<'_>) -> Task {
     match task {
-        Task::AigConvert if words.get_flag(OUTPUTS) => Task::ConvertOutputs,
+        Task::Circuit(CircuitTask::AigConvert) if words.get_flag(OUTPUTS) => {
+            Task::Circuit(CircuitTask::ConvertOutputs)
+        }
         task => task,
     }
 }
@@ -195,9 +186,10 @@ fn picked(words: &ArgMatches<'_>) -> Result<u64, &'static str> {
 /// The command that words ask for, with the engine form and the witness that they ask for.
 fn task_of(task: Task, words: &ArgMatches<'_>, engine: Option<Option<usize>>, pick: u64) -> Task {
     match with_engine(with_outputs(task, words), words, engine) {
-        Task::TidyWitness(_) => Task::TidyWitness(pick),
-        Task::Wave(_) if words.get_flag(ALL) => Task::Wave(Shown::All),
-        task if words.get_flag(NAMES) => with_names(task),
+        Task::Text(TextTask::TidyWitness(_)) => Task::Text(TextTask::TidyWitness(pick)),
+        Task::Model(ModelTask::Wave(_)) if words.get_flag(ALL) => {
+            Task::Model(ModelTask::Wave(Shown::All))
+        }
         task => task,
     }
 }
@@ -213,6 +205,7 @@ fn order_of<'a>(
     let file = row.words.first()?;
     Some(Order {
         task: task_of(row.task, words, engine, pick),
+        named: words.get_flag(NAMES),
         form: if words.get_flag(BINARY) {
             Form::Binary
         } else {
@@ -341,7 +334,8 @@ pub fn order<'a, S: AsStr>(alloc: Global, words: &'a [S]) -> Result<Order<'a>, S
 {
     let Some(first) = words.first() else {
         return Ok(Order {
-            task: Task::Lower,
+            task: Task::Text(TextTask::Lower),
+            named: false,
             form: Form::Ascii,
             first: STANDARD_INPUT,
             second: None,

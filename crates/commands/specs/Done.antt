@@ -1,5 +1,5 @@
 -- What the exit statuses 0 and 1 of a command say.
-use Rattle.std.specs.Prelude.{◌≡◌, ℕ, Bool, true, false, List, ◌++◌, Option, None, Some, IfSome}
+use Rattle.std.specs.Prelude.{◌≡◌, ℕ, Bool, true, false, not, List, ◌++◌, Option, None, Some, IfSome}
 use Rattle.std.specs.Io.KnownBytes.{Appends}
 use Rattle.btor2.specs.declared.item.Item.{Item}
 use Rattle.aiger.specs.Circuit.{Circuit}
@@ -19,16 +19,16 @@ use Rattle.lift.specs.Lifted.{lifted_with}
 use Rattle.lift.specs.Verdicts.{KeepsVerdictIn}
 use Rattle.tasks.specs.declared.answers.Answer.{Answer}
 use Rattle.tasks.specs.declared.answers.Answer.TheVariants as answer
-use Rattle.tasks.specs.Certificates.{Certifies, CertifiesByName, WritesOwed}
+use Rattle.tasks.specs.Certificates.{CertifiesWith, WritesOwed}
 use Rattle.tasks.specs.Done.{Compares, ConvertsForEngines, IsDumped, IsFormRestored, IsJudged, IsJudgedByName, IsJudgedOver, IsJudgedOverByName, Judged, LowersForEngines, Restores, Rewrites, ShowsModel, TellsCost, TellsRestored, Tidies, judgement_line}
 use Rattle.tasks.specs.Outputs.{ConvertsOutputs, ConvertsOutputsForEngines}
 use Rattle.tasks.specs.Subjects.{bad_item_said, lifted_said, said_by_name, where_named}
 use Rattle.btor2text.specs.Spelling.{IsModelOf}
 use Rattle.tasks.specs.Claims.{IsClaim}
-use Rattle.commands.specs.declared.running.First.{First}
-use Rattle.commands.specs.declared.running.First.TheVariants as first_is
-use Rattle.orders.specs.declared.tasks.Named.{Named}
-use Rattle.orders.specs.declared.tasks.Named.TheVariants as named
+use Rattle.orders.specs.declared.tasks.CertificateTask.TheVariants as certificate
+use Rattle.orders.specs.declared.tasks.CircuitTask.TheVariants as circuit
+use Rattle.orders.specs.declared.tasks.ModelTask.TheVariants as model
+use Rattle.orders.specs.declared.tasks.TextTask.TheVariants as text
 use Rattle.orders.specs.declared.tasks.Task.{Task}
 use Rattle.orders.specs.declared.tasks.Task.TheVariants as task
 
@@ -81,86 +81,59 @@ pub record IsFormLifted (named : Bool) (choice : Option ℕ) (model found before
   pub rises : named ≡ true → IfSome found (λ text. AreBitFirstRises lowered (form_restored_text lowered choice form text) firsts)
   pub lines : Appends told told' (judgement_line verdict ++ lifting_said named items lowered firsts verdict)
 
--- what a command has done that says by name what its judgement is about
-unfoldable pub AnswersByName : Named → Option (List ℕ) → Option (List ℕ) → Option (List ℕ) → Option (List ℕ) → Option (List ℕ) → Option (List ℕ) → Option (List ℕ) → Answer → Type 0
-AnswersByName named.CheckBtor first second third before now told told' a = Judged (IsJudgedByName first second before now told told') a
-AnswersByName named.CheckAig first second third before now told told' a = Judged (IsJudgedOverByName first second before now told told') a
-AnswersByName named.Lift first second third before now told told' a = Judged (IsLifted true first second before now told told') a
-AnswersByName (named.LiftFound choice) first second third before now told told' a = LiftsFound true choice first second before now told told' a
-AnswersByName (named.LiftForm choice) first second third before now told told' a = Judged (IsFormLifted true choice first second before now told told') a
-AnswersByName (named.CheckProof g by choice) first second third before now told told' a = CertifiesByName g by choice first second third before now told told' a
-
 -- what a command has done that answers so. Of `first`, `second` and `third` each, all bytes that were to come are known, or none are; `before` and `now` stand on standard output, `told` and `told'` on standard error
-unfoldable pub Answers : Task → Form → Answer → Option (List ℕ) → Option (List ℕ) → Option (List ℕ) → Option (List ℕ) → Option (List ℕ) → Option (List ℕ) → Option (List ℕ) → Type 0
-Answers task.Lower form answer.Done first second third before now told told' = Converts first form (Appends before now)
-Answers (task.LowerForEngines choice) form answer.Done first second third before now told told' = LowersForEngines first before now form choice
-Answers task.CheckBtor form a first second third before now told told' = Judged (IsJudged first second before now) a
-Answers task.Show form answer.Done first second third before now told told' = ShowsModel first before now
-Answers task.Cost form answer.Done first second third before now told told' = TellsCost first before now
-Answers task.AigConvert form answer.Done first second third before now told told' = Rewrites first before now form
-Answers (task.ConvertForEngines choice) form answer.Done first second third before now told told' = ConvertsForEngines first before now form choice
-Answers task.ConvertOutputs form answer.Done first second third before now told told' = ConvertsOutputs first before now form
-Answers (task.ConvertOutputsForEngines choice) form answer.Done first second third before now told told' = ConvertsOutputsForEngines first before now form choice
-Answers (task.TidyWitness pick) form answer.Done first second third before now told told' = Tidies pick first before now
-Answers task.CheckAig form a first second third before now told told' = Judged (IsJudgedOver first second before now) a
-Answers task.Lift form a first second third before now told told' = Judged (IsLifted false first second before now told told') a
-Answers (task.Wave shown) form a first second third before now told told' = Judged (IsDumped shown first second before now told told') a
-Answers (task.Restore choice) form a first second third before now told told' = Restores choice first second before now told told' a
-Answers (task.RestoreForm choice) form a first second third before now told told' = Judged (IsFormRestored choice first second before now told told') a
-Answers (task.LiftFound choice) form a first second third before now told told' = LiftsFound false choice first second before now told told' a
-Answers (task.LiftForm choice) form a first second third before now told told' = Judged (IsFormLifted false choice first second before now told told') a
-Answers (task.Named n) form a first second third before now told told' = AnswersByName n first second third before now told told' a
-Answers task.Vectors form a first second third before now told told' = Compares first before now a
-Answers (task.Obligation g by choice) form answer.Done first second third before now told told' = WritesOwed g by choice first second before now
-Answers (task.CheckProof g by choice) form a first second third before now told told' = Certifies g by choice first second third before now a
-Answers _ form a first second third before now told told' = ⊥
+unfoldable pub Answers : Bool → Task → Form → Answer → Option (List ℕ) → Option (List ℕ) → Option (List ℕ) → Option (List ℕ) → Option (List ℕ) → Option (List ℕ) → Option (List ℕ) → Type 0
+Answers named (task.Text text.Lower) form answer.Done first second third before now told told' = Converts first form (Appends before now)
+Answers named (task.Model (model.LowerForEngines choice)) form answer.Done first second third before now told told' = LowersForEngines first before now form choice
+Answers false (task.Model model.CheckBtor) form a first second third before now told told' = Judged (IsJudged first second before now) a
+Answers true (task.Model model.CheckBtor) form a first second third before now told told' = Judged (IsJudgedByName first second before now told told') a
+Answers named (task.Model model.Show) form answer.Done first second third before now told told' = ShowsModel first before now
+Answers named (task.Model model.Cost) form answer.Done first second third before now told told' = TellsCost first before now
+Answers named (task.Circuit circuit.AigConvert) form answer.Done first second third before now told told' = Rewrites first before now form
+Answers named (task.Circuit (circuit.ConvertForEngines choice)) form answer.Done first second third before now told told' = ConvertsForEngines first before now form choice
+Answers named (task.Circuit circuit.ConvertOutputs) form answer.Done first second third before now told told' = ConvertsOutputs first before now form
+Answers named (task.Circuit (circuit.ConvertOutputsForEngines choice)) form answer.Done first second third before now told told' = ConvertsOutputsForEngines first before now form choice
+Answers named (task.Text (text.TidyWitness pick)) form answer.Done first second third before now told told' = Tidies pick first before now
+Answers false (task.Circuit circuit.CheckAig) form a first second third before now told told' = Judged (IsJudgedOver first second before now) a
+Answers true (task.Circuit circuit.CheckAig) form a first second third before now told told' = Judged (IsJudgedOverByName first second before now told told') a
+Answers named (task.Model model.Lift) form a first second third before now told told' = Judged (IsLifted named first second before now told told') a
+Answers named (task.Model (model.Wave shown)) form a first second third before now told told' = Judged (IsDumped shown first second before now told told') a
+Answers named (task.Circuit (circuit.Restore choice)) form a first second third before now told told' = Restores choice first second before now told told' a
+Answers named (task.Circuit (circuit.RestoreForm choice)) form a first second third before now told told' = Judged (IsFormRestored choice first second before now told told') a
+Answers named (task.Model (model.LiftFound choice)) form a first second third before now told told' = LiftsFound named choice first second before now told told' a
+Answers named (task.Model (model.LiftForm choice)) form a first second third before now told told' = Judged (IsFormLifted named choice first second before now told told') a
+Answers named (task.Text text.Vectors) form a first second third before now told told' = Compares first before now a
+Answers named (task.Certificate (certificate.Obligation g by choice)) form answer.Done first second third before now told told' = WritesOwed g by choice first second before now
+Answers named (task.Certificate (certificate.CheckProof g by choice)) form a first second third before now told told' = CertifiesWith named g by choice first second third before now told told' a
+Answers named _ form a first second third before now told told' = ⊥
 
 -- a command has one file
 unfoldable pub has_one_file : Task → Bool
-has_one_file task.CheckBtor = false
-has_one_file task.CheckAig = false
-has_one_file task.Lift = false
-has_one_file (task.Restore choice) = false
-has_one_file (task.RestoreForm choice) = false
-has_one_file (task.LiftFound choice) = false
-has_one_file (task.LiftForm choice) = false
-has_one_file (task.Wave shown) = false
-has_one_file (task.Named n) = false
-has_one_file (task.Obligation g by choice) = false
-has_one_file (task.CheckProof g by choice) = false
+has_one_file (task.Model model.CheckBtor) = false
+has_one_file (task.Circuit circuit.CheckAig) = false
+has_one_file (task.Model model.Lift) = false
+has_one_file (task.Circuit (circuit.Restore choice)) = false
+has_one_file (task.Circuit (circuit.RestoreForm choice)) = false
+has_one_file (task.Model (model.LiftFound choice)) = false
+has_one_file (task.Model (model.LiftForm choice)) = false
+has_one_file (task.Model (model.Wave shown)) = false
+has_one_file (task.Certificate t) = false
 has_one_file _ = true
-
--- what the first file of a command is
-unfoldable pub first_file : Task → First
-first_file task.Lower = first_is.Text
-first_file task.Vectors = first_is.Text
-first_file (task.TidyWitness pick) = first_is.Text
-first_file task.AigConvert = first_is.Circuit
-first_file (task.ConvertForEngines choice) = first_is.Circuit
-first_file task.ConvertOutputs = first_is.Circuit
-first_file (task.ConvertOutputsForEngines choice) = first_is.Circuit
-first_file task.CheckAig = first_is.Circuit
-first_file (task.Restore choice) = first_is.Circuit
-first_file (task.RestoreForm choice) = first_is.Circuit
-first_file (task.Named named.CheckAig) = first_is.Circuit
-first_file (task.Obligation g by choice) = first_is.Certified
-first_file (task.CheckProof g by choice) = first_is.Certified
-first_file (task.Named (named.CheckProof g by choice)) = first_is.Certified
-first_file _ = first_is.Model
 
 -- a command has three files
 unfoldable pub has_three_files : Task → Bool
-has_three_files (task.CheckProof g by choice) = true
-has_three_files (task.Named (named.CheckProof g by choice)) = true
+has_three_files (task.Certificate (certificate.CheckProof g by choice)) = true
 has_three_files _ = false
 
 -- a command that is done tells nothing on standard error
-unfoldable pub is_quiet : Task → Bool
-is_quiet task.Lift = false
-is_quiet (task.Restore choice) = false
-is_quiet (task.RestoreForm choice) = false
-is_quiet (task.LiftFound choice) = false
-is_quiet (task.LiftForm choice) = false
-is_quiet (task.Wave shown) = false
-is_quiet (task.Named n) = false
-is_quiet _ = true
+unfoldable pub is_quiet : Bool → Task → Bool
+is_quiet named (task.Model model.Lift) = false
+is_quiet named (task.Circuit (circuit.Restore choice)) = false
+is_quiet named (task.Circuit (circuit.RestoreForm choice)) = false
+is_quiet named (task.Model (model.LiftFound choice)) = false
+is_quiet named (task.Model (model.LiftForm choice)) = false
+is_quiet named (task.Model (model.Wave shown)) = false
+is_quiet named (task.Model model.CheckBtor) = not named
+is_quiet named (task.Circuit circuit.CheckAig) = not named
+is_quiet named (task.Certificate (certificate.CheckProof g by choice)) = not named
+is_quiet named _ = true

@@ -1,12 +1,11 @@
 //! Doing a command.
 
 ghost use Rattle.std.specs.Prelude.{◌≡◌, ◌≢◌, ◌≤◌, ◌⊎◌, ℕ, List, Option, true, false, IfOk, IfErr, option_map};
-ghost use Rattle.aigertext.specs.declared.forms.Form.{Form};
 ghost use Rattle.tasks.specs.declared.answers.Answer.TheVariants as answer;
 ghost use Rattle.btor2text.specs.Spelling.{IsModelOf};
 ghost use Rattle.aigertext.specs.Spelling.{IsCircuitText};
-ghost use Rattle.commands.specs.declared.running.First.TheVariants as first_is;
-ghost use Rattle.commands.specs.Done.{Answers, first_file, has_one_file, has_three_files, is_quiet};
+ghost use Rattle.orders.specs.declared.tasks.Task.TheVariants as task_is;
+ghost use Rattle.commands.specs.Done.{Answers, has_one_file, has_three_files, is_quiet};
 ghost use Rattle.commands.specs.Refusals.{RefusesTask, RefusesSecond};
 ghost use Rattle.tasks.specs.Statuses.{Counts, CountsAll, ErrUntold, IfInput, IfSecond};
 ghost use Rattle.commands.specs.Statuses.{HasFailed, IsLeftOpen, IsRefused};
@@ -18,7 +17,7 @@ use aiger::Circuit;
 use base::{Reason, Sink, Source};
 use blast::Watch;
 use btor2::Model;
-use orders::{DEVICE, Named, Order, Task};
+use orders::{CertificateTask, CircuitTask, DEVICE, ModelTask, Order, Task, TextTask};
 use std::alloc::Global;
 use tasks::{
     Answer, Device, Refusal, check_circuit, check_circuit_by_name, check_model,
@@ -64,8 +63,8 @@ pub fn run<A: Source, B: Source, T: Source, O: Sink, E: Sink, W: Watch>(
     err: &mut E,
     watch: &mut W,
 ) -> u8
-    ensures done { result ≡ 0 → Answers order.now.task order.now.form answer.Done (A.to_come first.old) (B.to_come second.old) (T.to_come third.old) (O.written out.old) (O.written out.new) (E.written err.old) (E.written err.new) }
-    ensures not_accepted { result ≡ 1 → Answers order.now.task order.now.form answer.NotAccepted (A.to_come first.old) (B.to_come second.old) (T.to_come third.old) (O.written out.old) (O.written out.new) (E.written err.old) (E.written err.new) }
+    ensures done { result ≡ 0 → Answers order.now.named order.now.task order.now.form answer.Done (A.to_come first.old) (B.to_come second.old) (T.to_come third.old) (O.written out.old) (O.written out.new) (E.written err.old) (E.written err.new) }
+    ensures not_accepted { result ≡ 1 → Answers order.now.named order.now.task order.now.form answer.NotAccepted (A.to_come first.old) (B.to_come second.old) (T.to_come third.old) (O.written out.old) (O.written out.new) (E.written err.old) (E.written err.new) }
     ensures refused { result ≡ 2 → IsRefused order.now.task order.now.first.now (option_map (λ name. name.now) order.now.second) (A.to_come first.old) (B.to_come second.old) (E.written err.old) (E.written err.new) }
     ensures left_open { result ≡ 4 → IsLeftOpen order.now.task order.now.first.now (A.to_come first.old) (E.written err.old) (E.written err.new) }
     // nothing is written of an input that is refused, and nothing where the words are
@@ -75,7 +74,7 @@ pub fn run<A: Source, B: Source, T: Source, O: Sink, E: Sink, W: Watch>(
     // with any other status nothing failed
     ensures unfailed { result ≢ 3 → (A.failures first.new ≡ A.failures first.old) × (B.failures second.new ≡ B.failures second.old) × (T.failures third.new ≡ T.failures third.old) × (O.failures out.new ≡ O.failures out.old) × (E.failures err.new ≡ E.failures err.old) }
     // a command that is done tells nothing, but for `lift`, `restore` and `wave`, and those with names
-    ensures quiet { result ≤ 1 → is_quiet order.now.task ≡ true → err.new ≡ err.old }
+    ensures quiet { result ≤ 1 → is_quiet order.now.named order.now.task ≡ true → err.new ≡ err.old }
     ensures one_file { has_one_file order.now.task ≡ true → second.new ≡ second.old }
     ensures no_third { has_three_files order.now.task ≡ false → third.new ≡ third.old }
     ensures statuses { result ≤ 4 }
@@ -109,43 +108,8 @@ fn reason_of<A: Source, B: Source, T: Source, O: Sink>(
     }
 }
 
-/// What the first file of a command is.
-#[derive(Clone, Copy, PartialEq, Eq)]
-enum First {
-    /// A text that is read as it comes: of a model that is lowered, or of vectors.
-    Text,
-    /// The text of a model.
-    Model,
-    /// The text of a circuit.
-    Circuit,
-    /// The text of a model or a circuit, of which a bad property is certified.
-    Certified,
-}
-
-/// What the first file of a command is.
-#[tactic(auto, unfolding(crate::specs::Done::first_file))]
-fn first_of(task: Task) -> First
-    ensures { result ≡ first_file task }
-{
-    match task {
-        Task::Lower | Task::Vectors | Task::TidyWitness(_) => First::Text,
-        Task::AigConvert
-        | Task::ConvertForEngines(_)
-        | Task::ConvertOutputs
-        | Task::ConvertOutputsForEngines(_)
-        | Task::CheckAig
-        | Task::Restore(_)
-        | Task::RestoreForm(_)
-        | Task::Named(Named::CheckAig) => First::Circuit,
-        Task::Obligation(..) | Task::CheckProof(..) | Task::Named(Named::CheckProof(..)) => {
-            First::Certified
-        }
-        _ => First::Model,
-    }
-}
-
 /// Does a command, and tells no refusal.
-#[tactic(auto, unfolding(crate::specs::Done::first_file, crate::specs::Done::has_one_file, crate::specs::Done::has_three_files))]
+#[tactic(auto, unfolding(crate::specs::Done::has_one_file, crate::specs::Done::has_three_files))]
 fn obey<A: Source, B: Source, T: Source, O: Sink, E: Sink, W: Watch>(
     alloc: Global,
     order: &Order<'_>,
@@ -156,29 +120,33 @@ fn obey<A: Source, B: Source, T: Source, O: Sink, E: Sink, W: Watch>(
     err: &mut E,
     watch: &mut W,
 ) -> Result<Answer, Refusal>
-    ensures done { IfOk result (λ answer. Answers order.now.task order.now.form answer (A.to_come first.old) (B.to_come second.old) (T.to_come third.old) (O.written out.old) (O.written out.new) (E.written err.old) (E.written err.new)) }
+    ensures done { IfOk result (λ answer. Answers order.now.named order.now.task order.now.form answer (A.to_come first.old) (B.to_come second.old) (T.to_come third.old) (O.written out.old) (O.written out.new) (E.written err.old) (E.written err.new)) }
     ensures refused { IfErr result (IfInput (RefusesTask order.now.task (A.to_come first.old))) }
     ensures refused_second { IfErr result (IfSecond (RefusesSecond order.now.task (A.to_come first.old) (B.to_come second.old))) }
     ensures unwritten { IfErr result (IfInput (λ _. out.new ≡ out.old)) }
     ensures unwritten_second { IfErr result (IfSecond (λ _. out.new ≡ out.old)) }
     ensures untold { ErrUntold result (err.new ≡ err.old) }
     ensures counted { CountsAll result (A.failures first.old) (A.failures first.new) (B.failures second.old) (B.failures second.new) (T.failures third.old) (T.failures third.new) (O.failures out.old) (O.failures out.new) (E.failures err.old) (E.failures err.new) }
-    ensures quiet { is_quiet order.now.task ≡ true → err.new ≡ err.old }
+    ensures quiet { is_quiet order.now.named order.now.task ≡ true → err.new ≡ err.old }
     ensures one_file { has_one_file order.now.task ≡ true → second.new ≡ second.old }
     ensures no_third { has_three_files order.now.task ≡ false → third.new ≡ third.old }
 {
-    if first_of(order.task) == First::Certified {
-        obey_on_certificates(alloc, order.task, first, second, third, out, err, watch)
-    } else {
-        obey_two(alloc, order, first, second, out, err, watch)
+    match order.task {
+        Task::Text(task) => obey_on_text(alloc, order, task, first, out, watch),
+        Task::Model(task) => obey_on_model(alloc, order, task, first, second, out, err, watch),
+        Task::Circuit(task) => obey_on_circuit(alloc, order, task, first, second, out, err),
+        Task::Certificate(task) => {
+            obey_on_certificate(alloc, order, task, first, second, third, out, err, watch)
+        }
     }
 }
 
-/// Does a command on certificates.
-#[tactic(auto, unfolding(crate::specs::Done::Answers, crate::specs::Done::AnswersByName, crate::specs::Done::first_file, crate::specs::Done::is_quiet, crate::specs::Done::has_three_files, crate::specs::Refusals::RefusesTask, crate::specs::Refusals::RefusesByName))]
-fn obey_on_certificates<A: Source, B: Source, T: Source, O: Sink, E: Sink, W: Watch>(
+/// Does a command on a certificate.
+#[tactic(auto, unfolding(crate::specs::Done::Answers, crate::specs::Done::is_quiet, crate::specs::Done::has_three_files, crate::specs::Refusals::RefusesTask))]
+fn obey_on_certificate<A: Source, B: Source, T: Source, O: Sink, E: Sink, W: Watch>(
     alloc: Global,
-    task: Task,
+    order: &Order<'_>,
+    task: CertificateTask,
     first: &mut A,
     second: &mut B,
     third: &mut T,
@@ -186,78 +154,55 @@ fn obey_on_certificates<A: Source, B: Source, T: Source, O: Sink, E: Sink, W: Wa
     err: &mut E,
     watch: &mut W,
 ) -> Result<Answer, Refusal>
-    requires { first_file task ≡ first_is.Certified }
-    ensures done { (form : Form) → IfOk result (λ answer. Answers task form answer (A.to_come first.old) (B.to_come second.old) (T.to_come third.old) (O.written out.old) (O.written out.new) (E.written err.old) (E.written err.new)) }
-    ensures refused { IfErr result (IfInput (RefusesTask task (A.to_come first.old))) }
-    ensures refused_second { IfErr result (IfSecond (RefusesSecond task (A.to_come first.old) (B.to_come second.old))) }
+    ensures done { IfOk result (λ answer. Answers order.now.named (task_is.Certificate task) order.now.form answer (A.to_come first.old) (B.to_come second.old) (T.to_come third.old) (O.written out.old) (O.written out.new) (E.written err.old) (E.written err.new)) }
+    ensures refused { IfErr result (IfInput (RefusesTask (task_is.Certificate task) (A.to_come first.old))) }
+    ensures refused_second { IfErr result (IfSecond (RefusesSecond (task_is.Certificate task) (A.to_come first.old) (B.to_come second.old))) }
     ensures unwritten { IfErr result (IfInput (λ _. out.new ≡ out.old)) }
     ensures unwritten_second { IfErr result (IfSecond (λ _. out.new ≡ out.old)) }
     ensures untold { ErrUntold result (err.new ≡ err.old) }
     ensures counted { CountsAll result (A.failures first.old) (A.failures first.new) (B.failures second.old) (B.failures second.new) (T.failures third.old) (T.failures third.new) (O.failures out.old) (O.failures out.new) (E.failures err.old) (E.failures err.new) }
-    ensures quiet { is_quiet task ≡ true → err.new ≡ err.old }
-    ensures no_third { has_three_files task ≡ false → third.new ≡ third.old }
+    ensures quiet { is_quiet order.now.named (task_is.Certificate task) ≡ true → err.new ≡ err.old }
+    ensures no_third { has_three_files (task_is.Certificate task) ≡ false → third.new ≡ third.old }
 {
     match task {
-        Task::Obligation(given, by, choice) => {
+        CertificateTask::Obligation(given, by, choice) => {
             write_obligation(alloc, given, by, choice, first, second, out, watch)
         }
-        Task::CheckProof(given, by, choice) => check_proof(
-            alloc, false, given, by, choice, first, second, third, out, err, watch,
+        CertificateTask::CheckProof(given, by, choice) => check_proof(
+            alloc,
+            order.named,
+            given,
+            by,
+            choice,
+            first,
+            second,
+            third,
+            out,
+            err,
+            watch,
         ),
-        Task::Named(Named::CheckProof(given, by, choice)) => check_proof(
-            alloc, true, given, by, choice, first, second, third, out, err, watch,
-        ),
-        _ => unreachable!(),
-    }
-}
-
-/// Does a command that reads no third file and is on no certificate.
-fn obey_two<A: Source, B: Source, O: Sink, E: Sink, W: Watch>(
-    alloc: Global,
-    order: &Order<'_>,
-    first: &mut A,
-    second: &mut B,
-    out: &mut O,
-    err: &mut E,
-    watch: &mut W,
-) -> Result<Answer, Refusal>
-    requires { ¬ (first_file order.now.task ≡ first_is.Certified) }
-    ensures done { (third : Option (List ℕ)) → IfOk result (λ answer. Answers order.now.task order.now.form answer (A.to_come first.old) (B.to_come second.old) third (O.written out.old) (O.written out.new) (E.written err.old) (E.written err.new)) }
-    ensures refused { IfErr result (IfInput (RefusesTask order.now.task (A.to_come first.old))) }
-    ensures unwritten { IfErr result (IfInput (λ _. out.new ≡ out.old)) }
-    ensures untold { ErrUntold result (err.new ≡ err.old) }
-    ensures counted { Counts result (A.failures first.old) (A.failures first.new) (B.failures second.old) (B.failures second.new) (O.failures out.old) (O.failures out.new) (E.failures err.old) (E.failures err.new) }
-    ensures quiet { is_quiet order.now.task ≡ true → err.new ≡ err.old }
-    ensures one_file { has_one_file order.now.task ≡ true → second.new ≡ second.old }
-{
-    match first_of(order.task) {
-        First::Text => obey_on_text(alloc, order, first, out, watch),
-        First::Model => obey_on_model(alloc, order, first, second, out, err, watch),
-        First::Circuit => obey_on_circuit(alloc, order, first, second, out, err),
-        First::Certified => unreachable!(),
     }
 }
 
 /// Does a command on a text that is read as it comes.
-#[tactic(auto, unfolding(crate::specs::Done::Answers, crate::specs::Done::first_file, crate::specs::Refusals::RefusesTask))]
+#[tactic(auto, unfolding(crate::specs::Done::Answers, crate::specs::Refusals::RefusesTask))]
 fn obey_on_text<A: Source, O: Sink, W: Watch>(
     alloc: Global,
     order: &Order<'_>,
+    task: TextTask,
     first: &mut A,
     out: &mut O,
     watch: &mut W,
 ) -> Result<Answer, Refusal>
-    requires { first_file order.now.task ≡ first_is.Text }
-    ensures done { (second third told : Option (List ℕ)) → IfOk result (λ answer. Answers order.now.task order.now.form answer (A.to_come first.old) second third (O.written out.old) (O.written out.new) told told) }
-    ensures refused { IfErr result (IfInput (RefusesTask order.now.task (A.to_come first.old))) }
+    ensures done { (second third told : Option (List ℕ)) → IfOk result (λ answer. Answers order.now.named (task_is.Text task) order.now.form answer (A.to_come first.old) second third (O.written out.old) (O.written out.new) told told) }
+    ensures refused { IfErr result (IfInput (RefusesTask (task_is.Text task) (A.to_come first.old))) }
     ensures unwritten { IfErr result (IfInput (λ _. out.new ≡ out.old)) }
     ensures counted { (s e : ℕ) → Counts result (A.failures first.old) (A.failures first.new) s s (O.failures out.old) (O.failures out.new) e e }
 {
-    match order.task {
-        Task::Lower => lower_model(alloc, order.form, first, out, watch),
-        Task::Vectors => compare_vectors(alloc, first, out),
-        Task::TidyWitness(pick) => tidy_witness(pick, first, out),
-        _ => unreachable!(),
+    match task {
+        TextTask::Lower => lower_model(alloc, order.form, first, out, watch),
+        TextTask::TidyWitness(pick) => tidy_witness(pick, first, out),
+        TextTask::Vectors => compare_vectors(alloc, first, out),
     }
 }
 
@@ -265,69 +210,61 @@ fn obey_on_text<A: Source, O: Sink, W: Watch>(
 fn obey_on_model<A: Source, B: Source, O: Sink, E: Sink, W: Watch>(
     alloc: Global,
     order: &Order<'_>,
+    task: ModelTask,
     first: &mut A,
     second: &mut B,
     out: &mut O,
     err: &mut E,
     watch: &mut W,
 ) -> Result<Answer, Refusal>
-    requires { first_file order.now.task ≡ first_is.Model }
-    ensures done { (third : Option (List ℕ)) → IfOk result (λ answer. Answers order.now.task order.now.form answer (A.to_come first.old) (B.to_come second.old) third (O.written out.old) (O.written out.new) (E.written err.old) (E.written err.new)) }
-    ensures refused { IfErr result (IfInput (RefusesTask order.now.task (A.to_come first.old))) }
+    ensures done { (third : Option (List ℕ)) → IfOk result (λ answer. Answers order.now.named (task_is.Model task) order.now.form answer (A.to_come first.old) (B.to_come second.old) third (O.written out.old) (O.written out.new) (E.written err.old) (E.written err.new)) }
+    ensures refused { IfErr result (IfInput (RefusesTask (task_is.Model task) (A.to_come first.old))) }
     ensures unwritten { IfErr result (IfInput (λ _. out.new ≡ out.old)) }
     ensures untold { ErrUntold result (err.new ≡ err.old) }
     ensures counted { Counts result (A.failures first.old) (A.failures first.new) (B.failures second.old) (B.failures second.new) (O.failures out.old) (O.failures out.new) (E.failures err.old) (E.failures err.new) }
-    ensures quiet { is_quiet order.now.task ≡ true → err.new ≡ err.old }
-    ensures one_file { has_one_file order.now.task ≡ true → second.new ≡ second.old }
+    ensures quiet { is_quiet order.now.named (task_is.Model task) ≡ true → err.new ≡ err.old }
+    ensures one_file { has_one_file (task_is.Model task) ≡ true → second.new ≡ second.old }
 {
     let model = read_model(alloc, first)?;
-    do_on_model(alloc, order, &model, second, out, err, watch)
+    do_on_model(alloc, order, task, &model, second, out, err, watch)
 }
 
 /// Does a command on a model that was read.
-#[tactic(auto, unfolding(crate::specs::Done::Answers, crate::specs::Done::AnswersByName, crate::specs::Done::first_file, crate::specs::Done::is_quiet, crate::specs::Done::has_one_file, crate::specs::Refusals::RefusesTask, crate::specs::Refusals::RefusesByName))]
+#[tactic(auto, unfolding(crate::specs::Done::Answers, crate::specs::Done::is_quiet, crate::specs::Done::has_one_file, crate::specs::Refusals::RefusesTask))]
 fn do_on_model<B: Source, O: Sink, E: Sink, W: Watch>(
     alloc: Global,
     order: &Order<'_>,
+    task: ModelTask,
     model: &Model,
     second: &mut B,
     out: &mut O,
     err: &mut E,
     watch: &mut W,
 ) -> Result<Answer, Refusal>
-    requires { first_file order.now.task ≡ first_is.Model }
-    ensures done { (known third : Option (List ℕ)) → IsModelOf known model.now → IfOk result (λ answer. Answers order.now.task order.now.form answer known (B.to_come second.old) third (O.written out.old) (O.written out.new) (E.written err.old) (E.written err.new)) }
-    ensures refused { (known : Option (List ℕ)) → IsModelOf known model.now → IfErr result (IfInput (RefusesTask order.now.task known)) }
+    ensures done { (known third : Option (List ℕ)) → IsModelOf known model.now → IfOk result (λ answer. Answers order.now.named (task_is.Model task) order.now.form answer known (B.to_come second.old) third (O.written out.old) (O.written out.new) (E.written err.old) (E.written err.new)) }
+    ensures refused { (known : Option (List ℕ)) → IsModelOf known model.now → IfErr result (IfInput (RefusesTask (task_is.Model task) known)) }
     ensures unwritten { IfErr result (IfInput (λ _. out.new ≡ out.old)) }
     ensures untold { ErrUntold result (err.new ≡ err.old) }
     ensures counted { (f : ℕ) → Counts result f f (B.failures second.old) (B.failures second.new) (O.failures out.old) (O.failures out.new) (E.failures err.old) (E.failures err.new) }
-    ensures quiet { is_quiet order.now.task ≡ true → err.new ≡ err.old }
-    ensures one_file { has_one_file order.now.task ≡ true → second.new ≡ second.old }
+    ensures quiet { is_quiet order.now.named (task_is.Model task) ≡ true → err.new ≡ err.old }
+    ensures one_file { has_one_file (task_is.Model task) ≡ true → second.new ≡ second.old }
 {
-    match order.task {
-        Task::LowerForEngines(choice) => {
+    match task {
+        ModelTask::LowerForEngines(choice) => {
             lower_for_engines(alloc, model, order.form, choice, out, watch)
         }
-        Task::CheckBtor => check_model(alloc, model, second, out),
-        Task::Show => show(alloc, model, out),
-        Task::Cost => tell_cost(alloc, model, out),
-        Task::Lift => lift_witness(alloc, false, model, second, out, err, watch),
-        Task::LiftFound(choice) => {
-            lift_counterexample(alloc, false, model, choice, second, out, err, watch)
+        ModelTask::CheckBtor if order.named => check_model_by_name(alloc, model, second, out, err),
+        ModelTask::CheckBtor => check_model(alloc, model, second, out),
+        ModelTask::Show => show(alloc, model, out),
+        ModelTask::Cost => tell_cost(alloc, model, out),
+        ModelTask::Lift => lift_witness(alloc, order.named, model, second, out, err, watch),
+        ModelTask::LiftFound(choice) => {
+            lift_counterexample(alloc, order.named, model, choice, second, out, err, watch)
         }
-        Task::LiftForm(choice) => {
-            lift_form_witness(alloc, false, model, choice, second, out, err, watch)
+        ModelTask::LiftForm(choice) => {
+            lift_form_witness(alloc, order.named, model, choice, second, out, err, watch)
         }
-        Task::Wave(shown) => dump_witness(alloc, order, shown, model, second, out, err),
-        Task::Named(Named::CheckBtor) => check_model_by_name(alloc, model, second, out, err),
-        Task::Named(Named::Lift) => lift_witness(alloc, true, model, second, out, err, watch),
-        Task::Named(Named::LiftFound(choice)) => {
-            lift_counterexample(alloc, true, model, choice, second, out, err, watch)
-        }
-        Task::Named(Named::LiftForm(choice)) => {
-            lift_form_witness(alloc, true, model, choice, second, out, err, watch)
-        }
-        _ => unreachable!(),
+        ModelTask::Wave(shown) => dump_witness(alloc, order, shown, model, second, out, err),
     }
 }
 
@@ -335,56 +272,61 @@ fn do_on_model<B: Source, O: Sink, E: Sink, W: Watch>(
 fn obey_on_circuit<A: Source, B: Source, O: Sink, E: Sink>(
     alloc: Global,
     order: &Order<'_>,
+    task: CircuitTask,
     first: &mut A,
     second: &mut B,
     out: &mut O,
     err: &mut E,
 ) -> Result<Answer, Refusal>
-    requires { first_file order.now.task ≡ first_is.Circuit }
-    ensures done { (third : Option (List ℕ)) → IfOk result (λ answer. Answers order.now.task order.now.form answer (A.to_come first.old) (B.to_come second.old) third (O.written out.old) (O.written out.new) (E.written err.old) (E.written err.new)) }
-    ensures refused { IfErr result (IfInput (RefusesTask order.now.task (A.to_come first.old))) }
+    ensures done { (third : Option (List ℕ)) → IfOk result (λ answer. Answers order.now.named (task_is.Circuit task) order.now.form answer (A.to_come first.old) (B.to_come second.old) third (O.written out.old) (O.written out.new) (E.written err.old) (E.written err.new)) }
+    ensures refused { IfErr result (IfInput (RefusesTask (task_is.Circuit task) (A.to_come first.old))) }
     ensures unwritten { IfErr result (IfInput (λ _. out.new ≡ out.old)) }
     ensures untold { ErrUntold result (err.new ≡ err.old) }
     ensures counted { Counts result (A.failures first.old) (A.failures first.new) (B.failures second.old) (B.failures second.new) (O.failures out.old) (O.failures out.new) (E.failures err.old) (E.failures err.new) }
-    ensures quiet { is_quiet order.now.task ≡ true → err.new ≡ err.old }
-    ensures one_file { has_one_file order.now.task ≡ true → second.new ≡ second.old }
+    ensures quiet { is_quiet order.now.named (task_is.Circuit task) ≡ true → err.new ≡ err.old }
+    ensures one_file { has_one_file (task_is.Circuit task) ≡ true → second.new ≡ second.old }
 {
     let circuit = read_circuit(alloc, first)?;
-    do_on_circuit(alloc, order, &circuit, second, out, err)
+    do_on_circuit(alloc, order, task, &circuit, second, out, err)
 }
 
 /// Does a command on a circuit that was read.
-#[tactic(auto, unfolding(crate::specs::Done::Answers, crate::specs::Done::AnswersByName, crate::specs::Done::first_file, crate::specs::Done::is_quiet, crate::specs::Done::has_one_file, crate::specs::Refusals::RefusesTask, crate::specs::Refusals::RefusesByName))]
+#[tactic(auto, unfolding(crate::specs::Done::Answers, crate::specs::Done::is_quiet, crate::specs::Done::has_one_file, crate::specs::Refusals::RefusesTask))]
 fn do_on_circuit<B: Source, O: Sink, E: Sink>(
     alloc: Global,
     order: &Order<'_>,
+    task: CircuitTask,
     circuit: &Circuit,
     second: &mut B,
     out: &mut O,
     err: &mut E,
 ) -> Result<Answer, Refusal>
-    requires { first_file order.now.task ≡ first_is.Circuit }
-    ensures done { (known third : Option (List ℕ)) → IsCircuitText known circuit.now → IfOk result (λ answer. Answers order.now.task order.now.form answer known (B.to_come second.old) third (O.written out.old) (O.written out.new) (E.written err.old) (E.written err.new)) }
-    ensures refused { (known : Option (List ℕ)) → IsCircuitText known circuit.now → IfErr result (IfInput (RefusesTask order.now.task known)) }
+    ensures done { (known third : Option (List ℕ)) → IsCircuitText known circuit.now → IfOk result (λ answer. Answers order.now.named (task_is.Circuit task) order.now.form answer known (B.to_come second.old) third (O.written out.old) (O.written out.new) (E.written err.old) (E.written err.new)) }
+    ensures refused { (known : Option (List ℕ)) → IsCircuitText known circuit.now → IfErr result (IfInput (RefusesTask (task_is.Circuit task) known)) }
     ensures unwritten { IfErr result (IfInput (λ _. out.new ≡ out.old)) }
     ensures untold { ErrUntold result (err.new ≡ err.old) }
     ensures counted { (f : ℕ) → Counts result f f (B.failures second.old) (B.failures second.new) (O.failures out.old) (O.failures out.new) (E.failures err.old) (E.failures err.new) }
-    ensures quiet { is_quiet order.now.task ≡ true → err.new ≡ err.old }
-    ensures one_file { has_one_file order.now.task ≡ true → second.new ≡ second.old }
+    ensures quiet { is_quiet order.now.named (task_is.Circuit task) ≡ true → err.new ≡ err.old }
+    ensures one_file { has_one_file (task_is.Circuit task) ≡ true → second.new ≡ second.old }
 {
-    match order.task {
-        Task::AigConvert => convert_circuit(order.form, circuit, out),
-        Task::ConvertForEngines(choice) => {
+    match task {
+        CircuitTask::AigConvert => convert_circuit(order.form, circuit, out),
+        CircuitTask::ConvertForEngines(choice) => {
             convert_for_engines(alloc, circuit, order.form, choice, out)
         }
-        Task::ConvertOutputs => convert_outputs(alloc, circuit, order.form, out),
-        Task::ConvertOutputsForEngines(choice) => {
+        CircuitTask::ConvertOutputs => convert_outputs(alloc, circuit, order.form, out),
+        CircuitTask::ConvertOutputsForEngines(choice) => {
             convert_outputs_for_engines(alloc, circuit, order.form, choice, out)
         }
-        Task::CheckAig => check_circuit(alloc, circuit, second, out),
-        Task::Restore(choice) => restore_counterexample(alloc, circuit, choice, second, out, err),
-        Task::RestoreForm(choice) => restore_witness(alloc, circuit, choice, second, out, err),
-        Task::Named(Named::CheckAig) => check_circuit_by_name(alloc, circuit, second, out, err),
-        _ => unreachable!(),
+        CircuitTask::CheckAig if order.named => {
+            check_circuit_by_name(alloc, circuit, second, out, err)
+        }
+        CircuitTask::CheckAig => check_circuit(alloc, circuit, second, out),
+        CircuitTask::Restore(choice) => {
+            restore_counterexample(alloc, circuit, choice, second, out, err)
+        }
+        CircuitTask::RestoreForm(choice) => restore_witness(
+            alloc, circuit, choice, second, out, err,
+        ),
     }
 }

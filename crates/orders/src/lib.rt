@@ -7,4 +7,7 @@ mod tasks;
 
 pub use release::version;
 pub use statuses::{DEVICE, DONE, NOT_ACCEPTED, REFUSED, WORDS_REFUSED};
-pub use tasks::{Certificate, Given, Named, Order, STANDARD_INPUT, STANDARD_OUTPUT, Stop, Task};
+pub use tasks::{
+    Certificate, CertificateTask, CircuitTask, Given, ModelTask, Order, STANDARD_INPUT,
+    STANDARD_OUTPUT, Stop, Task, TextTask,
+};

@@ -14,25 +14,6 @@ pub const STANDARD_INPUT: &str = "-";
 /// The name of a result's file that stands for standard output.
 pub const STANDARD_OUTPUT: &str = "-";
 
-/// The commands that can say by name what their judgements are about.
-#[derive(Clone, Copy, PartialEq, Eq)]
-pub enum Named {
-    /// Judges a witness over a model.
-    CheckBtor,
-    /// Judges a witness over a circuit.
-    CheckAig,
-    /// Lifts a witness of a model's circuit to one of the model, with names behind words.
-    Lift,
-    /// Lifts a counterexample in the form that ABC writes over the engine form of a model's circuit to a witness of the model,
-    /// with names behind words; it claims the bad property at a position of the circuit, or the only one.
-    LiftFound(Option<usize>),
-    /// Lifts a witness of the engine form of a model's circuit, with all bad properties or with the one at a position, to a
-    /// witness of the model, with names behind words.
-    LiftForm(Option<usize>),
-    /// Judges a certificate and a proof, of a bad property of what is given: of the one at a position, or of the only one.
-    CheckProof(Given, Certificate, Option<usize>),
-}
-
 /// What the first file of a command on certificates gives.
 #[derive(Clone, Copy, PartialEq, Eq)]
 pub enum Given {
@@ -53,56 +34,81 @@ pub enum Certificate {
     CircuitOfForm,
 }
 
-/// The commands.
+/// The commands on a text that is read as it comes.
 #[derive(Clone, Copy, PartialEq, Eq)]
-pub enum Task {
+pub enum TextTask {
     /// Lowers a model to a circuit.
     Lower,
-    /// Lowers a model, and writes the engine form of its circuit: with all bad properties, or with the one at a position.
-    LowerForEngines(Option<usize>),
-    /// Judges a witness over a model.
-    CheckBtor,
-    /// Writes a model's text in the writer's form.
-    Show,
-    /// Tells how many gates and variables the lowering of a model has at most.
-    Cost,
-    /// Writes a circuit in a form.
-    AigConvert,
-    /// Writes the engine form of a circuit, with all bad properties or with the one at a position.
-    ConvertForEngines(Option<usize>),
-    /// Writes a circuit with its outputs as bad properties, in a form.
-    ConvertOutputs,
-    /// Writes the engine form of a circuit with its outputs as bad properties, with all bad properties or with the one at a
-    /// position.
-    ConvertOutputsForEngines(Option<usize>),
-    /// Judges a witness over a circuit.
-    CheckAig,
-    /// Lifts a witness of a model's circuit to one of the model.
-    Lift,
-    /// Restores a counterexample over the engine form of a circuit, in the form that ABC writes, to a witness of the circuit;
-    /// it claims the bad property at a position of the circuit, or the only one.
-    Restore(Option<usize>),
-    /// Restores a witness of the engine form of a circuit, with all bad properties or with the one at a position, to a witness
-    /// of the circuit.
-    RestoreForm(Option<usize>),
-    /// Lifts a counterexample in the form that ABC writes over the engine form of a model's circuit to a witness of the model.
-    LiftFound(Option<usize>),
-    /// Lifts a witness of the engine form of a model's circuit, with all bad properties or with the one at a position, to a
-    /// witness of the model.
-    LiftForm(Option<usize>),
-    /// Judges a witness over a model, and dumps its frames.
-    Wave(Shown),
-    /// Judges a witness, and says by name what the judgement is about.
-    Named(Named),
     /// Writes the strict text of a witness as tools write it: of the one with this number in the file, from 1.
     TidyWitness(u64),
     /// Judges vectors of operators.
     Vectors,
-    /// Writes the formula that a certificate owes for a bad property of what is given: for the one at a position, or for the
-    /// only one.
+}
+
+/// The commands on a model.
+#[derive(Clone, Copy, PartialEq, Eq)]
+pub enum ModelTask {
+    /// Lowers it, and writes the engine form of its circuit: with all bad properties, or with the one at a position.
+    LowerForEngines(Option<usize>),
+    /// Judges a witness over it.
+    CheckBtor,
+    /// Writes its text in the writer's form.
+    Show,
+    /// Tells how many gates and variables its lowering has at most.
+    Cost,
+    /// Lifts a witness of its circuit to one of the model.
+    Lift,
+    /// Lifts a counterexample in the form that ABC writes over the engine form of its circuit to a witness of the model; it
+    /// claims the bad property at a position of the circuit, or the only one.
+    LiftFound(Option<usize>),
+    /// Lifts a witness of the engine form of its circuit, with all bad properties or with the one at a position, to a witness
+    /// of the model.
+    LiftForm(Option<usize>),
+    /// Judges a witness over it, and dumps its frames.
+    Wave(Shown),
+}
+
+/// The commands on a circuit.
+#[derive(Clone, Copy, PartialEq, Eq)]
+pub enum CircuitTask {
+    /// Writes it in a form.
+    AigConvert,
+    /// Writes its engine form, with all bad properties or with the one at a position.
+    ConvertForEngines(Option<usize>),
+    /// Writes it with its outputs as bad properties, in a form.
+    ConvertOutputs,
+    /// Writes the engine form of it with its outputs as bad properties, with all bad properties or with the one at a position.
+    ConvertOutputsForEngines(Option<usize>),
+    /// Judges a witness over it.
+    CheckAig,
+    /// Restores a counterexample over its engine form, in the form that ABC writes, to a witness of the circuit; it claims the
+    /// bad property at a position of the circuit, or the only one.
+    Restore(Option<usize>),
+    /// Restores a witness of its engine form, with all bad properties or with the one at a position, to a witness of the
+    /// circuit.
+    RestoreForm(Option<usize>),
+}
+
+/// The commands on a certificate of a bad property of what is given: of the one at a position, or of the only one.
+#[derive(Clone, Copy, PartialEq, Eq)]
+pub enum CertificateTask {
+    /// Writes the formula that it owes.
     Obligation(Given, Certificate, Option<usize>),
-    /// Judges a certificate and a proof of the formula that it owes.
+    /// Judges it, and a proof of the formula that it owes.
     CheckProof(Given, Certificate, Option<usize>),
+}
+
+/// The commands, by what they are on.
+#[derive(Clone, Copy, PartialEq, Eq)]
+pub enum Task {
+    /// On a text that is read as it comes.
+    Text(TextTask),
+    /// On a model.
+    Model(ModelTask),
+    /// On a circuit.
+    Circuit(CircuitTask),
+    /// On a certificate of a bad property of a model or a circuit.
+    Certificate(CertificateTask),
 }
 
 /// A command, the form of the circuits that it writes, and the names of its files.
@@ -110,6 +116,8 @@ pub enum Task {
 pub struct Order<'a> {
     /// The command.
     pub task: Task,
+    /// Whether a command that judges says by name what the judgement is about, or one that lifts writes names behind words too.
+    pub named: bool,
     /// The form of a circuit that is written.
     pub form: Form,
     /// The name of the first file; `-` is standard input.

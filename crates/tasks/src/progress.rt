@@ -5,7 +5,7 @@ ghost use Rattle.std.specs.Prelude.{◌≡◌, None};
 use base::{DeviceFault, Reason, Sink, Source};
 use blast::Watch;
 use itoa::Buffer;
-use orders::{Named, Task};
+use orders::{ModelTask, Task};
 use std::io::{self, Write};
 use std::time::{Clock, Duration};
 
@@ -38,12 +38,10 @@ impl Work {
     /// The work on the second file of a command.
     pub fn on_second(task: Task) -> Work {
         match task {
-            Task::CheckBtor | Task::Named(Named::CheckBtor) | Task::Wave(_) => {
+            Task::Model(ModelTask::CheckBtor | ModelTask::Wave(_)) => {
                 Work::Judged(Counted::FramesOfModel)
             }
-            Task::Obligation(..) | Task::CheckProof(..) | Task::Named(Named::CheckProof(..)) => {
-                Work::Read
-            }
+            Task::Certificate(_) => Work::Read,
             _ => Work::Judged(Counted::FramesOfCircuit),
         }
     }

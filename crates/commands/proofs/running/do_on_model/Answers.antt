@@ -1,139 +1,90 @@
 use Rattle.std.proofs.Common.{rules, ◌≡◌}
-use Rattle.orders.specs.declared.tasks.Named.TheVariants as named
-use Rattle.orders.specs.declared.tasks.Task.TheVariants as task
-use Rattle.commands.specs.Done.{Answers, AnswersByName}
-use Rattle.commands.specs.Refusals.{RefusesTask, RefusesByName}
+use Rattle.orders.specs.declared.tasks.ModelTask.TheVariants as model
+use Rattle.commands.specs.Done.{Answers}
+use Rattle.commands.specs.Refusals.{RefusesTask}
 use Rattle.commands.proofs.TaskLemmas.{done_so}
 use Rattle.commands.proofs.running.do_on_model.Goals as goal
 
 pub returns-in-LowerForEngines-clause-done : goal.returns-in-LowerForEngines-clause-done
 unfolding Answers
 returns-in-LowerForEngines-clause-done g c = λ known third text.
-    let is : c.args.order.now.task ≡ (task.LowerForEngines c.in-LowerForEngines.choice) = search rules in
+    let is : c.args.task ≡ (model.LowerForEngines c.in-LowerForEngines.choice) = search rules in
     rw is (done_so c.lower_for_engines.result _ (c.lower_for_engines.ensures.done known text) c.lower_for_engines.ensures.answer (λ did. did))
 
 pub returns-in-LowerForEngines-clause-refused : goal.returns-in-LowerForEngines-clause-refused
 unfolding RefusesTask
 returns-in-LowerForEngines-clause-refused g c = λ known text.
-    let is : c.args.order.now.task ≡ (task.LowerForEngines c.in-LowerForEngines.choice) = search rules in
+    let is : c.args.task ≡ (model.LowerForEngines c.in-LowerForEngines.choice) = search rules in
     rw is (c.lower_for_engines.ensures.refused known text)
 
 pub returns-in-CheckBtor-clause-done : goal.returns-in-CheckBtor-clause-done
 unfolding Answers
 returns-in-CheckBtor-clause-done g c = λ known third text.
-    let is : c.args.order.now.task ≡ task.CheckBtor = search rules in
+    let is : c.args.task ≡ model.CheckBtor = search rules in
     rw is (c.check_model.ensures.done known text)
 
 pub returns-in-CheckBtor-clause-refused : goal.returns-in-CheckBtor-clause-refused
 unfolding RefusesTask
 returns-in-CheckBtor-clause-refused g c = λ known text.
-    let is : c.args.order.now.task ≡ task.CheckBtor = search rules in
+    let is : c.args.task ≡ model.CheckBtor = search rules in
     rw is (c.check_model.ensures.refused known text)
 
 pub returns-in-Show-clause-done : goal.returns-in-Show-clause-done
 unfolding Answers
 returns-in-Show-clause-done g c = λ known third text.
-    let is : c.args.order.now.task ≡ task.Show = search rules in
+    let is : c.args.task ≡ model.Show = search rules in
     rw is (done_so c.show.result _ (c.show.ensures.done known text) c.show.ensures.answer (λ did. did))
 
 pub returns-in-Cost-clause-done : goal.returns-in-Cost-clause-done
 unfolding Answers
 returns-in-Cost-clause-done g c = λ known third text.
-    let is : c.args.order.now.task ≡ task.Cost = search rules in
+    let is : c.args.task ≡ model.Cost = search rules in
     rw is (done_so c.tell_cost.result _ (c.tell_cost.ensures.done known text) c.tell_cost.ensures.answer (λ did. did))
 
 pub returns-in-Lift-clause-done : goal.returns-in-Lift-clause-done
 unfolding Answers
 returns-in-Lift-clause-done g c = λ known third text.
-    let is : c.args.order.now.task ≡ task.Lift = search rules in
+    let is : c.args.task ≡ model.Lift = search rules in
     rw is (c.lift_witness.ensures.done known text)
 
 pub returns-in-Lift-clause-refused : goal.returns-in-Lift-clause-refused
 unfolding RefusesTask
 returns-in-Lift-clause-refused g c = λ known text.
-    let is : c.args.order.now.task ≡ task.Lift = search rules in
+    let is : c.args.task ≡ model.Lift = search rules in
     rw is (c.lift_witness.ensures.refused known text)
 
 pub returns-in-LiftFound-clause-done : goal.returns-in-LiftFound-clause-done
 unfolding Answers
 returns-in-LiftFound-clause-done g c = λ known third text.
-    let is : c.args.order.now.task ≡ (task.LiftFound c.in-LiftFound.choice) = search rules in
+    let is : c.args.task ≡ (model.LiftFound c.in-LiftFound.choice) = search rules in
     rw is (c.lift_counterexample.ensures.done known text)
 
 pub returns-in-LiftFound-clause-refused : goal.returns-in-LiftFound-clause-refused
 unfolding RefusesTask
 returns-in-LiftFound-clause-refused g c = λ known text.
-    let is : c.args.order.now.task ≡ (task.LiftFound c.in-LiftFound.choice) = search rules in
+    let is : c.args.task ≡ (model.LiftFound c.in-LiftFound.choice) = search rules in
     rw is (c.lift_counterexample.ensures.refused known text)
 
 pub returns-in-LiftForm-clause-done : goal.returns-in-LiftForm-clause-done
 unfolding Answers
 returns-in-LiftForm-clause-done g c = λ known third text.
-    let is : c.args.order.now.task ≡ (task.LiftForm c.in-LiftForm.choice) = search rules in
+    let is : c.args.task ≡ (model.LiftForm c.in-LiftForm.choice) = search rules in
     rw is (c.lift_form_witness.ensures.done known text)
 
 pub returns-in-LiftForm-clause-refused : goal.returns-in-LiftForm-clause-refused
 unfolding RefusesTask
 returns-in-LiftForm-clause-refused g c = λ known text.
-    let is : c.args.order.now.task ≡ (task.LiftForm c.in-LiftForm.choice) = search rules in
+    let is : c.args.task ≡ (model.LiftForm c.in-LiftForm.choice) = search rules in
     rw is (c.lift_form_witness.ensures.refused known text)
 
 pub returns-in-Wave-clause-done : goal.returns-in-Wave-clause-done
 unfolding Answers
 returns-in-Wave-clause-done g c = λ known third text.
-    let is : c.args.order.now.task ≡ (task.Wave c.in-Wave.shown) = search rules in
+    let is : c.args.task ≡ (model.Wave c.in-Wave.shown) = search rules in
     rw is (c.dump_witness.ensures.done known text)
 
 pub returns-in-Wave-clause-refused : goal.returns-in-Wave-clause-refused
 unfolding RefusesTask
 returns-in-Wave-clause-refused g c = λ known text.
-    let is : c.args.order.now.task ≡ (task.Wave c.in-Wave.shown) = search rules in
+    let is : c.args.task ≡ (model.Wave c.in-Wave.shown) = search rules in
     rw is (c.dump_witness.ensures.refused known text)
-
-pub returns-in-Named-CheckBtor-clause-done : goal.returns-in-Named-CheckBtor-clause-done
-unfolding AnswersByName Answers
-returns-in-Named-CheckBtor-clause-done g c = λ known third text.
-    let is : c.args.order.now.task ≡ (task.Named named.CheckBtor) = search rules in
-    rw is (c.check_model_by_name.ensures.done known text)
-
-pub returns-in-Named-CheckBtor-clause-refused : goal.returns-in-Named-CheckBtor-clause-refused
-unfolding RefusesByName RefusesTask
-returns-in-Named-CheckBtor-clause-refused g c = λ known text.
-    let is : c.args.order.now.task ≡ (task.Named named.CheckBtor) = search rules in
-    rw is (c.check_model_by_name.ensures.refused known text)
-
-pub returns-in-Named-Lift-clause-done : goal.returns-in-Named-Lift-clause-done
-unfolding AnswersByName Answers
-returns-in-Named-Lift-clause-done g c = λ known third text.
-    let is : c.args.order.now.task ≡ (task.Named named.Lift) = search rules in
-    rw is (c.lift_witness-in-Named-Lift.ensures.done known text)
-
-pub returns-in-Named-Lift-clause-refused : goal.returns-in-Named-Lift-clause-refused
-unfolding RefusesByName RefusesTask
-returns-in-Named-Lift-clause-refused g c = λ known text.
-    let is : c.args.order.now.task ≡ (task.Named named.Lift) = search rules in
-    rw is (c.lift_witness-in-Named-Lift.ensures.refused known text)
-
-pub returns-in-Named-LiftFound-clause-done : goal.returns-in-Named-LiftFound-clause-done
-unfolding AnswersByName Answers
-returns-in-Named-LiftFound-clause-done g c = λ known third text.
-    let is : c.args.order.now.task ≡ (task.Named (named.LiftFound c.in-Named-LiftFound.choice)) = search rules in
-    rw is (c.lift_counterexample-in-Named-LiftFound.ensures.done known text)
-
-pub returns-in-Named-LiftFound-clause-refused : goal.returns-in-Named-LiftFound-clause-refused
-unfolding RefusesByName RefusesTask
-returns-in-Named-LiftFound-clause-refused g c = λ known text.
-    let is : c.args.order.now.task ≡ (task.Named (named.LiftFound c.in-Named-LiftFound.choice)) = search rules in
-    rw is (c.lift_counterexample-in-Named-LiftFound.ensures.refused known text)
-
-pub returns-in-Named-LiftForm-clause-done : goal.returns-in-Named-LiftForm-clause-done
-unfolding AnswersByName Answers
-returns-in-Named-LiftForm-clause-done g c = λ known third text.
-    let is : c.args.order.now.task ≡ (task.Named (named.LiftForm c.in-Named-LiftForm.choice)) = search rules in
-    rw is (c.lift_form_witness-in-Named-LiftForm.ensures.done known text)
-
-pub returns-in-Named-LiftForm-clause-refused : goal.returns-in-Named-LiftForm-clause-refused
-unfolding RefusesByName RefusesTask
-returns-in-Named-LiftForm-clause-refused g c = λ known text.
-    let is : c.args.order.now.task ≡ (task.Named (named.LiftForm c.in-Named-LiftForm.choice)) = search rules in
-    rw is (c.lift_form_witness-in-Named-LiftForm.ensures.refused known text)
