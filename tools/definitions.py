@@ -3,8 +3,8 @@
 
     python3 tools/definitions.py            lists what is wrong; prints nothing and ends with 0 where nothing is
     python3 tools/definitions.py --calls    prints each public call, and the definitions that its sentences name
-    python3 tools/definitions.py --list     prints each definition that is rested on, and a call that names it
-    python3 tools/definitions.py --between  prints each definition of specs/ that no public contract rests on
+    python3 tools/definitions.py --list     prints each definition that is rested on, with its file, and a call that names it
+    python3 tools/definitions.py --between  prints each definition of specs/ that no public contract rests on, by file, with its comment
     python3 tools/definitions.py --crossing prints those of these that another crate speaks of, and which do
     python3 tools/definitions.py --way CRATE.NAME ..
                                             prints all that these definitions rest on, by file, with their numbers and lines
@@ -19,9 +19,13 @@ that what they say follows whatever the word means. Each clause that names one i
 three ways, or the script says so.
 
 In docs/DEFINITIONS.md the first list begins at the heading `## What the public calls rest on`, with a heading of the third
-rank for each crate. Rows of tables with five columns are those of definitions: the names in the first column, the files in
-the third. A definition has a row where a row of its crate has its name and its file. The second list begins at the heading
-`## Words between the parts`; it has a row for each file, but those named `Worked`, with definitions that the first has not.
+rank for each crate, and tables with names in the first column. A definition has a row where one row of its crate has its
+name; so no two definitions of a crate have the same name.
+
+The other definitions of specs/, but those of files named `Worked`, have a comment: the last one before them in their file,
+at its head, above them or above those before them. A line `-- ----` begins a part, of which no comment before it speaks. One
+without a comment has a row under the heading `## Words between the parts`: the crate in the first column, the name in the
+second.
 """
 import pathlib
 import re
@@ -54,6 +58,7 @@ class Module:
 
     def __init__(self, crate, path):
         self.crate, self.name = crate, path.stem
+        self.head, self.comments = comments(path.read_text())
         text = re.sub(r"--[^\n]*", "", path.read_text())
         self.scope, self.exports = {}, {}
         for found in IMPORT.finditer(text):
@@ -68,6 +73,24 @@ class Module:
             self.texts[head.group(1)] = text[head.start():end]
         for name in self.texts:
             self.scope[name] = (crate, self.name, name)
+
+
+def comments(text):
+    """The comment at the head of a file, and of each of its definitions the comment that speaks of it, or none."""
+    head, said, comment, inside = "", {}, "", False
+    for line in text.split("\n"):
+        if line.startswith("--"):
+            begins_part = line.startswith("-- ----")
+            comment = "" if begins_part else (comment + " " + line[2:].strip() if inside else line[2:].strip())
+            inside = not begins_part
+        else:
+            inside = False
+            found = HEAD.match(line)
+            if found:
+                said[found.group(1)] = comment
+            elif line.startswith(("use ", "pub use ")) and not said:
+                head = head or comment
+    return head, said
 
 
 def imported(found):
@@ -315,32 +338,27 @@ def public_clauses(crate):
 # ---- the page
 
 def rows(text):
-    """Each name of the first list, by crate: the files of its rows."""
-    found, crate = {}, None
-    begun = False
+    """The names of the first list, each with its crate, as often as they stand there."""
+    found, crate, begun = [], None, False
     for line in text.split("\n"):
         if line.startswith("## "):
-            begun = line.strip() == LIST
+            begun, crate = line.strip() == LIST, None
         elif begun and line.startswith("### "):
             crate = line[4:].strip().strip("`")
-        elif begun and line.startswith("|") and crate:
-            cells = [c.strip() for c in line.strip().strip("|").split("|")]
-            if len(cells) == 5 and not set(cells[0]) <= set("-: "):
-                files = re.findall(r"`(\w+)`", cells[2])
-                for name in re.findall(r"`([^`]+)`", cells[0]):
-                    found.setdefault((crate, name), set()).update(files)
+        elif crate and line.startswith("|"):
+            found.extend((crate, name) for name in re.findall(r"`([^`]+)`", line.split("|")[1]))
     return found
 
 
 def between_rows(text):
-    """The files of the second list, each with its crate."""
-    found, begun = set(), False
+    """The names of the second list, each with its crate."""
+    found, begun = [], False
     for line in text.split("\n"):
         if line.startswith("## "):
             begun = line.strip() == BETWEEN
         elif begun and line.startswith("| `"):
-            cells = [c.strip().strip("`") for c in line.strip().strip("|").split("|")]
-            found.add((cells[0], cells[1]))
+            cells = [c.strip() for c in line.strip().strip("|").split("|")]
+            found.extend((cells[0].strip("`"), name) for name in re.findall(r"`([^`]+)`", cells[1]))
     return found
 
 
@@ -364,6 +382,18 @@ def print_calls(crate, calls):
     for names, called in by_names.items():
         said = [word if home_crate == crate else "%s (%s)" % (word, home_crate) for home_crate, _, word in names]
         print("  %s: %s" % (", ".join(called), ", ".join(said)))
+
+
+def print_between(modules, left):
+    """Prints the definitions on which no public contract rests, by file, with the comment at the file's head; those of which one
+    comment speaks in one line."""
+    for (crate, name), words in left.items():
+        module, by_comment = modules[crate, name], {}
+        for word in words:
+            by_comment.setdefault(module.comments[word], []).append(word)
+        print("%s %s: %s" % (crate, name, module.head))
+        for comment, named in by_comment.items():
+            print("  %s: %s" % (", ".join(named), comment or "docs/DEFINITIONS.md tells"))
 
 
 def crossing(modules, left):
@@ -407,6 +437,41 @@ def way(modules, names):
     return 0
 
 
+def wrong_rows(modules, because, listed):
+    """What is wrong with the first list."""
+    files = {}
+    for (crate, name), module in sorted(modules.items()):
+        for word in module.texts:
+            files.setdefault((crate, word), []).append(name)
+    for (crate, word), names in sorted(files.items()):
+        if len(names) > 1:
+            yield "%s of %s is the name of several definitions, in specs/ of %s" % (word, crate, ", ".join(names))
+    for crate, name, word in sorted(because):
+        if (crate, word) not in listed:
+            yield "no row: %s of %s, in specs/%s.antt, named by %s" % (word, crate, name, because[crate, name, word])
+    for crate, word in sorted(set(listed)):
+        names = files.get((crate, word), ())
+        if listed.count((crate, word)) > 1:
+            yield "several rows of %s name %s" % (crate, word)
+        if not names:
+            yield "a row of %s names %s, which is not there" % (crate, word)
+        elif not any((crate, name, word) in because for name in names):
+            yield "a row of %s names %s, on which no public contract rests" % (crate, word)
+
+
+def wrong_between(left, modules, listed):
+    """What is wrong with the comments on the other definitions, and with the second list."""
+    bare = {}
+    for (crate, name), words in left.items():
+        for word in words:
+            if name != WORKED and not modules[crate, name].comments[word]:
+                bare[crate, word] = name
+    for crate, word in sorted(set(bare) - set(listed)):
+        yield "no comment, and no row in the second list: %s of %s, in specs/%s.antt" % (word, crate, bare[crate, word])
+    for crate, word in sorted(set(listed) - set(bare)):
+        yield "a row of the second list names %s of %s, where no such definition stands without a comment" % (word, crate)
+
+
 def main():
     asked = sys.argv[1:]
     if asked[:1] == ["--way"] and len(asked) > 1:
@@ -442,33 +507,15 @@ def main():
             print("%s %s.%s: named by %s" % (crate, name, word, because[crate, name, word]))
         return 0
     if asked == ["--between"]:
-        for (crate, name), words in between(modules, because).items():
-            print("%s %s: %s" % (crate, name, ", ".join(words)))
+        print_between(modules, between(modules, because))
         return 0
     if asked == ["--crossing"]:
         for (crate, name, word), others in sorted(crossing(modules, between(modules, because)).items()):
             print("%s %s.%s: %s" % (crate, name, word, ", ".join(sorted(others))))
         return 0
     text = PAGE.read_text()
-    listed = rows(text)
-    for crate, name, word in sorted(because):
-        if name not in listed.get((crate, word), ()):
-            wrong.append("no row: %s of %s, in specs/%s.antt, named by %s" % (word, crate, name, because[crate, name, word]))
-    for (crate, word), files in sorted(listed.items()):
-        for name in sorted(files):
-            module = modules.get((crate, name))
-            if module is None:
-                wrong.append("a row of %s names the file %s, which is not there" % (crate, name))
-        if not any(word in modules[crate, name].texts for name in files if (crate, name) in modules):
-            wrong.append("a row of %s names %s, which is not there" % (crate, word))
-        elif not any((crate, name, word) in because for name in files):
-            wrong.append("a row of %s names %s, on which no public contract rests" % (crate, word))
-    kept = {place for place in between(modules, because) if place[1] != WORKED}
-    second = between_rows(text)
-    for crate, name in sorted(kept - second):
-        wrong.append("no row in the second list: specs/%s.antt of %s" % (name, crate))
-    for crate, name in sorted(second - kept):
-        wrong.append("a row of the second list names %s of %s, where no such definition stands" % (name, crate))
+    wrong.extend(wrong_rows(modules, because, rows(text)))
+    wrong.extend(wrong_between(between(modules, because), modules, between_rows(text)))
     for line in wrong:
         print(line)
     return 1 if wrong else 0
