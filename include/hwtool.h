@@ -1,5 +1,5 @@
 /* The library of hwtool for C programs: judgements of witnesses, lowering, lifting, restoring, dumps and certificates, over
- * whole texts in memory. What each call answers is proved (docs/PROVED.md, "The library for C programs").
+ * whole texts in memory. What each call answers is proved (docs/PROVED.md, "capi").
  *
  * What the caller owes, which nothing checks:
  *   - no pointer is null, also that of an empty text or buffer; a text or buffer of n bytes is n bytes that can be read or
