@@ -1,5 +1,5 @@
 /* The library of hwtool for C programs: judgements of witnesses, lowering, lifting, restoring, dumps and certificates, over
- * whole texts in memory. What each call answers is proved (docs/PROVED.md, "The library for C programs").
+ * whole texts in memory. What each call answers is proved (docs/PROVED.md, "capi").
  *
  * What the caller owes, which nothing checks:
  *   - no pointer is null, also that of an empty text or buffer; a text or buffer of n bytes is n bytes that can be read or
@@ -34,8 +34,8 @@ enum {
     HWTOOL_TOO_SMALL = 1,      /* the buffer is too small and stays; `needed` is the length of the text */
     HWTOOL_TEXT_REFUSED = 2,   /* the first text is no model or no circuit; `refusal` says why and where */
     HWTOOL_MODEL_REFUSED = 3,  /* what it says is not taken by this call; `refusal` says why and which item */
-    HWTOOL_NO_MEMORY = 4,      /* memory was wanting */
-    HWTOOL_SECOND_REFUSED = 5  /* the text of an invariant is faulty; `refusal` says why and where */
+    HWTOOL_NO_MEMORY = 4,      /* out of memory */
+    HWTOOL_SECOND_REFUSED = 5  /* the second text, an invariant or a witness circuit, is not taken; `refusal` says why and where */
 };
 
 /* The kinds of verdicts. */
