@@ -4,8 +4,7 @@
 What is looked for in the sources: files and folders, also by the end of their paths; crates, and what is said to be of a crate or of
 a type; names of several words; the commands of hwtool with their options, the options of hwtool-flow and of scripts; the targets of
 the Makefile. What it cannot tell it passes over: words of other tools, files of users, what stands in out/. It also says, which is no
-fault, where two documents have one figure of one thing, and how many sentences are longer than they should become. The status is 0
-where nothing is wrong, else 1.
+fault, where two documents have one figure of one thing. The status is 0 where nothing is wrong, else 1.
 """
 import collections
 import fnmatch
@@ -17,8 +16,8 @@ import sys
 
 TOP = pathlib.Path(__file__).resolve().parent.parent
 PAGES = [TOP / "README.md", *sorted((TOP / "docs").glob("*.md"))]
-# The most words of a sentence, and how many it should have at most.
-MOST, WANTED = 45, 30
+# The most words of a sentence.
+MOST = 30
 # The theorem, which is one sentence.
 THEOREM = "**For every model of the profile, the lowered circuit has"
 # Endings of files that stand in the sources where a document names one.
@@ -244,7 +243,7 @@ def figures(text):
 
 
 def main():
-    wrong = names = links = many = long = 0
+    wrong = names = links = many = 0
     counted = collections.defaultdict(dict)
     for path in PAGES:
         name, text = path.relative_to(TOP), read(path)
@@ -255,8 +254,9 @@ def main():
             # rows that `explain` prints are the program's own words
             is_printed = path.name == "REFUSALS.md" and re.match(r"\| \d", text.split("\n")[number - 1])
             for it in [] if is_code or is_printed else sentences(part):
-                count = len(re.findall(r"\S*\w\S*", it))
-                many, long = many + 1, long + (count > WANTED)
+                # a list of names is no sentence
+                count = 0 if re.fullmatch(r"(?:Code(?:, )?)+", it) else len(re.findall(r"\S*\w\S*", it))
+                many += 1
                 if count > MOST and not it.startswith(THEOREM):
                     found.append(f"a sentence of {count} words: {' '.join(it.split()[:9])} ..")
             for it in [] if is_code else figures(re.sub(r"`[^`]+`", "", part)):
@@ -267,7 +267,6 @@ def main():
     for it, places in sorted(counted.items()):
         if len(places) > 1:
             print(f"told twice: {it}: {', '.join(places.values())}")
-    print(f"{long} of {many} sentences have more than {WANTED} words")
     print(f"documents: {len(PAGES)} pages, {names} names and lines of code, {links} links and {many} sentences tried, {wrong} wrong")
     return 1 if wrong else 0
 
