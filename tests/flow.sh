@@ -4,12 +4,11 @@
 # each bad property of each model of examples/ is looked for by ABC in its engine form. What is found is restored and lifted,
 # and judged anew; what is proved is proved by CaDiCaL from ABC's invariant, and judged, also with a cube less. Witness circuits are
 # made of that invariant, and of inductions over each property, and judged whole and spoilt. What is kept in examples/ is judged too,
-# and where GTKWave is installed (gtkwave, xvfb) the dumps of witnesses are opened. Last small circuits by chance are tried with
-# witness circuits, by tests/witness_circuits.py, and hwtool-flow, by tests/flow_tool.py.
-# It is run by hand, beside the gate: tests/flow.sh [PROGRAM]. Where one of the four is not installed it says so and ends well.
+# and where GTKWave is installed (gtkwave, xvfb) the dumps of witnesses are opened. tests/witness_circuits.py and tests/flow_tool.py
+# try more. It is run by hand, beside the gate: tests/flow.sh [PROGRAM]. Where one of the four is not installed it says so and ends well.
 set -u
 top=$(cd "$(dirname "$0")/.." && pwd)
-program=${1:-$top/crates/hwtool/out/hwtool}
+program=$(readlink -f "${1:-$top/crates/hwtool/out/hwtool}")
 for tool in yosys berkeley-abc cadical z3; do
     if ! command -v "$tool" >/dev/null; then
         echo "flow: $tool is not installed, so nothing was tried"
@@ -241,9 +240,8 @@ for model in "$top"/examples/*.btor2 "$folder"/flow/*.btor2; do
     of_others "$model"
 done
 
-count=$((count + 1))
-python3 "$top/tests/witness_circuits.py" "$folder/bin/hwtool" || tell "a witness circuit is not worth what it should be"
-count=$((count + 1))
-python3 "$top/tests/flow_tool.py" "$folder/bin/hwtool" || tell "hwtool-flow is not as it should be"
+for tool in gtkwave vcd2fst xvfb-run; do
+    command -v "$tool" >/dev/null || echo "left out: dumps in GTKWave, since $tool is not installed"
+done
 echo "$count tried, $failed not as they should be"
 [ "$failed" -eq 0 ]

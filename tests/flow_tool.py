@@ -4,9 +4,9 @@
     flow_tool.py [PROGRAM] [--screenshot FILE]
 
 PROGRAM is the `hwtool` that checks, crates/hwtool/out/hwtool where none is given. What is wanted of each property is worked out by
-hand from the design, and the frame is the first in which it can fail. Yosys, ABC and CaDiCaL are needed (tests/flow.sh looks for
-them); the page is looked at where `chromium` is there, a full disk where a small file system can be mounted. It says what was
-tried. The status is 0 where all is as it should be, else 1.
+hand from the design, and the frame is the first in which it can fail. Yosys, ABC and CaDiCaL are needed; the page is looked at where
+`chromium` is there, a full disk where a small file system can be mounted. It says what was tried. The status is 0 where all is as
+it should be, else 1.
 """
 import argparse
 import html.parser

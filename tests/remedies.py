@@ -734,7 +734,7 @@ def main():
         for part in (models, files, circuits, outputs, witnesses, designs, abc):
             part(trials)
     for it in trials.left:
-        print(f"remedies: not tried: {it}")
+        print(f"left out: {it}")
     print(f"{trials.tried} remedies tried, {trials.wrong} wrong")
     sys.exit(1 if trials.wrong else 0)
 

@@ -43,7 +43,7 @@ sed -n '/crates, .* functions/,/^Sums/p' "${work}/release/PROVED.txt" 2>/dev/nul
 part "4. Wrong bodies, one for each part of the claim, which the prover refuses"
 tried() {
     echo "  $1:"
-    tools/wrong_body.py "$2" 2>&1 | sed 's/^/  /' || wrong=1
+    tests/wrong_bodies.py "$2" 2>&1 | sed 's/^/  /' || wrong=1
 }
 tried "the lowered circuit" tests/wrong-bodies/gates/gate_is_dropped.edit
 tried "its constraints and bad properties" tests/wrong-bodies/witness/breach_behind_the_first_frame_is_passed_over.edit

@@ -115,9 +115,9 @@ class Crate:
         """Whether what stands was made of what it is made from now."""
         return self.made.exists() and self.said.is_file() and self.stamp.is_file() and self.stamp.read_text() == self.made_from()
 
-    def command(self, jobs):
-        """What proves the crate and makes it."""
-        words = [KIT / "bin/rattle", "build", "--crate-name", self.name, f"src/{'main' if self.is_program else 'lib'}.rt"]
+    def inputs(self, verb, jobs):
+        """The words of a command that reads the crate over the libraries below."""
+        words = [KIT / "bin/rattle", verb, "--crate-name", self.name, f"src/{'main' if self.is_program else 'lib'}.rt"]
         words += ["--antt-project", KIT / "rattle/logic/antt-project.json", "--logic-built", KIT / "logic_built", "--jobs", jobs]
         for it in self.of_kit:
             words += ["--extern", f"{it}={KIT}/rlibs/{it}.rlib"]
@@ -125,11 +125,16 @@ class Crate:
             words += ["--extern", f"{it.name}={it.made}"]
         for it in [KIT / "rlibs", *(it.proved for it in self.below)]:
             words += ["-L", f"dependency={it}"]
-        if self.is_program or self.is_static:
-            words += ["--toolchain", KIT / "toolchain", *["--crate-type", "staticlib"] * self.is_static]
-        else:
-            words += ["--statements"]
-        return [str(it) for it in [*words, "-o", self.made]]
+        return [str(it) for it in [*words, *["--crate-type", "staticlib"] * self.is_static]]
+
+    def command(self, jobs):
+        """What proves the crate and makes it."""
+        links = self.is_program or self.is_static
+        return [*self.inputs("build", jobs), *(["--toolchain", f"{KIT}/toolchain"] if links else ["--statements"]), "-o", str(self.made)]
+
+    def checking(self):
+        """What checks the crate, or what `--only` names of it, and makes nothing."""
+        return self.inputs("check", 1)
 
 
 class Check:
