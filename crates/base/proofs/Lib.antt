@@ -2,6 +2,7 @@ pub mod BitLemmas
 mod CounterLemmas
 pub mod DeviceLemmas
 pub mod PieceLemmas
+pub mod PenLemmas
 pub mod DivisionLemmas
 pub mod ShiftLemmas
 pub mod SignedLemmas

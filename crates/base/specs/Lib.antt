@@ -9,6 +9,7 @@ pub mod Lines
 pub mod Held
 pub mod Decimals
 pub mod Pieces
+pub mod Writing
 pub mod Reasons
 pub mod Trials
 pub mod Rows
