@@ -1,4 +1,4 @@
--- What is made without names: a fresh circuit, and empty lists of a file.
+-- A fresh circuit is a circuit.
 use Rattle.std.proofs.Common.{rules, ℕ, ◌+◌, ◌≤◌, All, arith}
 use Rattle.std.proofs.lemmas.List.{length-replicate}
 use Rattle.std.proofs.lemmas.List.Elements.{All-nil, All-replicate}
@@ -7,7 +7,6 @@ use Rattle.aiger.specs.declared.circuit.Latch.{Latch}
 use Rattle.aiger.specs.Limits.{greatest_count}
 use Rattle.aiger.specs.Net.{IsDefined}
 use Rattle.aiger.specs.Circuit.{Circuit, IsCircuit, IsNamed, HasFew, net, fresh_circuit, fresh_latch}
-use Rattle.aiger.specs.Loose.{IsLoose, HasDefinitions, HasSmall, HasFewLines, sections_of, empty_loose}
 
 pub IsCircuit-fresh : (inputs latches : ℕ) → inputs + latches ≤ greatest_count → IsCircuit (fresh_circuit inputs latches)
 unfolding IsStrictlySortedBy
@@ -28,11 +27,3 @@ IsCircuit-fresh inputs latches h =
       };
       names = record { sorted = tt; named = All-nil (IsNamed c) };
     }
-
-pub IsLoose-empty : IsLoose empty_loose
-unfolding IsStrictlySortedBy
-IsLoose-empty =
-    let definitions : HasDefinitions empty_loose = search rules in
-    let small : HasSmall empty_loose = search rules in
-    let few : HasFewLines empty_loose = search rules in
-    record { definitions = definitions; small = small; few = few; names = record { sorted = tt; named = All-nil (IsNamed (sections_of empty_loose)) } }

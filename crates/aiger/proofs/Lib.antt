@@ -1,24 +1,9 @@
 pub mod NetLemmas
 pub mod SectionNameLemmas
-mod NameLemmas
+pub mod NameLemmas
 mod JusticeLemmas
-mod CircuitLemmas
+pub mod CircuitLemmas
 pub mod TraceLemmas
-mod LooseLemmas
-mod RenumberingLemmas
-mod OrderLemmas
-mod KnownLemmas
-mod ReadinessLemmas
-mod NumberingLemmas
-pub mod PlacesLemmas
-mod LooseTraceLemmas
-mod NumbersLemmas
-mod VariablePagesLemmas
-mod UndefinedLemmas
-mod CompleteLemmas
-mod RangeLemmas
-mod InOrderLemmas
-mod OwnLemmas
 mod FlatNameLemmas
 mod PlacedNameLemmas
 mod FreshLemmas

@@ -4,16 +4,7 @@ pub mod Refusal
 pub mod Names
 pub mod FlatNames
 pub mod Circuit
-pub mod Loose
-pub mod VariableNumbers
-pub mod Definitions
-pub mod LooseTrace
-pub mod Renumbering
 pub mod View
-pub mod LooseView
 pub mod Trace
-pub mod Readiness
-pub mod Numbering
-pub mod OwnLists
 pub mod Worked
 pub mod Reachability

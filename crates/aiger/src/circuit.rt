@@ -3,10 +3,9 @@ ghost use Rattle.std.specs.Prelude.{◌≡◌, ℕ, ◌+◌, ◌*◌, ◌<◌, �
 ghost use Rattle.aiger.specs.Refusal.{RefusesBy};
 ghost use Rattle.aiger.specs.Circuit.{count_refusal};
 
-pub(crate) mod renumbered;
-
 use crate::fault::CircuitFault;
 use crate::justice::push_justice;
+use crate::lists::CircuitLists;
 use crate::literal::Lit;
 use crate::names::{NameKeeper, is_good_name};
 use base::Rows;
@@ -132,6 +131,7 @@ impl Model for Circuit {
 impl Circuit {
     ghost use Rattle.base.specs.Literal.{variable};
     ghost use Rattle.aiger.specs.Net.{variables};
+    ghost use Rattle.aiger.specs.View.{circuit_from};
     ghost use Rattle.aiger.specs.Circuit.{IsCircuit, net, fresh_circuit, with_gate, with_latch, with_output, with_bad, with_constraint, with_justice, with_fair, with_name, name_of, section_count, are_defined, circuit_refusal, gate_refusal, literal_refusal, property_refusal, justice_refusal, name_refusal, RefusesBy, RefusesOnlyBy};
 
     /// A circuit of so many inputs and latches, which begin with next 0 and reset `Zero`.
@@ -160,6 +160,24 @@ impl Circuit {
             fair: Vec::new(alloc),
             names: NameKeeper::new(alloc),
         })
+    }
+
+    /// The circuit that has these lists and names, which are those of a circuit. It takes no memory.
+    pub fn from_lists(lists: CircuitLists) -> Circuit
+        requires { IsCircuit (circuit_from lists) }
+        ensures { result ≡ circuit_from lists }
+    {
+        Circuit {
+            inputs: lists.inputs,
+            latches: lists.latches,
+            gates: lists.gates,
+            outputs: lists.outputs,
+            bads: lists.bads,
+            constraints: lists.constraints,
+            justice: lists.justice,
+            fair: lists.fair,
+            names: lists.names,
+        }
     }
 
     /// Adds an AND gate of two literals, the greater one first, and answers its literal.

@@ -2,25 +2,17 @@
 #![tactic(auto)]
 
 mod circuit;
-mod definitions;
 mod fault;
 mod flat_names;
 mod justice;
 pub mod laws;
+mod lists;
 mod literal;
-mod loose;
 mod names;
-mod numbered;
-mod numbering;
-mod numbers;
-mod readiness;
-mod undefined;
-mod variable_numbers;
-mod variable_pages;
 
-pub use circuit::{Circuit, GREATEST_COUNT, Gate, Latch, Reset, Section};
-pub use fault::{CircuitFault, LooseFault};
+pub use circuit::{Circuit, GREATEST_COUNT, Gate, Latch, Reset, Section, push_counted};
+pub use fault::CircuitFault;
+pub use justice::push_justice;
+pub use lists::CircuitLists;
 pub use literal::Lit;
-pub use loose::{GateLine, LatchLine, Loose};
-pub use names::LONGEST_NAME;
-pub use numbered::{Numbered, Numbering};
+pub use names::{LONGEST_NAME, NameKeeper, is_good_name};

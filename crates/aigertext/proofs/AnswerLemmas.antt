@@ -4,7 +4,7 @@ use Rattle.std.specs.Prelude.{IfOk, IfErr, IfSome}
 use Rattle.std.specs.Io.KnownBytes.{prepend_known, Keeps}
 use Rattle.base.specs.declared.sources.ReadAllFault.{ReadAllFault}
 use Rattle.aiger.specs.Circuit.{Circuit}
-use Rattle.aiger.specs.declared.numbered.Numbered.{Numbered}
+use Rattle.aigerlists.specs.declared.numbered.Numbered.{Numbered}
 use Rattle.aigertext.specs.declared.fault.Stop.{Stop}
 use Rattle.aigertext.specs.declared.fault.Why.{Why}
 use Rattle.aigertext.specs.declared.fault.Why.TheVariants as why

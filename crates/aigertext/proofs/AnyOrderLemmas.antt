@@ -6,12 +6,12 @@ use Rattle.std.proofs.KnownBytes.{Keeps-trans}
 use Rattle.std.proofs.lemmas.List.{drop_more, drop_all}
 use Rattle.std.proofs.lemmas.List.Elements.{All-nil, All-append}
 use Rattle.aiger.specs.declared.circuit.Gate.{Gate}
-use Rattle.aiger.specs.declared.fault.LooseFault.{LooseFault}
-use Rattle.aiger.specs.declared.loose.GateLine.{GateLine}
-use Rattle.aiger.specs.declared.numbered.Numbered.{Numbered}
+use Rattle.aigerlists.specs.declared.fault.LooseFault.{LooseFault}
+use Rattle.aigerlists.specs.declared.loose.GateLine.{GateLine}
+use Rattle.aigerlists.specs.declared.numbered.Numbered.{Numbered}
 use Rattle.aiger.specs.Circuit.{Circuit}
-use Rattle.aiger.specs.Loose.{Loose, IsLoose, with_gate_line}
-use Rattle.aiger.specs.Renumbering.{AnswersNumbered}
+use Rattle.aigerlists.specs.Loose.{Loose, IsLoose, with_gate_line}
+use Rattle.aigerlists.specs.Renumbering.{AnswersNumbered}
 use Rattle.aigertext.specs.declared.reading.counts.Counts.{Counts}
 use Rattle.aigertext.specs.declared.fault.Stop.{Stop}
 use Rattle.aigertext.specs.declared.forms.Form.TheVariants.{Ascii}

@@ -2,11 +2,11 @@
 use Rattle.std.proofs.Common.{◌≡◌, ℕ, ◌≤◌, List, [], ◌∷◌, ◌++◌, length, Bool, true, Option, Result, Ok, Err, refl, sym, ap, subst, ◌∙◌, append_assoc, inl, inr, ◌⊎◌}
 use Rattle.std.specs.Prelude.{IfOk}
 use Rattle.aiger.specs.declared.circuit.Section.{Section}
-use Rattle.aiger.specs.declared.numbered.Numbered.{Numbered}
+use Rattle.aigerlists.specs.declared.numbered.Numbered.{Numbered}
 use Rattle.aiger.specs.Circuit.{Circuit, IsCircuit, NameMap}
 use Rattle.aiger.specs.Limits.{greatest_count}
-use Rattle.aiger.specs.Loose.{Loose, IsLoose, sections_of}
-use Rattle.aiger.specs.Renumbering.{IsRenumbered, IsNumberingOf}
+use Rattle.aigerlists.specs.Loose.{Loose, IsLoose, sections_of}
+use Rattle.aigerlists.specs.Renumbering.{IsRenumbered, IsNumberingOf}
 use Rattle.aiger.proofs.SectionNameLemmas.{few_positions}
 use Rattle.aigertext.specs.declared.reading.counts.Counts.{Counts}
 use Rattle.aigertext.specs.declared.fault.Stop.{Stop}

@@ -6,9 +6,9 @@ use Rattle.aiger.specs.declared.circuit.Gate.{Gate}
 use Rattle.aiger.specs.declared.circuit.Latch.{Latch}
 use Rattle.aiger.specs.Net.{variables, AreOrderedFrom}
 use Rattle.aiger.specs.Circuit.{Circuit, IsCircuit, IsNamed, net}
-use Rattle.aiger.specs.Loose.{IsLoose}
-use Rattle.aiger.specs.OwnLists.{own_input_lines, own_latches, own_gates, own_lists}
-use Rattle.aiger.specs.Renumbering.{IsRenumbered, IsNumberingOf}
+use Rattle.aigerlists.specs.Loose.{IsLoose}
+use Rattle.aigerlists.specs.OwnLists.{own_input_lines, own_latches, own_gates, own_lists}
+use Rattle.aigerlists.specs.Renumbering.{IsRenumbered, IsNumberingOf}
 use Rattle.aigertext.specs.declared.reading.counts.Counts.{Counts}
 use Rattle.aigertext.specs.declared.forms.Form.TheVariants.{Ascii}
 use Rattle.aigertext.specs.Ascii.{numbers_line, header, reset_numbers, input_lines, all_names}

@@ -7,14 +7,14 @@ use Rattle.std.proofs.lemmas.Bool.Decides.{nat_tests}
 use Rattle.std.proofs.lemmas.List.Elements.{All-weaker, All-nil, All-map}
 use Rattle.base.specs.Decimals.{number_of}
 use Rattle.base.proofs.DecimalLemmas.{chosen, number_is_decimal}
-use Rattle.aiger.specs.declared.loose.GateLine.{GateLine}
+use Rattle.aigerlists.specs.declared.loose.GateLine.{GateLine}
 use Rattle.aiger.specs.declared.circuit.Latch.{Latch}
-use Rattle.aiger.specs.declared.loose.LatchLine.{LatchLine}
+use Rattle.aigerlists.specs.declared.loose.LatchLine.{LatchLine}
 use Rattle.aiger.specs.Limits.{greatest_count}
 use Rattle.base.specs.Literal.{variable}
 use Rattle.aiger.specs.Circuit.{IsNamed}
-use Rattle.aiger.specs.Loose.{Loose, IsLoose, HasDefinitions, HasSmall, HasFewLines, IsDefining, IsSmall, sections_of, latch_of as latch_section, empty_loose, latch_variable, gate_variable, defined_variables, is_defining, is_defined, with_input_line, with_latch_line, with_gate_line}
-use Rattle.aiger.specs.Numbering.{IsOnce}
+use Rattle.aigerlists.specs.Loose.{Loose, IsLoose, HasDefinitions, HasSmall, HasFewLines, IsDefining, IsSmall, sections_of, latch_of as latch_section, empty_loose, latch_variable, gate_variable, defined_variables, is_defining, is_defined, with_input_line, with_latch_line, with_gate_line}
+use Rattle.aigerlists.specs.Numbering.{IsOnce}
 use Rattle.aigertext.specs.declared.reading.counts.Counts.{Counts}
 use Rattle.aigertext.specs.declared.fault.Why.{Why}
 use Rattle.aigertext.specs.declared.fault.Why.TheVariants as why

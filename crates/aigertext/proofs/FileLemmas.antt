@@ -1,6 +1,6 @@
 -- Lines that define variables, one after the other onto the lists of a file.
 use Rattle.std.proofs.Common.{◌≡◌, ℕ, suc, List, Result, Ok, Err, refl, sym, ap, ◌∙◌}
-use Rattle.aiger.specs.Loose.{Loose}
+use Rattle.aigerlists.specs.Loose.{Loose}
 use Rattle.aigertext.specs.declared.fault.Stop.{Stop}
 use Rattle.aigertext.specs.declared.fault.Why.{Why}
 use Rattle.aigertext.specs.Reading.{line_at}

@@ -8,12 +8,12 @@ use Rattle.base.specs.Decimals.{number_of}
 use Rattle.base.proofs.DecimalLemmas.{number_of-decimal}
 use Rattle.aiger.specs.declared.circuit.Reset.{Reset}
 use Rattle.aiger.specs.declared.circuit.Reset.TheVariants.{Zero}
-use Rattle.aiger.specs.declared.loose.GateLine.{GateLine}
-use Rattle.aiger.specs.declared.loose.LatchLine.{LatchLine}
+use Rattle.aigerlists.specs.declared.loose.GateLine.{GateLine}
+use Rattle.aigerlists.specs.declared.loose.LatchLine.{LatchLine}
 use Rattle.aiger.specs.Limits.{greatest_count}
 use Rattle.base.specs.Literal.{variable}
-use Rattle.aiger.specs.Numbering.{IsOnce}
-use Rattle.aiger.specs.Loose.{Loose, IsLoose, IsDefining, sections_of, empty_loose, latch_variable, gate_variable, defined_variables, is_defined, with_input_line, with_latch_line, with_gate_line}
+use Rattle.aigerlists.specs.Numbering.{IsOnce}
+use Rattle.aigerlists.specs.Loose.{Loose, IsLoose, IsDefining, sections_of, empty_loose, latch_variable, gate_variable, defined_variables, is_defined, with_input_line, with_latch_line, with_gate_line}
 use Rattle.aigertext.specs.declared.fault.Stop.{Stop}
 use Rattle.aigertext.specs.declared.fault.Why.{Why}
 use Rattle.aigertext.specs.declared.fault.Why.TheVariants as why

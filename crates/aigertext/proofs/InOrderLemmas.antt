@@ -10,8 +10,8 @@ use Rattle.aiger.specs.declared.circuit.Section.{Section}
 use Rattle.aiger.specs.Limits.{greatest_count}
 use Rattle.aiger.specs.Net.{variables, AreOrderedFrom}
 use Rattle.aiger.specs.Circuit.{Circuit, IsCircuit, net, fresh_circuit, fresh_latch}
-use Rattle.aiger.specs.OwnLists.{own_lists}
-use Rattle.aiger.specs.Renumbering.{IsRenumbered, IsNumberingOf}
+use Rattle.aigerlists.specs.OwnLists.{own_lists}
+use Rattle.aigerlists.specs.Renumbering.{IsRenumbered, IsNumberingOf}
 use Rattle.aiger.proofs.SectionNameLemmas.{few_positions}
 use Rattle.aigertext.specs.declared.reading.counts.Counts.{Counts}
 use Rattle.aigertext.specs.declared.reading.front.Front.{Front}
@@ -24,7 +24,7 @@ use Rattle.aigertext.specs.Counts.{counts_in, counts_of_file, AreSmall, Fits}
 use Rattle.aigertext.specs.Spelling.{IsHeader, AreUpTo, AreNextLines, IsAsciiText, IsBinaryText}
 use Rattle.aigertext.specs.Reading.{◌>>=◌, line_at, header_of, gate_at, gates_at, names_at, binary_at, Properties, properties_at, nameless}
 use Rattle.aigertext.specs.AsciiReading.{lists_of_file, AnswersNamed, AnswersLists, AnswersHeader, AnswersText}
-use Rattle.aiger.specs.Loose.{Loose}
+use Rattle.aigerlists.specs.Loose.{Loose}
 use Rattle.base.specs.Lines.{IsLine}
 use Rattle.aigertext.specs.Numbering.{IsNumberingOfText}
 use Rattle.aigertext.specs.Passes.{onto, with_more_gates, latch_in, latches_in}

@@ -6,8 +6,8 @@ use Rattle.base.specs.Lines.{onto_first}
 use Rattle.base.specs.Decimals.{number_of}
 use Rattle.base.proofs.DecimalLemmas.{chosen, number_is_decimal}
 use Rattle.aiger.specs.declared.circuit.Latch.{Latch}
-use Rattle.aiger.specs.declared.loose.LatchLine.{LatchLine}
-use Rattle.aiger.specs.OwnLists.{own_latches}
+use Rattle.aigerlists.specs.declared.loose.LatchLine.{LatchLine}
+use Rattle.aigerlists.specs.OwnLists.{own_latches}
 use Rattle.aiger.specs.declared.circuit.Reset.{Reset}
 use Rattle.aiger.specs.declared.circuit.Reset.TheVariants.{Zero, One, Free}
 use Rattle.aigertext.specs.declared.fault.Why.TheVariants as why

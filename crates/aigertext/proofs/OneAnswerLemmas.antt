@@ -1,8 +1,8 @@
 -- A text has exactly one answer.
 use Rattle.std.proofs.Common.{◌≡◌, ℕ, ◌+◌, ◌-◌, ◌<◌, List, length, Option, Some, None, Result, Ok, Err, refl, sym, ap, ◌∙◌, inl, inr, ◌⊎◌, arith}
 use Rattle.aiger.specs.Circuit.{Circuit}
-use Rattle.aiger.specs.Loose.{Loose, IsLoose}
-use Rattle.aiger.specs.Renumbering.{IsRenumbered, IsFirstCyclic, LeadsToCycle, first_undefined, used_lines}
+use Rattle.aigerlists.specs.Loose.{Loose, IsLoose}
+use Rattle.aigerlists.specs.Renumbering.{IsRenumbered, IsFirstCyclic, LeadsToCycle, first_undefined, used_lines}
 use Rattle.aigertext.specs.declared.reading.counts.Counts.{Counts}
 use Rattle.aigertext.specs.declared.fault.Stop.{Stop}
 use Rattle.aigertext.specs.declared.fault.Why.TheVariants as why

@@ -2,9 +2,9 @@
 use Rattle.std.proofs.Common.{◌≡◌, ℕ, zero, suc, false, List, [], ◌∷◌, ◌++◌, map, length, All, nat_eq, Result, Ok, refl, sym, ap, subst, ◌∙◌, append_assoc, append-nil, arith}
 use Rattle.std.specs.List.{list_any}
 use Rattle.std.proofs.lemmas.List.Elements.{All-nil, All-cons, All-head, All-tail}
-use Rattle.aiger.specs.Loose.{Loose, defined_variables, is_defined}
-use Rattle.aiger.specs.Numbering.{IsOnce}
-use Rattle.aiger.proofs.PlacesLemmas.{once_front, not_yet, once_more}
+use Rattle.aigerlists.specs.Loose.{Loose, defined_variables, is_defined}
+use Rattle.aigerlists.specs.Numbering.{IsOnce}
+use Rattle.aigerlists.proofs.PlacesLemmas.{once_front, not_yet, once_more}
 use Rattle.aigertext.specs.declared.fault.Why.{Why}
 use Rattle.aigertext.specs.Reading.{line_at}
 use Rattle.aigertext.specs.AsciiReading.{onto_lists}

@@ -6,12 +6,12 @@ use Rattle.std.proofs.lemmas.List.{length-map}
 use Rattle.std.proofs.lemmas.List.Sums.{sum_by-cons, sum_by_more}
 use Rattle.std.proofs.lemmas.Option.{slice_get_within, get_or_from_slice_get}
 use Rattle.std.proofs.lemmas.Bool.Decides.{nat_tests}
-use Rattle.aiger.specs.declared.loose.GateLine.{GateLine}
-use Rattle.aiger.specs.declared.loose.LatchLine.{LatchLine}
-use Rattle.aiger.specs.Loose.{Loose, empty_loose, defined_count, with_input_line, with_latch_line}
-use Rattle.aiger.specs.Renumbering.{used_lines, alone, AnswersNumber, LeadsToCycle, LeadsAlong}
-use Rattle.aiger.specs.declared.fault.LooseFault.{LooseFault}
-use Rattle.aiger.specs.declared.fault.LooseFault.TheVariants.{Cycle}
+use Rattle.aigerlists.specs.declared.loose.GateLine.{GateLine}
+use Rattle.aigerlists.specs.declared.loose.LatchLine.{LatchLine}
+use Rattle.aigerlists.specs.Loose.{Loose, empty_loose, defined_count, with_input_line, with_latch_line}
+use Rattle.aigerlists.specs.Renumbering.{used_lines, alone, AnswersNumber, LeadsToCycle, LeadsAlong}
+use Rattle.aigerlists.specs.declared.fault.LooseFault.{LooseFault}
+use Rattle.aigerlists.specs.declared.fault.LooseFault.TheVariants.{Cycle}
 use Rattle.aigertext.specs.declared.reading.counts.Counts.{Counts}
 use Rattle.aigertext.specs.declared.fault.Stop.{Stop}
 use Rattle.aigertext.specs.declared.fault.Why.{Why}

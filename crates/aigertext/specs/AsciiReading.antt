@@ -1,12 +1,12 @@
 -- Reading a circuit's ascii text from left to right ("AIGER 1.9 and Beyond", ascii format), with the first fault that is met: the lists of the file, then the circuit that they are, then its names; and reading a text of either form.
 use Rattle.std.specs.Prelude.{◌≡◌, ℕ, zero, suc, ◌+◌, ◌-◌, ◌*◌, ◌&&◌, not, List, [], ◌∷◌, length, Option, Some, None, Result, Ok, Err, nat_lt, nat_le, ◌⊎◌, if◌then◌else◌}
 use Rattle.base.specs.Decimals.{number_of}
-use Rattle.aiger.specs.declared.loose.GateLine.{GateLine}
-use Rattle.aiger.specs.declared.loose.LatchLine.{LatchLine}
+use Rattle.aigerlists.specs.declared.loose.GateLine.{GateLine}
+use Rattle.aigerlists.specs.declared.loose.LatchLine.{LatchLine}
 use Rattle.aiger.specs.Circuit.{Circuit}
 use Rattle.base.specs.Literal.{variable}
-use Rattle.aiger.specs.Loose.{Loose, empty_loose, is_defined, is_defining, with_input_line, with_latch_line, with_gate_line}
-use Rattle.aiger.specs.Renumbering.{IsRenumbered, used_lines, first_undefined, IsFirstCyclic}
+use Rattle.aigerlists.specs.Loose.{Loose, empty_loose, is_defined, is_defining, with_input_line, with_latch_line, with_gate_line}
+use Rattle.aigerlists.specs.Renumbering.{IsRenumbered, used_lines, first_undefined, IsFirstCyclic}
 use Rattle.aigertext.specs.declared.reading.counts.Counts.{Counts}
 use Rattle.aigertext.specs.declared.fault.Stop.{Stop}
 use Rattle.aigertext.specs.declared.fault.Why.{Why}

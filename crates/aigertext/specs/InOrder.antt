@@ -3,9 +3,9 @@ use Rattle.std.specs.Prelude.{◌≡◌, ℕ, suc, ◌≤◌, ◌+◌, ◌*◌, 
 use Rattle.std.specs.Io.KnownBytes.{Consumes}
 use Rattle.aiger.specs.declared.circuit.Gate.{Gate}
 use Rattle.aiger.specs.declared.circuit.Latch.{Latch}
-use Rattle.aiger.specs.declared.loose.GateLine.{GateLine}
-use Rattle.aiger.specs.declared.numbered.Numbered.{Numbered}
-use Rattle.aiger.specs.Loose.{Loose}
+use Rattle.aigerlists.specs.declared.loose.GateLine.{GateLine}
+use Rattle.aigerlists.specs.declared.numbered.Numbered.{Numbered}
+use Rattle.aigerlists.specs.Loose.{Loose}
 use Rattle.aiger.specs.Net.{variables}
 use Rattle.aiger.specs.Circuit.{Circuit, IsCircuit, net}
 use Rattle.aigertext.specs.declared.reading.counts.Counts.{Counts}

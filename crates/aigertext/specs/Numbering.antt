@@ -1,9 +1,9 @@
 -- What literals of a circuit the literals of the text are that it is read from ("AIGER 1.9 and Beyond", ascii and binary format).
 use Rattle.std.specs.Prelude.{◌≡◌, ℕ, List, [], Option, None, Result, Ok, Err}
-use Rattle.aiger.specs.declared.numbered.Numbered.{Numbered}
+use Rattle.aigerlists.specs.declared.numbered.Numbered.{Numbered}
 use Rattle.aiger.specs.Circuit.{Circuit}
-use Rattle.aiger.specs.Loose.{Loose}
-use Rattle.aiger.specs.Renumbering.{IsNumberingOf}
+use Rattle.aigerlists.specs.Loose.{Loose}
+use Rattle.aigerlists.specs.Renumbering.{IsNumberingOf}
 use Rattle.aigertext.specs.declared.reading.counts.Counts.{Counts}
 use Rattle.aigertext.specs.declared.fault.ReadFault.{ReadFault}
 use Rattle.aigertext.specs.declared.forms.Form.{Form}

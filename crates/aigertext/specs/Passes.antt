@@ -3,10 +3,10 @@ use Rattle.std.specs.Prelude.{◌≡◌, ℕ, ◌+◌, ◌-◌, ◌==◌, List, 
 use Rattle.aiger.specs.declared.circuit.Gate.{Gate}
 use Rattle.aiger.specs.declared.circuit.Latch.{Latch}
 use Rattle.aiger.specs.Circuit.{Circuit}
-use Rattle.aiger.specs.declared.numbered.Numbered.{Numbered}
-use Rattle.aiger.specs.declared.fault.LooseFault.{LooseFault}
-use Rattle.aiger.specs.Loose.{Loose}
-use Rattle.aiger.specs.Renumbering.{IsRenumbered, IsNumberingOf, AnswersNumber}
+use Rattle.aigerlists.specs.declared.numbered.Numbered.{Numbered}
+use Rattle.aigerlists.specs.declared.fault.LooseFault.{LooseFault}
+use Rattle.aigerlists.specs.Loose.{Loose}
+use Rattle.aigerlists.specs.Renumbering.{IsRenumbered, IsNumberingOf, AnswersNumber}
 use Rattle.aigertext.specs.AsciiReading.{IsAsciiFaultOf}
 use Rattle.aigertext.specs.Spelling.{SpellsCircuit}
 use Rattle.aigertext.specs.Numbering.{IsNumberingOfText}

@@ -1,7 +1,7 @@
 -- Lists of properties, as a circuit and the lists of a file have them, and what lines add to them.
 use Rattle.std.specs.Prelude.{◌≡◌, ℕ, List, [], ◌++◌, Result, Ok}
 use Rattle.aiger.specs.Circuit.{Circuit}
-use Rattle.aiger.specs.Loose.{Loose}
+use Rattle.aigerlists.specs.Loose.{Loose}
 use Rattle.aigertext.specs.declared.reading.property_lists.LiteralSection.{LiteralSection}
 use Rattle.aigertext.specs.declared.reading.property_lists.LiteralSection.TheVariants.{Output, Bad, Constraint, Fair}
 use Rattle.aigertext.specs.declared.reading.properties.PropertyLines.{PropertyLines}

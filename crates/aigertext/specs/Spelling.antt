@@ -5,12 +5,12 @@ use Rattle.aiger.specs.declared.circuit.Latch.{Latch}
 use Rattle.aiger.specs.declared.circuit.Reset.{Reset}
 use Rattle.aiger.specs.declared.circuit.Reset.TheVariants.{Zero, One, Free}
 use Rattle.aiger.specs.declared.circuit.Section.{Section}
-use Rattle.aiger.specs.declared.loose.GateLine.{GateLine}
-use Rattle.aiger.specs.declared.loose.LatchLine.{LatchLine}
+use Rattle.aigerlists.specs.declared.loose.GateLine.{GateLine}
+use Rattle.aigerlists.specs.declared.loose.LatchLine.{LatchLine}
 use Rattle.aiger.specs.Circuit.{Circuit, IsCircuit, letter, with_name, name_refusal}
 use Rattle.aiger.specs.Limits.{greatest_count}
-use Rattle.aiger.specs.Loose.{Loose, IsLoose, defined_count}
-use Rattle.aiger.specs.Renumbering.{IsRenumbered}
+use Rattle.aigerlists.specs.Loose.{Loose, IsLoose, defined_count}
+use Rattle.aigerlists.specs.Renumbering.{IsRenumbered}
 use Rattle.aigertext.specs.declared.reading.counts.Counts.{Counts}
 use Rattle.aigertext.specs.declared.forms.Form.{Form}
 use Rattle.aigertext.specs.declared.forms.Form.TheVariants.{Ascii, Binary}

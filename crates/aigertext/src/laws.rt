@@ -7,8 +7,8 @@ ghost use Rattle.aigertext.specs.Reading.{stop, line_at, header_of};
 ghost use Rattle.aigertext.specs.declared.forms.Form.{Form};
 ghost use Rattle.aigertext.specs.declared.forms.Form.TheVariants as form;
 ghost use Rattle.aigertext.specs.Spelling.{IsAsciiText, IsBinaryText};
-ghost use Rattle.aiger.specs.Loose.{empty_loose};
-ghost use Rattle.aiger.specs.Renumbering.{numbered_literal};
+ghost use Rattle.aigerlists.specs.Loose.{empty_loose};
+ghost use Rattle.aigerlists.specs.Renumbering.{numbered_literal};
 ghost use Rattle.aiger.specs.declared.circuit.Reset.TheVariants as reset;
 ghost use Rattle.aigertext.specs.AsciiReading.{lists_of_file, behind_lines, lines_before, AnswersText};
 ghost use Rattle.aigertext.specs.declared.reading.counts.Counts.{Counts};
@@ -17,7 +17,8 @@ ghost use Rattle.aigertext.specs.declared.fault.Why.TheVariants as why;
 ghost use Rattle.aigertext.specs.Numbering.{IsNumberingOfText};
 ghost use Rattle.aigertext.specs.Worked.{text_toggler, free_state, one_gate, one_output, all_kinds, nothing, negated_input, in_turn};
 
-use aiger::laws::{circuit_with_a_name, one_renumbering, own_numbers};
+use aiger::laws::circuit_with_a_name;
+use aigerlists::laws::{one_renumbering, own_numbers};
 
 /// Worked rows: the texts of a latch that toggles, of a latch with no initial value, of a gate, and of
 /// properties of each kind.

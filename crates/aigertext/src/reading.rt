@@ -42,8 +42,10 @@ use crate::reading::finishing::read_left;
 use crate::reading::front::uses;
 use crate::reading::lines::{fault, header_line, stop};
 use crate::reading::taking::{Taken, take};
-use aiger::laws::{circuit_with_a_name, one_renumbering};
-use aiger::{Circuit, Numbered};
+use aiger::Circuit;
+use aiger::laws::circuit_with_a_name;
+use aigerlists::Numbered;
+use aigerlists::laws::one_renumbering;
 use base::{ReadAllFault, Source};
 use std::alloc::Global;
 

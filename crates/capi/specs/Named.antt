@@ -1,9 +1,9 @@
 -- What the exported call that names refusals answers.
 use Rattle.std.specs.Prelude.{◌≡◌, ◌≢◌, ℕ, ◌==◌, List, [], ◌∷◌, Option, None, Some, if◌then◌else◌}
 use Rattle.aiger.specs.Refusal.{circuit_fault_name, circuit_fault_number}
-use Rattle.aiger.specs.Renumbering.{loose_fault_name, loose_fault_number}
+use Rattle.aigerlists.specs.Renumbering.{loose_fault_name, loose_fault_number}
 use Rattle.aiger.specs.declared.fault.CircuitFault.{CircuitFault}
-use Rattle.aiger.specs.declared.fault.LooseFault.{LooseFault}
+use Rattle.aigerlists.specs.declared.fault.LooseFault.{LooseFault}
 use Rattle.aigertext.specs.Whys.{circuit_why_name, circuit_why_number}
 use Rattle.aigertext.specs.declared.fault.Why.{Why as CircuitWhy}
 use Rattle.blast.specs.Faults.{convert_name, convert_number, lower_name, lower_number}

@@ -7,7 +7,8 @@ ghost use Rattle.aigertext.specs.Spelling.{SpellsCircuit};
 ghost use Rattle.capi.specs.Judged.{CallTellsNoCircuit, CallTellsNoModel, IsStop, IsUnreadCircuit};
 
 use crate::answers::{Refusal, Stop};
-use aiger::{Circuit, Numbered};
+use aiger::Circuit;
+use aigerlists::Numbered;
 use aigertext::ReadFault;
 use btor2::Model;
 use std::alloc::Global;

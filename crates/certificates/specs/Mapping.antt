@@ -9,7 +9,7 @@ use Rattle.aiger.specs.declared.circuit.Section.{Section}
 use Rattle.aiger.specs.declared.circuit.Section.TheVariants as section
 use Rattle.aiger.specs.Circuit.{Circuit, net, section_count, name_of}
 use Rattle.aiger.specs.Limits.{greatest_count}
-use Rattle.aiger.specs.Renumbering.{numbered_literal}
+use Rattle.aigerlists.specs.Renumbering.{numbered_literal}
 
 -- for each input and each latch of a witness circuit the literal of the circuit that it stands for, or none where it is the witness circuit's own
 pub record Mapping : Type 0 where

@@ -16,7 +16,8 @@ use crate::copies::{first_frames, next_frames, variable_literals};
 use crate::fault::TestFault;
 use crate::mapping::{Shared, are_inside, shared_of};
 use crate::sizes::{test_bound, test_inputs};
-use aiger::{Circuit, CircuitFault, GREATEST_COUNT, Lit, Numbering};
+use aiger::{Circuit, CircuitFault, GREATEST_COUNT, Lit};
+use aigerlists::Numbering;
 use gates::{GateFault, Gates, HashGates};
 use std::alloc::Global;
 

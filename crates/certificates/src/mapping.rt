@@ -7,7 +7,8 @@ ghost use Rattle.aiger.specs.Net.{variables};
 ghost use Rattle.aiger.specs.Circuit.{net, name_of};
 ghost use Rattle.certificates.specs.Mapping.{said_literal, said_by_numbering, shared_literal, names_said_in, said_by_names, is_inside, are_inside, in_place, in_order, mapping_of};
 
-use aiger::{Circuit, GREATEST_COUNT, Lit, Numbering, Section};
+use aiger::{Circuit, GREATEST_COUNT, Lit, Section};
+use aigerlists::Numbering;
 use base::decimal;
 use gates::variable_literal;
 use std::alloc::{AllocError, Global};

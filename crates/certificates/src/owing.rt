@@ -7,7 +7,8 @@ ghost use Rattle.certificates.specs.Owing.{CountsWitness, HasNoTest, HasNoTestOv
 use crate::fault::TestFault;
 use crate::making::test_circuit;
 use crate::witness_fault::WitnessFault;
-use aiger::{Circuit, Numbering};
+use aiger::Circuit;
+use aigerlists::Numbering;
 use aigertext::read;
 use base::Source;
 use clauses::Formula;

@@ -1,7 +1,8 @@
 //! Calls with ample memory, and the first fault of each. What a circuit and the lists of a file have after a call is
 //! pinned by the call's clauses.
 use crate::samples::Comparing;
-use aiger::{Circuit, CircuitFault, Gate, Lit, Loose, LooseFault, Reset, Section};
+use aiger::{Circuit, CircuitFault, Gate, Lit, Reset, Section};
+use aigerlists::{Loose, LooseFault};
 use aigertext::Form;
 use std::alloc::{AllocError, Global};
 use std::test::Fail;

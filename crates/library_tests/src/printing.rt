@@ -1,5 +1,6 @@
 //! What is printed of the faults of devices, models, texts, circuits, gates, forms and tests.
-use aiger::{CircuitFault, LooseFault};
+use aiger::CircuitFault;
+use aigerlists::LooseFault;
 use base::{DeviceFault, ReadAllFault};
 use btor2::{PushFault, SymbolFault};
 use btor2text::{ReadFault, Why};

@@ -1,6 +1,7 @@
 //! Tests of witness circuits with ample memory, by their ascii texts, and witness circuits that have none.
 use crate::circuits::{Call, circuit_of, is_spelled};
-use aiger::{Circuit, Numbering, Reset, Section};
+use aiger::{Circuit, Reset, Section};
+use aigerlists::Numbering;
 use aigertext::Form;
 use certificates::{TestFault, test_circuit};
 use std::alloc::Global;

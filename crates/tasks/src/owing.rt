@@ -14,7 +14,8 @@ ghost use Rattle.tasks.specs.Statuses.{CountsAll, IfInput, IfSecond, IsOfNoInput
 
 use crate::refusals::{Claimed, Fault, Refusal};
 use crate::restoring::claim_of;
-use aiger::{Circuit, Numbering};
+use aiger::Circuit;
+use aigerlists::Numbering;
 use base::Source;
 use certificates::TestFault;
 use clauses::{Formula, Judgement};

@@ -15,8 +15,9 @@ use crate::reading::lines::header_line;
 use crate::reading::pieces::read_rest;
 use crate::reading::taking::Taken;
 use crate::writing::line::Line;
-use aiger::laws::one_renumbering;
-use aiger::{Gate, GateLine, Loose};
+use aiger::Gate;
+use aigerlists::laws::one_renumbering;
+use aigerlists::{GateLine, Loose};
 use base::{ReadAllFault, Source};
 use std::alloc::{AllocError, Global};
 

@@ -1,8 +1,8 @@
 //! Reading what stands behind the header of an ascii text.
 ghost use Rattle.std.specs.Prelude.{◌≡◌, ◌-◌, ◌≤◌, true, Ok, length, IfOk};
 ghost use Rattle.std.specs.List.{sum_by};
-ghost use Rattle.aiger.specs.Loose.{empty_loose};
-ghost use Rattle.aiger.specs.Renumbering.{used_lines};
+ghost use Rattle.aigerlists.specs.Loose.{empty_loose};
+ghost use Rattle.aigerlists.specs.Renumbering.{used_lines};
 ghost use Rattle.aigertext.specs.declared.forms.Form.TheVariants as form;
 ghost use Rattle.aigertext.specs.AsciiReading.{lists_of_file, behind_lines, lines_before, AnswersLists};
 ghost use Rattle.aigertext.specs.Numbering.{IsNumberingOfLists};
@@ -17,8 +17,9 @@ use crate::reading::lines::stop;
 use crate::reading::names::give_names;
 use crate::reading::properties::{PropertyLines, read_properties};
 use crate::reading::property_lists::put_properties;
-use aiger::laws::one_renumbering;
-use aiger::{GateLine, LatchLine, Lit, Loose, LooseFault, Numbered};
+use aiger::Lit;
+use aigerlists::laws::one_renumbering;
+use aigerlists::{GateLine, LatchLine, Loose, LooseFault, Numbered};
 use base::next_line;
 use std::alloc::Global;
 

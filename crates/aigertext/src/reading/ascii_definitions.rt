@@ -1,7 +1,7 @@
 //! The lines of an ascii text that define variables, inputs, latches and gates, read onto the lists of a file.
 ghost use Rattle.std.specs.Prelude.{◌≡◌, ℕ, List, Result, Ok, OnOk, IfSome};
 ghost use Rattle.base.specs.Decimals.{number_of};
-ghost use Rattle.aiger.specs.Loose.{Loose as Lists, with_input_line, with_latch_line, with_gate_line};
+ghost use Rattle.aigerlists.specs.Loose.{Loose as Lists, with_input_line, with_latch_line, with_gate_line};
 ghost use Rattle.aigertext.specs.declared.fault.Why.{Why as LineWhy};
 ghost use Rattle.aigertext.specs.Reading.{IsAsRead, line_at};
 ghost use Rattle.aigertext.specs.AsciiReading.{defining, defining_by, input_of, latch_of_line, gate_of_line, onto_lists};
@@ -13,7 +13,8 @@ use crate::reading::latches::latch_behind;
 use crate::reading::lines::{at, line, stop};
 use crate::reading::numbers::literal_within;
 use crate::reading::plain_numbers::three_numbers;
-use aiger::{CircuitFault, GateLine, LatchLine, Lit, Loose};
+use aiger::{CircuitFault, Lit};
+use aigerlists::{GateLine, LatchLine, Loose};
 use base::decimal;
 
 /// What a line of an ascii text defines: an input, a latch or a gate.

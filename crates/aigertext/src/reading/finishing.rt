@@ -13,8 +13,8 @@ use crate::reading::gates::TakesGates;
 use crate::reading::lines::stop;
 use crate::reading::names::give_names;
 use crate::reading::property_lists::put_properties;
-use aiger::laws::own_numbers;
 use aiger::{Circuit, CircuitFault, Latch};
+use aigerlists::laws::own_numbers;
 
 /// Sets all latches.
 fn set_latches(circuit: &mut Circuit, latches: &[Latch]) -> Result<(), CircuitFault>

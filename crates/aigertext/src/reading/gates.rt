@@ -3,7 +3,7 @@
 ghost use Rattle.std.specs.Prelude.{◌≡◌, ℕ, ◌+◌, ◌-◌, ◌≤◌, ◌∷◌, ◌++◌, List, [], Some, None, length, IfOk, IfSome, OnOk, IsErrOf};
 ghost use Rattle.std.specs.Io.KnownBytes.{prepend_known};
 ghost use Rattle.base.specs.Device.{HasRisen};
-ghost use Rattle.aiger.specs.Loose.{with_gate_line};
+ghost use Rattle.aigerlists.specs.Loose.{with_gate_line};
 ghost use Rattle.aigertext.specs.Ascii.{numbers_line};
 ghost use Rattle.aigertext.specs.Binary.{gate_text};
 ghost use Rattle.aigertext.specs.declared.forms.Form.{Form as FormValue};
@@ -13,7 +13,8 @@ use crate::forms::Form;
 use crate::reading::binary_gates::gate;
 use crate::reading::pieces::{PIECE, read_piece, remove_front};
 use crate::reading::plain_numbers::three_numbers;
-use aiger::{Circuit, Gate, Lit, Loose};
+use aiger::{Circuit, Gate, Lit};
+use aigerlists::Loose;
 use base::{ReadAllFault, Source};
 
 /// More bytes than a gate in order takes in either form.

@@ -5,7 +5,8 @@ ghost use Rattle.aigertext.specs.Reading.{sized_lists};
 ghost use Rattle.aigertext.specs.PropertyLists.{Lists, no_lists, numbers_of, with_literals, with_justice_lists, lists_made, ArePropertyLists, circuit_lists, circuit_with, file_lists, file_with};
 
 use crate::reading::properties::PropertyLines;
-use aiger::{Circuit, CircuitFault, Lit, Loose};
+use aiger::{Circuit, CircuitFault, Lit};
+use aigerlists::Loose;
 
 /// The sections that are lists of literals.
 #[derive(Clone, Copy)]

@@ -15,7 +15,8 @@ use crate::reading::front::{Front, read_front};
 use crate::reading::gates::read_gates;
 use crate::reading::lines::fault;
 use crate::reading::pieces::read_rest;
-use aiger::{Circuit, Numbered};
+use aiger::Circuit;
+use aigerlists::Numbered;
 use base::{ReadAllFault, Source};
 use std::alloc::Global;
 

@@ -1,9 +1,9 @@
 //! Refusals of circuits.
 
 ghost use Rattle.aiger.specs.Refusal.{circuit_fault_name, circuit_fault_number};
-ghost use Rattle.aiger.specs.Renumbering.{loose_fault_name, loose_fault_number};
+ghost use Rattle.aigerlists.specs.Renumbering.{loose_fault_name, loose_fault_number};
 ghost use Rattle.aiger.specs.declared.fault.CircuitFault.{CircuitFault};
-ghost use Rattle.aiger.specs.declared.fault.LooseFault.{LooseFault};
+ghost use Rattle.aigerlists.specs.declared.fault.LooseFault.{LooseFault};
 ghost use Rattle.aigertext.specs.Whys.{circuit_why_name, circuit_why_number};
 ghost use Rattle.aigertext.specs.declared.fault.Why.{Why};
 ghost use Rattle.explanations.specs.Explanations.{Has};

@@ -6,7 +6,7 @@ use Rattle.std.proofs.lemmas.List.Sums.{count_by-le-length}
 use Rattle.base.specs.Decimals.{is_decimal, capped_value, number_of}
 use Rattle.aiger.specs.declared.circuit.Latch.{Latch}
 use Rattle.aiger.specs.Circuit.{IsNamed}
-use Rattle.aiger.specs.Loose.{Loose, IsLoose, IsSmall, IsDefining, sections_of, empty_loose}
+use Rattle.aigerlists.specs.Loose.{Loose, IsLoose, IsSmall, IsDefining, sections_of, empty_loose}
 use Rattle.aigertext.specs.declared.fault.Why.TheVariants as why
 use Rattle.aigertext.specs.Worked.{negated_input}
 use Rattle.aigertext.specs.Reading.{header_fields, header_form, fitting, counts_of}

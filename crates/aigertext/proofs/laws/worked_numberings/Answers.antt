@@ -2,8 +2,8 @@ use Rattle.std.proofs.Common.{◌≡◌, ℕ, zero, suc, ◌<◌, true, List, []
 use Rattle.std.specs.List.{list_any}
 use Rattle.base.specs.Decimals.{number_of, capped_value, is_decimal}
 use Rattle.aiger.specs.declared.circuit.Reset.TheVariants.{Zero}
-use Rattle.aiger.specs.Loose.{Loose, empty_loose}
-use Rattle.aiger.specs.Renumbering.{IsNumberingOf}
+use Rattle.aigerlists.specs.Loose.{Loose, empty_loose}
+use Rattle.aigerlists.specs.Renumbering.{IsNumberingOf}
 use Rattle.aigertext.specs.declared.forms.Form.TheVariants.{Ascii, Binary}
 use Rattle.aigertext.specs.declared.reading.counts.Counts.{Counts}
 use Rattle.aigertext.specs.Worked.{in_turn}

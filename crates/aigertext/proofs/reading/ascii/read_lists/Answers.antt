@@ -1,6 +1,6 @@
 use Rattle.std.proofs.Common.{◌+◌, ◌*◌, subst, sym, inl, inr}
 use Rattle.std.proofs.lemmas.Result.{err_from_is_err_and}
-use Rattle.aiger.specs.Loose.{with_gate_line}
+use Rattle.aigerlists.specs.Loose.{with_gate_line}
 use Rattle.aigertext.specs.Passes.{WasToBeRead}
 use Rattle.aigertext.specs.AsciiReading.{lists_of_file, onto_lists, gate_of_line}
 use Rattle.aigertext.proofs.PassLemmas.{reads_stop, stops_then, reads_then, stopped}

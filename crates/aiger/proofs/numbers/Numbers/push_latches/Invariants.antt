@@ -1,6 +1,0 @@
-use Rattle.std.proofs.Common.{◌≡◌, ◌++◌, map, take}
-use Rattle.aiger.specs.Loose.{latch_variable}
-use Rattle.aiger.proofs.numbers.Numbers.push_latches.Given as goal
-
-abbrev pub invariant-loop-line : goal.invariant-loop-line
-invariant-loop-line l = l.self ≡ l.fn.self ++ map latch_variable (take l.line-index l.lines)

@@ -1,7 +1,0 @@
-use Rattle.std.proofs.Common.{refl}
-use Rattle.aiger.specs.VariableNumbers.{in_page}
-use Rattle.aiger.proofs.variable_pages.VariablePages.new.Goals as goal
-
-pub returns : goal.returns
-unfolding in_page
-returns c = λ v. rw (c.new.ensures.empty) refl

@@ -1,0 +1,10 @@
+pub mod Loose
+pub mod VariableNumbers
+pub mod Definitions
+pub mod LooseTrace
+pub mod Renumbering
+pub mod LooseView
+pub mod Readiness
+pub mod Numbering
+pub mod OwnLists
+pub mod Worked

@@ -1,0 +1,23 @@
+-- The fields of the lists of a file as contracts see them.
+use Rattle.std.specs.Prelude.{◌≡◌, ℕ}
+use Rattle.aigerlists.specs.Definitions.{has_variable}
+use Rattle.aigerlists.specs.Loose.{Loose, is_defined}
+use Rattle.aigerlists.specs.declared.loose.Loose.TheInside.{Inside}
+
+abbrev pub loose_of : Inside → Loose
+loose_of l =
+    record {
+      inputs = l.inputs.items;
+      latches = l.latches.items;
+      gates = l.gates.items;
+      outputs = l.outputs.items;
+      bads = l.bads.items;
+      constraints = l.constraints.items;
+      justice = l.justice;
+      fair = l.fair.items;
+      names = l.names;
+    }
+
+-- the set has the variables that lines define, and no others
+abbrev pub HasDefinedSet : Inside → Type 0
+HasDefinedSet l = (v : ℕ) → has_variable l.defined v ≡ is_defined (loose_of l) v
