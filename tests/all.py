@@ -86,6 +86,7 @@ def program():
         # so that it is built where it has to be
         subprocess.run([TOP / "hwtool", "lower", TOP / "examples/toggler.btor2"], stdin=subprocess.DEVNULL, stdout=subprocess.DEVNULL)
         found = TOP / "crates/hwtool/out/hwtool"
+        found = found if found.exists() else RELEASE / "hwtool"
     if not os.access(found, os.X_OK):
         sys.exit(f"all.py: {found} is no program")
     return found

@@ -126,7 +126,7 @@ def wrong_words(command, text):
 
 def wrong_calls(code):
     """What is wrong with the commands in some code."""
-    for found in re.finditer(r"(?:^|[|;&(`$]) *(?:\./|release/)?hwtool +([a-z][a-z-]*)([^|;&>#\n]*)", code):
+    for found in re.finditer(r"(?:^|[|;&(`$]) *(?:\./|release/)?hwtool +([a-z][a-z-]*)([^|;&>#\n]*)", code, re.M):
         yield from wrong_words(found[1], found[2])
     for words in re.findall(r"(?<![\w/.-])(?:tools/)?hwtool-flow\b([^|;&>#\n]*)", re.sub("'[^']*'", "", code)):
         known = read(TOP / "tools/flow/command_line.py") + '"--help"'
@@ -134,7 +134,7 @@ def wrong_calls(code):
     for script, words in re.findall(r"(?<![\w/])((?:tests|tools|bench)/[\w.-]+\.(?:py|sh))\b([^|;&>#\n]*)", code):
         if (TOP / script).is_file():
             yield from (f"no option {it} of {script}" for it in re.findall(r"(?<!\S)--[a-z][\w-]*", words) if it not in read(TOP / script))
-    for target in re.findall(r"(?:^|\$ )make ([a-z][\w-]*)", code):
+    for target in re.findall(r"(?:^|\$ )make ([a-z][\w-]*)", code, re.M):
         if target not in TARGETS:
             yield f"no target `make {target}`"
 
@@ -244,7 +244,8 @@ def figures(text):
 
 
 def main():
-    wrong = names = links = many = long = 0
+    names = links = many = long = 0
+    wrong = []
     counted = collections.defaultdict(dict)
     for path in PAGES:
         name, text = path.relative_to(TOP), read(path)
@@ -259,14 +260,12 @@ def main():
                     found.append(f"a sentence of {count} words: {' '.join(it.split()[:9])} ..")
             for it in [] if is_code else figures(re.sub(r"`[^`]+`", "", part)):
                 counted[it].setdefault(str(name), f"{name}:{number}")
-            for it in dict.fromkeys(found):
-                wrong += 1
-                print(f"{name}:{number}: {it}")
+            wrong += [f"{name}:{number}: {it}" for it in dict.fromkeys(found)]
     for it, places in sorted(counted.items()):
         if len(places) > 1:
             print(f"told twice: {it}: {', '.join(places.values())}")
-    print(f"{long} of {many} sentences have more than {WANTED} words")
-    print(f"documents: {len(PAGES)} pages, {names} names and lines of code, {links} links and {many} sentences tried, {wrong} wrong")
+    print("".join(f"{it}\n" for it in wrong) + f"{long} of {many} sentences have more than {WANTED} words")
+    print(f"documents: {len(PAGES)} pages, {names} names and lines of code, {links} links and {many} sentences tried, {len(wrong)} wrong")
     return 1 if wrong else 0
 
 
