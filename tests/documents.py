@@ -231,8 +231,8 @@ def parts(text):
 
 def sentences(text):
     """The sentences of a paragraph, of which a piece of code is one word."""
-    text = re.sub(r"`[^`]+`", "Code", re.sub(r"!?\[([^\]]*)\]\([^)]*\)", r"\1", text))
-    return re.split(r"(?<=[.!?])(?<!\.\.)[\"')*]*\s+(?=[\"'(*]*[A-Z0-9])", text)
+    text = re.sub(r"`[^`]+`", lambda found: found[0].replace(" ", "_"), re.sub(r"!?\[([^\]]*)\]\([^)]*\)", r"\1", text))
+    return re.split(r"(?<=[.!?])(?<!\.\.)[\"')*]*\s+(?=[\"'(*]*[A-Z0-9`])", text)
 
 
 def figures(text):
