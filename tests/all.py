@@ -26,7 +26,7 @@ RELEASE = TOP / "release"
 # What stands for the program, and for the folder of the libraries for C programs, among words.
 PROGRAM, LIBRARIES = "PROGRAM", "LIBRARIES"
 # Of what fails so many last lines are shown.
-SHOWN = 15
+SHOWN = 12
 # What a line has that says how much was tried.
 COUNT = re.compile(r"\d.*\b(?:tried|passed|wrong|tests|should be)\b")
 
@@ -86,6 +86,7 @@ def program():
         # so that it is built where it has to be
         subprocess.run([TOP / "hwtool", "lower", TOP / "examples/toggler.btor2"], stdin=subprocess.DEVNULL, stdout=subprocess.DEVNULL)
         found = TOP / "crates/hwtool/out/hwtool"
+        found = found if found.exists() else RELEASE / "hwtool"
     if not os.access(found, os.X_OK):
         sys.exit(f"all.py: {found} is no program")
     return found
@@ -153,14 +154,13 @@ class Run:
         if status == 0:
             self.passed.append(check.name)
             print(f"{verdict(said, check.lines):60} {seconds:>6}")
+            print("".join(f"    {it}\n" for it in re.findall(r"^left out: .*", said, re.M)), end="")
         else:
             self.failed.append(check.name)
             log = self.folder / f"{check.name}.log"
             log.write_text(said)
             print(f"{f'FAILED, status {status}':60} {seconds:>6}")
-            print("".join(f"    {it[:300]}\n" for it in said.splitlines()[-SHOWN:]) + f"    all that it said: {log}")
-        for it in re.findall(r"^left out: .*", said, re.M):
-            print(f"    {it}")
+            print("".join(f"    {it[:160]}\n" for it in said.splitlines()[-SHOWN:]) + f"    all that it said: {log}")
         sys.stdout.flush()
 
     def end(self):
@@ -178,7 +178,8 @@ def verdict(said, lines):
     counts = [it for it in said.splitlines() if COUNT.search(it) and not it.startswith("left out: ")][-lines:]
     if lines == 1:
         counts = [re.sub(r"^[\w -]+: (?=\d)|^Ran (?=\d)| in [\d.]+s$", "", it) for it in counts]
-    return re.sub(r"\b0 (?:wrong|not as they should be)", "none wrong", "; ".join(counts)) or "nothing wrong"
+    line = re.sub(r"\b0 (?:wrong|not as they should be)", "none wrong", "; ".join(counts)) or "nothing wrong"
+    return line if re.search("wrong|passed", line) else f"{line}, none wrong"
 
 
 def main(names):
@@ -203,7 +204,7 @@ def main(names):
     if run.failed:
         print(f"{len(run.failed)} of {len(run.passed) + len(run.failed)} FAILED ({', '.join(run.failed)}){skipped}")
     else:
-        print(f"all {len(run.passed)} passed{skipped}")
+        print(f"all {len(run.passed)} passed{skipped}" if run.passed else f"nothing was tried{skipped}")
     return 1 if run.failed else 0
 
 

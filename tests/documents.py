@@ -125,7 +125,7 @@ def wrong_words(command, text):
 
 def wrong_calls(code):
     """What is wrong with the commands in some code."""
-    for found in re.finditer(r"(?:^|[|;&(`$]) *(?:\./|release/)?hwtool +([a-z][a-z-]*)([^|;&>#\n]*)", code):
+    for found in re.finditer(r"(?:^|[|;&(`$]) *(?:\./|release/)?hwtool +([a-z][a-z-]*)([^|;&>#\n]*)", code, re.M):
         yield from wrong_words(found[1], found[2])
     for words in re.findall(r"(?<![\w/.-])(?:tools/)?hwtool-flow\b([^|;&>#\n]*)", re.sub("'[^']*'", "", code)):
         known = read(TOP / "tools/flow/command_line.py") + '"--help"'
@@ -133,7 +133,7 @@ def wrong_calls(code):
     for script, words in re.findall(r"(?<![\w/])((?:tests|tools|bench)/[\w.-]+\.(?:py|sh))\b([^|;&>#\n]*)", code):
         if (TOP / script).is_file():
             yield from (f"no option {it} of {script}" for it in re.findall(r"(?<!\S)--[a-z][\w-]*", words) if it not in read(TOP / script))
-    for target in re.findall(r"(?:^|\$ )make ([a-z][\w-]*)", code):
+    for target in re.findall(r"(?:^|\$ )make ([a-z][\w-]*)", code, re.M):
         if target not in TARGETS:
             yield f"no target `make {target}`"
 
@@ -230,8 +230,8 @@ def parts(text):
 
 def sentences(text):
     """The sentences of a paragraph, of which a piece of code is one word."""
-    text = re.sub(r"`[^`]+`", "Code", re.sub(r"!?\[([^\]]*)\]\([^)]*\)", r"\1", text))
-    return re.split(r"(?<=[.!?])(?<!\.\.)[\"')*]*\s+(?=[\"'(*]*[A-Z0-9])", text)
+    text = re.sub(r"`[^`]+`", lambda found: found[0].replace(" ", "_"), re.sub(r"!?\[([^\]]*)\]\([^)]*\)", r"\1", text))
+    return re.split(r"(?<=[.!?])(?<!\.\.)[\"')*]*\s+(?=[\"'(*]*[A-Z0-9`])", text)
 
 
 def figures(text):
@@ -243,7 +243,8 @@ def figures(text):
 
 
 def main():
-    wrong = names = links = many = 0
+    names = links = many = 0
+    wrong = []
     counted = collections.defaultdict(dict)
     for path in PAGES:
         name, text = path.relative_to(TOP), read(path)
@@ -255,19 +256,18 @@ def main():
             is_printed = path.name == "REFUSALS.md" and re.match(r"\| \d", text.split("\n")[number - 1])
             for it in [] if is_code or is_printed else sentences(part):
                 # a list of names is no sentence
-                count = 0 if re.fullmatch(r"(?:Code(?:, )?)+", it) else len(re.findall(r"\S*\w\S*", it))
+                count = 0 if re.fullmatch(r"(?:`[^`]+`(?:, )?)+", it) else len(re.findall(r"\S*\w\S*", it))
                 many += 1
                 if count > MOST and not it.startswith(THEOREM):
                     found.append(f"a sentence of {count} words: {' '.join(it.split()[:9])} ..")
             for it in [] if is_code else figures(re.sub(r"`[^`]+`", "", part)):
                 counted[it].setdefault(str(name), f"{name}:{number}")
-            for it in dict.fromkeys(found):
-                wrong += 1
-                print(f"{name}:{number}: {it}")
+            wrong += [f"{name}:{number}: {it}" for it in dict.fromkeys(found)]
     for it, places in sorted(counted.items()):
         if len(places) > 1:
             print(f"told twice: {it}: {', '.join(places.values())}")
-    print(f"documents: {len(PAGES)} pages, {names} names and lines of code, {links} links and {many} sentences tried, {wrong} wrong")
+    print("".join(f"{it}\n" for it in wrong), end="")
+    print(f"documents: {len(PAGES)} pages, {names} names and lines of code, {links} links and {many} sentences tried, {len(wrong)} wrong")
     return 1 if wrong else 0
 
 

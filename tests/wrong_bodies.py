@@ -187,8 +187,9 @@ def wanted(words):
 
 
 def unbuilt(crate):
-    """The libraries below a crate that do not stand as its sources ask for."""
-    return [it.name for it in crate.below if not it.stands()]
+    """The libraries below a crate that do not stand as its sources ask for, without those below others of them."""
+    found = [it for it in crate.below if not it.stands()]
+    return [it.name for it in found if not any(it in other.below for other in found)]
 
 
 def main(words):
@@ -202,6 +203,9 @@ def main(words):
     missing = {it: unbuilt(it) for it in dict.fromkeys(edit.crate for edit in edits)}
     counts = {it: collections.Counter() for it in missing}
     running = set()
+    for crate, names in missing.items():
+        if names:
+            print(f"{crate.name}: not tried, as what it stands on is not built of these sources: tools/build.py {' '.join(names)}", flush=True)
 
     def tried(edit):
         began = time.monotonic()
@@ -219,11 +223,8 @@ def main(words):
                 it.cancel()
             for it in list(running):
                 it.terminate()
-    for crate, names in missing.items():
-        count = counts[crate]
-        if names:
-            print(f"{crate.name}: not tried, as what it stands on is not built of these sources ({' '.join(names)}): tools/build.py {' '.join(names)}")
-        elif len(edits) > 1:
+    for crate, count in counts.items():
+        if count and len(edits) > 1:
             parts = [f"{count[it]} {how}" for it, how in {**REFUSED, **OTHERS}.items() if count[it]]
             print(f"{crate.name}: {sum(count[it] for it in REFUSED)} of {sum(count.values())} refused: {', '.join(parts)}")
     refused = sum(count[it] for count in counts.values() for it in REFUSED)
