@@ -1,5 +1,4 @@
 mod LineLemmas
-mod PenLemmas
 mod SectionLemmas
 mod FormLemmas
 mod FieldLemmas

@@ -1,12 +1,7 @@
 -- Laws of lines and of the numbers on them.
-use Rattle.std.proofs.Common.{◌≡◌, ◌==◌, true, false, ℕ, List, ◌++◌, ap, length-append, ◌^◌, ◌<◌, ◌≤◌, [], ◌∷◌, length, decimal, refl, lit<, arith}
+use Rattle.std.proofs.Common.{◌≡◌, ◌==◌, true, false, ℕ, List, ◌++◌, ap, length-append, ◌<◌, ◌≤◌, [], ◌∷◌, length, decimal, refl, arith}
 use Rattle.std.proofs.lemmas.Bool.Decides.{nat_tests}
-use Rattle.std.proofs.lemmas.Fmt.{length-decimal-le}
 use Rattle.aigertext.specs.Ascii.{numbers_line, kept_line}
-
--- a number of 32 bits has at most ten digits
-pub decimal_short : (n : ℕ) → n < 2 ^ 32 → length (decimal n) ≤ 10
-decimal_short n h = length-decimal-le 10 n (lit< tt) (omega arith) (omega arith)
 
 -- a line of numbers has a byte
 length-numbers_line : (ns : List ℕ) → 0 < length (numbers_line ns)

@@ -9,5 +9,4 @@ pub mod Counts
 pub mod PropertyLists
 pub mod Passes
 pub mod InOrder
-pub mod Writing
 pub mod Worked

@@ -3,14 +3,13 @@ ghost use Rattle.std.specs.Prelude.{OnOk, OnErr};
 ghost use Rattle.std.specs.Io.KnownBytes.{Appends};
 ghost use Rattle.base.specs.Device.{CountsFaults, AppendsBeginning};
 ghost use Rattle.aigertext.specs.Binary.{ascii_text, binary_text, circuit_text};
-ghost use Rattle.aigertext.specs.Writing.{WritesText};
+ghost use Rattle.base.specs.Writing.{WritesText};
 
 mod gates;
 mod header;
 mod inputs_and_latches;
-pub(crate) mod line;
 mod names;
-mod pen;
+pub(crate) mod numbers;
 mod properties;
 
 use crate::forms::Form;
@@ -18,10 +17,9 @@ use crate::writing::gates::{first_gate, put_gates};
 use crate::writing::header::put_header;
 use crate::writing::inputs_and_latches::{put_inputs, put_latches};
 use crate::writing::names::put_all_names;
-use crate::writing::pen::Pen;
 use crate::writing::properties::put_properties;
 use aiger::Circuit;
-use base::{DeviceFault, Sink};
+use base::{DeviceFault, Pen, Sink};
 
 /// Writes the text of a circuit in a form ("AIGER 1.9 and Beyond"). No memory is taken.
 ///
@@ -33,8 +31,7 @@ pub fn write<K: Sink>(circuit: &Circuit, form: Form, sink: &mut K) -> Result<(),
 {
     let mut pen = Pen::new();
     put_text(&mut pen, sink, form, circuit);
-    pen.answer?;
-    pen.outbox.flush(sink)
+    pen.finish(sink)
 }
 
 /// Writes the ascii text of a circuit. No memory is taken.

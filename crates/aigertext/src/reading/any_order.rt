@@ -14,11 +14,11 @@ use crate::reading::gates::{push_line, read_gates};
 use crate::reading::lines::header_line;
 use crate::reading::pieces::read_rest;
 use crate::reading::taking::Taken;
-use crate::writing::line::Line;
+use crate::writing::numbers::{before, last};
 use aiger::Gate;
 use aigerlists::laws::one_renumbering;
 use aigerlists::{GateLine, Loose};
-use base::{ReadAllFault, Source};
+use base::{Line, ReadAllFault, Source};
 use std::alloc::{AllocError, Global};
 
 /// Adds gates to the lists of a file, the first of which has the given variable; nothing where memory is wanting.
@@ -66,9 +66,9 @@ fn append_lines(text: &mut Vec<u8>, gates: &[GateLine]) -> Result<(), AllocError
 {
     let mut line = Line::new();
     for gate in gates {
-        line.last(gate.rhs1.number());
-        line.before(gate.rhs0.number());
-        line.before(gate.lhs.number());
+        last(&mut line, gate.rhs1.number());
+        before(&mut line, gate.rhs0.number());
+        before(&mut line, gate.lhs.number());
         text.extend_from_slice(line.bytes())?;
     }
     Ok(())

@@ -4,12 +4,12 @@ ghost use Rattle.aiger.specs.Circuit.{IsCircuit};
 ghost use Rattle.aiger.specs.Net.{AreOrderedFrom};
 ghost use Rattle.aigertext.specs.Binary.{gate_text, gates_text};
 ghost use Rattle.aigertext.specs.declared.forms.Form.TheVariants as variant;
-ghost use Rattle.aigertext.specs.Writing.{WritesText};
+ghost use Rattle.base.specs.Writing.{WritesText};
 
 use crate::forms::Form;
-use crate::writing::pen::Pen;
+use crate::writing::numbers::{before, last};
 use aiger::{Circuit, Gate};
-use base::Sink;
+use base::{Pen, Sink};
 
 /// Room for the deltas that are put together: those of a gate take ten bytes at most.
 const ROOM: usize = 5120;
@@ -41,9 +41,9 @@ fn put_lines<K: Sink>(pen: &mut Pen, sink: &mut K, first: u32, gates: &[Gate])
 {
     let mut variable = first;
     for gate in gates {
-        pen.line.last(gate.rhs1.number());
-        pen.line.before(gate.rhs0.number());
-        pen.line.before(2 * variable);
+        last(&mut pen.line, gate.rhs1.number());
+        before(&mut pen.line, gate.rhs0.number());
+        before(&mut pen.line, 2 * variable);
         pen.put_line(sink);
         variable += 1;
     }

@@ -2,13 +2,12 @@
 ghost use Rattle.std.specs.Prelude.{◌+◌, ◌≤◌, ◌≡◌, ◌∷◌, length};
 ghost use Rattle.aigertext.specs.Ascii.{numbers_line, reset_numbers};
 ghost use Rattle.aigertext.specs.Binary.{inputs_text, latch_text, latches_text};
-ghost use Rattle.aigertext.specs.Writing.{WritesText};
+ghost use Rattle.base.specs.Writing.{WritesText};
 
 use crate::forms::Form;
-use crate::writing::line::Line;
-use crate::writing::pen::Pen;
+use crate::writing::numbers::{before, last, put_number};
 use aiger::{Latch, Reset};
-use base::Sink;
+use base::{Line, Pen, Sink};
 
 /// Puts the lines of so many inputs, which only the ascii form has.
 pub fn put_inputs<K: Sink>(pen: &mut Pen, sink: &mut K, form: Form, count: u32)
@@ -19,7 +18,7 @@ pub fn put_inputs<K: Sink>(pen: &mut Pen, sink: &mut K, form: Form, count: u32)
         return;
     }
     for index in 0..count {
-        pen.put_number(sink, 2 * (index + 1));
+        put_number(pen, sink, 2 * (index + 1));
     }
 }
 
@@ -41,7 +40,7 @@ fn put_latch<K: Sink>(pen: &mut Pen, sink: &mut K, form: Form, own: u32, latch: 
 {
     write_next(&mut pen.line, own, latch);
     if form == Form::Ascii {
-        pen.line.before(own);
+        before(&mut pen.line, own);
     }
     pen.put_line(sink);
 }
@@ -49,14 +48,14 @@ fn put_latch<K: Sink>(pen: &mut Pen, sink: &mut K, form: Form, own: u32, latch: 
 /// Writes the end of a latch's line: its next literal and its reset.
 fn write_next(line: &mut Line, own: u32, latch: &Latch)
     ensures numbers { line.new ≡ numbers_line (latch.now.next ∷ reset_numbers own latch.now.reset) }
-    ensures short { length line.new ≤ 22 }
+    ensures short { length line.new ≤ 42 }
 {
     let next = latch.next.number();
     let reset = match latch.reset {
-        Reset::Zero => return line.last(next),
+        Reset::Zero => return last(line, next),
         Reset::One => 1,
         Reset::Free => own,
     };
-    line.last(reset);
-    line.before(next);
+    last(line, reset);
+    before(line, next);
 }

@@ -2,11 +2,11 @@
 ghost use Rattle.std.specs.Prelude.{Some};
 ghost use Rattle.aiger.specs.Circuit.{letter, name_of};
 ghost use Rattle.aigertext.specs.Ascii.{name_line, names_of, all_names};
-ghost use Rattle.aigertext.specs.Writing.{WritesText};
+ghost use Rattle.base.specs.Writing.{WritesText};
 
-use crate::writing::pen::Pen;
+use crate::writing::numbers::before;
 use aiger::{Circuit, Section};
-use base::Sink;
+use base::{Pen, Sink};
 
 /// Puts the names of all sections, in the order of the letters i l o b c j f.
 pub fn put_all_names<K: Sink>(pen: &mut Pen, sink: &mut K, circuit: &Circuit)
@@ -40,7 +40,7 @@ fn put_name<K: Sink>(pen: &mut Pen, sink: &mut K, section: Section, position: u3
     ensures { WritesText K.written K.failures sink.old sink.new pen.old pen.new (name_line (letter section) position (Some name.now)) }
 {
     pen.line.clear();
-    pen.line.before(position);
+    before(&mut pen.line, position);
     pen.line.byte(section.letter());
     pen.put_line(sink);
     pen.put(sink, name);

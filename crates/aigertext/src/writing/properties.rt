@@ -1,10 +1,10 @@
 //! The lines of outputs, bad properties, constraints, justice properties and fairness constraints.
 ghost use Rattle.aigertext.specs.Ascii.{literal_lines, size_lines, list_lines, property_lines};
-ghost use Rattle.aigertext.specs.Writing.{WritesText};
+ghost use Rattle.base.specs.Writing.{WritesText};
 
-use crate::writing::pen::Pen;
+use crate::writing::numbers::put_number;
 use aiger::{Circuit, Lit};
-use base::Sink;
+use base::{Pen, Sink};
 
 /// Puts the lines of the outputs, bad properties, constraints, justice properties and fairness constraints.
 pub fn put_properties<K: Sink>(pen: &mut Pen, sink: &mut K, circuit: &Circuit)
@@ -23,7 +23,7 @@ fn put_sizes<K: Sink>(pen: &mut Pen, sink: &mut K, circuit: &Circuit)
     ensures { WritesText K.written K.failures sink.old sink.new pen.old pen.new (size_lines circuit.now.justice) }
 {
     for index in 0..circuit.justice_count() {
-        pen.put_number(sink, circuit.justice(index).len() as u32);
+        put_number(pen, sink, circuit.justice(index).len() as u32);
     }
 }
 
@@ -41,6 +41,6 @@ fn put_literals<K: Sink>(pen: &mut Pen, sink: &mut K, literals: &[Lit])
     ensures { WritesText K.written K.failures sink.old sink.new pen.old pen.new (literal_lines literals.now) }
 {
     for literal in literals {
-        pen.put_number(sink, literal.number());
+        put_number(pen, sink, literal.number());
     }
 }

@@ -1,6 +1,6 @@
 use Rattle.std.proofs.Common.{add-one}
 use Rattle.aigertext.specs.Binary.{circuit_text}
-use Rattle.aigertext.proofs.PenLemmas.{writes_then}
+use Rattle.base.proofs.PenLemmas.{writes_then}
 use Rattle.aigertext.proofs.writing.put_text.Goals as goal
 
 pub returns : goal.returns

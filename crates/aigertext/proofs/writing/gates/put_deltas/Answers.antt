@@ -4,7 +4,7 @@ use Rattle.aiger.specs.Net.{AreOrderedFrom}
 use Rattle.aigertext.specs.declared.forms.Form.TheVariants.{Binary}
 use Rattle.aigertext.specs.Binary.{gates_text}
 use Rattle.aigertext.proofs.FormLemmas.{ordered_parts}
-use Rattle.aigertext.proofs.PenLemmas.{write_more}
+use Rattle.base.proofs.PenLemmas.{write_more}
 use Rattle.aigertext.proofs.PutsLemmas.{gates_text-append}
 use Rattle.aigertext.proofs.writing.gates.put_deltas.Goals as goal
 

@@ -2,7 +2,7 @@ use Rattle.std.proofs.Common.{◌+◌, ◌≤◌, length}
 use Rattle.aiger.specs.Net.{AreOrderedFrom}
 use Rattle.aigertext.specs.declared.forms.Form.TheVariants.{Binary}
 use Rattle.aigertext.specs.Binary.{gates_text}
-use Rattle.aigertext.proofs.PenLemmas.{Writing}
+use Rattle.base.proofs.PenLemmas.{Writing}
 use Rattle.aigertext.proofs.writing.gates.put_deltas.Given as goal
 
 abbrev pub invariant-loop-rest : goal.invariant-loop-rest

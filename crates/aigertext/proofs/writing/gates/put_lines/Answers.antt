@@ -1,7 +1,7 @@
 use Rattle.std.proofs.Common.{arith}
 use Rattle.aigertext.specs.declared.forms.Form.TheVariants.{Ascii}
 use Rattle.aigertext.proofs.FormLemmas.{gates_text_at}
-use Rattle.aigertext.proofs.PenLemmas.{write_more, writes_line}
+use Rattle.base.proofs.PenLemmas.{write_more, writes_line}
 use Rattle.aigertext.proofs.writing.gates.put_lines.Goals as goal
 
 pub loop-gate-preserved : goal.loop-gate-preserved

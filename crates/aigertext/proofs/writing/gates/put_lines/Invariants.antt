@@ -1,7 +1,7 @@
 use Rattle.std.proofs.Common.{◌≡◌, ◌+◌, drop}
 use Rattle.aigertext.specs.declared.forms.Form.TheVariants.{Ascii}
 use Rattle.aigertext.specs.Binary.{gates_text}
-use Rattle.aigertext.proofs.PenLemmas.{Writing}
+use Rattle.base.proofs.PenLemmas.{Writing}
 use Rattle.aigertext.proofs.writing.gates.put_lines.Given as goal
 
 abbrev pub invariant-loop-gate : goal.invariant-loop-gate

@@ -1,6 +1,6 @@
 use Rattle.std.proofs.Common.{◌≡◌, ◌+◌, ◌-◌, arith}
 use Rattle.aigertext.proofs.SectionLemmas.{input_lines_at}
-use Rattle.aigertext.proofs.PenLemmas.{write_none, write_more}
+use Rattle.base.proofs.PenLemmas.{write_none, write_more}
 use Rattle.aigertext.proofs.writing.inputs_and_latches.put_inputs.Goals as goal
 
 pub loop-index-init : goal.loop-index-init

@@ -1,6 +1,6 @@
 use Rattle.std.proofs.Common.{◌+◌, ◌-◌}
 use Rattle.aigertext.specs.Ascii.{input_lines}
-use Rattle.aigertext.proofs.PenLemmas.{Writing}
+use Rattle.base.proofs.PenLemmas.{Writing}
 use Rattle.aigertext.proofs.writing.inputs_and_latches.put_inputs.Given as goal
 
 abbrev pub invariant-loop-index : goal.invariant-loop-index

@@ -1,6 +1,6 @@
 use Rattle.std.proofs.Common.{arith}
 use Rattle.aigertext.proofs.FormLemmas.{latches_text_at}
-use Rattle.aigertext.proofs.PenLemmas.{write_none, write_more}
+use Rattle.base.proofs.PenLemmas.{write_none, write_more}
 use Rattle.aigertext.proofs.writing.inputs_and_latches.put_latches.Goals as goal
 
 pub loop-latch-init : goal.loop-latch-init

@@ -1,6 +1,6 @@
 use Rattle.std.proofs.Common.{◌≡◌, ◌+◌, drop}
 use Rattle.aigertext.specs.Binary.{latches_text}
-use Rattle.aigertext.proofs.PenLemmas.{Writing}
+use Rattle.base.proofs.PenLemmas.{Writing}
 use Rattle.aigertext.proofs.writing.inputs_and_latches.put_latches.Given as goal
 
 abbrev pub invariant-loop-latch : goal.invariant-loop-latch

@@ -1,6 +1,6 @@
 use Rattle.std.proofs.Common.{refl, arith}
 use Rattle.aigertext.proofs.SectionLemmas.{all_names_at}
-use Rattle.aigertext.proofs.PenLemmas.{write_none, write_more}
+use Rattle.base.proofs.PenLemmas.{write_none, write_more}
 use Rattle.aigertext.proofs.writing.names.put_all_names.Goals as goal
 
 pub loop-section-init : goal.loop-section-init

@@ -2,7 +2,7 @@ use Rattle.std.proofs.Common.{drop}
 use Rattle.std.specs.Prelude.{flat_map}
 use Rattle.aiger.specs.Names.{all_sections}
 use Rattle.aigertext.specs.Ascii.{names_of, all_names}
-use Rattle.aigertext.proofs.PenLemmas.{Writing}
+use Rattle.base.proofs.PenLemmas.{Writing}
 use Rattle.aigertext.proofs.writing.names.put_all_names.Given as goal
 
 abbrev pub invariant-loop-section : goal.invariant-loop-section

@@ -1,7 +1,7 @@
 use Rattle.std.proofs.Common.{decimal}
 use Rattle.aiger.specs.Names.{letter}
 use Rattle.aigertext.proofs.SectionLemmas.{name_parts}
-use Rattle.aigertext.proofs.PenLemmas.{writes_line, writes_then}
+use Rattle.base.proofs.PenLemmas.{writes_line, writes_then}
 use Rattle.aigertext.proofs.writing.names.put_name.Goals as goal
 
 pub returns : goal.returns

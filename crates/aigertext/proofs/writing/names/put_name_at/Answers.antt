@@ -1,5 +1,5 @@
 use Rattle.std.proofs.Common.{sym}
-use Rattle.aigertext.proofs.PenLemmas.{writes_none}
+use Rattle.base.proofs.PenLemmas.{writes_none}
 use Rattle.aigertext.proofs.writing.names.put_name_at.Goals as goal
 
 pub returns-in_default : goal.returns-in_default

@@ -1,6 +1,6 @@
 use Rattle.std.proofs.Common.{arith}
 use Rattle.aigertext.proofs.SectionLemmas.{name_lines_at, no_name_lines}
-use Rattle.aigertext.proofs.PenLemmas.{write_none, write_more, write_all}
+use Rattle.base.proofs.PenLemmas.{write_none, write_more, write_all}
 use Rattle.aigertext.proofs.writing.names.put_names.Goals as goal
 
 pub loop-position-init : goal.loop-position-init

@@ -1,7 +1,7 @@
 use Rattle.std.proofs.Common.{drop}
 use Rattle.aiger.specs.Circuit.{letter, section_names}
 use Rattle.aigertext.specs.Ascii.{name_lines, names_of}
-use Rattle.aigertext.proofs.PenLemmas.{Writing}
+use Rattle.base.proofs.PenLemmas.{Writing}
 use Rattle.aigertext.proofs.writing.names.put_names.Given as goal
 
 abbrev pub invariant-loop-position : goal.invariant-loop-position

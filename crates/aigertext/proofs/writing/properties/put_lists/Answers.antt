@@ -1,5 +1,5 @@
 use Rattle.aigertext.proofs.SectionLemmas.{list_lines_at}
-use Rattle.aigertext.proofs.PenLemmas.{write_none, write_more}
+use Rattle.base.proofs.PenLemmas.{write_none, write_more}
 use Rattle.aigertext.proofs.writing.properties.put_lists.Goals as goal
 
 pub loop-index-init : goal.loop-index-init

@@ -1,6 +1,6 @@
 use Rattle.std.proofs.Common.{drop}
 use Rattle.aigertext.specs.Ascii.{list_lines}
-use Rattle.aigertext.proofs.PenLemmas.{Writing}
+use Rattle.base.proofs.PenLemmas.{Writing}
 use Rattle.aigertext.proofs.writing.properties.put_lists.Given as goal
 
 abbrev pub invariant-loop-index : goal.invariant-loop-index

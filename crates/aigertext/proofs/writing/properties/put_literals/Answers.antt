@@ -1,6 +1,6 @@
 use Rattle.std.proofs.Common.{◌∙◌, arith}
 use Rattle.aigertext.proofs.SectionLemmas.{literal_lines_at}
-use Rattle.aigertext.proofs.PenLemmas.{write_none, write_more}
+use Rattle.base.proofs.PenLemmas.{write_none, write_more}
 use Rattle.aigertext.proofs.writing.properties.put_literals.Goals as goal
 
 pub loop-literal-init : goal.loop-literal-init

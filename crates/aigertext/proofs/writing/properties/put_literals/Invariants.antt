@@ -1,6 +1,6 @@
 use Rattle.std.proofs.Common.{drop}
 use Rattle.aigertext.specs.Ascii.{literal_lines}
-use Rattle.aigertext.proofs.PenLemmas.{Writing}
+use Rattle.base.proofs.PenLemmas.{Writing}
 use Rattle.aigertext.proofs.writing.properties.put_literals.Given as goal
 
 abbrev pub invariant-loop-literal : goal.invariant-loop-literal

@@ -1,6 +1,6 @@
 use Rattle.std.proofs.Common.{append_assoc}
 use Rattle.aigertext.specs.Ascii.{literal_lines, size_lines, list_lines}
-use Rattle.aigertext.proofs.PenLemmas.{writes_then}
+use Rattle.base.proofs.PenLemmas.{writes_then}
 use Rattle.aigertext.proofs.writing.properties.put_properties.Goals as goal
 
 pub returns : goal.returns

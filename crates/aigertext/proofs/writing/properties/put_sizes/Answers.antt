@@ -1,7 +1,7 @@
 use Rattle.std.proofs.Common.{◌≤◌, length, arith}
 use Rattle.aiger.specs.Limits.{greatest_count}
 use Rattle.aigertext.proofs.SectionLemmas.{few_literals, size_lines_at}
-use Rattle.aigertext.proofs.PenLemmas.{write_none, write_more}
+use Rattle.base.proofs.PenLemmas.{write_none, write_more}
 use Rattle.aigertext.proofs.writing.properties.put_sizes.Goals as goal
 
 pub overflow_cast-justice : goal.overflow_cast-justice
