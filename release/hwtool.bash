@@ -19,8 +19,8 @@ _hwtool() {
         lift) words='--quiet --output --names --engine --abc --bad --help' ;;
         restore) words='--quiet --output --abc --bad --help' ;;
         wave) words='--quiet --output --all --help' ;;
-        obligation) words='--quiet --output --aiger --bad --help' ;;
-        check-proof) words='--quiet --names --aiger --bad --help' ;;
+        obligation) words='--quiet --output --aiger --circuit --engine --bad --help' ;;
+        check-proof) words='--quiet --names --aiger --circuit --engine --bad --help' ;;
         tidy-witness) words='--quiet --output --pick --help' ;;
         vectors) words='--quiet --help' ;;
         explain) words='--help' ;;

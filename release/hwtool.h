@@ -1,5 +1,5 @@
 /* The library of hwtool for C programs: judgements of witnesses, lowering, lifting, restoring, dumps and certificates, over
- * whole texts in memory. What each call answers is proved (docs/PROVED.md, "The library for C programs").
+ * whole texts in memory. What each call answers is proved (docs/PROVED.md, "capi").
  *
  * What the caller owes, which nothing checks:
  *   - no pointer is null, also that of an empty text or buffer; a text or buffer of n bytes is n bytes that can be read or
@@ -26,7 +26,7 @@ extern "C" {
 #endif
 
 /* The version of the library that this header goes with. */
-#define HWTOOL_VERSION "0.3.0"
+#define HWTOOL_VERSION "0.4.0"
 
 /* The statuses. */
 enum {
@@ -34,8 +34,8 @@ enum {
     HWTOOL_TOO_SMALL = 1,      /* the buffer is too small and stays; `needed` is the length of the text */
     HWTOOL_TEXT_REFUSED = 2,   /* the first text is no model or no circuit; `refusal` says why and where */
     HWTOOL_MODEL_REFUSED = 3,  /* what it says is not taken by this call; `refusal` says why and which item */
-    HWTOOL_NO_MEMORY = 4,      /* memory was wanting */
-    HWTOOL_SECOND_REFUSED = 5  /* the text of an invariant is faulty; `refusal` says why and where */
+    HWTOOL_NO_MEMORY = 4,      /* out of memory */
+    HWTOOL_SECOND_REFUSED = 5  /* the second text, an invariant or a witness circuit, is not taken; `refusal` says why and where */
 };
 
 /* The kinds of verdicts. */
@@ -159,6 +159,20 @@ uint32_t hwtool_obligation_aig(const uint8_t *circuit, size_t circuit_length, si
 uint32_t hwtool_check_proof_aig(const uint8_t *circuit, size_t circuit_length, size_t bad, const uint8_t *invariant,
                                 size_t invariant_length, const uint8_t *proof, size_t proof_length,
                                 struct hwtool_verdict *verdict, struct hwtool_refusal *refusal);
+
+/* Writes in DIMACS what a witness circuit, in AIGER of either form, owes for the bad property at position `bad` of a BTOR2 model,
+ * or with `aiger` of an AIGER circuit: one of its circuit, or with `over_form` of its engine form with this property alone.
+ * Answers DONE and TOO_SMALL with `needed`, TEXT_REFUSED, MODEL_REFUSED, SECOND_REFUSED, NO_MEMORY. */
+uint32_t hwtool_obligation_circuit(const uint8_t *first, size_t first_length, bool aiger, bool over_form, size_t bad,
+                                   const uint8_t *witness, size_t witness_length, uint8_t *buffer, size_t buffer_length,
+                                   size_t *needed, struct hwtool_refusal *refusal);
+
+/* Judges a proof in DRAT of what that witness circuit owes. With a verdict of kind 0 the bad property rises in no frame up to
+ * which the constraints hold, from any initial state under every input sequence. Answers DONE with `verdict`, TEXT_REFUSED,
+ * MODEL_REFUSED, SECOND_REFUSED, NO_MEMORY. */
+uint32_t hwtool_check_proof_circuit(const uint8_t *first, size_t first_length, bool aiger, bool over_form, size_t bad,
+                                    const uint8_t *witness, size_t witness_length, const uint8_t *proof, size_t proof_length,
+                                    struct hwtool_verdict *verdict, struct hwtool_refusal *refusal);
 
 /* The version, which is that of the program, as HWTOOL_VERSION has it for this header; not ended by a zero byte. Answers DONE and
  * TOO_SMALL with `needed`. */
