@@ -1,7 +1,6 @@
 -- Texts of items and of digits, piece by piece.
-use Rattle.std.proofs.Common.{◌≡◌, ℕ, true, refl, ◌^◌, lit<, suc, ◌+◌, ◌-◌, ◌<◌, ◌≤◌, ◌/◌, ◌%◌, List, [], ◌∷◌, ◌++◌, length, ◌==◌, eqb-true, get_or, take, drop, map, decimal, drop-cons, add-one, sym, ap, subst, ◌∙◌, append_assoc, append-nil, arith}
+use Rattle.std.proofs.Common.{◌≡◌, ℕ, true, refl, suc, ◌+◌, ◌-◌, ◌<◌, ◌/◌, ◌%◌, List, [], ◌∷◌, ◌++◌, length, ◌==◌, eqb-true, get_or, take, drop, map, decimal, drop-cons, add-one, sym, ap, subst, ◌∙◌, append_assoc, append-nil, arith}
 use Rattle.std.specs.Char.{digit_char}
-use Rattle.std.proofs.lemmas.Fmt.{length-decimal-le}
 use Rattle.std.proofs.lemmas.List.{take-append-drop}
 use Rattle.std.specs.Option.{option_to_list}
 use Rattle.btor2.specs.declared.item.Item.{Item}
@@ -93,10 +92,6 @@ few_digits_at items i x d h lt e =
     rw e (few_digits (get_or items i d).body fits.body)
 
 -- ---- the last digits of a number
-
--- a number of 64 bits has at most twenty digits
-pub decimal_short : (n : ℕ) → n < 2 ^ 64 → length (decimal n) ≤ 20
-decimal_short n h = length-decimal-le 20 n (lit< tt) (omega arith) h
 
 pub digits_more : (radix count i rest : ℕ) (digits total : List ℕ) → i < count → last_digits radix (count - i) rest ++ digits ≡ total
     → last_digits radix (count - (i + 1)) (rest / radix) ++ digit_char (rest % radix) ∷ digits ≡ total

@@ -5,14 +5,16 @@ ghost use Rattle.std.specs.Io.KnownBytes.{Appends};
 ghost use Rattle.std.specs.Option.{option_to_list};
 ghost use Rattle.base.specs.Device.{CountsFaults, AppendsBeginning};
 ghost use Rattle.btor2.specs.Check.{IsWellFormed};
-ghost use Rattle.base.specs.Pieces.{Puts};
+ghost use Rattle.base.specs.Writing.{WritesText};
 ghost use Rattle.btor2text.specs.Spelling.{StandsFor};
 ghost use Rattle.btor2text.specs.Reading.{text_on};
 ghost use Rattle.btor2text.specs.Writing.{behind_spaces, in_front, head_tokens, justice_operands, HasFewDigits, written_line, written};
 
-use crate::line::Line;
+use crate::line::{
+    add_digits, add_four, add_number, add_one, add_signed, add_three, add_token, add_two,
+};
 use crate::operators::{binary_name, unary_name};
-use base::{DeviceFault, Outbox, Sink};
+use base::{DeviceFault, Line, Pen, Sink};
 use btor2::{Body, Item, Model, Symbol};
 
 /// Writes the text of a model: a line for each item, tokens with one space between, hexadecimal digits in lower case,
@@ -27,90 +29,58 @@ pub fn write<K: Sink>(model: &Model, sink: &mut K) -> Result<(), DeviceFault>
     ensures read { text_on (written model.now) ≡ Ok model.now }
     ensures failures { CountsFaults result (K.failures sink.old) (K.failures sink.new) }
 {
-    let mut outbox = Outbox::new();
-    put_items(&mut outbox, sink, model.items())?;
-    outbox.flush(sink)
+    let mut pen = Pen::new();
+    put_items(&mut pen, sink, model.items());
+    pen.finish(sink)
 }
 
 /// Puts the lines of items.
-fn put_items<K: Sink>(outbox: &mut Outbox, sink: &mut K, items: &[Item]) -> Result<(), DeviceFault>
+fn put_items<K: Sink>(pen: &mut Pen, sink: &mut K, items: &[Item])
     requires { IsWellFormed items.now }
-    ensures puts { Puts result (K.written sink.old) (K.written sink.new) outbox.old outbox.new (written items.now) }
-    ensures failures { CountsFaults result (K.failures sink.old) (K.failures sink.new) }
+    ensures { WritesText K.written K.failures sink.old sink.new pen.old pen.new (written items.now) }
 {
-    let mut line = Line::new();
     for item in items {
-        put_item(outbox, sink, &mut line, item)?;
+        put_item(pen, sink, item);
     }
-    Ok(())
 }
 
 /// Puts the line of an item: at once, but for a justice line that names nodes.
-fn put_item<K: Sink>(
-    outbox: &mut Outbox,
-    sink: &mut K,
-    line: &mut Line,
-    item: &Item,
-) -> Result<(), DeviceFault>
+fn put_item<K: Sink>(pen: &mut Pen, sink: &mut K, item: &Item)
     requires { HasFewDigits item.now.body }
-    ensures puts { Puts result (K.written sink.old) (K.written sink.new) outbox.old outbox.new (written_line item.now) }
-    ensures failures { CountsFaults result (K.failures sink.old) (K.failures sink.new) }
+    ensures { WritesText K.written K.failures sink.old sink.new pen.old pen.new (written_line item.now) }
 {
     let operands = operands(&item.body);
     if !operands.is_empty() {
-        return put_justice(outbox, sink, line, item, operands);
+        return put_justice(pen, sink, item, operands);
     }
-    make_end(line, &item.symbol);
-    add_head(line, item);
-    put_line(outbox, sink, line)
+    make_end(&mut pen.line, &item.symbol);
+    add_head(&mut pen.line, item);
+    pen.put_line(sink);
 }
 
 /// Puts the line of an item with operands behind its form, as many as there are: these go out one by one.
-fn put_justice<K: Sink>(
-    outbox: &mut Outbox,
-    sink: &mut K,
-    line: &mut Line,
-    item: &Item,
-    operands: &[u32],
-) -> Result<(), DeviceFault>
+fn put_justice<K: Sink>(pen: &mut Pen, sink: &mut K, item: &Item, operands: &[u32])
     requires few { HasFewDigits item.now.body }
     requires same { operands.now ≡ justice_operands item.now.body }
-    ensures puts { Puts result (K.written sink.old) (K.written sink.new) outbox.old outbox.new (written_line item.now) }
-    ensures failures { CountsFaults result (K.failures sink.old) (K.failures sink.new) }
+    ensures { WritesText K.written K.failures sink.old sink.new pen.old pen.new (written_line item.now) }
 {
-    line.clear();
-    add_head(line, item);
-    put_line(outbox, sink, line)?;
-    put_ids(outbox, sink, line, operands)?;
-    make_end(line, &item.symbol);
-    put_line(outbox, sink, line)
+    pen.line.clear();
+    add_head(&mut pen.line, item);
+    pen.put_line(sink);
+    put_ids(pen, sink, operands);
+    make_end(&mut pen.line, &item.symbol);
+    pen.put_line(sink);
 }
 
 /// Puts ids, each behind a space.
-fn put_ids<K: Sink>(
-    outbox: &mut Outbox,
-    sink: &mut K,
-    line: &mut Line,
-    ids: &[u32],
-) -> Result<(), DeviceFault>
-    ensures puts { Puts result (K.written sink.old) (K.written sink.new) outbox.old outbox.new (behind_spaces (map decimal ids.now)) }
-    ensures failures { CountsFaults result (K.failures sink.old) (K.failures sink.new) }
+fn put_ids<K: Sink>(pen: &mut Pen, sink: &mut K, ids: &[u32])
+    ensures { WritesText K.written K.failures sink.old sink.new pen.old pen.new (behind_spaces (map decimal ids.now)) }
 {
     for id in ids {
-        line.clear();
-        line.spaced(u64::from(*id));
-        put_line(outbox, sink, line)?;
+        pen.line.clear();
+        add_number(&mut pen.line, u64::from(*id));
+        pen.put_line(sink);
     }
-    Ok(())
-}
-
-/// Puts what stands on a line.
-#[inline(always)]
-fn put_line<K: Sink>(outbox: &mut Outbox, sink: &mut K, line: &Line) -> Result<(), DeviceFault>
-    ensures puts { Puts result (K.written sink.old) (K.written sink.new) outbox.old outbox.new line.now }
-    ensures failures { CountsFaults result (K.failures sink.old) (K.failures sink.new) }
-{
-    outbox.put(sink, line.bytes())
 }
 
 /// The nodes that a justice line names; none for all other forms.
@@ -132,7 +102,7 @@ fn make_end(line: &mut Line, symbol: &Option<Symbol>)
     line.byte(b'\n');
     match symbol {
         None => {}
-        Some(symbol) => line.token(symbol.bytes()),
+        Some(symbol) => add_token(line, symbol.bytes()),
     }
 }
 
@@ -154,43 +124,44 @@ fn add_form(line: &mut Line, body: &Body)
     ensures short { length line.new ≤ length line.old + 100 }
 {
     match body {
-        Body::Sort { width } => line.one(b"sort bitvec", *width),
-        Body::Input { sort } => line.one(b"input", u64::from(*sort)),
-        Body::State { sort } => line.one(b"state", u64::from(*sort)),
-        Body::Zero { sort } => line.one(b"zero", u64::from(*sort)),
-        Body::One { sort } => line.one(b"one", u64::from(*sort)),
-        Body::Ones { sort } => line.one(b"ones", u64::from(*sort)),
+        Body::Sort { width } => add_one(line, b"sort bitvec", *width),
+        Body::Input { sort } => add_one(line, b"input", u64::from(*sort)),
+        Body::State { sort } => add_one(line, b"state", u64::from(*sort)),
+        Body::Zero { sort } => add_one(line, b"zero", u64::from(*sort)),
+        Body::One { sort } => add_one(line, b"one", u64::from(*sort)),
+        Body::Ones { sort } => add_one(line, b"ones", u64::from(*sort)),
         Body::Const {
             sort,
             digits,
             value,
         } => {
-            line.digits(2, *digits, *value);
+            add_digits(line, 2, *digits, *value);
             line.byte(b' ');
-            line.one(b"const", u64::from(*sort));
+            add_one(line, b"const", u64::from(*sort));
         }
         Body::Constd { sort, value } => {
-            line.signed(value.value());
+            add_signed(line, value.value());
             line.byte(b' ');
-            line.one(b"constd", u64::from(*sort));
+            add_one(line, b"constd", u64::from(*sort));
         }
         Body::Consth {
             sort,
             digits,
             value,
         } => {
-            line.digits(16, *digits, *value);
+            add_digits(line, 16, *digits, *value);
             line.byte(b' ');
-            line.one(b"consth", u64::from(*sort));
+            add_one(line, b"consth", u64::from(*sort));
         }
-        Body::Uext { sort, operand, by } => line.three(b"uext", *sort, *operand, *by),
-        Body::Sext { sort, operand, by } => line.three(b"sext", *sort, *operand, *by),
+        Body::Uext { sort, operand, by } => add_three(line, b"uext", *sort, *operand, *by),
+        Body::Sext { sort, operand, by } => add_three(line, b"sext", *sort, *operand, *by),
         Body::Slice {
             sort,
             operand,
             upper,
             lower,
-        } => line.four(
+        } => add_four(
+            line,
             b"slice",
             *sort,
             *operand,
@@ -201,20 +172,33 @@ fn add_form(line: &mut Line, body: &Body)
             operator,
             sort,
             operand,
-        } => line.two(unary_name(*operator), *sort, *operand),
+        } => add_two(line, unary_name(*operator), *sort, *operand),
         Body::Binary {
             operator,
             sort,
             left,
             right,
-        } => line.three(binary_name(*operator), *sort, *left, u64::from(*right)),
-        Body::Concat { sort, high, low } => line.three(b"concat", *sort, *high, u64::from(*low)),
+        } => add_three(
+            line,
+            binary_name(*operator),
+            *sort,
+            *left,
+            u64::from(*right),
+        ),
+        Body::Concat { sort, high, low } => add_three(
+            line,
+            b"concat",
+            *sort,
+            *high,
+            u64::from(*low),
+        ),
         Body::Ite {
             sort,
             condition,
             first,
             second,
-        } => line.four(
+        } => add_four(
+            line,
             b"ite",
             *sort,
             *condition,
@@ -222,15 +206,15 @@ fn add_form(line: &mut Line, body: &Body)
             u64::from(*second),
         ),
         Body::Init { sort, state, value } => {
-            line.three(b"init", *sort, *state, u64::from(*value))
+            add_three(line, b"init", *sort, *state, u64::from(*value))
         }
         Body::Next { sort, state, value } => {
-            line.three(b"next", *sort, *state, u64::from(*value))
+            add_three(line, b"next", *sort, *state, u64::from(*value))
         }
-        Body::Bad { operand } => line.one(b"bad", u64::from(*operand)),
-        Body::Constraint { operand } => line.one(b"constraint", u64::from(*operand)),
-        Body::Fair { operand } => line.one(b"fair", u64::from(*operand)),
-        Body::Output { operand } => line.one(b"output", u64::from(*operand)),
-        Body::Justice { operands } => line.one(b"justice", operands.ids().len() as u64),
+        Body::Bad { operand } => add_one(line, b"bad", u64::from(*operand)),
+        Body::Constraint { operand } => add_one(line, b"constraint", u64::from(*operand)),
+        Body::Fair { operand } => add_one(line, b"fair", u64::from(*operand)),
+        Body::Output { operand } => add_one(line, b"output", u64::from(*operand)),
+        Body::Justice { operands } => add_one(line, b"justice", operands.ids().len() as u64),
     }
 }
