@@ -167,12 +167,13 @@ impl<'a> BitJudge<'a> {
         true
     }
 
-    /// Takes the rest of a line and its end.
-    fn take_line(&mut self, bytes: &[u8])
-        ensures { (c : Circuit) (text : List ℕ) → IsLine bytes.now → StandsForBits c self.old text → StandsForBits c self.new (text ++ (bytes.now ++ 10 ∷ [])) }
+    /// Takes the rest of a line, and its end: for callers that cut lines themselves. A judge that stood for a text stands for
+    /// that text with the line and its byte 10 behind it.
+    pub fn take_line(&mut self, line: &[u8])
+        ensures { (c : Circuit) (text : List ℕ) → IsLine line.now → StandsForBits c self.old text → StandsForBits c self.new (text ++ (line.now ++ 10 ∷ [])) }
     {
-        if !self.takes_bits(bytes) {
-            self.take_all(bytes);
+        if !self.takes_bits(line) {
+            self.take_all(line);
             self.end_line();
         }
     }
