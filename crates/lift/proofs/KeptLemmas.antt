@@ -1,6 +1,5 @@
 -- What is kept of a line byte by byte is what its bytes say.
 use Rattle.std.proofs.Common.{◌≡◌, ℕ, suc, ◌+◌, ◌<◌, ◌≤◌, ◌-◌, ◌^◌, ◌==◌, min, nat_lt, Bool, true, false, List, [], ◌∷◌, ◌++◌, length, take, length-append, length-set, set, get_or, append_assoc, subst, refl, sym, ap, ap₂, ◌∙◌, arith, inl, inr}
-use Rattle.std.specs.List.{list_any, list_all}
 use Rattle.std.proofs.lemmas.Bool.{cases_Bool, and_parts, eq-eqb, ne_eqb, lt-ltb, ltb-true, cases_lt}
 use Rattle.std.proofs.lemmas.List.Folds.{list_all-append}
 use Rattle.std.proofs.lemmas.List.{map-append}
@@ -8,7 +7,6 @@ use Rattle.std.proofs.lemmas.Grind.{take-set_at, take_at_read}
 use Rattle.base.specs.Decimals.{is_digit, are_digits, capped_value, number_more}
 use Rattle.base.proofs.DecimalLemmas.{capped_value-nil}
 use Rattle.witness.specs.declared.bit_scan.Scan.{Scan}
-use Rattle.witness.specs.Admits.{is_value_byte}
 use Rattle.witness.specs.BitScans.{Scans, behind_first, scan_more}
 use Rattle.witness.proofs.BitScanLemmas.{scans_more}
 use Rattle.lift.specs.Lifted.{bits_of_line}
@@ -25,12 +23,10 @@ scan_of a rest =
       zero = get_or (a ∷ rest) 1 0 == 48;
       digits = are_digits rest;
       number = capped_value rest;
-      values = list_all is_value_byte (a ∷ rest);
-      unknown = list_any (λ b. b == 120) (a ∷ rest);
     }
 
 scans_line : (a : ℕ) (rest : List ℕ) → Scans (scan_of a rest) (a ∷ rest)
-scans_line a rest = record { count = refl; first = refl; zero = refl; digits = refl; number = λ all. refl; values = refl; unknown = refl }
+scans_line a rest = record { count = refl; first = refl; zero = refl; digits = refl; number = λ all. refl }
 
 -- the number with a digit more
 value_behind : (a : ℕ) (rest : List ℕ) (b : ℕ) → are_digits (rest ++ b ∷ []) ≡ true → number_more (capped_value rest) b ≡ capped_value (rest ++ b ∷ [])

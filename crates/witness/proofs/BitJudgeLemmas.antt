@@ -1,20 +1,17 @@
 -- What a judge of witnesses of a circuit holds, line by line, and what it judges of a text.
-use Rattle.std.proofs.Common.{◌≡◌, ℕ, ◌+◌, ◌<◌, ◌≤◌, ◌^◌, Bool, true, false, ◌||◌, List, [], ◌∷◌, ◌++◌, Result, IfOk, Ok, Err, codes, length, length-append, refl, sym, ap, subst, ◌∙◌, arith, cond, Option, Some, None, map}
+use Rattle.std.proofs.Common.{◌≡◌, ℕ, ◌+◌, ◌<◌, ◌≤◌, ◌^◌, Bool, true, false, ◌||◌, List, [], ◌∷◌, Result, IfOk, Ok, Err, codes, length, length-append, refl, sym, ap, subst, ◌∙◌, arith, cond, Option, Some, None, map}
 use Rattle.std.specs.Str.{bytes_eq}
 use Rattle.std.proofs.lemmas.Bool.{false_from_ne_true}
-use Rattle.base.specs.Lines.{IsLine, whole_lines, unfinished}
+use Rattle.base.specs.Lines.{whole_lines}
 use Rattle.std.proofs.lemmas.Result.{IfOk-at_ok}
 use Rattle.aiger.specs.Circuit.{Circuit}
 use Rattle.witness.specs.declared.why.Why.{Why}
-use Rattle.witness.specs.declared.bit_scan.Scan.{Scan}
 use Rattle.witness.specs.Readings.{Reading, lines_read, so_far}
 use Rattle.witness.specs.Stands.{IsOfLines}
 use Rattle.witness.specs.BitAdmits.{claim_at, bits_at, BitPlace, AtHeader, AtClaim, AtInitial, AtFirst, AtLater, AtDone, BitRead, no_line_read, after_frame, bit_admit_at, bit_admit, bit_reader, is_done, bit_witness_of}
-use Rattle.witness.specs.BitScans.{Scans}
 use Rattle.witness.specs.BitStands.{is_header, BitJudge, bit_judging, StandsForBits, bit_place_of, PlaysAt}
-use Rattle.witness.proofs.TextEndLemmas.{whole_lines-line_end, unfinished-line_end}
 use Rattle.witness.proofs.ReadingLemmas.{by_test, Goes, On, Until, goes, holds_behind}
-use Rattle.witness.proofs.StandsLemmas.{awaits, none_awaited, ClaimsMore, line_ended}
+use Rattle.witness.proofs.StandsLemmas.{awaits, none_awaited, ClaimsMore}
 use Rattle.std.proofs.Math.Bool.{or-false}
 use Rattle.base.specs.Literal.{Valuation}
 use Rattle.aiger.specs.Trace.{IsCircuitTrace}
@@ -89,16 +86,9 @@ pub claims_more : (c : Circuit) → ClaimsMore (bit_judging c)
 claims_more c [] line = refl
 claims_more c (l ∷ lines) line = rw (not_awaited c l lines (goes (bit_reader c) 0 no_line_read (l ∷ lines) (omega arith))) (sym (or-false (bytes_eq l (codes "0") || bytes_eq l (codes "2"))))
 
--- a whole line that was not taken byte by byte
-pub whole_line : (c : Circuit) (text bytes : List ℕ) (j new : BitJudge) → IsLine bytes → StandsForBits c j text → unfinished text ≡ [] → new.line ≡ j.line → IsOfLines (bit_judging c) new (whole_lines text ++ bytes ∷ []) []
-    → StandsForBits c new (text ++ (bytes ++ 10 ∷ []))
-whole_line c text bytes j new is stands empty same lines =
-    line_ended (bit_judging c) (text ++ (bytes ++ 10 ∷ [])) (whole_lines text ++ bytes ∷ []) new (whole_lines-line_end text bytes is ∙ ap (λ (l : List ℕ). whole_lines text ++ (l ++ bytes) ∷ []) empty) (unfinished-line_end text bytes) lines
-    (subst (λ (s : Scan). Scans s []) (sym same) (subst (Scans j.line) empty stands.line))
-
 -- ---- the verdict
 
-module _ (c : Circuit) (w : BitWitness) (p : BitPlay) (vs : List Valuation) (within : w.claim < length c.bads) (plays : PlaysBits c w.claim w.initial w.frames p []) (trace : IsCircuitTrace c w.initial w.frames vs) where
+module _ (c : Circuit) (w : BitWitness) (p : BitPlay) (vs : List Valuation) (within : w.claim < length c.bads) (plays : PlaysBits c w.claim w.initial w.frames p) (trace : IsCircuitTrace c w.initial w.frames vs) where
   traced : TracedBits c w.claim w.initial p vs
   traced = plays.traced vs trace
 
@@ -123,5 +113,5 @@ whole_witness c text j old same o was none unreached at_end vs t =
     let stands = subst (λ (k : BitJudge). StandsForBits c k text) (sym same) was in
     let r : BitRead = (lines_read (bit_reader c) (whole_lines text)).read in
     let reads = stands.lines.reads none in
-    let plays : PlaysAt c r j.reader.play (unfinished text) AtDone = subst (PlaysAt c r j.reader.play (unfinished text)) (done r.place at_end) reads.play in
+    let plays : PlaysAt c r j.reader.play AtDone = subst (PlaysAt c r j.reader.play) (done r.place at_end) reads.play in
     judged_whole c (bit_witness_of r) j.reader.play vs plays.1 plays.0 t o (unreached ∙ ap (λ (i : ℕ). cond j.reader.play.rose None (Some i)) reads.claim)

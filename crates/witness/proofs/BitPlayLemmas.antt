@@ -1,5 +1,5 @@
 -- Frames of a witness of a circuit, closed one after the other.
-use Rattle.std.proofs.Common.{◌≡◌, ℕ, suc, ◌+◌, ◌*◌, ◌<◌, ◌≤◌, ◌-◌, ◌^◌, min, Bool, true, false, cond, ◌||◌, List, [], ◌∷◌, ◌++◌, Option, Some, None, map, length, take, get_or, set, length-append, refl, sym, ap, ap₂, subst, ◌∙◌, arith}
+use Rattle.std.proofs.Common.{◌≡◌, ℕ, suc, ◌+◌, ◌*◌, ◌<◌, ◌-◌, ◌^◌, min, Bool, true, false, cond, ◌||◌, List, [], ◌∷◌, ◌++◌, Option, Some, None, map, length, take, get_or, set, length-append, refl, sym, ap, ap₂, subst, ◌∙◌, arith}
 use Rattle.std.specs.Option.{option_or}
 use Rattle.std.proofs.lemmas.List.{take_more_set, length-map, length-set, length-replicate, map-append}
 use Rattle.std.proofs.lemmas.List.Folds.{list_any-append}
@@ -9,10 +9,10 @@ use Rattle.base.specs.Literal.{Valuation, literal_value}
 use Rattle.aiger.specs.Circuit.{Circuit}
 use Rattle.aiger.specs.Trace.{IsCircuitFrame, IsCircuitTrace, next_latch_bits}
 use Rattle.runs.specs.Run.{more_steps}
-use Rattle.runs.specs.CircuitRun.{CircuitRun, IsFrameNow, no_inputs, settle_steps}
+use Rattle.runs.specs.CircuitRun.{CircuitRun, IsFrameNow, circuit_start, no_inputs, reset_bit, settle_steps}
 use Rattle.base.proofs.StepLemmas.{more_steps-sum}
 use Rattle.witness.specs.Judgements.{Violation, violated_at}
-use Rattle.witness.specs.BitPlays.{first_bit_violated, BitPlay, bit_frame_steps, bit_steps_of, state_behind, Begins, TracedBits, PlaysBits, differing, latch_given, bit_rises}
+use Rattle.witness.specs.BitPlays.{first_bit_violated, BitPlay, bit_frame_steps, bit_steps_of, state_behind, play_start, TracedBits, PlaysBits, differing, latch_given, input_given, bit_rises}
 use Rattle.witness.specs.Fits.{breach_from}
 use Rattle.witness.specs.BitJudgements.{differs_from_reset, first_reset_differing}
 use Rattle.witness.specs.BitScans.{is_one_bit}
@@ -43,35 +43,110 @@ differing_more k (l ∷ latches) (x ∷ bits) b d h =
       | false ↦ rest ∙ ap (λ (n : ℕ). differing (first_reset_differing (suc k) latches bits) n (differs_from_reset (get_or latches (length bits) d).reset b)) same
     ]
 
--- a byte more of the line of initial bits
-pub begins_more : (c : Circuit) (p : BitPlay) (line : List ℕ) (byte k : ℕ) (d : Latch) → length c.latches < 2 ^ 64 - 1 → k ≡ min (length line) (2 ^ 64 - 1) → k < length c.latches → Begins c p line
+-- these bytes of the line of initial bits are read
+pub record Begins (c : Circuit) (p : BitPlay) (line : List ℕ) : Type 0 where
+  pub start : p ≡ record (play_start c) { run = record (circuit_start c) { latches = p.run.latches; settled = p.run.settled }; differs = p.differs }
+  pub many : length p.run.latches ≡ length c.latches
+  pub bits : take (length line) p.run.latches ≡ map is_one_bit line
+  pub differs : p.differs ≡ first_reset_differing 0 c.latches (map is_one_bit line)
+
+pub begins_start : (c : Circuit) (p : BitPlay) → p ≡ play_start c → Begins c p []
+begins_start c p e =
+    subst (λ (p : BitPlay). Begins c p []) (sym e)
+    (record { start = refl; many = length-map c.latches (λ l. reset_bit l.reset); bits = refl; differs = sym (none_left 0 c.latches) })
+
+-- a byte more
+pub begins_more : (c : Circuit) (p : BitPlay) (line : List ℕ) (byte k : ℕ) (d : Latch) → k ≡ length line → k < length c.latches → Begins c p line
     → Begins c (latch_given p k (is_one_bit byte) (differs_from_reset (get_or c.latches k d).reset (is_one_bit byte))) (line ++ byte ∷ [])
-begins_more c p line byte k d small is room h =
-    let at : k ≡ length line = omega (arith, is, room, small) in
+begins_more c p line byte k d at room h =
     let many = h.many in
     let long = length-append line (byte ∷ []) in
     record {
       start = ap (λ (q : BitPlay). latch_given q k (is_one_bit byte) (differs_from_reset (get_or c.latches k d).reset (is_one_bit byte))) h.start;
       many = length-set p.run.latches k (is_one_bit byte) ∙ many;
-      bits = λ few.
-          let fewer : length line ≤ length c.latches = omega (arith, few, long) in
+      bits =
           let inside : k < length p.run.latches = omega (arith, room, many) in
           ap (λ (n : ℕ). take n (set p.run.latches k (is_one_bit byte))) (long ∙ ap (λ (n : ℕ). n + 1) (sym at))
           ∙ (take_more_set p.run.latches k (is_one_bit byte) inside
           ∙ (ap (λ (n : ℕ). take n p.run.latches ++ is_one_bit byte ∷ []) at
-          ∙ (ap (λ (bits : List Bool). bits ++ is_one_bit byte ∷ []) (h.bits fewer)
+          ∙ (ap (λ (bits : List Bool). bits ++ is_one_bit byte ∷ []) h.bits
           ∙ sym (map-append is_one_bit line (byte ∷ [])))));
-      differs = λ few.
-          let fewer : length line ≤ length c.latches = omega (arith, few, long) in
-          let inside : length (map is_one_bit line) < length c.latches = omega (arith, few, long, length-map line is_one_bit) in
+      differs =
+          let inside : length (map is_one_bit line) < length c.latches = omega (arith, at, room, length-map line is_one_bit) in
           let place : k ≡ length (map is_one_bit line) = at ∙ sym (length-map line is_one_bit) in
           let number : length (map is_one_bit line) ≡ 0 + length (map is_one_bit line) = omega arith in
-          ap (λ (o : Option ℕ). differing o k (differs_from_reset (get_or c.latches k d).reset (is_one_bit byte))) (h.differs fewer)
+          ap (λ (o : Option ℕ). differing o k (differs_from_reset (get_or c.latches k d).reset (is_one_bit byte))) h.differs
           ∙ (ap (λ (n : ℕ). differing (first_reset_differing 0 c.latches (map is_one_bit line)) n (differs_from_reset (get_or c.latches n d).reset (is_one_bit byte))) place
           ∙ (ap (λ (n : ℕ). differing (first_reset_differing 0 c.latches (map is_one_bit line)) n (differs_from_reset (get_or c.latches (length (map is_one_bit line)) d).reset (is_one_bit byte))) number
           ∙ (sym (differing_more 0 c.latches (map is_one_bit line) (is_one_bit byte) d inside)
           ∙ ap (first_reset_differing 0 c.latches) (sym (map-append is_one_bit line (byte ∷ []))))));
     }
+
+-- as many bytes as there are latches are their bits
+initial_is : (c : Circuit) (p : BitPlay) (line : List ℕ) → Begins c p line → length line ≡ length c.latches → p.run.latches ≡ map is_one_bit line
+initial_is c p line h whole =
+    let same : length p.run.latches ≡ length line = h.many ∙ sym whole in
+    sym (take-length p.run.latches) ∙ (ap (λ (n : ℕ). take n p.run.latches) same ∙ h.bits)
+
+traced_start : (c : Circuit) (claim : ℕ) (initial : List Bool) (p : BitPlay) (vs : List Valuation) → p.run.latches ≡ initial → p.breach ≡ None → p.rose ≡ false → IsCircuitTrace c initial [] vs → TracedBits c claim initial p vs
+traced_start c claim initial p [] latches breach rose t = record { latches = latches; breach = breach; rose = rose }
+traced_start c claim initial p (v ∷ vs) latches breach rose t = absurd t
+
+pub plays_start : (c : Circuit) (p : BitPlay) (line : List ℕ) (claim : ℕ) → Begins c p line → length line ≡ length c.latches → PlaysBits c claim (map is_one_bit line) [] p
+plays_start c p line claim h whole =
+    record {
+      circuit = ap (λ (p : BitPlay). p.circuit) h.start;
+      run = ap (λ (p : BitPlay). p.run.circuit) h.start;
+      differs = h.differs;
+      many = ap (λ (p : BitPlay). length p.run.inputs) h.start ∙ length-replicate c.inputs false;
+      count = ap (λ (p : BitPlay). p.frames) h.start;
+      steps = ap (λ (p : BitPlay). p.run.steps) h.start ∙ no_steps (bit_frame_steps c);
+      traced = λ vs t.
+          traced_start c claim (map is_one_bit line) p vs (initial_is c p line h whole) (ap (λ (p : BitPlay). p.breach) h.start) (ap (λ (p : BitPlay). p.rose) h.start) t;
+    }
+  where
+    no_steps : (n : ℕ) → 0 ≡ more_steps (0 * n) 0
+    no_steps n =
+        let none : 0 * n ≡ 0 = omega arith in
+        rw none refl
+
+-- ---- the bits of a frame
+
+-- these frames are closed, and the first inputs have the bits of these bytes
+pub record Gives (c : Circuit) (claim : ℕ) (initial : List Bool) (frames : List (List Bool)) (p : BitPlay) (line : List ℕ) : Type 0 where
+  pub plays : PlaysBits c claim initial frames p
+  pub bits : take (length line) p.run.inputs ≡ map is_one_bit line
+
+-- a byte more
+pub gives_more : (c : Circuit) (claim : ℕ) (initial : List Bool) (frames : List (List Bool)) (p : BitPlay) (line : List ℕ) (byte k : ℕ) → k ≡ length line → k < c.inputs → Gives c claim initial frames p line
+    → Gives c claim initial frames (input_given p k (is_one_bit byte)) (line ++ byte ∷ [])
+gives_more c claim initial frames p line byte k at room h =
+    let many = h.plays.many in
+    let inside : k < length p.run.inputs = omega (arith, room, many) in
+    record {
+      plays = record {
+        circuit = h.plays.circuit;
+        run = h.plays.run;
+        differs = h.plays.differs;
+        many = length-set p.run.inputs k (is_one_bit byte) ∙ many;
+        count = h.plays.count;
+        steps = h.plays.steps;
+        traced = λ vs t. let traced = h.plays.traced vs t in record { latches = traced.latches; breach = traced.breach; rose = traced.rose };
+      };
+      bits =
+          ap (λ (n : ℕ). take n (set p.run.inputs k (is_one_bit byte))) (length-append line (byte ∷ []) ∙ ap (λ (n : ℕ). n + 1) (sym at))
+          ∙ (take_more_set p.run.inputs k (is_one_bit byte) inside
+          ∙ (ap (λ (n : ℕ). take n p.run.inputs ++ is_one_bit byte ∷ []) at
+          ∙ (ap (λ (bits : List Bool). bits ++ is_one_bit byte ∷ []) h.bits
+          ∙ sym (map-append is_one_bit line (byte ∷ [])))));
+    }
+
+-- as many bytes as there are inputs are their bits
+pub gives_all : (c : Circuit) (claim : ℕ) (initial : List Bool) (frames : List (List Bool)) (p : BitPlay) (line : List ℕ) → length line ≡ c.inputs → Gives c claim initial frames p line
+    → PlaysBits c claim initial frames p × (p.run.inputs ≡ map is_one_bit line)
+gives_all c claim initial frames p line whole h =
+    let same : length p.run.inputs ≡ length line = h.plays.many ∙ sym whole in
+    (h.plays, sym (take-length p.run.inputs) ∙ (ap (λ (n : ℕ). take n p.run.inputs) same ∙ h.bits))
 
 -- ---- a frame more
 
@@ -111,15 +186,9 @@ pub record Closes (c : Circuit) (claim : ℕ) (old new : BitPlay) : Type 0 where
   pub breach : (v : Valuation) → IsFrameNow old.run v → new.breach ≡ option_or old.breach (violated_at old.frames (first_bit_violated c v) None)
   pub rose : (v : Valuation) → IsFrameNow old.run v → new.rose ≡ (old.rose || literal_value v (get_or c.bads claim 0))
 
-module _ (c : Circuit) (claim : ℕ) (initial : List Bool) (frames : List (List Bool)) (line : List ℕ) (old new : BitPlay) (plays : PlaysBits c claim initial frames old line) (closes : Closes c claim old new) (few : length frames < 2 ^ 62) (whole : length line ≡ c.inputs) where
+module _ (c : Circuit) (claim : ℕ) (initial : List Bool) (frames : List (List Bool)) (old new : BitPlay) (plays : PlaysBits c claim initial frames old) (closes : Closes c claim old new) (few : length frames < 2 ^ 62) where
   abbrev here : List Bool
-  here = map is_one_bit line
-
-  inputs_are : old.run.inputs ≡ here
-  inputs_are =
-      let many = plays.many in
-      let same : length line ≡ length old.run.inputs = whole ∙ sym many in
-      sym (take-length old.run.inputs) ∙ (ap (λ (n : ℕ). take n old.run.inputs) (sym same) ∙ plays.bits (omega (arith, whole)))
+  here = old.run.inputs
 
   traced_more : (vs : List Valuation) → IsCircuitTrace c initial (frames ++ here ∷ []) vs → TracedBits c claim initial new vs
   traced_more vs t =
@@ -127,8 +196,7 @@ module _ (c : Circuit) (claim : ℕ) (initial : List Bool) (frames : List (List 
       let was = plays.traced s.front s.trace in
       let now : IsFrameNow old.run s.v =
       subst (λ (k : Circuit). IsCircuitFrame k old.run.latches old.run.inputs s.v) (sym plays.run)
-      (subst (λ (state : List Bool). IsCircuitFrame c state old.run.inputs s.v) (sym was.latches)
-      (subst (λ (input : List Bool). IsCircuitFrame c (state_behind c initial s.front) input s.v) (sym inputs_are) s.frame)) in
+      (subst (λ (state : List Bool). IsCircuitFrame c state old.run.inputs s.v) (sym was.latches) s.frame) in
       let number : old.frames ≡ 0 + length s.front = plays.count ∙ (sym s.many ∙ omega arith) in
       record {
         latches = closes.latches s.v now ∙ (ap (λ (k : Circuit). next_latch_bits k s.v) plays.run ∙ (sym (state_more c initial s.front s.v) ∙ ap (state_behind c initial) (sym s.is)));
@@ -156,7 +224,7 @@ module _ (c : Circuit) (claim : ℕ) (initial : List Bool) (frames : List (List 
       product n s l = omega arith
 
   -- a frame more is closed
-  pub plays_more : PlaysBits c claim initial (frames ++ here ∷ []) new []
+  pub plays_more : PlaysBits c claim initial (frames ++ here ∷ []) new
   plays_more =
       let count = plays.count in
       let long = length-append frames (here ∷ []) in
@@ -165,7 +233,6 @@ module _ (c : Circuit) (claim : ℕ) (initial : List Bool) (frames : List (List 
         run = ap (λ (r : CircuitRun). r.circuit) closes.run ∙ plays.run;
         differs = closes.differs ∙ plays.differs;
         many = ap (λ (r : CircuitRun). length r.inputs) closes.run ∙ (ap (λ (k : Circuit). length (no_inputs k)) plays.run ∙ length-replicate c.inputs false);
-        bits = λ fits. refl;
         count = closes.frames ∙ omega (arith, count, few, long);
         steps = steps_more;
         traced = traced_more;

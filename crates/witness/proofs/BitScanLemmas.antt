@@ -1,13 +1,12 @@
 -- What is kept of a line byte by byte is what its bytes say.
 use Rattle.std.proofs.Common.{◌≡◌, ℕ, ◌+◌, ◌-◌, ◌*◌, ◌≤◌, ◌^◌, ◌==◌, min, nat_lt, nat_le, Bool, true, false, not, ◌&&◌, ◌||◌, List, [], ◌∷◌, ◌++◌, Option, Some, None, option_map, if◌then◌else◌, length, take, get_or, length-append, refl, sym, ap, ap₂, ◌∙◌, arith, inl, inr}
-use Rattle.std.specs.List.{list_any, list_all}
 use Rattle.std.proofs.lemmas.Bool.{cases_Bool, and_parts, and_from, eqb-true, eqb-false, ne_eqb, le-leb, lt-ltb}
-use Rattle.std.proofs.lemmas.List.Folds.{list_any-append, list_all-append}
+use Rattle.std.proofs.lemmas.List.Folds.{list_all-append}
 use Rattle.std.proofs.Math.Seq.{take-append_seam, take-length}
 use Rattle.base.specs.Decimals.{is_digit, are_digits, is_decimal, capped_value, number_of, number_more}
 use Rattle.base.proofs.DecimalLemmas.{digit_range, capped_value-nil, capped_value_more}
 use Rattle.witness.specs.declared.bit_scan.Scan.{Scan}
-use Rattle.witness.specs.Admits.{is_value_byte, Claim, claim_of}
+use Rattle.witness.specs.Admits.{Claim, claim_of}
 use Rattle.witness.specs.BitScans.{behind_first, Scans, scan_more, has_decimal, claimed}
 use Rattle.witness.proofs.StepWords.{claim_with}
 use Rattle.std.proofs.Math.Bool.{and-true, or-false, and-false}
@@ -48,8 +47,6 @@ one_byte s b h =
       zero = rw (none, h.zero) refl;
       digits = rw (none, h.digits) refl;
       number = λ all. rw none capped_value-nil;
-      values = rw h.values (sym (and-true (is_value_byte b)));
-      unknown = rw h.unknown (sym (or-false (b == 120)));
     }
 
 -- the second
@@ -65,8 +62,6 @@ second_byte s a b h =
       number = λ all.
           let digit : is_digit b ≡ true = rw (one, digits) at all in
           rw one (value_more [] b s.number (and_from (is_digit b) true digit refl) (h.number digits));
-      values = rw h.values (sym (list_all-append is_value_byte (a ∷ []) (b ∷ []) ∙ ap (λ (v : Bool). list_all is_value_byte (a ∷ []) && v) (and-true (is_value_byte b))));
-      unknown = rw h.unknown (sym (list_any-append (λ c. c == 120) (a ∷ []) (b ∷ []) ∙ ap (λ (v : Bool). list_any (λ c. c == 120) (a ∷ []) || v) (or-false (b == 120))));
     }
 
 -- a later one
@@ -86,8 +81,6 @@ later_byte s x y line b h =
           let both : (s.digits && is_digit b) ≡ true = rw not_none at all in
           let parts = and_parts s.digits (is_digit b) both in
           rw not_none (value_more (y ∷ line) b s.number (sym all_digits ∙ both) (h.number parts.0));
-      values = rw h.values (sym (list_all-append is_value_byte whole (b ∷ []) ∙ ap (λ (v : Bool). list_all is_value_byte whole && v) (and-true (is_value_byte b))));
-      unknown = rw h.unknown (sym (list_any-append (λ c. c == 120) whole (b ∷ []) ∙ ap (λ (v : Bool). list_any (λ c. c == 120) whole || v) (or-false (b == 120))));
     }
 
 -- a byte more
@@ -97,8 +90,8 @@ scans_more s (a ∷ []) b h = second_byte s a b h
 scans_more s (x ∷ y ∷ line) b h = later_byte s x y line b h
 
 -- no byte
-pub scans_nothing : Scans (record { count = 0; first = 0; zero = false; digits = true; number = 0; values = true; unknown = false }) []
-scans_nothing = record { count = refl; first = refl; zero = refl; digits = refl; number = λ all. capped_value-nil; values = refl; unknown = refl }
+pub scans_nothing : Scans (record { count = 0; first = 0; zero = false; digits = true; number = 0 }) []
+scans_nothing = record { count = refl; first = refl; zero = refl; digits = refl; number = λ all. capped_value-nil }
 
 -- ---- decimals
 

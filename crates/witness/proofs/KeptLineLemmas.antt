@@ -41,7 +41,7 @@ kept_alike line = take-take 342 342 line (omega arith)
 
 -- ---- the first byte, and words
 
-nothing_front : (n : ℕ) (line : List ℕ) → is_nothing (take (suc n) line) ≡ is_nothing line
+pub nothing_front : (n : ℕ) (line : List ℕ) → is_nothing (take (suc n) line) ≡ is_nothing line
 nothing_front n [] = refl
 nothing_front n (b ∷ line) = refl
 
@@ -56,7 +56,7 @@ begin_kept : (n : ℕ) (line : List ℕ) → begins_part (take (suc n) line) ≡
 begin_kept n [] = refl
 begin_kept n (b ∷ line) = refl
 
-word_kept : (n : ℕ) (line word : List ℕ) → length word < n → bytes_eq (take n line) word ≡ bytes_eq line word
+pub word_kept : (n : ℕ) (line word : List ℕ) → length word < n → bytes_eq (take n line) word ≡ bytes_eq line word
 word_kept zero line word short = absurd (omega (arith, short))
 word_kept (suc n) [] word short = refl
 word_kept (suc n) (b ∷ line) [] short = refl
@@ -129,7 +129,7 @@ value_kept before i width n behind small room = by (tokens n behind)
 -- ---- an assignment
 
 -- an index of a node has at most 20 digits
-short_index : (token : List ℕ) (i : ℕ) → number_of token ≡ Some i → i < 2 ^ 64 - 1 → length token ≤ 20
+pub short_index : (token : List ℕ) (i : ℕ) → number_of token ≡ Some i → i < 2 ^ 64 - 1 → length token ≤ 20
 short_index token i is small =
     let short = length-decimal-le 20 i (omega arith) (omega (arith, small)) (omega (arith, small)) in
     omega (arith, short, ap length (number_is_decimal token i is small))
@@ -217,9 +217,10 @@ pub gives_alike : (items : List Item) (r : Read) (line other : List ℕ) (q : Wo
 gives_alike items r line other q (Ok u) small few alike alone gives = (gives.0, (sym (admit_alike (shape_of items) small r few line other alike alone) ∙ gives.1.0, gives.1.1))
 gives_alike items r line other q (Err w) small few alike alone gives = sym (admit_alike (shape_of items) small r few line other alike alone) ∙ gives
 
--- whether a status says that there is no claim
-word_alike : (line other word : List ℕ) → length word < 342 → AreAlike line other → bytes_eq line word ≡ bytes_eq other word
-word_alike line other word short alike = sym (word_kept 342 line word short) ∙ (ap (λ (l : List ℕ). bytes_eq l word) alike ∙ word_kept 342 other word short)
+-- a word, by as many bytes
+pub word_alike : (n : ℕ) (line other word : List ℕ) → length word < n → take n line ≡ take n other → bytes_eq line word ≡ bytes_eq other word
+word_alike n line other word short alike = sym (word_kept n line word short) ∙ (ap (λ (l : List ℕ). bytes_eq l word) alike ∙ word_kept n other word short)
 
+-- whether a status says that there is no claim
 pub status_alike : (line other : List ℕ) → AreAlike line other → (bytes_eq line (codes "unsat") || bytes_eq line (codes "unknown")) ≡ (bytes_eq other (codes "unsat") || bytes_eq other (codes "unknown"))
-status_alike line other alike = rw (word_alike line other (codes "unsat") (omega arith) alike, word_alike line other (codes "unknown") (omega arith) alike) refl
+status_alike line other alike = rw (word_alike 342 line other (codes "unsat") (omega arith) alike, word_alike 342 line other (codes "unknown") (omega arith) alike) refl

@@ -32,6 +32,7 @@ pub mod ClaimScanLemmas
 pub mod WordLineLemmas
 pub mod WordPlayLemmas
 pub mod KeptLineLemmas
+pub mod CutLineLemmas
 pub mod WordPartLemmas
 pub mod WordReaderLemmas
 pub mod WordJudgeLemmas

@@ -21,7 +21,7 @@ use Rattle.witness.specs.Judgements.{frame_words, initial_words, given_words}
 use Rattle.witness.specs.ClosedWords.{IsClosedTrace}
 use Rattle.witness.specs.WordPlays.{TracedBy, frames_alone}
 use Rattle.witness.specs.WordStands.{WordReader, WordJudge, StandsForWitness}
-use Rattle.witness.specs.BitAdmits.{BitPlace, AtHeader, AtClaim, AtInitial, AtFirst, AtLater, AtDone, BitRead, bit_reader}
+use Rattle.witness.specs.BitAdmits.{BitPlace, AtHeader, AtClaim, AtInitial, BitRead, bit_reader}
 use Rattle.witness.specs.BitPlays.{BitPlay, bit_rises}
 use Rattle.witness.proofs.ShownLemmas.{never_shown, none_past, bit_rises_shown}
 use Rattle.witness.specs.declared.bit_reader.BitReader.{BitReader}
@@ -81,17 +81,14 @@ none_rose : (c : Circuit) (r : BitRead) (rose : Bool) (vs : List Valuation) → 
 none_rose c r rose vs none is t =
     is ∙ sym (ap (bit_rises c r.claim) (no_valuation c r.initial vs (subst (λ (frames : List (List Bool)). IsBitTrace c r.initial frames vs) none t)))
 
-rose_at : (c : Circuit) (p : BitPlay) (r : BitRead) (line : List ℕ) (at : BitPlace) → PlaysAt c r p line at → (vs : List Valuation) → IsBitTrace c r.initial r.frames vs → p.rose ≡ bit_rises c r.claim vs
-rose_at c p r line AtHeader plays vs t = none_rose c r p.rose vs plays.1 (ap (λ (x : BitPlay). x.rose) plays.0) t
-rose_at c p r line AtClaim plays vs t = none_rose c r p.rose vs plays.1 (ap (λ (x : BitPlay). x.rose) plays.0) t
-rose_at c p r line AtInitial plays vs t = none_rose c r p.rose vs plays.1 (ap (λ (x : BitPlay). x.rose) plays.0.start) t
-rose_at c p r line AtFirst plays vs t = (plays.0.traced vs t).rose
-rose_at c p r line AtLater plays vs t = (plays.0.traced vs t).rose
-rose_at c p r line AtDone plays vs t = (plays.0.traced vs t).rose
+rose_at : (c : Circuit) (p : BitPlay) (r : BitRead) (at : BitPlace) → PlaysAt c r p at → (vs : List Valuation) → IsBitTrace c r.initial r.frames vs → p.rose ≡ bit_rises c r.claim vs
+rose_at c p r AtHeader plays vs t = none_rose c r p.rose vs plays.1 (ap (λ (x : BitPlay). x.rose) plays.0) t
+rose_at c p r AtClaim plays vs t = none_rose c r p.rose vs plays.1 (ap (λ (x : BitPlay). x.rose) plays.0) t
+rose_at c p r AtInitial plays vs t = none_rose c r p.rose vs plays.1 (ap (λ (x : BitPlay). x.rose) plays.0) t
+rose_at c p r _ plays vs t = (plays.0.traced vs t).rose
 
-pub tells_of : (c : Circuit) (q : BitReader) (r : BitRead) (line : List ℕ) → ReadsBits c q r line → TellsBits c q r
-tells_of c q r line reads =
-    record { circuit = reads.counts.circuit; frames = reads.counts.frames; steps = reads.counts.steps; claim = reads.claim; rose = rose_at c q.play r line r.place reads.play }
+pub tells_of : (c : Circuit) (q : BitReader) (r : BitRead) → ReadsBits c q r → TellsBits c q r
+tells_of c q r reads = record { circuit = reads.counts.circuit; frames = reads.counts.frames; steps = reads.counts.steps; claim = reads.claim; rose = rose_at c q.play r r.place reads.play }
 
 -- of the position itself
 at_claim : (P : ℕ → Bool) (i k : ℕ) → (nat_eq i k && P i) ≡ (nat_eq i k && P k)

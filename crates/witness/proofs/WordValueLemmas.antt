@@ -67,7 +67,7 @@ value_known width x bytes long h =
     rw (eq-eqb (length bytes) width long, known_are_values bytes h.known, none_of is_bit 120 bytes known_not_x h.known) (ap Ok (sym h.word))
 
 -- values of which not all are `0` and `1` have an `x`
-some_x : (bytes : List ℕ) → list_all is_value_byte bytes ≡ true → list_all is_bit bytes ≡ false → list_any (λ b. b == 120) bytes ≡ true
+pub some_x : (bytes : List ℕ) → list_all is_value_byte bytes ≡ true → list_all is_bit bytes ≡ false → list_any (λ b. b == 120) bytes ≡ true
 some_x [] values unknown = absurd (cc unknown)
 some_x (b ∷ bytes) values unknown =
     let parts = and_parts (is_value_byte b) (list_all is_value_byte bytes) values in

@@ -1,5 +1,5 @@
 -- The frames of a witness of a circuit, played one after the other while its lines are read: what is kept of them, and which lines it is of.
-use Rattle.std.specs.Prelude.{◌≡◌, ℕ, ◌+◌, ◌*◌, ◌≤◌, Bool, true, false, not, List, [], ◌∷◌, Option, Some, None, map, length, take, slice_index, slice_set}
+use Rattle.std.specs.Prelude.{◌≡◌, ℕ, ◌+◌, ◌*◌, Bool, true, false, not, List, [], ◌∷◌, Option, Some, None, length, slice_index, slice_set}
 use Rattle.std.specs.List.{list_any, position_from}
 use Rattle.base.specs.Literal.{Valuation, literal_value}
 use Rattle.aiger.specs.Circuit.{Circuit}
@@ -7,7 +7,6 @@ use Rattle.aiger.specs.Trace.{IsCircuitTrace, next_latch_bits}
 use Rattle.runs.specs.Run.{more_steps}
 use Rattle.runs.specs.CircuitRun.{CircuitRun, circuit_start, settle_steps}
 use Rattle.witness.specs.Judgements.{Violation}
-use Rattle.witness.specs.BitScans.{is_one_bit}
 use Rattle.witness.specs.BitJudgements.{first_reset_differing}
 use Rattle.witness.specs.Fits.{breach_from}
 
@@ -37,13 +36,6 @@ abbrev pub state_behind : Circuit → List Bool → List Valuation → List Bool
 state_behind c state [] = state
 state_behind c state (v ∷ vs) = state_behind c (next_latch_bits c v) vs
 
--- these bytes of the line of initial bits are read
-pub record Begins (c : Circuit) (p : BitPlay) (line : List ℕ) : Type 0 where
-  pub start : p ≡ record (play_start c) { run = record (circuit_start c) { latches = p.run.latches; settled = p.run.settled }; differs = p.differs }
-  pub many : length p.run.latches ≡ length c.latches
-  pub bits : length line ≤ length c.latches → take (length line) p.run.latches ≡ map is_one_bit line
-  pub differs : length line ≤ length c.latches → p.differs ≡ first_reset_differing 0 c.latches (map is_one_bit line)
-
 -- the first constraint that does not hold in a frame
 abbrev pub first_bit_violated : Circuit → Valuation → Option ℕ
 first_bit_violated c v = position_from (λ l. not (literal_value v l)) 0 c.constraints
@@ -58,13 +50,12 @@ pub record TracedBits (c : Circuit) (claim : ℕ) (initial : List Bool) (p : Bit
   pub breach : p.breach ≡ breach_from (first_bit_violated c) 0 vs
   pub rose : p.rose ≡ bit_rises c claim vs
 
--- these frames are closed, and these bytes of the next one's line are read
-pub record PlaysBits (c : Circuit) (claim : ℕ) (initial : List Bool) (frames : List (List Bool)) (p : BitPlay) (line : List ℕ) : Type 0 where
+-- these frames are closed
+pub record PlaysBits (c : Circuit) (claim : ℕ) (initial : List Bool) (frames : List (List Bool)) (p : BitPlay) : Type 0 where
   pub circuit : p.circuit ≡ c
   pub run : p.run.circuit ≡ c
   pub differs : p.differs ≡ first_reset_differing 0 c.latches initial
   pub many : length p.run.inputs ≡ c.inputs
-  pub bits : length line ≤ c.inputs → take (length line) p.run.inputs ≡ map is_one_bit line
   pub count : p.frames ≡ length frames
   pub steps : p.run.steps ≡ bit_steps_of c (length frames)
   pub traced : (vs : List Valuation) → IsCircuitTrace c initial frames vs → TracedBits c claim initial p vs
@@ -77,3 +68,7 @@ differing (Some i) k b = Some i
 
 abbrev pub latch_given : BitPlay → ℕ → Bool → Bool → BitPlay
 latch_given p k b differs = record p { run = record p.run { latches = slice_set p.run.latches k b; settled = false }; differs = differing p.differs k differs }
+
+-- with the bit of an input that is there
+abbrev pub input_given : BitPlay → ℕ → Bool → BitPlay
+input_given p k bit = record p { run = record p.run { inputs = slice_set p.run.inputs k bit; settled = false } }

@@ -1,9 +1,7 @@
--- What is kept of the bytes of a line of which more may follow.
+-- What is kept of the bytes of a claim of which more may follow.
 use Rattle.std.specs.Prelude.{◌≡◌, ℕ, ◌+◌, ◌-◌, ◌^◌, min, Bool, true, not, ◌&&◌, ◌||◌, ◌==◌, nat_lt, List, [], ◌∷◌, length, slice_index_or, Option, Some, None, if◌then◌else◌}
-use Rattle.std.specs.List.{list_any, list_all}
 use Rattle.base.specs.Decimals.{is_digit, are_digits, capped_value, number_more}
 use Rattle.witness.specs.declared.bit_scan.Scan.{Scan}
-use Rattle.witness.specs.Admits.{is_value_byte}
 
 -- the bytes behind the first
 abbrev pub behind_first : List ℕ → List ℕ
@@ -25,8 +23,6 @@ pub record Scans (s : Scan) (line : List ℕ) : Type 0 where
   pub zero : s.zero ≡ (slice_index_or line 1 0 == 48)
   pub digits : s.digits ≡ are_digits (behind_first line)
   pub number : s.digits ≡ true → s.number ≡ capped_value (behind_first line)
-  pub values : s.values ≡ list_all is_value_byte line
-  pub unknown : s.unknown ≡ list_any (λ b. b == 120) line
 
 -- what is known with a byte more
 abbrev pub scan_more : Scan → ℕ → Scan
@@ -37,8 +33,6 @@ scan_more s byte =
       zero = s.zero || ((s.count == 1) && (byte == 48));
       digits = s.digits && ((s.count == 0) || is_digit byte);
       number = if s.count == 0 then 0 else number_more s.number byte;
-      values = s.values && is_value_byte byte;
-      unknown = s.unknown || (byte == 120);
     }
 
 -- what stands behind the first byte is a decimal

@@ -16,6 +16,7 @@ pub mod BitPlays
 pub mod Stands
 pub mod BitStands
 pub mod KeptLines
+pub mod CutLines
 pub mod WordClaims
 pub mod WordValues
 pub mod ClosedWords

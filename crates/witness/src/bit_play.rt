@@ -1,5 +1,5 @@
 //! The frames of a witness of a circuit, played while its lines are read.
-ghost use Rattle.std.specs.Prelude.{◌≡◌, ℕ, ◌<◌, ◌-◌, ◌^◌, min, true, Bool, List, [], ◌∷◌, ◌++◌, MatchResult, length, map, slice_index, slice_index_or};
+ghost use Rattle.std.specs.Prelude.{◌≡◌, ℕ, ◌<◌, ◌^◌, true, Bool, List, [], ◌∷◌, ◌++◌, MatchResult, length, map, slice_index, slice_index_or};
 ghost use Rattle.aiger.specs.declared.circuit.Latch.{Latch};
 ghost use Rattle.base.specs.Literal.{Valuation, literal_value};
 ghost use Rattle.aiger.specs.Circuit.{Circuit};
@@ -7,7 +7,7 @@ ghost use Rattle.runs.specs.CircuitRun.{IsFrameNow, circuit_held};
 ghost use Rattle.witness.specs.BitScans.{is_one_bit};
 ghost use Rattle.witness.specs.Judgements.{first_of};
 ghost use Rattle.witness.specs.BitJudgements.{differs_from_reset};
-ghost use Rattle.witness.specs.BitPlays.{first_bit_violated, Begins, PlaysBits, play_start, differing, latch_given};
+ghost use Rattle.witness.specs.BitPlays.{first_bit_violated, PlaysBits, play_start, differing, latch_given, input_given};
 
 use crate::judgement::Judgement;
 use crate::verdicts::{Breach, judgement_of, note_breach};
@@ -16,7 +16,7 @@ use runs::{BitRun, NewFault};
 use std::alloc::Global;
 use std::marker::Model;
 
-/// The frames of a witness of a circuit that are closed, and the bits of the line that may go on.
+/// The frames of a witness of a circuit that are closed, and the bits of the next.
 #[derive(Drop)]
 pub(crate) struct BitPlay<'a> {
     circuit: &'a Circuit,
@@ -112,15 +112,13 @@ impl<'a> BitPlay<'a> {
     }
 
     pub(crate) fn latches(&self) -> u64
-        ensures count { result ≡ length self.now.circuit.latches }
-        ensures few { result < 2 ^ 64 - 1 }
+        ensures { result ≡ length self.now.circuit.latches }
     {
         self.circuit.latches().len() as u64
     }
 
     pub(crate) fn inputs(&self) -> u64
-        ensures count { result ≡ self.now.circuit.inputs }
-        ensures few { result < 2 ^ 64 - 1 }
+        ensures { result ≡ self.now.circuit.inputs }
     {
         u64::from(self.circuit.inputs())
     }
@@ -155,48 +153,42 @@ impl<'a> BitPlay<'a> {
         self.differs = differing(self.differs, k as u64, differs);
     }
 
-    /// Takes a byte of the line of initial bits. `k` counts the bytes before it.
-    pub(crate) fn take_initial(&mut self, k: u64, byte: u8)
-        ensures { (c : Circuit) (line : List ℕ) → k ≡ min (length line) (2 ^ 64 - 1) → Begins c self.old line → Begins c self.new (line ++ byte ∷ []) }
-    {
-        let k = k as usize;
-        if k < self.circuit.latches().len() {
-            self.set_latch(k, byte == b'1');
-        }
-    }
-
-    /// Takes a byte of a frame's line. `k` counts the bytes before it.
-    pub(crate) fn take_input(&mut self, k: u64, byte: u8)
-        ensures { (c : Circuit) (claim : ℕ) (initial : List Bool) (frames : List (List Bool)) (line : List ℕ) → k ≡ min (length line) (2 ^ 64 - 1) → PlaysBits c claim initial frames self.old line → PlaysBits c claim initial frames self.new (line ++ byte ∷ []) }
-    {
-        let k = k as usize;
-        if k < self.circuit.inputs() as usize {
-            self.run.set_input(k, byte == b'1');
-        }
-    }
-
-    /// Takes the whole line of initial bits.
+    /// Gives the latches the bits of a line, before any frame.
+    ///
+    /// Condition: the line has as many bytes as there are latches.
     pub(crate) fn take_initial_line(&mut self, line: &[u8])
-        ensures { (c : Circuit) → Begins c self.old [] → Begins c self.new line.now }
+        requires { length line.now ≡ length self.old.circuit.latches }
+        ensures { (c : Circuit) (claim : ℕ) → self.old ≡ play_start c → PlaysBits c claim (map is_one_bit line.now) [] self.new }
     {
         for (k, byte) in line.iter().enumerate() {
-            self.take_initial(k as u64, *byte);
+            self.set_latch(k, *byte == b'1');
         }
     }
 
-    /// Takes the whole line of a frame.
+    /// Gives an input that is there its bit.
+    fn set_input(&mut self, k: usize, bit: bool)
+        requires { k < self.old.circuit.inputs }
+        ensures { self.new ≡ input_given self.old k bit }
+    {
+        self.run.set_input(k, bit);
+    }
+
+    /// Gives the inputs the bits of a line.
+    ///
+    /// Condition: the line has as many bytes as there are inputs.
     pub(crate) fn take_input_line(&mut self, line: &[u8])
-        ensures { (c : Circuit) (claim : ℕ) (initial : List Bool) (frames : List (List Bool)) → PlaysBits c claim initial frames self.old [] → PlaysBits c claim initial frames self.new line.now }
+        requires { length line.now ≡ self.old.circuit.inputs }
+        ensures { (c : Circuit) (claim : ℕ) (initial : List Bool) (frames : List (List Bool)) → PlaysBits c claim initial frames self.old → PlaysBits c claim initial frames self.new × (self.new.run.inputs ≡ map is_one_bit line.now) }
     {
         for (k, byte) in line.iter().enumerate() {
-            self.take_input(k as u64, *byte);
+            self.set_input(k, *byte == b'1');
         }
     }
 
-    /// Closes the frame whose line has ended: settles it, looks at its constraints and at the claimed bad property, and
-    /// moves on.
+    /// Closes the frame of the bits that the inputs have: settles it, looks at its constraints and at the claimed bad
+    /// property, and moves on.
     pub(crate) fn close(&mut self, claim: u64)
-        ensures { (c : Circuit) (initial : List Bool) (frames : List (List Bool)) (line : List ℕ) → PlaysBits c claim initial frames self.old line → claim < length c.bads → length frames < 2 ^ 62 → length line ≡ c.inputs → PlaysBits c claim initial (frames ++ map is_one_bit line ∷ []) self.new [] }
+        ensures { (c : Circuit) (initial : List Bool) (frames : List (List Bool)) → PlaysBits c claim initial frames self.old → claim < length c.bads → length frames < 2 ^ 62 → PlaysBits c claim initial (frames ++ self.old.run.inputs ∷ []) self.new }
     {
         self.run.settle();
         let violated = first_violated(self.circuit, &self.run);

@@ -3,6 +3,7 @@ ghost use Rattle.std.specs.Prelude.{◌≡◌, ℕ, ◌+◌, ◌≤◌, List, []
 ghost use Rattle.witness.specs.Readings.{is_nothing};
 ghost use Rattle.witness.specs.KeptLines.{kept};
 
+use crate::cut_line::copy_at;
 use std::marker::Model;
 
 /// How many bytes are kept.
@@ -35,15 +36,6 @@ fn front(bytes: &[u8], count: usize) -> &[u8]
     }
     let (front, _) = bytes.split_at(count);
     front
-}
-
-/// Copies bytes into a buffer, from a place on.
-fn copy_at(buffer: &mut [u8], at: usize, bytes: &[u8])
-    requires { at + length bytes.now ≤ length buffer.old }
-    ensures { take (at + length bytes.now) buffer.new ≡ take at buffer.old ++ bytes.now }
-{
-    let end = at + bytes.len();
-    buffer[at..end].copy_from_slice(bytes);
 }
 
 impl KeptLine {

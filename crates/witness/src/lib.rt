@@ -3,9 +3,12 @@
 
 mod bit_judge;
 pub mod bit_laws;
+mod bit_line;
+mod bit_lines;
 mod bit_play;
 mod bit_reader;
 mod bit_scan;
+mod cut_line;
 mod fault;
 mod given;
 mod judgement;
@@ -24,6 +27,7 @@ mod word_reader;
 mod word_value;
 
 pub use bit_judge::BitJudge;
+pub use cut_line::CutLine;
 pub use fault::JudgeFault;
 pub use judgement::Judgement;
 pub use judging::{judge_bits, judge_words};

@@ -9,14 +9,14 @@ ghost use Rattle.witness.specs.BitScans.{behind_first};
 use base::decimal;
 
 /// The first byte, where there is one, and else 0.
-fn first_of(line: &[u8]) -> u8
+pub(crate) fn first_of(line: &[u8]) -> u8
     ensures { result ≡ slice_index_or line.now 0 0 }
 {
     line.first().copied().unwrap_or(0)
 }
 
 /// The number that the bytes behind the first write, where they are a decimal, at most 2^64 - 1.
-fn number_behind(line: &[u8]) -> Option<u64>
+pub(crate) fn number_behind(line: &[u8]) -> Option<u64>
     ensures { result ≡ number_of (behind_first line.now) }
 {
     let (_, behind) = line.split_first()?;

@@ -86,7 +86,7 @@ pub(crate) fn known_word(bytes: &[u8]) -> Option<u64>
 }
 
 /// Why as many bytes as a word has bits write none.
-fn refusal(bytes: &[u8]) -> Why
+pub(crate) fn refusal(bytes: &[u8]) -> Why
     ensures { result ≡ (if list_all is_value_byte bytes.now then why.Undetermined else why.BadValue) }
 {
     if are_value_bytes(bytes) {

@@ -1,8 +1,14 @@
 use Rattle.std.proofs.Common.{◌++◌, List, ℕ, append_assoc, subst, sym, ap, ◌∙◌}
-use Rattle.witness.specs.BitStands.{StandsForBits}
+use Rattle.base.specs.Lines.{unfinished}
+use Rattle.witness.specs.BitStands.{BitJudge, bit_judging, StandsForBits, line_room}
+use Rattle.witness.proofs.StandsLemmas.{part_more}
 use Rattle.witness.proofs.bit_judge.BitJudge.feed.Goals as goal
 
 pub returns : goal.returns
 returns c circuit text stands =
     let was = c.loop-line.invariant circuit text stands in
-    subst (StandsForBits circuit c.take_all.new.self) (append_assoc text was.0 c.loop-line.rest.now ∙ ap (λ (l : List ℕ). text ++ l) (sym was.1.0)) (c.take_all.ensures circuit (text ++ was.0) was.1.1)
+    let all : List ℕ = text ++ was.0 in
+    let rest : List ℕ = c.loop-line.rest.now in
+    let now = subst (λ (j : BitJudge). StandsForBits circuit j all) (sym c.self.view_is) was.1.1 in
+    subst (StandsForBits circuit _) (append_assoc text was.0 rest ∙ ap (λ (l : List ℕ). text ++ l) (sym was.1.0))
+    (part_more (bit_judging circuit) all rest _ c.self.inside.lines.reader c.extend.new.self c.in_default.ensures now (c.extend.ensures (line_room circuit) (unfinished all) now.line) now.lines.counts now.lines.reads)

@@ -1,7 +1,36 @@
-use Rattle.std.proofs.Common.{◌++◌, ◌∷◌, [], append_assoc, subst, sym}
-use Rattle.witness.specs.BitStands.{StandsForBits}
+use Rattle.std.proofs.Common.{◌≡◌, ℕ, true, List, [], ◌∷◌, ◌++◌, take, drop, subst, sym, ap, ◌∙◌, arith}
+use Rattle.base.specs.Lines.{whole_lines, unfinished}
+use Rattle.base.specs.Decimals.{are_digits}
+use Rattle.base.proofs.DecimalLemmas.{nothing}
+use Rattle.witness.specs.CutLines.{CutLine, cut_of, no_byte, AreFront}
+use Rattle.witness.specs.Readings.{is_nothing}
+use Rattle.witness.specs.BitStands.{BitJudge, bit_judging, judge_of, line_room, StandsForBits}
+use Rattle.witness.proofs.TextEndLemmas.{whole_lines-line_end, unfinished-line_end}
+use Rattle.witness.proofs.StandsLemmas.{line_ended, with_bytes}
+use Rattle.witness.proofs.CutLineLemmas.{cut_front, cut_nothing, nothing_cut, whole_front}
 use Rattle.witness.proofs.bit_judge.BitJudge.take_line.Goals as goal
 
-pub returns-then-not-takes_bits : goal.returns-then-not-takes_bits
-returns-then-not-takes_bits c circuit text line stands =
-    subst (StandsForBits circuit c.end_line.new.self) (append_assoc text c.args.bytes.now (10 ∷ [])) (c.end_line.ensures circuit (text ++ c.args.bytes.now) (c.take_all.ensures circuit text (subst (λ j. StandsForBits circuit j text) (sym (c.takes_bits.ensures.kept c.if-not-takes_bits.true)) stands)))
+pub returns-then-is_empty : goal.returns-then-is_empty
+returns-then-is_empty c circuit text is stands =
+    let now = subst (λ (j : BitJudge). StandsForBits circuit j text) (sym c.self.view_is) stands in
+    let line : List ℕ = c.args.line.now in
+    let room : ℕ = line_room circuit in
+    let empty : unfinished text ≡ [] = nothing (unfinished text) (sym (nothing_cut room (unfinished text) (omega arith)) ∙ (ap (λ (k : CutLine). is_nothing k.bytes) (sym now.line) ∙ (sym c.is_empty.ensures ∙ c.if-is_empty.true))) in
+    let front : AreFront room line true (unfinished text ++ line) = subst (λ (l : List ℕ). AreFront room line true (l ++ line)) (sym empty) (whole_front room line) in
+    line_ended (bit_judging circuit) (text ++ (line ++ 10 ∷ [])) (whole_lines text ++ (unfinished text ++ line) ∷ []) (judge_of c.take.new.self c.self.inside.line) (whole_lines-line_end text line is) (unfinished-line_end text line)
+    (c.take.ensures circuit c.self.inside.line (whole_lines text) (unfinished text) (unfinished text ++ line) now.lines front)
+    (now.line ∙ ap (cut_of room) empty)
+
+pub returns : goal.returns
+returns c circuit text is stands =
+    let now = subst (λ (j : BitJudge). StandsForBits circuit j text) (sym c.self.view_is) stands in
+    let line : List ℕ = c.args.line.now in
+    let room : ℕ = line_room circuit in
+    let whole : List ℕ = unfinished text ++ line in
+    let kept : c.extend.new.self ≡ cut_of room whole = c.extend.ensures room (unfinished text) now.line in
+    let bytes : c.bytes.result.now ≡ take room whole = c.bytes.ensures ∙ ap (λ (k : CutLine). k.bytes) kept in
+    let digits : c.digits.result ≡ are_digits (drop room whole) = c.digits.ensures ∙ ap (λ (k : CutLine). k.digits) kept in
+    let front : AreFront room c.bytes.result.now c.digits.result whole = rw (bytes, digits) (cut_front room whole) in
+    line_ended (bit_judging circuit) (text ++ (line ++ 10 ∷ [])) (whole_lines text ++ whole ∷ []) (judge_of c.take-2.new.self c.clear.new.self) (whole_lines-line_end text line is) (unfinished-line_end text line)
+    (c.take-2.ensures circuit c.clear.new.self (whole_lines text) (unfinished text) whole (with_bytes (bit_judging circuit) (whole_lines text) (unfinished text) (unfinished text) _ c.self.inside.lines.reader c.clear.new.self now.lines now.lines.counts now.lines.reads) front)
+    (c.clear.ensures ∙ (ap (λ (k : CutLine). no_byte k.room) kept ∙ cut_nothing room))

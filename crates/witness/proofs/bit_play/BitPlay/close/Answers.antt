@@ -1,4 +1,4 @@
-use Rattle.std.proofs.Common.{◌≡◌, ◌<◌, ℕ, Bool, false, Option, None, ◌||◌, length, get_or, refl, subst, sym, ap, ◌∙◌}
+use Rattle.std.proofs.Common.{◌≡◌, ◌<◌, ◌++◌, ◌∷◌, [], ℕ, Bool, false, Option, None, ◌||◌, length, get_or, refl, subst, sym, ap, ◌∙◌}
 use Rattle.std.specs.Option.{option_or}
 use Rattle.base.specs.Literal.{Valuation, literal_value}
 use Rattle.aiger.specs.Trace.{next_latch_bits}
@@ -11,10 +11,10 @@ use Rattle.witness.proofs.BitPlayLemmas.{Closes, plays_more}
 use Rattle.witness.proofs.bit_play.BitPlay.close.Goals as goal
 
 pub returns : goal.returns
-returns c circuit initial frames line plays below few whole =
+returns c circuit initial frames plays below few =
     let was : BitPlay = record { circuit = c.self.inside.circuit.now; run = c.self.inside.run; differs = c.self.inside.differs; frames = c.self.inside.frames; breach = c.self.inside.breach; rose = c.self.inside.rose } in
     let is : BitPlay = record { circuit = c.self.inside.circuit.now; run = c.advance.new.self; differs = c.self.inside.differs; frames = c.saturating_add-self-inside.result; breach = c.note_breach.new.found; rose = c.self.inside.rose || c.rises-rises.result } in
-    let begun : PlaysBits circuit c.args.claim initial frames was line = subst (λ (p : BitPlay). PlaysBits circuit c.args.claim initial frames p line) (sym c.self.view_is) plays in
+    let begun : PlaysBits circuit c.args.claim initial frames was = subst (λ (p : BitPlay). PlaysBits circuit c.args.claim initial frames p) (sym c.self.view_is) plays in
     let same : c.self.inside.circuit.now ≡ circuit = begun.circuit in
     let closes : Closes circuit c.args.claim was is = record {
       circuit = refl;
@@ -33,4 +33,4 @@ returns c circuit initial frames line plays below few whole =
           let risen = subst (λ (r : CircuitRun). IsFrameNow r v → c.rises-rises.result ≡ literal_value v (get_or c.self.inside.circuit.now.bads c.args.claim 0)) c.settle.ensures (λ n. c.rises-rises.ensures v n there) now in
           ap (λ (b : Bool). c.self.inside.rose || b) (risen ∙ ap (λ (k : Circuit). literal_value v (get_or k.bads c.args.claim 0)) same);
     } in
-    plays_more circuit c.args.claim initial frames line was is begun closes few whole
+    subst (λ (p : BitPlay). PlaysBits circuit c.args.claim initial (frames ++ p.run.inputs ∷ []) is) c.self.view_is (plays_more circuit c.args.claim initial frames was is begun closes few)
