@@ -33,12 +33,12 @@ use witness::{BitJudge, Judgement};
 
 /// Feeds a judge with a whole line, and answers whether it is admitted.
 fn admits(judge: &mut BitJudge<'_>, line: &[u8]) -> bool
+    requires { IsLine line.now }
     ensures judged { (d : Circuit) (text : List ℕ) → StandsForBits d judge.old text → StandsForBits d judge.new (text ++ (line.now ++ 10 ∷ [])) }
     ensures admitted { (d : Circuit) (text : List ℕ) → StandsForBits d judge.old text → result ≡ not (admitted_lines d (text ++ (line.now ++ 10 ∷ [])) == admitted_lines d text) }
 {
     let number = judge.admitted_lines();
-    judge.feed(line);
-    judge.feed(b"\n");
+    judge.take_line(line);
     judge.admitted_lines() != number
 }
 
