@@ -5,7 +5,6 @@ use Rattle.std.proofs.lemmas.Bool.{cases_Bool}
 use Rattle.std.proofs.lemmas.List.Concat.{flat_map-append}
 use Rattle.base.specs.Device.{BeginsWith}
 use Rattle.base.specs.Lines.{text_of_lines, whole_lines, unfinished}
-use Rattle.base.proofs.LineLemmas.{whole_lines-lines, lines_are_lines}
 use Rattle.base.specs.Literal.{Valuation}
 use Rattle.aiger.specs.Circuit.{Circuit}
 use Rattle.aiger.specs.Trace.{next_latch_bits}

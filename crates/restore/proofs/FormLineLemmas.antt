@@ -1,10 +1,7 @@
 -- A whole line more of a witness of an engine form: what is read with it.
-use Rattle.std.proofs.Common.{◌≡◌, ℕ, suc, ◌+◌, ◌<◌, ◌≤◌, ◌^◌, ◌==◌, Bool, true, false, List, [], ◌∷◌, ◌++◌, Result, Ok, Err, codes, length, map, refl, sym, ap, ap₂, subst, ◌∙◌, ◌⊎◌, append_assoc, append-nil, arith, inl, inr}
+use Rattle.std.proofs.Common.{◌≡◌, ℕ, suc, ◌+◌, ◌<◌, ◌≤◌, ◌^◌, ◌==◌, Bool, true, false, List, [], ◌∷◌, ◌++◌, Result, Ok, Err, codes, length, map, refl, sym, ap, subst, ◌∙◌, ◌⊎◌, arith, inl, inr}
 use Rattle.std.specs.Str.{bytes_eq}
-use Rattle.std.proofs.lemmas.Bool.{or_from}
-use Rattle.std.proofs.lemmas.List.Folds.{list_any-append}
-use Rattle.base.specs.Lines.{IsLine, text_of_lines, whole_lines, unfinished}
-use Rattle.base.proofs.LineLemmas.{parts_of_text, whole_lines-lines, whole_lines-last, lines_are_lines, unfinished-lines, unfinished-last, unfinished_is_line}
+use Rattle.base.specs.Lines.{IsLine, whole_lines, unfinished}
 use Rattle.base.proofs.DecimalLemmas.{chosen}
 use Rattle.aiger.specs.Circuit.{Circuit}
 use Rattle.witness.specs.declared.why.Why.{Why}

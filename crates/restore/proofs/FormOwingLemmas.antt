@@ -13,6 +13,8 @@ use Rattle.restore.specs.Restored.{opening, written_frames, restored_lines}
 use Rattle.restore.specs.Pieces.{Restorer, Owed, owed_at, is_reading, head, frames_text, with_frame, with_first, with_found_at, is_taken_at}
 use Rattle.restore.specs.FormSteps.{with_frame_bits, frame_pieces_at, settled, behind_frames, Owing}
 use Rattle.restore.specs.FormWitness.{restored_frame_lines}
+use Rattle.restore.specs.Judged.{judgement_of_frames, judged_at}
+use Rattle.restore.proofs.JudgedStepLemmas.{goes_on, same_judged}
 use Rattle.restore.proofs.PieceStepLemmas.{first_more, later_more, passed_over, end_owed}
 
 abbrev some_fault : RestoreFault
@@ -41,9 +43,13 @@ pub record Steps (c : Circuit) (k : ℕ) (r : Restorer) (given : List (List Bool
   pub owing : Owing c k r (given ++ bits ∷ [])
   pub put : front c k (given ++ bits ∷ []) ≡ front c k given ++ pieces
 
-steps : (c : Circuit) (k : ℕ) (r : Restorer) (given : List (List Bool)) (bits : List Bool) (pieces : List ℕ) → r.play.circuit ≡ c → length r.reader.frame ≡ input_count c → is_reading r.stage ≡ true
-    → ((found : Found) → text_with c k given (read_before bits found) ≡ (front c k given ++ pieces) ++ (owed_at r.stage r found).bytes) → Steps c k r given bits pieces
-steps c k r given bits pieces circuit width reads later =
+-- what is judged with other frames behind these
+abbrev Judging : Restorer → Restorer → List (List Bool) → Type 0
+Judging first r given = (frames : List (List Bool)) → judgement_of_frames first.play first.risen (given ++ frames) ≡ judged_at r.stage r frames
+
+steps : (c : Circuit) (k : ℕ) (r before : Restorer) (given : List (List Bool)) (bits : List Bool) (pieces : List ℕ) → r.play.circuit ≡ c → length r.reader.frame ≡ input_count c → is_reading r.stage ≡ true
+    → ((found : Found) → text_with c k given (read_before bits found) ≡ (front c k given ++ pieces) ++ (owed_at r.stage r found).bytes) → (o : Owing c k before given) → Judging o.first r (given ++ bits ∷ []) → Steps c k r given bits pieces
+steps c k r before given bits pieces circuit width reads later o judged =
     let nothing : (owed_at r.stage r no_more).bytes ≡ [] = ap (λ (o : Owed). o.bytes) (end_owed r r.stage (Some some_fault) reads) in
     let put : front c k (given ++ bits ∷ []) ≡ front c k given ++ pieces =
     sym (front_alone c k (given ++ bits ∷ [])) ∙ one_more c k given bits no_more ∙ later no_more ∙ ap (λ (t : List ℕ). (front c k given ++ pieces) ++ t) nothing ∙ append-nil (front c k given ++ pieces) in
@@ -53,6 +59,10 @@ steps c k r given bits pieces circuit width reads later =
         width = width;
         reads = reads;
         later = λ found. one_more c k given bits found ∙ later found ∙ ap (λ (t : List ℕ). t ++ (owed_at r.stage r found).bytes) (sym put);
+        first = o.first;
+        of = o.of;
+        claim = o.claim;
+        judged = judged;
       };
       put = put;
     }
@@ -65,6 +75,12 @@ module _ (c : Circuit) (k : ℕ) (r : Restorer) (given : List (List Bool)) (bits
   abbrev taken : Restorer
   taken = with_found_at r.stage (with_frame_bits r bits)
 
+  -- what is judged with the frame
+  judged_with : (s : Stage) → is_reading s ≡ true → r.stage ≡ s → Judging o.first (with_found_at s (with_frame_bits r bits)) (given ++ bits ∷ [])
+  judged_with s reads at frames =
+      ap (judgement_of_frames o.first.play o.first.risen) (append_assoc given (bits ∷ []) frames) ∙ o.judged (bits ∷ frames) ∙ ap (λ (s : Stage). judged_at s r (bits ∷ frames)) at
+      ∙ sym (same_judged r (record r.reader { frame = bits }) s (bits ∷ frames)) ∙ (goes_on (with_frame_bits r bits) s reads at).keeps frames
+
   pub owing_taken : is_taken_at r.stage r ≡ true → Steps c k (settled taken) given bits (frame_pieces_at taken.stage taken)
   owing_taken t = by r.stage refl o.reads t
     where
@@ -72,11 +88,11 @@ module _ (c : Circuit) (k : ℕ) (r : Restorer) (given : List (List Bool)) (bits
           → Steps c k (settled (with_found_at r.stage (with_frame_bits r bits))) given bits (frame_pieces_at (with_found_at r.stage (with_frame_bits r bits)).stage (with_found_at r.stage (with_frame_bits r bits)))
       by stage.Start at reads t =
           let w : Restorer = with_first (with_frame_bits r bits) in
-          rw at (steps c k (settled w) given bits (head w.play.claim ++ (w.initial ++ w.line)) o.circuit many refl
+          rw at (steps c k (settled w) r given bits (head w.play.claim ++ (w.initial ++ w.line)) o.circuit many refl
           (λ found.
           subst (λ (s : Stage). text_with c k given (read_before bits found) ≡ front c k given ++ (owed_at s r (read_before bits found)).bytes) at (o.later (read_before bits found))
           ∙ ap (λ (x : Owed). front c k given ++ x.bytes) (first_more (with_frame_bits r bits) found)
-          ∙ three (front c k given) (head w.play.claim) w.initial w.line (frames_text w.play w.risen found)))
+          ∙ three (front c k given) (head w.play.claim) w.initial w.line (frames_text w.play w.risen found)) o (judged_with stage.Start reads at))
       by stage.Frame at reads t = frame r.risen refl t
         where
           frame : (b : Bool) → r.risen ≡ b → not b ≡ true → Steps c k (settled (with_found_at r.stage (with_frame_bits r bits))) given bits (frame_pieces_at (with_found_at r.stage (with_frame_bits r bits)).stage (with_found_at r.stage (with_frame_bits r bits)))
@@ -84,11 +100,12 @@ module _ (c : Circuit) (k : ℕ) (r : Restorer) (given : List (List Bool)) (bits
           frame false is h =
               let w : Restorer = record (with_frame (with_frame_bits r bits)) { stage = stage.Frame } in
               let same : with_found_at r.stage (with_frame_bits r bits) ≡ w = ap (λ (s : Stage). with_found_at s (with_frame_bits r bits)) at ∙ ap (λ (b : Bool). if b then with_frame_bits r bits else w) is in
-              rw same (steps c k (settled w) given bits w.line o.circuit many refl
+              rw same (steps c k (settled w) r given bits w.line o.circuit many refl
               (λ found.
               subst (λ (s : Stage). text_with c k given (read_before bits found) ≡ front c k given ++ (owed_at s r (read_before bits found)).bytes) at (o.later (read_before bits found))
               ∙ ap (λ (x : Owed). front c k given ++ x.bytes) (later_more (with_frame_bits r bits) found is)
-              ∙ sym (append_assoc (front c k given) w.line (frames_text w.play w.risen found))))
+              ∙ sym (append_assoc (front c k given) w.line (frames_text w.play w.risen found))) o
+              (λ frames. judged_with stage.Frame reads at frames ∙ ap (λ (n : Restorer). judged_at n.stage n frames) (ap (λ (b : Bool). if b then with_frame_bits r bits else w) is)))
       by stage.Head at reads t = absurd (cc)
       by stage.Initial at reads t = absurd (cc)
       by stage.End at reads t = absurd (cc)
@@ -106,11 +123,12 @@ module _ (c : Circuit) (k : ℕ) (r : Restorer) (given : List (List Bool)) (bits
           frame true is h =
               let w : Restorer = with_frame_bits r bits in
               let same : with_found_at r.stage w ≡ w = ap (λ (s : Stage). with_found_at s w) at ∙ ap (λ (b : Bool). if b then w else record (with_frame w) { stage = stage.Frame }) is in
-              rw same (steps c k w given bits [] o.circuit many o.reads
+              rw same (steps c k w r given bits [] o.circuit many o.reads
               (λ found.
               subst (λ (s : Stage). text_with c k given (read_before bits found) ≡ front c k given ++ (owed_at s r (read_before bits found)).bytes) at (o.later (read_before bits found))
               ∙ ap (λ (x : Owed). front c k given ++ x.bytes) (passed_over r bits found is)
-              ∙ ap₂ (λ (a : List ℕ) (s : Stage). a ++ (owed_at s w found).bytes) (sym (append-nil (front c k given))) (sym at)))
+              ∙ ap₂ (λ (a : List ℕ) (s : Stage). a ++ (owed_at s w found).bytes) (sym (append-nil (front c k given))) (sym at)) o
+              (λ frames. judged_with stage.Frame reads at frames ∙ ap (λ (n : Restorer). judged_at n.stage n frames) (ap (λ (b : Bool). if b then w else record (with_frame w) { stage = stage.Frame }) is)))
       by stage.Head at reads t = absurd (cc)
       by stage.Initial at reads t = absurd (cc)
       by stage.End at reads t = absurd (cc)

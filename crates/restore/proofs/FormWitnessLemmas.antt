@@ -1,5 +1,5 @@
 -- What is accepted over an engine form is found again in what it is restored to.
-use Rattle.std.proofs.Common.{◌≡◌, ◌≢◌, ℕ, zero, suc, ◌+◌, ◌<◌, ◌≤◌, Bool, true, false, cond, List, [], ◌∷◌, ◌++◌, length, map, take, replicate, get_or, All, Option, None, Some, Result, Ok, Err, refl, sym, ap, subst, ◌∙◌, append_assoc, inl, inr, arith}
+use Rattle.std.proofs.Common.{◌≡◌, ◌≢◌, ℕ, zero, suc, ◌+◌, ◌<◌, ◌≤◌, Bool, true, false, cond, List, [], ◌∷◌, ◌++◌, length, map, take, replicate, get_or, All, Option, None, Some, IfSome, Result, Ok, Err, refl, sym, ap, subst, ◌∙◌, append_assoc, inl, inr, arith}
 use Rattle.std.specs.List.{list_any, position_from}
 use Rattle.std.proofs.lemmas.Bool.{cases_Bool}
 use Rattle.std.proofs.lemmas.Bool.Decides.{nat_tests}
@@ -29,9 +29,12 @@ use Rattle.witness.proofs.JudgedLemmas.{accepted_reads}
 use Rattle.witness.proofs.ShownLemmas.{bits_verdict}
 use Rattle.restore.specs.Counterexample.{HasProperty, place_in, first_bad}
 use Rattle.restore.specs.Restored.{opening, written_frames, restored_witness}
+use Rattle.restore.specs.Judged.{JudgesFrames}
+use Rattle.restore.specs.FormSteps.{JudgesRead}
 use Rattle.restore.specs.FormWitness.{property_of, restored_frame_lines, last_line, read_restored, form_restored_text, told_of, FormJudges, IsFoundAgain}
 use Rattle.witness.proofs.BitReadLemmas.{many_lines}
 use Rattle.restore.proofs.RiseLemmas.{says_of, accepted_of}
+use Rattle.restore.proofs.JudgedFrameLemmas.{frames_judged}
 use Rattle.restore.proofs.RestoredLemmas as frames
 
 -- ---- what an accepted text reads as
@@ -177,19 +180,37 @@ verdict_told different claims bads shown restored = by different (violation_from
     by None None (Some i) = refl
     by None None None = refl
 
-judged_by : (P Q : BitRead → Judgement → Type 0) (none : Bool) (read : Result BitRead Fault) (over restored : Judgement) → ((r : BitRead) → read ≡ Ok r → P r over → told_of over restored ≡ restored) → ((r : BitRead) → Q r restored) → JudgesAs P none read over → JudgesAs Q none read (told_of over restored)
+judged_by : (P Q : BitRead → Judgement → Type 0) (none : Bool) (read : Result BitRead Fault) (over restored : Judgement) → ((r : BitRead) → read ≡ Ok r → P r over → told_of over restored ≡ restored) → ((r : BitRead) → read ≡ Ok r → Q r restored) → JudgesAs P none read over → JudgesAs Q none read (told_of over restored)
 judged_by P Q true read over restored kind is h = ap (λ (j : Judgement). told_of j restored) h
 judged_by P Q false (Err e) over restored kind is h = ap (λ (j : Judgement). told_of j restored) h
-judged_by P Q false (Ok r) over restored kind is h = subst (Q r) (sym (kind r refl h)) (is r)
+judged_by P Q false (Ok r) over restored kind is h = subst (Q r) (sym (kind r refl h)) (is r refl)
 
 abbrev pub Said : Type 0
 Said = (c : Circuit) (text : List ℕ) (r : BitRead) → IsCircuit c → read_bit_text c text ≡ Ok r → BitSays c text (bit_witness_of r)
 
-pub form_judged : (c : Circuit) (choice : Option ℕ) (d : Circuit) (text : List ℕ) (over restored : Judgement) → Said → HasTraces → IsCircuit d → BitJudges d text over → BitJudges c (form_restored_text c choice d text) restored → FormJudges c choice d text (told_of over restored)
+pub form_judged : (c : Circuit) (choice : Option ℕ) (d : Circuit) (text : List ℕ) (over restored : Judgement) → Said → HasTraces → IsCircuit d → BitJudges d text over → ((r : BitRead) → read_bit_text d text ≡ Ok r → BitJudges c (form_restored_text c choice d text) restored) → FormJudges c choice d text (told_of over restored)
 form_judged c choice d text over restored said traces valid judged again =
     judged_by (λ (r : BitRead). JudgesBits d (bit_witness_of r)) (λ (r : BitRead). BitJudges c (form_restored_text c choice d text)) (makes_no_bit_claim (whole_lines text)) (read_bit_text d text) over restored
     (λ r is h.
     let says = said d text r valid is in
     let trace = traces d r.initial r.frames valid says.valid.initial says.valid.frames in
     ap (λ (j : Judgement). told_of j restored) (h trace.0 trace.1) ∙ verdict_told (first_reset_differing 0 d.latches r.initial) (r.claim ∷ []) (length d.bads) (map (circuit_shows d) trace.0) restored)
-    (λ r. again) judged
+    again judged
+
+-- what is judged of the frames that were read is judged of what the text is restored to
+pub restored_judged : (c : Circuit) (choice : Option ℕ) (d : Circuit) (text : List ℕ) (j : Judgement) → Said → HasTraces → IsEngineFormOf c choice d → JudgesRead c choice d j text → (r : BitRead) → read_bit_text d text ≡ Ok r
+    → BitJudges c (form_restored_text c choice d text) j
+restored_judged c choice d text j said traces form judges r is =
+    let whole = read_of_ok d text r is in
+    let h : JudgesFrames c (property_of choice r.claim) r.frames j = subst (λ (x : BitRead). JudgesFrames c (property_of choice x.claim) x.frames j) whole.0 (judges (ap (λ (x : BitRead). is_done x.place) whole.0 ∙ whole.1)) in
+    let says = said d text r form.circuit is in
+    let wide : All (λ bits. length bits ≡ input_count c) r.frames = subst (λ (n : ℕ). All (λ bits. length bits ≡ n) r.frames) form.inputs says.valid.frames in
+    subst (BitJudges c (form_restored_text c choice d text)) (sym h.is)
+    (frames_judged c (property_of choice r.claim) h.first.play h.first.risen (form_restored_text c choice d text) r.frames h.circuit h.claim form.original (claims_below c choice d r.claim traces form says.valid.claim) says.valid.some_frame wide
+    (restored_as c choice d text r is says.valid.some_frame))
+
+pub told_judged : (source : Option (List ℕ)) (c : Circuit) (choice : Option ℕ) (d : Circuit) (over restored : Judgement) → Said → HasTraces → IsEngineFormOf c choice d → IfSome source (λ text. BitJudges d text over) → IfSome source (JudgesRead c choice d restored)
+    → IfSome source (λ text. FormJudges c choice d text (told_of over restored))
+told_judged None c choice d over restored said traces form judged judges = tt
+told_judged (Some text) c choice d over restored said traces form judged judges =
+    form_judged c choice d text over restored said traces form.circuit judged (restored_judged c choice d text restored said traces form judges)

@@ -10,6 +10,8 @@ pub mod FormLineLemmas
 mod FormWitnessLemmas
 mod FrameOf
 mod HandingLemmas
+mod JudgedFrameLemmas
+mod JudgedStepLemmas
 mod MarkLemmas
 mod PieceStepLemmas
 mod PlayLemmas
@@ -19,3 +21,4 @@ mod RestorerLemmas
 mod RiseLemmas
 mod StepLemmas
 mod TakingLemmas
+mod TooLongLemmas

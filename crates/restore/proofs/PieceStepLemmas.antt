@@ -6,10 +6,12 @@ use Rattle.witness.specs.BitTexts.{bit_line}
 use Rattle.restore.specs.declared.fault.RestoreFault.{RestoreFault}
 use Rattle.restore.specs.declared.stage.Stage.{Stage}
 use Rattle.restore.specs.declared.stage.Stage.TheVariants as stage
+use Rattle.restore.specs.Frames.{frame_of}
 use Rattle.restore.specs.Reading.{Found, read_before}
 use Rattle.restore.specs.Restored.{own_inputs, cut_inputs, closing}
 use Rattle.restore.specs.Steps.{frames_to_come}
-use Rattle.restore.specs.Pieces.{Play, Restorer, played, rises_with, restorer_begun, frames_text, Owed, ahead, owed_at, owed, piece_held, own_frame, head, pieces_left, with_frame, with_first, with_later, with_found_at, is_taken_at, is_reading}
+use Rattle.restore.specs.Pieces.{Play, Restorer, met, played, rises_with, restorer_begun, frames_text, Owed, ahead, owed_at, owed, piece_held, own_frame, head, pieces_left, with_frame, with_first, with_later, with_found_at, is_taken_at, is_reading}
+use Rattle.restore.proofs.JudgedFrameLemmas.{met_more}
 
 abbrev with_bytes : Option RestoreFault → List ℕ → Owed
 with_bytes fault bytes = record { bytes = bytes; fault = fault }
@@ -27,7 +29,9 @@ frames_more : (p : Play) (bits : List Bool) (found : Found) → frames_text p fa
 frames_more p bits found =
     let own : List Bool = take p.circuit.inputs bits in
     let next : Play = played p own in
-    lines_more p bits found (rises_with p own) own (cut_inputs next.circuit next.claim next.met next.state (own_inputs next.circuit found.frames))
+    ap (λ (held : Bool). text_of_lines (map bit_line (own ∷ (if rises_with p own then [] else cut_inputs next.circuit next.claim held next.state (own_inputs next.circuit found.frames))) ++ closing found.fault))
+    (sym (met_more p.circuit p.frames p.breach (frame_of p.circuit p.state own)))
+    ∙ lines_more p bits found (rises_with p own) own (cut_inputs next.circuit next.claim (met next) next.state (own_inputs next.circuit found.frames))
 
 -- the first frame is owed behind the first three lines
 head_more : (k : ℕ) (rest : List ℕ) → (codes "1" ++ 10 ∷ []) ++ ((claim k ++ 10 ∷ []) ++ rest) ≡ head k ++ rest

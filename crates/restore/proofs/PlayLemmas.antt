@@ -1,5 +1,5 @@
 -- A run in the frame that is computed.
-use Rattle.std.proofs.Common.{◌≡◌, ℕ, Bool, true, List, length, sym, ap, subst, ◌∙◌}
+use Rattle.std.proofs.Common.{◌≡◌, ℕ, Bool, true, false, not, List, length, sym, ap, subst, ◌∙◌}
 use Rattle.aiger.specs.Circuit.{Circuit, IsCircuit}
 use Rattle.aiger.specs.Trace.{IsCircuitFrame}
 use Rattle.runs.specs.CircuitRun.{CircuitRun, IsFrameNow}
@@ -18,3 +18,7 @@ settled_now c r given steps input valid circuit states many same latches inputs 
     (subst (λ (k : Circuit). IsCircuitFrame k given.latches given.inputs (frame_of c r.latches input)) (sym (same ∙ circuit))
     (subst (λ (l : List Bool). IsCircuitFrame c l given.inputs (frame_of c r.latches input)) (sym latches)
     (subst (λ (l : List Bool). IsCircuitFrame c r.latches l (frame_of c r.latches input)) (sym inputs) (frame_is c r.latches input valid states many))))
+
+pub by_other : (b other : Bool) → other ≡ not b → b ≡ not other
+by_other true other h = ap not (sym h)
+by_other false other h = ap not (sym h)

@@ -12,7 +12,7 @@ use Rattle.aiger.proofs.TraceLemmas.{trace_length, trace_taken}
 use Rattle.engine.specs.EngineForm.{begins, input_count, all_hold, chosen, GoesTogether, GoTogether, IsEngineFormOf}
 use Rattle.witness.specs.declared.judgement.Judgement.TheVariants as judgement
 use Rattle.witness.specs.Texts.{claim, most_lines}
-use Rattle.witness.specs.BitTexts.{bit_witness_lines, BitSays}
+use Rattle.witness.specs.BitTexts.{bit_witness_lines, IsBitWitness, BitSays}
 use Rattle.witness.specs.BitJudgements.{first_reset_differing, JudgesBits, BitJudges}
 use Rattle.witness.proofs.AcceptLemmas.{judged_bits}
 use Rattle.witness.proofs.ShownLemmas.{bits_verdict}
@@ -59,26 +59,26 @@ lines_of : (c : Circuit) (k : ℕ) (given : List (List Bool)) → given ≢ [] �
 lines_of c k [] some = absurd (some refl)
 lines_of c k (bits ∷ given) some = refl
 
+pub is_witness : (c : Circuit) (k : ℕ) (given : List (List Bool)) → k < length c.bads → given ≢ [] → All (λ bits. length bits ≡ input_count c) given → IsBitWitness c (restored_witness c k given)
+is_witness c k given below some all =
+    let inputs : List (List Bool) = own_inputs c given in
+    record {
+      claim = below;
+      initial = frames.begins_length c given;
+      some_frame = some_written c k given some;
+      frames = cut_all (λ (bits : List Bool). length bits ≡ c.inputs) c k true (trace_from c (begins c given) inputs) inputs (wide c given all);
+    }
+
 pub says_of : (c : Circuit) (k : ℕ) (text : List ℕ) (given : List (List Bool)) → k < length c.bads → given ≢ [] → All (λ bits. length bits ≡ input_count c) given → length given + 4 ≤ most_lines
     → text ≡ text_of_lines (bit_witness_lines (restored_witness c k given)) → BitSays c text (restored_witness c k given)
 says_of c k text given below some all few spelled =
     let inputs : List (List Bool) = own_inputs c given in
-    let vs : List Valuation = trace_from c (begins c given) inputs in
-    let fewer = cut_few c k true vs inputs in
+    let fewer = cut_few c k true (trace_from c (begins c given) inputs) inputs in
     let many = many_lines (restored_witness c k given) in
     let as_many = length-map given (take c.inputs) in
-    record {
-      whole = spelled;
-      valid = record {
-        claim = below;
-        initial = frames.begins_length c given;
-        some_frame = some_written c k given some;
-        frames = cut_all (λ (bits : List Bool). length bits ≡ c.inputs) c k true vs inputs (wide c given all);
-      };
-      few = omega (arith, many, fewer, as_many, few);
-    }
+    record { whole = spelled; valid = is_witness c k given below some all; few = omega (arith, many, fewer, as_many, few) }
 
-spells : (c : Circuit) (k : ℕ) (text : List ℕ) (given : List (List Bool)) → given ≢ [] → read_found (input_count c) text ≡ whole given → restored_text c k text ≡ text_of_lines (bit_witness_lines (restored_witness c k given))
+pub spells : (c : Circuit) (k : ℕ) (text : List ℕ) (given : List (List Bool)) → given ≢ [] → read_found (input_count c) text ≡ whole given → restored_text c k text ≡ text_of_lines (bit_witness_lines (restored_witness c k given))
 unfolding restored_text
 spells c k text given some is = ap (λ (found : Found). text_of_lines (restored_lines c k found)) is ∙ ap text_of_lines (lines_of c k given some)
 

@@ -5,6 +5,7 @@ use Rattle.base.specs.Device.{Sent, AppendsBeginning}
 use Rattle.base.specs.Lines.{text_of_lines, unfinished}
 use Rattle.aiger.specs.Circuit.{Circuit, IsCircuit}
 use Rattle.engine.specs.EngineForm.{input_count}
+use Rattle.witness.specs.declared.judgement.Judgement.{Judgement}
 use Rattle.witness.specs.Readings.{reading}
 use Rattle.witness.specs.BitAdmits.{BitRead, bit_reader, admitted_lines, is_done}
 use Rattle.witness.specs.BitStands.{BitJudge, StandsForBits}
@@ -14,6 +15,7 @@ use Rattle.restore.specs.declared.stage.Stage.TheVariants as stage
 use Rattle.restore.specs.Reading.{Found, line_bits}
 use Rattle.restore.specs.Restored.{restored_lines}
 use Rattle.restore.specs.Pieces.{Restorer, owed_at, is_reading, head, piece_at, with_found_at, is_taken_at}
+use Rattle.restore.specs.Judged.{judgement_of_frames, judged_at, judgement_held, JudgesFrames}
 use Rattle.restore.specs.Taking.{IsPutInPieces}
 use Rattle.restore.specs.FormWitness.{property_of, restored_frame_lines, form_restored_text}
 
@@ -49,12 +51,17 @@ frame_taken r line = if is_taken_at r.stage r then settled (with_frame_line r li
 abbrev pub behind_frames : List (List Bool) → Found → Found
 behind_frames given found = record { frames = given ++ found.frames; fault = found.fault }
 
--- it has taken these frames, and what is restored of them was written: what is restored with others behind them is that and what it still owes of those
+-- it has taken these frames, and what is restored of them was written: what is restored with others behind them is that and what it still owes of those; and so it is
+-- judged, by a restorer before them
 pub record Owing (c : Circuit) (k : ℕ) (r : Restorer) (given : List (List Bool)) : Type 0 where
   pub circuit : r.play.circuit ≡ c
   pub width : length r.reader.frame ≡ input_count c
   pub reads : is_reading r.stage ≡ true
   pub later : (found : Found) → text_of_lines (restored_lines c k (behind_frames given found)) ≡ text_of_lines (restored_frame_lines c k given) ++ (owed_at r.stage r found).bytes
+  pub first : Restorer
+  pub of : first.play.circuit ≡ c
+  pub claim : first.play.claim ≡ k
+  pub judged : (frames : List (List Bool)) → judgement_of_frames first.play first.risen (given ++ frames) ≡ judged_at r.stage r frames
 
 -- ---- the text
 
@@ -118,18 +125,22 @@ FormGiven {O = O} stands put_for first known old now kept left before taker judg
     → (longer : List ℕ)
     × (Consumes whole known longer × (FormHolds c choice d judge' restorer' longer × (stands o taker (form_restored_text c choice d longer) × Sent start now (put_for o (form_restored_text c choice d longer)) left)))
 
+-- where the text was read to the last line, this is judged of its frames
+abbrev pub JudgesRead : Circuit → Option ℕ → Circuit → Judgement → List ℕ → Type 0
+JudgesRead c choice d j text = is_done (read_of d text).place ≡ true → JudgesFrames c (property_of choice (read_of d text).claim) (read_of d text).frames j
+
 -- all of them are taken; at a fault a beginning of what is put for all was written
-abbrev pub TakesFormAll : {T E O V : Type 0} → (O → V → List ℕ → Type 0) → (O → List ℕ → List ℕ) → Result T E → Option (List ℕ) → Option (List ℕ) → Option (List ℕ) → List ℕ → List ℕ → V → V → BitJudge → BitJudge → Restorer → Type 0
-TakesFormAll {O = O} stands put_for r first old new kept left before after judge judge' restorer =
+abbrev pub TakesFormAll : {T E O V : Type 0} → (O → V → List ℕ → Type 0) → (O → List ℕ → List ℕ) → Result T E → Option (List ℕ) → Option (List ℕ) → Option (List ℕ) → List ℕ → List ℕ → V → V → BitJudge → BitJudge → Restorer → Restorer → Type 0
+TakesFormAll {O = O} stands put_for r first old new kept left before after judge judge' restorer restorer' =
     (c : Circuit) (choice : Option ℕ) (d : Circuit) (o : O) (whole : Option (List ℕ)) (front : List ℕ) (start : Option (List ℕ)) → IsPutInPieces put_for → IsCircuit d → d.inputs ≡ input_count c → Consumes whole first front
     → FormHolds c choice d judge restorer front → stands o before (form_restored_text c choice d front) → Sent start old (put_for o (form_restored_text c choice d front)) kept
     → MatchResult r
-    (λ x. IfSome whole (λ text. StandsForBits d judge' text × (stands o after (form_restored_text c choice d text) × Sent start new (put_for o (form_restored_text c choice d text)) left)))
+    (λ x. IfSome whole (λ text. StandsForBits d judge' text × (JudgesRead c choice d (judgement_held restorer') text × (stands o after (form_restored_text c choice d text) × Sent start new (put_for o (form_restored_text c choice d text)) left))))
     (λ e. IfSome whole (λ text. AppendsBeginning start new (put_for o (form_restored_text c choice d text))))
 
 -- the same of a text that begins a taker's, and written
-abbrev pub WritesFormAll : {T E O V : Type 0} → (O → V → List ℕ → Type 0) → (O → List ℕ → List ℕ) → Result T E → Circuit → Option ℕ → Circuit → O → Option (List ℕ) → Option (List ℕ) → Option (List ℕ) → V → BitJudge → Type 0
-WritesFormAll stands put_for r c choice d o whole old new after judge =
+abbrev pub WritesFormAll : {T E O V : Type 0} → (O → V → List ℕ → Type 0) → (O → List ℕ → List ℕ) → (T → Judgement) → Result T E → Circuit → Option ℕ → Circuit → O → Option (List ℕ) → Option (List ℕ) → Option (List ℕ) → V → BitJudge → Type 0
+WritesFormAll stands put_for told r c choice d o whole old new after judge =
     MatchResult r
-    (λ x. IfSome whole (λ text. StandsForBits d judge text × (stands o after (form_restored_text c choice d text) × Appends old new (put_for o (form_restored_text c choice d text)))))
+    (λ x. IfSome whole (λ text. StandsForBits d judge text × (JudgesRead c choice d (told x) text × (stands o after (form_restored_text c choice d text) × Appends old new (put_for o (form_restored_text c choice d text))))))
     (λ e. IfSome whole (λ text. AppendsBeginning old new (put_for o (form_restored_text c choice d text))))

@@ -6,6 +6,7 @@ pub mod FormSteps
 pub mod FormWitness
 pub mod Frames
 pub mod Holds
+pub mod Judged
 pub mod Marks
 pub mod Pieces
 pub mod Reading

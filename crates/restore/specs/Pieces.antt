@@ -1,10 +1,13 @@
 -- What a restorer holds, and what it still writes: the text of a counterexample comes line by line, and what it is restored to goes piece by piece.
-use Rattle.std.specs.Prelude.{◌≡◌, ℕ, Bool, ◌+◌, ◌*◌, true, false, not, ◌&&◌, List, [], ◌∷◌, ◌++◌, Option, None, Some, Result, Ok, Err, codes, take, drop, map, if◌then◌else◌, IfSome, ◌⊎◌}
+use Rattle.std.specs.Prelude.{◌≡◌, ℕ, Bool, ◌+◌, ◌*◌, ◌-◌, ◌^◌, min, true, false, not, List, [], ◌∷◌, ◌++◌, Option, None, Some, is_none, Result, Ok, Err, codes, take, drop, map, if◌then◌else◌, IfSome, ◌⊎◌}
+use Rattle.std.specs.Option.{option_or}
 use Rattle.base.specs.Lines.{text_of_lines}
 use Rattle.aiger.specs.Circuit.{Circuit}
 use Rattle.aiger.specs.Trace.{next_latch_bits}
-use Rattle.engine.specs.EngineForm.{all_hold, first_bits}
+use Rattle.engine.specs.EngineForm.{first_bits}
 use Rattle.witness.specs.Texts.{claim}
+use Rattle.witness.specs.Judgements.{Violation, violated_at}
+use Rattle.witness.specs.BitPlays.{first_bit_violated}
 use Rattle.witness.specs.BitTexts.{bit_line}
 use Rattle.restore.specs.declared.fault.RestoreFault.{RestoreFault}
 use Rattle.restore.specs.declared.stage.Stage.{Stage}
@@ -14,26 +17,37 @@ use Rattle.restore.specs.Reading.{Found}
 use Rattle.restore.specs.Restored.{rises_in, own_inputs, cut_inputs, closing, restored_lines}
 use Rattle.restore.specs.Steps.{FramesReader, frames_to_come, AgreeAsGiven, IsUnread, IsTextFault, may_follow, frames_left}
 
--- a circuit in the frame that follows: its claimed bad property, the bits of its latches, whether all constraints held in the frames before, and the bits that the latches began with
+-- a circuit in the frame that follows: its claimed bad property, the bits of its latches, how many frames were before, told up to 2^64 - 1, the first constraint
+-- that did not hold in them, and the bits that the latches began with
 pub record Play : Type 0 where
   pub circuit : Circuit
   pub claim : ℕ
   pub state : List Bool
-  pub met : Bool
+  pub frames : ℕ
+  pub breach : Option Violation
   pub begins : List Bool
+
+-- all constraints held in the frames before
+abbrev pub met : Play → Bool
+met p = is_none p.breach
 
 -- it begins with the first frame of its engine form
 abbrev pub restorer_begun : Play → List Bool → Play
-restorer_begun p frame = record p { state = first_bits p.circuit.latches (drop p.circuit.inputs frame); met = true; begins = first_bits p.circuit.latches (drop p.circuit.inputs frame) }
+restorer_begun p frame =
+    record p { state = first_bits p.circuit.latches (drop p.circuit.inputs frame); frames = 0; breach = None; begins = first_bits p.circuit.latches (drop p.circuit.inputs frame) }
 
 -- one frame later
 abbrev pub played : Play → List Bool → Play
 played p input =
-    record p { state = next_latch_bits p.circuit (frame_of p.circuit p.state input); met = p.met && all_hold p.circuit (frame_of p.circuit p.state input) }
+    record p {
+      state = next_latch_bits p.circuit (frame_of p.circuit p.state input);
+      frames = min (p.frames + 1) (2 ^ 64 - 1);
+      breach = option_or p.breach (violated_at p.frames (first_bit_violated p.circuit (frame_of p.circuit p.state input)) None);
+    }
 
 -- whether the claimed property rises in the frame of these inputs
 abbrev pub rises_with : Play → List Bool → Bool
-rises_with p input = rises_in p.circuit p.claim p.met (frame_of p.circuit p.state input)
+rises_with p input = rises_in p.circuit p.claim (met p) (frame_of p.circuit p.state input)
 
 -- a reader of frames, the circuit in the frame that follows and whether the claimed property rose in one before, where the writing is, and the lines of the latches' first bits and of the frame that was found last
 pub record Restorer : Type 0 where
@@ -103,7 +117,7 @@ piece_held r = piece_at r.stage r
 -- what is written of frames to come
 abbrev pub frames_text : Play → Bool → Found → List ℕ
 frames_text p risen found =
-    text_of_lines ((if risen then [] else map bit_line (cut_inputs p.circuit p.claim p.met p.state (own_inputs p.circuit found.frames))) ++ closing found.fault)
+    text_of_lines ((if risen then [] else map bit_line (cut_inputs p.circuit p.claim (met p) p.state (own_inputs p.circuit found.frames))) ++ closing found.fault)
 
 -- what is still owed: bytes, and a fault of the text behind them, where there is one
 pub record Owed : Type 0 where

@@ -1,7 +1,7 @@
 -- What a text of a counterexample over an engine form reads as: its input frames up to its first faulty line, and why that is refused.
-use Rattle.std.specs.Prelude.{ℕ, ◌+◌, ◌-◌, ◌^◌, min, Bool, not, ◌||◌, ◌==◌, List, [], ◌∷◌, ◌++◌, length, map, Option, None, Some, if◌then◌else◌}
+use Rattle.std.specs.Prelude.{ℕ, Bool, not, ◌||◌, ◌==◌, List, [], ◌∷◌, length, map, Option, None, Some, if◌then◌else◌}
 use Rattle.std.specs.List.{list_all}
-use Rattle.base.specs.Lines.{whole_lines, unfinished, all_lines, line_after}
+use Rattle.base.specs.Lines.{all_lines, line_after}
 use Rattle.restore.specs.declared.fault.RestoreFault.{RestoreFault}
 use Rattle.restore.specs.declared.fault.RestoreWhy.{RestoreWhy}
 use Rattle.restore.specs.declared.fault.RestoreWhy.TheVariants.{NoFrame, InitialOne, NoBit, WrongLength}

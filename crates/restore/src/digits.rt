@@ -1,5 +1,5 @@
 //! Lines of bits, and the bits that latches begin with.
-ghost use Rattle.std.specs.Prelude.{◌≡◌, ℕ, ◌+◌, ◌++◌, ◌∷◌, [], length, drop};
+ghost use Rattle.std.specs.Prelude.{◌≡◌, ◌+◌, ◌++◌, ◌∷◌, [], length, drop};
 ghost use Rattle.witness.specs.Texts.{digit};
 ghost use Rattle.witness.specs.BitTexts.{bit_line};
 ghost use Rattle.engine.specs.EngineForm.{taken_bits, first_bit, first_bits};

@@ -2,7 +2,7 @@
 ghost use Rattle.std.specs.Prelude.{◌≡◌, ℕ, Option, None, Some, List, [], codes};
 ghost use Rattle.aiger.specs.Circuit.{Circuit};
 ghost use Rattle.engine.specs.EngineForm.{IsEngineFormOf};
-ghost use Rattle.engine.specs.Worked.{keeper, keeper_form, negated_toggler, toggler_form};
+ghost use Rattle.engine.specs.Worked.{keeper, keeper_form};
 ghost use Rattle.witness.specs.declared.judgement.Judgement.TheVariants as judgement;
 ghost use Rattle.witness.specs.BitJudgements.{BitJudges};
 ghost use Rattle.restore.specs.FormWitness.{form_restored_text, IsFoundAgain};

@@ -15,8 +15,9 @@ ghost use Rattle.restore.specs.declared.fault.RestoreWhy.TheVariants as why;
 ghost use Rattle.restore.specs.declared.stage.Stage.TheVariants as stage;
 ghost use Rattle.restore.specs.Answers.{CountsRestore};
 ghost use Rattle.restore.specs.Faults.{is_of_text};
-ghost use Rattle.restore.specs.FormSteps.{FormHolds, IsHead, IsClaimed, WritesFormAll, IsHeadOrClaimed, ReadsClaim, TakesForm, TakesFormAll, frame_pieces_at, frame_put, frame_taken, settled};
+ghost use Rattle.restore.specs.FormSteps.{FormHolds, IsHead, IsClaimed, JudgesRead, WritesFormAll, IsHeadOrClaimed, ReadsClaim, TakesForm, TakesFormAll, frame_pieces_at, frame_put, frame_taken, settled};
 ghost use Rattle.restore.specs.FormWitness.{property_of, form_restored_text, told_of, FormJudges, FindsWitnessAgain, TakesRestored};
+ghost use Rattle.restore.specs.Judged.{judgement_held};
 ghost use Rattle.restore.specs.Pieces.{head, is_reading};
 ghost use Rattle.restore.specs.Taking.{TakesPiece, IsPutInPieces};
 
@@ -25,20 +26,20 @@ use crate::form_laws::accepted_over_the_form_is_found_again;
 use crate::marks::unread;
 use crate::restorer::Restorer;
 use crate::restoring::{end, hand_on};
-use crate::taker::Taker;
+use crate::taker::{AsItIs, Taker};
 use aiger::Circuit;
 use base::{LineReader, Outbox, Sink, Source, decimal};
 use std::alloc::Global;
-use witness::{BitJudge, Judgement};
+use witness::{BitJudge, Judgement, Why};
 
 /// Feeds a judge with a whole line, and answers whether it is admitted.
 fn admits(judge: &mut BitJudge<'_>, line: &[u8]) -> bool
+    requires { IsLine line.now }
     ensures judged { (d : Circuit) (text : List ℕ) → StandsForBits d judge.old text → StandsForBits d judge.new (text ++ (line.now ++ 10 ∷ [])) }
     ensures admitted { (d : Circuit) (text : List ℕ) → StandsForBits d judge.old text → result ≡ not (admitted_lines d (text ++ (line.now ++ 10 ∷ [])) == admitted_lines d text) }
 {
     let number = judge.admitted_lines();
-    judge.feed(line);
-    judge.feed(b"\n");
+    judge.take_line(line);
     judge.admitted_lines() != number
 }
 
@@ -215,7 +216,7 @@ fn take_lines<S: Source, T: Taker, K: Sink>(
     sink: &mut K,
 ) -> Result<(), RestoreFault>
     requires { is_reading restorer.old.stage ≡ true }
-    ensures takes { TakesFormAll T.stands T.put_for result (prepend_known lines.old.rest (S.to_come source.old)) (K.written sink.old) (K.written sink.new) outbox.old outbox.new taker.old taker.new judge.old judge.new restorer.old }
+    ensures takes { TakesFormAll T.stands T.put_for result (prepend_known lines.old.rest (S.to_come source.old)) (K.written sink.old) (K.written sink.new) outbox.old outbox.new taker.old taker.new judge.old judge.new restorer.old restorer.new }
     ensures end { OnOk result (IsAtEnd (S.to_come source.new)) }
     ensures line { IfErr result (λ e. is_of_text e.why ≡ false × (e.line ≡ 0)) }
     ensures counted { CountsRestore result (S.failures source.old) (S.failures source.new) (K.failures sink.old) (K.failures sink.new) }
@@ -243,7 +244,8 @@ fn property_of(choice: Option<usize>, claim: usize) -> usize
     }
 }
 
-/// Takes the lines of a source behind that of the claim, and writes what is put for what they are restored to.
+/// Takes the lines of a source behind that of the claim, and writes what is put for what they are restored to. The answer is
+/// the judgement over the circuit of that, where the last line is there.
 fn take_frames<S: Source, T: Taker, K: Sink>(
     alloc: Global,
     circuit: &Circuit,
@@ -253,16 +255,17 @@ fn take_frames<S: Source, T: Taker, K: Sink>(
     taker: &mut T,
     source: &mut S,
     sink: &mut K,
-) -> Result<(), RestoreFault>
+) -> Result<Judgement, RestoreFault>
     requires { claim < length circuit.now.bads }
     ensures writes { (choice : Option ℕ) (d : Circuit) (o : T.Over) (whole : Option (List ℕ)) (front : List ℕ) (j : ℕ) → IsPutInPieces T.put_for → IsCircuit d → d.inputs ≡ input_count circuit.now → property_of choice j ≡ claim
-        → Consumes whole (prepend_known lines.old.rest (S.to_come source.old)) front → IsClaimed d judge.old front j → T.stands o taker.old [] → WritesFormAll T.stands T.put_for result circuit.now choice d o whole (K.written sink.old) (K.written sink.new) taker.new judge.new }
+        → Consumes whole (prepend_known lines.old.rest (S.to_come source.old)) front → IsClaimed d judge.old front j → T.stands o taker.old [] → WritesFormAll T.stands T.put_for (λ j. j) result circuit.now choice d o whole (K.written sink.old) (K.written sink.new) taker.new judge.new }
     ensures end { OnOk result (IsAtEnd (S.to_come source.new)) }
     ensures line { IfErr result (λ e. is_of_text e.why ≡ false × (e.line ≡ 0)) }
     ensures counted { CountsRestore result (S.failures source.old) (S.failures source.new) (K.failures sink.old) (K.failures sink.new) }
 {
     let mut restorer = Restorer::at_start(alloc, circuit, claim)?;
-    take_and_write(lines, &mut restorer, judge, taker, source, sink)
+    take_and_write(lines, &mut restorer, judge, taker, source, sink)?;
+    Ok(restorer.judgement())
 }
 
 /// The same with a restorer at its begin.
@@ -276,7 +279,7 @@ fn take_and_write<S: Source, T: Taker, K: Sink>(
 ) -> Result<(), RestoreFault>
     requires { restorer.old.stage ≡ stage.Start }
     ensures writes { (c : Circuit) (choice : Option ℕ) (d : Circuit) (o : T.Over) (whole : Option (List ℕ)) (front : List ℕ) → IsPutInPieces T.put_for → IsCircuit d → d.inputs ≡ input_count c
-        → Consumes whole (prepend_known lines.old.rest (S.to_come source.old)) front → FormHolds c choice d judge.old restorer.old front → form_restored_text c choice d front ≡ [] → T.stands o taker.old [] → WritesFormAll T.stands T.put_for result c choice d o whole (K.written sink.old) (K.written sink.new) taker.new judge.new }
+        → Consumes whole (prepend_known lines.old.rest (S.to_come source.old)) front → FormHolds c choice d judge.old restorer.old front → form_restored_text c choice d front ≡ [] → T.stands o taker.old [] → WritesFormAll T.stands T.put_for (λ u. judgement_held restorer.new) result c choice d o whole (K.written sink.old) (K.written sink.new) taker.new judge.new }
     ensures end { OnOk result (IsAtEnd (S.to_come source.new)) }
     ensures line { IfErr result (λ e. is_of_text e.why ≡ false × (e.line ≡ 0)) }
     ensures counted { CountsRestore result (S.failures source.old) (S.failures source.new) (K.failures sink.old) (K.failures sink.new) }
@@ -287,7 +290,8 @@ fn take_and_write<S: Source, T: Taker, K: Sink>(
 }
 
 /// Feeds the judge of an engine form with a source to its end, hands what it is restored to on to what takes it, and writes
-/// what that puts for it.
+/// what that puts for it. The answer is the judgement over the circuit of that, where the source is read as a witness of the
+/// form.
 fn take_all<S: Source, T: Taker, K: Sink>(
     alloc: Global,
     circuit: &Circuit,
@@ -297,11 +301,12 @@ fn take_all<S: Source, T: Taker, K: Sink>(
     taker: &mut T,
     source: &mut S,
     sink: &mut K,
-) -> Result<(), RestoreFault>
+) -> Result<Judgement, RestoreFault>
     requires is_form { IsEngineFormOf circuit.now choice form.now }
     requires begins { StandsForBits form.now judge.old [] }
     ensures takes { (over : Judgement) (o : T.Over) → IsPutInPieces T.put_for → ((text : List ℕ) → StandsForBits form.now judge.new text → BitJudges form.now text over) → T.stands o taker.old []
         → OnOk result (IfSome (S.to_come source.old) (TakesRestored T.stands T.put_for (Ok over) circuit.now choice form.now o taker.new (K.written sink.old) (K.written sink.new))) }
+    ensures restored { (o : T.Over) → IsPutInPieces T.put_for → T.stands o taker.old [] → IfOk result (λ restored. IfSome (S.to_come source.old) (JudgesRead circuit.now choice form.now restored)) }
     ensures beginning { (o : T.Over) → IsPutInPieces T.put_for → T.stands o taker.old [] → OnErr result (IfSome (S.to_come source.old) (λ text. AppendsBeginning (K.written sink.old) (K.written sink.new) (T.put_for o (form_restored_text circuit.now choice form.now text)))) }
     ensures end { OnOk result (IsAtEnd (S.to_come source.new)) }
     ensures line { IfErr result (λ e. is_of_text e.why ≡ false × (e.line ≡ 0)) }
@@ -324,7 +329,11 @@ fn take_all<S: Source, T: Taker, K: Sink>(
             source,
             sink,
         ),
-        None => Ok(()),
+        // nothing is restored, which is judged so
+        None => Ok(Judgement::Malformed {
+            line: 1,
+            why: Why::Truncated,
+        }),
     }
 }
 
@@ -389,7 +398,7 @@ pub fn told_of(over: Judgement, restored: Judgement) -> Judgement
 /// is restored to: the witness of the circuit with the property that it claims, up to and with the first frame in which this
 /// rises, or of all frames where it does not. The answer is that it makes no claim, or its first faulty line, before which
 /// what the lines give was written; else the judgement over the circuit of what is written. Of the text one line is held,
-/// and what one call of the source gives; beside it a run of the form, two of the circuit, two lines, and what one call of
+/// and what one call of the source gives; beside it a run of the form, one of the circuit, two lines, and what one call of
 /// the sink takes.
 ///
 /// Condition: it is the engine form.
@@ -417,11 +426,22 @@ pub fn restore_form<S: Source, K: Sink>(
     // the source failed once where that is told, the sink where that is, and else neither
     ensures counted { CountsRestore result (S.failures source.old) (S.failures source.new) (K.failures sink.old) (K.failures sink.new) }
 {
+    aiger::laws::exactly_one_trace();
+    witness::bit_laws::bit_texts_read();
     accepted_over_the_form_is_found_again();
-    let mut judge = match BitJudge::new(alloc, circuit) {
+    let mut judge = match BitJudge::new(alloc, form) {
         Ok(judge) => judge,
         Err(_) => return Err(RestoreFault::apart(RestoreWhy::NoMemory)),
     };
-    let over = take_form(alloc, circuit, form, choice, &mut judge, source, sink)?;
-    Ok(told_of(over, judge.finish()))
+    let restored = take_all(
+        alloc,
+        circuit,
+        form,
+        choice,
+        &mut judge,
+        &mut AsItIs,
+        source,
+        sink,
+    )?;
+    Ok(over_or_restored(judge.finish(), restored))
 }

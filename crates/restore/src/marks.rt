@@ -4,7 +4,7 @@ ghost use Rattle.restore.specs.Marks.{FindsLine, CutsAtMark};
 ghost use Rattle.restore.specs.Steps.{unread_found_fault};
 
 use crate::fault::{RestoreFault, RestoreWhy};
-use base::{LineReader, ReadAllFault, Source, cut_at};
+use base::{LineReader, ReadAllFault, cut_at};
 
 /// The byte that ends a text.
 const MARK: u8 = b'#';

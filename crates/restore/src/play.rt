@@ -1,17 +1,19 @@
 //! A circuit in the frames that a counterexample gives, one after the other.
-ghost use Rattle.std.specs.Prelude.{◌≡◌, ◌<◌, ◌≤◌, ◌&&◌, true, IfOk, length, take};
-ghost use Rattle.base.specs.Literal.{Valuation};
-ghost use Rattle.runs.specs.CircuitRun.{IsFrameNow};
-ghost use Rattle.engine.specs.EngineForm.{all_hold};
+ghost use Rattle.std.specs.Prelude.{◌≡◌, ◌<◌, ◌≤◌, IfOk, length, take};
 ghost use Rattle.restore.specs.Pieces.{restorer_begun, played, rises_with};
+ghost use Rattle.restore.specs.Judged.{are_too_many, play_judgement};
 
 use crate::digits::write_first_bits;
 use aiger::Circuit;
 use runs::BitRun;
 use std::alloc::{AllocError, Global};
 use std::marker::Model;
+use witness::{Breach, Judgement, Why, first_violated, judgement_of, note_breach};
 
-/// A circuit in the frame that follows those that were played.
+/// The most lines of a witness.
+const MOST_LINES: u64 = 1 << 62;
+
+/// A circuit in the frame that follows those that were played, and what is judged of them.
 #[derive(Drop)]
 pub(crate) struct Play<'c> {
     circuit: &'c Circuit,
@@ -20,8 +22,10 @@ pub(crate) struct Play<'c> {
     begins: Vec<bool>,
     // the bad property that is claimed
     claim: usize,
-    // all constraints held in the frames before
-    met: bool,
+    // how many frames were played
+    frames: u64,
+    // the first constraint that did not hold in them
+    breach: Option<Breach>,
 }
 
 impl<'c> Model for Play<'c> {
@@ -31,16 +35,9 @@ impl<'c> Model for Play<'c> {
 
     ghost Value = { PlayValue };
 
-    ghost view = { λ p. record { circuit = p.circuit.now; claim = p.claim; state = p.run.latches; met = p.met; begins = p.begins.items } };
+    ghost view = { λ p. record { circuit = p.circuit.now; claim = p.claim; state = p.run.latches; frames = p.frames; breach = p.breach; begins = p.begins.items } };
 
     ghost invariant = { λ p. HoldsPlay p.circuit.now p.run p.claim (length p.begins.items) };
-}
-
-/// Whether both are so.
-fn both(one: bool, other: bool) -> bool
-    ensures { result ≡ (one && other) }
-{
-    one && other
 }
 
 /// Gives each latch of a run its bit.
@@ -69,18 +66,11 @@ fn give_inputs(run: &mut BitRun<'_>, bits: &[bool])
     }
 }
 
-/// Whether all constraints hold in the frame of a run.
-fn all_hold(circuit: &Circuit, run: &BitRun<'_>) -> bool
-    requires same { run.now.circuit ≡ circuit.now }
-    requires settled { run.now.settled ≡ true }
-    ensures { (v : Valuation) → IsFrameNow run.now v → result ≡ all_hold circuit.now v }
+/// Whether so many frames are too many for a witness, with the lines before them and behind.
+fn are_too_many(frames: u64) -> bool
+    ensures { result ≡ are_too_many frames }
 {
-    for i in 0..circuit.constraints().len() {
-        if !run.constraint(i) {
-            return false;
-        }
-    }
-    true
+    frames.saturating_add(3) >= MOST_LINES
 }
 
 impl<'c> Play<'c> {
@@ -102,7 +92,8 @@ impl<'c> Play<'c> {
                 run,
                 begins,
                 claim,
-                met: true,
+                frames: 0,
+                breach: None,
             }),
             Err(_) => Err(AllocError),
         }
@@ -132,7 +123,8 @@ impl<'c> Play<'c> {
         let (_, given) = frame.split_at(self.circuit.inputs() as usize);
         write_first_bits(self.circuit.latches(), given, self.begins.as_mut_slice());
         give_states(&mut self.run, self.begins.as_slice());
-        self.met = true;
+        self.frames = 0;
+        self.breach = None;
     }
 
     /// Plays the frame of these inputs, and answers whether the claimed property rises in it.
@@ -143,10 +135,27 @@ impl<'c> Play<'c> {
     {
         give_inputs(&mut self.run, inputs);
         self.run.settle();
-        let holds = all_hold(self.circuit, &self.run);
+        let violated = first_violated(self.circuit, &self.run);
         let bad = self.run.bad(self.claim);
         self.run.advance();
-        self.met = both(self.met, holds);
-        both(bad, self.met)
+        note_breach(&mut self.breach, self.frames, violated);
+        self.frames = self.frames.saturating_add(1);
+        bad & self.breach.is_none()
+    }
+
+    /// The judgement over the circuit of the witness with the frames that were played, by whether the claimed property rose in
+    /// them: it has too many lines, or what `Judgement` says of its frames. The bits that the latches began with agree with
+    /// their resets.
+    pub(crate) fn judgement(&self, risen: bool) -> Judgement
+        ensures { result ≡ play_judgement self.now risen }
+    {
+        if are_too_many(self.frames) {
+            return Judgement::Malformed {
+                line: MOST_LINES + 1,
+                why: Why::TooLong,
+            };
+        }
+        let unreached = if risen { None } else { Some(self.claim as u64) };
+        judgement_of(None, self.breach, unreached, self.frames)
     }
 }

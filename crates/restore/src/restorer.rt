@@ -1,16 +1,18 @@
 //! Restoring a counterexample over an engine form, piece by piece.
-ghost use Rattle.std.specs.Prelude.{◌≡◌, ◌≢◌, ℕ, ◌<◌, List, true, false, not, [], length, IfOk, IfErr, OnOk, Ok};
+ghost use Rattle.std.specs.Prelude.{◌≡◌, ◌≢◌, ℕ, ◌<◌, List, true, false, not, [], length, None, IfOk, IfErr, OnOk, Ok};
 ghost use Rattle.std.specs.Io.KnownBytes.{prepend_known, IsAtEnd};
 ghost use Rattle.base.specs.Device.{HasRisen};
 ghost use Rattle.restore.specs.declared.fault.RestoreWhy.TheVariants as why;
 ghost use Rattle.restore.specs.declared.place.Place.TheVariants as place;
 ghost use Rattle.restore.specs.declared.stage.Stage.TheVariants as stage;
 ghost use Rattle.engine.specs.EngineForm.{input_count};
+ghost use Rattle.witness.specs.BitJudgements.{BitJudges};
 ghost use Rattle.restore.specs.FormSteps.{with_frame_bits, frame_pieces_at, settled, stage_behind};
 ghost use Rattle.restore.specs.Reading.{line_bits, read_found};
 ghost use Rattle.restore.specs.Restored.{restored_text};
 ghost use Rattle.restore.specs.Pieces.{piece_held, owed, is_reading, is_written, with_frame, with_first, with_later, with_found_at, is_taken_at, HandsOn, steps_left};
 ghost use Rattle.restore.specs.Steps.{StepsOn, frames_left};
+ghost use Rattle.restore.specs.Judged.{judged, judgement_held, JudgesOn};
 
 use crate::digits::write_line;
 use crate::fault::RestoreFault;
@@ -22,6 +24,7 @@ use aiger::Circuit;
 use base::Source;
 use std::alloc::{AllocError, Global};
 use std::marker::Model;
+use witness::Judgement;
 
 /// What the text of a counterexample over the engine form of a circuit is restored to, piece by piece: the witness of the
 /// circuit, up to and with the first frame in which the claimed property rises. Of the text one line is held, and what a
@@ -70,7 +73,11 @@ impl<'c> Restorer<'c> {
         ensures restores { IfOk result (λ r. (text : List ℕ) → owed r text ≡ record { bytes = restored_text circuit.now claim text; fault = (read_found (input_count circuit.now) text).fault }) }
         ensures unread { IfOk result (λ r. r.reader.rest ≡ []) }
         ensures begins { IfOk result (λ r. is_written r.stage ≡ false) }
+        // what is judged in the end is what is judged over the circuit of what the text is restored to, where nothing is wrong
+        // with it
+        ensures judges { IfOk result (λ r. (text : List ℕ) → (read_found (input_count circuit.now) text).fault ≡ None → BitJudges circuit.now (restored_text circuit.now claim text) (judged r text)) }
     {
+        let _inputs = circuit.inputs();
         Restorer::at_start(alloc, circuit, claim)
     }
 
@@ -117,6 +124,13 @@ impl<'c> Restorer<'c> {
         }
     }
 
+    /// The judgement over the circuit of what was written, once that is all and nothing was wrong with the text.
+    pub fn judgement(&self) -> Judgement
+        ensures { result ≡ judgement_held self.now }
+    {
+        self.play.judgement(self.risen)
+    }
+
     /// Goes on to the next piece, and answers whether there is one. Where there is none, the source was read to its end,
     /// and so it was where a fault of the text is told.
     ///
@@ -125,6 +139,7 @@ impl<'c> Restorer<'c> {
     /// what the lines before it give was given; further calls tell it again.
     pub fn advance<S: Source>(&mut self, source: &mut S) -> Result<bool, RestoreFault>
         ensures gives { HandsOn result self.old self.new (prepend_known self.old.reader.rest (S.to_come source.old)) (prepend_known self.new.reader.rest (S.to_come source.new)) }
+        ensures judges { JudgesOn result self.old self.new (prepend_known self.old.reader.rest (S.to_come source.old)) (prepend_known self.new.reader.rest (S.to_come source.new)) }
         ensures ends { result ≡ Ok true → steps_left self.new (S.calls_left source.new) < steps_left self.old (S.calls_left source.old) }
         ensures counted { OnOk result (S.failures source.new ≡ S.failures source.old) }
         ensures device { IfErr result (λ e. e.why ≡ why.Device → HasRisen (S.failures source.old) (S.failures source.new)) }
@@ -217,6 +232,7 @@ impl<'c> Restorer<'c> {
     fn read_on<S: Source>(&mut self, source: &mut S) -> Result<bool, RestoreFault>
         requires { is_reading self.old.stage ≡ true }
         ensures gives { HandsOn result self.old self.new (prepend_known self.old.reader.rest (S.to_come source.old)) (prepend_known self.new.reader.rest (S.to_come source.new)) }
+        ensures judges { JudgesOn result self.old self.new (prepend_known self.old.reader.rest (S.to_come source.old)) (prepend_known self.new.reader.rest (S.to_come source.new)) }
         ensures some { result ≢ Ok false }
         ensures ends { result ≡ Ok true → steps_left self.new (S.calls_left source.new) < steps_left self.old (S.calls_left source.old) }
         ensures counted { OnOk result (S.failures source.new ≡ S.failures source.old) }

@@ -9,6 +9,7 @@ ghost use Rattle.restore.specs.declared.fault.RestoreWhy.TheVariants as why;
 ghost use Rattle.restore.specs.Accepted.{FindsAgain};
 ghost use Rattle.restore.specs.Answers.{CountsRestore, PutsOwed, WritesOwedLines, TakesAllOwed, WritesAll};
 ghost use Rattle.restore.specs.Faults.{is_of_text};
+ghost use Rattle.restore.specs.Judged.{judged, judgement_held};
 ghost use Rattle.restore.specs.Pieces.{Owed, owed, is_written};
 ghost use Rattle.restore.specs.Reading.{read_found};
 ghost use Rattle.restore.specs.Restored.{restored_text};
@@ -17,11 +18,11 @@ ghost use Rattle.restore.specs.Taking.{TakesPiece, IsPutInPieces};
 use crate::fault::{RestoreFault, RestoreWhy};
 use crate::laws::restored_text_is_accepted;
 use crate::restorer::Restorer;
-use crate::taker::Taker;
+use crate::taker::{AsItIs, Taker};
 use aiger::Circuit;
 use base::{Outbox, Sink, Source};
 use std::alloc::Global;
-use witness::{BitJudge, Judgement};
+use witness::Judgement;
 
 /// Hands a piece on.
 ///
@@ -56,6 +57,7 @@ fn hand_on_all<S: Source, T: Taker, K: Sink>(
     requires unsent { outbox.old ≡ [] }
     requires begins { is_written restorer.old.stage ≡ false }
     ensures takes { IfSome (S.to_come source.old) (λ text. (o : T.Over) → IsPutInPieces T.put_for → T.stands o taker.old [] → TakesAllOwed T.stands T.put_for result (owed restorer.old text) o taker.new (K.written sink.old) (K.written sink.new) outbox.new) }
+    ensures judges { OnOk result (IfSome (S.to_come source.old) (λ text. judged restorer.old text ≡ judgement_held restorer.new)) }
     ensures end { OnOk result (IsAtEnd (S.to_come source.new)) }
     ensures read_on { IfErr result (λ e. is_of_text e.why ≡ true → IsAtEnd (S.to_come source.new)) }
     ensures line { IfErr result (λ e. is_of_text e.why ≡ false → e.line ≡ 0) }
@@ -123,6 +125,8 @@ pub fn take_restored<S: Source, T: Taker, K: Sink>(
     requires unread { restorer.old.reader.rest ≡ [] }
     requires begins { is_written restorer.old.stage ≡ false }
     ensures writes { IfSome (S.to_come source.old) (λ text. (o : T.Over) → IsPutInPieces T.put_for → T.stands o taker.old [] → WritesAll T.stands T.put_for result (owed restorer.old text) o taker.new (K.written sink.old) (K.written sink.new)) }
+    // and the restorer's judgement is that of the whole, where nothing is wrong with the text
+    ensures judges { OnOk result (IfSome (S.to_come source.old) (λ text. judged restorer.old text ≡ judgement_held restorer.new)) }
     ensures end { OnOk result (IsAtEnd (S.to_come source.new)) }
     ensures read_on { IfErr result (λ e. is_of_text e.why ≡ true → IsAtEnd (S.to_come source.new)) }
     ensures line { IfErr result (λ e. is_of_text e.why ≡ false → e.line ≡ 0) }
@@ -137,7 +141,7 @@ pub fn take_restored<S: Source, T: Taker, K: Sink>(
 /// Reads the text of a counterexample over the engine form of a circuit to its end, and writes what it is restored to: the
 /// witness of the circuit with this claim, up to and with the first frame in which the claimed property rises, or of all
 /// frames where it does not. The answer is the judgement over the circuit of what is written. Of the text one line is held,
-/// and what one call of the source gives; beside it two runs of the circuit, two lines, and what one call of the sink takes.
+/// and what one call of the source gives; beside it one run of the circuit, two lines, and what one call of the sink takes.
 ///
 /// Condition: the circuit has the claimed property. (A circuit with justice or fairness has no engine form; of it the same is
 /// written and judged.)
@@ -145,7 +149,6 @@ pub fn take_restored<S: Source, T: Taker, K: Sink>(
 /// Errors: the text's first faulty line, once the source was read to its end and what the lines before it give was written,
 /// without a last line. With line 0: `Device` where the source failed in this call, `Write` where the sink did, and
 /// `NoMemory` where a growth was refused; a beginning of what the text is restored to was written then.
-#[tactic(auto, using(crate::proofs::TakingLemmas::as_they_are))]
 pub fn restore<S: Source, K: Sink>(
     alloc: Global,
     circuit: &Circuit,
@@ -174,14 +177,11 @@ pub fn restore<S: Source, K: Sink>(
 {
     restored_text_is_accepted();
     witness::bit_laws::exactly_one_bit_judgement();
+    witness::bit_laws::accepted_exactly();
     let _inputs = circuit.inputs();
     let mut restorer = Restorer::new(alloc, circuit, claim)?;
-    let mut judge = match BitJudge::new(alloc, circuit) {
-        Ok(judge) => judge,
-        Err(_) => return Err(RestoreFault::apart(RestoreWhy::NoMemory)),
-    };
-    match take_restored(&mut restorer, &mut judge, source, sink) {
-        Ok(()) => Ok(judge.finish()),
+    match take_restored(&mut restorer, &mut AsItIs, source, sink) {
+        Ok(()) => Ok(restorer.judgement()),
         Err(fault) => Err(fault),
     }
 }

@@ -1,5 +1,5 @@
 //! What takes a text piece by piece.
-ghost use Rattle.std.specs.Prelude.{List, ℕ, Option};
+ghost use Rattle.std.specs.Prelude.{List, ℕ};
 ghost use Rattle.base.specs.Device.{CountsFaults};
 ghost use Rattle.aiger.specs.Circuit.{Circuit};
 ghost use Rattle.restore.specs.Taking.{TakesPiece};
@@ -29,6 +29,27 @@ pub trait Taker {
     ) -> Result<(), DeviceFault>
         ensures takes { TakesPiece stands put_for result (K.written sink.old) (K.written sink.new) outbox.old outbox.new self.old self.new piece.now }
         ensures failures { CountsFaults result (K.failures sink.old) (K.failures sink.new) };
+}
+
+/// What puts a text as it is.
+#[derive(Drop)]
+pub(crate) struct AsItIs;
+
+impl Taker for AsItIs {
+    ghost Over = { Unit {0} };
+
+    ghost stands = { λ o taker text. Unit {0} };
+
+    ghost put_for = { λ o text. text };
+
+    fn take_piece<K: Sink>(
+        &mut self,
+        outbox: &mut Outbox,
+        sink: &mut K,
+        piece: &[u8],
+    ) -> Result<(), DeviceFault> {
+        outbox.put(sink, piece)
+    }
 }
 
 /// A judge of witnesses takes them, and they are put as they are.

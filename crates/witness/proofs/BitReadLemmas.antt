@@ -102,7 +102,7 @@ module _ (c : Circuit) (i : ℕ) (initial : List Bool) where
   unfolding bit_admit
   first_frame_line bits many = rw (bits_are_no_end bits, bits_at-bit_line c.inputs bits many) refl
 
-  frame_line : (before : List (List Bool)) (bits : List Bool) → length bits ≡ c.inputs → bit_admit c (bits_read AtLater i initial before) (bit_line bits) ≡ Ok (bits_read AtLater i initial (before ++ bits ∷ []))
+  pub frame_line : (before : List (List Bool)) (bits : List Bool) → length bits ≡ c.inputs → bit_admit c (bits_read AtLater i initial before) (bit_line bits) ≡ Ok (bits_read AtLater i initial (before ++ bits ∷ []))
   unfolding bit_admit
   frame_line before bits many = rw (bits_are_no_end bits, bits_at-bit_line c.inputs bits many) refl
 
@@ -145,7 +145,7 @@ bits_are_a_line [] = refl
 bits_are_a_line (true ∷ bits) = bits_are_a_line bits
 bits_are_a_line (false ∷ bits) = bits_are_a_line bits
 
-frames_are_lines : (frames : List (List Bool)) → EachLine (frame_lines_and_end frames)
+pub frames_are_lines : (frames : List (List Bool)) → EachLine (frame_lines_and_end frames)
 frames_are_lines [] = (refl, tt)
 frames_are_lines (bits ∷ frames) = (bits_are_a_line bits, frames_are_lines frames)
 

@@ -83,7 +83,7 @@ module _ {R : Type 0} (reader : Reader R) where
   lines_append g [] more = refl
   lines_append g (line ∷ lines) more = lines_append (next_line reader g line) lines more
 
-  line_admitted : (n : ℕ) (r : R) (line : List ℕ) (next : R) → n < most_lines → reader.admit r line ≡ Ok next → next_line reader (so_far n r) line ≡ so_far (n + 1) next
+  pub line_admitted : (n : ℕ) (r : R) (line : List ℕ) (next : R) → n < most_lines → reader.admit r line ≡ Ok next → next_line reader (so_far n r) line ≡ so_far (n + 1) next
   unfolding next_line
   line_admitted n r line next room is = rw (lt-leb most_lines n room, is) refl
 

@@ -62,8 +62,8 @@ fn differing(found: Option<u64>, k: u64, differs: bool) -> Option<u64>
     }
 }
 
-/// The first constraint that does not hold.
-fn first_violated(circuit: &Circuit, run: &BitRun<'_>) -> Option<u64>
+/// The first constraint of a circuit that does not hold in the frame of a settled run of it.
+pub fn first_violated(circuit: &Circuit, run: &BitRun<'_>) -> Option<u64>
     requires same { run.now.circuit ≡ circuit.now }
     requires settled { run.now.settled ≡ true }
     ensures { (v : Valuation) → IsFrameNow run.now v → result ≡ first_bit_violated circuit.now v }

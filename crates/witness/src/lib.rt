@@ -27,9 +27,11 @@ mod word_reader;
 mod word_value;
 
 pub use bit_judge::BitJudge;
+pub use bit_play::first_violated;
 pub use cut_line::CutLine;
 pub use fault::JudgeFault;
 pub use judgement::Judgement;
 pub use judging::{judge_bits, judge_words};
+pub use verdicts::{Breach, judgement_of, note_breach};
 pub use why::Why;
 pub use word_judge::WordJudge;

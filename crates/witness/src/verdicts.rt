@@ -45,7 +45,7 @@ pub(crate) fn last_refusal(ended: bool, admitted: u64, empty: bool) -> Option<Wh
 
 /// A frame and a constraint that does not hold in it, both counted from 0.
 #[derive(Clone, Copy, PartialEq, Eq)]
-pub(crate) struct Breach {
+pub struct Breach {
     pub(crate) frame: u64,
     pub(crate) constraint: u64,
 }
@@ -62,7 +62,7 @@ impl std::marker::Model for Breach {
 
 /// What is judged of a whole witness of so many frames: by the first initial value that differs, else the first breach, else
 /// the first claim that is not reached.
-pub(crate) fn judgement_of(
+pub fn judgement_of(
     differs: Option<u64>,
     breach: Option<Breach>,
     unreached: Option<u64>,
@@ -150,7 +150,7 @@ pub(crate) fn note_rises(run: &WordRun<'_>, rose: &mut [bool])
 }
 
 /// Notes the constraint that does not hold in a frame, where there is one and no breach was found before.
-pub(crate) fn note_breach(found: &mut Option<Breach>, frame: u64, violated: Option<u64>)
+pub fn note_breach(found: &mut Option<Breach>, frame: u64, violated: Option<u64>)
     ensures { found.new ≡ option_or found.old (violated_at frame violated None) }
 {
     if found.is_some() {

@@ -1,4 +1,5 @@
-use Rattle.std.proofs.Common.{◌≡◌, ℕ, Bool, false, ◌&&◌, List, length, get_or, sym, ap, ap₂, ◌∙◌}
+use Rattle.std.proofs.Common.{◌≡◌, ℕ, Bool, false, ◌&&◌, List, Option, None, is_none, is_some, length, get_or, sym, ap, ap₂, ◌∙◌}
+use Rattle.std.specs.Option.{option_or}
 use Rattle.std.proofs.lemmas.List.{length-map, length-replicate}
 use Rattle.aiger.specs.declared.circuit.Latch.{Latch}
 use Rattle.base.specs.Literal.{Valuation, literal_value}
@@ -6,9 +7,12 @@ use Rattle.aiger.specs.Circuit.{Circuit}
 use Rattle.aiger.specs.Trace.{next_latch_bits}
 use Rattle.runs.specs.Run.{more_steps}
 use Rattle.runs.specs.CircuitRun.{CircuitRun, no_inputs, settle_steps}
+use Rattle.witness.specs.Judgements.{Violation, violated_at}
+use Rattle.witness.specs.BitPlays.{first_bit_violated}
 use Rattle.restore.specs.Frames.{frame_of}
 use Rattle.restore.specs.Pieces.{Play as PlayValue, played, rises_with}
-use Rattle.restore.proofs.PlayLemmas.{settled_circuit, settled_now}
+use Rattle.restore.proofs.JudgedFrameLemmas.{met_more}
+use Rattle.restore.proofs.PlayLemmas.{by_other, settled_circuit, settled_now}
 use Rattle.restore.proofs.play.Play.advance.Goals as goal
 
 pub invariant_of-self : goal.invariant_of-self
@@ -39,10 +43,11 @@ returns-clause-rises c =
     let now = settled_now k c.self.inside.run c.give_inputs.new.run steps c.args.inputs.now inv.valid inv.circuit inv.latches many c.give_inputs.ensures.circuit c.give_inputs.ensures.latches c.give_inputs.ensures.inputs c.settle.new.self c.settle.ensures in
     let circuit : c.settle.new.self.circuit ≡ k = settled_circuit k c.self.inside.run c.give_inputs.new.run steps inv.circuit c.give_inputs.ensures.circuit c.settle.new.self c.settle.ensures in
     let v : Valuation = frame_of k c.self.inside.run.latches c.args.inputs.now in
-    c.both.ensures
-    ∙ (ap₂ (λ (a b : Bool). a && b) (c.bad-bad.ensures v now ∙ ap (λ (m : Circuit). literal_value v (get_or m.bads c.self.inside.claim 0)) circuit)
-    (c.both-self-inside.ensures ∙ ap (λ (b : Bool). c.self.inside.met && b) (c.all_hold-holds.ensures v now))
-    ∙ ap (λ (p : PlayValue). rises_with p c.args.inputs.now) c.self.view_is)
+    let breach : c.note_breach.new.found ≡ option_or c.self.inside.breach (violated_at c.self.inside.frames (first_bit_violated k v) None) =
+    c.note_breach.ensures ∙ ap (λ (o : Option ℕ). option_or c.self.inside.breach (violated_at c.self.inside.frames o None)) (c.first_violated-violated.ensures v now) in
+    ap₂ (λ (a b : Bool). a && b) (c.bad-bad.ensures v now ∙ ap (λ (m : Circuit). literal_value v (get_or m.bads c.self.inside.claim 0)) circuit)
+    (by_other c.is_none.result (is_some c.note_breach.new.found) c.is_none.ensures ∙ ap is_none breach ∙ met_more k c.self.inside.frames c.self.inside.breach v)
+    ∙ ap (λ (p : PlayValue). rises_with p c.args.inputs.now) c.self.view_is
 
 pub returns-clause-played : goal.returns-clause-played
 returns-clause-played c =
@@ -53,6 +58,9 @@ returns-clause-played c =
     let now = settled_now k c.self.inside.run c.give_inputs.new.run steps c.args.inputs.now inv.valid inv.circuit inv.latches many c.give_inputs.ensures.circuit c.give_inputs.ensures.latches c.give_inputs.ensures.inputs c.settle.new.self c.settle.ensures in
     let circuit : c.settle.new.self.circuit ≡ k = settled_circuit k c.self.inside.run c.give_inputs.new.run steps inv.circuit c.give_inputs.ensures.circuit c.settle.new.self c.settle.ensures in
     let v : Valuation = frame_of k c.self.inside.run.latches c.args.inputs.now in
-    let now_is : List Bool → Bool → PlayValue = λ state met. record { circuit = k; claim = c.self.inside.claim; state = state; met = met; begins = c.self.inside.begins.items } in
-    ap₂ now_is (c.advance.ensures.latches v now ∙ ap (λ (m : Circuit). next_latch_bits m v) circuit) (c.both-self-inside.ensures ∙ ap (λ (b : Bool). c.self.inside.met && b) (c.all_hold-holds.ensures v now))
+    let breach : c.note_breach.new.found ≡ option_or c.self.inside.breach (violated_at c.self.inside.frames (first_bit_violated k v) None) =
+    c.note_breach.ensures ∙ ap (λ (o : Option ℕ). option_or c.self.inside.breach (violated_at c.self.inside.frames o None)) (c.first_violated-violated.ensures v now) in
+    let now_is : List Bool → ℕ → Option Violation → PlayValue = λ state frames breach. record { circuit = k; claim = c.self.inside.claim; state = state; frames = frames; breach = breach; begins = c.self.inside.begins.items } in
+    ap₂ (λ (state : List Bool) (breach : Option Violation). now_is state c.saturating_add-self-inside.result breach) (c.advance.ensures.latches v now ∙ ap (λ (m : Circuit). next_latch_bits m v) circuit) breach
+    ∙ ap (λ (n : ℕ). now_is (next_latch_bits k v) n (option_or c.self.inside.breach (violated_at c.self.inside.frames (first_bit_violated k v) None))) c.saturating_add-self-inside.ensures
     ∙ ap (λ (p : PlayValue). played p c.args.inputs.now) c.self.view_is
