@@ -1,4 +1,4 @@
-use Rattle.std.proofs.Common.{rules, ◌≡◌}
+use Rattle.std.proofs.Common.{rules, ◌≡◌, true, false}
 use Rattle.orders.specs.declared.tasks.ModelTask.TheVariants as model
 use Rattle.commands.specs.Done.{Answers}
 use Rattle.commands.specs.Refusals.{RefusesTask}
@@ -21,11 +21,25 @@ pub returns-in-CheckBtor-clause-done : goal.returns-in-CheckBtor-clause-done
 unfolding Answers
 returns-in-CheckBtor-clause-done g c = λ known third text.
     let is : c.args.task ≡ model.CheckBtor = search rules in
-    rw is (c.check_model.ensures.done known text)
+    let named : c.args.order.now.named ≡ true = search rules in
+    rw (is, named) (c.check_model_by_name.ensures.done known text)
 
 pub returns-in-CheckBtor-clause-refused : goal.returns-in-CheckBtor-clause-refused
 unfolding RefusesTask
 returns-in-CheckBtor-clause-refused g c = λ known text.
+    let is : c.args.task ≡ model.CheckBtor = search rules in
+    rw is (c.check_model_by_name.ensures.refused known text)
+
+pub returns-in-CheckBtor-2-clause-done : goal.returns-in-CheckBtor-2-clause-done
+unfolding Answers
+returns-in-CheckBtor-2-clause-done g c = λ known third text.
+    let is : c.args.task ≡ model.CheckBtor = search rules in
+    let named : c.args.order.now.named ≡ false = search rules in
+    rw (is, named) (c.check_model.ensures.done known text)
+
+pub returns-in-CheckBtor-2-clause-refused : goal.returns-in-CheckBtor-2-clause-refused
+unfolding RefusesTask
+returns-in-CheckBtor-2-clause-refused g c = λ known text.
     let is : c.args.task ≡ model.CheckBtor = search rules in
     rw is (c.check_model.ensures.refused known text)
 
