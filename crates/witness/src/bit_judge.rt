@@ -45,7 +45,7 @@ impl<'a> Model for BitJudge<'a> {
     ghost view = { λ j. judge_of j.lines j.line };
 }
 
-/// The most bytes of a line that is admitted, or else that of 22 bytes, and one more.
+/// Room for the bytes of a line that may be admitted, and for one more.
 fn line_room(circuit: &Circuit) -> usize
     ensures { result ≡ line_room circuit.now }
 {
