@@ -11,7 +11,7 @@ use Rattle.btor2.specs.Check.{IsWellFormed}
 use Rattle.btor2.specs.Trace.{bits_of}
 use Rattle.btor2.proofs.LeafLemmas.{item_behind, bits_of-at, leaf_at}
 use Rattle.lift.specs.Lifted.{word_line, word_lines, free_lines}
-use Rattle.lift.specs.Kept.{taken_line, placed_lines, leaf_lines}
+use Rattle.lift.specs.Placed.{taken_line, placed_lines, leaf_lines}
 
 -- one leaf
 one_leaf : (t u : Bool) (w v index : ℕ) (name : Option (List ℕ)) (bits : List Bool) (rest : List Bool → List ℕ) (others : List Bool → List (List ℕ)) → t ≡ u → w ≡ v → ((bs : List Bool) → rest bs ≡ text_of_lines (others bs))

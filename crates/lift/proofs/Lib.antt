@@ -1,6 +1,5 @@
 -- The lemmas of this crate.
 pub mod LineLemmas
-pub mod KeptLemmas
 pub mod LeafLemmas
 pub mod NameLemmas
 pub mod PutLemmas

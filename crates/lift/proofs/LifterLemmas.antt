@@ -1,6 +1,5 @@
 -- What a lifter puts for the bytes that it takes.
-use Rattle.std.proofs.Common.{◌≡◌, ℕ, ◌+◌, ◌<◌, ◌≤◌, ◌^◌, ◌==◌, Bool, true, false, not, List, [], ◌∷◌, ◌++◌, Option, Result, Ok, Err, MatchResult, length, length-append, take, refl, sym, ap, ap₂, subst, ◌∙◌, append_assoc, append-nil, arith, inl, inr}
-use Rattle.std.proofs.Math.Seq.{take-append_seam}
+use Rattle.std.proofs.Common.{◌≡◌, ℕ, ◌+◌, ◌<◌, ◌^◌, ◌==◌, Bool, true, false, not, List, [], ◌∷◌, ◌++◌, Option, Result, Ok, Err, MatchResult, length, take, refl, sym, ap, ap₂, subst, ◌∙◌, append_assoc, append-nil, arith, inl, inr}
 use Rattle.std.proofs.lemmas.Bool.{ne_eqb, eq-eqb}
 use Rattle.std.proofs.lemmas.List.Concat.{flat_map-append}
 use Rattle.base.specs.Device.{Sent, AppendsBeginning}
@@ -14,8 +13,8 @@ use Rattle.witness.specs.BitAdmits.{admitted_lines, bit_reader}
 use Rattle.witness.proofs.TextEndLemmas.{whole_lines-part, unfinished-part, whole_lines-end, unfinished-line_end}
 use Rattle.rises.specs.Notes.{NotesBits}
 use Rattle.lift.specs.Lifted.{piece, lifted_with}
-use Rattle.lift.specs.Kept.{KeepsLine, kept_piece}
-use Rattle.lift.specs.Stands.{Lifter, LiftsWith, admitted_piece}
+use Rattle.witness.specs.CutLines.{CutLine, cut_of}
+use Rattle.lift.specs.Stands.{HasRoom, Lifter, LiftsWith, admitted_piece}
 use Rattle.lift.proofs.LineLemmas.{lifted_of, line_more, lifted_by_lines, lifted_begins}
 use Rattle.lift.proofs.AdmitLemmas.{is_admitted, kept_is_piece}
 
@@ -26,16 +25,16 @@ same_lifted named items c text bytes is =
     lifted_by_lines named items c (text ++ bytes) ∙ ap (λ (ls : List (List ℕ)). text_of_lines (lifted_of named items c ls)) (whole_lines-part text bytes is) ∙ sym (lifted_by_lines named items c text)
 
 pub lifts_bytes : (named : Bool) (items : List Item) (c : Circuit) (text bytes : List ℕ) (before after : Lifter) → IsLine bytes → LiftsWith named items c before text → after.items ≡ before.items → after.named ≡ before.named
-    → NotesBits named c after.noter (text ++ bytes) → ((line : List ℕ) → KeepsLine before.kept line → KeepsLine after.kept (line ++ bytes)) → length after.kept.bits ≡ length before.kept.bits → LiftsWith named items c after (text ++ bytes)
-lifts_bytes named items c text bytes before after is h same same_names notes keeps room =
+    → NotesBits named c after.noter (text ++ bytes) → after.kept ≡ cut_of before.kept.room (unfinished text ++ bytes) → LiftsWith named items c after (text ++ bytes)
+lifts_bytes named items c text bytes before after is h same same_names notes keeps =
+    let room : after.kept.room ≡ before.kept.room = ap (λ (k : CutLine). k.room) keeps in
     record {
       circuit = h.circuit;
       model = same ∙ h.model;
       naming = same_names ∙ h.naming;
       notes = notes;
-      kept = subst (KeepsLine after.kept) (sym (unfinished-part text bytes is)) (keeps (unfinished text) h.kept);
-      latches = omega (arith, h.latches, room);
-      inputs = omega (arith, h.inputs, room);
+      kept = keeps ∙ ap₂ cut_of (sym room) (sym (unfinished-part text bytes is));
+      room = subst (HasRoom c) (sym room) h.room;
     }
 
 -- ---- the end of a line
@@ -61,9 +60,8 @@ record Holds (named : Bool) (items : List Item) (c : Circuit) (l : Lifter) (line
   circuit : IsCircuit c
   model : l.items ≡ items
   naming : l.named ≡ named
-  kept : KeepsLine l.kept line
-  latches : length c.latches ≤ length l.kept.bits
-  inputs : c.inputs ≤ length l.kept.bits
+  kept : l.kept.bytes ≡ take l.kept.room line
+  room : HasRoom c l.kept.room
 
 -- the piece that is put is what is lifted of the line
 lifted_end : (named : Bool) (items : List Item) (c : Circuit) (text : List ℕ) (l : Lifter) → Holds named items c l (unfinished text)
@@ -80,10 +78,11 @@ lifted_end named items c text l h =
           let number : old ≡ length (whole_lines text) = admitted_by_lines c text ∙ a.step.before in
           let count : new ≡ length (whole_lines text) + 1 = admitted_end c text ∙ a.step.count in
           let other : (new == old) ≡ false = ne_eqb new old (λ e. omega (arith, number, count, e)) in
-          let is : kept_piece named items (length (whole_lines text)) l.kept ≡ piece named items (length (whole_lines text)) (unfinished text) =
-          kept_is_piece named items c (length (whole_lines text)) (unfinished text) l.kept (few_bads c h.circuit) (is_admitted c (whole_lines text) _ (unfinished text) (few_bads c h.circuit) a.step.going a.step.reads) h.kept h.latches h.inputs in
+          let is : piece named items (length (whole_lines text)) l.kept.bytes ≡ piece named items (length (whole_lines text)) (unfinished text) =
+          ap (piece named items (length (whole_lines text))) h.kept
+          ∙ kept_is_piece named items c (length (whole_lines text)) l.kept.room (unfinished text) (few_bads c h.circuit) (is_admitted c (whole_lines text) _ (unfinished text) (few_bads c h.circuit) a.step.going a.step.reads) h.room in
           let put : admitted_piece (not (new == old)) l old ≡ piece named items (length (whole_lines text)) (unfinished text) =
-          ap (λ (b : Bool). admitted_piece (not b) l old) other ∙ ap (λ (b : Bool). kept_piece b l.items old l.kept) h.naming ∙ ap₂ (λ (xs : List Item) (n : ℕ). kept_piece named xs n l.kept) h.model number ∙ is in
+          ap (λ (b : Bool). admitted_piece (not b) l old) other ∙ ap (λ (b : Bool). piece b l.items old l.kept.bytes) h.naming ∙ ap₂ (λ (xs : List Item) (n : ℕ). piece named xs n l.kept.bytes) h.model number ∙ is in
           lifted_end_by_lines named items c text ∙ ap text_of_lines a.lifted
           ∙ flat_map-append (λ line. line ++ 10 ∷ []) (lifted_of named items c (whole_lines text)) (piece named items (length (whole_lines text)) (unfinished text))
           ∙ ap₂ (λ (x y : List ℕ). x ++ y) (sym (lifted_by_lines named items c text)) (ap text_of_lines (sym put))
@@ -104,15 +103,15 @@ module _ {T E : Type 0} (r : Result T E) (named : Bool) (items : List Item) (c :
   abbrev put : List ℕ
   put = text_of_lines (admitted_piece (not (now == number)) mid number)
 
-  held_line : IsLine line → LiftsWith named items c before text → mid.items ≡ before.items → mid.named ≡ before.named → KeepsLine mid.kept (unfinished text ++ line) → length mid.kept.bits ≡ length before.kept.bits → Holds named items c mid (unfinished (text ++ line))
-  held_line is h same same_names keeps room =
+  held_line : IsLine line → LiftsWith named items c before text → mid.items ≡ before.items → mid.named ≡ before.named → mid.kept ≡ cut_of before.kept.room (unfinished text ++ line) → Holds named items c mid (unfinished (text ++ line))
+  held_line is h same same_names keeps =
+      let room : mid.kept.room ≡ before.kept.room = ap (λ (k : CutLine). k.room) keeps in
       record {
         circuit = h.circuit;
         model = same ∙ h.model;
         naming = same_names ∙ h.naming;
-        kept = subst (KeepsLine mid.kept) (sym (unfinished-part text line is)) keeps;
-        latches = omega (arith, h.latches, room);
-        inputs = omega (arith, h.inputs, room);
+        kept = ap (λ (k : CutLine). k.bytes) keeps ∙ ap₂ (λ (n : ℕ) (l : List ℕ). take n l) (sym room) (sym (unfinished-part text line is));
+        room = subst (HasRoom c) (sym room) h.room;
       }
 
   -- the piece is what the line adds to the lifted text
@@ -126,31 +125,22 @@ module _ {T E : Type 0} (r : Result T E) (named : Bool) (items : List Item) (c :
       ∙ (sym (lifted_end named items c (text ++ line) mid h) ∙ ap (lifted_with named items c) joined))
 
   -- a line with its end
-  pub line_takes : IsLine line → LiftsWith named items c before text → Sent start old (lifted_with named items c text) kept → mid.items ≡ before.items → mid.named ≡ before.named → KeepsLine mid.kept (unfinished text ++ line) → length mid.kept.bits ≡ length before.kept.bits
-      → number ≡ admitted_lines c text → now ≡ admitted_lines c whole → Puts r old new kept left put → after.items ≡ before.items → after.named ≡ before.named → NotesBits named c after.noter whole → KeepsLine after.kept [] → length after.kept.bits ≡ length mid.kept.bits
+  pub line_takes : IsLine line → LiftsWith named items c before text → Sent start old (lifted_with named items c text) kept → mid.items ≡ before.items → mid.named ≡ before.named → mid.kept ≡ cut_of before.kept.room (unfinished text ++ line)
+      → number ≡ admitted_lines c text → now ≡ admitted_lines c whole → Puts r old new kept left put → after.items ≡ before.items → after.named ≡ before.named → NotesBits named c after.noter whole → after.kept ≡ cut_of before.kept.room []
       → MatchResult r (λ x. LiftsWith named items c after whole × Sent start new (lifted_with named items c whole) left) (λ e. AppendsBeginning start new (lifted_with named items c whole))
-  line_takes is h sent same same_names keeps room n m puts items_same names_same notes nothing after_room =
+  line_takes is h sent same same_names keeps n m puts items_same names_same notes nothing =
+      let room : after.kept.room ≡ before.kept.room = ap (λ (k : CutLine). k.room) nothing in
       let lifts : LiftsWith named items c after whole = record {
         circuit = h.circuit;
         model = items_same ∙ h.model;
         naming = names_same ∙ h.naming;
         notes = notes;
-        kept = subst (KeepsLine after.kept) (sym (unfinished-line_end text line)) nothing;
-        latches = omega (arith, h.latches, room, after_room);
-        inputs = omega (arith, h.inputs, room, after_room);
+        kept = nothing ∙ ap₂ cut_of (sym room) (sym (unfinished-line_end text line));
+        room = subst (HasRoom c) (sym room) h.room;
       } in
-      put_takes r named items c after text whole put start old new kept left sent (adds_piece is (held_line is h same same_names keeps room) n m) puts lifts
+      put_takes r named items c after text whole put start old new kept left sent (adds_piece is (held_line is h same same_names keeps) n m) puts lifts
 
 -- ---- a piece of the witness
-
--- the first line of a text, with its end
-pub line_with_end : (rest line behind : List ℕ) → rest ≡ line ++ 10 ∷ behind → take (length line + 1) rest ≡ line ++ 10 ∷ []
-line_with_end rest line behind cut =
-    let all : rest ≡ (line ++ 10 ∷ []) ++ behind = cut ∙ sym (append_assoc line (10 ∷ []) behind) in
-    ap₂ (λ (n : ℕ) (l : List ℕ). take n l) (sym (length-append line (10 ∷ []))) all ∙ take-append_seam (line ++ 10 ∷ []) behind
-
-pub line_fits : (rest line behind : List ℕ) → rest ≡ line ++ 10 ∷ behind → length line + 1 ≤ length rest
-line_fits rest line behind cut = omega (arith, ap length cut, length-append line (10 ∷ behind))
 
 -- a front of some bytes was taken, and this rest is left
 pub record Took (old now : Option (List ℕ)) (kept left : List ℕ) (before after : Lifter) (bytes rest : List ℕ) : Type 0 where

@@ -1,10 +1,12 @@
 -- The parts of pieces, as they are put.
-use Rattle.std.proofs.Common.{◌≡◌, ℕ, zero, suc, ◌+◌, ◌-◌, ◌<◌, ◌≤◌, ◌||◌, Bool, true, false, Option, Some, option_and_then, slice_get, List, [], ◌∷◌, ◌++◌, length, map, reverse, take, drop, get_or, set, codes, decimal, refl, sym, ap, subst, ◌∙◌, append_assoc, append-nil, drop-cons, add-one, arith, ap₂}
+use Rattle.std.proofs.Common.{◌≡◌, ℕ, zero, suc, ◌+◌, ◌-◌, ◌<◌, ◌≤◌, ◌==◌, ◌||◌, if◌then◌else◌, Bool, true, false, Option, Some, option_and_then, slice_get, List, [], ◌∷◌, ◌++◌, length, map, reverse, take, drop, get_or, set, codes, decimal, refl, sym, ap, subst, ◌∙◌, append_assoc, append-nil, drop-cons, add-one, arith, ap₂}
 use Rattle.std.specs.List.{list_any}
 use Rattle.std.specs.Fmt.{digits}
 use Rattle.std.proofs.Math.Seq.{take_all}
 use Rattle.std.proofs.lemmas.Bool.{or_from, or_right}
-use Rattle.std.proofs.lemmas.List.{reverse-append, take_more_set}
+use Rattle.std.specs.Str.{bytes_eq}
+use Rattle.std.proofs.Math.ListN.{get_or-map}
+use Rattle.std.proofs.lemmas.List.{reverse-append, take_more_set, length-map, take-map, drop-map}
 use Rattle.std.proofs.lemmas.List.Folds.{list_any-append}
 use Rattle.std.proofs.lemmas.List.Concat.{flat_map-append}
 use Rattle.std.proofs.lemmas.Grind.{take_at_read}
@@ -19,8 +21,8 @@ use Rattle.btor2.specs.Check.{IsWellFormed}
 use Rattle.blast.specs.Cost.{input_width}
 use Rattle.witness.specs.Texts.{digit, symbol_part, shape_of, has_free}
 use Rattle.witness.proofs.ShapeLemmas.{free_at_places}
-use Rattle.lift.specs.Lifted.{names, word_line, initial_piece, free_piece, frame_piece}
-use Rattle.lift.specs.Kept.{KeptLine, line_bits_kept, kept_frame, kept_piece, taken_line, placed_lines, leaf_lines}
+use Rattle.lift.specs.Lifted.{names, word_line, bits_of_line, initial_piece, free_piece, frame_piece, piece}
+use Rattle.lift.specs.Placed.{taken_line, placed_lines, leaf_lines}
 use Rattle.lift.proofs.LeafLemmas.{lifted_input_lines, inputs_placed, carried_placed, free_placed}
 
 -- the digits of a word, of which the highest is left
@@ -36,6 +38,13 @@ pub leaves_left : (l : Leaves) (items : List Item) (name : Item → Option (List
 leaves_left l items name index p d ps bits lt at =
     subst (λ (x : ℕ). placed_lines l items name index (drop index ps) bits ≡ taken_line (is_leaf_at items l x) index (take (leaf_width items l x) bits) (option_and_then name (slice_get items x)) ++ placed_lines l items name (index + 1) (drop (index + 1) ps) (drop (leaf_width items l x) bits))
     (sym at) (rw (drop-cons ps index d lt, add-one index) refl)
+
+-- the bits of a front, and those behind it
+pub bits_before : (front bits : List ℕ) (n : ℕ) → front ≡ take n bits → bits_of_line front ≡ take n (bits_of_line bits)
+bits_before front bits n e = ap bits_of_line e ∙ sym (take-map (λ b. b == 49) n bits)
+
+pub bits_behind : (rest bits : List ℕ) (n m : ℕ) → rest ≡ drop n bits → n ≡ m → bits_of_line rest ≡ drop m (bits_of_line bits)
+bits_behind rest bits n m e same = ap bits_of_line e ∙ (sym (drop-map (λ b. b == 49) n bits) ∙ ap (λ (k : ℕ). drop k (bits_of_line bits)) same)
 
 -- the pieces
 pub word_parts : (index : ℕ) (bits : List Bool) (name : Option (List ℕ)) → word_line index bits name ++ 10 ∷ [] ≡ decimal index ++ ((32 ∷ []) ++ (map digit (reverse bits) ++ (symbol_part name ++ 10 ∷ [])))
@@ -68,22 +77,33 @@ frame_parts named items frame bits w =
     ∙ ap (λ (l : List ℕ). text_of_lines (free_piece named items frame (drop (input_width items) bits)) ++ (((64 ∷ decimal frame) ++ 10 ∷ []) ++ l)) (sym (inputs_placed items (names named frame) bits w))
 
 -- the piece by the number of the line
-pub piece_of_header : (named : Bool) (items : List Item) (n : ℕ) (k : KeptLine) → n ≡ 0 → text_of_lines (kept_piece named items n k) ≡ codes "sat\n"
-piece_of_header named items n k e = ap (λ (m : ℕ). text_of_lines (kept_piece named items m k)) e
+pub piece_of_header : (named : Bool) (items : List Item) (n : ℕ) (line : List ℕ) → n ≡ 0 → text_of_lines (piece named items n line) ≡ text_of_lines (codes "sat" ∷ [])
+piece_of_header named items n line e = ap (λ (m : ℕ). text_of_lines (piece named items m line)) e
 
-pub piece_of_claim : (named : Bool) (items : List Item) (n : ℕ) (k : KeptLine) → n ≡ 1 → text_of_lines (kept_piece named items n k) ≡ (98 ∷ []) ++ (decimal k.number ++ 10 ∷ [])
-piece_of_claim named items n k e = ap (λ (m : ℕ). text_of_lines (kept_piece named items m k)) e ∙ append-nil ((98 ∷ decimal k.number) ++ 10 ∷ [])
+pub piece_of_claim : (named : Bool) (items : List Item) (n : ℕ) (line : List ℕ) → n ≡ 1 → text_of_lines (piece named items n line) ≡ text_of_lines (line ∷ [])
+piece_of_claim named items n line e = ap (λ (m : ℕ). text_of_lines (piece named items m line)) e
 
-pub piece_of_initial : (named : Bool) (items : List Item) (n : ℕ) (k : KeptLine) → n ≡ 2 → text_of_lines (kept_piece named items n k) ≡ text_of_lines (initial_piece named items (line_bits_kept k))
-piece_of_initial named items n k e = ap (λ (m : ℕ). text_of_lines (kept_piece named items m k)) e
+pub piece_of_initial : (named : Bool) (items : List Item) (n : ℕ) (line : List ℕ) → n ≡ 2 → text_of_lines (piece named items n line) ≡ text_of_lines (initial_piece named items (bits_of_line line))
+piece_of_initial named items n line e = ap (λ (m : ℕ). text_of_lines (piece named items m line)) e
 
-pub piece_of_frame : (named : Bool) (items : List Item) (n : ℕ) (k : KeptLine) → (n ≡ 0 → ⊥) → (n ≡ 1 → ⊥) → (n ≡ 2 → ⊥) → text_of_lines (kept_piece named items n k) ≡ text_of_lines (kept_frame named items (n - 3) k)
-piece_of_frame named items zero k a b d = absurd (a refl)
-piece_of_frame named items (suc zero) k a b d = absurd (b refl)
-piece_of_frame named items (suc (suc zero)) k a b d = absurd (d refl)
-piece_of_frame named items (suc (suc (suc n))) k a b d =
-    let same : suc (suc (suc n)) - 3 ≡ n = omega arith in
-    ap (λ (m : ℕ). text_of_lines (kept_frame named items m k)) (sym same)
+pub piece_of_frame : (named : Bool) (items : List Item) (n m : ℕ) (line : List ℕ) → n ≡ m + 3 → text_of_lines (piece named items n line) ≡ text_of_lines (piece named items (m + 3) line)
+piece_of_frame named items n m line e = ap (λ (k : ℕ). text_of_lines (piece named items k line)) e
+
+-- in the place of a frame
+at_frame : (named : Bool) (items : List Item) (n : ℕ) (line : List ℕ) → piece named items (n + 3) line ≡ (if bytes_eq line (codes ".") then line ∷ [] else frame_piece named items n (bits_of_line line))
+at_frame named items n line =
+    let same : n + 3 ≡ suc (suc (suc n)) = omega arith in
+    ap (λ (k : ℕ). piece named items k line) same
+
+pub piece_of_end : (named : Bool) (items : List Item) (n : ℕ) (line : List ℕ) → bytes_eq line (codes ".") ≡ true → text_of_lines (piece named items (n + 3) line) ≡ text_of_lines (line ∷ [])
+piece_of_end named items n line is =
+    let chosen : (if bytes_eq line (codes ".") then line ∷ [] else frame_piece named items n (bits_of_line line)) ≡ line ∷ [] = rw is refl in
+    ap text_of_lines (at_frame named items n line ∙ chosen)
+
+pub piece_of_bits : (named : Bool) (items : List Item) (n : ℕ) (line : List ℕ) → bytes_eq line (codes ".") ≡ false → text_of_lines (piece named items (n + 3) line) ≡ text_of_lines (frame_piece named items n (bits_of_line line))
+piece_of_bits named items n line is =
+    let chosen : (if bytes_eq line (codes ".") then line ∷ [] else frame_piece named items n (bits_of_line line)) ≡ frame_piece named items n (bits_of_line line) = rw is refl in
+    ap text_of_lines (at_frame named items n line ∙ chosen)
 
 -- the digits, in a loop
 pub digits_step : (bits : List Bool) (done : ℕ) (put : List ℕ) (d : Bool) → done < length bits → put ≡ digit (get_or bits (length bits - done - 1) d) ∷ []
@@ -112,6 +132,21 @@ all_written bits digits done all h =
     let none : length bits - done ≡ 0 = omega (arith, all) in
     let rest : map digit (reverse (take (length bits - done) bits)) ≡ [] = ap (λ (n : ℕ). map digit (reverse (take n bits))) none in
     ap (λ (n : ℕ). take n digits) (sym all) ∙ (sym (append-nil (take done digits)) ∙ (ap (λ (l : List ℕ). take done digits ++ l) (sym rest) ∙ h))
+
+-- the same of a byte for each bit
+pub byte_written : (bits digits : List ℕ) (done d : ℕ) → done < length bits → length bits ≤ length digits → take done digits ++ map digit (reverse (take (length bits - done) (bits_of_line bits))) ≡ map digit (reverse (bits_of_line bits))
+    → take (done + 1) (set digits done (digit (get_or bits (length bits - done - 1) d == 49))) ++ map digit (reverse (take (length bits - (done + 1)) (bits_of_line bits))) ≡ map digit (reverse (bits_of_line bits))
+byte_written bits digits done d lt fits h =
+    let many : length (bits_of_line bits) ≡ length bits = length-map bits (λ b. b == 49) in
+    let was : take done digits ++ map digit (reverse (take (length (bits_of_line bits) - done) (bits_of_line bits))) ≡ map digit (reverse (bits_of_line bits)) = rw many h in
+    let more = written_more (bits_of_line bits) digits done (d == 49) (omega (arith, lt, many)) (omega (arith, fits, many)) was in
+    let byte : get_or (bits_of_line bits) (length bits - done - 1) (d == 49) ≡ (get_or bits (length bits - done - 1) d == 49) = get_or-map (λ b. b == 49) bits (length bits - done - 1) d in
+    rw byte at (rw many at more)
+
+pub bytes_written : (bits digits : List ℕ) (done : ℕ) → done ≡ length bits → take done digits ++ map digit (reverse (take (length bits - done) (bits_of_line bits))) ≡ map digit (reverse (bits_of_line bits)) → take (length bits) digits ≡ map digit (reverse (bits_of_line bits))
+bytes_written bits digits done all h =
+    let many : length (bits_of_line bits) ≡ length bits = length-map bits (λ b. b == 49) in
+    rw many at (all_written (bits_of_line bits) digits done (all ∙ sym many) (rw many h))
 
 -- the leaves, in a loop
 pub leaves_step : (l : Leaves) (items : List Item) (name : Item → Option (List ℕ)) (index d w : ℕ) (t : Bool) (x : Item) (bits word behind : List Bool) → index < length (places (list_of l) 0 items)

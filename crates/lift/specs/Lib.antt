@@ -1,6 +1,6 @@
 -- The definitions of lifted texts.
 pub mod Lifted
-pub mod Kept
+pub mod Placed
 pub mod Stands
 pub mod Answers
 pub mod Verdicts

@@ -7,8 +7,8 @@ use Rattle.btor2.specs.declared.item.Item.{Item}
 use Rattle.aiger.specs.Circuit.{Circuit, IsCircuit}
 use Rattle.rises.specs.declared.bit_noter.BitNoter.{BitNoter}
 use Rattle.rises.specs.Notes.{NotesBits}
-use Rattle.lift.specs.Lifted.{lifted_with}
-use Rattle.lift.specs.Kept.{KeptLine, KeepsLine, kept_piece}
+use Rattle.witness.specs.CutLines.{CutLine, cut_of}
+use Rattle.lift.specs.Lifted.{lifted_with, piece}
 
 -- the model, whether words are lifted with names, whether the model has a free state, a judge that notes first rises where words are lifted with names, and what is kept of the line that has not ended
 pub record Lifter : Type 0 where
@@ -16,7 +16,13 @@ pub record Lifter : Type 0 where
   pub named : Bool
   pub some_free : Bool
   pub noter : BitNoter
-  pub kept : KeptLine
+  pub kept : CutLine
+
+-- each line that is admitted fits
+pub record HasRoom (c : Circuit) (room : ℕ) : Type 0 where
+  pub claim : 21 ≤ room
+  pub latches : length c.latches ≤ room
+  pub inputs : c.inputs ≤ room
 
 -- it lifts with names or without over this model, and stands for this text of a witness of this circuit
 pub record LiftsWith (named : Bool) (items : List Item) (c : Circuit) (l : Lifter) (text : List ℕ) : Type 0 where
@@ -24,13 +30,12 @@ pub record LiftsWith (named : Bool) (items : List Item) (c : Circuit) (l : Lifte
   pub model : l.items ≡ items
   pub naming : l.named ≡ named
   pub notes : NotesBits named c l.noter text
-  pub kept : KeepsLine l.kept (unfinished text)
-  pub latches : length c.latches ≤ length l.kept.bits
-  pub inputs : c.inputs ≤ length l.kept.bits
+  pub kept : l.kept ≡ cut_of l.kept.room (unfinished text)
+  pub room : HasRoom c l.kept.room
 
 -- the piece of the line that is kept, where it is admitted
 abbrev pub admitted_piece : Bool → Lifter → ℕ → List (List ℕ)
-admitted_piece admitted l number = if admitted then kept_piece l.named l.items number l.kept else []
+admitted_piece admitted l number = if admitted then piece l.named l.items number l.kept.bytes else []
 
 -- Of what a sink was given since it had the first bytes: the lifted text of a text was put, but for a rest that is kept. A call that takes bytes behind the
 -- text puts what is lifted of them; at a fault a beginning of the lifted text was written.

@@ -5,7 +5,6 @@ pub mod engine_laws;
 mod engine_lifting;
 mod fault;
 mod form_lifting;
-mod kept;
 pub mod laws;
 mod lifter;
 mod lifting;

@@ -1,5 +1,5 @@
 //! A lifter of a witness that comes piece by piece.
-ghost use Rattle.std.specs.Prelude.{◌≡◌, ℕ, Bool, true, List, [], ◌∷◌, ◌++◌, IfOk, ◌≤◌, length};
+ghost use Rattle.std.specs.Prelude.{◌≡◌, ℕ, Bool, true, List, [], ◌∷◌, ◌++◌, IfOk};
 ghost use Rattle.base.specs.Device.{CountsFaults};
 ghost use Rattle.base.specs.Lines.{IsLine, text_of_lines};
 ghost use Rattle.base.specs.Pieces.{Puts};
@@ -8,19 +8,18 @@ ghost use Rattle.aiger.specs.Circuit.{Circuit};
 ghost use Rattle.witness.specs.BitJudgements.{BitJudges};
 ghost use Rattle.witness.specs.Texts.{shape_of, has_free};
 ghost use Rattle.rises.specs.FirstRises.{AreBitFirstRises};
-ghost use Rattle.lift.specs.Stands.{LiftsWith, TakesSourceLine, admitted_piece};
+ghost use Rattle.lift.specs.Stands.{HasRoom, LiftsWith, TakesSourceLine, admitted_piece};
 
-use crate::kept::KeptLine;
 use crate::pieces::{has_free, put_piece};
 use aiger::Circuit;
 use base::{DeviceFault, Outbox, Sink, next_line};
 use rises::{BitNoter, FirstRises};
 use std::alloc::{AllocError, Global};
 use std::marker::Model;
-use witness::Judgement;
+use witness::{CutLine, Judgement};
 
 /// A lifter of witnesses of a circuit over the model that it was made of. It is fed a witness in pieces, and puts the piece
-/// of a line when the judge has admitted it. Beside the judge it holds the bits of one line and a few words, and with names
+/// of a line when the judge has admitted it. Beside the judge it holds the bytes of one line and a few words, and with names
 /// one frame for each bad property.
 #[derive(Drop)]
 pub(crate) struct Lifter<'a> {
@@ -31,8 +30,8 @@ pub(crate) struct Lifter<'a> {
     some_free: bool,
     // judges the text, and with names notes when the claim is first reached
     noter: BitNoter<'a>,
-    // the bytes of the line that has not ended
-    kept: KeptLine,
+    // what is kept of the line that has not ended
+    kept: CutLine,
 }
 
 impl<'a> Model for Lifter<'a> {
@@ -47,12 +46,18 @@ impl<'a> Model for Lifter<'a> {
     ghost invariant = { λ l. l.some_free ≡ has_free (shape_of l.model.now) };
 }
 
-/// The most bits of a line of a witness of a circuit.
-fn most_bits(circuit: &Circuit) -> usize
-    ensures inputs { circuit.now.inputs ≤ result }
-    ensures latches { length circuit.now.latches ≤ result }
+/// The most bytes of a claim.
+const MOST_CLAIMED: usize = 21;
+
+/// At least the most bytes of a line that is admitted.
+fn line_room(circuit: &Circuit) -> usize
+    ensures { HasRoom circuit.now result }
 {
-    circuit.latches().len().max(circuit.inputs() as usize)
+    circuit
+        .latches()
+        .len()
+        .max(circuit.inputs() as usize)
+        .max(MOST_CLAIMED)
 }
 
 impl<'a> Lifter<'a> {
@@ -67,7 +72,7 @@ impl<'a> Lifter<'a> {
     ) -> Result<Lifter<'a>, AllocError>
         ensures { IfOk result (λ l. LiftsWith named model.now circuit.now l []) }
     {
-        let kept = KeptLine::new(alloc, most_bits(circuit))?;
+        let kept = CutLine::new(alloc, line_room(circuit))?;
         match BitNoter::new(alloc, circuit, named) {
             Ok(noter) => Ok(Lifter {
                 model,
@@ -99,7 +104,7 @@ impl<'a> Lifter<'a> {
                 self.named,
                 self.some_free,
                 number,
-                &self.kept,
+                self.kept.bytes(),
             )
         } else {
             Ok(())
@@ -110,26 +115,24 @@ impl<'a> Lifter<'a> {
     fn take_bytes(&mut self, bytes: &[u8])
         ensures { (named : Bool) (items : List Item) (c : Circuit) (text : List ℕ) → IsLine bytes.now → LiftsWith named items c self.old text → LiftsWith named items c self.new (text ++ bytes.now) }
     {
-        self.kept.take(bytes);
+        self.kept.extend(bytes);
         self.noter.take_bytes(bytes);
     }
 
-    /// Takes the rest of a line, which is given with its end and without.
+    /// Takes the rest of a line, and its end.
     fn take_line<K: Sink>(
         &mut self,
         outbox: &mut Outbox,
         sink: &mut K,
         line: &[u8],
-        whole: &[u8],
     ) -> Result<(), DeviceFault>
-        requires is_line { IsLine line.now }
-        requires whole { whole.now ≡ line.now ++ 10 ∷ [] }
+        requires { IsLine line.now }
         ensures takes { TakesSourceLine result (K.written sink.old) (K.written sink.new) outbox.old outbox.new self.old self.new (line.now ++ 10 ∷ []) }
         ensures failures { CountsFaults result (K.failures sink.old) (K.failures sink.new) }
     {
-        self.kept.take(line);
+        self.kept.extend(line);
         let number = self.noter.admitted_lines();
-        self.noter.take_line(whole);
+        self.noter.take_line(line);
         let admitted = self.noter.admitted_lines() != number;
         let put = self.put_admitted(outbox, sink, admitted, number);
         self.kept.clear();
@@ -148,8 +151,7 @@ impl<'a> Lifter<'a> {
     {
         let mut rest = bytes;
         while let Some((line, behind)) = next_line(rest) {
-            let (whole, _) = rest.split_at(line.len() + 1);
-            self.take_line(outbox, sink, line, whole)?;
+            self.take_line(outbox, sink, line)?;
             rest = behind;
         }
         self.take_bytes(rest);

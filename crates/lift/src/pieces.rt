@@ -1,5 +1,6 @@
 //! The pieces that lines of a witness are lifted to.
-ghost use Rattle.std.specs.Prelude.{◌≡◌, true, false, ◌++◌, ◌∷◌, [], ◌-◌, ◌<◌, ◌≤◌, Some, codes, decimal, length, map, option_and_then, reverse, if◌then◌else◌, slice_get, slice_index, take, drop};
+ghost use Rattle.std.specs.Prelude.{◌≡◌, true, false, ◌++◌, ◌∷◌, [], ◌+◌, ◌-◌, ◌<◌, ◌≤◌, Some, decimal, length, map, reverse, if◌then◌else◌, slice_get, slice_index, take, drop};
+ghost use Rattle.std.specs.Str.{bytes_eq};
 ghost use Rattle.base.specs.Device.{CountsFaults};
 ghost use Rattle.base.specs.Pieces.{Puts};
 ghost use Rattle.base.specs.Lines.{text_of_lines};
@@ -7,11 +8,10 @@ ghost use Rattle.btor2.specs.Lists.{places};
 ghost use Rattle.btor2.specs.Leaves.{list_of};
 ghost use Rattle.btor2.specs.Symbols.{is_symbol};
 ghost use Rattle.blast.specs.Cost.{input_width};
-ghost use Rattle.witness.specs.Texts.{digit, symbol_part, claim, shape_of, has_free};
-ghost use Rattle.lift.specs.Lifted.{at_frame, name_in_frame, names, word_line, initial_piece, free_piece, frame_piece};
-ghost use Rattle.lift.specs.Kept.{kept_frame, kept_piece, leaf_lines, taken_line};
+ghost use Rattle.witness.specs.Texts.{digit, symbol_part, shape_of, has_free};
+ghost use Rattle.lift.specs.Lifted.{bits_of_line, name_in_frame, names, word_line, initial_piece, free_piece, frame_piece, piece};
+ghost use Rattle.lift.specs.Placed.{leaf_lines, taken_line};
 
-use crate::kept::KeptLine;
 use base::{DeviceFault, Outbox, Sink};
 use btor2::{Item, Leaves, Model};
 use itoa::Buffer;
@@ -22,6 +22,15 @@ fn put_bytes<K: Sink>(outbox: &mut Outbox, sink: &mut K, bytes: &[u8]) -> Result
     ensures failures { CountsFaults result (K.failures sink.old) (K.failures sink.new) }
 {
     outbox.put(sink, bytes)
+}
+
+/// Puts a line.
+fn put_line<K: Sink>(outbox: &mut Outbox, sink: &mut K, line: &[u8]) -> Result<(), DeviceFault>
+    ensures puts { Puts result (K.written sink.old) (K.written sink.new) outbox.old outbox.new (text_of_lines (line.now ∷ [])) }
+    ensures failures { CountsFaults result (K.failures sink.old) (K.failures sink.new) }
+{
+    put_bytes(outbox, sink, line)?;
+    put_bytes(outbox, sink, b"\n")
 }
 
 /// Puts a number.
@@ -58,21 +67,21 @@ fn digit(bit: bool) -> u8
     if bit { b'1' } else { b'0' }
 }
 
-/// Writes the digits of a word to the front of a list, the highest first.
-fn write_digits(bits: &[bool], digits: &mut [u8])
+/// Writes the digits of a word, whose bits are a byte each, to the front of a list, the highest first.
+fn write_digits(bits: &[u8], digits: &mut [u8])
     requires { length bits.now ≤ length digits.old }
-    ensures digits { take (length bits.now) digits.new ≡ map digit (reverse bits.now) }
+    ensures digits { take (length bits.now) digits.new ≡ map digit (reverse (bits_of_line bits.now)) }
     ensures as_many { length digits.new ≡ length digits.old }
 {
     for place in 0..bits.len() {
-        digits[place] = digit(bits[bits.len() - place - 1]);
+        digits[place] = digit(bits[bits.len() - place - 1] == b'1');
     }
 }
 
 /// Puts the digits of a word, the highest first.
-fn put_digits<K: Sink>(outbox: &mut Outbox, sink: &mut K, bits: &[bool]) -> Result<(), DeviceFault>
+fn put_digits<K: Sink>(outbox: &mut Outbox, sink: &mut K, bits: &[u8]) -> Result<(), DeviceFault>
     requires { length bits.now ≤ 64 }
-    ensures puts { Puts result (K.written sink.old) (K.written sink.new) outbox.old outbox.new (map digit (reverse bits.now)) }
+    ensures puts { Puts result (K.written sink.old) (K.written sink.new) outbox.old outbox.new (map digit (reverse (bits_of_line bits.now))) }
     ensures failures { CountsFaults result (K.failures sink.old) (K.failures sink.new) }
 {
     let mut digits = [0; MOST_BITS];
@@ -148,10 +157,10 @@ fn put_word<K: Sink>(
     frame: u64,
     index: usize,
     item: &Item,
-    bits: &[bool],
+    bits: &[u8],
 ) -> Result<(), DeviceFault>
     requires { length bits.now ≤ 64 }
-    ensures puts { Puts result (K.written sink.old) (K.written sink.new) outbox.old outbox.new (word_line index bits.now (names named frame item.now) ++ 10 ∷ []) }
+    ensures puts { Puts result (K.written sink.old) (K.written sink.new) outbox.old outbox.new (word_line index (bits_of_line bits.now) (names named frame item.now) ++ 10 ∷ []) }
     ensures failures { CountsFaults result (K.failures sink.old) (K.failures sink.new) }
 {
     put_number(outbox, sink, index as u64)?;
@@ -170,10 +179,10 @@ fn put_leaf<K: Sink>(
     takes: bool,
     index: usize,
     item: &Item,
-    bits: &[bool],
+    bits: &[u8],
 ) -> Result<(), DeviceFault>
     requires { length bits.now ≤ 64 }
-    ensures puts { Puts result (K.written sink.old) (K.written sink.new) outbox.old outbox.new (taken_line takes index bits.now (names named frame item.now)) }
+    ensures puts { Puts result (K.written sink.old) (K.written sink.new) outbox.old outbox.new (taken_line takes index (bits_of_line bits.now) (names named frame item.now)) }
     ensures failures { CountsFaults result (K.failures sink.old) (K.failures sink.new) }
 {
     if takes {
@@ -184,7 +193,7 @@ fn put_leaf<K: Sink>(
 }
 
 /// The first of some bits, and those behind them.
-fn cut(bits: &[bool], count: usize) -> (&[bool], &[bool])
+fn cut(bits: &[u8], count: usize) -> (&[u8], &[u8])
     ensures front { result.0.now ≡ take count bits.now }
     ensures most { length result.0.now ≤ count }
     ensures behind { result.1.now ≡ drop count bits.now }
@@ -216,9 +225,9 @@ fn put_leaves<K: Sink>(
     named: bool,
     frame: u64,
     leaves: Leaves,
-    bits: &[bool],
+    bits: &[u8],
 ) -> Result<(), DeviceFault>
-    ensures puts { Puts result (K.written sink.old) (K.written sink.new) outbox.old outbox.new (leaf_lines leaves model.now (names named frame) bits.now) }
+    ensures puts { Puts result (K.written sink.old) (K.written sink.new) outbox.old outbox.new (leaf_lines leaves model.now (names named frame) (bits_of_line bits.now)) }
     ensures failures { CountsFaults result (K.failures sink.old) (K.failures sink.new) }
 {
     let mut rest = bits;
@@ -249,9 +258,9 @@ fn put_part<K: Sink>(
     mark: &[u8],
     frame: u64,
     leaves: Leaves,
-    bits: &[bool],
+    bits: &[u8],
 ) -> Result<(), DeviceFault>
-    ensures puts { Puts result (K.written sink.old) (K.written sink.new) outbox.old outbox.new ((mark.now ++ (decimal frame ++ 10 ∷ [])) ++ leaf_lines leaves model.now (names named frame) bits.now) }
+    ensures puts { Puts result (K.written sink.old) (K.written sink.new) outbox.old outbox.new ((mark.now ++ (decimal frame ++ 10 ∷ [])) ++ leaf_lines leaves model.now (names named frame) (bits_of_line bits.now)) }
     ensures failures { CountsFaults result (K.failures sink.old) (K.failures sink.new) }
 {
     put_mark(outbox, sink, mark, frame)?;
@@ -259,8 +268,8 @@ fn put_part<K: Sink>(
 }
 
 /// The bits of a frame behind those of the inputs.
-fn behind_inputs<'a>(model: &Model, bits: &'a [bool]) -> &'a [bool]
-    ensures { result.now ≡ drop (input_width model.now) bits.now }
+fn behind_inputs<'a>(model: &Model, bits: &'a [u8]) -> &'a [u8]
+    ensures { bits_of_line result.now ≡ drop (input_width model.now) (bits_of_line bits.now) }
 {
     let (_, behind) = cut(bits, Leaves::Inputs.bits(model) as usize);
     behind
@@ -284,9 +293,9 @@ fn put_initial<K: Sink>(
     sink: &mut K,
     model: &Model,
     named: bool,
-    bits: &[bool],
+    bits: &[u8],
 ) -> Result<(), DeviceFault>
-    ensures puts { Puts result (K.written sink.old) (K.written sink.new) outbox.old outbox.new (text_of_lines (initial_piece named model.now bits.now)) }
+    ensures puts { Puts result (K.written sink.old) (K.written sink.new) outbox.old outbox.new (text_of_lines (initial_piece named model.now (bits_of_line bits.now))) }
     ensures failures { CountsFaults result (K.failures sink.old) (K.failures sink.new) }
 {
     let _items = model.items();
@@ -302,10 +311,10 @@ fn put_free<K: Sink>(
     named: bool,
     some_free: bool,
     frame: u64,
-    bits: &[bool],
+    bits: &[u8],
 ) -> Result<(), DeviceFault>
     requires { some_free ≡ has_free (shape_of model.now) }
-    ensures puts { Puts result (K.written sink.old) (K.written sink.new) outbox.old outbox.new (text_of_lines (free_piece named model.now frame (drop (input_width model.now) bits.now))) }
+    ensures puts { Puts result (K.written sink.old) (K.written sink.new) outbox.old outbox.new (text_of_lines (free_piece named model.now frame (drop (input_width model.now) (bits_of_line bits.now)))) }
     ensures failures { CountsFaults result (K.failures sink.old) (K.failures sink.new) }
 {
     let _items = model.items();
@@ -343,10 +352,10 @@ fn put_frame<K: Sink>(
     named: bool,
     some_free: bool,
     frame: u64,
-    bits: &[bool],
+    bits: &[u8],
 ) -> Result<(), DeviceFault>
     requires { some_free ≡ has_free (shape_of model.now) }
-    ensures puts { Puts result (K.written sink.old) (K.written sink.new) outbox.old outbox.new (text_of_lines (frame_piece named model.now frame bits.now)) }
+    ensures puts { Puts result (K.written sink.old) (K.written sink.new) outbox.old outbox.new (text_of_lines (frame_piece named model.now frame (bits_of_line bits.now))) }
     ensures failures { CountsFaults result (K.failures sink.old) (K.failures sink.new) }
 {
     let _items = model.items();
@@ -363,6 +372,13 @@ fn put_frame<K: Sink>(
     )
 }
 
+/// Whether a line is a word.
+fn is_word(line: &[u8], word: &[u8]) -> bool
+    ensures { result ≡ bytes_eq line.now word.now }
+{
+    line == word
+}
+
 /// Puts the piece of a line in the place of a frame, which may be the end.
 fn put_frame_or_end<K: Sink>(
     outbox: &mut Outbox,
@@ -371,20 +387,20 @@ fn put_frame_or_end<K: Sink>(
     named: bool,
     some_free: bool,
     frame: u64,
-    kept: &KeptLine,
+    line: &[u8],
 ) -> Result<(), DeviceFault>
     requires { some_free ≡ has_free (shape_of model.now) }
-    ensures puts { Puts result (K.written sink.old) (K.written sink.new) outbox.old outbox.new (text_of_lines (kept_frame named model.now frame kept.now)) }
+    ensures puts { Puts result (K.written sink.old) (K.written sink.new) outbox.old outbox.new (text_of_lines (piece named model.now (frame + 3) line.now)) }
     ensures failures { CountsFaults result (K.failures sink.old) (K.failures sink.new) }
 {
-    if kept.first() == b'.' {
-        put_bytes(outbox, sink, b".\n")
+    if is_word(line, b".") {
+        put_line(outbox, sink, line)
     } else {
-        put_frame(outbox, sink, model, named, some_free, frame, kept.bits())
+        put_frame(outbox, sink, model, named, some_free, frame, line)
     }
 }
 
-/// Puts the piece of the line that is kept, which is admitted behind so many others.
+/// Puts the piece of a line that is admitted behind so many others.
 pub(crate) fn put_piece<K: Sink>(
     outbox: &mut Outbox,
     sink: &mut K,
@@ -392,20 +408,20 @@ pub(crate) fn put_piece<K: Sink>(
     named: bool,
     some_free: bool,
     number: u64,
-    kept: &KeptLine,
+    line: &[u8],
 ) -> Result<(), DeviceFault>
     requires { some_free ≡ has_free (shape_of model.now) }
-    ensures puts { Puts result (K.written sink.old) (K.written sink.new) outbox.old outbox.new (text_of_lines (kept_piece named model.now number kept.now)) }
+    ensures puts { Puts result (K.written sink.old) (K.written sink.new) outbox.old outbox.new (text_of_lines (piece named model.now number line.now)) }
     ensures failures { CountsFaults result (K.failures sink.old) (K.failures sink.new) }
 {
     if number == 0 {
-        return put_bytes(outbox, sink, b"sat\n");
+        return put_line(outbox, sink, b"sat");
     }
     if number == 1 {
-        return put_mark(outbox, sink, b"b", kept.number());
+        return put_line(outbox, sink, line);
     }
     if number == 2 {
-        return put_initial(outbox, sink, model, named, kept.bits());
+        return put_initial(outbox, sink, model, named, line);
     }
-    put_frame_or_end(outbox, sink, model, named, some_free, number - 3, kept)
+    put_frame_or_end(outbox, sink, model, named, some_free, number - 3, line)
 }

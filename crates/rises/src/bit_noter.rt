@@ -1,5 +1,5 @@
 //! A judge of witnesses over a circuit that notes when claims are first reached.
-ghost use Rattle.std.specs.Prelude.{◌≡◌, ℕ, Bool, true, List, [], ◌++◌, MatchResult, if◌then◌else◌, length};
+ghost use Rattle.std.specs.Prelude.{◌≡◌, ℕ, Bool, true, List, [], ◌∷◌, ◌++◌, MatchResult, if◌then◌else◌, length};
 ghost use Rattle.base.specs.Lines.{IsLine};
 ghost use Rattle.base.specs.Literal.{Valuation};
 ghost use Rattle.aiger.specs.Circuit.{Circuit};
@@ -8,7 +8,7 @@ ghost use Rattle.witness.specs.BitJudgements.{BitJudges};
 ghost use Rattle.witness.specs.Reached.{IsClosedBitTrace, bit_reached};
 ghost use Rattle.witness.specs.BitStands.{StandsForBits};
 ghost use Rattle.rises.specs.FirstRises.{AreBitFirstRises};
-ghost use Rattle.rises.specs.Notes.{EndsLine, IsNoted, NotesBits};
+ghost use Rattle.rises.specs.Notes.{IsNoted, NotesBits};
 
 use crate::first_rises::FirstRises;
 use aiger::Circuit;
@@ -20,7 +20,7 @@ use witness::{BitJudge, Judgement};
 /// A judge of witnesses over a circuit, which notes of the text so far in which frame the claim is first reached, where notes
 /// are asked for. Beside what the judge holds it keeps one frame for each bad property then, and else none.
 ///
-/// A caller feeds it pieces, or cuts the text itself, into bytes that end no line and the rests of lines with their ends.
+/// A caller feeds it pieces, or cuts the text itself, into bytes that end no line and the rests of lines, each of which ends.
 #[derive(Drop)]
 pub struct BitNoter<'a> {
     judge: BitJudge<'a>,
@@ -64,15 +64,12 @@ impl<'a> BitNoter<'a> {
         self.judge.feed(bytes);
     }
 
-    /// Takes the rest of a line with its end, and notes the frame that it closes.
-    ///
-    /// Condition: there is no end of a line but the last byte.
-    pub fn take_line(&mut self, bytes: &[u8])
-        requires { EndsLine bytes.now }
-        ensures { (noted : Bool) (c : Circuit) (text : List ℕ) → NotesBits noted c self.old text → NotesBits noted c self.new (text ++ bytes.now) }
+    /// Takes the rest of a line, and its end, and notes the frame that they close.
+    pub fn take_line(&mut self, line: &[u8])
+        ensures { (noted : Bool) (c : Circuit) (text : List ℕ) → IsLine line.now → NotesBits noted c self.old text → NotesBits noted c self.new (text ++ (line.now ++ 10 ∷ [])) }
     {
         let closed = self.judge.closed_frames();
-        self.judge.feed(bytes);
+        self.judge.take_line(line);
         if self.judge.closed_frames() == closed {
             return;
         }
@@ -85,8 +82,7 @@ impl<'a> BitNoter<'a> {
     {
         let mut rest = bytes;
         while let Some((line, behind)) = next_line(rest) {
-            let (whole, _) = rest.split_at(line.len() + 1);
-            self.take_line(whole);
+            self.take_line(line);
             rest = behind;
         }
         self.take_bytes(rest);

@@ -1,16 +1,16 @@
-use Rattle.std.proofs.Common.{arith}
+use Rattle.std.proofs.Common.{◌-◌, arith}
 use Rattle.lift.proofs.PutLemmas.{piece_of_header, piece_of_claim, piece_of_initial, piece_of_frame}
 use Rattle.lift.proofs.pieces.put_piece.Goals as goal
 
 pub returns-then-number-eq0-clause-puts : goal.returns-then-number-eq0-clause-puts
-returns-then-number-eq0-clause-puts g c = rw (piece_of_header c.args.named c.args.model.now c.args.number c.args.kept.now (omega (arith, c.if-number-eq0.true))) c.put_bytes.ensures.puts
+returns-then-number-eq0-clause-puts g c = rw (piece_of_header c.args.named c.args.model.now c.args.number c.args.line.now (omega (arith, c.if-number-eq0.true))) c.put_line.ensures.puts
 
 pub returns-then-number-eq1-clause-puts : goal.returns-then-number-eq1-clause-puts
-returns-then-number-eq1-clause-puts g c = rw (piece_of_claim c.args.named c.args.model.now c.args.number c.args.kept.now (omega (arith, c.if-number-eq1.true))) (rw c.number.ensures at c.put_mark.ensures.puts)
+returns-then-number-eq1-clause-puts g c = rw (piece_of_claim c.args.named c.args.model.now c.args.number c.args.line.now (omega (arith, c.if-number-eq1.true))) c.put_line-then-number-eq1.ensures.puts
 
 pub returns-then-number-eq2-clause-puts : goal.returns-then-number-eq2-clause-puts
-returns-then-number-eq2-clause-puts g c = rw (piece_of_initial c.args.named c.args.model.now c.args.number c.args.kept.now (omega (arith, c.if-number-eq2.true))) (rw c.bits.ensures at c.put_initial.ensures.puts)
+returns-then-number-eq2-clause-puts g c = rw (piece_of_initial c.args.named c.args.model.now c.args.number c.args.line.now (omega (arith, c.if-number-eq2.true))) c.put_initial.ensures.puts
 
 pub returns-clause-puts : goal.returns-clause-puts
 returns-clause-puts g c =
-    rw (piece_of_frame c.args.named c.args.model.now c.args.number c.args.kept.now (λ e. omega (arith, c.if-number-eq0.false, e)) (λ e. omega (arith, c.if-number-eq1.false, e)) (λ e. omega (arith, c.if-number-eq2.false, e))) c.put_frame_or_end.ensures.puts
+    rw (piece_of_frame c.args.named c.args.model.now c.args.number (c.args.number - 3) c.args.line.now (omega (arith, c.if-number-eq0.false, c.if-number-eq1.false, c.if-number-eq2.false))) c.put_frame_or_end.ensures.puts

@@ -1,13 +1,10 @@
-use Rattle.std.proofs.Common.{Bool, refl, rules, ◌∙◌}
+use Rattle.std.proofs.Common.{Bool, refl, rules}
 use Rattle.std.proofs.lemmas.Result.{err_from_is_err_and}
-use Rattle.lift.proofs.LifterLemmas.{took_none, line_with_end, took_line, line_fails, took_all}
+use Rattle.lift.proofs.LifterLemmas.{took_none, took_line, line_fails, took_all}
 use Rattle.lift.proofs.lifter.Lifter.take.Goals as goal
 
 pub loop-line-init : goal.loop-line-init
 loop-line-init g c = record { took = took_none _ _ _ _; counted = refl }
-
-pub take_line-requires-clause-whole : goal.take_line-requires-clause-whole
-take_line-requires-clause-whole g c = c.split_at.ensures.front ∙ line_with_end c.loop-line.rest.now c.in-Some.line.now c.in-Some.behind.now c.in-Some.ensures.0
 
 pub returns-in_err-take_line-clause-takes : goal.returns-in_err-take_line-clause-takes
 returns-in_err-take_line-clause-takes g c =

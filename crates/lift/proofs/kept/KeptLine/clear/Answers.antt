@@ -1,5 +1,0 @@
-use Rattle.lift.proofs.KeptLemmas.{keeps_nothing}
-use Rattle.lift.proofs.kept.KeptLine.clear.Goals as goal
-
-pub returns-clause-keeps : goal.returns-clause-keeps
-returns-clause-keeps c = keeps_nothing c.self.inside.bits.items
