@@ -1,13 +1,10 @@
 -- The text of a formula, piece by piece.
-use Rattle.std.proofs.Common.{◌≡◌, ℕ, zero, suc, ◌+◌, ◌/◌, ◌<◌, List, [], ◌∷◌, ◌++◌, length, get_or, drop, codes, decimal, append_assoc, refl, sym, ap, ◌∙◌, arith}
+use Rattle.std.proofs.Common.{◌≡◌, ℕ, zero, suc, ◌+◌, ◌<◌, List, [], ◌∷◌, ◌++◌, length, get_or, drop, codes, decimal, append_assoc, refl, sym, ap, ◌∙◌, arith}
 use Rattle.clauses.specs.Formula.{Formula}
 use Rattle.clauses.specs.FormulaTexts.{literal_text, literals_text, clause_line, clauses_text, header_line}
 
 pub clause_parts : (clause : List ℕ) → clause_line clause ++ 10 ∷ [] ≡ literals_text clause ++ codes "0\n"
 clause_parts clause = append_assoc (literals_text clause) (codes "0") (10 ∷ [])
-
-pub literal_parts : (literal : ℕ) (sign : List ℕ) → sign ++ decimal (literal / 2) ≡ literal_text literal → literal_text literal ++ 32 ∷ [] ≡ sign ++ (decimal (literal / 2) ++ 32 ∷ [])
-literal_parts literal sign is = ap (λ (l : List ℕ). l ++ 32 ∷ []) (sym is) ∙ append_assoc sign (decimal (literal / 2)) (32 ∷ [])
 
 pub header_parts : (f : Formula) → header_line f ++ 10 ∷ [] ≡ codes "p cnf " ++ (decimal f.variables ++ (32 ∷ [] ++ (decimal (length f.clauses) ++ 10 ∷ [])))
 header_parts f =
