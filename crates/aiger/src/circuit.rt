@@ -211,7 +211,8 @@ impl Circuit {
     /// Error: `LiteralOutOfRange` where the literal's variable is above the greatest so far. It takes no memory.
     pub fn set_latch(&mut self, k: usize, next: Lit, reset: Reset) -> Result<(), CircuitFault>
         requires { k < length self.old.latches }
-        ensures ok { OnOk result (self.new ≡ with_latch self.old k (record { next = next; reset = reset })) }
+        ensures ok { OnOk result (self.new
+            ≡ with_latch self.old k (record { next = next; reset = reset })) }
         ensures refused { RefusesOnlyBy result (literal_refusal self.old next) }
         ensures err { OnErr result (self.new ≡ self.old) }
     {
@@ -228,7 +229,8 @@ impl Circuit {
     /// 2^30 outputs already, `NoMemory`.
     pub fn push_output(&mut self, lit: Lit) -> Result<(), CircuitFault>
         ensures ok { OnOk result (self.new ≡ with_output self.old lit) }
-        ensures refused { RefusesBy result (property_refusal self.old (length self.old.outputs) lit) }
+        ensures refused { RefusesBy result
+            (property_refusal self.old (length self.old.outputs) lit) }
         ensures err { OnErr result (self.new ≡ self.old) }
     {
         if !self.is_defined(lit) {
@@ -258,7 +260,8 @@ impl Circuit {
     /// 2^30 constraints already, `NoMemory`.
     pub fn push_constraint(&mut self, lit: Lit) -> Result<(), CircuitFault>
         ensures ok { OnOk result (self.new ≡ with_constraint self.old lit) }
-        ensures refused { RefusesBy result (property_refusal self.old (length self.old.constraints) lit) }
+        ensures refused { RefusesBy result
+            (property_refusal self.old (length self.old.constraints) lit) }
         ensures err { OnErr result (self.new ≡ self.old) }
     {
         if !self.is_defined(lit) {

@@ -19,7 +19,8 @@ pub fn exactly_one_trace()
         → All (λ input. length input ≡ c.inputs) inputs
         → (vs : List Valuation) × IsCircuitTrace c state inputs vs }
     // Any two say the same of each variable in each frame.
-    ensures unique { (c : Circuit) (state : List Bool) (inputs : List (List Bool)) (vs ws : List Valuation)
+    ensures unique { (c : Circuit) (state : List Bool) (inputs : List (List Bool))
+        (vs ws : List Valuation)
         → IsCircuit c → IsCircuitTrace c state inputs vs → IsCircuitTrace c state inputs ws
         → SameCircuitTrace c vs ws }
 {}
@@ -29,12 +30,14 @@ pub fn exactly_one_trace()
 /// the law.
 pub fn names_in_any_order()
     ensures { (c : Circuit) (names : NameMap) → IsCircuit c → IsCircuit (record c { names = names })
-        → ((s : Section) (k : ℕ) → name_in names s k ≡ name_of c s k) → record c { names = names } ≡ c }
+        → ((s : Section) (k : ℕ) → name_in names s k ≡ name_of c s k)
+        → record c { names = names } ≡ c }
 {}
 
 /// A circuit with a name more that it takes is one. It does nothing: its contract is the law.
 pub fn circuit_with_a_name()
-    ensures { (c : Circuit) (s : Section) (k : ℕ) (name : List ℕ) → IsCircuit c → name_refusal c s k name ≡ None → IsCircuit (with_name c s k name) }
+    ensures { (c : Circuit) (s : Section) (k : ℕ) (name : List ℕ) → IsCircuit c
+        → name_refusal c s k name ≡ None → IsCircuit (with_name c s k name) }
 {}
 
 /// Worked rows of literals, gates and traces. It does nothing: its contract and what it

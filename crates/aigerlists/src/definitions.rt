@@ -49,7 +49,8 @@ impl Definitions {
     /// Whether all of them were added in turn, and so are those from 1 to a greatest one.
     #[tactic(auto, unfolding(crate::specs::Definitions::is_marked))]
     pub fn are_in_turn(&self) -> bool
-        ensures { result ≡ true → (v : ℕ) → has_variable self.now v ≡ (nat_le 1 v && nat_le v self.now.in_turn) }
+        ensures { result ≡ true → (v : ℕ) → has_variable self.now v
+            ≡ (nat_le 1 v && nat_le v self.now.in_turn) }
     {
         self.word == 0 && self.others.is_empty()
     }
@@ -62,7 +63,8 @@ impl Definitions {
     /// Adds a variable. The error is want of memory, and nothing has changed then.
     #[inline(always)]
     pub fn add(&mut self, variable: u32) -> Result<(), CircuitFault>
-        ensures added { OnOk result ((v : ℕ) → has_variable self.new v ≡ cond (nat_eq variable v) true (has_variable self.old v)) }
+        ensures added { OnOk result ((v : ℕ) → has_variable self.new v
+            ≡ cond (nat_eq variable v) true (has_variable self.old v)) }
         ensures refused { RefusesBy result None }
         ensures kept { OnErr result ((v : ℕ) → has_variable self.new v ≡ has_variable self.old v) }
     {
@@ -99,8 +101,10 @@ impl Definitions {
     #[inline(always)]
     fn add_other(&mut self, variable: u32) -> Result<(), AllocError>
         ensures in_turn { self.new.in_turn ≡ self.old.in_turn }
-        ensures added { OnOk result ((v : ℕ) → is_marked (word_of self.new (v / 64)) (v % 64) ≡ cond (nat_eq variable v) true (is_marked (word_of self.old (v / 64)) (v % 64))) }
-        ensures kept { OnErr result ((v : ℕ) → is_marked (word_of self.new (v / 64)) (v % 64) ≡ is_marked (word_of self.old (v / 64)) (v % 64)) }
+        ensures added { OnOk result ((v : ℕ) → is_marked (word_of self.new (v / 64)) (v % 64)
+            ≡ cond (nat_eq variable v) true (is_marked (word_of self.old (v / 64)) (v % 64))) }
+        ensures kept { OnErr result ((v : ℕ) → is_marked (word_of self.new (v / 64)) (v % 64)
+            ≡ is_marked (word_of self.old (v / 64)) (v % 64)) }
     {
         self.turn_to(variable / 64)?;
         self.word |= 1u64 << (variable % 64);
@@ -112,7 +116,8 @@ impl Definitions {
     fn turn_to(&mut self, place: u32) -> Result<(), AllocError>
         ensures in_turn { self.new.in_turn ≡ self.old.in_turn }
         ensures place { OnOk result (self.new.place ≡ place) }
-        ensures same { (w i : ℕ) → is_marked (word_of self.new w) i ≡ is_marked (word_of self.old w) i }
+        ensures same { (w i : ℕ) → is_marked (word_of self.new w) i
+            ≡ is_marked (word_of self.old w) i }
     {
         if place == self.place {
             return Ok(());

@@ -21,8 +21,10 @@ pub fn renumbered_traces()
         → All (λ input. length input ≡ length l.inputs) inputs
         → (vs : List Valuation) × IsLooseTrace l state inputs vs }
     // Each of its traces shows what a trace of the circuit shows.
-    ensures same { (l : Loose) (c : Circuit) (state : List Bool) (inputs : List (List Bool)) (vs ws : List Valuation)
-        → IsLoose l → IsRenumbered l c → IsLooseTrace l state inputs vs → IsCircuitTrace c state inputs ws
+    ensures same { (l : Loose) (c : Circuit) (state : List Bool) (inputs : List (List Bool))
+        (vs ws : List Valuation)
+        → IsLoose l → IsRenumbered l c → IsLooseTrace l state inputs vs
+        → IsCircuitTrace c state inputs ws
         → AllShowSame l c vs ws }
     // The latches begin alike.
     ensures resets { (l : Loose) (c : Circuit) → IsRenumbered l c
@@ -33,7 +35,9 @@ pub fn renumbered_traces()
 /// as many inputs, latches and gates, and the circuit is these lists as numbered, where each variable has
 /// its own number. It does nothing: its contract is the law.
 pub fn own_numbers()
-    ensures many { (c : Circuit) → (length (own_lists c).inputs ≡ c.inputs) × (length (own_lists c).latches ≡ length c.latches) × (length (own_lists c).gates ≡ length c.gates) }
+    ensures many { (c : Circuit) → (length (own_lists c).inputs ≡ c.inputs)
+        × (length (own_lists c).latches ≡ length c.latches)
+        × (length (own_lists c).gates ≡ length c.gates) }
     ensures valid { (c : Circuit) → IsCircuit c → IsLoose (own_lists c) }
     ensures numbered { (c : Circuit) → IsCircuit c → IsRenumbered (own_lists c) c }
     ensures numbering { (c : Circuit) → IsCircuit c → IsNumberingOf (own_lists c) c None }
@@ -42,11 +46,14 @@ pub fn own_numbers()
 /// A file is a circuit as numbered exactly where each variable that it uses is defined and none of
 /// its gates leads to a cycle, and then it is one alone. It does nothing: its contract is the law.
 pub fn one_renumbering()
-    ensures exists { (l : Loose) → first_undefined l ≡ None → ((j : ℕ) → j < length l.gates → ¬ LeadsToCycle l j) → (c : Circuit) × IsRenumbered l c }
-    ensures either { (l : Loose) → IsLoose l → first_undefined l ≡ None → ((c : Circuit) × IsRenumbered l c) ⊎ ((j : ℕ) × IsFirstCyclic l j) }
+    ensures exists { (l : Loose) → first_undefined l ≡ None
+        → ((j : ℕ) → j < length l.gates → ¬ LeadsToCycle l j) → (c : Circuit) × IsRenumbered l c }
+    ensures either { (l : Loose) → IsLoose l → first_undefined l ≡ None
+        → ((c : Circuit) × IsRenumbered l c) ⊎ ((j : ℕ) × IsFirstCyclic l j) }
     ensures circuit { (l : Loose) (c : Circuit) → IsLoose l → IsRenumbered l c → IsCircuit c }
     ensures unique { (l : Loose) (c d : Circuit) → IsRenumbered l c → IsRenumbered l d → c ≡ d }
-    ensures no_cycle { (l : Loose) (c : Circuit) (j : ℕ) → IsLoose l → IsRenumbered l c → j < length l.gates → ¬ LeadsToCycle l j }
+    ensures no_cycle { (l : Loose) (c : Circuit) (j : ℕ) → IsLoose l → IsRenumbered l c
+        → j < length l.gates → ¬ LeadsToCycle l j }
 {}
 
 /// Worked rows of the lists of a file and their renumbering. It does nothing: its contract is the
@@ -56,7 +63,8 @@ pub fn worked_renumbering()
     ensures in_order { IsOrder crossed (0 ∷ 1 ∷ []) }
     ensures before_its_line { IsOrder backwards (1 ∷ 0 ∷ []) }
     ensures by_file_order { ¬ IsOrder backwards (0 ∷ 1 ∷ []) }
-    ensures same { (renumbered crossed (0 ∷ 1 ∷ []) ≡ straight) × (renumbered backwards (1 ∷ 0 ∷ []) ≡ straight) }
+    ensures same { (renumbered crossed (0 ∷ 1 ∷ []) ≡ straight)
+        × (renumbered backwards (1 ∷ 0 ∷ []) ≡ straight) }
     ensures valid { IsCircuit straight }
     // Each variable that they use is defined; an undefined one is told at its line, from 0.
     ensures known { (first_undefined crossed ≡ None) × (first_undefined looped ≡ None) }
@@ -69,20 +77,28 @@ pub fn worked_renumbering()
     ensures far { (renumbered far []).outputs ≡ 2 ∷ [] }
     ensures alone { renumbered loose_toggler [] ≡ toggler_of_any }
     // The literals of gates in either order, of a negation, and of a variable that no line defines.
-    ensures variables { (variables_numbered crossed (0 ∷ 1 ∷ []) ≡ 1 ∷ 2 ∷ 7 ∷ 6 ∷ []) × (variables_numbered backwards (1 ∷ 0 ∷ []) ≡ 1 ∷ 2 ∷ 7 ∷ 6 ∷ []) }
-    ensures literals { (numbered_literal (Some (1 ∷ 2 ∷ 7 ∷ 6 ∷ [])) 12 ≡ Some 8) × (numbered_literal (Some (1 ∷ 2 ∷ 7 ∷ 6 ∷ [])) 15 ≡ Some 7) × (numbered_literal (Some (1 ∷ 2 ∷ 7 ∷ 6 ∷ [])) 1 ≡ Some 1) }
+    ensures variables { (variables_numbered crossed (0 ∷ 1 ∷ []) ≡ 1 ∷ 2 ∷ 7 ∷ 6 ∷ [])
+        × (variables_numbered backwards (1 ∷ 0 ∷ []) ≡ 1 ∷ 2 ∷ 7 ∷ 6 ∷ []) }
+    ensures literals { (numbered_literal (Some (1 ∷ 2 ∷ 7 ∷ 6 ∷ [])) 12 ≡ Some 8)
+        × (numbered_literal (Some (1 ∷ 2 ∷ 7 ∷ 6 ∷ [])) 15 ≡ Some 7)
+        × (numbered_literal (Some (1 ∷ 2 ∷ 7 ∷ 6 ∷ [])) 1 ≡ Some 1) }
     ensures no_literal { numbered_literal (Some (1 ∷ 2 ∷ 7 ∷ 6 ∷ [])) 8 ≡ None }
     ensures own_literal { numbered_literal None 9 ≡ Some 9 }
     ensures of_each { IsRenumbered of_each of_each_numbered }
     // The lists of a circuit in its own numbers.
-    ensures own { ((own_lists straight).inputs ≡ 2 ∷ 4 ∷ []) × ((own_lists straight).gates ≡ record { lhs = 6; rhs0 = 5; rhs1 = 2 } ∷ record { lhs = 8; rhs0 = 6; rhs1 = 3 } ∷ []) }
+    ensures own { ((own_lists straight).inputs ≡ 2 ∷ 4 ∷ [])
+        × ((own_lists straight).gates ≡ record { lhs = 6; rhs0 = 5; rhs1 = 2 }
+        ∷ record { lhs = 8; rhs0 = 6; rhs1 = 3 } ∷ []) }
     // A variable that is defined twice, and a defining literal that is odd.
     ensures twice { ¬ HasDefinitions (with_input_line (with_input_line empty_loose 4) 4) }
     ensures odd { loose_line_refusal empty_loose 5 [] ≡ Some LiteralOutOfRange }
     ensures again { loose_line_refusal crossed 12 (2147483650 ∷ []) ≡ Some LiteralOutOfRange }
-    ensures too_big { (loose_line_refusal crossed 10 (2147483650 ∷ []) ≡ Some TooBig) × (use_refusal 0 2147483650 ≡ Some TooBig) }
+    ensures too_big { (loose_line_refusal crossed 10 (2147483650 ∷ []) ≡ Some TooBig)
+        × (use_refusal 0 2147483650 ≡ Some TooBig) }
     ensures at_the_limit { use_refusal 0 2147483649 ≡ None }
     // The toggler under another name, from 0 and from 1.
-    ensures toggles { IsLooseTrace loose_toggler (false ∷ []) ([] ∷ [] ∷ []) (named_off ∷ named_on ∷ []) }
-    ensures stays { ¬ IsLooseTrace loose_toggler (false ∷ []) ([] ∷ [] ∷ []) (named_off ∷ named_off ∷ []) }
+    ensures toggles { IsLooseTrace loose_toggler (false ∷ []) ([] ∷ [] ∷ [])
+        (named_off ∷ named_on ∷ []) }
+    ensures stays { ¬ IsLooseTrace loose_toggler (false ∷ []) ([] ∷ [] ∷ [])
+        (named_off ∷ named_off ∷ []) }
 {}

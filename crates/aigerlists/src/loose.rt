@@ -119,7 +119,8 @@ impl Loose {
     /// Errors: `LiteralOutOfRange` where `current` is odd, below 2 or defined already, `TooBig` where a variable is above
     /// 2^30 or there are 2^30 definitions already, `NoMemory`.
     pub fn push_latch(&mut self, current: Lit, next: Lit, reset: Reset) -> Result<(), CircuitFault>
-        ensures ok { OnOk result (self.new ≡ with_latch_line self.old (record { current = current; next = next; reset = reset })) }
+        ensures ok { OnOk result (self.new ≡ with_latch_line self.old
+            (record { current = current; next = next; reset = reset })) }
         ensures refused { RefusesBy result (loose_line_refusal self.old current (next ∷ [])) }
         ensures err { OnErr result (self.new ≡ self.old) }
     {
@@ -142,7 +143,8 @@ impl Loose {
     /// Errors: `LiteralOutOfRange` where `lhs` is odd, below 2 or defined already, `TooBig` where a variable is above
     /// 2^30 or there are 2^30 definitions already, `NoMemory`.
     pub fn push_gate(&mut self, lhs: Lit, rhs0: Lit, rhs1: Lit) -> Result<(), CircuitFault>
-        ensures ok { OnOk result (self.new ≡ with_gate_line self.old (record { lhs = lhs; rhs0 = rhs0; rhs1 = rhs1 })) }
+        ensures ok { OnOk result (self.new ≡ with_gate_line self.old
+            (record { lhs = lhs; rhs0 = rhs0; rhs1 = rhs1 })) }
         ensures refused { RefusesBy result (loose_line_refusal self.old lhs (rhs0 ∷ rhs1 ∷ [])) }
         ensures err { OnErr result (self.new ≡ self.old) }
     {
@@ -276,7 +278,8 @@ impl Loose {
 
     /// Whether the lines define the variables from 1 to a greatest one, each in its turn.
     pub(crate) fn define_in_turn(&self) -> bool
-        ensures { result ≡ true → (greatest : ℕ) × ((v : ℕ) → is_defined self.now v ≡ (nat_le 1 v && nat_le v greatest)) }
+        ensures { result ≡ true → (greatest : ℕ)
+            × ((v : ℕ) → is_defined self.now v ≡ (nat_le 1 v && nat_le v greatest)) }
     {
         self.defined.are_in_turn()
     }
@@ -444,10 +447,12 @@ fn define<T: Copy>(
     line: T,
 ) -> Result<(), CircuitFault>
     ensures lines { OnOk result (lines.new.items ≡ lines.old.items ++ line ∷ []) }
-    ensures defined { OnOk result ((v : ℕ) → has_variable defined.new v ≡ cond (nat_eq variable v) true (has_variable defined.old v)) }
+    ensures defined { OnOk result ((v : ℕ) → has_variable defined.new v
+        ≡ cond (nat_eq variable v) true (has_variable defined.old v)) }
     ensures refused { RefusesBy result None }
     ensures lines_kept { OnErr result (lines.new.items ≡ lines.old.items) }
-    ensures defined_kept { OnErr result ((v : ℕ) → has_variable defined.new v ≡ has_variable defined.old v) }
+    ensures defined_kept { OnErr result ((v : ℕ) → has_variable defined.new v
+        ≡ has_variable defined.old v) }
 {
     lines.reserve(1)?;
     defined.add(variable)?;

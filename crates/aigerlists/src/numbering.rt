@@ -84,7 +84,8 @@ impl Loose {
     /// The circuit that lists whose gates stand behind their operands are.
     fn number_in_order(&self, alloc: Global, places: &Numbers) -> Result<Circuit, LooseFault>
         requires places { places.now ≡ defined_variables self.now }
-        requires in_order { WaitForEarlier (defined_variables self.now) (length self.now.inputs + length self.now.latches) self.now.gates }
+        requires in_order { WaitForEarlier (defined_variables self.now)
+            (length self.now.inputs + length self.now.latches) self.now.gates }
         requires valid { IsLoose self.now }
         ensures answers { AnswersNumber self.now result }
         ensures numbering { IfOk result (λ c. IsNumberingOf self.now c (Some places.now)) }
@@ -98,7 +99,8 @@ impl Loose {
 
     /// The circuit that lists whose gates may stand in any order are, by what their gates wait for.
     fn number_by_slots(&self, alloc: Global, slots: Vec<u32>) -> Result<Numbered, LooseFault>
-        requires { slots.items ≡ slots_of (defined_variables self.now) (length self.now.inputs + length self.now.latches) self.now.gates }
+        requires { slots.items ≡ slots_of (defined_variables self.now)
+            (length self.now.inputs + length self.now.latches) self.now.gates }
         ensures { AnswersNumbered self.now result }
     {
         match self.undefined_by_slots(&slots) {
@@ -110,7 +112,8 @@ impl Loose {
     /// The first line that uses a variable that is neither 0 nor defined, by what the gates wait for: a place behind all
     /// gates is that of no variable.
     fn undefined_by_slots(&self, slots: &[u32]) -> Option<usize>
-        requires { slots.now ≡ slots_of (defined_variables self.now) (length self.now.inputs + length self.now.latches) self.now.gates }
+        requires { slots.now ≡ slots_of (defined_variables self.now)
+            (length self.now.inputs + length self.now.latches) self.now.gates }
         ensures { result ≡ first_undefined self.now }
     {
         if are_within(slots, self.gates().len()) {
@@ -122,7 +125,8 @@ impl Loose {
     /// The circuit of lists whose gates may stand in any order, where each variable is defined.
     fn number_by_readiness(&self, alloc: Global, slots: Vec<u32>) -> Result<Numbered, LooseFault>
         requires known { first_undefined self.now ≡ None }
-        requires slots { slots.items ≡ slots_of (defined_variables self.now) (length self.now.inputs + length self.now.latches) self.now.gates }
+        requires slots { slots.items ≡ slots_of (defined_variables self.now)
+            (length self.now.inputs + length self.now.latches) self.now.gates }
         ensures { AnswersNumbered self.now result }
     {
         let (order, heads) = order_of_readiness(alloc, slots, self.gates().len())?;
@@ -161,7 +165,8 @@ impl Loose {
     /// The variables of inputs and latches in file order, behind none.
     fn push_leaves(&self, numbers: &mut Numbers) -> Result<(), AllocError>
         requires { numbers.old ≡ [] }
-        ensures numbers { OnOk result (numbers.new ≡ map variable self.now.inputs ++ map latch_variable self.now.latches) }
+        ensures numbers { OnOk result (numbers.new ≡ map variable self.now.inputs
+            ++ map latch_variable self.now.latches) }
         ensures valid { IsLoose self.now }
     {
         numbers.push_inputs(self.inputs())?;
@@ -203,7 +208,9 @@ impl Loose {
     /// position of the gate that it waits for and 1. The places are needed no more, and are dropped.
     fn slots(&self, alloc: Global, places: Numbers) -> Result<Vec<u32>, AllocError>
         requires { places ≡ defined_variables self.now }
-        ensures slots { IfOk result (λ v. v.items ≡ slots_of (defined_variables self.now) (length self.now.inputs + length self.now.latches) self.now.gates) }
+        ensures slots { IfOk result (λ v. v.items
+            ≡ slots_of (defined_variables self.now)
+            (length self.now.inputs + length self.now.latches) self.now.gates) }
         ensures valid { IsLoose self.now }
     {
         places.gate_slots(alloc, self.leaf_count(), self.gates())

@@ -40,7 +40,8 @@ fn take_in_turn(
     order: &mut Vec<u32>,
 ) -> Result<(), AllocError>
     ghost passed: { Passed }
-    requires { IsUnderway passed.slots passed.gates 0 order.old.items [] heads.old.items links.old.items (λ i. 0) }
+    requires { IsUnderway passed.slots passed.gates 0 order.old.items [] heads.old.items
+        links.old.items (λ i. 0) }
     ensures { OnOk result (IsWholeOrder passed.slots passed.gates order.new.items heads.new.items) }
 {
     let mut ready = ReadyGates {
@@ -65,10 +66,14 @@ fn pass(
     ghost passed: { Passed }
     requires bound { passed.bound ≡ gate + 1 }
     requires low { gate < passed.gates }
-    requires underway { IsUnderway passed.slots passed.gates gate order.old.items [] heads.old.items links.old.items (times_ready ready.old.first (heap_items ready.old.others)) }
+    requires underway { IsUnderway passed.slots passed.gates gate order.old.items [] heads.old.items
+        links.old.items (times_ready ready.old.first (heap_items ready.old.others)) }
     requires none { (i : ℕ) → times_ready ready.old.first (heap_items ready.old.others) i ≡ 0 }
-    ensures underway { OnOk result (IsUnderway passed.slots passed.gates passed.bound order.new.items [] heads.new.items links.new.items (times_ready ready.new.first (heap_items ready.new.others))) }
-    ensures none { OnOk result ((i : ℕ) → times_ready ready.new.first (heap_items ready.new.others) i ≡ 0) }
+    ensures underway { OnOk result
+        (IsUnderway passed.slots passed.gates passed.bound order.new.items [] heads.new.items
+        links.new.items (times_ready ready.new.first (heap_items ready.new.others))) }
+    ensures none { OnOk result ((i : ℕ)
+        → times_ready ready.new.first (heap_items ready.new.others) i ≡ 0) }
 {
     if wait(gate, 2 * gate, links, heads) {
         return Ok(());
@@ -88,9 +93,13 @@ fn take_ready(
     order: &mut Vec<u32>,
 ) -> Result<(), AllocError>
     ghost passed: { Passed }
-    requires { IsUnderway passed.slots passed.gates passed.bound order.old.items [] heads.old.items links.old.items (times_ready ready.old.first (heap_items ready.old.others)) }
-    ensures underway { OnOk result (IsUnderway passed.slots passed.gates passed.bound order.new.items [] heads.new.items links.new.items (times_ready ready.new.first (heap_items ready.new.others))) }
-    ensures none { OnOk result ((i : ℕ) → times_ready ready.new.first (heap_items ready.new.others) i ≡ 0) }
+    requires { IsUnderway passed.slots passed.gates passed.bound order.old.items [] heads.old.items
+        links.old.items (times_ready ready.old.first (heap_items ready.old.others)) }
+    ensures underway { OnOk result
+        (IsUnderway passed.slots passed.gates passed.bound order.new.items [] heads.new.items
+        links.new.items (times_ready ready.new.first (heap_items ready.new.others))) }
+    ensures none { OnOk result ((i : ℕ)
+        → times_ready ready.new.first (heap_items ready.new.others) i ≡ 0) }
 {
     while let Some(gate) = ready.take_first()? {
         take(gate, links, heads, ready, order)?;
@@ -107,9 +116,12 @@ fn take(
     order: &mut Vec<u32>,
 ) -> Result<(), AllocError>
     ghost passed: { Passed }
-    requires { IsTaken passed.slots passed.gates passed.bound order.old.items gate heads.old.items links.old.items (times_ready ready.old.first (heap_items ready.old.others)) }
+    requires { IsTaken passed.slots passed.gates passed.bound order.old.items gate heads.old.items
+        links.old.items (times_ready ready.old.first (heap_items ready.old.others)) }
     ensures order { OnOk result (order.new.items ≡ order.old.items ++ gate ∷ []) }
-    ensures underway { OnOk result (IsUnderway passed.slots passed.gates passed.bound order.new.items [] heads.new.items links.new.items (times_ready ready.new.first (heap_items ready.new.others))) }
+    ensures underway { OnOk result
+        (IsUnderway passed.slots passed.gates passed.bound order.new.items [] heads.new.items
+        links.new.items (times_ready ready.new.first (heap_items ready.new.others))) }
 {
     order.push(gate)?;
     let mut at = heads[gate as usize];
@@ -132,8 +144,14 @@ fn look_again(
     requires place { 2 * user + 1 < length links.old.items }
     requires few { length links.old.items ≤ 2147483648 }
     requires within { slot_at links.old.items (2 * user + 1) ≤ length heads.old.items }
-    ensures waits { OnOk result (is_open heads.old.items links.old.items (2 * user + 1) ≡ true → IsPut user (2 * user + 1) heads.old.items links.old.items heads.new.items links.new.items × ((i : ℕ) → times_ready ready.new.first (heap_items ready.new.others) i ≡ times_ready ready.old.first (heap_items ready.old.others) i)) }
-    ensures ready { OnOk result (is_open heads.old.items links.old.items (2 * user + 1) ≡ false → (heads.new.items ≡ heads.old.items) × (links.new.items ≡ links.old.items) × ((i : ℕ) → times_ready ready.new.first (heap_items ready.new.others) i ≡ times_ready ready.old.first (heap_items ready.old.others) i + one_if (nat_eq user i))) }
+    ensures waits { OnOk result (is_open heads.old.items links.old.items (2 * user + 1) ≡ true
+        → IsPut user (2 * user + 1) heads.old.items links.old.items heads.new.items links.new.items
+        × ((i : ℕ) → times_ready ready.new.first (heap_items ready.new.others) i
+        ≡ times_ready ready.old.first (heap_items ready.old.others) i)) }
+    ensures ready { OnOk result (is_open heads.old.items links.old.items (2 * user + 1) ≡ false
+        → (heads.new.items ≡ heads.old.items) × (links.new.items ≡ links.old.items)
+        × ((i : ℕ) → times_ready ready.new.first (heap_items ready.new.others) i
+        ≡ times_ready ready.old.first (heap_items ready.old.others) i + one_if (nat_eq user i))) }
 {
     if wait(user, 2 * user + 1, links, heads) {
         return Ok(());
@@ -148,8 +166,10 @@ fn wait(gate: usize, slot: usize, links: &mut Vec<u32>, heads: &mut Vec<u32>) ->
     requires few { length links.old.items ≤ 2147483648 }
     requires within { slot_at links.old.items slot ≤ length heads.old.items }
     ensures waits { result ≡ is_open heads.old.items links.old.items slot }
-    ensures put { result ≡ true → IsPut gate slot heads.old.items links.old.items heads.new.items links.new.items }
-    ensures kept { result ≡ false → (heads.new.items ≡ heads.old.items) × (links.new.items ≡ links.old.items) }
+    ensures put { result ≡ true
+        → IsPut gate slot heads.old.items links.old.items heads.new.items links.new.items }
+    ensures kept { result ≡ false → (heads.new.items ≡ heads.old.items)
+        × (links.new.items ≡ links.old.items) }
 {
     let named = links[slot];
     if named == 0 {
@@ -176,7 +196,8 @@ struct ReadyGates {
 impl ReadyGates {
     /// One more is ready. The error is want of memory.
     fn put(&mut self, gate: u32) -> Result<(), AllocError>
-        ensures { OnOk result ((i : ℕ) → times_ready self.new.first (heap_items self.new.others) i ≡ times_ready self.old.first (heap_items self.old.others) i + one_if (nat_eq gate i)) }
+        ensures { OnOk result ((i : ℕ) → times_ready self.new.first (heap_items self.new.others) i
+            ≡ times_ready self.old.first (heap_items self.old.others) i + one_if (nat_eq gate i)) }
     {
         let Some(first) = self.first else {
             self.first = Some(gate);
@@ -189,7 +210,9 @@ impl ReadyGates {
 
     /// Takes the first one, if there is one. The error is want of memory.
     fn take_first(&mut self) -> Result<Option<u32>, AllocError>
-        ensures { IfOk result (λ g. IsFirstReady g (times_ready self.old.first (heap_items self.old.others)) (times_ready self.new.first (heap_items self.new.others))) }
+        ensures { IfOk result
+            (λ g. IsFirstReady g (times_ready self.old.first (heap_items self.old.others))
+            (times_ready self.new.first (heap_items self.new.others))) }
     {
         let Some(gate) = self.first else {
             return Ok(pop_first(&mut self.others));
@@ -206,7 +229,8 @@ impl ReadyGates {
 /// Takes the first gate of a heap, if there is one.
 fn pop_first(others: &mut BinaryHeap<Reverse<u32>>) -> Option<u32>
     requires { IsHeap turns (heap_items others.old) }
-    ensures first { IsFirstReady result (times_ready None (heap_items others.old)) (times_ready None (heap_items others.new)) }
+    ensures first { IsFirstReady result (times_ready None (heap_items others.old))
+        (times_ready None (heap_items others.new)) }
     ensures heap { IsHeap turns (heap_items others.new) }
 {
     match others.pop() {

@@ -34,7 +34,8 @@ fn new_lists(
     gates: Vec<Gate>,
 ) -> Result<CircuitLists, AllocError>
     requires { length numbers.now ≤ greatest_count }
-    ensures { IfOk result (λ made. circuit_from made ≡ circuit_by lines.now numbers.now gates.items) }
+    ensures { IfOk result (λ made. circuit_from made
+        ≡ circuit_by lines.now numbers.now gates.items) }
 {
     let latches = new_latches(alloc, numbers, lines.latches())?;
     let outputs = numbers.literals(alloc, lines.outputs())?;
@@ -64,7 +65,9 @@ fn new_latches(
     lines: &[LatchLine],
 ) -> Result<Vec<Latch>, AllocError>
     requires { length numbers.now ≤ greatest_count }
-    ensures { IfOk result (λ v. v.items ≡ map (λ line. record { next = new_literal numbers.now line.next; reset = line.reset }) lines.now) }
+    ensures { IfOk result (λ v. v.items
+        ≡ map (λ line. record { next = new_literal numbers.now line.next; reset = line.reset })
+        lines.now) }
 {
     let mut latches = Vec::with_capacity(alloc, lines.len())?;
     for line in lines {
@@ -104,8 +107,11 @@ pub fn gates_in_order(
     requires within { All (λ j. j < length lines.now) order.now }
     requires once { IsOnce (numbers.old ++ map (gate_name_at lines.now) order.now) }
     requires known { UseNumbered numbers.old lines.now order.now }
-    ensures numbers { OnOk result (numbers.new ≡ numbers.old ++ map (gate_name_at lines.now) order.now) }
-    ensures gates { IfOk result (λ v. v.items ≡ map (λ j. new_gate (numbers.old ++ map (gate_name_at lines.now) order.now) (line_in lines.now j)) order.now) }
+    ensures numbers { OnOk result (numbers.new
+        ≡ numbers.old ++ map (gate_name_at lines.now) order.now) }
+    ensures gates { IfOk result (λ v. v.items
+        ≡ map (λ j. new_gate (numbers.old ++ map (gate_name_at lines.now) order.now)
+        (line_in lines.now j)) order.now) }
 {
     let mut gates = Vec::with_capacity(alloc, order.len())?;
     for gate in order {

@@ -43,7 +43,8 @@ impl Loose {
     /// so many lines.
     fn or_unknown(&self, found: Option<usize>, count: usize, lits: &[Lit]) -> Option<usize>
         requires { count + length lits.now ≤ 1000000000000 }
-        ensures { (lines : List (List ℕ)) → found ≡ position (is_unknown self.now) lines → count ≡ length lines
+        ensures { (lines : List (List ℕ)) → found ≡ position (is_unknown self.now) lines
+            → count ≡ length lines
             → result ≡ position (is_unknown self.now) (lines ++ map alone lits.now) }
     {
         match found {
@@ -61,8 +62,10 @@ impl Loose {
         gates: &[GateLine],
     ) -> Option<usize>
         requires { count + length gates.now ≤ 1000000000000 }
-        ensures { (lines : List (List ℕ)) → found ≡ position (is_unknown self.now) lines → count ≡ length lines
-            → result ≡ position (is_unknown self.now) (lines ++ map (λ line. line.rhs0 ∷ line.rhs1 ∷ []) gates.now) }
+        ensures { (lines : List (List ℕ)) → found ≡ position (is_unknown self.now) lines
+            → count ≡ length lines
+            → result ≡ position (is_unknown self.now)
+            (lines ++ map (λ line. line.rhs0 ∷ line.rhs1 ∷ []) gates.now) }
     {
         match found {
             Some(line) => Some(line),
@@ -86,7 +89,8 @@ impl Loose {
 
     /// The first of these gates with an unknown operand, if there is one.
     fn unknown_gate(&self, gates: &[GateLine]) -> Option<usize>
-        ensures { result ≡ position (λ line. not (is_known self.now line.rhs0 && is_known self.now line.rhs1)) gates.now }
+        ensures { result ≡ position
+            (λ line. not (is_known self.now line.rhs0 && is_known self.now line.rhs1)) gates.now }
     {
         gates.iter().position(|line| !self.know_operands(line))
     }

@@ -38,7 +38,8 @@ impl VariableNumbers {
     /// Gives a variable a number. The error is want of memory, and nothing has changed then.
     #[inline(always)]
     pub fn set(&mut self, variable: u32, number: u32) -> Result<(), AllocError>
-        ensures set { OnOk result ((v : ℕ) → number_kept self.new v ≡ cond (nat_eq variable v) number (number_kept self.old v)) }
+        ensures set { OnOk result ((v : ℕ) → number_kept self.new v
+            ≡ cond (nat_eq variable v) number (number_kept self.old v)) }
         ensures kept { OnErr result ((v : ℕ) → number_kept self.new v ≡ number_kept self.old v) }
     {
         if (variable as usize) < self.low.len() {

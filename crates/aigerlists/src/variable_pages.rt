@@ -42,7 +42,8 @@ impl VariablePages {
 
     /// Gives a variable a number. The error is want of memory, and nothing has changed then.
     pub fn set(&mut self, variable: u32, number: u32) -> Result<(), AllocError>
-        ensures set { OnOk result ((v : ℕ) → paged_number self.new v ≡ cond (nat_eq variable v) number (paged_number self.old v)) }
+        ensures set { OnOk result ((v : ℕ) → paged_number self.new v
+            ≡ cond (nat_eq variable v) number (paged_number self.old v)) }
         ensures kept { OnErr result ((v : ℕ) → paged_number self.new v ≡ paged_number self.old v) }
     {
         let place = (variable % PAGE_SIZE) as usize;

@@ -69,7 +69,8 @@ fn read_lines(alloc: Global, counts: &Counts, text: &[u8], lines: &[u8]) -> Resu
 #[tactic(auto, unfolding(crate::specs::AsciiReading::AnswersText))]
 fn read_known(alloc: Global, text: &[u8], wanted: bool) -> Result<Numbered, Stop>
     ensures answers { ReadsBy (λ e. e.why) (λ x. x.circuit) result (AnswersText text.now) }
-    ensures numbering { wanted ≡ true → IfOk result (λ x. IsNumberingOfText text.now x.circuit x.numbering) }
+    ensures numbering { wanted ≡ true
+        → IfOk result (λ x. IsNumberingOfText text.now x.circuit x.numbering) }
 {
     let ((form, counts), lines) = header_line(text)?;
     match form {
@@ -95,7 +96,8 @@ fn read_text(alloc: Global, text: &[u8], wanted: bool) -> Result<Numbered, ReadF
 
 /// The circuit of what was taken from a source, or its fault.
 fn read_taken(alloc: Global, taken: Taken, wanted: bool) -> Result<Numbered, ReadFault>
-    ensures { (known : Option (List ℕ)) → IsTakenFrom known wanted taken → IsReadOf known wanted result }
+    ensures { (known : Option (List ℕ)) → IsTakenFrom known wanted taken
+        → IsReadOf known wanted result }
 {
     match taken {
         Taken::Circuit(numbered) => Ok(numbered),
@@ -113,8 +115,10 @@ fn read_source<S: Source>(
     ensures read { IsReadFrom (S.to_come source.old) wanted result }
     ensures end { OnOk result (IsAtEnd (S.to_come source.new)) }
     ensures counted { OnOk result (S.failures source.new ≡ S.failures source.old) }
-    ensures device { IfErr result (λ e. e.why ≡ why.Device → HasRisen (S.failures source.old) (S.failures source.new)) }
-    ensures unfailed { IfErr result (λ e. ¬ (e.why ≡ why.Device) → S.failures source.new ≡ S.failures source.old) }
+    ensures device { IfErr result (λ e. e.why ≡ why.Device
+        → HasRisen (S.failures source.old) (S.failures source.new)) }
+    ensures unfailed { IfErr result (λ e. ¬ (e.why ≡ why.Device)
+        → S.failures source.new ≡ S.failures source.old) }
 {
     match take(alloc, source, wanted) {
         Ok(taken) => read_taken(alloc, taken, wanted),
@@ -137,20 +141,28 @@ fn read_source<S: Source>(
 /// else the first why of the first line or delta that has one, at its place.
 pub fn read<S: Source>(alloc: Global, source: &mut S) -> Result<Circuit, ReadFault>
     // the text stands for what is read
-    ensures found { IfOk result (λ c. IfSome (S.to_come source.old) (λ text. AnswersText text (Ok c))) }
+    ensures found { IfOk result (λ c. IfSome (S.to_come source.old)
+        (λ text. AnswersText text (Ok c))) }
     // and it spells that circuit by the sections of its form
-    ensures spells { IfOk result (λ c. IfSome (S.to_come source.old) (λ text. SpellsCircuit text c)) }
+    ensures spells { IfOk result (λ c. IfSome (S.to_come source.old)
+        (λ text. SpellsCircuit text c)) }
     // every text that stands for a circuit is read as it, want of memory and device faults apart
-    ensures only { (text : List ℕ) (c : CircuitValue) → S.to_come source.old ≡ Some text → AnswersText text (Ok c) → GivesCircuit result c }
+    ensures only { (text : List ℕ) (c : CircuitValue) → S.to_come source.old ≡ Some text
+        → AnswersText text (Ok c) → GivesCircuit result c }
     // and so is each that spells one
-    ensures each { (text : List ℕ) (c : CircuitValue) → S.to_come source.old ≡ Some text → SpellsCircuit text c → GivesCircuit result c }
+    ensures each { (text : List ℕ) (c : CircuitValue) → S.to_come source.old ≡ Some text
+        → SpellsCircuit text c → GivesCircuit result c }
     // a fault that is neither is where reading stops
-    ensures fault { IfErr result (λ e. IfSome (S.to_come source.old) (λ text. (e.why ≡ why.Device) ⊎ ((e.why ≡ why.NoMemory) ⊎ IsAsciiFaultOf text e))) }
+    ensures fault { IfErr result (λ e. IfSome (S.to_come source.old) (λ text. (e.why ≡ why.Device)
+        ⊎ ((e.why ≡ why.NoMemory) ⊎ IsAsciiFaultOf text e))) }
     ensures end { OnOk result (IsAtEnd (S.to_come source.new)) }
     ensures counted { OnOk result (S.failures source.new ≡ S.failures source.old) }
-    ensures device { IfErr result (λ e. e.why ≡ why.Device → HasRisen (S.failures source.old) (S.failures source.new)) }
-    ensures unfailed { IfErr result (λ e. ¬ (e.why ≡ why.Device) → S.failures source.new ≡ S.failures source.old) }
-    ensures place { IfErr result (λ e. (e.why ≡ why.Device) ⊎ (e.why ≡ why.NoMemory) → e.place ≡ 0) }
+    ensures device { IfErr result (λ e. e.why ≡ why.Device
+        → HasRisen (S.failures source.old) (S.failures source.new)) }
+    ensures unfailed { IfErr result (λ e. ¬ (e.why ≡ why.Device)
+        → S.failures source.new ≡ S.failures source.old) }
+    ensures place { IfErr result (λ e. (e.why ≡ why.Device) ⊎ (e.why ≡ why.NoMemory)
+        → e.place ≡ 0) }
 {
     one_answer();
     one_renumbering();
@@ -166,18 +178,27 @@ pub fn read<S: Source>(alloc: Global, source: &mut S) -> Result<Circuit, ReadFau
 ///
 /// Errors: those of `read`.
 pub fn read_numbered<S: Source>(alloc: Global, source: &mut S) -> Result<Numbered, ReadFault>
-    ensures found { IfOk result (λ x. IfSome (S.to_come source.old) (λ text. AnswersText text (Ok x.circuit))) }
-    ensures spells { IfOk result (λ x. IfSome (S.to_come source.old) (λ text. SpellsCircuit text x.circuit)) }
+    ensures found { IfOk result (λ x. IfSome (S.to_come source.old)
+        (λ text. AnswersText text (Ok x.circuit))) }
+    ensures spells { IfOk result (λ x. IfSome (S.to_come source.old)
+        (λ text. SpellsCircuit text x.circuit)) }
     // the numbers are those of the text
-    ensures numbering { IfOk result (λ x. IfSome (S.to_come source.old) (λ text. IsNumberingOfText text x.circuit x.numbering)) }
-    ensures only { (text : List ℕ) (c : CircuitValue) → S.to_come source.old ≡ Some text → AnswersText text (Ok c) → GivesCircuit (without_numbers result) c }
-    ensures each { (text : List ℕ) (c : CircuitValue) → S.to_come source.old ≡ Some text → SpellsCircuit text c → GivesCircuit (without_numbers result) c }
-    ensures fault { IfErr result (λ e. IfSome (S.to_come source.old) (λ text. (e.why ≡ why.Device) ⊎ ((e.why ≡ why.NoMemory) ⊎ IsAsciiFaultOf text e))) }
+    ensures numbering { IfOk result (λ x. IfSome (S.to_come source.old)
+        (λ text. IsNumberingOfText text x.circuit x.numbering)) }
+    ensures only { (text : List ℕ) (c : CircuitValue) → S.to_come source.old ≡ Some text
+        → AnswersText text (Ok c) → GivesCircuit (without_numbers result) c }
+    ensures each { (text : List ℕ) (c : CircuitValue) → S.to_come source.old ≡ Some text
+        → SpellsCircuit text c → GivesCircuit (without_numbers result) c }
+    ensures fault { IfErr result (λ e. IfSome (S.to_come source.old) (λ text. (e.why ≡ why.Device)
+        ⊎ ((e.why ≡ why.NoMemory) ⊎ IsAsciiFaultOf text e))) }
     ensures end { OnOk result (IsAtEnd (S.to_come source.new)) }
     ensures counted { OnOk result (S.failures source.new ≡ S.failures source.old) }
-    ensures device { IfErr result (λ e. e.why ≡ why.Device → HasRisen (S.failures source.old) (S.failures source.new)) }
-    ensures unfailed { IfErr result (λ e. ¬ (e.why ≡ why.Device) → S.failures source.new ≡ S.failures source.old) }
-    ensures place { IfErr result (λ e. (e.why ≡ why.Device) ⊎ (e.why ≡ why.NoMemory) → e.place ≡ 0) }
+    ensures device { IfErr result (λ e. e.why ≡ why.Device
+        → HasRisen (S.failures source.old) (S.failures source.new)) }
+    ensures unfailed { IfErr result (λ e. ¬ (e.why ≡ why.Device)
+        → S.failures source.new ≡ S.failures source.old) }
+    ensures place { IfErr result (λ e. (e.why ≡ why.Device) ⊎ (e.why ≡ why.NoMemory)
+        → e.place ≡ 0) }
 {
     one_answer();
     one_renumbering();

@@ -25,8 +25,10 @@ use base::{DeviceFault, Pen, Sink};
 ///
 /// Errors: the sink's own; a beginning of the text was written then.
 pub fn write<K: Sink>(circuit: &Circuit, form: Form, sink: &mut K) -> Result<(), DeviceFault>
-    ensures ok { OnOk result (Appends (K.written sink.old) (K.written sink.new) (circuit_text form circuit.now)) }
-    ensures err { OnErr result (AppendsBeginning (K.written sink.old) (K.written sink.new) (circuit_text form circuit.now)) }
+    ensures ok { OnOk result (Appends (K.written sink.old) (K.written sink.new)
+        (circuit_text form circuit.now)) }
+    ensures err { OnErr result (AppendsBeginning (K.written sink.old) (K.written sink.new)
+        (circuit_text form circuit.now)) }
     ensures failures { CountsFaults result (K.failures sink.old) (K.failures sink.new) }
 {
     let mut pen = Pen::new();
@@ -38,8 +40,10 @@ pub fn write<K: Sink>(circuit: &Circuit, form: Form, sink: &mut K) -> Result<(),
 ///
 /// Errors: the sink's own; a beginning of the text was written then.
 pub fn write_ascii<K: Sink>(circuit: &Circuit, sink: &mut K) -> Result<(), DeviceFault>
-    ensures ok { OnOk result (Appends (K.written sink.old) (K.written sink.new) (ascii_text circuit.now)) }
-    ensures err { OnErr result (AppendsBeginning (K.written sink.old) (K.written sink.new) (ascii_text circuit.now)) }
+    ensures ok { OnOk result (Appends (K.written sink.old) (K.written sink.new)
+        (ascii_text circuit.now)) }
+    ensures err { OnErr result (AppendsBeginning (K.written sink.old) (K.written sink.new)
+        (ascii_text circuit.now)) }
     ensures failures { CountsFaults result (K.failures sink.old) (K.failures sink.new) }
 {
     write(circuit, Form::Ascii, sink)
@@ -49,8 +53,10 @@ pub fn write_ascii<K: Sink>(circuit: &Circuit, sink: &mut K) -> Result<(), Devic
 ///
 /// Errors: the sink's own; a beginning of the text was written then.
 pub fn write_binary<K: Sink>(circuit: &Circuit, sink: &mut K) -> Result<(), DeviceFault>
-    ensures ok { OnOk result (Appends (K.written sink.old) (K.written sink.new) (binary_text circuit.now)) }
-    ensures err { OnErr result (AppendsBeginning (K.written sink.old) (K.written sink.new) (binary_text circuit.now)) }
+    ensures ok { OnOk result (Appends (K.written sink.old) (K.written sink.new)
+        (binary_text circuit.now)) }
+    ensures err { OnErr result (AppendsBeginning (K.written sink.old) (K.written sink.new)
+        (binary_text circuit.now)) }
     ensures failures { CountsFaults result (K.failures sink.old) (K.failures sink.new) }
 {
     write(circuit, Form::Binary, sink)
@@ -58,7 +64,8 @@ pub fn write_binary<K: Sink>(circuit: &Circuit, sink: &mut K) -> Result<(), Devi
 
 /// Puts the text of a circuit.
 fn put_text<K: Sink>(pen: &mut Pen, sink: &mut K, form: Form, circuit: &Circuit)
-    ensures { WritesText K.written K.failures sink.old sink.new pen.old pen.new (circuit_text form circuit.now) }
+    ensures { WritesText K.written K.failures sink.old sink.new pen.old pen.new
+        (circuit_text form circuit.now) }
 {
     let inputs = circuit.inputs();
     put_header(pen, sink, form, circuit);

@@ -52,8 +52,10 @@ pub fn gate_all<G: AndGates>(gates: &G, first: usize, bits: &mut [bool], tally: 
     requires lefts { (k : ℕ) → k < G.count gates.now → variable (G.left gates.now k) < first + k }
     requires rights { (k : ℕ) → k < G.count gates.now → variable (G.right gates.now k) < first + k }
     requires constant { slice_index_or bits.old 0 false ≡ false }
-    ensures values { (k : ℕ) → k < G.count gates.now → IsAnd (valuation_of bits.new) (first + k) (G.left gates.now k) (G.right gates.now k) }
-    ensures others { (p : ℕ) → p < first → slice_index_or bits.new p false ≡ slice_index_or bits.old p false }
+    ensures values { (k : ℕ) → k < G.count gates.now
+        → IsAnd (valuation_of bits.new) (first + k) (G.left gates.now k) (G.right gates.now k) }
+    ensures others { (p : ℕ) → p < first → slice_index_or bits.new p false
+        ≡ slice_index_or bits.old p false }
     ensures as_many { length bits.new ≡ length bits.old }
     ensures steps { tally.new ≡ more_steps (G.count gates.now) tally.old }
 {

@@ -57,7 +57,8 @@ impl Counter {
     /// The text behind the decimal of the number that comes next, where a text begins with it.
     #[inline(always)]
     pub fn behind_next<'t>(&self, text: &'t [u8]) -> Option<&'t [u8]>
-        ensures { MatchOption result ((rest : List ℕ) → text.now ≡ decimal (suc self.now) ++ rest → ⊥) (λ rest. text.now ≡ decimal (suc self.now) ++ rest.now) }
+        ensures { MatchOption result ((rest : List ℕ) → text.now ≡ decimal (suc self.now) ++ rest
+            → ⊥) (λ rest. text.now ≡ decimal (suc self.now) ++ rest.now) }
     {
         let (next, _) = self.next.split_at(self.len);
         text.strip_prefix(next)
@@ -67,7 +68,8 @@ impl Counter {
 /// Makes the decimal of so many digits in front of others that of the number behind it, and answers how many it has.
 fn count_on(next: &mut [u8], len: usize) -> usize
     requires room { len < length next.old }
-    ensures next { (n : ℕ) → n < 2 ^ 64 → take len next.old ≡ decimal n → take result next.new ≡ decimal (suc n) }
+    ensures next { (n : ℕ) → n < 2 ^ 64 → take len next.old ≡ decimal n
+        → take result next.new ≡ decimal (suc n) }
     ensures more { result ≤ len + 1 }
 {
     if !raise_digits(&mut next[..len]) {
@@ -81,7 +83,8 @@ fn count_on(next: &mut [u8], len: usize) -> usize
 /// Makes the decimal of a number that of the number behind it, which has a `1` in front of these digits where that is
 /// answered.
 fn raise_digits(digits: &mut [u8]) -> bool
-    ensures next { (n : ℕ) → n < 2 ^ 64 → digits.old ≡ decimal n → decimal (suc n) ≡ (if result then 49 ∷ digits.new else digits.new) }
+    ensures next { (n : ℕ) → n < 2 ^ 64 → digits.old ≡ decimal n
+        → decimal (suc n) ≡ (if result then 49 ∷ digits.new else digits.new) }
     ensures none { digits.old ≡ [] → (result ≡ true) × (digits.new ≡ []) }
 {
     let Some((last, front)) = digits.split_last_mut() else {

@@ -31,8 +31,10 @@ pub fn words_stand_for_numbers()
 
 /// A law, with no code: what an operator gives for words of width n is a word of the operator's width.
 pub fn values_fit()
-    ensures unary { (op : Unary) (n a : ℕ) → 1 ≤ n → a < 2 ^ n → unary_value op n a < 2 ^ unary_width op n }
-    ensures binary { (op : Binary) (n a b : ℕ) → 1 ≤ n → a < 2 ^ n → b < 2 ^ n → binary_value op n a b < 2 ^ binary_width op n }
+    ensures unary { (op : Unary) (n a : ℕ) → 1 ≤ n → a < 2 ^ n
+        → unary_value op n a < 2 ^ unary_width op n }
+    ensures binary { (op : Binary) (n a b : ℕ) → 1 ≤ n → a < 2 ^ n → b < 2 ^ n
+        → binary_value op n a b < 2 ^ binary_width op n }
     ensures ite { (n c t e : ℕ) → t < 2 ^ n → e < 2 ^ n → ite_value c t e < 2 ^ n }
     ensures slice { (a u l : ℕ) → slice_value a u l < 2 ^ (u - l + 1) }
     ensures uext { (n a by : ℕ) → a < 2 ^ n → uext_value a < 2 ^ (n + by) }
@@ -45,7 +47,8 @@ pub fn tests_decide()
     ensures redand { (n a : ℕ) → (unary_value Unary.Redand n a ≡ 1) ↔ (a ≡ ones n) }
     ensures redor { (n a : ℕ) → (unary_value Unary.Redor n a ≡ 1) ↔ (a ≢ 0) }
     ensures iff { (a b : ℕ) → (binary_value Binary.Iff 1 a b ≡ 1) ↔ (a ≡ b) }
-    ensures implies { (a b : ℕ) → a < 2 → b < 2 → (binary_value Binary.Implies 1 a b ≡ 1) ↔ (a ≤ b) }
+    ensures implies { (a b : ℕ) → a < 2 → b < 2 → (binary_value Binary.Implies 1 a b ≡ 1)
+        ↔ (a ≤ b) }
     ensures eq { (n a b : ℕ) → (binary_value Binary.Eq n a b ≡ 1) ↔ (a ≡ b) }
     ensures neq { (n a b : ℕ) → (binary_value Binary.Neq n a b ≡ 1) ↔ (a ≢ b) }
     ensures ugt { (n a b : ℕ) → (binary_value Binary.Ugt n a b ≡ 1) ↔ (b < a) }
@@ -60,25 +63,31 @@ pub fn tests_decide()
 
 /// A law, with no code: the bitwise operators, bit by bit.
 pub fn bits_of_bitwise_words()
-    ensures not { (n a i : ℕ) → a < 2 ^ n → i < n → bit (unary_value Unary.Not n a) i ≡ 1 - bit a i }
+    ensures not { (n a i : ℕ) → a < 2 ^ n → i < n → bit (unary_value Unary.Not n a) i
+        ≡ 1 - bit a i }
     ensures and { (n a b i : ℕ) → bit (binary_value Binary.And n a b) i ≡ min (bit a i) (bit b i) }
-    ensures nand { (n a b i : ℕ) → a < 2 ^ n → i < n → bit (binary_value Binary.Nand n a b) i ≡ 1 - min (bit a i) (bit b i) }
+    ensures nand { (n a b i : ℕ) → a < 2 ^ n → i < n → bit (binary_value Binary.Nand n a b) i
+        ≡ 1 - min (bit a i) (bit b i) }
     ensures or { (n a b i : ℕ) → bit (binary_value Binary.Or n a b) i ≡ max (bit a i) (bit b i) }
-    ensures nor { (n a b i : ℕ) → a < 2 ^ n → b < 2 ^ n → i < n → bit (binary_value Binary.Nor n a b) i ≡ 1 - max (bit a i) (bit b i) }
+    ensures nor { (n a b i : ℕ) → a < 2 ^ n → b < 2 ^ n → i < n
+        → bit (binary_value Binary.Nor n a b) i ≡ 1 - max (bit a i) (bit b i) }
     ensures xor { (n a b i : ℕ) → bit (binary_value Binary.Xor n a b) i ≡ (bit a i + bit b i) % 2 }
-    ensures xnor { (n a b i : ℕ) → a < 2 ^ n → b < 2 ^ n → i < n → bit (binary_value Binary.Xnor n a b) i ≡ 1 - (bit a i + bit b i) % 2 }
+    ensures xnor { (n a b i : ℕ) → a < 2 ^ n → b < 2 ^ n → i < n
+        → bit (binary_value Binary.Xnor n a b) i ≡ 1 - (bit a i + bit b i) % 2 }
 {}
 
 /// A law, with no code: the slices of two words side by side are the two words.
 pub fn joined_words_come_apart()
-    ensures high { (n m a b : ℕ) → 1 ≤ n → a < 2 ^ n → b < 2 ^ m → slice_value (concat_value a m b) (n + m - 1) m ≡ a }
+    ensures high { (n m a b : ℕ) → 1 ≤ n → a < 2 ^ n → b < 2 ^ m
+        → slice_value (concat_value a m b) (n + m - 1) m ≡ a }
     ensures low { (m a b : ℕ) → 1 ≤ m → b < 2 ^ m → slice_value (concat_value a m b) (m - 1) 0 ≡ b }
 {}
 
 /// A law, with no code: a word made wider stands for the same number, without a sign and with one.
 pub fn wider_words_keep_numbers()
     ensures uext { (a : ℕ) → uext_value a ≡ a }
-    ensures sext { (n a by : ℕ) → 1 ≤ n → a < 2 ^ n → signed (n + by) (sext_value n a by) ≡ signed n a }
+    ensures sext { (n a by : ℕ) → 1 ≤ n → a < 2 ^ n → signed (n + by) (sext_value n a by)
+        ≡ signed n a }
 {}
 
 /// A law, with no code: the divisor times the quotient, with the remainder, is the dividend, and the remainder is nearer to 0
@@ -87,38 +96,55 @@ pub fn wider_words_keep_numbers()
 pub fn quotients_and_remainders()
     ensures whole { (n a b : ℕ) → b ≢ 0 → a ≡ udiv n a b * b + urem a b }
     ensures below { (a b : ℕ) → b ≢ 0 → urem a b < b }
-    ensures truncated_whole { (n a b : ℕ) → 1 ≤ n → b < 2 ^ n → b ≢ 0 → signed n a ≡ signed n b *ℤ truncated (signed n a) (signed n b) +ℤ signed n (srem n a b) }
-    ensures truncated_below { (n a b : ℕ) → 1 ≤ n → b < 2 ^ n → b ≢ 0 → nat_abs (signed n (srem n a b)) < nat_abs (signed n b) }
-    ensures floored_whole { (n a b : ℕ) → 1 ≤ n → b < 2 ^ n → b ≢ 0 → signed n a ≡ signed n b *ℤ floored (signed n a) (signed n b) +ℤ signed n (smod n a b) }
-    ensures floored_below { (n a b : ℕ) → 1 ≤ n → b < 2 ^ n → b ≢ 0 → nat_abs (signed n (smod n a b)) < nat_abs (signed n b) }
-    ensures quotient { (n a b : ℕ) → 1 ≤ n → a < 2 ^ n → b < 2 ^ n → b ≢ 0 → sdiv_overflows n a b ≡ false → signed n (sdiv n a b) ≡ truncated (signed n a) (signed n b) }
+    ensures truncated_whole { (n a b : ℕ) → 1 ≤ n → b < 2 ^ n → b ≢ 0
+        → signed n a ≡ signed n b *ℤ truncated (signed n a) (signed n b) +ℤ signed n (srem n a b) }
+    ensures truncated_below { (n a b : ℕ) → 1 ≤ n → b < 2 ^ n → b ≢ 0
+        → nat_abs (signed n (srem n a b)) < nat_abs (signed n b) }
+    ensures floored_whole { (n a b : ℕ) → 1 ≤ n → b < 2 ^ n → b ≢ 0
+        → signed n a ≡ signed n b *ℤ floored (signed n a) (signed n b) +ℤ signed n (smod n a b) }
+    ensures floored_below { (n a b : ℕ) → 1 ≤ n → b < 2 ^ n → b ≢ 0
+        → nat_abs (signed n (smod n a b)) < nat_abs (signed n b) }
+    ensures quotient { (n a b : ℕ) → 1 ≤ n → a < 2 ^ n → b < 2 ^ n → b ≢ 0
+        → sdiv_overflows n a b ≡ false → signed n (sdiv n a b)
+        ≡ truncated (signed n a) (signed n b) }
 {}
 
 /// A law, with no code: the remainder of `srem` has the dividend's sign, and that of `smod` the divisor's, or it is 0.
 pub fn signs_of_remainders()
-    ensures srem_from_0 { (n a b : ℕ) → 1 ≤ n → b < 2 ^ n → b ≢ 0 → pos 0 ≤ℤ signed n a → pos 0 ≤ℤ signed n (srem n a b) }
-    ensures srem_below_0 { (n a b : ℕ) → 1 ≤ n → b < 2 ^ n → b ≢ 0 → signed n a <ℤ pos 0 → signed n (srem n a b) ≤ℤ pos 0 }
-    ensures smod_from_0 { (n a b : ℕ) → 1 ≤ n → b < 2 ^ n → b ≢ 0 → pos 0 <ℤ signed n b → pos 0 ≤ℤ signed n (smod n a b) }
-    ensures smod_below_0 { (n a b : ℕ) → 1 ≤ n → b < 2 ^ n → b ≢ 0 → signed n b <ℤ pos 0 → signed n (smod n a b) ≤ℤ pos 0 }
+    ensures srem_from_0 { (n a b : ℕ) → 1 ≤ n → b < 2 ^ n → b ≢ 0 → pos 0 ≤ℤ signed n a
+        → pos 0 ≤ℤ signed n (srem n a b) }
+    ensures srem_below_0 { (n a b : ℕ) → 1 ≤ n → b < 2 ^ n → b ≢ 0 → signed n a <ℤ pos 0
+        → signed n (srem n a b) ≤ℤ pos 0 }
+    ensures smod_from_0 { (n a b : ℕ) → 1 ≤ n → b < 2 ^ n → b ≢ 0 → pos 0 <ℤ signed n b
+        → pos 0 ≤ℤ signed n (smod n a b) }
+    ensures smod_below_0 { (n a b : ℕ) → 1 ≤ n → b < 2 ^ n → b ≢ 0 → signed n b <ℤ pos 0
+        → signed n (smod n a b) ≤ℤ pos 0 }
 {}
 
 /// A law, with no code: each rotation undoes the other by the same amount.
 pub fn rotations_return()
-    ensures right { (n a b : ℕ) → 1 ≤ n → a < 2 ^ n → binary_value Binary.Ror n (binary_value Binary.Rol n a b) b ≡ a }
-    ensures left { (n a b : ℕ) → 1 ≤ n → a < 2 ^ n → binary_value Binary.Rol n (binary_value Binary.Ror n a b) b ≡ a }
+    ensures right { (n a b : ℕ) → 1 ≤ n → a < 2 ^ n
+        → binary_value Binary.Ror n (binary_value Binary.Rol n a b) b ≡ a }
+    ensures left { (n a b : ℕ) → 1 ≤ n → a < 2 ^ n
+        → binary_value Binary.Rol n (binary_value Binary.Ror n a b) b ≡ a }
 {}
 
 /// A law, with no code: a rotation moves the bit at each place by the amount, modulo the width.
 pub fn rotations_move_bits()
-    ensures rol { (n a b i : ℕ) → a < 2 ^ n → i < n → bit (binary_value Binary.Rol n a b) ((i + b) % n) ≡ bit a i }
-    ensures ror { (n a b i : ℕ) → a < 2 ^ n → i < n → bit (binary_value Binary.Ror n a b) i ≡ bit a ((i + b) % n) }
+    ensures rol { (n a b i : ℕ) → a < 2 ^ n → i < n
+        → bit (binary_value Binary.Rol n a b) ((i + b) % n) ≡ bit a i }
+    ensures ror { (n a b i : ℕ) → a < 2 ^ n → i < n → bit (binary_value Binary.Ror n a b) i
+        ≡ bit a ((i + b) % n) }
 {}
 
 /// A law, with no code: the two shifts to the right agree on a word whose sign is 0, and on the others the signed one shifts the
 /// word's bits negated. A shift by the width or more leaves nothing.
 pub fn shifts_agree()
-    ensures sign_0 { (n a b : ℕ) → 1 ≤ n → a < 2 ^ (n - 1) → binary_value Binary.Sra n a b ≡ binary_value Binary.Srl n a b }
-    ensures sign_1 { (n a b : ℕ) → 1 ≤ n → 2 ^ (n - 1) ≤ a → a < 2 ^ n → binary_value Binary.Sra n a b ≡ unary_value Unary.Not n (binary_value Binary.Srl n (unary_value Unary.Not n a) b) }
+    ensures sign_0 { (n a b : ℕ) → 1 ≤ n → a < 2 ^ (n - 1) → binary_value Binary.Sra n a b
+        ≡ binary_value Binary.Srl n a b }
+    ensures sign_1 { (n a b : ℕ) → 1 ≤ n → 2 ^ (n - 1) ≤ a → a < 2 ^ n
+        → binary_value Binary.Sra n a b ≡ unary_value Unary.Not n
+        (binary_value Binary.Srl n (unary_value Unary.Not n a) b) }
     ensures sll_all { (n a b : ℕ) → n ≤ b → binary_value Binary.Sll n a b ≡ 0 }
     ensures srl_all { (n a b : ℕ) → a < 2 ^ n → n ≤ b → binary_value Binary.Srl n a b ≡ 0 }
 {}
@@ -126,8 +152,10 @@ pub fn shifts_agree()
 /// A law, with no code: a word is negated by one more than its bits negated, subtracted by adding it negated, and one more and
 /// one less undo each other.
 pub fn negation()
-    ensures neg { (n a : ℕ) → a < 2 ^ n → unary_value Unary.Neg n a ≡ unary_value Unary.Inc n (unary_value Unary.Not n a) }
-    ensures sub { (n a b : ℕ) → binary_value Binary.Sub n a b ≡ binary_value Binary.Add n a (unary_value Unary.Neg n b) }
+    ensures neg { (n a : ℕ) → a < 2 ^ n → unary_value Unary.Neg n a
+        ≡ unary_value Unary.Inc n (unary_value Unary.Not n a) }
+    ensures sub { (n a b : ℕ) → binary_value Binary.Sub n a b
+        ≡ binary_value Binary.Add n a (unary_value Unary.Neg n b) }
     ensures dec { (n a : ℕ) → a < 2 ^ n → unary_value Unary.Dec n (unary_value Unary.Inc n a) ≡ a }
     ensures inc { (n a : ℕ) → a < 2 ^ n → unary_value Unary.Inc n (unary_value Unary.Dec n a) ≡ a }
 {}
@@ -135,14 +163,21 @@ pub fn negation()
 /// A law, with no code: an overflow test gives 0 exactly where the word that its operator gives stands for the sum, the
 /// difference, the product or the quotient.
 pub fn overflow_tests()
-    ensures uaddo { (n a b : ℕ) → (binary_value Binary.Uaddo n a b ≡ 0) ↔ (binary_value Binary.Add n a b ≡ a + b) }
+    ensures uaddo { (n a b : ℕ) → (binary_value Binary.Uaddo n a b ≡ 0)
+        ↔ (binary_value Binary.Add n a b ≡ a + b) }
     ensures usubo { (n a b : ℕ) → (binary_value Binary.Usubo n a b ≡ 0) ↔ (b ≤ a) }
     ensures usubo_word { (n a b : ℕ) → a < 2 ^ n → b ≤ a → binary_value Binary.Sub n a b ≡ a - b }
-    ensures umulo { (n a b : ℕ) → (binary_value Binary.Umulo n a b ≡ 0) ↔ (binary_value Binary.Mul n a b ≡ a * b) }
-    ensures saddo { (n a b : ℕ) → 1 ≤ n → (binary_value Binary.Saddo n a b ≡ 0) ↔ (signed n (binary_value Binary.Add n a b) ≡ signed n a +ℤ signed n b) }
-    ensures ssubo { (n a b : ℕ) → 1 ≤ n → (binary_value Binary.Ssubo n a b ≡ 0) ↔ (signed n (binary_value Binary.Sub n a b) ≡ signed n a -ℤ signed n b) }
-    ensures smulo { (n a b : ℕ) → 1 ≤ n → (binary_value Binary.Smulo n a b ≡ 0) ↔ (signed n (binary_value Binary.Mul n a b) ≡ signed n a *ℤ signed n b) }
-    ensures sdivo { (n a b : ℕ) → 1 ≤ n → a < 2 ^ n → b < 2 ^ n → b ≢ 0 → (binary_value Binary.Sdivo n a b ≡ 0) ↔ (signed n (binary_value Binary.Sdiv n a b) ≡ truncated (signed n a) (signed n b)) }
+    ensures umulo { (n a b : ℕ) → (binary_value Binary.Umulo n a b ≡ 0)
+        ↔ (binary_value Binary.Mul n a b ≡ a * b) }
+    ensures saddo { (n a b : ℕ) → 1 ≤ n → (binary_value Binary.Saddo n a b ≡ 0)
+        ↔ (signed n (binary_value Binary.Add n a b) ≡ signed n a +ℤ signed n b) }
+    ensures ssubo { (n a b : ℕ) → 1 ≤ n → (binary_value Binary.Ssubo n a b ≡ 0)
+        ↔ (signed n (binary_value Binary.Sub n a b) ≡ signed n a -ℤ signed n b) }
+    ensures smulo { (n a b : ℕ) → 1 ≤ n → (binary_value Binary.Smulo n a b ≡ 0)
+        ↔ (signed n (binary_value Binary.Mul n a b) ≡ signed n a *ℤ signed n b) }
+    ensures sdivo { (n a b : ℕ) → 1 ≤ n → a < 2 ^ n → b < 2 ^ n → b ≢ 0
+        → (binary_value Binary.Sdivo n a b ≡ 0)
+        ↔ (signed n (binary_value Binary.Sdiv n a b) ≡ truncated (signed n a) (signed n b)) }
     ensures sdivo_by_0 { (n a : ℕ) → 1 ≤ n → binary_value Binary.Sdivo n a 0 ≡ 0 }
 {}
 
@@ -153,17 +188,21 @@ pub fn lines_and_texts()
     ensures parts { (text : List ℕ) → text_of_lines (whole_lines text) ++ unfinished text ≡ text }
     ensures each { (text : List ℕ) → All IsLine (whole_lines text) }
     ensures last { (text : List ℕ) → IsLine (unfinished text) }
-    ensures whole { (lines : List (List ℕ)) → All IsLine lines → whole_lines (text_of_lines lines) ≡ lines }
+    ensures whole { (lines : List (List ℕ)) → All IsLine lines
+        → whole_lines (text_of_lines lines) ≡ lines }
     ensures ended { (lines : List (List ℕ)) → unfinished (text_of_lines lines) ≡ [] }
-    ensures whole_front { (lines : List (List ℕ)) (rest : List ℕ) → All IsLine lines → whole_lines (text_of_lines lines ++ rest) ≡ lines ++ whole_lines rest }
-    ensures ended_front { (lines : List (List ℕ)) (rest : List ℕ) → unfinished (text_of_lines lines ++ rest) ≡ unfinished rest }
+    ensures whole_front { (lines : List (List ℕ)) (rest : List ℕ) → All IsLine lines
+        → whole_lines (text_of_lines lines ++ rest) ≡ lines ++ whole_lines rest }
+    ensures ended_front { (lines : List (List ℕ)) (rest : List ℕ)
+        → unfinished (text_of_lines lines ++ rest) ≡ unfinished rest }
 {}
 
 /// A law, with no code: a number below 2 to the 64 is read from its decimal, and a decimal that is read as a number below
 /// 2 to the 64 less 1 is its one spelling.
 pub fn decimals_are_numbers()
     ensures read { (n : ℕ) → n < 2 ^ 64 → number_of (decimal n) ≡ Some n }
-    ensures spelled { (token : List ℕ) (n : ℕ) → number_of token ≡ Some n → n < 2 ^ 64 - 1 → token ≡ decimal n }
+    ensures spelled { (token : List ℕ) (n : ℕ) → number_of token ≡ Some n → n < 2 ^ 64 - 1
+        → token ≡ decimal n }
 {}
 
 /// Worked rows, with no code: the lines of a text, and what follows them.
@@ -178,12 +217,19 @@ pub fn worked_lines()
 /// Worked rows, with no code: steps of a reader of lines that hold or give bytes, and what is none: a rest that is dropped,
 /// a line that is given twice, and a whole line that is taken as unfinished.
 pub fn worked_steps()
-    ensures held { Advances (Ok true) (record { line = []; rest = codes "a\nb" }) (record { line = codes "a"; rest = codes "b" }) (Some (codes "c\n")) (Some (codes "c\n")) }
-    ensures read { Advances (Ok true) (record { line = []; rest = codes "a" }) (record { line = codes "ab"; rest = codes "c" }) (Some (codes "b\nc\n")) (Some (codes "\n")) }
-    ensures last { Advances (Ok false) (record { line = codes "x"; rest = codes "a" }) (record { line = []; rest = codes "ab" }) (Some (codes "b")) (Some []) }
-    ensures dropped { ¬ Advances (Ok true) (record { line = []; rest = codes "a\nb" }) (record { line = codes "a"; rest = [] }) (Some []) (Some []) }
-    ensures twice { ¬ Advances (Ok true) (record { line = []; rest = codes "a\nb" }) (record { line = codes "a"; rest = codes "a\nb" }) (Some []) (Some []) }
-    ensures whole { ¬ Advances (Ok false) (record { line = []; rest = codes "a\n" }) (record { line = []; rest = codes "a\n" }) (Some []) (Some []) }
+    ensures held { Advances (Ok true) (record { line = []; rest = codes "a\nb" })
+        (record { line = codes "a"; rest = codes "b" }) (Some (codes "c\n")) (Some (codes "c\n")) }
+    ensures read { Advances (Ok true) (record { line = []; rest = codes "a" })
+        (record { line = codes "ab"; rest = codes "c" }) (Some (codes "b\nc\n"))
+        (Some (codes "\n")) }
+    ensures last { Advances (Ok false) (record { line = codes "x"; rest = codes "a" })
+        (record { line = []; rest = codes "ab" }) (Some (codes "b")) (Some []) }
+    ensures dropped { ¬ Advances (Ok true) (record { line = []; rest = codes "a\nb" })
+        (record { line = codes "a"; rest = [] }) (Some []) (Some []) }
+    ensures twice { ¬ Advances (Ok true) (record { line = []; rest = codes "a\nb" })
+        (record { line = codes "a"; rest = codes "a\nb" }) (Some []) (Some []) }
+    ensures whole { ¬ Advances (Ok false) (record { line = []; rest = codes "a\n" })
+        (record { line = []; rest = codes "a\n" }) (Some []) (Some []) }
 {}
 
 /// Worked rows, with no code: decimals, and what is none.
@@ -298,7 +344,8 @@ pub fn worked_words()
     ensures umulo_16_16 { binary_value Binary.Umulo 8 16 16 ≡ 1 }
     ensures smulo_16_8 { binary_value Binary.Smulo 8 16 8 ≡ 1 }
     ensures smulo_240_8 { binary_value Binary.Smulo 8 240 8 ≡ 0 }
-    ensures smulo_of_ones { binary_value Binary.Smulo 64 18446744073709551615 18446744073709551615 ≡ 0 }
+    ensures smulo_of_ones { binary_value Binary.Smulo 64 18446744073709551615 18446744073709551615
+        ≡ 0 }
     ensures sdivo_128_255 { binary_value Binary.Sdivo 8 128 255 ≡ 1 }
     ensures sdivo_128_1 { binary_value Binary.Sdivo 8 128 1 ≡ 0 }
     ensures ite_1 { ite_value 1 200 100 ≡ 200 }

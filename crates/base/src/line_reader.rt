@@ -73,11 +73,15 @@ impl LineReader {
     #[inline(always)]
     #[tactic(auto, using(crate::proofs::HeldLemmas::takes_line))]
     pub fn advance<S: Source>(&mut self, source: &mut S) -> Result<bool, ReadAllFault>
-        ensures bytes { Advances result self.old self.new (S.to_come source.old) (S.to_come source.new) }
-        ensures ends { result ≡ Ok true → lines_left self.new.rest (S.calls_left source.new) < lines_left self.old.rest (S.calls_left source.old) }
+        ensures bytes { Advances result self.old self.new (S.to_come source.old)
+            (S.to_come source.new) }
+        ensures ends { result ≡ Ok true → lines_left self.new.rest (S.calls_left source.new)
+            < lines_left self.old.rest (S.calls_left source.old) }
         ensures counted { OnOk result (S.failures source.new ≡ S.failures source.old) }
-        ensures device { IsErrOf result ReadAllFault.Device → HasRisen (S.failures source.old) (S.failures source.new) }
-        ensures memory { IsErrOf result ReadAllFault.NoMemory → S.failures source.new ≡ S.failures source.old }
+        ensures device { IsErrOf result ReadAllFault.Device
+            → HasRisen (S.failures source.old) (S.failures source.new) }
+        ensures memory { IsErrOf result ReadAllFault.NoMemory → S.failures source.new
+            ≡ S.failures source.old }
     {
         let mut seen = 0;
         loop {
@@ -96,7 +100,8 @@ impl LineReader {
     fn cut(&mut self, seen: usize) -> bool
         requires within { seen ≤ length self.old.rest }
         requires none { IsLine (take seen self.old.rest) }
-        ensures found { result ≡ true → IsLine self.new.line × (self.old.rest ≡ self.new.line ++ 10 ∷ self.new.rest) }
+        ensures found { result ≡ true → IsLine self.new.line
+            × (self.old.rest ≡ self.new.line ++ 10 ∷ self.new.rest) }
         ensures none { result ≡ false → IsLine self.old.rest × (self.new ≡ self.old) }
     {
         let (_, unseen) = self.rest().split_at(seen);
@@ -130,14 +135,18 @@ impl LineReader {
     fn fill<S: Source>(&mut self, source: &mut S) -> Result<usize, ReadAllFault>
         ensures line { self.new.line ≡ self.old.line }
         ensures front { take (length self.old.rest) self.new.rest ≡ self.old.rest }
-        ensures bytes { Keeps (prepend_known self.old.rest (S.to_come source.old)) (prepend_known self.new.rest (S.to_come source.new)) }
+        ensures bytes { Keeps (prepend_known self.old.rest (S.to_come source.old))
+            (prepend_known self.new.rest (S.to_come source.new)) }
         ensures count { IfOk result (λ n. length self.new.rest ≡ length self.old.rest + n) }
         ensures within { IfOk result (λ n. n ≤ 32768) }
         ensures end { result ≡ Ok 0 → IsAtEnd (S.to_come source.new) }
-        ensures ends { IfOk result (λ n. 0 < n → S.calls_left source.new < S.calls_left source.old) }
+        ensures ends { IfOk result (λ n. 0 < n
+            → S.calls_left source.new < S.calls_left source.old) }
         ensures counted { OnOk result (S.failures source.new ≡ S.failures source.old) }
-        ensures device { IsErrOf result ReadAllFault.Device → HasRisen (S.failures source.old) (S.failures source.new) }
-        ensures memory { IsErrOf result ReadAllFault.NoMemory → S.failures source.new ≡ S.failures source.old }
+        ensures device { IsErrOf result ReadAllFault.Device
+            → HasRisen (S.failures source.old) (S.failures source.new) }
+        ensures memory { IsErrOf result ReadAllFault.NoMemory → S.failures source.new
+            ≡ S.failures source.old }
     {
         if !has_room(&mut self.buffer, self.filled) {
             return Err(ReadAllFault::NoMemory);

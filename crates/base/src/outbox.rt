@@ -44,9 +44,12 @@ impl Outbox {
     /// outbox is empty.
     #[inline(always)]
     pub fn put<K: Sink>(&mut self, sink: &mut K, bytes: &[u8]) -> Result<(), DeviceFault>
-        ensures ok { OnOk result (Appends (append_known (K.written sink.old) self.old) (append_known (K.written sink.new) self.new) bytes.now) }
-        ensures sent { OnOk result (Sent (K.written sink.old) (K.written sink.new) (self.old ++ bytes.now) self.new) }
-        ensures err { OnErr result (AppendsBeginning (K.written sink.old) (K.written sink.new) (self.old ++ bytes.now)) }
+        ensures ok { OnOk result (Appends (append_known (K.written sink.old) self.old)
+            (append_known (K.written sink.new) self.new) bytes.now) }
+        ensures sent { OnOk result (Sent (K.written sink.old) (K.written sink.new)
+            (self.old ++ bytes.now) self.new) }
+        ensures err { OnErr result (AppendsBeginning (K.written sink.old) (K.written sink.new)
+            (self.old ++ bytes.now)) }
         ensures empty { OnErr result (self.new ≡ []) }
         ensures failures { CountsFaults result (K.failures sink.old) (K.failures sink.new) }
     {
@@ -62,9 +65,12 @@ impl Outbox {
     #[cold]
     #[inline(never)]
     fn flush_and_put<K: Sink>(&mut self, sink: &mut K, bytes: &[u8]) -> Result<(), DeviceFault>
-        ensures ok { OnOk result (Appends (append_known (K.written sink.old) self.old) (append_known (K.written sink.new) self.new) bytes.now) }
-        ensures sent { OnOk result (Sent (K.written sink.old) (K.written sink.new) (self.old ++ bytes.now) self.new) }
-        ensures err { OnErr result (AppendsBeginning (K.written sink.old) (K.written sink.new) (self.old ++ bytes.now)) }
+        ensures ok { OnOk result (Appends (append_known (K.written sink.old) self.old)
+            (append_known (K.written sink.new) self.new) bytes.now) }
+        ensures sent { OnOk result (Sent (K.written sink.old) (K.written sink.new)
+            (self.old ++ bytes.now) self.new) }
+        ensures err { OnErr result (AppendsBeginning (K.written sink.old) (K.written sink.new)
+            (self.old ++ bytes.now)) }
         ensures empty { OnErr result (self.new ≡ []) }
         ensures failures { CountsFaults result (K.failures sink.old) (K.failures sink.new) }
     {
@@ -78,7 +84,8 @@ impl Outbox {
     /// every case.
     pub fn flush<K: Sink>(&mut self, sink: &mut K) -> Result<(), DeviceFault>
         ensures ok { OnOk result (Appends (K.written sink.old) (K.written sink.new) self.old) }
-        ensures err { OnErr result (AppendsBeginning (K.written sink.old) (K.written sink.new) self.old) }
+        ensures err { OnErr result (AppendsBeginning (K.written sink.old)
+            (K.written sink.new) self.old) }
         ensures empty { self.new ≡ [] }
         ensures failures { CountsFaults result (K.failures sink.old) (K.failures sink.new) }
     {
@@ -108,9 +115,12 @@ impl Outbox {
     /// Puts bytes into an outbox that is empty: they are kept where they fit, and else written.
     fn put_first<K: Sink>(&mut self, sink: &mut K, bytes: &[u8]) -> Result<(), DeviceFault>
         requires { self.old ≡ [] }
-        ensures ok { OnOk result (Appends (K.written sink.old) (append_known (K.written sink.new) self.new) bytes.now) }
-        ensures sent { OnOk result (Sent (K.written sink.old) (K.written sink.new) bytes.now self.new) }
-        ensures err { OnErr result (AppendsBeginning (K.written sink.old) (K.written sink.new) bytes.now) }
+        ensures ok { OnOk result (Appends (K.written sink.old)
+            (append_known (K.written sink.new) self.new) bytes.now) }
+        ensures sent { OnOk result (Sent (K.written sink.old) (K.written sink.new) bytes.now
+            self.new) }
+        ensures err { OnErr result (AppendsBeginning (K.written sink.old)
+            (K.written sink.new) bytes.now) }
         ensures empty { OnErr result (self.new ≡ []) }
         ensures failures { CountsFaults result (K.failures sink.old) (K.failures sink.new) }
     {

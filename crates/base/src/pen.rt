@@ -47,7 +47,8 @@ impl Pen {
     /// Puts the line at hand.
     #[inline(always)]
     pub fn put_line<K: Sink>(&mut self, sink: &mut K)
-        ensures { WritesText K.written K.failures sink.old sink.new self.old self.new self.old.line }
+        ensures { WritesText K.written K.failures sink.old sink.new self.old self.new
+            self.old.line }
     {
         if self.answer.is_ok() {
             self.answer = self.outbox.put(sink, self.line.bytes());
@@ -56,7 +57,8 @@ impl Pen {
 
     /// Puts the decimal of a number.
     pub fn put_number<K: Sink>(&mut self, sink: &mut K, number: u64)
-        ensures { WritesText K.written K.failures sink.old sink.new self.old self.new (decimal number) }
+        ensures { WritesText K.written K.failures sink.old sink.new self.old self.new
+            (decimal number) }
     {
         let mut buffer = Buffer::new();
         self.put(sink, buffer.format(number).as_bytes());
@@ -66,7 +68,10 @@ impl Pen {
     ///
     /// Errors: the first of the sink; a beginning of the text was written then.
     pub fn finish<K: Sink>(&mut self, sink: &mut K) -> Result<(), DeviceFault>
-        ensures { (start : K) (begun : PenValue) (text : List ℕ) → begun.outbox ≡ [] → begun.answer ≡ Ok tt → WritesText K.written K.failures start sink.old begun self.old text → IsWritten result (K.written start) (K.written sink.new) (K.failures start) (K.failures sink.new) text }
+        ensures { (start : K) (begun : PenValue) (text : List ℕ) → begun.outbox ≡ []
+            → begun.answer ≡ Ok tt → WritesText K.written K.failures start sink.old begun self.old
+            text → IsWritten result (K.written start) (K.written sink.new) (K.failures start)
+            (K.failures sink.new) text }
     {
         self.answer?;
         self.outbox.flush(sink)

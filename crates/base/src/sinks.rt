@@ -128,7 +128,8 @@ impl<W: Write + Drop> Sink for ToWriter<W> {
 /// Errors: the sink's own; a beginning of the bytes was written then.
 pub fn write_all<K: Sink>(sink: &mut K, bytes: &[u8]) -> Result<(), DeviceFault>
     ensures ok { OnOk result (Appends (K.written sink.old) (K.written sink.new) bytes.now) }
-    ensures err { OnErr result (AppendsBeginning (K.written sink.old) (K.written sink.new) bytes.now) }
+    ensures err { OnErr result (AppendsBeginning (K.written sink.old)
+        (K.written sink.new) bytes.now) }
     ensures failures { CountsFaults result (K.failures sink.old) (K.failures sink.new) }
 {
     let mut rest = bytes;

@@ -91,10 +91,14 @@ impl<R: Read + Drop> Source for FromReader<R> {
     /// One call uses one read, also where it fails.
     fn read(&mut self, buf: &mut [u8]) -> Result<usize, DeviceFault>
         ensures within { ReadsAtMost result buf.new }
-        ensures bytes { ReadConsumes (⟦<FromReader<R> as Source>⟧.to_come self.old) (⟦<FromReader<R> as Source>⟧.to_come self.new) result buf.new }
-        ensures ends { IfOk result (λ n. 0 < n → ⟦<FromReader<R> as Source>⟧.calls_left self.new < ⟦<FromReader<R> as Source>⟧.calls_left self.old) }
-        ensures failures { CountsFaults result (⟦<FromReader<R> as Source>⟧.failures self.old) (⟦<FromReader<R> as Source>⟧.failures self.new) }
-        ensures uses_one { ⟦<FromReader<R> as Source>⟧.calls_left self.new ≡ ⟦<FromReader<R> as Source>⟧.calls_left self.old - 1 }
+        ensures bytes { ReadConsumes (⟦<FromReader<R> as Source>⟧.to_come self.old)
+            (⟦<FromReader<R> as Source>⟧.to_come self.new) result buf.new }
+        ensures ends { IfOk result (λ n. 0 < n → ⟦<FromReader<R> as Source>⟧.calls_left self.new
+            < ⟦<FromReader<R> as Source>⟧.calls_left self.old) }
+        ensures failures { CountsFaults result (⟦<FromReader<R> as Source>⟧.failures self.old)
+            (⟦<FromReader<R> as Source>⟧.failures self.new) }
+        ensures uses_one { ⟦<FromReader<R> as Source>⟧.calls_left self.new
+            ≡ ⟦<FromReader<R> as Source>⟧.calls_left self.old - 1 }
     {
         if self.reads_left == 0 {
             self.failures = self.failures.saturating_add(1);
@@ -137,8 +141,10 @@ pub fn read_all<S: Source>(alloc: Global, source: &mut S) -> Result<Vec<u8>, Rea
     ensures bytes { IfOk result (λ text. IfSome (S.to_come source.old) (λ all. text.items ≡ all)) }
     ensures end { OnOk result (IsAtEnd (S.to_come source.new)) }
     ensures counted { OnOk result (S.failures source.new ≡ S.failures source.old) }
-    ensures device { IsErrOf result ReadAllFault.Device → HasRisen (S.failures source.old) (S.failures source.new) }
-    ensures memory { IsErrOf result ReadAllFault.NoMemory → S.failures source.new ≡ S.failures source.old }
+    ensures device { IsErrOf result ReadAllFault.Device
+        → HasRisen (S.failures source.old) (S.failures source.new) }
+    ensures memory { IsErrOf result ReadAllFault.NoMemory → S.failures source.new
+        ≡ S.failures source.old }
 {
     let mut text = Vec::new(alloc);
     let mut chunk = [0u8; CHUNK];

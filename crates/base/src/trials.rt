@@ -56,7 +56,8 @@ impl<T> FailAt<T> {
     /// Counts a call, and answers whether it is the one that fails.
     fn count(&mut self) -> bool
         ensures due { result ≡ is_due self.old.before }
-        ensures counts { self.new ≡ record { inner = self.old.inner; before = one_later self.old.before } }
+        ensures counts { self.new
+            ≡ record { inner = self.old.inner; before = one_later self.old.before } }
     {
         match self.before {
             None => false,
@@ -86,13 +87,18 @@ impl<S: Source> Source for FailAt<S> {
     /// the source inside.
     fn read(&mut self, buf: &mut [u8]) -> Result<usize, DeviceFault>
         ensures within { ReadsAtMost result buf.new }
-        ensures bytes { ReadConsumes (S.to_come self.old.inner) (S.to_come self.new.inner) result buf.new }
-        ensures ends { IfOk result (λ n. 0 < n → S.calls_left self.new.inner < S.calls_left self.old.inner) }
-        ensures failures { CountsFaults result (all_failures self.old.before (S.failures self.old.inner)) (all_failures self.new.before (S.failures self.new.inner)) }
+        ensures bytes { ReadConsumes (S.to_come self.old.inner) (S.to_come self.new.inner) result
+            buf.new }
+        ensures ends { IfOk result (λ n. 0 < n
+            → S.calls_left self.new.inner < S.calls_left self.old.inner) }
+        ensures failures { CountsFaults result
+            (all_failures self.old.before (S.failures self.old.inner))
+            (all_failures self.new.before (S.failures self.new.inner)) }
         ensures fault { is_due self.old.before ≡ true → IsErrOf result DeviceFault.Failed }
         ensures inner_stays { is_due self.old.before ≡ true → self.new.inner ≡ self.old.inner }
         ensures buffer_stays { is_due self.old.before ≡ true → buf.new ≡ buf.old }
-        ensures inner_fails { is_due self.old.before ≡ false → CountsFaults result (S.failures self.old.inner) (S.failures self.new.inner) }
+        ensures inner_fails { is_due self.old.before ≡ false
+            → CountsFaults result (S.failures self.old.inner) (S.failures self.new.inner) }
         ensures counts { self.new.before ≡ one_later self.old.before }
     {
         let gives_none = self.count();
@@ -115,11 +121,15 @@ impl<K: Sink> Sink for FailAt<K> {
     fn write(&mut self, bytes: &[u8]) -> Result<usize, DeviceFault>
         ensures within { WritesAtMost result bytes.now }
         ensures some { 0 < length bytes.now → IfOk result (λ n. 0 < n) }
-        ensures bytes { WriteAppends (K.written self.old.inner) (K.written self.new.inner) result bytes.now }
-        ensures failures { CountsFaults result (all_failures self.old.before (K.failures self.old.inner)) (all_failures self.new.before (K.failures self.new.inner)) }
+        ensures bytes { WriteAppends (K.written self.old.inner) (K.written self.new.inner) result
+            bytes.now }
+        ensures failures { CountsFaults result
+            (all_failures self.old.before (K.failures self.old.inner))
+            (all_failures self.new.before (K.failures self.new.inner)) }
         ensures fault { is_due self.old.before ≡ true → IsErrOf result DeviceFault.Failed }
         ensures inner_stays { is_due self.old.before ≡ true → self.new.inner ≡ self.old.inner }
-        ensures inner_fails { is_due self.old.before ≡ false → CountsFaults result (K.failures self.old.inner) (K.failures self.new.inner) }
+        ensures inner_fails { is_due self.old.before ≡ false
+            → CountsFaults result (K.failures self.old.inner) (K.failures self.new.inner) }
         ensures counts { self.new.before ≡ one_later self.old.before }
     {
         let takes_none = self.count();
@@ -185,11 +195,15 @@ impl<S: Source> Source for Chop<S> {
     /// Errors: those of the source inside.
     fn read(&mut self, buf: &mut [u8]) -> Result<usize, DeviceFault>
         ensures within { ReadsAtMost result buf.new }
-        ensures bytes { ReadConsumes (S.to_come self.old.inner) (S.to_come self.new.inner) result buf.new }
-        ensures ends { IfOk result (λ n. 0 < n → S.calls_left self.new.inner < S.calls_left self.old.inner) }
-        ensures failures { CountsFaults result (S.failures self.old.inner) (S.failures self.new.inner) }
+        ensures bytes { ReadConsumes (S.to_come self.old.inner) (S.to_come self.new.inner) result
+            buf.new }
+        ensures ends { IfOk result (λ n. 0 < n
+            → S.calls_left self.new.inner < S.calls_left self.old.inner) }
+        ensures failures { CountsFaults result (S.failures self.old.inner)
+            (S.failures self.new.inner) }
         ensures few { ReadsAtMost result (take self.old.most buf.new) }
-        ensures few_bytes { ReadConsumes (S.to_come self.old.inner) (S.to_come self.new.inner) result (take self.old.most buf.new) }
+        ensures few_bytes { ReadConsumes (S.to_come self.old.inner)
+            (S.to_come self.new.inner) result (take self.old.most buf.new) }
         ensures rest_stays { drop self.old.most buf.new ≡ drop self.old.most buf.old }
         ensures most { self.new.most ≡ self.old.most }
     {
@@ -210,10 +224,13 @@ impl<K: Sink> Sink for Chop<K> {
     fn write(&mut self, bytes: &[u8]) -> Result<usize, DeviceFault>
         ensures within { WritesAtMost result bytes.now }
         ensures some { 0 < length bytes.now → IfOk result (λ n. 0 < n) }
-        ensures bytes { WriteAppends (K.written self.old.inner) (K.written self.new.inner) result bytes.now }
-        ensures failures { CountsFaults result (K.failures self.old.inner) (K.failures self.new.inner) }
+        ensures bytes { WriteAppends (K.written self.old.inner) (K.written self.new.inner) result
+            bytes.now }
+        ensures failures { CountsFaults result (K.failures self.old.inner)
+            (K.failures self.new.inner) }
         ensures few { WritesAtMost result (take self.old.most bytes.now) }
-        ensures few_bytes { WriteAppends (K.written self.old.inner) (K.written self.new.inner) result (take self.old.most bytes.now) }
+        ensures few_bytes { WriteAppends (K.written self.old.inner)
+            (K.written self.new.inner) result (take self.old.most bytes.now) }
         ensures most { self.new.most ≡ self.old.most }
     {
         let (front, _) = bytes.split_at(self.most.min(bytes.len()));

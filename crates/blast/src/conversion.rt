@@ -25,12 +25,14 @@ pub fn convert<S: Source, K: Sink>(
     sink: &mut K,
     form: Form,
 ) -> Result<(), ConvertFault>
-    ensures answer { AnswersConversion (S.to_come source.old) (K.written sink.old) (K.written sink.new) form result }
+    ensures answer { AnswersConversion (S.to_come source.old) (K.written sink.old)
+        (K.written sink.new) form result }
     ensures fault { IfErr result (TellsFirstFault (S.to_come source.old)) }
     ensures place { IfErr result HasNoLine }
     ensures end { ReadsToEnd result (S.to_come source.new) }
     ensures unwritten { IfErr result (λ e. IsBeforeWriting e → sink.new ≡ sink.old) }
-    ensures device { RaisesFailures result (S.failures source.old) (S.failures source.new) (K.failures sink.old) (K.failures sink.new) }
+    ensures device { RaisesFailures result (S.failures source.old) (S.failures source.new)
+        (K.failures sink.old) (K.failures sink.new) }
 {
     convert_watched(alloc, source, sink, form, &mut Unwatched)
 }
@@ -43,12 +45,14 @@ pub fn convert_watched<S: Source, K: Sink, W: Watch>(
     form: Form,
     watch: &mut W,
 ) -> Result<(), ConvertFault>
-    ensures answer { AnswersConversion (S.to_come source.old) (K.written sink.old) (K.written sink.new) form result }
+    ensures answer { AnswersConversion (S.to_come source.old) (K.written sink.old)
+        (K.written sink.new) form result }
     ensures fault { IfErr result (TellsFirstFault (S.to_come source.old)) }
     ensures place { IfErr result HasNoLine }
     ensures end { ReadsToEnd result (S.to_come source.new) }
     ensures unwritten { IfErr result (λ e. IsBeforeWriting e → sink.new ≡ sink.old) }
-    ensures device { RaisesFailures result (S.failures source.old) (S.failures source.new) (K.failures sink.old) (K.failures sink.new) }
+    ensures device { RaisesFailures result (S.failures source.old) (S.failures source.new)
+        (K.failures sink.old) (K.failures sink.new) }
 {
     match read(alloc, source) {
         Ok(model) => convert_model(alloc, &model, sink, form, watch),
@@ -64,10 +68,12 @@ fn convert_model<K: Sink, W: Watch>(
     form: Form,
     watch: &mut W,
 ) -> Result<(), ConvertFault>
-    ensures answer { (known : Option (List ℕ)) → IsModelOf known model.now → AnswersConversion known (K.written sink.old) (K.written sink.new) form result }
+    ensures answer { (known : Option (List ℕ)) → IsModelOf known model.now
+        → AnswersConversion known (K.written sink.old) (K.written sink.new) form result }
     ensures behind { IfErr result IsBehindReading }
     ensures unwritten { IfErr result (λ e. IsBeforeWriting e → sink.new ≡ sink.old) }
-    ensures device { (failures : ℕ) → RaisesFailures result failures failures (K.failures sink.old) (K.failures sink.new) }
+    ensures device { (failures : ℕ) → RaisesFailures result failures failures (K.failures sink.old)
+        (K.failures sink.new) }
 {
     // a model's items are well-formed
     let _ = model.items();

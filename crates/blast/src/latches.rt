@@ -46,7 +46,8 @@ fn set_row(first: usize, row: &[Lit], init: Option<u64>, circuit: &mut Circuit)
     requires few { length circuit.old.latches ≤ greatest_count }
     requires short { length row.now ≤ 64 }
     requires defined { All (IsDefined (net circuit.old)) row.now }
-    ensures { circuit.new ≡ record circuit.old { latches = written_over circuit.old.latches first (row_latches init 0 row.now) } }
+    ensures { circuit.new
+        ≡ record circuit.old { latches = written_over circuit.old.latches first (row_latches init 0 row.now) } }
 {
     for bit in 0..row.len() {
         set_bit(first + bit, row[bit], reset_of(init, bit), circuit);
@@ -56,7 +57,8 @@ fn set_row(first: usize, row: &[Lit], init: Option<u64>, circuit: &mut Circuit)
 /// The word of a state's init line, if it has one. `k` counts the states.
 fn init_of(model: &Model, k: usize, item: &Item) -> Option<u64>
     requires there { k < length (places is_state 0 model.now) }
-    requires place { slice_get model.now (slice_index (places is_state 0 model.now) k) ≡ Some item.now }
+    requires place { slice_get model.now (slice_index (places is_state 0 model.now) k)
+        ≡ Some item.now }
     ensures { result ≡ init_word model.now item.now.id }
 {
     let place = model.init_of(k)?;
@@ -66,7 +68,8 @@ fn init_of(model: &Model, k: usize, item: &Item) -> Option<u64>
 /// The row of a state's next node. `k` counts the states.
 fn next_row<'a>(model: &Model, table: &'a Rows<Lit>, k: usize, item: &Item) -> &'a [Lit]
     requires there { k < length (places is_state 0 model.now) }
-    requires place { slice_get model.now (slice_index (places is_state 0 model.now) k) ≡ Some item.now }
+    requires place { slice_get model.now (slice_index (places is_state 0 model.now) k)
+        ≡ Some item.now }
     requires well_formed { IsWellFormed model.now }
     requires all { length table.now ≡ length model.now }
     requires next { is_some (next_value model.now item.now.id) ≡ true }
@@ -89,15 +92,18 @@ fn set_state(
     circuit: &mut Circuit,
 ) -> usize
     requires there { k < length (places is_state 0 model.now) }
-    requires place { slice_get model.now (slice_index (places is_state 0 model.now) k) ≡ Some item.now }
+    requires place { slice_get model.now (slice_index (places is_state 0 model.now) k)
+        ≡ Some item.now }
     requires state { is_state item.now.body ≡ true }
     requires well_formed { IsWellFormed model.now }
     requires all { length table.now ≡ length model.now }
     requires nexts { first_init_without_next model.now model.now ≡ None }
     requires reads { RowsRead model.now (net circuit.old) table.now }
-    requires room { first + length (item_latches model.now table.now item.now) ≤ length circuit.old.latches }
+    requires room { first + length (item_latches model.now table.now item.now)
+        ≤ length circuit.old.latches }
     requires few { length circuit.old.latches ≤ greatest_count }
-    ensures latches { circuit.new ≡ record circuit.old { latches = written_over circuit.old.latches first (item_latches model.now table.now item.now) } }
+    ensures latches { circuit.new
+        ≡ record circuit.old { latches = written_over circuit.old.latches first (item_latches model.now table.now item.now) } }
     ensures count { result ≡ length (item_latches model.now table.now item.now) }
 {
     if model.is_free(k) {

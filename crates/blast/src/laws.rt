@@ -32,8 +32,10 @@ pub fn a_lowered_circuit_runs()
     ensures initial { (items : List Item) (c : Circuit) → Lowers items c
         → (state : Frame) → IsInitial items state → AreInitial c.latches (state_bits items state) }
     ensures exists { (items : List Item) (c : Circuit) → Lowers items c
-        → (state : Frame) (inputs : List Frame) → IsInitial items state → AllByRecursion (IsInput items) inputs
-        → (vs : List Valuation) × IsCircuitTrace c (state_bits items state) (map (input_bits items) inputs) vs }
+        → (state : Frame) (inputs : List Frame) → IsInitial items state
+        → AllByRecursion (IsInput items) inputs
+        → (vs : List Valuation) × IsCircuitTrace c (state_bits items state)
+        (map (input_bits items) inputs) vs }
 {
     aiger::laws::exactly_one_trace();
 }
@@ -41,7 +43,8 @@ pub fn a_lowered_circuit_runs()
 /// A law: a bad property can rise in a circuit that lowers a model, while all constraints hold so far, exactly where it can
 /// in the model; from the initial words that the init lines allow, and the initial bits that the resets allow.
 pub fn bad_properties_rise_alike()
-    ensures { (items : List Item) (c : Circuit) (b : ℕ) → Lowers items c → CanRise items b ↔ CanRiseInCircuit c b }
+    ensures { (items : List Item) (c : Circuit) (b : ℕ) → Lowers items c
+        → CanRise items b ↔ CanRiseInCircuit c b }
 {
     aiger::laws::exactly_one_trace();
     btor2::laws::exactly_one_trace();
@@ -49,8 +52,10 @@ pub fn bad_properties_rise_alike()
 
 /// A law: and where it can, it does so in a trace of as many frames.
 pub fn rises_in_as_many_frames()
-    ensures circuit { (items : List Item) (c : Circuit) (b : ℕ) → Lowers items c → (h : CanRise items b) → (g : CanRiseInCircuit c b) × (length g.frames ≡ length h.frames) }
-    ensures model { (items : List Item) (c : Circuit) (b : ℕ) → Lowers items c → (g : CanRiseInCircuit c b) → (h : CanRise items b) × (length h.frames ≡ length g.frames) }
+    ensures circuit { (items : List Item) (c : Circuit) (b : ℕ) → Lowers items c
+        → (h : CanRise items b) → (g : CanRiseInCircuit c b) × (length g.frames ≡ length h.frames) }
+    ensures model { (items : List Item) (c : Circuit) (b : ℕ) → Lowers items c
+        → (g : CanRiseInCircuit c b) → (h : CanRise items b) × (length h.frames ≡ length g.frames) }
 {
     aiger::laws::exactly_one_trace();
     btor2::laws::exactly_one_trace();
@@ -58,19 +63,27 @@ pub fn rises_in_as_many_frames()
 
 /// A law: the bits that are given in each frame and those that are carried are the bits of the inputs and of the states.
 pub fn bits_are_given_or_carried()
-    ensures { (items : List Item) → given_width items + carried_width items ≡ input_width items + state_width items }
+    ensures { (items : List Item) → given_width items + carried_width items
+        ≡ input_width items + state_width items }
 {}
 
 /// A law: in a model in which each state has a next line no state is free, so the bits that are given are those of the
 /// inputs, and the bits that are carried those of the states; and so are how many they are, their names, and how the latches begin.
 pub fn no_state_is_free()
-    ensures input_bits { (items : List Item) → HaveNexts items → (f : Frame) → input_bits items f ≡ given_by_kind (by_body is_input) (leaf_bits items f) items }
-    ensures state_bits { (items : List Item) → HaveNexts items → (f : Frame) → state_bits items f ≡ given_by_kind (by_body is_state) (leaf_bits items f) items }
-    ensures input_names { (items : List Item) → HaveNexts items → input_names items ≡ given_by_kind (by_body is_input) (leaf_names items) items }
-    ensures state_names { (items : List Item) → HaveNexts items → state_names items ≡ given_by_kind (by_body is_state) (leaf_names items) items }
-    ensures given_width { (items : List Item) → HaveNexts items → given_width items ≡ input_width items }
-    ensures carried_width { (items : List Item) → HaveNexts items → carried_width items ≡ state_width items }
-    ensures resets { (items : List Item) → HaveNexts items → state_resets items ≡ given_by_kind (by_body is_state) (leaf_resets items) items }
+    ensures input_bits { (items : List Item) → HaveNexts items → (f : Frame)
+        → input_bits items f ≡ given_by_kind (by_body is_input) (leaf_bits items f) items }
+    ensures state_bits { (items : List Item) → HaveNexts items → (f : Frame)
+        → state_bits items f ≡ given_by_kind (by_body is_state) (leaf_bits items f) items }
+    ensures input_names { (items : List Item) → HaveNexts items
+        → input_names items ≡ given_by_kind (by_body is_input) (leaf_names items) items }
+    ensures state_names { (items : List Item) → HaveNexts items
+        → state_names items ≡ given_by_kind (by_body is_state) (leaf_names items) items }
+    ensures given_width { (items : List Item) → HaveNexts items
+        → given_width items ≡ input_width items }
+    ensures carried_width { (items : List Item) → HaveNexts items
+        → carried_width items ≡ state_width items }
+    ensures resets { (items : List Item) → HaveNexts items
+        → state_resets items ≡ given_by_kind (by_body is_state) (leaf_resets items) items }
 {}
 
 /// Worked rows: models with free states, and their circuits.
@@ -117,13 +130,19 @@ pub fn worked_outputs()
 /// what fails behind that frame does not count.
 pub fn worked_rises()
     ensures first { rises_within 0 (record { bads = true ∷ []; constraints = [] } ∷ []) ≡ true }
-    ensures second { rises_within 1 (record { bads = true ∷ false ∷ []; constraints = true ∷ [] } ∷ record { bads = false ∷ true ∷ []; constraints = true ∷ [] } ∷ []) ≡ true }
-    ensures never { rises_within 0 (record { bads = false ∷ []; constraints = [] } ∷ record { bads = false ∷ []; constraints = [] } ∷ []) ≡ false }
+    ensures second { rises_within 1 (record { bads = true ∷ false ∷ []; constraints = true ∷ [] }
+        ∷ record { bads = false ∷ true ∷ []; constraints = true ∷ [] } ∷ []) ≡ true }
+    ensures never { rises_within 0 (record { bads = false ∷ []; constraints = [] }
+        ∷ record { bads = false ∷ []; constraints = [] } ∷ []) ≡ false }
     ensures no_frame { rises_within 0 [] ≡ false }
-    ensures no_such_property { rises_within 1 (record { bads = true ∷ []; constraints = [] } ∷ []) ≡ false }
-    ensures violated_in_it { rises_within 0 (record { bads = true ∷ []; constraints = true ∷ false ∷ [] } ∷ []) ≡ false }
-    ensures violated_before { rises_within 0 (record { bads = false ∷ []; constraints = false ∷ [] } ∷ record { bads = true ∷ []; constraints = true ∷ [] } ∷ []) ≡ false }
-    ensures violated_behind { rises_within 0 (record { bads = true ∷ []; constraints = true ∷ [] } ∷ record { bads = false ∷ []; constraints = false ∷ [] } ∷ []) ≡ true }
+    ensures no_such_property { rises_within 1 (record { bads = true ∷ []; constraints = [] } ∷ [])
+        ≡ false }
+    ensures violated_in_it { rises_within 0
+        (record { bads = true ∷ []; constraints = true ∷ false ∷ [] } ∷ []) ≡ false }
+    ensures violated_before { rises_within 0 (record { bads = false ∷ []; constraints = false ∷ [] }
+        ∷ record { bads = true ∷ []; constraints = true ∷ [] } ∷ []) ≡ false }
+    ensures violated_behind { rises_within 0 (record { bads = true ∷ []; constraints = true ∷ [] }
+        ∷ record { bads = false ∷ []; constraints = false ∷ [] } ∷ []) ≡ true }
 {}
 
 /// Worked rows: the gates and the variables at most of a bit that toggles, and of two bits that are masked.
@@ -140,7 +159,8 @@ pub fn worked_costs()
     ensures masked_bound { bound masked ≡ 6 }
     ensures follower_inputs { input_width named_follower ≡ 1 }
     ensures follower_states { state_width named_follower ≡ 2 }
-    ensures follower_free { kind_width named_follower (is_free_state named_follower) named_follower ≡ 1 }
+    ensures follower_free { kind_width named_follower (is_free_state named_follower) named_follower
+        ≡ 1 }
     ensures follower_given { given_width named_follower ≡ 2 }
     ensures follower_carried { carried_width named_follower ≡ 1 }
     ensures follower_bound { bound named_follower ≡ 3 }
@@ -153,7 +173,8 @@ pub fn worked_leaves()
     ensures input_bits { input_bits masked (λ id. 2) ≡ false ∷ true ∷ [] }
     ensures state_bit { state_bits toggler_model (λ id. 1) ≡ true ∷ [] }
     ensures state_bits { state_bits masked (λ id. 1) ≡ true ∷ false ∷ [] }
-    ensures free_behind_input { input_bits named_follower (λ id. if id == 2 then 1 else 0) ≡ false ∷ true ∷ [] }
+    ensures free_behind_input { input_bits named_follower (λ id. if id == 2 then 1 else 0)
+        ≡ false ∷ true ∷ [] }
     ensures carried_alone { state_bits named_follower (λ id. if id == 3 then 1 else 0) ≡ true ∷ [] }
     ensures none_carried { state_bits free_alone (λ id. 1) ≡ [] }
     ensures free_word { resets_of_word 2 None ≡ reset.Free ∷ reset.Free ∷ [] }
@@ -161,8 +182,10 @@ pub fn worked_leaves()
     ensures begins_with_0 { state_resets toggler_model ≡ reset.Zero ∷ [] }
     ensures begins_freely { state_resets masked ≡ reset.Free ∷ reset.Free ∷ [] }
     ensures of_carried { state_resets named_follower ≡ reset.Free ∷ [] }
-    ensures is_shown { model_shows named_toggler (λ id. 1) ≡ record { bads = true ∷ []; constraints = true ∷ [] } }
-    ensures is_not_shown { model_shows named_toggler (λ id. 0) ≡ record { bads = false ∷ []; constraints = false ∷ [] } }
+    ensures is_shown { model_shows named_toggler (λ id. 1)
+        ≡ record { bads = true ∷ []; constraints = true ∷ [] } }
+    ensures is_not_shown { model_shows named_toggler (λ id. 0)
+        ≡ record { bads = false ∷ []; constraints = false ∷ [] } }
 {}
 
 /// Worked rows: the names of a circuit's inputs, latches, bad properties and constraints.
@@ -177,7 +200,8 @@ pub fn worked_names()
     ensures latch_without { state_names toggler_model ≡ None ∷ [] }
     ensures inputs_without { input_names masked ≡ None ∷ None ∷ [] }
     ensures bad_without { bad_names toggler_model ≡ None ∷ [] }
-    ensures free_behind_input { input_names named_follower ≡ Some (codes "x[0]") ∷ Some (codes "f[0]") ∷ [] }
+    ensures free_behind_input { input_names named_follower
+        ≡ Some (codes "x[0]") ∷ Some (codes "f[0]") ∷ [] }
     ensures carried_alone { state_names named_follower ≡ Some (codes "s[0]") ∷ [] }
     ensures free_without { input_names free_alone ≡ None ∷ [] }
 {}

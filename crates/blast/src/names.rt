@@ -55,7 +55,8 @@ pub(crate) fn give_name(
 ) -> Result<(), LowerFault>
     requires free { slice_get (section_names section circuit.old) position ≡ Some None }
     requires name { is_name name.now ≡ true }
-    ensures ok { OnOk result (Renames section circuit.old (slice_set (section_names section circuit.old) position (Some name.now)) circuit.new) }
+    ensures ok { OnOk result (Renames section circuit.old
+        (slice_set (section_names section circuit.old) position (Some name.now)) circuit.new) }
     ensures err { IfErr result (λ e. e ≡ fault.NoMemory) }
 {
     match circuit.set_name(section, position, name) {
@@ -77,7 +78,9 @@ fn name_bits(
     requires room { first + count ≤ length (section_names section circuit.old) }
     requires few { length (section_names section circuit.old) ≤ greatest_count }
     requires count { count ≤ 64 }
-    ensures ok { OnOk result (Renames section circuit.old (written_over (section_names section circuit.old) first (bit_names symbol.now 0 count)) circuit.new) }
+    ensures ok { OnOk result (Renames section circuit.old
+        (written_over (section_names section circuit.old) first (bit_names symbol.now 0 count))
+        circuit.new) }
     ensures err { IfErr result (λ e. e ≡ fault.NoMemory) }
 {
     match symbol {
@@ -104,10 +107,14 @@ fn name_leaf(
 ) -> Result<usize, LowerFault>
     requires well_formed { IsWellFormed model.now }
     requires place { slice_get model.now place ≡ Some item.now }
-    requires free { IsBlank None first (length (leaf_names model.now item.now)) (section_names section circuit.old) }
-    requires room { first + length (leaf_names model.now item.now) ≤ length (section_names section circuit.old) }
+    requires free { IsBlank None first (length (leaf_names model.now item.now))
+        (section_names section circuit.old) }
+    requires room { first + length (leaf_names model.now item.now)
+        ≤ length (section_names section circuit.old) }
     requires few { length (section_names section circuit.old) ≤ greatest_count }
-    ensures ok { OnOk result (Renames section circuit.old (written_over (section_names section circuit.old) first (leaf_names model.now item.now)) circuit.new) }
+    ensures ok { OnOk result (Renames section circuit.old
+        (written_over (section_names section circuit.old) first (leaf_names model.now item.now))
+        circuit.new) }
     ensures count { IfOk result (λ n. n ≡ length (leaf_names model.now item.now)) }
     ensures err { IfErr result (λ e. e ≡ fault.NoMemory) }
 {
@@ -131,10 +138,14 @@ fn name_item(
     requires there { k < length (places (list_of leaves) 0 model.now) }
     requires here { place ≡ slice_index (places (list_of leaves) 0 model.now) k }
     requires place { slice_get model.now place ≡ Some item.now }
-    requires free { IsBlank None first (length (names_given model.now leaves item.now)) (section_names (section_of leaves) circuit.old) }
-    requires room { first + length (names_given model.now leaves item.now) ≤ length (section_names (section_of leaves) circuit.old) }
+    requires free { IsBlank None first (length (names_given model.now leaves item.now))
+        (section_names (section_of leaves) circuit.old) }
+    requires room { first + length (names_given model.now leaves item.now)
+        ≤ length (section_names (section_of leaves) circuit.old) }
     requires few { length (section_names (section_of leaves) circuit.old) ≤ greatest_count }
-    ensures ok { OnOk result (Renames (section_of leaves) circuit.old (written_over (section_names (section_of leaves) circuit.old) first (names_given model.now leaves item.now)) circuit.new) }
+    ensures ok { OnOk result (Renames (section_of leaves) circuit.old
+        (written_over (section_names (section_of leaves) circuit.old) first
+        (names_given model.now leaves item.now)) circuit.new) }
     ensures count { IfOk result (λ n. n ≡ length (names_given model.now leaves item.now)) }
     ensures err { IfErr result (λ e. e ≡ fault.NoMemory) }
 {
@@ -152,10 +163,14 @@ fn name_part(
     first: usize,
     circuit: &mut Circuit,
 ) -> Result<usize, LowerFault>
-    requires blank { IsBlank None first (length (part_names model.now leaves)) (section_names (section_of leaves) circuit.old) }
-    requires room { first + length (part_names model.now leaves) ≤ length (section_names (section_of leaves) circuit.old) }
+    requires blank { IsBlank None first (length (part_names model.now leaves))
+        (section_names (section_of leaves) circuit.old) }
+    requires room { first + length (part_names model.now leaves)
+        ≤ length (section_names (section_of leaves) circuit.old) }
     requires few { length (section_names (section_of leaves) circuit.old) ≤ greatest_count }
-    ensures ok { OnOk result (Renames (section_of leaves) circuit.old (written_over (section_names (section_of leaves) circuit.old) first (part_names model.now leaves)) circuit.new) }
+    ensures ok { OnOk result (Renames (section_of leaves) circuit.old
+        (written_over (section_names (section_of leaves) circuit.old) first
+        (part_names model.now leaves)) circuit.new) }
     ensures next { IfOk result (λ n. n ≡ first + length (part_names model.now leaves)) }
     ensures err { IfErr result (λ e. e ≡ fault.NoMemory) }
 {

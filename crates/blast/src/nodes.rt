@@ -84,8 +84,11 @@ fn unary_row<G: Gates>(
 ) -> Result<Bits, GateFault>
     requires well_formed { IsWellFormed model.now }
     requires operand { IsOperand model.now (G.made gates.old) table.now operand }
-    requires fits { variables (G.made gates.old) + unary_bound operator (bits_of model.now operand) ≤ greatest_count }
-    ensures ok { IfOk result (λ bits. let n = bits_of model.now operand in MakesNode model.now (G.made gates.old) (G.made gates.new) (unary_bound operator n) (unary_width operator n) (λ f. unary_value operator n (f operand)) bits.items) }
+    requires fits { variables (G.made gates.old) + unary_bound operator (bits_of model.now operand)
+        ≤ greatest_count }
+    ensures ok { IfOk result (λ bits. let n = bits_of model.now operand in MakesNode model.now
+        (G.made gates.old) (G.made gates.new) (unary_bound operator n) (unary_width operator n)
+        (λ f. unary_value operator n (f operand)) bits.items) }
     ensures memory { IfErr result (λ e. e ≡ GateFault.NoMemory) }
 {
     let a = node_row(model, table, operand);
@@ -106,8 +109,11 @@ fn binary_row<G: Gates>(
     requires right { IsOperand model.now (G.made gates.old) table.now right }
     requires equal { bits_of model.now right ≡ bits_of model.now left }
     requires of_bits { is_of_bits operator ≡ true → bits_of model.now left ≡ 1 }
-    requires fits { variables (G.made gates.old) + binary_bound operator (bits_of model.now left) ≤ greatest_count }
-    ensures ok { IfOk result (λ bits. let n = bits_of model.now left in MakesNode model.now (G.made gates.old) (G.made gates.new) (binary_bound operator n) (binary_width operator n) (λ f. binary_value operator n (f left) (f right)) bits.items) }
+    requires fits { variables (G.made gates.old) + binary_bound operator (bits_of model.now left)
+        ≤ greatest_count }
+    ensures ok { IfOk result (λ bits. let n = bits_of model.now left in MakesNode model.now
+        (G.made gates.old) (G.made gates.new) (binary_bound operator n) (binary_width operator n)
+        (λ f. binary_value operator n (f left) (f right)) bits.items) }
     ensures memory { IfErr result (λ e. e ≡ GateFault.NoMemory) }
 {
     let a = node_row(model, table, left);
@@ -130,8 +136,11 @@ fn ite_row<G: Gates>(
     requires second { IsOperand model.now (G.made gates.old) table.now second }
     requires one { bits_of model.now condition ≡ 1 }
     requires equal { bits_of model.now second ≡ bits_of model.now first }
-    requires fits { variables (G.made gates.old) + ite_bound (bits_of model.now first) ≤ greatest_count }
-    ensures ok { IfOk result (λ bits. let n = bits_of model.now first in MakesNode model.now (G.made gates.old) (G.made gates.new) (ite_bound n) n (λ f. ite_value (f condition) (f first) (f second)) bits.items) }
+    requires fits { variables (G.made gates.old) + ite_bound (bits_of model.now first)
+        ≤ greatest_count }
+    ensures ok { IfOk result (λ bits. let n = bits_of model.now first in MakesNode model.now
+        (G.made gates.old) (G.made gates.new) (ite_bound n) n
+        (λ f. ite_value (f condition) (f first) (f second)) bits.items) }
     ensures memory { IfErr result (λ e. e ≡ GateFault.NoMemory) }
 {
     let c = node_row(model, table, condition);
@@ -147,7 +156,8 @@ fn input_row(model: &Model, place: usize, item: &Item, next: &mut NextLeaf) -> B
     requires input { is_input item.now.body ≡ true }
     requires next { next.old ≡ next_leaf model.now (take place model.now) }
     requires fits { bound model.now ≤ greatest_count }
-    ensures bits { result.items ≡ map (λ i. 2 * (next.old.input + i)) (range_with_len 0 (bits_of model.now item.now.id)) }
+    ensures bits { result.items ≡ map (λ i. 2 * (next.old.input + i))
+        (range_with_len 0 (bits_of model.now item.now.id)) }
     ensures next { next.new ≡ next_after model.now item.now next.old }
 {
     next_bits(&mut next.input, bit_count(model, place, item))
@@ -160,7 +170,9 @@ fn state_row(model: &Model, place: usize, item: &Item, next: &mut NextLeaf) -> B
     requires state { is_state item.now.body ≡ true }
     requires next { next.old ≡ next_leaf model.now (take place model.now) }
     requires fits { bound model.now ≤ greatest_count }
-    ensures bits { result.items ≡ map (λ i. 2 * ((if is_free model.now item.now.id then next.old.free else next.old.carried) + i)) (range_with_len 0 (bits_of model.now item.now.id)) }
+    ensures bits { result.items
+        ≡ map (λ i. 2 * ((if is_free model.now item.now.id then next.old.free else next.old.carried)
+        + i)) (range_with_len 0 (bits_of model.now item.now.id)) }
     ensures next { next.new ≡ next_after model.now item.now next.old }
 {
     let width = bit_count(model, place, item);
@@ -186,7 +198,8 @@ fn line_row<G: Gates>(
     requires at { slice_get model.now place ≡ Some item.now }
     requires front { LowersFront model.now place (G.made gates.old) table.now next.old }
     requires fits { bound model.now ≤ greatest_count }
-    ensures ok { IfOk result (λ bits. MakesRow model.now (G.made gates.old) (G.made gates.new) item.now bits.items) }
+    ensures ok { IfOk result (λ bits. MakesRow model.now (G.made gates.old)
+        (G.made gates.new) item.now bits.items) }
     ensures next { OnOk result (next.new ≡ next_after model.now item.now next.old) }
     ensures memory { IfErr result (λ e. e ≡ GateFault.NoMemory) }
 {
@@ -239,7 +252,8 @@ fn lower_item<G: Gates>(
     requires at { slice_get model.now place ≡ Some item.now }
     requires front { LowersFront model.now place (G.made gates.old) table.old next.old }
     requires fits { bound model.now ≤ greatest_count }
-    ensures ok { OnOk result (LowersFront model.now (place + 1) (G.made gates.new) table.new next.new) }
+    ensures ok { OnOk result (LowersFront model.now (place + 1)
+        (G.made gates.new) table.new next.new) }
     ensures memory { IfErr result (λ e. e ≡ GateFault.NoMemory) }
 {
     let bits = line_row(model, gates, table, place, item, next)?;

@@ -51,7 +51,8 @@ fn word_bits(word: u64, width: u64) -> Bits
 pub(crate) fn constant_row(model: &Model, place: usize, item: &Item) -> Bits
     requires well_formed { IsWellFormed model.now }
     requires at { slice_get model.now place ≡ Some item.now }
-    ensures { result.items ≡ word_literals (bits_of model.now item.now.id) (constant_at model.now place) }
+    ensures { result.items ≡ word_literals (bits_of model.now item.now.id)
+        (constant_at model.now place) }
 {
     match model.constant(place) {
         Some(word) => word_bits(word, bit_count(model, place, item)),

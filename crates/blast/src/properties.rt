@@ -42,7 +42,8 @@ fn property_section(property: Property) -> Section
 /// Adds a literal to the properties of a kind, as the circuit takes it.
 fn add_literal(property: Property, lit: Lit, circuit: &mut Circuit) -> Result<(), CircuitFault>
     ensures ok { OnOk result (circuit.new ≡ with_more property circuit.old (lit ∷ [])) }
-    ensures refused { RefusesBy result (property_refusal circuit.old (length (literals_of property circuit.old)) lit) }
+    ensures refused { RefusesBy result
+        (property_refusal circuit.old (length (literals_of property circuit.old)) lit) }
 {
     match property {
         Property::Output => circuit.push_output(lit),
@@ -77,7 +78,8 @@ fn push_named(
     requires defined { IsDefined (net circuit.old) lit }
     requires few { length (literals_of property circuit.old) < greatest_count }
     requires name { is_name name.now ≡ true }
-    ensures ok { OnOk result (Adds property circuit.old (lit ∷ []) (Some name.now ∷ []) circuit.new) }
+    ensures ok { OnOk result (Adds property circuit.old (lit ∷ [])
+        (Some name.now ∷ []) circuit.new) }
     ensures err { IfErr result (λ e. e ≡ fault.NoMemory) }
 {
     let section = property_section(property);
@@ -98,7 +100,8 @@ fn push_bit(
     requires defined { IsDefined (net circuit.old) lit }
     requires few { length (literals_of property circuit.old) < greatest_count }
     requires bit { bit < 64 }
-    ensures ok { OnOk result (Adds property circuit.old (lit ∷ []) (names_by property symbol.now bit 1) circuit.new) }
+    ensures ok { OnOk result (Adds property circuit.old (lit ∷ [])
+        (names_by property symbol.now bit 1) circuit.new) }
     ensures err { IfErr result (λ e. e ≡ fault.NoMemory) }
 {
     let Some(symbol) = symbol else {
@@ -134,7 +137,8 @@ fn push_row(
     requires defined { All (IsDefined (net circuit.old)) row.now }
     requires short { length row.now ≤ 64 }
     requires few { length (literals_of property circuit.old) + length row.now ≤ greatest_count }
-    ensures ok { OnOk result (Adds property circuit.old row.now (names_by property symbol.now 0 (length row.now)) circuit.new) }
+    ensures ok { OnOk result (Adds property circuit.old row.now
+        (names_by property symbol.now 0 (length row.now)) circuit.new) }
     ensures err { IfErr result (λ e. e ≡ fault.NoMemory) }
 {
     for bit in 0..row.len() {
@@ -168,8 +172,11 @@ fn push_item(
     requires place { slice_get model.now place ≡ Some item.now }
     requires reads { RowsRead model.now (net circuit.old) table.now }
     requires all { length table.now ≡ length model.now }
-    requires few { length (literals_of property circuit.old) + length (property_literals model.now table.now property item.now.body) ≤ greatest_count }
-    ensures ok { OnOk result (Adds property circuit.old (property_literals model.now table.now property item.now.body) (property_names model.now table.now property item.now) circuit.new) }
+    requires few { length (literals_of property circuit.old) + length
+        (property_literals model.now table.now property item.now.body) ≤ greatest_count }
+    ensures ok { OnOk result (Adds property circuit.old
+        (property_literals model.now table.now property item.now.body)
+        (property_names model.now table.now property item.now) circuit.new) }
     ensures err { IfErr result (λ e. e ≡ fault.NoMemory) }
 {
     match operand_of(property, &item.body) {
@@ -188,7 +195,9 @@ fn push_kind(
     requires reads { RowsRead model.now (net circuit.old) table.now }
     requires all { length table.now ≡ length model.now }
     requires none { literals_of property circuit.old ≡ [] }
-    ensures ok { OnOk result (Adds property circuit.old (flat_map (λ x. property_literals model.now table.now property x.body) model.now) (flat_map (property_names model.now table.now property) model.now) circuit.new) }
+    ensures ok { OnOk result (Adds property circuit.old
+        (flat_map (λ x. property_literals model.now table.now property x.body) model.now)
+        (flat_map (property_names model.now table.now property) model.now) circuit.new) }
     ensures err { IfErr result (λ e. e ≡ fault.NoMemory) }
 {
     let items = model.items();

@@ -14,8 +14,10 @@ use btor2::{Body, Item, Model};
 fn state_refusal(model: &Model, item: &Item, k: usize) -> Option<LowerFault>
     requires well_formed { IsWellFormed model.now }
     requires there { k < length (places is_state 0 model.now) }
-    requires place { slice_get model.now (slice_index (places is_state 0 model.now) k) ≡ Some item.now }
-    ensures { result ≡ (if has_init_without_next model.now item.now.id then Some (fault.NoNext item.now.id) else None) }
+    requires place { slice_get model.now (slice_index (places is_state 0 model.now) k)
+        ≡ Some item.now }
+    ensures { result ≡ (if has_init_without_next model.now item.now.id then Some
+        (fault.NoNext item.now.id) else None) }
 {
     if !model.is_free(k) && model.next_of(k).is_none() {
         Some(LowerFault::NoNext(item.id))

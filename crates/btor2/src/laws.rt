@@ -17,19 +17,23 @@ ghost use Rattle.btor2.specs.Worked.{line, toggler_model, counter, open_ends, fo
 pub fn exactly_one_trace()
     ensures exists { (items : List Item) (state : Frame) (inputs : List Frame) → IsWellFormed items
         → (fs : List Frame) × IsTrace items state inputs fs }
-    ensures unique { (items : List Item) (state : Frame) (inputs fs gs : List Frame) → IsWellFormed items
+    ensures unique { (items : List Item) (state : Frame) (inputs fs gs : List Frame)
+        → IsWellFormed items
         → IsTrace items state inputs fs → IsTrace items state inputs gs → SameTrace items fs gs }
 {}
 
 /// A law: from carried words and given words that fit their widths, each node's word fits its width, and so do the
 /// state words of the next frame where each state that is not free has a next.
 pub fn words_fit()
-    ensures frame { (items : List Item) (state input f : Frame) → IsWellFormed items → IsState items state
+    ensures frame { (items : List Item) (state input f : Frame) → IsWellFormed items
+        → IsState items state
         → IsInput items input → IsFrame items state input f
         → (id : ℕ) → is_some (node_width items id) ≡ true → f id < 2 ^ bits_of items id }
-    ensures next { (items : List Item) (state input f : Frame) → IsWellFormed items → IsState items state
+    ensures next { (items : List Item) (state input f : Frame) → IsWellFormed items
+        → IsState items state
         → IsInput items input → IsFrame items state input f
-        → ((id : ℕ) → names_state items id ≡ true → is_free items id ≡ false → is_some (next_value items id) ≡ true)
+        → ((id : ℕ) → names_state items id ≡ true → is_free items id ≡ false
+        → is_some (next_value items id) ≡ true)
         → IsState items (next_state items f) }
 {}
 
@@ -38,7 +42,8 @@ pub fn worked_traces()
     ensures is_model { IsWellFormed toggler_model }
     ensures first { (f : Frame) → IsFrame toggler_model (λ id. 0) (λ id. 0) f
         → (f 3 ≡ 0) × (f 5 ≡ 1) × (next_state toggler_model f 3 ≡ 1) }
-    ensures second { (f g : Frame) → IsTrace toggler_model (λ id. 0) ((λ id. 0) ∷ (λ id. 0) ∷ []) (f ∷ g ∷ [])
+    ensures second { (f g : Frame) → IsTrace toggler_model (λ id. 0) ((λ id. 0) ∷ (λ id. 0) ∷ [])
+        (f ∷ g ∷ [])
         → (g 3 ≡ 1) × (g 5 ≡ 0) × (next_state toggler_model g 3 ≡ 0) }
 {}
 
@@ -62,11 +67,14 @@ pub fn worked_words()
 /// A law: in a frame a state that is not free has the word that is carried, and a free one the word that is given. So
 /// where each state has a next, all of them have the words that are carried, whatever words are given to states.
 pub fn words_of_states()
-    ensures carried { (items : List Item) (state input f : Frame) (id : ℕ) → IsFrame items state input f
+    ensures carried { (items : List Item) (state input f : Frame) (id : ℕ)
+        → IsFrame items state input f
         → names_state items id ≡ true → is_free items id ≡ false → f id ≡ state id }
-    ensures free { (items : List Item) (state input f : Frame) (id : ℕ) → IsFrame items state input f
+    ensures free { (items : List Item) (state input f : Frame) (id : ℕ)
+        → IsFrame items state input f
         → names_state items id ≡ true → is_free items id ≡ true → f id ≡ input id }
-    ensures with_next { (items : List Item) (state input f : Frame) (id : ℕ) → IsFrame items state input f
+    ensures with_next { (items : List Item) (state input f : Frame) (id : ℕ)
+        → IsFrame items state input f
         → names_state items id ≡ true → is_some (next_value items id) ≡ true → f id ≡ state id }
 {}
 
@@ -74,9 +82,11 @@ pub fn words_of_states()
 /// carried that its word fits its width. So where each state has a next, given words are words of the inputs alone,
 /// and carried words are words of all states.
 pub fn words_that_fit_states()
-    ensures given { (items : List Item) (input : Frame) (id sort : ℕ) → is_some (next_value items id) ≡ true
+    ensures given { (items : List Item) (input : Frame) (id sort : ℕ)
+        → is_some (next_value items id) ≡ true
         → InputFits items input id (body.State sort) }
-    ensures carried { (items : List Item) (state : Frame) (id sort : ℕ) → is_some (next_value items id) ≡ true
+    ensures carried { (items : List Item) (state : Frame) (id sort : ℕ)
+        → is_some (next_value items id) ≡ true
         → StateFits items state id (body.State sort) → state id < 2 ^ bits_of items id }
 {}
 
@@ -97,9 +107,11 @@ pub fn worked_free_states()
 /// are given, 1 and then 0; the other follows it, whatever is given to it.
 pub fn worked_given_words()
     ensures is_model { IsWellFormed follower }
-    ensures traces { (f g : Frame) → IsTrace follower (λ id. 0) ((λ id. 1) ∷ (λ id. 0) ∷ []) (f ∷ g ∷ [])
+    ensures traces { (f g : Frame) → IsTrace follower (λ id. 0) ((λ id. 1) ∷ (λ id. 0) ∷ [])
+        (f ∷ g ∷ [])
         → (f 2 ≡ 1) × (f 3 ≡ 0) × (g 2 ≡ 0) × (g 3 ≡ 1) × (next_state follower g 3 ≡ 0) }
-    ensures is_carried { (f : Frame) → IsFrame follower (λ id. 1) (λ id. 0) f → (f 2 ≡ 0) × (f 3 ≡ 1) }
+    ensures is_carried { (f : Frame) → IsFrame follower (λ id. 1) (λ id. 0) f → (f 2 ≡ 0)
+        × (f 3 ≡ 1) }
     ensures fits { IsInput follower (λ id. 1) }
     ensures too_wide { IsInput follower (λ id. if id == 2 then 2 else 0) → ⊥ }
     ensures carried_fits { IsState follower (λ id. if id == 3 then 1 else 2) }
@@ -124,28 +136,45 @@ pub fn worked_refusals()
     ensures too_many_items { (items : List Item) (x : Item) → 1048576 ≤ length items
         → refusal items x ≡ Some fault.TooManyItems }
     ensures id_out_of_range { refusal nibble (line 0 (body.Zero 1)) ≡ Some fault.IdOutOfRange }
-    ensures id_above_range { refusal nibble (line 4294967296 (body.Zero 1)) ≡ Some fault.IdOutOfRange }
+    ensures id_above_range { refusal nibble (line 4294967296 (body.Zero 1))
+        ≡ Some fault.IdOutOfRange }
     ensures id_taken { refusal nibble (line 2 (body.Zero 9)) ≡ Some fault.IdTaken }
-    ensures no_such_sort { refusal nibble (line 3 (body.Unary unary.Not 9 2)) ≡ Some fault.NoSuchSort }
-    ensures no_such_node { refusal nibble (line 3 (body.Unary unary.Not 1 1)) ≡ Some fault.NoSuchNode }
+    ensures no_such_sort { refusal nibble (line 3 (body.Unary unary.Not 9 2))
+        ≡ Some fault.NoSuchSort }
+    ensures no_such_node { refusal nibble (line 3 (body.Unary unary.Not 1 1))
+        ≡ Some fault.NoSuchNode }
     ensures not_a_state { refusal nibble (line 3 (body.Init 1 2 2)) ≡ Some fault.NotAState }
-    ensures width_out_of_range { refusal nibble (line 3 (body.Sort 0)) ≡ Some fault.WidthOutOfRange }
-    ensures width_above_range { refusal nibble (line 3 (body.Sort 65)) ≡ Some fault.WidthOutOfRange }
+    ensures width_out_of_range { refusal nibble (line 3 (body.Sort 0))
+        ≡ Some fault.WidthOutOfRange }
+    ensures width_above_range { refusal nibble (line 3 (body.Sort 65))
+        ≡ Some fault.WidthOutOfRange }
     ensures sort_mismatch { refusal nibble (line 3 (body.Bad 2)) ≡ Some fault.SortMismatch }
-    ensures slice_out_of_range { refusal nibble (line 3 (body.Slice 1 2 4 0)) ≡ Some fault.SliceOutOfRange }
-    ensures slice_turned_round { refusal nibble (line 3 (body.Slice 1 2 0 1)) ≡ Some fault.SliceOutOfRange }
-    ensures far_too_wide { refusal nibble (line 3 (body.Uext 1 2 18446744073709551615)) ≡ Some fault.SortMismatch }
-    ensures choice_by_a_word { refusal nibble (line 3 (body.Ite 1 2 2 2)) ≡ Some fault.SortMismatch }
-    ensures single_bits_alone { refusal nibble (line 3 (body.Binary binary.Iff 1 2 2)) ≡ Some fault.SortMismatch }
-    ensures five_digits { refusal nibble (line 3 (body.Const 1 5 0)) ≡ Some fault.ConstantDoesNotFit }
-    ensures digits_too_few { refusal nibble (line 3 (body.Const 1 4 16)) ≡ Some fault.ConstantDoesNotFit }
-    ensures decimal_above { refusal nibble (line 3 (body.Constd 1 (pos 16))) ≡ Some fault.ConstantDoesNotFit }
+    ensures slice_out_of_range { refusal nibble (line 3 (body.Slice 1 2 4 0))
+        ≡ Some fault.SliceOutOfRange }
+    ensures slice_turned_round { refusal nibble (line 3 (body.Slice 1 2 0 1))
+        ≡ Some fault.SliceOutOfRange }
+    ensures far_too_wide { refusal nibble (line 3 (body.Uext 1 2 18446744073709551615))
+        ≡ Some fault.SortMismatch }
+    ensures choice_by_a_word { refusal nibble (line 3 (body.Ite 1 2 2 2))
+        ≡ Some fault.SortMismatch }
+    ensures single_bits_alone { refusal nibble (line 3 (body.Binary binary.Iff 1 2 2))
+        ≡ Some fault.SortMismatch }
+    ensures five_digits { refusal nibble (line 3 (body.Const 1 5 0))
+        ≡ Some fault.ConstantDoesNotFit }
+    ensures digits_too_few { refusal nibble (line 3 (body.Const 1 4 16))
+        ≡ Some fault.ConstantDoesNotFit }
+    ensures decimal_above { refusal nibble (line 3 (body.Constd 1 (pos 16)))
+        ≡ Some fault.ConstantDoesNotFit }
     ensures decimal_greatest { refusal nibble (line 3 (body.Constd 1 (pos 15))) ≡ None }
-    ensures decimal_below { refusal nibble (line 3 (body.Constd 1 (negsuc 8))) ≡ Some fault.ConstantDoesNotFit }
+    ensures decimal_below { refusal nibble (line 3 (body.Constd 1 (negsuc 8)))
+        ≡ Some fault.ConstantDoesNotFit }
     ensures decimal_least { refusal nibble (line 3 (body.Constd 1 (negsuc 7))) ≡ None }
-    ensures hex_too_long { refusal nibble (line 3 (body.Consth 1 17 0)) ≡ Some fault.ConstantDoesNotFit }
-    ensures hex_too_great { refusal nibble (line 3 (body.Consth 1 2 16)) ≡ Some fault.ConstantDoesNotFit }
-    ensures init_not_constant { refusal (nibble ++ line 3 (body.State 1) ∷ []) (line 4 (body.Init 1 3 2))
+    ensures hex_too_long { refusal nibble (line 3 (body.Consth 1 17 0))
+        ≡ Some fault.ConstantDoesNotFit }
+    ensures hex_too_great { refusal nibble (line 3 (body.Consth 1 2 16))
+        ≡ Some fault.ConstantDoesNotFit }
+    ensures init_not_constant { refusal (nibble ++ line 3 (body.State 1) ∷ [])
+        (line 4 (body.Init 1 3 2))
         ≡ Some fault.InitNotConstant }
     ensures second_init { refusal toggler_model (line 8 (body.Init 1 3 2)) ≡ Some fault.SecondInit }
     ensures second_next { refusal toggler_model (line 8 (body.Next 1 3 3)) ≡ Some fault.SecondNext }

@@ -33,7 +33,8 @@ impl Leaves {
     /// Condition: `k` is below the length of that list.
     pub fn has(self, model: &Model, k: usize) -> bool
         requires { k < length (places (list_of self) 0 model.now) }
-        ensures { result ≡ is_leaf_at model.now self (slice_index (places (list_of self) 0 model.now) k) }
+        ensures { result ≡ is_leaf_at model.now self
+            (slice_index (places (list_of self) 0 model.now) k) }
     {
         match self {
             Leaves::Inputs => true,
@@ -47,7 +48,8 @@ impl Leaves {
     /// Condition: `k` is below the length of that list.
     pub fn width(self, model: &Model, k: usize) -> u64
         requires { k < length (places (list_of self) 0 model.now) }
-        ensures value { result ≡ leaf_width model.now self (slice_index (places (list_of self) 0 model.now) k) }
+        ensures value { result ≡ leaf_width model.now self
+            (slice_index (places (list_of self) 0 model.now) k) }
         ensures most { result ≤ 64 }
     {
         if self.has(model, k) {

@@ -189,7 +189,8 @@ impl Model {
     #[inline(always)]
     fn entry_at(&self, place: usize) -> Entry
         requires { place < length self.now }
-        ensures sort { entry_sort result ≡ option_and_then (λ (x : Item). sort_bits x.body) (slice_get self.now place) }
+        ensures sort { entry_sort result ≡ option_and_then (λ (x : Item). sort_bits x.body)
+            (slice_get self.now place) }
         ensures node { entry_node result ≡ width_at self.now place }
     {
         self.entries[place]

@@ -50,7 +50,8 @@ const LANES: usize = 16;
 fn printed_lanes(text: &[u8], at: usize) -> usize
     requires { at + 16 ≤ length text.now }
     ensures few { result ≤ 16 }
-    ensures printed { (k : ℕ) → at ≤ k → k < at + result → is_printed (slice_index text.now k) ≡ true }
+    ensures printed { (k : ℕ) → at ≤ k → k < at + result → is_printed (slice_index text.now k)
+        ≡ true }
     ensures stops { result < 16 → is_printed (slice_index text.now (at + result)) ≡ false }
 {
     let above = u8x16::from_slice(&text[at..]) - u8x16::splat(b'!');

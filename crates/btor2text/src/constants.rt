@@ -68,7 +68,8 @@ fn digits_at(radix: u32, most: u32, line: &[u8]) -> Result<(u32, u64, &[u8]), Wh
     requires greatest { radix ≤ 16 }
     requires word { radix ^ most ≡ 2 ^ 64 }
     requires most { most ≤ 64 }
-    ensures { IsAsLineRead (λ x. (x.0, x.1, tokens x.2.now)) result (digits_at radix most (tokens line.now)) }
+    ensures { IsAsLineRead (λ x. (x.0, x.1, tokens x.2.now)) result
+        (digits_at radix most (tokens line.now)) }
 {
     let (token, rest) = next_token(line).ok_or(Why::BadToken)?;
     let number = number_in(radix, token).ok_or(Why::BadToken)?;
@@ -92,7 +93,8 @@ fn signed_at(line: &[u8]) -> Result<(i128, &[u8]), Why>
 /// What the tokens behind a constant's word say, and the line behind them.
 #[tactic(auto, unfolding(crate::specs::Reading::constant_told))]
 pub(crate) fn constant_at(constant: Constant, line: &[u8]) -> Result<(Body, &[u8]), Why>
-    ensures { IsAsLineRead (λ x. (x.0, tokens x.1.now)) result (constant_told constant (tokens line.now)) }
+    ensures { IsAsLineRead (λ x. (x.0, tokens x.1.now)) result
+        (constant_told constant (tokens line.now)) }
 {
     let (sort, rest) = sort_at(line)?;
     match constant {

@@ -20,27 +20,35 @@ ghost use Rattle.btor2text.specs.Reading.{line_on, text_on, kept_slice_bit};
 /// What is written stands for the items that are written, and is read again as them, for all well-formed lists of items
 /// whose parts are as their types keep them: `btor2::Model::items` gives both of every model, and `write` says it of them.
 pub fn read_back()
-    ensures stands { (items : List Item) → IsWellFormed items → HaveSoundParts items → StandsFor (written items) items }
-    ensures read { (items : List Item) → IsWellFormed items → HaveSoundParts items → text_on (written items) ≡ Ok items }
+    ensures stands { (items : List Item) → IsWellFormed items → HaveSoundParts items
+        → StandsFor (written items) items }
+    ensures read { (items : List Item) → IsWellFormed items → HaveSoundParts items
+        → text_on (written items) ≡ Ok items }
 {}
 
 /// A text stands for at most one list of items: each that it stands for is the one that reading it gives.
 pub fn one_model()
-    ensures read { (text : List ℕ) (items : List Item) → StandsFor text items → text_on text ≡ Ok items }
-    ensures same { (text : List ℕ) (items others : List Item) → StandsFor text items → StandsFor text others → items ≡ others }
+    ensures read { (text : List ℕ) (items : List Item) → StandsFor text items
+        → text_on text ≡ Ok items }
+    ensures same { (text : List ℕ) (items others : List Item) → StandsFor text items
+        → StandsFor text others → items ≡ others }
 {}
 
 /// A slice is refused by the bits that it keeps as by the numbers on its line, whatever the width of its node is, and
 /// where it is not, they are these numbers.
 #[tactic(auto, unfolding(crate::specs::Reading::kept_slice_bit))]
 pub fn bits_are_kept()
-    ensures refused { (width upper lower : ℕ) → width ≤ 64 → is_no_slice width (kept_slice_bit upper) (kept_slice_bit lower) ≡ is_no_slice width upper lower }
-    ensures same { (width upper lower : ℕ) → width ≤ 64 → is_no_slice width upper lower ≡ false → (kept_slice_bit upper ≡ upper) × (kept_slice_bit lower ≡ lower) }
+    ensures refused { (width upper lower : ℕ) → width ≤ 64
+        → is_no_slice width (kept_slice_bit upper) (kept_slice_bit lower)
+        ≡ is_no_slice width upper lower }
+    ensures same { (width upper lower : ℕ) → width ≤ 64 → is_no_slice width upper lower ≡ false
+        → (kept_slice_bit upper ≡ upper) × (kept_slice_bit lower ≡ lower) }
 {}
 
 /// Worked rows: the tokens of lines.
 pub fn worked_tokens()
-    ensures spaces { tokens (codes "  5 not  1 3 ") ≡ codes "5" ∷ codes "not" ∷ codes "1" ∷ codes "3" ∷ [] }
+    ensures spaces { tokens (codes "  5 not  1 3 ")
+        ≡ codes "5" ∷ codes "not" ∷ codes "1" ∷ codes "3" ∷ [] }
     ensures tab_and_comment { tokens (codes "1 sort\tbitvec 1 ; a bit")
         ≡ codes "1" ∷ codes "sort" ∷ codes "bitvec" ∷ codes "1" ∷ [] }
     ensures only_comment { tokens (codes " ; t") ≡ [] }
@@ -50,11 +58,16 @@ pub fn worked_tokens()
 /// Worked rows: lines that spell items, and a text that stands for one: without its last byte 10 it stands for none.
 pub fn worked_items()
     ensures negated { SpellsItem (tokens (codes "5 not 1 3")) (line 5 (body.Unary unary.Not 1 3)) }
-    ensures named { SpellsItem (tokens (codes "3 state 1 t ; named")) (record { id = 3; symbol = Some (codes "t"); body = body.State 1 }) }
-    ensures hexadecimal { SpellsItem (tokens (codes "2 consth 1 00Ff")) (line 2 (body.Consth 1 4 255)) }
-    ensures negative { SpellsItem (tokens (codes "2 constd 1 -8")) (line 2 (body.Constd 1 (negsuc 7))) }
-    ensures justice { SpellsItem (tokens (codes "4 justice 2 2 3")) (line 4 (body.Justice (2 ∷ 3 ∷ []))) }
-    ensures leading_zero { ¬ SpellsItem (tokens (codes "05 not 1 3")) (line 5 (body.Unary unary.Not 1 3)) }
+    ensures named { SpellsItem (tokens (codes "3 state 1 t ; named"))
+        (record { id = 3; symbol = Some (codes "t"); body = body.State 1 }) }
+    ensures hexadecimal { SpellsItem (tokens (codes "2 consth 1 00Ff"))
+        (line 2 (body.Consth 1 4 255)) }
+    ensures negative { SpellsItem (tokens (codes "2 constd 1 -8"))
+        (line 2 (body.Constd 1 (negsuc 7))) }
+    ensures justice { SpellsItem (tokens (codes "4 justice 2 2 3"))
+        (line 4 (body.Justice (2 ∷ 3 ∷ []))) }
+    ensures leading_zero { ¬ SpellsItem (tokens (codes "05 not 1 3"))
+        (line 5 (body.Unary unary.Not 1 3)) }
     ensures text { StandsFor (codes "1 sort bitvec 1\n") (line 1 (body.Sort 1) ∷ []) }
     ensures unended { ¬ StandsFor (codes "1 sort bitvec 1") (line 1 (body.Sort 1) ∷ []) }
     ensures empty { StandsFor [] [] }
@@ -80,25 +93,34 @@ pub fn worked_whys()
     ensures two_symbols { line_on [] (tokens (codes "2 input 1 a b")) ≡ Err why.BadToken }
     ensures array_sort { line_on [] (tokens (codes "2 sort array 1 1")) ≡ Err why.ArraySort }
     ensures array_operator { line_on [] (tokens (codes "4 read 1 2 3")) ≡ Err why.ArrayOperator }
-    ensures unknown_operator { line_on [] (tokens (codes "2 udivo 1 1 1")) ≡ Err why.UnknownOperator }
+    ensures unknown_operator { line_on [] (tokens (codes "2 udivo 1 1 1"))
+        ≡ Err why.UnknownOperator }
     ensures negative_operand { line_on [] (tokens (codes "3 not 1 -2")) ≡ Err why.NegativeOperand }
     ensures negative_zero { line_on [] (tokens (codes "2 constd 1 -0")) ≡ Err why.BadToken }
     ensures no_count { line_on [] (tokens (codes "3 justice")) ≡ Err why.BadToken }
     ensures few_operands { line_on [] (tokens (codes "3 justice 2 1")) ≡ Err why.BadToken }
-    ensures no_operands { line_on [] (tokens (codes "3 justice 0")) ≡ Err (why.Refused push.JusticeEmpty) }
+    ensures no_operands { line_on [] (tokens (codes "3 justice 0"))
+        ≡ Err (why.Refused push.JusticeEmpty) }
     ensures refused { line_on [] (tokens (codes "2 input 1")) ≡ Err (why.Refused push.NoSuchSort) }
-    ensures above_the_greatest { line_on [] (tokens (codes "2 input 4294967296")) ≡ Err (why.Refused push.NoSuchSort) }
-    ensures beyond_all_bits { line_on (line 1 (body.Sort 4) ∷ line 2 (body.Input 1) ∷ []) (tokens (codes "3 slice 1 2 4294967299 0")) ≡ Err (why.Refused push.SliceOutOfRange) }
+    ensures above_the_greatest { line_on [] (tokens (codes "2 input 4294967296"))
+        ≡ Err (why.Refused push.NoSuchSort) }
+    ensures beyond_all_bits { line_on (line 1 (body.Sort 4) ∷ line 2 (body.Input 1) ∷ [])
+        (tokens (codes "3 slice 1 2 4294967299 0")) ≡ Err (why.Refused push.SliceOutOfRange) }
     ensures bad_symbol { line_on [] (tokens (codes "2 input 1 a" ++ 200 ∷ [])) ≡ Err why.BadSymbol }
     ensures nothing { line_on [] (tokens (codes "; t")) ≡ Ok [] }
-    ensures does_not_fit { line_on (line 1 (body.Sort 4) ∷ []) (tokens (codes "2 const 1 101")) ≡ Err why.ConstantDoesNotFit }
+    ensures does_not_fit { line_on (line 1 (body.Sort 4) ∷ []) (tokens (codes "2 const 1 101"))
+        ≡ Err why.ConstantDoesNotFit }
 {}
 
 /// Worked rows: the first faults of texts, and the numbers of some whys.
 pub fn worked_faults()
-    ensures second_line { IsFaultOf (codes "1 sort bitvec 1\n3 not 1 -2\n") (record { line = 2; why = why.NegativeOperand }) }
-    ensures unfinished { IsFaultOf (codes "1 sort bitvec 1") (record { line = 1; why = why.Unfinished }) }
-    ensures numbers { (line_why_number why.ArraySort ≡ 21) × (line_why_number why.NegativeOperand ≡ 24) × (line_why_number why.UnknownOperator ≡ 23) × (line_why_number why.ConstantDoesNotFit ≡ 25) }
+    ensures second_line { IsFaultOf (codes "1 sort bitvec 1\n3 not 1 -2\n")
+        (record { line = 2; why = why.NegativeOperand }) }
+    ensures unfinished { IsFaultOf (codes "1 sort bitvec 1")
+        (record { line = 1; why = why.Unfinished }) }
+    ensures numbers { (line_why_number why.ArraySort ≡ 21)
+        × (line_why_number why.NegativeOperand ≡ 24) × (line_why_number why.UnknownOperator ≡ 23)
+        × (line_why_number why.ConstantDoesNotFit ≡ 25) }
 {}
 
 /// Worked rows: the writer's text of items.
@@ -106,6 +128,9 @@ pub fn worked_texts()
     ensures hexadecimal { written (line 2 (body.Consth 1 4 255) ∷ []) ≡ codes "2 consth 1 00ff\n" }
     ensures binary { written (line 2 (body.Const 1 3 5) ∷ []) ≡ codes "2 const 1 101\n" }
     ensures negative { written (line 2 (body.Constd 1 (negsuc 7)) ∷ []) ≡ codes "2 constd 1 -8\n" }
-    ensures named { written (line 1 (body.Sort 8) ∷ record { id = 2; symbol = Some (codes "a"); body = body.Input 1 } ∷ []) ≡ codes "1 sort bitvec 8\n2 input 1 a\n" }
-    ensures justice { written (line 4 (body.Justice (2 ∷ 3 ∷ [])) ∷ []) ≡ codes "4 justice 2 2 3\n" }
+    ensures named { written (line 1 (body.Sort 8)
+        ∷ record { id = 2; symbol = Some (codes "a"); body = body.Input 1 }
+        ∷ []) ≡ codes "1 sort bitvec 8\n2 input 1 a\n" }
+    ensures justice { written (line 4 (body.Justice (2 ∷ 3 ∷ [])) ∷ [])
+        ≡ codes "4 justice 2 2 3\n" }
 {}

@@ -173,7 +173,8 @@ pub(crate) fn pair_at(line: &[u8]) -> Result<(u32, u32, &[u8]), Why>
 #[inline(always)]
 #[tactic(auto, unfolding(crate::specs::Reading::triple_at))]
 pub(crate) fn triple_at(line: &[u8]) -> Result<(u32, u32, u32, &[u8]), Why>
-    ensures { IsAsLineRead (λ x. (x.0, x.1, x.2, tokens x.3.now)) result (triple_at (tokens line.now)) }
+    ensures { IsAsLineRead (λ x. (x.0, x.1, x.2, tokens x.3.now)) result
+        (triple_at (tokens line.now)) }
 {
     let (sort, rest) = sort_at(line)?;
     let (first, rest) = operand_at(rest)?;
@@ -183,7 +184,8 @@ pub(crate) fn triple_at(line: &[u8]) -> Result<(u32, u32, u32, &[u8]), Why>
 
 /// So many operands, and the line behind them.
 fn operands_at(alloc: Global, count: u64, line: &[u8]) -> Result<(Vec<u32>, &[u8]), Why>
-    ensures { GivesUnlessFull (λ x. (x.0.items, tokens x.1.now)) result (operands_at count (tokens line.now)) }
+    ensures { GivesUnlessFull (λ x. (x.0.items, tokens x.1.now)) result
+        (operands_at count (tokens line.now)) }
 {
     let mut ids = Vec::new(alloc);
     let mut rest = line;
@@ -201,7 +203,8 @@ fn operands_at(alloc: Global, count: u64, line: &[u8]) -> Result<(Vec<u32>, &[u8
 /// How many operands there are, they themselves, and the line behind them.
 #[tactic(auto, unfolding(crate::specs::Reading::counted_at))]
 pub(crate) fn counted_at(alloc: Global, line: &[u8]) -> Result<(Vec<u32>, &[u8]), Why>
-    ensures { GivesUnlessFull (λ x. (x.0.items, tokens x.1.now)) result (counted_at (tokens line.now)) }
+    ensures { GivesUnlessFull (λ x. (x.0.items, tokens x.1.now)) result
+        (counted_at (tokens line.now)) }
 {
     let (count, rest) = plain_at(line)?;
     let found = operands_at(alloc, count, rest)?;

@@ -66,7 +66,8 @@ fn unread(cause: ReadAllFault) -> ReadFault
 #[cold]
 #[inline(never)]
 fn line_fault<S: Source>(source: &mut S, line: u64, why: Why) -> ReadFault
-    ensures { Stops result (S.failures source.old) (S.failures source.new) (IsOfLine (S.to_come source.new) line why result) }
+    ensures { Stops result (S.failures source.old) (S.failures source.new)
+        (IsOfLine (S.to_come source.new) line why result) }
 {
     if let Why::NoMemory = why {
         return unread(ReadAllFault::NoMemory);
@@ -93,7 +94,8 @@ fn ended(line: u64, rest: &[u8]) -> Result<(), ReadFault>
 /// Reads the lines of a source onto a model. What reads a line is a part of this loop, and the loop no part of its caller.
 #[inline(never)]
 fn read_lines<S: Source>(alloc: Global, source: &mut S, model: &mut Model) -> Result<(), ReadFault>
-    ensures { ReadsLines result model.old model.new (S.to_come source.old) (S.to_come source.new) (S.failures source.old) (S.failures source.new) }
+    ensures { ReadsLines result model.old model.new (S.to_come source.old) (S.to_come source.new)
+        (S.failures source.old) (S.failures source.new) }
 {
     let mut lines = LineReader::new(alloc);
     let mut words = KnownWords::new();
@@ -118,17 +120,23 @@ fn read_lines<S: Source>(alloc: Global, source: &mut S, model: &mut Model) -> Re
 /// else the first of a line's whys, at the first line that has one.
 pub fn read<S: Source>(alloc: Global, source: &mut S) -> Result<Model, ReadFault>
     // what is read stands for the text
-    ensures found { IfOk result (λ model. IfSome (S.to_come source.old) (λ text. StandsFor text model)) }
+    ensures found { IfOk result (λ model. IfSome (S.to_come source.old)
+        (λ text. StandsFor text model)) }
     // every text that stands for a model is read as it, want of memory and device faults apart
-    ensures only { (text : List ℕ) (items : List Item) → S.to_come source.old ≡ Some text → StandsFor text items → ReadsAs result items }
+    ensures only { (text : List ℕ) (items : List Item) → S.to_come source.old ≡ Some text
+        → StandsFor text items → ReadsAs result items }
     // a fault that is neither is that of the first line that has one, by its first why
-    ensures fault { IfErr result (λ e. IfSome (S.to_come source.old) (λ text. (e.why ≡ Why.Device) ⊎ ((e.why ≡ Why.NoMemory) ⊎ IsFaultOf text e))) }
+    ensures fault { IfErr result (λ e. IfSome (S.to_come source.old) (λ text. (e.why ≡ Why.Device)
+        ⊎ ((e.why ≡ Why.NoMemory) ⊎ IsFaultOf text e))) }
     ensures end { OnOk result (IsAtEnd (S.to_come source.new)) }
     ensures counted { OnOk result (S.failures source.new ≡ S.failures source.old) }
-    ensures device { IfErr result (λ e. e.why ≡ Why.Device → HasRisen (S.failures source.old) (S.failures source.new)) }
-    ensures unfailed { IfErr result (λ e. ¬ (e.why ≡ Why.Device) → S.failures source.new ≡ S.failures source.old) }
+    ensures device { IfErr result (λ e. e.why ≡ Why.Device
+        → HasRisen (S.failures source.old) (S.failures source.new)) }
+    ensures unfailed { IfErr result (λ e. ¬ (e.why ≡ Why.Device)
+        → S.failures source.new ≡ S.failures source.old) }
     // a fault of a line is told after the source was read to its end
-    ensures read_on { IfErr result (λ e. ¬ (e.why ≡ Why.Device) → ¬ (e.why ≡ Why.NoMemory) → IsAtEnd (S.to_come source.new)) }
+    ensures read_on { IfErr result (λ e. ¬ (e.why ≡ Why.Device) → ¬ (e.why ≡ Why.NoMemory)
+        → IsAtEnd (S.to_come source.new)) }
     ensures place { IfErr result (λ e. (e.why ≡ Why.Device) ⊎ (e.why ≡ Why.NoMemory) → e.line ≡ 0) }
 {
     let mut model = Model::new(alloc);

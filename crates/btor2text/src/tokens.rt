@@ -26,7 +26,8 @@ fn without_blanks(line: &[u8]) -> &[u8]
 /// blank, which is cut off with the token before it, so most often the line begins with the token, or is empty.
 #[inline(always)]
 pub(crate) fn from_token(line: &[u8]) -> Option<&[u8]>
-    ensures { MatchOption result (tokens line.now ≡ []) (λ x. (tokens x.now ≡ tokens line.now) × (begins_token x.now ≡ true)) }
+    ensures { MatchOption result (tokens line.now ≡ []) (λ x. (tokens x.now ≡ tokens line.now)
+        × (begins_token x.now ≡ true)) }
 {
     match line {
         [] => return None,
@@ -42,7 +43,8 @@ pub(crate) fn from_token(line: &[u8]) -> Option<&[u8]>
 
 /// The first token of a line, and the line behind it; nothing where no token stands before a comment.
 pub(crate) fn next_token(line: &[u8]) -> Option<(&[u8], &[u8])>
-    ensures { MatchOption result (tokens line.now ≡ []) (λ x. tokens line.now ≡ x.0.now ∷ tokens x.1.now) }
+    ensures { MatchOption result (tokens line.now ≡ [])
+        (λ x. tokens line.now ≡ x.0.now ∷ tokens x.1.now) }
 {
     let rest = from_token(line)?;
     match rest.find_byteset(b" \t") {

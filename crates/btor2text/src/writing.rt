@@ -23,8 +23,10 @@ use btor2::{Body, Item, Model, Symbol};
 /// Errors: the sink's own; a beginning of the text was written then.
 #[inline(never)]
 pub fn write<K: Sink>(model: &Model, sink: &mut K) -> Result<(), DeviceFault>
-    ensures ok { OnOk result (Appends (K.written sink.old) (K.written sink.new) (written model.now)) }
-    ensures err { OnErr result (AppendsBeginning (K.written sink.old) (K.written sink.new) (written model.now)) }
+    ensures ok { OnOk result (Appends (K.written sink.old) (K.written sink.new)
+        (written model.now)) }
+    ensures err { OnErr result (AppendsBeginning (K.written sink.old) (K.written sink.new)
+        (written model.now)) }
     ensures stands { StandsFor (written model.now) model.now }
     ensures read { text_on (written model.now) ≡ Ok model.now }
     ensures failures { CountsFaults result (K.failures sink.old) (K.failures sink.new) }
@@ -37,7 +39,8 @@ pub fn write<K: Sink>(model: &Model, sink: &mut K) -> Result<(), DeviceFault>
 /// Puts the lines of items.
 fn put_items<K: Sink>(pen: &mut Pen, sink: &mut K, items: &[Item])
     requires { IsWellFormed items.now }
-    ensures { WritesText K.written K.failures sink.old sink.new pen.old pen.new (written items.now) }
+    ensures { WritesText K.written K.failures sink.old sink.new pen.old pen.new
+        (written items.now) }
 {
     for item in items {
         put_item(pen, sink, item);
@@ -47,7 +50,8 @@ fn put_items<K: Sink>(pen: &mut Pen, sink: &mut K, items: &[Item])
 /// Puts the line of an item: at once, but for a justice line that names nodes.
 fn put_item<K: Sink>(pen: &mut Pen, sink: &mut K, item: &Item)
     requires { HasFewDigits item.now.body }
-    ensures { WritesText K.written K.failures sink.old sink.new pen.old pen.new (written_line item.now) }
+    ensures { WritesText K.written K.failures sink.old sink.new pen.old pen.new
+        (written_line item.now) }
 {
     let operands = operands(&item.body);
     if !operands.is_empty() {
@@ -62,7 +66,8 @@ fn put_item<K: Sink>(pen: &mut Pen, sink: &mut K, item: &Item)
 fn put_justice<K: Sink>(pen: &mut Pen, sink: &mut K, item: &Item, operands: &[u32])
     requires few { HasFewDigits item.now.body }
     requires same { operands.now ≡ justice_operands item.now.body }
-    ensures { WritesText K.written K.failures sink.old sink.new pen.old pen.new (written_line item.now) }
+    ensures { WritesText K.written K.failures sink.old sink.new pen.old pen.new
+        (written_line item.now) }
 {
     pen.line.clear();
     add_head(&mut pen.line, item);
@@ -74,7 +79,8 @@ fn put_justice<K: Sink>(pen: &mut Pen, sink: &mut K, item: &Item, operands: &[u3
 
 /// Puts ids, each behind a space.
 fn put_ids<K: Sink>(pen: &mut Pen, sink: &mut K, ids: &[u32])
-    ensures { WritesText K.written K.failures sink.old sink.new pen.old pen.new (behind_spaces (map decimal ids.now)) }
+    ensures { WritesText K.written K.failures sink.old sink.new pen.old pen.new
+        (behind_spaces (map decimal ids.now)) }
 {
     for id in ids {
         pen.line.clear();

@@ -30,8 +30,11 @@ use std::alloc::Global;
 /// Why a call stops where an invariant's text is not read.
 fn invariant_stop(fault: InvariantFault) -> Stop
     ensures stop { result ≡ claim_stop (ClaimFault.Invariant fault) }
-    ensures owes { (model : List ℕ) (bad : ℕ) (invariant : List ℕ) → OwesNothing model bad invariant result → IsClaimStop model bad invariant result }
-    ensures owes_over { (circuit : List ℕ) (bad : ℕ) (invariant : List ℕ) → OwesNothingOver circuit bad invariant result → IsClaimStopOver circuit bad invariant result }
+    ensures owes { (model : List ℕ) (bad : ℕ) (invariant : List ℕ)
+        → OwesNothing model bad invariant result → IsClaimStop model bad invariant result }
+    ensures owes_over { (circuit : List ℕ) (bad : ℕ) (invariant : List ℕ)
+        → OwesNothingOver circuit bad invariant result
+        → IsClaimStopOver circuit bad invariant result }
 {
     match fault.why {
         InvariantWhy::NoMemory => Stop::NoMemory,
@@ -46,8 +49,11 @@ fn invariant_stop(fault: InvariantFault) -> Stop
 /// Why a call stops where an invariant owes no formula.
 fn claim_stop(fault: ClaimFault) -> Stop
     ensures stop { result ≡ claim_stop fault }
-    ensures owes { (model : List ℕ) (bad : ℕ) (invariant : List ℕ) → OwesNothing model bad invariant result → IsClaimStop model bad invariant result }
-    ensures owes_over { (circuit : List ℕ) (bad : ℕ) (invariant : List ℕ) → OwesNothingOver circuit bad invariant result → IsClaimStopOver circuit bad invariant result }
+    ensures owes { (model : List ℕ) (bad : ℕ) (invariant : List ℕ)
+        → OwesNothing model bad invariant result → IsClaimStop model bad invariant result }
+    ensures owes_over { (circuit : List ℕ) (bad : ℕ) (invariant : List ℕ)
+        → OwesNothingOver circuit bad invariant result
+        → IsClaimStopOver circuit bad invariant result }
 {
     match fault {
         ClaimFault::Form(EngineFault::NoMemory) => Stop::NoMemory,
@@ -72,10 +78,14 @@ pub(crate) fn certify_over(
     invariant: &[u8],
     proof: &[u8],
 ) -> Result<Verdict, Stop>
-    ensures done { (text : List ℕ) (items : List Item) → StandsFor text items → Lowers items circuit.now → IfOk result (IsProofVerdict text bad invariant.now proof.now) }
-    ensures refused { (text : List ℕ) (items : List Item) → StandsFor text items → Lowers items circuit.now → IfErr result (IsClaimStop text bad invariant.now) }
-    ensures done_over { (text : List ℕ) → SpellsCircuit text circuit.now → IfOk result (IsProofVerdictOver text bad invariant.now proof.now) }
-    ensures refused_over { (text : List ℕ) → SpellsCircuit text circuit.now → IfErr result (IsClaimStopOver text bad invariant.now) }
+    ensures done { (text : List ℕ) (items : List Item) → StandsFor text items
+        → Lowers items circuit.now → IfOk result (IsProofVerdict text bad invariant.now proof.now) }
+    ensures refused { (text : List ℕ) (items : List Item) → StandsFor text items
+        → Lowers items circuit.now → IfErr result (IsClaimStop text bad invariant.now) }
+    ensures done_over { (text : List ℕ) → SpellsCircuit text circuit.now
+        → IfOk result (IsProofVerdictOver text bad invariant.now proof.now) }
+    ensures refused_over { (text : List ℕ) → SpellsCircuit text circuit.now
+        → IfErr result (IsClaimStopOver text bad invariant.now) }
 {
     blast::laws::bad_properties_rise_alike();
     // the lists of a circuit are one
@@ -97,8 +107,10 @@ fn certify_model(
     invariant: &[u8],
     proof: &[u8],
 ) -> Result<Verdict, Stop>
-    ensures done { (text : List ℕ) → StandsFor text model.now → IfOk result (IsProofVerdict text bad invariant.now proof.now) }
-    ensures refused { (text : List ℕ) → StandsFor text model.now → IfErr result (IsClaimStop text bad invariant.now) }
+    ensures done { (text : List ℕ) → StandsFor text model.now
+        → IfOk result (IsProofVerdict text bad invariant.now proof.now) }
+    ensures refused { (text : List ℕ) → StandsFor text model.now
+        → IfErr result (IsClaimStop text bad invariant.now) }
 {
     match lower(alloc, model) {
         Ok(circuit) => certify_over(alloc, &circuit, bad, invariant, proof),
@@ -142,9 +154,12 @@ pub extern "C" fn hwtool_check_proof(
 ) -> u32
     ensures done { result ≡ 0 → IsProofVerdict model.now bad invariant.now proof.now verdict.new }
     ensures refused { result ≡ 2 → CallTellsNoModel model.now refusal.new }
-    ensures unlowered { result ≡ 3 → CallTellsUnlowered model.now refusal.new ⊎ OwesNothing model.now bad invariant.now (stop.Model refusal.new) }
-    ensures second { result ≡ 5 → OwesNothing model.now bad invariant.now (stop.Second refusal.new) }
-    ensures statuses { (result ≡ 0) ⊎ ((result ≡ 2) ⊎ ((result ≡ 3) ⊎ ((result ≡ 4) ⊎ (result ≡ 5)))) }
+    ensures unlowered { result ≡ 3 → CallTellsUnlowered model.now refusal.new
+        ⊎ OwesNothing model.now bad invariant.now (stop.Model refusal.new) }
+    ensures second { result ≡ 5 → OwesNothing model.now bad invariant.now
+        (stop.Second refusal.new) }
+    ensures statuses { (result ≡ 0)
+        ⊎ ((result ≡ 2) ⊎ ((result ≡ 3) ⊎ ((result ≡ 4) ⊎ (result ≡ 5)))) }
     ensures verdict_stays { result ≢ 0 → verdict.new ≡ verdict.old }
     ensures refusal_stays { (result ≡ 0) ⊎ (result ≡ 4) → refusal.new ≡ refusal.old }
 {
@@ -159,7 +174,8 @@ pub extern "C" fn hwtool_check_proof(
 
 /// The text of a formula.
 pub(crate) fn formula_text(alloc: Global, formula: &Formula) -> Result<VecSink, Stop>
-    ensures text { IfOk result (λ sink. ⟦<VecSink as Sink>⟧.written sink ≡ Some (formula_text formula.now)) }
+    ensures text { IfOk result (λ sink. ⟦<VecSink as Sink>⟧.written sink
+        ≡ Some (formula_text formula.now)) }
     ensures refused { IfErr result (IsStop (λ _. ⊥) (λ _. ⊥)) }
 {
     let mut sink = VecSink::new(alloc);
@@ -176,10 +192,17 @@ pub(crate) fn owe_over(
     bad: usize,
     invariant: &[u8],
 ) -> Result<VecSink, Stop>
-    ensures done { (text : List ℕ) (items : List Item) → StandsFor text items → Lowers items circuit.now → IfOk result (λ sink. IfSome (⟦<VecSink as Sink>⟧.written sink) (IsObligation text bad invariant.now)) }
-    ensures refused { (text : List ℕ) (items : List Item) → StandsFor text items → Lowers items circuit.now → IfErr result (IsClaimStop text bad invariant.now) }
-    ensures done_over { (text : List ℕ) → SpellsCircuit text circuit.now → IfOk result (λ sink. IfSome (⟦<VecSink as Sink>⟧.written sink) (IsObligationOver text bad invariant.now)) }
-    ensures refused_over { (text : List ℕ) → SpellsCircuit text circuit.now → IfErr result (IsClaimStopOver text bad invariant.now) }
+    ensures done { (text : List ℕ) (items : List Item) → StandsFor text items
+        → Lowers items circuit.now
+        → IfOk result (λ sink. IfSome (⟦<VecSink as Sink>⟧.written sink)
+        (IsObligation text bad invariant.now)) }
+    ensures refused { (text : List ℕ) (items : List Item) → StandsFor text items
+        → Lowers items circuit.now → IfErr result (IsClaimStop text bad invariant.now) }
+    ensures done_over { (text : List ℕ) → SpellsCircuit text circuit.now
+        → IfOk result (λ sink. IfSome (⟦<VecSink as Sink>⟧.written sink)
+        (IsObligationOver text bad invariant.now)) }
+    ensures refused_over { (text : List ℕ) → SpellsCircuit text circuit.now
+        → IfErr result (IsClaimStopOver text bad invariant.now) }
 {
     // the lists of a circuit are one
     let _ = circuit.inputs();
@@ -197,8 +220,11 @@ fn owe_for_model(
     bad: usize,
     invariant: &[u8],
 ) -> Result<VecSink, Stop>
-    ensures done { (text : List ℕ) → StandsFor text model.now → IfOk result (λ sink. IfSome (⟦<VecSink as Sink>⟧.written sink) (IsObligation text bad invariant.now)) }
-    ensures refused { (text : List ℕ) → StandsFor text model.now → IfErr result (IsClaimStop text bad invariant.now) }
+    ensures done { (text : List ℕ) → StandsFor text model.now
+        → IfOk result (λ sink. IfSome (⟦<VecSink as Sink>⟧.written sink)
+        (IsObligation text bad invariant.now)) }
+    ensures refused { (text : List ℕ) → StandsFor text model.now
+        → IfErr result (IsClaimStop text bad invariant.now) }
 {
     match lower(alloc, model) {
         Ok(circuit) => owe_over(alloc, &circuit, bad, invariant),
@@ -208,7 +234,8 @@ fn owe_for_model(
 
 /// Writes what an invariant owes for a bad property of a text's model.
 fn owed(alloc: Global, model: &[u8], bad: usize, invariant: &[u8]) -> Result<VecSink, Stop>
-    ensures done { IfOk result (λ sink. IfSome (⟦<VecSink as Sink>⟧.written sink) (IsObligation model.now bad invariant.now)) }
+    ensures done { IfOk result (λ sink. IfSome (⟦<VecSink as Sink>⟧.written sink)
+        (IsObligation model.now bad invariant.now)) }
     ensures refused { IfErr result (IsClaimStop model.now bad invariant.now) }
 {
     let read = read_model(alloc, model)?;
@@ -231,14 +258,21 @@ pub extern "C" fn hwtool_obligation(
     needed: &mut usize,
     refusal: &mut Refusal,
 ) -> u32
-    ensures done { result ≡ 0 → Fills (IsObligation model.now bad invariant.now) buffer.old buffer.new needed.new }
-    ensures small { result ≡ 1 → Needs (IsObligation model.now bad invariant.now) buffer.old buffer.new needed.new }
+    ensures done { result ≡ 0
+        → Fills (IsObligation model.now bad invariant.now) buffer.old buffer.new needed.new }
+    ensures small { result ≡ 1
+        → Needs (IsObligation model.now bad invariant.now) buffer.old buffer.new needed.new }
     ensures refused { result ≡ 2 → CallTellsNoModel model.now refusal.new }
-    ensures unlowered { result ≡ 3 → CallTellsUnlowered model.now refusal.new ⊎ OwesNothing model.now bad invariant.now (stop.Model refusal.new) }
-    ensures second { result ≡ 5 → OwesNothing model.now bad invariant.now (stop.Second refusal.new) }
-    ensures statuses { (result ≡ 0) ⊎ ((result ≡ 1) ⊎ ((result ≡ 2) ⊎ ((result ≡ 3) ⊎ ((result ≡ 4) ⊎ (result ≡ 5))))) }
-    ensures unwritten { (result ≡ 2) ⊎ ((result ≡ 3) ⊎ ((result ≡ 4) ⊎ (result ≡ 5))) → (buffer.new ≡ buffer.old) × (needed.new ≡ needed.old) }
-    ensures refusal_stays { (result ≡ 0) ⊎ ((result ≡ 1) ⊎ (result ≡ 4)) → refusal.new ≡ refusal.old }
+    ensures unlowered { result ≡ 3 → CallTellsUnlowered model.now refusal.new
+        ⊎ OwesNothing model.now bad invariant.now (stop.Model refusal.new) }
+    ensures second { result ≡ 5 → OwesNothing model.now bad invariant.now
+        (stop.Second refusal.new) }
+    ensures statuses { (result ≡ 0)
+        ⊎ ((result ≡ 1) ⊎ ((result ≡ 2) ⊎ ((result ≡ 3) ⊎ ((result ≡ 4) ⊎ (result ≡ 5))))) }
+    ensures unwritten { (result ≡ 2) ⊎ ((result ≡ 3) ⊎ ((result ≡ 4) ⊎ (result ≡ 5)))
+        → (buffer.new ≡ buffer.old) × (needed.new ≡ needed.old) }
+    ensures refusal_stays { (result ≡ 0) ⊎ ((result ≡ 1) ⊎ (result ≡ 4))
+        → refusal.new ≡ refusal.old }
 {
     match owed(alloc, model, bad, invariant) {
         Ok(text) => hand_over(text.bytes(), buffer, needed),

@@ -29,7 +29,8 @@ fn certified(
 
 /// Writes what an invariant owes for a bad property of a text's circuit.
 fn owed(alloc: Global, circuit: &[u8], bad: usize, invariant: &[u8]) -> Result<VecSink, Stop>
-    ensures done { IfOk result (λ sink. IfSome (⟦<VecSink as Sink>⟧.written sink) (IsObligationOver circuit.now bad invariant.now)) }
+    ensures done { IfOk result (λ sink. IfSome (⟦<VecSink as Sink>⟧.written sink)
+        (IsObligationOver circuit.now bad invariant.now)) }
     ensures refused { IfErr result (IsClaimStopOver circuit.now bad invariant.now) }
 {
     let read = read_circuit(alloc, circuit)?;
@@ -55,11 +56,15 @@ pub extern "C" fn hwtool_check_proof_aig(
     verdict: &mut Verdict,
     refusal: &mut Refusal,
 ) -> u32
-    ensures done { result ≡ 0 → IsProofVerdictOver circuit.now bad invariant.now proof.now verdict.new }
+    ensures done { result ≡ 0
+        → IsProofVerdictOver circuit.now bad invariant.now proof.now verdict.new }
     ensures refused { result ≡ 2 → CallTellsNoCircuit circuit.now refusal.new }
-    ensures formless { result ≡ 3 → OwesNothingOver circuit.now bad invariant.now (stop.Model refusal.new) }
-    ensures second { result ≡ 5 → OwesNothingOver circuit.now bad invariant.now (stop.Second refusal.new) }
-    ensures statuses { (result ≡ 0) ⊎ ((result ≡ 2) ⊎ ((result ≡ 3) ⊎ ((result ≡ 4) ⊎ (result ≡ 5)))) }
+    ensures formless { result ≡ 3 → OwesNothingOver circuit.now bad invariant.now
+        (stop.Model refusal.new) }
+    ensures second { result ≡ 5 → OwesNothingOver circuit.now bad invariant.now
+        (stop.Second refusal.new) }
+    ensures statuses { (result ≡ 0)
+        ⊎ ((result ≡ 2) ⊎ ((result ≡ 3) ⊎ ((result ≡ 4) ⊎ (result ≡ 5)))) }
     ensures verdict_stays { result ≢ 0 → verdict.new ≡ verdict.old }
     ensures refusal_stays { (result ≡ 0) ⊎ (result ≡ 4) → refusal.new ≡ refusal.old }
 {
@@ -89,14 +94,21 @@ pub extern "C" fn hwtool_obligation_aig(
     needed: &mut usize,
     refusal: &mut Refusal,
 ) -> u32
-    ensures done { result ≡ 0 → Fills (IsObligationOver circuit.now bad invariant.now) buffer.old buffer.new needed.new }
-    ensures small { result ≡ 1 → Needs (IsObligationOver circuit.now bad invariant.now) buffer.old buffer.new needed.new }
+    ensures done { result ≡ 0
+        → Fills (IsObligationOver circuit.now bad invariant.now) buffer.old buffer.new needed.new }
+    ensures small { result ≡ 1
+        → Needs (IsObligationOver circuit.now bad invariant.now) buffer.old buffer.new needed.new }
     ensures refused { result ≡ 2 → CallTellsNoCircuit circuit.now refusal.new }
-    ensures formless { result ≡ 3 → OwesNothingOver circuit.now bad invariant.now (stop.Model refusal.new) }
-    ensures second { result ≡ 5 → OwesNothingOver circuit.now bad invariant.now (stop.Second refusal.new) }
-    ensures statuses { (result ≡ 0) ⊎ ((result ≡ 1) ⊎ ((result ≡ 2) ⊎ ((result ≡ 3) ⊎ ((result ≡ 4) ⊎ (result ≡ 5))))) }
-    ensures unwritten { (result ≡ 2) ⊎ ((result ≡ 3) ⊎ ((result ≡ 4) ⊎ (result ≡ 5))) → (buffer.new ≡ buffer.old) × (needed.new ≡ needed.old) }
-    ensures refusal_stays { (result ≡ 0) ⊎ ((result ≡ 1) ⊎ (result ≡ 4)) → refusal.new ≡ refusal.old }
+    ensures formless { result ≡ 3 → OwesNothingOver circuit.now bad invariant.now
+        (stop.Model refusal.new) }
+    ensures second { result ≡ 5 → OwesNothingOver circuit.now bad invariant.now
+        (stop.Second refusal.new) }
+    ensures statuses { (result ≡ 0)
+        ⊎ ((result ≡ 1) ⊎ ((result ≡ 2) ⊎ ((result ≡ 3) ⊎ ((result ≡ 4) ⊎ (result ≡ 5))))) }
+    ensures unwritten { (result ≡ 2) ⊎ ((result ≡ 3) ⊎ ((result ≡ 4) ⊎ (result ≡ 5)))
+        → (buffer.new ≡ buffer.old) × (needed.new ≡ needed.old) }
+    ensures refusal_stays { (result ≡ 0) ⊎ ((result ≡ 1) ⊎ (result ≡ 4))
+        → refusal.new ≡ refusal.old }
 {
     match owed(alloc, circuit, bad, invariant) {
         Ok(text) => hand_over(text.bytes(), buffer, needed),

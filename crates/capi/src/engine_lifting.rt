@@ -36,7 +36,9 @@ fn lift_over(
     requires accepted { engine_refusal circuit.now (Some bad) ≡ None }
     requires there { bad < length circuit.now.bads }
     requires empty { ⟦<VecSink as Sink>⟧.written text.old ≡ Some [] }
-    ensures done { (known : List ℕ) → StandsFor known model.now → IfOk result (λ verdict. IfSome (⟦<VecSink as Sink>⟧.written text.new) (IsFoundLifted known bad names found.now verdict)) }
+    ensures done { (known : List ℕ) → StandsFor known model.now
+        → IfOk result (λ verdict. IfSome (⟦<VecSink as Sink>⟧.written text.new)
+        (IsFoundLifted known bad names found.now verdict)) }
     ensures refused { IfErr result (IsStop (λ _. ⊥) (λ _. ⊥)) }
 {
     let mut source = found;
@@ -64,8 +66,11 @@ fn lift_from(
 ) -> Result<Verdict, Stop>
     requires lowers { Lowers model.now circuit.now }
     requires empty { ⟦<VecSink as Sink>⟧.written text.old ≡ Some [] }
-    ensures done { (known : List ℕ) → StandsFor known model.now → IfOk result (λ verdict. IfSome (⟦<VecSink as Sink>⟧.written text.new) (IsFoundLifted known bad names found.now verdict)) }
-    ensures refused { (known : List ℕ) → StandsFor known model.now → IfErr result (IsStop (λ _. ⊥) (CallTellsNoForm known true bad)) }
+    ensures done { (known : List ℕ) → StandsFor known model.now
+        → IfOk result (λ verdict. IfSome (⟦<VecSink as Sink>⟧.written text.new)
+        (IsFoundLifted known bad names found.now verdict)) }
+    ensures refused { (known : List ℕ) → StandsFor known model.now
+        → IfErr result (IsStop (λ _. ⊥) (CallTellsNoForm known true bad)) }
 {
     match why_no_form(circuit, Some(bad)) {
         Some(fault) => Err(form_stop(fault)),
@@ -83,8 +88,11 @@ fn lift_found(
     text: &mut VecSink,
 ) -> Result<Verdict, Stop>
     requires empty { ⟦<VecSink as Sink>⟧.written text.old ≡ Some [] }
-    ensures done { (known : List ℕ) → StandsFor known model.now → IfOk result (λ verdict. IfSome (⟦<VecSink as Sink>⟧.written text.new) (IsFoundLifted known bad names found.now verdict)) }
-    ensures refused { (known : List ℕ) → StandsFor known model.now → IfErr result (IsStop (λ _. ⊥) (CallTellsNoForm known true bad)) }
+    ensures done { (known : List ℕ) → StandsFor known model.now
+        → IfOk result (λ verdict. IfSome (⟦<VecSink as Sink>⟧.written text.new)
+        (IsFoundLifted known bad names found.now verdict)) }
+    ensures refused { (known : List ℕ) → StandsFor known model.now
+        → IfErr result (IsStop (λ _. ⊥) (CallTellsNoForm known true bad)) }
 {
     match lower(alloc, model) {
         Ok(circuit) => lift_from(alloc, model, &circuit, bad, names, found, text),
@@ -102,8 +110,10 @@ fn found_lifted(
     text: &mut VecSink,
 ) -> Result<Verdict, Stop>
     requires empty { ⟦<VecSink as Sink>⟧.written text.old ≡ Some [] }
-    ensures done { IfOk result (λ verdict. IfSome (⟦<VecSink as Sink>⟧.written text.new) (IsFoundLifted model.now bad names found.now verdict)) }
-    ensures refused { IfErr result (IsStop (CallTellsNoModel model.now) (CallTellsNoForm model.now true bad)) }
+    ensures done { IfOk result (λ verdict. IfSome (⟦<VecSink as Sink>⟧.written text.new)
+        (IsFoundLifted model.now bad names found.now verdict)) }
+    ensures refused { IfErr result (IsStop (CallTellsNoModel model.now)
+        (CallTellsNoForm model.now true bad)) }
 {
     let read = read_model(alloc, model)?;
     lift_found(alloc, &read, bad, names, found, text)
@@ -124,7 +134,9 @@ fn lift_through(
     requires lowers { Lowers model.now circuit.now }
     requires is_form { IsEngineFormOf circuit.now (choice_of chosen bad) form.now }
     requires empty { ⟦<VecSink as Sink>⟧.written text.old ≡ Some [] }
-    ensures done { (known : List ℕ) → StandsFor known model.now → IfOk result (λ verdict. IfSome (⟦<VecSink as Sink>⟧.written text.new) (CallLiftsForm known chosen bad names witness.now verdict)) }
+    ensures done { (known : List ℕ) → StandsFor known model.now
+        → IfOk result (λ verdict. IfSome (⟦<VecSink as Sink>⟧.written text.new)
+        (CallLiftsForm known chosen bad names witness.now verdict)) }
     ensures refused { IfErr result (IsStop (λ _. ⊥) (λ _. ⊥)) }
 {
     let mut source = witness;
@@ -156,8 +168,11 @@ fn lift_by_form(
 ) -> Result<Verdict, Stop>
     requires lowers { Lowers model.now circuit.now }
     requires empty { ⟦<VecSink as Sink>⟧.written text.old ≡ Some [] }
-    ensures done { (known : List ℕ) → StandsFor known model.now → IfOk result (λ verdict. IfSome (⟦<VecSink as Sink>⟧.written text.new) (CallLiftsForm known chosen bad names witness.now verdict)) }
-    ensures refused { (known : List ℕ) → StandsFor known model.now → IfErr result (IsStop (λ _. ⊥) (CallTellsNoForm known chosen bad)) }
+    ensures done { (known : List ℕ) → StandsFor known model.now
+        → IfOk result (λ verdict. IfSome (⟦<VecSink as Sink>⟧.written text.new)
+        (CallLiftsForm known chosen bad names witness.now verdict)) }
+    ensures refused { (known : List ℕ) → StandsFor known model.now
+        → IfErr result (IsStop (λ _. ⊥) (CallTellsNoForm known chosen bad)) }
 {
     match engine_form(alloc, circuit, choice_of(chosen, bad)) {
         Ok(form) => lift_through(
@@ -178,8 +193,11 @@ fn lift_witness(
     text: &mut VecSink,
 ) -> Result<Verdict, Stop>
     requires empty { ⟦<VecSink as Sink>⟧.written text.old ≡ Some [] }
-    ensures done { (known : List ℕ) → StandsFor known model.now → IfOk result (λ verdict. IfSome (⟦<VecSink as Sink>⟧.written text.new) (CallLiftsForm known chosen bad names witness.now verdict)) }
-    ensures refused { (known : List ℕ) → StandsFor known model.now → IfErr result (IsStop (λ _. ⊥) (CallTellsNoForm known chosen bad)) }
+    ensures done { (known : List ℕ) → StandsFor known model.now
+        → IfOk result (λ verdict. IfSome (⟦<VecSink as Sink>⟧.written text.new)
+        (CallLiftsForm known chosen bad names witness.now verdict)) }
+    ensures refused { (known : List ℕ) → StandsFor known model.now
+        → IfErr result (IsStop (λ _. ⊥) (CallTellsNoForm known chosen bad)) }
 {
     match lower(alloc, model) {
         Ok(circuit) => lift_by_form(alloc, model, &circuit, chosen, bad, names, witness, text),
@@ -198,8 +216,10 @@ fn witness_lifted(
     text: &mut VecSink,
 ) -> Result<Verdict, Stop>
     requires empty { ⟦<VecSink as Sink>⟧.written text.old ≡ Some [] }
-    ensures done { IfOk result (λ verdict. IfSome (⟦<VecSink as Sink>⟧.written text.new) (CallLiftsForm model.now chosen bad names witness.now verdict)) }
-    ensures refused { IfErr result (IsStop (CallTellsNoModel model.now) (CallTellsNoForm model.now chosen bad)) }
+    ensures done { IfOk result (λ verdict. IfSome (⟦<VecSink as Sink>⟧.written text.new)
+        (CallLiftsForm model.now chosen bad names witness.now verdict)) }
+    ensures refused { IfErr result (IsStop (CallTellsNoModel model.now)
+        (CallTellsNoForm model.now chosen bad)) }
 {
     let read = read_model(alloc, model)?;
     lift_witness(alloc, &read, chosen, bad, names, witness, text)
@@ -229,13 +249,20 @@ pub extern "C" fn hwtool_lift_engine(
     needed: &mut usize,
     refusal: &mut Refusal,
 ) -> u32
-    ensures done { result ≡ 0 → Fills (CallLiftsForm model.now chosen bad names witness.now verdict.new) buffer.old buffer.new needed.new }
-    ensures small { result ≡ 1 → Needs (CallLiftsForm model.now chosen bad names witness.now verdict.new) buffer.old buffer.new needed.new }
+    ensures done { result ≡ 0
+        → Fills (CallLiftsForm model.now chosen bad names witness.now verdict.new) buffer.old
+        buffer.new needed.new }
+    ensures small { result ≡ 1
+        → Needs (CallLiftsForm model.now chosen bad names witness.now verdict.new) buffer.old
+        buffer.new needed.new }
     ensures refused { result ≡ 2 → CallTellsNoModel model.now refusal.new }
     ensures formless { result ≡ 3 → CallTellsNoForm model.now chosen bad refusal.new }
-    ensures statuses { (result ≡ 0) ⊎ ((result ≡ 1) ⊎ ((result ≡ 2) ⊎ ((result ≡ 3) ⊎ (result ≡ 4)))) }
-    ensures unwritten { (result ≡ 2) ⊎ ((result ≡ 3) ⊎ (result ≡ 4)) → (verdict.new ≡ verdict.old) × ((buffer.new ≡ buffer.old) × (needed.new ≡ needed.old)) }
-    ensures refusal_stays { (result ≡ 0) ⊎ ((result ≡ 1) ⊎ (result ≡ 4)) → refusal.new ≡ refusal.old }
+    ensures statuses { (result ≡ 0)
+        ⊎ ((result ≡ 1) ⊎ ((result ≡ 2) ⊎ ((result ≡ 3) ⊎ (result ≡ 4)))) }
+    ensures unwritten { (result ≡ 2) ⊎ ((result ≡ 3) ⊎ (result ≡ 4)) → (verdict.new ≡ verdict.old)
+        × ((buffer.new ≡ buffer.old) × (needed.new ≡ needed.old)) }
+    ensures refusal_stays { (result ≡ 0) ⊎ ((result ≡ 1) ⊎ (result ≡ 4))
+        → refusal.new ≡ refusal.old }
 {
     let mut text = VecSink::new(alloc);
     match witness_lifted(alloc, model, chosen, bad, names, witness, &mut text) {
@@ -268,13 +295,20 @@ pub extern "C" fn hwtool_lift_engine_abc(
     needed: &mut usize,
     refusal: &mut Refusal,
 ) -> u32
-    ensures done { result ≡ 0 → Fills (IsFoundLifted model.now bad names found.now verdict.new) buffer.old buffer.new needed.new }
-    ensures small { result ≡ 1 → Needs (IsFoundLifted model.now bad names found.now verdict.new) buffer.old buffer.new needed.new }
+    ensures done { result ≡ 0
+        → Fills (IsFoundLifted model.now bad names found.now verdict.new) buffer.old buffer.new
+        needed.new }
+    ensures small { result ≡ 1
+        → Needs (IsFoundLifted model.now bad names found.now verdict.new) buffer.old buffer.new
+        needed.new }
     ensures refused { result ≡ 2 → CallTellsNoModel model.now refusal.new }
     ensures formless { result ≡ 3 → CallTellsNoForm model.now true bad refusal.new }
-    ensures statuses { (result ≡ 0) ⊎ ((result ≡ 1) ⊎ ((result ≡ 2) ⊎ ((result ≡ 3) ⊎ (result ≡ 4)))) }
-    ensures unwritten { (result ≡ 2) ⊎ ((result ≡ 3) ⊎ (result ≡ 4)) → (verdict.new ≡ verdict.old) × ((buffer.new ≡ buffer.old) × (needed.new ≡ needed.old)) }
-    ensures refusal_stays { (result ≡ 0) ⊎ ((result ≡ 1) ⊎ (result ≡ 4)) → refusal.new ≡ refusal.old }
+    ensures statuses { (result ≡ 0)
+        ⊎ ((result ≡ 1) ⊎ ((result ≡ 2) ⊎ ((result ≡ 3) ⊎ (result ≡ 4)))) }
+    ensures unwritten { (result ≡ 2) ⊎ ((result ≡ 3) ⊎ (result ≡ 4)) → (verdict.new ≡ verdict.old)
+        × ((buffer.new ≡ buffer.old) × (needed.new ≡ needed.old)) }
+    ensures refusal_stays { (result ≡ 0) ⊎ ((result ≡ 1) ⊎ (result ≡ 4))
+        → refusal.new ≡ refusal.old }
 {
     let mut text = VecSink::new(alloc);
     match found_lifted(alloc, model, bad, names, found, &mut text) {

@@ -42,8 +42,11 @@ fn form_text(
     bad: usize,
     binary: bool,
 ) -> Result<VecSink, Stop>
-    ensures done { (text : List ℕ) → SpellsCircuit text circuit.now → IfOk result (λ sink. IfSome (⟦<VecSink as Sink>⟧.written sink) (IsForm text chosen bad binary)) }
-    ensures refused { (text : List ℕ) → SpellsCircuit text circuit.now → IfErr result (IsStop (λ _. ⊥) (IsFormless text chosen bad)) }
+    ensures done { (text : List ℕ) → SpellsCircuit text circuit.now
+        → IfOk result (λ sink. IfSome (⟦<VecSink as Sink>⟧.written sink)
+        (IsForm text chosen bad binary)) }
+    ensures refused { (text : List ℕ) → SpellsCircuit text circuit.now
+        → IfErr result (IsStop (λ _. ⊥) (IsFormless text chosen bad)) }
 {
     match engine_form(alloc, circuit, choice_of(chosen, bad)) {
         Ok(form) => text_of(alloc, &form, form_of(binary)),
@@ -59,8 +62,10 @@ fn formed(
     bad: usize,
     binary: bool,
 ) -> Result<VecSink, Stop>
-    ensures done { IfOk result (λ sink. IfSome (⟦<VecSink as Sink>⟧.written sink) (IsForm circuit.now chosen bad binary)) }
-    ensures refused { IfErr result (IsStop (CallTellsNoCircuit circuit.now) (IsFormless circuit.now chosen bad)) }
+    ensures done { IfOk result (λ sink. IfSome (⟦<VecSink as Sink>⟧.written sink)
+        (IsForm circuit.now chosen bad binary)) }
+    ensures refused { IfErr result (IsStop (CallTellsNoCircuit circuit.now)
+        (IsFormless circuit.now chosen bad)) }
 {
     let read = read_circuit(alloc, circuit)?;
     form_text(alloc, &read, chosen, bad, binary)
@@ -84,13 +89,18 @@ pub extern "C" fn hwtool_engine_form(
     needed: &mut usize,
     refusal: &mut Refusal,
 ) -> u32
-    ensures done { result ≡ 0 → Fills (IsForm circuit.now chosen bad binary) buffer.old buffer.new needed.new }
-    ensures small { result ≡ 1 → Needs (IsForm circuit.now chosen bad binary) buffer.old buffer.new needed.new }
+    ensures done { result ≡ 0
+        → Fills (IsForm circuit.now chosen bad binary) buffer.old buffer.new needed.new }
+    ensures small { result ≡ 1
+        → Needs (IsForm circuit.now chosen bad binary) buffer.old buffer.new needed.new }
     ensures refused { result ≡ 2 → CallTellsNoCircuit circuit.now refusal.new }
     ensures formless { result ≡ 3 → IsFormless circuit.now chosen bad refusal.new }
-    ensures statuses { (result ≡ 0) ⊎ ((result ≡ 1) ⊎ ((result ≡ 2) ⊎ ((result ≡ 3) ⊎ (result ≡ 4)))) }
-    ensures unwritten { (result ≡ 2) ⊎ ((result ≡ 3) ⊎ (result ≡ 4)) → (buffer.new ≡ buffer.old) × (needed.new ≡ needed.old) }
-    ensures refusal_stays { (result ≡ 0) ⊎ ((result ≡ 1) ⊎ (result ≡ 4)) → refusal.new ≡ refusal.old }
+    ensures statuses { (result ≡ 0)
+        ⊎ ((result ≡ 1) ⊎ ((result ≡ 2) ⊎ ((result ≡ 3) ⊎ (result ≡ 4)))) }
+    ensures unwritten { (result ≡ 2) ⊎ ((result ≡ 3) ⊎ (result ≡ 4)) → (buffer.new ≡ buffer.old)
+        × (needed.new ≡ needed.old) }
+    ensures refusal_stays { (result ≡ 0) ⊎ ((result ≡ 1) ⊎ (result ≡ 4))
+        → refusal.new ≡ refusal.old }
 {
     match formed(alloc, circuit, chosen, bad, binary) {
         Ok(text) => hand_over(text.bytes(), buffer, needed),

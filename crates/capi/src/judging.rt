@@ -23,8 +23,10 @@ fn word_verdict(alloc: Global, model: &[u8], witness: &[u8]) -> Result<Verdict, 
 
 /// Judges a witness over a model that was read.
 fn judge_over_model(alloc: Global, model: &Model, witness: &[u8]) -> Result<Verdict, Stop>
-    ensures done { (text : List ℕ) → StandsFor text model.now → IfOk result (IsWordVerdict text witness.now) }
-    ensures refused { (text : List ℕ) → StandsFor text model.now → IfErr result (IsStop (λ _. ⊥) (IsUnjudged text)) }
+    ensures done { (text : List ℕ) → StandsFor text model.now
+        → IfOk result (IsWordVerdict text witness.now) }
+    ensures refused { (text : List ℕ) → StandsFor text model.now
+        → IfErr result (IsStop (λ _. ⊥) (IsUnjudged text)) }
 {
     judged_claims_are_reached();
     let mut source = witness;
@@ -49,7 +51,8 @@ fn bit_verdict(alloc: Global, circuit: &[u8], witness: &[u8]) -> Result<Verdict,
 
 /// Judges a witness over a circuit that was read.
 fn judge_over_circuit(alloc: Global, circuit: &Circuit, witness: &[u8]) -> Result<Verdict, Stop>
-    ensures done { (text : List ℕ) → SpellsCircuit text circuit.now → IfOk result (IsBitVerdict text witness.now) }
+    ensures done { (text : List ℕ) → SpellsCircuit text circuit.now
+        → IfOk result (IsBitVerdict text witness.now) }
     ensures refused { IfErr result (IsStop (λ _. ⊥) (λ _. ⊥)) }
 {
     // the lists of a circuit are one

@@ -28,7 +28,9 @@ fn lift_over(
 ) -> Result<Verdict, Stop>
     requires lowers { Lowers model.now circuit.now }
     requires empty { ⟦<VecSink as Sink>⟧.written text.old ≡ Some [] }
-    ensures done { (known : List ℕ) → StandsFor known model.now → IfOk result (λ verdict. IfSome (⟦<VecSink as Sink>⟧.written text.new) (IsLift known witness.now verdict)) }
+    ensures done { (known : List ℕ) → StandsFor known model.now
+        → IfOk result (λ verdict. IfSome (⟦<VecSink as Sink>⟧.written text.new)
+        (IsLift known witness.now verdict)) }
     ensures refused { IfErr result (IsStop (λ _. ⊥) (λ _. ⊥)) }
 {
     let mut source = witness;
@@ -46,8 +48,11 @@ fn lift_model(
     text: &mut VecSink,
 ) -> Result<Verdict, Stop>
     requires empty { ⟦<VecSink as Sink>⟧.written text.old ≡ Some [] }
-    ensures done { (known : List ℕ) → StandsFor known model.now → IfOk result (λ verdict. IfSome (⟦<VecSink as Sink>⟧.written text.new) (IsLift known witness.now verdict)) }
-    ensures refused { (known : List ℕ) → StandsFor known model.now → IfErr result (IsStop (λ _. ⊥) (CallTellsUnlowered known)) }
+    ensures done { (known : List ℕ) → StandsFor known model.now
+        → IfOk result (λ verdict. IfSome (⟦<VecSink as Sink>⟧.written text.new)
+        (IsLift known witness.now verdict)) }
+    ensures refused { (known : List ℕ) → StandsFor known model.now
+        → IfErr result (IsStop (λ _. ⊥) (CallTellsUnlowered known)) }
 {
     match lower(alloc, model) {
         Ok(circuit) => lift_over(alloc, model, &circuit, witness, text),
@@ -58,8 +63,10 @@ fn lift_model(
 /// Lifts a witness of the circuit of a text's model.
 fn lifted(alloc: Global, model: &[u8], witness: &[u8], text: &mut VecSink) -> Result<Verdict, Stop>
     requires empty { ⟦<VecSink as Sink>⟧.written text.old ≡ Some [] }
-    ensures done { IfOk result (λ verdict. IfSome (⟦<VecSink as Sink>⟧.written text.new) (IsLift model.now witness.now verdict)) }
-    ensures refused { IfErr result (IsStop (CallTellsNoModel model.now) (CallTellsUnlowered model.now)) }
+    ensures done { IfOk result (λ verdict. IfSome (⟦<VecSink as Sink>⟧.written text.new)
+        (IsLift model.now witness.now verdict)) }
+    ensures refused { IfErr result (IsStop (CallTellsNoModel model.now)
+        (CallTellsUnlowered model.now)) }
 {
     let read = read_model(alloc, model)?;
     lift_model(alloc, &read, witness, text)
@@ -75,8 +82,11 @@ fn dump_over(
     text: &mut VecSink,
 ) -> Result<Verdict, Stop>
     requires empty { ⟦<VecSink as Sink>⟧.written text.old ≡ Some [] }
-    ensures done { (known : List ℕ) → StandsFor known model.now → IfOk result (λ verdict. IfSome (⟦<VecSink as Sink>⟧.written text.new) (IsDump known all title.now witness.now verdict)) }
-    ensures refused { (known : List ℕ) → StandsFor known model.now → IfErr result (IsStop (λ _. ⊥) (IsUnjudged known)) }
+    ensures done { (known : List ℕ) → StandsFor known model.now
+        → IfOk result (λ verdict. IfSome (⟦<VecSink as Sink>⟧.written text.new)
+        (IsDump known all title.now witness.now verdict)) }
+    ensures refused { (known : List ℕ) → StandsFor known model.now
+        → IfErr result (IsStop (λ _. ⊥) (IsUnjudged known)) }
 {
     let mut source = witness;
     match wave(alloc, model, shown_of(all), title, &mut source, text) {
@@ -106,7 +116,8 @@ fn dumped(
     text: &mut VecSink,
 ) -> Result<Verdict, Stop>
     requires empty { ⟦<VecSink as Sink>⟧.written text.old ≡ Some [] }
-    ensures done { IfOk result (λ verdict. IfSome (⟦<VecSink as Sink>⟧.written text.new) (IsDump model.now all title.now witness.now verdict)) }
+    ensures done { IfOk result (λ verdict. IfSome (⟦<VecSink as Sink>⟧.written text.new)
+        (IsDump model.now all title.now witness.now verdict)) }
     ensures refused { IfErr result (IsStop (CallTellsNoModel model.now) (IsUnjudged model.now)) }
 {
     let read = read_model(alloc, model)?;
@@ -131,13 +142,18 @@ pub extern "C" fn hwtool_lift(
     needed: &mut usize,
     refusal: &mut Refusal,
 ) -> u32
-    ensures done { result ≡ 0 → Fills (IsLift model.now witness.now verdict.new) buffer.old buffer.new needed.new }
-    ensures small { result ≡ 1 → Needs (IsLift model.now witness.now verdict.new) buffer.old buffer.new needed.new }
+    ensures done { result ≡ 0
+        → Fills (IsLift model.now witness.now verdict.new) buffer.old buffer.new needed.new }
+    ensures small { result ≡ 1
+        → Needs (IsLift model.now witness.now verdict.new) buffer.old buffer.new needed.new }
     ensures refused { result ≡ 2 → CallTellsNoModel model.now refusal.new }
     ensures unlowered { result ≡ 3 → CallTellsUnlowered model.now refusal.new }
-    ensures statuses { (result ≡ 0) ⊎ ((result ≡ 1) ⊎ ((result ≡ 2) ⊎ ((result ≡ 3) ⊎ (result ≡ 4)))) }
-    ensures unwritten { (result ≡ 2) ⊎ ((result ≡ 3) ⊎ (result ≡ 4)) → (verdict.new ≡ verdict.old) × ((buffer.new ≡ buffer.old) × (needed.new ≡ needed.old)) }
-    ensures refusal_stays { (result ≡ 0) ⊎ ((result ≡ 1) ⊎ (result ≡ 4)) → refusal.new ≡ refusal.old }
+    ensures statuses { (result ≡ 0)
+        ⊎ ((result ≡ 1) ⊎ ((result ≡ 2) ⊎ ((result ≡ 3) ⊎ (result ≡ 4)))) }
+    ensures unwritten { (result ≡ 2) ⊎ ((result ≡ 3) ⊎ (result ≡ 4)) → (verdict.new ≡ verdict.old)
+        × ((buffer.new ≡ buffer.old) × (needed.new ≡ needed.old)) }
+    ensures refusal_stays { (result ≡ 0) ⊎ ((result ≡ 1) ⊎ (result ≡ 4))
+        → refusal.new ≡ refusal.old }
 {
     let mut text = VecSink::new(alloc);
     match lifted(alloc, model, witness, &mut text) {
@@ -169,13 +185,20 @@ pub extern "C" fn hwtool_wave(
     needed: &mut usize,
     refusal: &mut Refusal,
 ) -> u32
-    ensures done { result ≡ 0 → Fills (IsDump model.now all title.now witness.now verdict.new) buffer.old buffer.new needed.new }
-    ensures small { result ≡ 1 → Needs (IsDump model.now all title.now witness.now verdict.new) buffer.old buffer.new needed.new }
+    ensures done { result ≡ 0
+        → Fills (IsDump model.now all title.now witness.now verdict.new) buffer.old buffer.new
+        needed.new }
+    ensures small { result ≡ 1
+        → Needs (IsDump model.now all title.now witness.now verdict.new) buffer.old buffer.new
+        needed.new }
     ensures refused { result ≡ 2 → CallTellsNoModel model.now refusal.new }
     ensures unjudged { result ≡ 3 → IsUnjudged model.now refusal.new }
-    ensures statuses { (result ≡ 0) ⊎ ((result ≡ 1) ⊎ ((result ≡ 2) ⊎ ((result ≡ 3) ⊎ (result ≡ 4)))) }
-    ensures unwritten { (result ≡ 2) ⊎ ((result ≡ 3) ⊎ (result ≡ 4)) → (verdict.new ≡ verdict.old) × ((buffer.new ≡ buffer.old) × (needed.new ≡ needed.old)) }
-    ensures refusal_stays { (result ≡ 0) ⊎ ((result ≡ 1) ⊎ (result ≡ 4)) → refusal.new ≡ refusal.old }
+    ensures statuses { (result ≡ 0)
+        ⊎ ((result ≡ 1) ⊎ ((result ≡ 2) ⊎ ((result ≡ 3) ⊎ (result ≡ 4)))) }
+    ensures unwritten { (result ≡ 2) ⊎ ((result ≡ 3) ⊎ (result ≡ 4)) → (verdict.new ≡ verdict.old)
+        × ((buffer.new ≡ buffer.old) × (needed.new ≡ needed.old)) }
+    ensures refusal_stays { (result ≡ 0) ⊎ ((result ≡ 1) ⊎ (result ≡ 4))
+        → refusal.new ≡ refusal.old }
 {
     let mut text = VecSink::new(alloc);
     match dumped(alloc, model, all, title, witness, &mut text) {

@@ -39,7 +39,8 @@ pub(crate) fn stop_of(fault: LowerFault) -> Stop
 
 /// The text of a circuit.
 pub(crate) fn text_of(alloc: Global, circuit: &Circuit, form: Form) -> Result<VecSink, Stop>
-    ensures text { IfOk result (λ sink. ⟦<VecSink as Sink>⟧.written sink ≡ Some (circuit_text form circuit.now)) }
+    ensures text { IfOk result (λ sink. ⟦<VecSink as Sink>⟧.written sink
+        ≡ Some (circuit_text form circuit.now)) }
     ensures refused { IfErr result (IsStop (λ _. ⊥) (λ _. ⊥)) }
 {
     let mut sink = VecSink::new(alloc);
@@ -51,8 +52,10 @@ pub(crate) fn text_of(alloc: Global, circuit: &Circuit, form: Form) -> Result<Ve
 
 /// Lowers a model that was read.
 fn lower_model(alloc: Global, model: &Model, binary: bool) -> Result<VecSink, Stop>
-    ensures done { (text : List ℕ) → StandsFor text model.now → IfOk result (λ sink. IfSome (⟦<VecSink as Sink>⟧.written sink) (IsLowering text binary)) }
-    ensures refused { (text : List ℕ) → StandsFor text model.now → IfErr result (IsStop (λ _. ⊥) (CallTellsUnlowered text)) }
+    ensures done { (text : List ℕ) → StandsFor text model.now
+        → IfOk result (λ sink. IfSome (⟦<VecSink as Sink>⟧.written sink) (IsLowering text binary)) }
+    ensures refused { (text : List ℕ) → StandsFor text model.now
+        → IfErr result (IsStop (λ _. ⊥) (CallTellsUnlowered text)) }
 {
     match lower(alloc, model) {
         Ok(circuit) => text_of(alloc, &circuit, form_of(binary)),
@@ -62,8 +65,10 @@ fn lower_model(alloc: Global, model: &Model, binary: bool) -> Result<VecSink, St
 
 /// Lowers the model of a text.
 fn lowered(alloc: Global, model: &[u8], binary: bool) -> Result<VecSink, Stop>
-    ensures done { IfOk result (λ sink. IfSome (⟦<VecSink as Sink>⟧.written sink) (IsLowering model.now binary)) }
-    ensures refused { IfErr result (IsStop (CallTellsNoModel model.now) (CallTellsUnlowered model.now)) }
+    ensures done { IfOk result (λ sink. IfSome (⟦<VecSink as Sink>⟧.written sink)
+        (IsLowering model.now binary)) }
+    ensures refused { IfErr result (IsStop (CallTellsNoModel model.now)
+        (CallTellsUnlowered model.now)) }
 {
     let read = read_model(alloc, model)?;
     lower_model(alloc, &read, binary)
@@ -71,7 +76,9 @@ fn lowered(alloc: Global, model: &[u8], binary: bool) -> Result<VecSink, Stop>
 
 /// Writes a circuit that was read.
 fn rewrite(alloc: Global, circuit: &Circuit, binary: bool) -> Result<VecSink, Stop>
-    ensures done { (text : List ℕ) → SpellsCircuit text circuit.now → IfOk result (λ sink. IfSome (⟦<VecSink as Sink>⟧.written sink) (IsRewriting text binary)) }
+    ensures done { (text : List ℕ) → SpellsCircuit text circuit.now
+        → IfOk result (λ sink. IfSome (⟦<VecSink as Sink>⟧.written sink)
+        (IsRewriting text binary)) }
     ensures refused { IfErr result (IsStop (λ _. ⊥) (λ _. ⊥)) }
 {
     // the lists of a circuit are one
@@ -81,7 +88,8 @@ fn rewrite(alloc: Global, circuit: &Circuit, binary: bool) -> Result<VecSink, St
 
 /// Writes the circuit of a text.
 fn rewritten(alloc: Global, circuit: &[u8], binary: bool) -> Result<VecSink, Stop>
-    ensures done { IfOk result (λ sink. IfSome (⟦<VecSink as Sink>⟧.written sink) (IsRewriting circuit.now binary)) }
+    ensures done { IfOk result (λ sink. IfSome (⟦<VecSink as Sink>⟧.written sink)
+        (IsRewriting circuit.now binary)) }
     ensures refused { IfErr result (IsStop (CallTellsNoCircuit circuit.now) (λ _. ⊥)) }
 {
     let read = read_circuit(alloc, circuit)?;
@@ -103,13 +111,18 @@ pub extern "C" fn hwtool_lower(
     needed: &mut usize,
     refusal: &mut Refusal,
 ) -> u32
-    ensures done { result ≡ 0 → Fills (IsLowering model.now binary) buffer.old buffer.new needed.new }
-    ensures small { result ≡ 1 → Needs (IsLowering model.now binary) buffer.old buffer.new needed.new }
+    ensures done { result ≡ 0
+        → Fills (IsLowering model.now binary) buffer.old buffer.new needed.new }
+    ensures small { result ≡ 1
+        → Needs (IsLowering model.now binary) buffer.old buffer.new needed.new }
     ensures refused { result ≡ 2 → CallTellsNoModel model.now refusal.new }
     ensures unlowered { result ≡ 3 → CallTellsUnlowered model.now refusal.new }
-    ensures statuses { (result ≡ 0) ⊎ ((result ≡ 1) ⊎ ((result ≡ 2) ⊎ ((result ≡ 3) ⊎ (result ≡ 4)))) }
-    ensures unwritten { (result ≡ 2) ⊎ ((result ≡ 3) ⊎ (result ≡ 4)) → (buffer.new ≡ buffer.old) × (needed.new ≡ needed.old) }
-    ensures refusal_stays { (result ≡ 0) ⊎ ((result ≡ 1) ⊎ (result ≡ 4)) → refusal.new ≡ refusal.old }
+    ensures statuses { (result ≡ 0)
+        ⊎ ((result ≡ 1) ⊎ ((result ≡ 2) ⊎ ((result ≡ 3) ⊎ (result ≡ 4)))) }
+    ensures unwritten { (result ≡ 2) ⊎ ((result ≡ 3) ⊎ (result ≡ 4)) → (buffer.new ≡ buffer.old)
+        × (needed.new ≡ needed.old) }
+    ensures refusal_stays { (result ≡ 0) ⊎ ((result ≡ 1) ⊎ (result ≡ 4))
+        → refusal.new ≡ refusal.old }
 {
     match lowered(alloc, model, binary) {
         Ok(text) => hand_over(text.bytes(), buffer, needed),
@@ -132,12 +145,16 @@ pub extern "C" fn hwtool_convert(
     needed: &mut usize,
     refusal: &mut Refusal,
 ) -> u32
-    ensures done { result ≡ 0 → Fills (IsRewriting circuit.now binary) buffer.old buffer.new needed.new }
-    ensures small { result ≡ 1 → Needs (IsRewriting circuit.now binary) buffer.old buffer.new needed.new }
+    ensures done { result ≡ 0
+        → Fills (IsRewriting circuit.now binary) buffer.old buffer.new needed.new }
+    ensures small { result ≡ 1
+        → Needs (IsRewriting circuit.now binary) buffer.old buffer.new needed.new }
     ensures refused { result ≡ 2 → CallTellsNoCircuit circuit.now refusal.new }
     ensures statuses { (result ≡ 0) ⊎ ((result ≡ 1) ⊎ ((result ≡ 2) ⊎ (result ≡ 4))) }
-    ensures unwritten { (result ≡ 2) ⊎ (result ≡ 4) → (buffer.new ≡ buffer.old) × (needed.new ≡ needed.old) }
-    ensures refusal_stays { (result ≡ 0) ⊎ ((result ≡ 1) ⊎ (result ≡ 4)) → refusal.new ≡ refusal.old }
+    ensures unwritten { (result ≡ 2) ⊎ (result ≡ 4) → (buffer.new ≡ buffer.old)
+        × (needed.new ≡ needed.old) }
+    ensures refusal_stays { (result ≡ 0) ⊎ ((result ≡ 1) ⊎ (result ≡ 4))
+        → refusal.new ≡ refusal.old }
 {
     match rewritten(alloc, circuit, binary) {
         Ok(text) => hand_over(text.bytes(), buffer, needed),

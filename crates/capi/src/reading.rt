@@ -33,7 +33,8 @@ pub(crate) fn read_model(alloc: Global, text: &[u8]) -> Result<Model, Stop>
 
 /// Why a call stops where the text of a circuit is not read.
 fn circuit_stop(fault: ReadFault) -> Stop
-    ensures { (text : List ℕ) → IsUnreadCircuit text fault → IsStop (CallTellsNoCircuit text) (λ _. ⊥) result }
+    ensures { (text : List ℕ) → IsUnreadCircuit text fault
+        → IsStop (CallTellsNoCircuit text) (λ _. ⊥) result }
 {
     match fault.why {
         aigertext::Why::Device | aigertext::Why::NoMemory => Stop::NoMemory,
@@ -59,7 +60,8 @@ pub(crate) fn read_circuit(alloc: Global, text: &[u8]) -> Result<Circuit, Stop>
 /// Reads the text of a circuit, of either form, with the numbering of the text.
 pub(crate) fn read_numbered(alloc: Global, text: &[u8]) -> Result<Numbered, Stop>
     ensures read { IfOk result (λ numbered. SpellsCircuit text.now numbered.circuit) }
-    ensures numbering { IfOk result (λ numbered. IsNumberingOfText text.now numbered.circuit numbered.numbering) }
+    ensures numbering { IfOk result
+        (λ numbered. IsNumberingOfText text.now numbered.circuit numbered.numbering) }
     ensures refused { IfErr result (IsStop (CallTellsNoCircuit text.now) (λ _. ⊥)) }
 {
     let mut source = text;

@@ -29,7 +29,9 @@ fn restore_over(
     requires accepted { engine_refusal circuit.now (Some bad) ≡ None }
     requires there { bad < length circuit.now.bads }
     requires empty { ⟦<VecSink as Sink>⟧.written text.old ≡ Some [] }
-    ensures done { (known : List ℕ) → SpellsCircuit known circuit.now → IfOk result (λ verdict. IfSome (⟦<VecSink as Sink>⟧.written text.new) (CallRestores known bad found.now verdict)) }
+    ensures done { (known : List ℕ) → SpellsCircuit known circuit.now
+        → IfOk result (λ verdict. IfSome (⟦<VecSink as Sink>⟧.written text.new)
+        (CallRestores known bad found.now verdict)) }
     ensures refused { IfErr result (IsStop (λ _. ⊥) (λ _. ⊥)) }
 {
     // the lists of a circuit are one
@@ -56,8 +58,11 @@ fn restore_found(
     text: &mut VecSink,
 ) -> Result<Verdict, Stop>
     requires empty { ⟦<VecSink as Sink>⟧.written text.old ≡ Some [] }
-    ensures done { (known : List ℕ) → SpellsCircuit known circuit.now → IfOk result (λ verdict. IfSome (⟦<VecSink as Sink>⟧.written text.new) (CallRestores known bad found.now verdict)) }
-    ensures refused { (known : List ℕ) → SpellsCircuit known circuit.now → IfErr result (IsStop (λ _. ⊥) (IsFormless known true bad)) }
+    ensures done { (known : List ℕ) → SpellsCircuit known circuit.now
+        → IfOk result (λ verdict. IfSome (⟦<VecSink as Sink>⟧.written text.new)
+        (CallRestores known bad found.now verdict)) }
+    ensures refused { (known : List ℕ) → SpellsCircuit known circuit.now
+        → IfErr result (IsStop (λ _. ⊥) (IsFormless known true bad)) }
 {
     match why_no_form(circuit, Some(bad)) {
         Some(fault) => Err(form_stop(fault)),
@@ -74,8 +79,10 @@ fn found_restored(
     text: &mut VecSink,
 ) -> Result<Verdict, Stop>
     requires empty { ⟦<VecSink as Sink>⟧.written text.old ≡ Some [] }
-    ensures done { IfOk result (λ verdict. IfSome (⟦<VecSink as Sink>⟧.written text.new) (CallRestores circuit.now bad found.now verdict)) }
-    ensures refused { IfErr result (IsStop (CallTellsNoCircuit circuit.now) (IsFormless circuit.now true bad)) }
+    ensures done { IfOk result (λ verdict. IfSome (⟦<VecSink as Sink>⟧.written text.new)
+        (CallRestores circuit.now bad found.now verdict)) }
+    ensures refused { IfErr result (IsStop (CallTellsNoCircuit circuit.now)
+        (IsFormless circuit.now true bad)) }
 {
     let read = read_circuit(alloc, circuit)?;
     restore_found(alloc, &read, bad, found, text)
@@ -93,7 +100,9 @@ fn restore_through(
 ) -> Result<Verdict, Stop>
     requires is_form { IsEngineFormOf circuit.now (choice_of chosen bad) form.now }
     requires empty { ⟦<VecSink as Sink>⟧.written text.old ≡ Some [] }
-    ensures done { (known : List ℕ) → SpellsCircuit known circuit.now → IfOk result (λ verdict. IfSome (⟦<VecSink as Sink>⟧.written text.new) (CallRestoresForm known chosen bad witness.now verdict)) }
+    ensures done { (known : List ℕ) → SpellsCircuit known circuit.now
+        → IfOk result (λ verdict. IfSome (⟦<VecSink as Sink>⟧.written text.new)
+        (CallRestoresForm known chosen bad witness.now verdict)) }
     ensures refused { IfErr result (IsStop (λ _. ⊥) (λ _. ⊥)) }
 {
     let mut source = witness;
@@ -120,8 +129,11 @@ fn restore_witness(
     text: &mut VecSink,
 ) -> Result<Verdict, Stop>
     requires empty { ⟦<VecSink as Sink>⟧.written text.old ≡ Some [] }
-    ensures done { (known : List ℕ) → SpellsCircuit known circuit.now → IfOk result (λ verdict. IfSome (⟦<VecSink as Sink>⟧.written text.new) (CallRestoresForm known chosen bad witness.now verdict)) }
-    ensures refused { (known : List ℕ) → SpellsCircuit known circuit.now → IfErr result (IsStop (λ _. ⊥) (IsFormless known chosen bad)) }
+    ensures done { (known : List ℕ) → SpellsCircuit known circuit.now
+        → IfOk result (λ verdict. IfSome (⟦<VecSink as Sink>⟧.written text.new)
+        (CallRestoresForm known chosen bad witness.now verdict)) }
+    ensures refused { (known : List ℕ) → SpellsCircuit known circuit.now
+        → IfErr result (IsStop (λ _. ⊥) (IsFormless known chosen bad)) }
 {
     match engine_form(alloc, circuit, choice_of(chosen, bad)) {
         Ok(form) => restore_through(alloc, circuit, &form, chosen, bad, witness, text),
@@ -139,8 +151,10 @@ fn witness_restored(
     text: &mut VecSink,
 ) -> Result<Verdict, Stop>
     requires empty { ⟦<VecSink as Sink>⟧.written text.old ≡ Some [] }
-    ensures done { IfOk result (λ verdict. IfSome (⟦<VecSink as Sink>⟧.written text.new) (CallRestoresForm circuit.now chosen bad witness.now verdict)) }
-    ensures refused { IfErr result (IsStop (CallTellsNoCircuit circuit.now) (IsFormless circuit.now chosen bad)) }
+    ensures done { IfOk result (λ verdict. IfSome (⟦<VecSink as Sink>⟧.written text.new)
+        (CallRestoresForm circuit.now chosen bad witness.now verdict)) }
+    ensures refused { IfErr result (IsStop (CallTellsNoCircuit circuit.now)
+        (IsFormless circuit.now chosen bad)) }
 {
     let read = read_circuit(alloc, circuit)?;
     restore_witness(alloc, &read, chosen, bad, witness, text)
@@ -169,13 +183,20 @@ pub extern "C" fn hwtool_restore(
     needed: &mut usize,
     refusal: &mut Refusal,
 ) -> u32
-    ensures done { result ≡ 0 → Fills (CallRestoresForm circuit.now chosen bad witness.now verdict.new) buffer.old buffer.new needed.new }
-    ensures small { result ≡ 1 → Needs (CallRestoresForm circuit.now chosen bad witness.now verdict.new) buffer.old buffer.new needed.new }
+    ensures done { result ≡ 0
+        → Fills (CallRestoresForm circuit.now chosen bad witness.now verdict.new) buffer.old
+        buffer.new needed.new }
+    ensures small { result ≡ 1
+        → Needs (CallRestoresForm circuit.now chosen bad witness.now verdict.new) buffer.old
+        buffer.new needed.new }
     ensures refused { result ≡ 2 → CallTellsNoCircuit circuit.now refusal.new }
     ensures formless { result ≡ 3 → IsFormless circuit.now chosen bad refusal.new }
-    ensures statuses { (result ≡ 0) ⊎ ((result ≡ 1) ⊎ ((result ≡ 2) ⊎ ((result ≡ 3) ⊎ (result ≡ 4)))) }
-    ensures unwritten { (result ≡ 2) ⊎ ((result ≡ 3) ⊎ (result ≡ 4)) → (verdict.new ≡ verdict.old) × ((buffer.new ≡ buffer.old) × (needed.new ≡ needed.old)) }
-    ensures refusal_stays { (result ≡ 0) ⊎ ((result ≡ 1) ⊎ (result ≡ 4)) → refusal.new ≡ refusal.old }
+    ensures statuses { (result ≡ 0)
+        ⊎ ((result ≡ 1) ⊎ ((result ≡ 2) ⊎ ((result ≡ 3) ⊎ (result ≡ 4)))) }
+    ensures unwritten { (result ≡ 2) ⊎ ((result ≡ 3) ⊎ (result ≡ 4)) → (verdict.new ≡ verdict.old)
+        × ((buffer.new ≡ buffer.old) × (needed.new ≡ needed.old)) }
+    ensures refusal_stays { (result ≡ 0) ⊎ ((result ≡ 1) ⊎ (result ≡ 4))
+        → refusal.new ≡ refusal.old }
 {
     let mut text = VecSink::new(alloc);
     match witness_restored(alloc, circuit, chosen, bad, witness, &mut text) {
@@ -206,13 +227,20 @@ pub extern "C" fn hwtool_restore_abc(
     needed: &mut usize,
     refusal: &mut Refusal,
 ) -> u32
-    ensures done { result ≡ 0 → Fills (CallRestores circuit.now bad found.now verdict.new) buffer.old buffer.new needed.new }
-    ensures small { result ≡ 1 → Needs (CallRestores circuit.now bad found.now verdict.new) buffer.old buffer.new needed.new }
+    ensures done { result ≡ 0
+        → Fills (CallRestores circuit.now bad found.now verdict.new) buffer.old buffer.new
+        needed.new }
+    ensures small { result ≡ 1
+        → Needs (CallRestores circuit.now bad found.now verdict.new) buffer.old buffer.new
+        needed.new }
     ensures refused { result ≡ 2 → CallTellsNoCircuit circuit.now refusal.new }
     ensures formless { result ≡ 3 → IsFormless circuit.now true bad refusal.new }
-    ensures statuses { (result ≡ 0) ⊎ ((result ≡ 1) ⊎ ((result ≡ 2) ⊎ ((result ≡ 3) ⊎ (result ≡ 4)))) }
-    ensures unwritten { (result ≡ 2) ⊎ ((result ≡ 3) ⊎ (result ≡ 4)) → (verdict.new ≡ verdict.old) × ((buffer.new ≡ buffer.old) × (needed.new ≡ needed.old)) }
-    ensures refusal_stays { (result ≡ 0) ⊎ ((result ≡ 1) ⊎ (result ≡ 4)) → refusal.new ≡ refusal.old }
+    ensures statuses { (result ≡ 0)
+        ⊎ ((result ≡ 1) ⊎ ((result ≡ 2) ⊎ ((result ≡ 3) ⊎ (result ≡ 4)))) }
+    ensures unwritten { (result ≡ 2) ⊎ ((result ≡ 3) ⊎ (result ≡ 4)) → (verdict.new ≡ verdict.old)
+        × ((buffer.new ≡ buffer.old) × (needed.new ≡ needed.old)) }
+    ensures refusal_stays { (result ≡ 0) ⊎ ((result ≡ 1) ⊎ (result ≡ 4))
+        → refusal.new ≡ refusal.old }
 {
     let mut text = VecSink::new(alloc);
     match found_restored(alloc, circuit, bad, found, &mut text) {

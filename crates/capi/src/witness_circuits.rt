@@ -31,9 +31,11 @@ struct Given {
 
 /// The circuit that lowers a model that was read.
 fn given_by_lowering(alloc: Global, model: &Model) -> Result<Given, Stop>
-    ensures gives { (text : List ℕ) → StandsFor text model.now → IfOk result (λ given. TextGives false text given.circuit) }
+    ensures gives { (text : List ℕ) → StandsFor text model.now
+        → IfOk result (λ given. TextGives false text given.circuit) }
     ensures numbers { IfOk result (λ given. given.numbering ≡ None) }
-    ensures refused { (text : List ℕ) → StandsFor text model.now → IfErr result (IsFirstStop false text) }
+    ensures refused { (text : List ℕ) → StandsFor text model.now
+        → IfErr result (IsFirstStop false text) }
 {
     match lower(alloc, model) {
         Ok(circuit) => Ok(Given {
@@ -47,7 +49,8 @@ fn given_by_lowering(alloc: Global, model: &Model) -> Result<Given, Stop>
 /// The circuit that lowers the model of a text.
 fn given_by_model(alloc: Global, first: &[u8]) -> Result<Given, Stop>
     ensures gives { IfOk result (λ given. TextGives false first.now given.circuit) }
-    ensures numbers { IfOk result (λ given. TextNumbers false first.now given.circuit given.numbering) }
+    ensures numbers { IfOk result
+        (λ given. TextNumbers false first.now given.circuit given.numbering) }
     ensures refused { IfErr result (IsFirstStop false first.now) }
 {
     let model = read_model(alloc, first)?;
@@ -57,7 +60,8 @@ fn given_by_model(alloc: Global, first: &[u8]) -> Result<Given, Stop>
 /// The circuit of a text.
 fn given_by_circuit(alloc: Global, first: &[u8]) -> Result<Given, Stop>
     ensures gives { IfOk result (λ given. TextGives true first.now given.circuit) }
-    ensures numbers { IfOk result (λ given. TextNumbers true first.now given.circuit given.numbering) }
+    ensures numbers { IfOk result
+        (λ given. TextNumbers true first.now given.circuit given.numbering) }
     ensures refused { IfErr result (IsFirstStop true first.now) }
 {
     let numbered = read_numbered(alloc, first)?;
@@ -72,7 +76,8 @@ fn given_by_circuit(alloc: Global, first: &[u8]) -> Result<Given, Stop>
 /// The circuit that a text gives: in AIGER its own, and else one that lowers its model.
 fn given_by(alloc: Global, aiger: bool, first: &[u8]) -> Result<Given, Stop>
     ensures gives { IfOk result (λ given. TextGives aiger first.now given.circuit) }
-    ensures numbers { IfOk result (λ given. TextNumbers aiger first.now given.circuit given.numbering) }
+    ensures numbers { IfOk result
+        (λ given. TextNumbers aiger first.now given.circuit given.numbering) }
     ensures refused { IfErr result (IsFirstStop aiger first.now) }
 {
     if aiger {
@@ -119,8 +124,10 @@ fn owed_over(
     bad: usize,
     witness: &[u8],
 ) -> Result<Formula, WitnessFault>
-    ensures owed { IfOk result (IsOwedAsWitness over_form given.now.numbering given.now.circuit bad witness.now) }
-    ensures fault { IfErr result (OwesNoneAsWitness over_form given.now.numbering given.now.circuit bad witness.now) }
+    ensures owed { IfOk result (IsOwedAsWitness over_form given.now.numbering given.now.circuit bad
+        witness.now) }
+    ensures fault { IfErr result (OwesNoneAsWitness over_form given.now.numbering given.now.circuit
+        bad witness.now) }
 {
     let mut source = witness;
     if over_form {
@@ -139,7 +146,8 @@ fn owed(
     bad: usize,
     witness: &[u8],
 ) -> Result<VecSink, Stop>
-    ensures done { IfOk result (λ sink. IfSome (⟦<VecSink as Sink>⟧.written sink) (IsWitnessObligation aiger over_form first.now bad witness.now)) }
+    ensures done { IfOk result (λ sink. IfSome (⟦<VecSink as Sink>⟧.written sink)
+        (IsWitnessObligation aiger over_form first.now bad witness.now)) }
     ensures refused { IfErr result (IsWitnessStop aiger over_form first.now bad witness.now) }
 {
     let given = given_by(alloc, aiger, first)?;
@@ -171,7 +179,8 @@ fn certified(
     witness: &[u8],
     proof: &[u8],
 ) -> Result<Verdict, Stop>
-    ensures done { IfOk result (IsWitnessVerdict aiger over_form first.now bad witness.now proof.now) }
+    ensures done { IfOk result (IsWitnessVerdict aiger over_form first.now bad witness.now
+        proof.now) }
     ensures refused { IfErr result (IsWitnessStop aiger over_form first.now bad witness.now) }
 {
     certificates::laws::owed_formula_proved_never_rises();
@@ -210,11 +219,15 @@ pub extern "C" fn hwtool_check_proof_circuit(
     verdict: &mut Verdict,
     refusal: &mut Refusal,
 ) -> u32
-    ensures done { result ≡ 0 → IsWitnessVerdict aiger over_form first.now bad witness.now proof.now verdict.new }
+    ensures done { result ≡ 0
+        → IsWitnessVerdict aiger over_form first.now bad witness.now proof.now verdict.new }
     ensures refused { result ≡ 2 → TellsNothingGiven aiger first.now refusal.new }
-    ensures unlowered { result ≡ 3 → TellsNotLowered aiger first.now refusal.new ⊎ GivesNothingOwed aiger over_form first.now bad witness.now (stop.Model refusal.new) }
-    ensures second { result ≡ 5 → GivesNothingOwed aiger over_form first.now bad witness.now (stop.Second refusal.new) }
-    ensures statuses { (result ≡ 0) ⊎ ((result ≡ 2) ⊎ ((result ≡ 3) ⊎ ((result ≡ 4) ⊎ (result ≡ 5)))) }
+    ensures unlowered { result ≡ 3 → TellsNotLowered aiger first.now refusal.new
+        ⊎ GivesNothingOwed aiger over_form first.now bad witness.now (stop.Model refusal.new) }
+    ensures second { result ≡ 5 → GivesNothingOwed aiger over_form first.now bad witness.now
+        (stop.Second refusal.new) }
+    ensures statuses { (result ≡ 0)
+        ⊎ ((result ≡ 2) ⊎ ((result ≡ 3) ⊎ ((result ≡ 4) ⊎ (result ≡ 5)))) }
     ensures verdict_stays { result ≢ 0 → verdict.new ≡ verdict.old }
     ensures refusal_stays { (result ≡ 0) ⊎ (result ≡ 4) → refusal.new ≡ refusal.old }
 {
@@ -246,14 +259,23 @@ pub extern "C" fn hwtool_obligation_circuit(
     needed: &mut usize,
     refusal: &mut Refusal,
 ) -> u32
-    ensures done { result ≡ 0 → Fills (IsWitnessObligation aiger over_form first.now bad witness.now) buffer.old buffer.new needed.new }
-    ensures small { result ≡ 1 → Needs (IsWitnessObligation aiger over_form first.now bad witness.now) buffer.old buffer.new needed.new }
+    ensures done { result ≡ 0
+        → Fills (IsWitnessObligation aiger over_form first.now bad witness.now) buffer.old
+        buffer.new needed.new }
+    ensures small { result ≡ 1
+        → Needs (IsWitnessObligation aiger over_form first.now bad witness.now) buffer.old
+        buffer.new needed.new }
     ensures refused { result ≡ 2 → TellsNothingGiven aiger first.now refusal.new }
-    ensures unlowered { result ≡ 3 → TellsNotLowered aiger first.now refusal.new ⊎ GivesNothingOwed aiger over_form first.now bad witness.now (stop.Model refusal.new) }
-    ensures second { result ≡ 5 → GivesNothingOwed aiger over_form first.now bad witness.now (stop.Second refusal.new) }
-    ensures statuses { (result ≡ 0) ⊎ ((result ≡ 1) ⊎ ((result ≡ 2) ⊎ ((result ≡ 3) ⊎ ((result ≡ 4) ⊎ (result ≡ 5))))) }
-    ensures unwritten { (result ≡ 2) ⊎ ((result ≡ 3) ⊎ ((result ≡ 4) ⊎ (result ≡ 5))) → (buffer.new ≡ buffer.old) × (needed.new ≡ needed.old) }
-    ensures refusal_stays { (result ≡ 0) ⊎ ((result ≡ 1) ⊎ (result ≡ 4)) → refusal.new ≡ refusal.old }
+    ensures unlowered { result ≡ 3 → TellsNotLowered aiger first.now refusal.new
+        ⊎ GivesNothingOwed aiger over_form first.now bad witness.now (stop.Model refusal.new) }
+    ensures second { result ≡ 5 → GivesNothingOwed aiger over_form first.now bad witness.now
+        (stop.Second refusal.new) }
+    ensures statuses { (result ≡ 0)
+        ⊎ ((result ≡ 1) ⊎ ((result ≡ 2) ⊎ ((result ≡ 3) ⊎ ((result ≡ 4) ⊎ (result ≡ 5))))) }
+    ensures unwritten { (result ≡ 2) ⊎ ((result ≡ 3) ⊎ ((result ≡ 4) ⊎ (result ≡ 5)))
+        → (buffer.new ≡ buffer.old) × (needed.new ≡ needed.old) }
+    ensures refusal_stays { (result ≡ 0) ⊎ ((result ≡ 1) ⊎ (result ≡ 4))
+        → refusal.new ≡ refusal.old }
 {
     match owed(alloc, first, aiger, over_form, bad, witness) {
         Ok(text) => hand_over(text.bytes(), buffer, needed),

@@ -30,8 +30,10 @@ pub(crate) fn property_literals(witness: &Circuit) -> &[Lit]
 /// The literal that says that all constraints of a circuit hold.
 fn constraints_hold<G: Gates>(g: &mut G, circuit: &Circuit, table: &Table) -> Result<Lit, GateFault>
     requires { StandFor circuit.now (G.made g.old) table.now }
-    ensures ok { IfOk result (MakesLiteral (G.made g.old) (G.made g.new) (length circuit.now.constraints) (λ v. constraints_hold circuit.now (read table.now v))) }
-    ensures refused { IfErr result (RefusesGate (G.made g.old) (G.made g.new) (length circuit.now.constraints)) }
+    ensures ok { IfOk result (MakesLiteral (G.made g.old) (G.made g.new)
+        (length circuit.now.constraints) (λ v. constraints_hold circuit.now (read table.now v))) }
+    ensures refused { IfErr result (RefusesGate (G.made g.old) (G.made g.new)
+        (length circuit.now.constraints)) }
 {
     all_hold(g, table, circuit.constraints(), Lit::TRUE)
 }
@@ -51,8 +53,10 @@ fn property(witness: &Circuit, table: &Table) -> Lit
 fn claim_holds<G: Gates>(g: &mut G, witness: &Circuit, table: &Table) -> Result<Lit, GateFault>
     requires some { 0 < length (property_candidates witness.now) }
     requires stand { StandFor witness.now (G.made g.old) table.now }
-    ensures ok { IfOk result (MakesLiteral (G.made g.old) (G.made g.new) (length witness.now.constraints + 1) (λ v. claim_holds witness.now (read table.now v))) }
-    ensures refused { IfErr result (RefusesGate (G.made g.old) (G.made g.new) (length witness.now.constraints + 1)) }
+    ensures ok { IfOk result (MakesLiteral (G.made g.old) (G.made g.new)
+        (length witness.now.constraints + 1) (λ v. claim_holds witness.now (read table.now v))) }
+    ensures refused { IfErr result (RefusesGate (G.made g.old) (G.made g.new)
+        (length witness.now.constraints + 1)) }
 {
     let met = constraints_hold(g, witness, table)?;
     g.and(met, property(witness, table).not())
@@ -71,8 +75,12 @@ fn both_begin<G: Gates>(
     requires own_latches { length own_latches.now ≡ length witness.now.latches }
     requires latches_defined { All (IsDefined (G.made g.old)) latches.now }
     requires own_latches_defined { All (IsDefined (G.made g.old)) own_latches.now }
-    ensures ok { IfOk result (MakesLiteral (G.made g.old) (G.made g.new) (length circuit.now.latches + length witness.now.latches) (λ v. own_initial [] circuit.now.latches (values v latches.now) && own_initial shared.now.latches.items witness.now.latches (values v own_latches.now))) }
-    ensures refused { IfErr result (RefusesGate (G.made g.old) (G.made g.new) (length circuit.now.latches + length witness.now.latches)) }
+    ensures ok { IfOk result (MakesLiteral (G.made g.old) (G.made g.new)
+        (length circuit.now.latches + length witness.now.latches)
+        (λ v. own_initial [] circuit.now.latches (values v latches.now)
+        && own_initial shared.now.latches.items witness.now.latches (values v own_latches.now))) }
+    ensures refused { IfErr result (RefusesGate (G.made g.old) (G.made g.new)
+        (length circuit.now.latches + length witness.now.latches)) }
 {
     let begun = initial(g, &[], circuit.latches(), latches, Lit::TRUE)?;
     initial(g, &shared.latches, witness.latches(), own_latches, begun)
@@ -104,7 +112,10 @@ fn fails<G: Gates>(g: &mut G, parts: Parts) -> Result<Lit, GateFault>
     requires next_met { IsDefined (G.made g.old) parts.next_met }
     requires next_holds { IsDefined (G.made g.old) parts.next_holds }
     requires bad { IsDefined (G.made g.old) parts.bad }
-    ensures ok { IfOk result (MakesLiteral (G.made g.old) (G.made g.new) 7 (λ v. fails_by (literal_value v parts.met) (literal_value v parts.begin) (literal_value v parts.holds) (literal_value v parts.next_met) (literal_value v parts.next_holds) (literal_value v parts.bad))) }
+    ensures ok { IfOk result (MakesLiteral (G.made g.old) (G.made g.new) 7
+        (λ v. fails_by (literal_value v parts.met) (literal_value v parts.begin)
+        (literal_value v parts.holds) (literal_value v parts.next_met)
+        (literal_value v parts.next_holds) (literal_value v parts.bad))) }
     ensures refused { IfErr result (RefusesGate (G.made g.old) (G.made g.new) 7) }
 {
     let begins_not = g.and(parts.begin, parts.holds.not())?;
@@ -141,14 +152,17 @@ pub(crate) fn condition_fails<G: Gates>(
     requires own { StandFor witness.now (G.made g.old) first.now.own }
     requires next_table { StandFor circuit.now (G.made g.old) next.now.table }
     requires next_own { StandFor witness.now (G.made g.old) next.now.own }
-    ensures ok { IfOk result (MakesLiteral (G.made g.old) (G.made g.new) (condition_cost circuit.now witness.now) (λ v. fails_by
+    ensures ok { IfOk result (MakesLiteral (G.made g.old) (G.made g.new)
+        (condition_cost circuit.now witness.now) (λ v. fails_by
         (constraints_hold circuit.now (read first.now.table v))
-        (own_initial [] circuit.now.latches (values v latches.now) && own_initial shared.now.latches.items witness.now.latches (values v own_latches.now))
+        (own_initial [] circuit.now.latches (values v latches.now)
+        && own_initial shared.now.latches.items witness.now.latches (values v own_latches.now))
         (claim_holds witness.now (read first.now.own v))
         (constraints_hold circuit.now (read next.now.table v))
         (claim_holds witness.now (read next.now.own v))
         (bad_rises circuit.now bad (read first.now.table v)))) }
-    ensures refused { IfErr result (RefusesGate (G.made g.old) (G.made g.new) (condition_cost circuit.now witness.now)) }
+    ensures refused { IfErr result (RefusesGate (G.made g.old) (G.made g.new)
+        (condition_cost circuit.now witness.now)) }
 {
     let met = constraints_hold(g, circuit, &first.table)?;
     let begin = both_begin(g, circuit, witness, shared, latches, own_latches)?;

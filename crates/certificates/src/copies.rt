@@ -18,7 +18,8 @@ use std::alloc::Global;
 /// The literals of so many variables from 1 on.
 pub(crate) fn variable_literals(alloc: Global, count: u32) -> Result<Vec<Lit>, GateFault>
     requires { count ≤ greatest_count }
-    ensures ok { IfOk result (λ literals. literals.items ≡ map (λ k. 2 * k) (range_with_len 1 count)) }
+    ensures ok { IfOk result (λ literals. literals.items
+        ≡ map (λ k. 2 * k) (range_with_len 1 count)) }
     ensures memory { IfErr result (λ e. e ≡ GateFault.NoMemory) }
 {
     let mut literals = Vec::new(alloc);
@@ -71,7 +72,8 @@ fn beside_literals(
 ) -> Result<Vec<Lit>, GateFault>
     requires many { length own.now ≡ length shared.now }
     requires inside { All (IsSharedBelow (length table.now)) shared.now }
-    ensures ok { IfOk result (λ literals. literals.items ≡ beside_literals table.now shared.now own.now) }
+    ensures ok { IfOk result (λ literals. literals.items
+        ≡ beside_literals table.now shared.now own.now) }
     ensures memory { IfErr result (λ e. e ≡ GateFault.NoMemory) }
 {
     let mut literals = Vec::new(alloc);
@@ -121,8 +123,10 @@ fn copied<G: Gates>(
     requires latches { length latches.now ≡ length circuit.now.latches }
     requires inputs_defined { All (IsDefined (G.made g.old)) inputs.now }
     requires latches_defined { All (IsDefined (G.made g.old)) latches.now }
-    ensures ok { IfOk result (λ table. IsCopied circuit.now inputs.now latches.now (G.made g.old) (G.made g.new) table) }
-    ensures refused { IfErr result (RefusesGate (G.made g.old) (G.made g.new) (length circuit.now.gates)) }
+    ensures ok { IfOk result (λ table. IsCopied circuit.now inputs.now latches.now (G.made g.old)
+        (G.made g.new) table) }
+    ensures refused { IfErr result (RefusesGate (G.made g.old) (G.made g.new)
+        (length circuit.now.gates)) }
 {
     let mut table = leaves(alloc, inputs, latches)?;
     push_gates(g, circuit.gates(), &mut table)?;
@@ -156,8 +160,13 @@ fn beside<G: Gates>(
     requires table { All (IsDefined (G.made g.old)) table.now }
     requires inputs_defined { All (IsDefined (G.made g.old)) own_inputs.now }
     requires latches_defined { All (IsDefined (G.made g.old)) own_latches.now }
-    ensures ok { IfOk result (λ own. IsCopied witness.now (beside_literals table.now shared.now.inputs.items own_inputs.now) (beside_literals table.now shared.now.latches.items own_latches.now) (G.made g.old) (G.made g.new) own) }
-    ensures refused { IfErr result (RefusesGate (G.made g.old) (G.made g.new) (length witness.now.gates)) }
+    ensures ok { IfOk result
+        (λ own. IsCopied witness.now
+        (beside_literals table.now shared.now.inputs.items own_inputs.now)
+        (beside_literals table.now shared.now.latches.items own_latches.now) (G.made g.old)
+        (G.made g.new) own) }
+    ensures refused { IfErr result (RefusesGate (G.made g.old) (G.made g.new)
+        (length witness.now.gates)) }
 {
     let inputs = beside_literals(alloc, table, &shared.inputs, own_inputs)?;
     let latches = beside_literals(alloc, table, &shared.latches, own_latches)?;
@@ -188,8 +197,11 @@ pub(crate) fn first_frames<G: Gates>(
     requires latches_defined { All (IsDefined (G.made g.old)) latches.now }
     requires own_inputs_defined { All (IsDefined (G.made g.old)) own_inputs.now }
     requires own_latches_defined { All (IsDefined (G.made g.old)) own_latches.now }
-    ensures ok { IfOk result (λ f. AreBeside circuit.now witness.now (mapping_in shared.now) inputs.now latches.now own_inputs.now own_latches.now (G.made g.old) (G.made g.new) f.table f.own) }
-    ensures refused { IfErr result (RefusesGate (G.made g.old) (G.made g.new) (length circuit.now.gates + length witness.now.gates)) }
+    ensures ok { IfOk result (λ f. AreBeside circuit.now witness.now
+        (mapping_in shared.now) inputs.now latches.now own_inputs.now own_latches.now (G.made g.old)
+        (G.made g.new) f.table f.own) }
+    ensures refused { IfErr result (RefusesGate (G.made g.old) (G.made g.new)
+        (length circuit.now.gates + length witness.now.gates)) }
 {
     let table = copied(alloc, g, circuit, inputs, latches)?;
     let own = beside(alloc, g, witness, shared, &table, own_inputs, own_latches)?;
@@ -216,8 +228,12 @@ pub(crate) fn next_frames<G: Gates>(
     requires own_inputs { length own_inputs.now ≡ witness.now.inputs }
     requires inputs_defined { All (IsDefined (G.made g.old)) inputs.now }
     requires own_inputs_defined { All (IsDefined (G.made g.old)) own_inputs.now }
-    ensures ok { IfOk result (λ f. AreBeside circuit.now witness.now (mapping_in shared.now) inputs.now (next_literals first.now.table circuit.now.latches) own_inputs.now (next_literals first.now.own witness.now.latches) (G.made g.old) (G.made g.new) f.table f.own) }
-    ensures refused { IfErr result (RefusesGate (G.made g.old) (G.made g.new) (length circuit.now.gates + length witness.now.gates)) }
+    ensures ok { IfOk result (λ f. AreBeside circuit.now witness.now
+        (mapping_in shared.now) inputs.now (next_literals first.now.table circuit.now.latches)
+        own_inputs.now (next_literals first.now.own witness.now.latches) (G.made g.old)
+        (G.made g.new) f.table f.own) }
+    ensures refused { IfErr result (RefusesGate (G.made g.old) (G.made g.new)
+        (length circuit.now.gates + length witness.now.gates)) }
 {
     let latches = next_literals(alloc, &first.table, circuit.latches())?;
     let own_latches = next_literals(alloc, &first.own, witness.latches())?;

@@ -17,20 +17,23 @@ ghost use Rattle.certificates.specs.Worked.{stays_off, watcher, output_watcher, 
 /// A law: beside a circuit that a witness circuit guards, the bad property rises in no frame up to which the circuit's
 /// constraints hold, in no trace from initial bits that agree with its resets.
 pub fn guarded_property_never_rises()
-    ensures { (c : Circuit) (k : ℕ) (w : Circuit) (m : Mapping) → Guards c k w m → ¬ CanRiseInCircuit c k }
+    ensures { (c : Circuit) (k : ℕ) (w : Circuit) (m : Mapping) → Guards c k w m
+        → ¬ CanRiseInCircuit c k }
 {
     aiger::laws::exactly_one_trace();
 }
 
 /// A law: a witness circuit for which the five checks of the competition hold guards the bad property.
 pub fn certificates_guard()
-    ensures { (c : Circuit) (k : ℕ) (w : Circuit) (m : Mapping) → IsCertificate c k w m → Guards c k w m }
+    ensures { (c : Circuit) (k : ℕ) (w : Circuit) (m : Mapping) → IsCertificate c k w m
+        → Guards c k w m }
 {}
 
 /// A law: a bad property that is certified rises in no frame up to which the circuit's constraints hold, in no trace from
 /// initial bits that agree with its resets.
 pub fn certified_property_never_rises()
-    ensures { (c : Circuit) (k : ℕ) (w : Circuit) (m : Mapping) → IsCertificate c k w m → ¬ CanRiseInCircuit c k }
+    ensures { (c : Circuit) (k : ℕ) (w : Circuit) (m : Mapping) → IsCertificate c k w m
+        → ¬ CanRiseInCircuit c k }
 {
     guarded_property_never_rises();
     certificates_guard();
@@ -44,8 +47,10 @@ pub fn shared_is_a_mapping()
 /// A law: the formula of a test, which is the obligation of no cubes over it, is unsatisfiable exactly where the witness
 /// circuit guards the bad property.
 pub fn unsatisfiable_where_it_guards()
-    ensures guards { (c : Circuit) (k : ℕ) (w : Circuit) (m : Mapping) (t : Circuit) → IsTestOf c k w m t → IsUnsatisfiable (obligation t []) → Guards c k w m }
-    ensures unsatisfiable { (c : Circuit) (k : ℕ) (w : Circuit) (m : Mapping) (t : Circuit) → IsTestOf c k w m t → Guards c k w m → IsUnsatisfiable (obligation t []) }
+    ensures guards { (c : Circuit) (k : ℕ) (w : Circuit) (m : Mapping) (t : Circuit)
+        → IsTestOf c k w m t → IsUnsatisfiable (obligation t []) → Guards c k w m }
+    ensures unsatisfiable { (c : Circuit) (k : ℕ) (w : Circuit) (m : Mapping) (t : Circuit)
+        → IsTestOf c k w m t → Guards c k w m → IsUnsatisfiable (obligation t []) }
 {
     invariants::laws::unsatisfiable_where_inductive();
 }
@@ -53,7 +58,9 @@ pub fn unsatisfiable_where_it_guards()
 /// A law: where a text is judged as a proof over the formula of a test, the bad property rises in no frame up to which the
 /// circuit's constraints hold, in no trace from initial bits that agree with its resets.
 pub fn proved_property_never_rises()
-    ensures { (c : Circuit) (k : ℕ) (w : Circuit) (m : Mapping) (t : Circuit) (text : List ℕ) (line : ℕ) → IsTestOf c k w m t → JudgesProof (obligation t []) text (judgement.Derived line) → ¬ CanRiseInCircuit c k }
+    ensures { (c : Circuit) (k : ℕ) (w : Circuit) (m : Mapping) (t : Circuit) (text : List ℕ)
+        (line : ℕ) → IsTestOf c k w m t
+        → JudgesProof (obligation t []) text (judgement.Derived line) → ¬ CanRiseInCircuit c k }
 {
     unsatisfiable_where_it_guards();
     clauses::laws::derived_is_unsatisfiable();
@@ -63,14 +70,18 @@ pub fn proved_property_never_rises()
 /// A law: where a text is judged as a proof over the formula that the text of a witness circuit owes, the bad property rises in
 /// no frame up to which the circuit's constraints hold, in no trace from initial bits that agree with its resets.
 pub fn owed_formula_proved_never_rises()
-    ensures { (n : Option (List ℕ)) (c : Circuit) (k : ℕ) (witness : Option (List ℕ)) (f : Formula) (text : List ℕ) (line : ℕ) → IsTestedFormula n c k witness f → JudgesProof f text (judgement.Derived line) → ¬ CanRiseInCircuit c k }
+    ensures { (n : Option (List ℕ)) (c : Circuit) (k : ℕ) (witness : Option (List ℕ)) (f : Formula)
+        (text : List ℕ) (line : ℕ) → IsTestedFormula n c k witness f
+        → JudgesProof f text (judgement.Derived line) → ¬ CanRiseInCircuit c k }
 {
     proved_property_never_rises();
 }
 
 /// A law: the same of a witness circuit of the engine form with the bad property.
 pub fn owed_formula_over_form_proved_never_rises()
-    ensures { (c : Circuit) (k : ℕ) (witness : Option (List ℕ)) (f : Formula) (text : List ℕ) (line : ℕ) → IsTestedOverForm c k witness f → JudgesProof f text (judgement.Derived line) → ¬ CanRiseInCircuit c k }
+    ensures { (c : Circuit) (k : ℕ) (witness : Option (List ℕ)) (f : Formula) (text : List ℕ)
+        (line : ℕ) → IsTestedOverForm c k witness f → JudgesProof f text (judgement.Derived line)
+        → ¬ CanRiseInCircuit c k }
 {
     owed_formula_proved_never_rises();
     engine::laws::bad_properties_rise_alike();
@@ -78,7 +89,8 @@ pub fn owed_formula_over_form_proved_never_rises()
 
 /// A law: each certificate of the competition owes an unsatisfiable formula.
 pub fn certificates_can_be_proved()
-    ensures { (c : Circuit) (k : ℕ) (w : Circuit) (m : Mapping) (t : Circuit) → IsTestOf c k w m t → IsCertificate c k w m → IsUnsatisfiable (obligation t []) }
+    ensures { (c : Circuit) (k : ℕ) (w : Circuit) (m : Mapping) (t : Circuit) → IsTestOf c k w m t
+        → IsCertificate c k w m → IsUnsatisfiable (obligation t []) }
 {
     unsatisfiable_where_it_guards();
     certificates_guard();

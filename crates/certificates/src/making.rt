@@ -106,8 +106,10 @@ fn make<G: Gates>(
     requires latches_inside { All (IsSharedIn (net circuit.now)) shared.now.latches.items }
     requires many { AreAsMany circuit.now witness.now (parts_of_test parts) }
     requires defined { All (IsDefined (G.made g.old)) (all_parts (parts_of_test parts)) }
-    ensures ok { IfOk result (λ l. IsMadeFrom circuit.now bad witness.now (mapping_in shared.now) (parts_of_test parts.entry) (G.made g.old) (G.made g.new) l) }
-    ensures refused { IfErr result (RefusesGate (G.made g.old) (G.made g.new) (test_cost circuit.now witness.now)) }
+    ensures ok { IfOk result (λ l. IsMadeFrom circuit.now bad witness.now (mapping_in shared.now)
+        (parts_of_test parts.entry) (G.made g.old) (G.made g.new) l) }
+    ensures refused { IfErr result (RefusesGate (G.made g.old) (G.made g.new)
+        (test_cost circuit.now witness.now)) }
 {
     let first = first_frames(
         alloc,
@@ -176,9 +178,11 @@ fn test_over(
     requires valid { IsCircuit circuit.now }
     requires witness { IsCircuit witness.now }
     requires shared { mapping_in shared.now ≡ mapping_of numbering.now circuit.now witness.now }
-    requires inputs { inputs.now ≡ map (λ k. 2 * k) (range_with_len 1 (test_inputs circuit.now witness.now)) }
+    requires inputs { inputs.now
+        ≡ map (λ k. 2 * k) (range_with_len 1 (test_inputs circuit.now witness.now)) }
     requires bare { gates ≡ bare_test circuit.now witness.now }
-    ensures ok { IfOk result (λ t. IsTestOf circuit.now bad witness.now (mapping_of numbering.now circuit.now witness.now) t) }
+    ensures ok { IfOk result (λ t. IsTestOf circuit.now bad witness.now
+        (mapping_of numbering.now circuit.now witness.now) t) }
     ensures memory { IfErr result (λ e. e ≡ TestFault.NoMemory) }
 {
     let parts = cut(circuit, witness, inputs);
@@ -202,7 +206,8 @@ fn test_with(
     requires valid { IsCircuit circuit.now }
     requires witness { IsCircuit witness.now }
     requires shared { mapping_in shared.now ≡ mapping_of numbering.now circuit.now witness.now }
-    ensures ok { IfOk result (λ t. IsTestOf circuit.now bad witness.now (mapping_of numbering.now circuit.now witness.now) t) }
+    ensures ok { IfOk result (λ t. IsTestOf circuit.now bad witness.now
+        (mapping_of numbering.now circuit.now witness.now) t) }
     ensures memory { IfErr result (λ e. e ≡ TestFault.NoMemory) }
 {
     let count = test_inputs(circuit, witness) as u32;
@@ -228,7 +233,8 @@ fn accepted_test(
     witness: &Circuit,
 ) -> Result<Circuit, TestFault>
     requires { test_refusal numbering.now circuit.now bad witness.now ≡ None }
-    ensures ok { IfOk result (λ t. IsTestOf circuit.now bad witness.now (mapping_of numbering.now circuit.now witness.now) t) }
+    ensures ok { IfOk result (λ t. IsTestOf circuit.now bad witness.now
+        (mapping_of numbering.now circuit.now witness.now) t) }
     ensures memory { IfErr result (λ e. e ≡ TestFault.NoMemory) }
 {
     // what circuits keep
@@ -264,7 +270,8 @@ pub fn test_circuit(
     bad: usize,
     witness: &Circuit,
 ) -> Result<Circuit, TestFault>
-    ensures ok { IfOk result (λ t. IsTestOf circuit.now bad witness.now (mapping_of numbering.now circuit.now witness.now) t) }
+    ensures ok { IfOk result (λ t. IsTestOf circuit.now bad witness.now
+        (mapping_of numbering.now circuit.now witness.now) t) }
     ensures answer { AnswersTest result (test_refusal numbering.now circuit.now bad witness.now) }
 {
     match why_no_test(numbering, circuit, bad, witness) {

@@ -81,7 +81,8 @@ fn are_said_inside(
     witness: &Circuit,
     section: Section,
 ) -> bool
-    ensures { result ≡ list_all (is_inside (variables (net circuit.now))) (names_said_in numbering.now section witness.now) }
+    ensures { result ≡ list_all (is_inside (variables (net circuit.now)))
+        (names_said_in numbering.now section witness.now) }
 {
     for position in 0..witness.count(section) {
         if !is_inside(
@@ -104,7 +105,8 @@ pub(crate) fn are_inside(numbering: &Numbering, circuit: &Circuit, witness: &Cir
 
 /// Whether some name of a section says a literal.
 fn says_some_in(numbering: &Numbering, witness: &Circuit, section: Section) -> bool
-    ensures { result ≡ list_any (λ (l : Option ℕ). is_some l) (names_said_in numbering.now section witness.now) }
+    ensures { result ≡ list_any (λ (l : Option ℕ). is_some l)
+        (names_said_in numbering.now section witness.now) }
 {
     for position in 0..witness.count(section) {
         if shared_literal(numbering, witness, section, position).is_some() {
@@ -137,7 +139,8 @@ fn said_in(
     witness: &Circuit,
     section: Section,
 ) -> Result<Vec<Option<Lit>>, AllocError>
-    requires { list_all (is_inside (variables (net circuit.now))) (names_said_in numbering.now section witness.now) ≡ true }
+    requires { list_all (is_inside (variables (net circuit.now)))
+        (names_said_in numbering.now section witness.now) ≡ true }
     ensures { IfOk result (λ said. said.items ≡ names_said_in numbering.now section witness.now) }
 {
     let mut said = Vec::new(alloc);
@@ -194,8 +197,10 @@ fn shared_by_names(
     witness: &Circuit,
 ) -> Result<Shared, AllocError>
     requires { are_inside circuit.now (said_by_names numbering.now witness.now) ≡ true }
-    ensures inputs { IfOk result (λ shared. shared.inputs.items ≡ (said_by_names numbering.now witness.now).inputs) }
-    ensures latches { IfOk result (λ shared. shared.latches.items ≡ (said_by_names numbering.now witness.now).latches) }
+    ensures inputs { IfOk result (λ shared. shared.inputs.items
+        ≡ (said_by_names numbering.now witness.now).inputs) }
+    ensures latches { IfOk result (λ shared. shared.latches.items
+        ≡ (said_by_names numbering.now witness.now).latches) }
 {
     let inputs = said_in(alloc, numbering, circuit, witness, Section::Input)?;
     let latches = said_in(alloc, numbering, circuit, witness, Section::Latch)?;
@@ -208,8 +213,11 @@ fn shared_in_order(
     circuit: &Circuit,
     witness: &Circuit,
 ) -> Result<Shared, AllocError>
-    ensures inputs { IfOk result (λ shared. shared.inputs.items ≡ in_order 1 circuit.now.inputs witness.now.inputs) }
-    ensures latches { IfOk result (λ shared. shared.latches.items ≡ in_order (suc circuit.now.inputs) (length circuit.now.latches) (length witness.now.latches)) }
+    ensures inputs { IfOk result (λ shared. shared.inputs.items
+        ≡ in_order 1 circuit.now.inputs witness.now.inputs) }
+    ensures latches { IfOk result (λ shared. shared.latches.items
+        ≡ in_order (suc circuit.now.inputs) (length circuit.now.latches)
+        (length witness.now.latches)) }
 {
     // what a circuit keeps
     let _ = circuit.variables();
@@ -229,8 +237,10 @@ pub(crate) fn shared_of(
     witness: &Circuit,
 ) -> Result<Shared, AllocError>
     requires { are_inside circuit.now (said_by_names numbering.now witness.now) ≡ true }
-    ensures inputs { IfOk result (λ shared. shared.inputs.items ≡ (mapping_of numbering.now circuit.now witness.now).inputs) }
-    ensures latches { IfOk result (λ shared. shared.latches.items ≡ (mapping_of numbering.now circuit.now witness.now).latches) }
+    ensures inputs { IfOk result (λ shared. shared.inputs.items
+        ≡ (mapping_of numbering.now circuit.now witness.now).inputs) }
+    ensures latches { IfOk result (λ shared. shared.latches.items
+        ≡ (mapping_of numbering.now circuit.now witness.now).latches) }
 {
     if says_some_in(numbering, witness, Section::Input)
         || says_some_in(numbering, witness, Section::Latch)

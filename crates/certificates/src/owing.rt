@@ -61,7 +61,8 @@ pub fn owed_formula<S: Source>(
     bad: usize,
     witness: &mut S,
 ) -> Result<Formula, WitnessFault>
-    ensures ok { IfOk result (IsTestedFormula numbering.now circuit.now bad (S.to_come witness.old)) }
+    ensures ok { IfOk result (IsTestedFormula numbering.now circuit.now bad
+        (S.to_come witness.old)) }
     ensures end { OnOk result (IsAtEnd (S.to_come witness.new)) }
     ensures fault { IfErr result (HasNoTest numbering.now circuit.now bad (S.to_come witness.old)) }
     // the source failed once where that is told, and else not at all

@@ -32,7 +32,8 @@ fn own_reset(shared: &[Option<Lit>], j: usize, reset: Reset) -> Reset
 fn agreeing<G: Gates>(g: &mut G, reset: Reset, bit: Lit, so_far: Lit) -> Result<Lit, GateFault>
     requires bit { IsDefined (G.made g.old) bit }
     requires so_far { IsDefined (G.made g.old) so_far }
-    ensures ok { IfOk result (MakesLiteral (G.made g.old) (G.made g.new) 1 (λ v. literal_value v so_far && agrees reset (literal_value v bit))) }
+    ensures ok { IfOk result (MakesLiteral (G.made g.old) (G.made g.new) 1
+        (λ v. literal_value v so_far && agrees reset (literal_value v bit))) }
     ensures refused { IfErr result (RefusesGate (G.made g.old) (G.made g.new) 1) }
 {
     match reset {
@@ -54,8 +55,10 @@ pub(crate) fn initial<G: Gates>(
     requires many { length bits.now ≡ length latches.now }
     requires bits { All (IsDefined (G.made g.old)) bits.now }
     requires so_far { IsDefined (G.made g.old) so_far }
-    ensures ok { IfOk result (MakesLiteral (G.made g.old) (G.made g.new) (length latches.now) (λ v. literal_value v so_far && own_initial shared.now latches.now (values v bits.now))) }
-    ensures refused { IfErr result (RefusesGate (G.made g.old) (G.made g.new) (length latches.now)) }
+    ensures ok { IfOk result (MakesLiteral (G.made g.old) (G.made g.new) (length latches.now)
+        (λ v. literal_value v so_far && own_initial shared.now latches.now (values v bits.now))) }
+    ensures refused { IfErr result (RefusesGate (G.made g.old) (G.made g.new)
+        (length latches.now)) }
 {
     let mut so_far = so_far;
     for (j, latch) in latches.iter().enumerate() {

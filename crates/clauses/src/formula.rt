@@ -19,7 +19,8 @@ fn is_literal(variables: u32, literal: u32) -> bool
 /// Whether all literals of a clause are of so many variables.
 fn are_literals(variables: u32, clause: &[u32]) -> bool
     requires { variables < 2147483647 }
-    ensures { MatchBool result (All (IsLiteral variables) clause.now) (¬ All (IsLiteral variables) clause.now) }
+    ensures { MatchBool result (All (IsLiteral variables) clause.now)
+        (¬ All (IsLiteral variables) clause.now) }
 {
     for literal in clause {
         if !is_literal(variables, *literal) {
@@ -78,7 +79,8 @@ impl Formula {
     /// Errors: `BadLiteral` where a literal is none of the formula's variables, and `NoMemory` where there is none and a
     /// growth was refused. Nothing is changed then.
     pub fn push(&mut self, clause: &[u32]) -> Result<(), FormulaFault>
-        ensures ok { OnOk result (self.new ≡ record self.old { clauses = self.old.clauses ++ clause.now ∷ [] }) }
+        ensures ok { OnOk result (self.new
+            ≡ record self.old { clauses = self.old.clauses ++ clause.now ∷ [] }) }
         ensures err { OnErr result (self.new ≡ self.old) }
         ensures refused { RefusesClause result self.old clause.now }
     {

@@ -13,8 +13,10 @@ use base::{DeviceFault, Line, Pen, Sink};
 ///
 /// Errors: the sink's own; a beginning of the text was written then.
 pub fn write_formula<K: Sink>(formula: &Formula, sink: &mut K) -> Result<(), DeviceFault>
-    ensures ok { OnOk result (Appends (K.written sink.old) (K.written sink.new) (formula_text formula.now)) }
-    ensures err { OnErr result (AppendsBeginning (K.written sink.old) (K.written sink.new) (formula_text formula.now)) }
+    ensures ok { OnOk result (Appends (K.written sink.old) (K.written sink.new)
+        (formula_text formula.now)) }
+    ensures err { OnErr result (AppendsBeginning (K.written sink.old) (K.written sink.new)
+        (formula_text formula.now)) }
     ensures failures { CountsFaults result (K.failures sink.old) (K.failures sink.new) }
 {
     let mut pen = Pen::new();
@@ -25,7 +27,8 @@ pub fn write_formula<K: Sink>(formula: &Formula, sink: &mut K) -> Result<(), Dev
 
 /// Puts the line before the clauses.
 fn put_header<K: Sink>(pen: &mut Pen, sink: &mut K, formula: &Formula)
-    ensures { WritesText K.written K.failures sink.old sink.new pen.old pen.new (header_line formula.now ++ 10 ∷ []) }
+    ensures { WritesText K.written K.failures sink.old sink.new pen.old pen.new
+        (header_line formula.now ++ 10 ∷ []) }
 {
     pen.put(sink, b"p cnf ");
     pen.put_number(sink, u64::from(formula.variables()));
@@ -36,7 +39,8 @@ fn put_header<K: Sink>(pen: &mut Pen, sink: &mut K, formula: &Formula)
 
 /// Puts the lines of the clauses.
 fn put_clauses<K: Sink>(pen: &mut Pen, sink: &mut K, formula: &Formula)
-    ensures { WritesText K.written K.failures sink.old sink.new pen.old pen.new (clauses_text formula.now.clauses) }
+    ensures { WritesText K.written K.failures sink.old sink.new pen.old pen.new
+        (clauses_text formula.now.clauses) }
 {
     for k in 0..formula.clause_count() {
         put_clause(pen, sink, formula.clause(k));
@@ -45,7 +49,8 @@ fn put_clauses<K: Sink>(pen: &mut Pen, sink: &mut K, formula: &Formula)
 
 /// Puts the line of a clause.
 fn put_clause<K: Sink>(pen: &mut Pen, sink: &mut K, clause: &[u32])
-    ensures { WritesText K.written K.failures sink.old sink.new pen.old pen.new (clause_line clause.now ++ 10 ∷ []) }
+    ensures { WritesText K.written K.failures sink.old sink.new pen.old pen.new
+        (clause_line clause.now ++ 10 ∷ []) }
 {
     put_literals(pen, sink, clause);
     pen.put(sink, b"0\n");
@@ -53,7 +58,8 @@ fn put_clause<K: Sink>(pen: &mut Pen, sink: &mut K, clause: &[u32])
 
 /// Puts literals, each with a blank behind it.
 fn put_literals<K: Sink>(pen: &mut Pen, sink: &mut K, literals: &[u32])
-    ensures { WritesText K.written K.failures sink.old sink.new pen.old pen.new (literals_text literals.now) }
+    ensures { WritesText K.written K.failures sink.old sink.new pen.old pen.new
+        (literals_text literals.now) }
 {
     for literal in literals {
         make_literal(&mut pen.line, *literal);

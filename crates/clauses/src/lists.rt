@@ -64,7 +64,8 @@ impl Lists {
     /// Puts a number behind those of a literal's list.
     pub fn push(&mut self, literal: u32, number: u32) -> Result<(), ClauseFault>
         requires { literal < length self.old }
-        ensures ok { IfOk result (λ _. self.new ≡ slice_set self.old literal (list_at self.old literal ++ number ∷ [])) }
+        ensures ok { IfOk result (λ _. self.new
+            ≡ slice_set self.old literal (list_at self.old literal ++ number ∷ [])) }
         ensures err { OnErr result (self.new ≡ self.old) }
     {
         match self.lists[literal as usize].push(number) {
@@ -78,7 +79,8 @@ impl Lists {
     pub fn remove(&mut self, literal: u32, place: usize)
         requires inside { literal < length self.old }
         requires there { place < length (list_at self.old literal) }
-        ensures { self.new ≡ slice_set self.old literal (swap_remove (list_at self.old literal) place 0) }
+        ensures { self.new ≡ slice_set self.old literal
+            (swap_remove (list_at self.old literal) place 0) }
     {
         let _ = self.lists[literal as usize].swap_remove(place);
     }

@@ -42,14 +42,16 @@ impl Number {
 
     /// Whether a byte behind the others is a `0` alone.
     pub(crate) fn is_end(self, byte: u8) -> bool
-        ensures { (bytes : List ℕ) → SpellsNumber self bytes → result ≡ bytes_eq (bytes ++ byte ∷ []) (0 ∷ []) }
+        ensures { (bytes : List ℕ) → SpellsNumber self bytes → result
+            ≡ bytes_eq (bytes ++ byte ∷ []) (0 ∷ []) }
     {
         byte == 0 && self.unit == 1
     }
 
     /// The same with a byte behind it, which has the top bit.
     pub(crate) fn with(self, byte: u8) -> Number
-        ensures { (bytes : List ℕ) → SpellsNumber self bytes → SpellsNumber result (bytes ++ byte ∷ []) }
+        ensures { (bytes : List ℕ) → SpellsNumber self bytes
+            → SpellsNumber result (bytes ++ byte ∷ []) }
     {
         Number {
             unit: self.unit.saturating_mul(128),
@@ -59,7 +61,8 @@ impl Number {
 
     /// The number that the bytes write with another behind them, at most 2^64 - 1.
     fn number(self, byte: u8) -> u64
-        ensures { (bytes : List ℕ) → SpellsNumber self bytes → result ≡ min (coded_number (bytes ++ byte ∷ [])) (2 ^ 64 - 1) }
+        ensures { (bytes : List ℕ) → SpellsNumber self bytes → result
+            ≡ min (coded_number (bytes ++ byte ∷ [])) (2 ^ 64 - 1) }
     {
         let part = u64::from(byte % 128).saturating_mul(self.unit);
         self.value.saturating_add(part)
@@ -69,7 +72,8 @@ impl Number {
     pub(crate) fn token(self, byte: u8, variables: u32) -> Token
         requires variables { variables < 2147483647 }
         requires last { byte < 128 }
-        ensures said { (bytes : List ℕ) → SpellsNumber self bytes → token_said result ≡ number_said variables (bytes ++ byte ∷ []) }
+        ensures said { (bytes : List ℕ) → SpellsNumber self bytes
+            → token_said result ≡ number_said variables (bytes ++ byte ∷ []) }
         ensures below { IsBelow (2 * variables + 2) result }
     {
         if byte == 0 {

@@ -12,7 +12,8 @@ use crate::trail::Trail;
 pub(crate) fn open_literal(clause: &[u32], trail: &Trail) -> Option<u32>
     requires even { IsEven trail.now }
     requires inside { All (λ l. l < length trail.now.marks) clause.now }
-    ensures { MatchOption result (AllNegated clause.now (set_of trail.now)) (λ l. IsOpen clause.now l (set_of trail.now)) }
+    ensures { MatchOption result (AllNegated clause.now (set_of trail.now))
+        (λ l. IsOpen clause.now l (set_of trail.now)) }
 {
     for literal in clause {
         if !trail.has(negation(*literal)) {
@@ -26,7 +27,8 @@ pub(crate) fn open_literal(clause: &[u32], trail: &Trail) -> Option<u32>
 pub(crate) fn open_other(clause: &[u32], one: u32, trail: &Trail) -> Option<u32>
     requires even { IsEven trail.now }
     requires inside { All (λ l. l < length trail.now.marks) clause.now }
-    ensures { MatchOption result (OthersNegated clause.now one (set_of trail.now)) (λ l. IsOpen clause.now l (set_of trail.now) × (l ≢ one)) }
+    ensures { MatchOption result (OthersNegated clause.now one (set_of trail.now))
+        (λ l. IsOpen clause.now l (set_of trail.now) × (l ≢ one)) }
 {
     for literal in clause {
         if *literal != one && !trail.has(negation(*literal)) {

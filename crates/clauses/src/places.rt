@@ -95,7 +95,8 @@ impl Places {
     /// Lets a place be the last one of a sum that has one, or none be it.
     fn set_last(&mut self, sum: u32, place: u32)
         requires { last_at self.old sum ≡ 4294967295 → ⊥ }
-        ensures last { (s : ℕ) → last_at self.new s ≡ (if s == sum then place else last_at self.old s) }
+        ensures last { (s : ℕ) → last_at self.new s
+            ≡ (if s == sum then place else last_at self.old s) }
         ensures before { self.new.before.items ≡ self.old.before.items }
     {
         if place == NO_PLACE {
@@ -136,12 +137,15 @@ pub(crate) fn last_alike(
     clause: &[u32],
 ) -> Option<(usize, usize)>
     requires ends { AreStartsAndEnds (length literals.now) starts.now ends.now }
-    requires linked { AreLinked (cut literals.now starts.now ends.now) (last_at places.now) places.now.before.items }
+    requires linked { AreLinked (cut literals.now starts.now ends.now)
+        (last_at places.now) places.now.before.items }
     requires sum { sum ≡ clause_sum clause.now }
     requires some { 0 < length clause.now }
     ensures { MatchOption result
         (NoneAlikeFrom (cut literals.now starts.now ends.now) clause.now 0)
-        (λ at. IsLastAlike (cut literals.now starts.now ends.now) clause.now at.0 × IsLink (cut literals.now starts.now ends.now) (last_at places.now) places.now.before.items sum at.0 at.1 × (at.0 < at.1)) }
+        (λ at. IsLastAlike (cut literals.now starts.now ends.now) clause.now at.0
+        × IsLink (cut literals.now starts.now ends.now) (last_at places.now) places.now.before.items
+        sum at.0 at.1 × (at.0 < at.1)) }
 {
     let mut behind = ends.len();
     let mut place = places.last(sum) as usize;

@@ -61,7 +61,8 @@ impl ProofJudge {
     /// Errors: `NoMemory` where a growth was refused.
     pub fn new(alloc: Global, variables: u32) -> Result<ProofJudge, ClauseFault>
         requires { variables < 2147483647 }
-        ensures stands { IfOk result (λ judge. StandsForText (record { variables = variables; clauses = [] }) judge []) }
+        ensures stands { IfOk result
+            (λ judge. StandsForText (record { variables = variables; clauses = [] }) judge []) }
         ensures variables { IfOk result (λ judge. judge.variables ≡ variables) }
     {
         let text = TextJudge::new(alloc, variables)?;
@@ -87,7 +88,8 @@ impl ProofJudge {
     /// Takes all clauses of a formula of its variables.
     fn give_all(&mut self, formula: &Formula)
         requires variables { self.old.variables ≡ formula.now.variables }
-        requires begins { StandsForText (record { variables = formula.now.variables; clauses = [] }) self.old [] }
+        requires begins { StandsForText (record { variables = formula.now.variables; clauses = [] })
+            self.old [] }
         ensures { StandsForText formula.now self.new [] }
     {
         for k in 0..formula.clause_count() {
@@ -98,7 +100,8 @@ impl ProofJudge {
     /// Takes a clause of the formula, behind those before, and before any byte of the text.
     pub fn give(&mut self, clause: &[u32])
         requires { All (λ l. l < 2 * self.old.variables + 2) clause.now }
-        ensures stands { (f : FormulaValue) → StandsForText f self.old [] → StandsForText (record f { clauses = f.clauses ++ clause.now ∷ [] }) self.new [] }
+        ensures stands { (f : FormulaValue) → StandsForText f self.old []
+            → StandsForText (record f { clauses = f.clauses ++ clause.now ∷ [] }) self.new [] }
         ensures variables { self.new.variables ≡ self.old.variables }
     {
         self.text.give(clause);
@@ -132,7 +135,8 @@ impl ProofJudge {
     fn begin_step(&mut self, byte: u8)
         requires open { self.old.text.reader.closed ≡ false }
         requires before { self.old.form ≡ form.Steps }
-        ensures { (f : FormulaValue) (text : List ℕ) → StandsForBytes f self.old text → StandsForBytes f self.new (text ++ byte ∷ []) }
+        ensures { (f : FormulaValue) (text : List ℕ) → StandsForBytes f self.old text
+            → StandsForBytes f self.new (text ++ byte ∷ []) }
     {
         if is_too_many(self.step) {
             self.text.refuse(self.step, Why::TooLong);
@@ -154,7 +158,8 @@ impl ProofJudge {
     fn take_within(&mut self, byte: u8)
         requires open { self.old.text.reader.closed ≡ false }
         requires within { self.old.form ≡ form.Literals }
-        ensures { (f : FormulaValue) (text : List ℕ) → StandsForBytes f self.old text → StandsForBytes f self.new (text ++ byte ∷ []) }
+        ensures { (f : FormulaValue) (text : List ℕ) → StandsForBytes f self.old text
+            → StandsForBytes f self.new (text ++ byte ∷ []) }
     {
         if byte >= 128 {
             self.number = self.number.with(byte);
@@ -174,7 +179,8 @@ impl ProofJudge {
 
     /// Takes a byte of a text in the binary form behind those before.
     fn take_byte(&mut self, byte: u8)
-        ensures { (f : FormulaValue) (text : List ℕ) → StandsForBytes f self.old text → StandsForBytes f self.new (text ++ byte ∷ []) }
+        ensures { (f : FormulaValue) (text : List ℕ) → StandsForBytes f self.old text
+            → StandsForBytes f self.new (text ++ byte ∷ []) }
     {
         if self.is_closed() {
             return;
@@ -189,7 +195,8 @@ impl ProofJudge {
     /// Takes the first byte of a text.
     fn begin(&mut self, byte: u8)
         requires { self.old.form ≡ form.Empty }
-        ensures { (f : FormulaValue) (text : List ℕ) → StandsForText f self.old text → StandsForText f self.new (text ++ byte ∷ []) }
+        ensures { (f : FormulaValue) (text : List ℕ) → StandsForText f self.old text
+            → StandsForText f self.new (text ++ byte ∷ []) }
     {
         if byte == b'd' {
             self.form = Form::Letter;
@@ -207,7 +214,8 @@ impl ProofJudge {
     /// Takes the byte behind a first `d`, and by it both.
     fn go_on(&mut self, byte: u8)
         requires { self.old.form ≡ form.Letter }
-        ensures { (f : FormulaValue) (text : List ℕ) → StandsForText f self.old text → StandsForText f self.new (text ++ byte ∷ []) }
+        ensures { (f : FormulaValue) (text : List ℕ) → StandsForText f self.old text
+            → StandsForText f self.new (text ++ byte ∷ []) }
     {
         if byte == b' ' {
             self.form = Form::Lines;
@@ -222,7 +230,8 @@ impl ProofJudge {
 
     /// Takes a byte of the text behind those before.
     fn take(&mut self, byte: u8)
-        ensures { (f : FormulaValue) (text : List ℕ) → StandsForText f self.old text → StandsForText f self.new (text ++ byte ∷ []) }
+        ensures { (f : FormulaValue) (text : List ℕ) → StandsForText f self.old text
+            → StandsForText f self.new (text ++ byte ∷ []) }
     {
         match self.form() {
             Form::Empty => self.begin(byte),
@@ -235,7 +244,8 @@ impl ProofJudge {
 
     /// Takes bytes of the text one by one.
     fn take_all(&mut self, bytes: &[u8])
-        ensures { (f : FormulaValue) (text : List ℕ) → StandsForText f self.old text → StandsForText f self.new (text ++ bytes.now) }
+        ensures { (f : FormulaValue) (text : List ℕ) → StandsForText f self.old text
+            → StandsForText f self.new (text ++ bytes.now) }
     {
         for byte in bytes {
             self.take(*byte);
@@ -244,7 +254,8 @@ impl ProofJudge {
 
     /// Takes bytes of a text in the binary form.
     fn feed_bytes(&mut self, bytes: &[u8])
-        ensures { (f : FormulaValue) (text : List ℕ) → StandsForBytes f self.old text → StandsForBytes f self.new (text ++ bytes.now) }
+        ensures { (f : FormulaValue) (text : List ℕ) → StandsForBytes f self.old text
+            → StandsForBytes f self.new (text ++ bytes.now) }
     {
         for byte in bytes {
             self.take_byte(*byte);
@@ -253,7 +264,8 @@ impl ProofJudge {
 
     /// Takes bytes in the form that is known by those before, or one by one.
     fn feed_rest(&mut self, bytes: &[u8])
-        ensures { (f : FormulaValue) (text : List ℕ) → StandsForText f self.old text → StandsForText f self.new (text ++ bytes.now) }
+        ensures { (f : FormulaValue) (text : List ℕ) → StandsForText f self.old text
+            → StandsForText f self.new (text ++ bytes.now) }
     {
         match self.form() {
             Form::Empty => self.take_all(bytes),
@@ -267,7 +279,8 @@ impl ProofJudge {
     /// Takes a piece of the text behind those before: a judge that stood for a text stands for that text with the piece
     /// behind it.
     pub fn feed(&mut self, bytes: &[u8])
-        ensures { (f : FormulaValue) (text : List ℕ) → StandsForText f self.old text → StandsForText f self.new (text ++ bytes.now) }
+        ensures { (f : FormulaValue) (text : List ℕ) → StandsForText f self.old text
+            → StandsForText f self.new (text ++ bytes.now) }
     {
         // behind two bytes the form is known
         let (front, rest) = bytes.split_at(bytes.len().min(2));
@@ -277,7 +290,8 @@ impl ProofJudge {
 
     /// A text in the binary form ends.
     fn end_bytes(&mut self)
-        ensures { (f : FormulaValue) (text : List ℕ) → StandsForBytes f self.old text → EndsBytes f self.new text }
+        ensures { (f : FormulaValue) (text : List ℕ) → StandsForBytes f self.old text
+            → EndsBytes f self.new text }
     {
         if self.is_closed() {
             return;
@@ -289,7 +303,8 @@ impl ProofJudge {
 
     /// The judgement of a text in the binary form, which ends.
     fn judge_bytes(&mut self) -> Result<Judgement, ClauseFault>
-        ensures { (f : FormulaValue) (text : List ℕ) → StandsForBytes f self.old text → IfOk result (λ j. JudgesReading f (read_binary_proof f.variables text) j) }
+        ensures { (f : FormulaValue) (text : List ℕ) → StandsForBytes f self.old text
+            → IfOk result (λ j. JudgesReading f (read_binary_proof f.variables text) j) }
     {
         self.end_bytes();
         self.text.judge_words()
@@ -297,7 +312,8 @@ impl ProofJudge {
 
     /// The judgement of the text, which ends.
     fn judgement(&mut self) -> Result<Judgement, ClauseFault>
-        ensures { (f : FormulaValue) (text : List ℕ) → StandsForText f self.old text → IfOk result (λ j. JudgesProof f text j) }
+        ensures { (f : FormulaValue) (text : List ℕ) → StandsForText f self.old text
+            → IfOk result (λ j. JudgesProof f text j) }
     {
         match self.form() {
             Form::Empty => self.text.judgement(),
@@ -316,7 +332,8 @@ impl ProofJudge {
     ///
     /// Errors: `NoMemory` where a growth was refused.
     pub fn finish(self) -> Result<Judgement, ClauseFault>
-        ensures { (f : FormulaValue) (text : List ℕ) → StandsForText f self text → IfOk result (λ j. JudgesProof f text j) }
+        ensures { (f : FormulaValue) (text : List ℕ) → StandsForText f self text
+            → IfOk result (λ j. JudgesProof f text j) }
     {
         let mut judge = self;
         judge.judgement()

@@ -76,12 +76,15 @@ fn meets_conflict(
     requires ends { AreStartsAndEnds (length literals.now) starts.now ends.now }
     requires below { All (λ l. l < length trail.old.marks) clause.now }
     requires consistent { IsConsistent trail.old }
-    requires watched { IsWatched (cut literals.now starts.now ends.now) watched.old lists.old (length trail.old.marks) }
+    requires watched { IsWatched (cut literals.now starts.now ends.now) watched.old lists.old
+        (length trail.old.marks) }
     requires met { AreMet (cut literals.now starts.now ends.now) watched.old trail.old }
     requires units { UnitsMet (cut literals.now starts.now ends.now) trail.old }
-    ensures exact { IfOk result (λ met. IsTrue met ↔ Implied (standing (cut literals.now starts.now ends.now)) (set_of trail.old) clause.now) }
+    ensures exact { IfOk result (λ met. IsTrue met
+        ↔ Implied (standing (cut literals.now starts.now ends.now)) (set_of trail.old) clause.now) }
     ensures extends { Extends trail.old trail.new }
-    ensures watched { IsWatched (cut literals.now starts.now ends.now) watched.new lists.new (length trail.old.marks) }
+    ensures watched { IsWatched (cut literals.now starts.now ends.now) watched.new lists.new
+        (length trail.old.marks) }
     ensures stays { Stays watched.old watched.new trail.old }
 {
     let root = trail.len();
@@ -107,12 +110,17 @@ fn settle(
     requires ends { AreStartsAndEnds (length literals.now) starts.now ends.now }
     requires below { All (λ l. l < length trail.old.marks) clause.now }
     requires consistent { IsConsistent trail.old }
-    requires watched { IsWatched (cut literals.now starts.now ends.now) watched.old lists.old (length trail.old.marks) }
+    requires watched { IsWatched (cut literals.now starts.now ends.now) watched.old lists.old
+        (length trail.old.marks) }
     requires met { AreMet (cut literals.now starts.now ends.now) watched.old trail.old }
-    ensures grows { GrowsMarked (cut literals.now starts.now ends.now ++ clause.now ∷ []) trail.old trail.new }
-    ensures watched { IsWatched (cut literals.now starts.now ends.now) watched.new lists.new (length trail.old.marks) }
+    ensures grows { GrowsMarked (cut literals.now starts.now ends.now ++ clause.now ∷ []) trail.old
+        trail.new }
+    ensures watched { IsWatched (cut literals.now starts.now ends.now) watched.new lists.new
+        (length trail.old.marks) }
     ensures stays { Stays watched.old watched.new trail.old }
-    ensures answer { IfOk result (λ both. Brought (cut literals.now starts.now ends.now) clause.now watched.new trail.new both) }
+    ensures answer { IfOk result
+        (λ both. Brought (cut literals.now starts.now ends.now) clause.now watched.new trail.new
+        both) }
 {
     let root = trail.len();
     match open_literal(clause, trail) {
@@ -192,11 +200,17 @@ pub(crate) fn put(
     requires first { first < length lists.old }
     requires second { second < length lists.old }
     ensures few { IfOk result (λ _. length ends.old.items < 2147483647) }
-    ensures linked { OnOk result (IsLinkedBehind places.old (clause_sum clause.now) (length ends.old.items) places.new) }
+    ensures linked { OnOk result (IsLinkedBehind places.old (clause_sum clause.now)
+        (length ends.old.items) places.new) }
     ensures last { OnErr result ((s : ℕ) → last_at places.new s ≡ last_at places.old s) }
     ensures before { OnErr result (places.new.before.items ≡ places.old.before.items) }
-    ensures ok { IfOk result (λ _. Added literals.old.items starts.old.items ends.old.items watched.old.items lists.old clause.now first second literals.new.items starts.new.items ends.new.items watched.new.items lists.new) }
-    ensures err { OnErr result (Unchanged literals.old.items starts.old.items ends.old.items watched.old.items lists.old literals.new.items starts.new.items ends.new.items watched.new.items lists.new) }
+    ensures ok { IfOk result
+        (λ _. Added literals.old.items starts.old.items ends.old.items watched.old.items lists.old
+        clause.now first second literals.new.items starts.new.items ends.new.items watched.new.items
+        lists.new) }
+    ensures err { OnErr result (Unchanged literals.old.items starts.old.items ends.old.items
+        watched.old.items lists.old literals.new.items starts.new.items ends.new.items
+        watched.new.items lists.new) }
 {
     let clauses = ends.len();
     if clauses >= MOST_CLAUSES {
@@ -266,7 +280,8 @@ impl Propagator {
     pub fn implied(&mut self, clause: &[u32]) -> Result<bool, ClauseFault>
         requires { All (λ l. l < self.old.limit) clause.now }
         ensures same { self.new ≡ self.old }
-        ensures exact { IfOk result (λ met. IsTrue met ↔ Implied self.old.clauses (in_list self.old.followed) clause.now) }
+        ensures exact { IfOk result (λ met. IsTrue met
+            ↔ Implied self.old.clauses (in_list self.old.followed) clause.now) }
     {
         let root = self.trail.len();
         let met = meets_conflict(
@@ -287,7 +302,8 @@ impl Propagator {
     /// Errors: `NoMemory` where a growth was refused.
     pub fn new(alloc: Global, variables: u32) -> Result<Propagator, ClauseFault>
         requires { variables < 2147483647 }
-        ensures { IfOk result (λ p. (p.limit ≡ 2 * variables + 2) × (p.clauses ≡ []) × ((l : ℕ) → in_list p.followed l ≡ false)) }
+        ensures { IfOk result (λ p. (p.limit ≡ 2 * variables + 2) × (p.clauses ≡ [])
+            × ((l : ℕ) → in_list p.followed l ≡ false)) }
     {
         let limit = 2 * variables as usize + 2;
         let lists = Lists::new(alloc, limit)?;
@@ -311,7 +327,8 @@ impl Propagator {
     /// Errors: `NoMemory` where a growth was refused, also of the 32 bits of a clause's number; nothing is changed then.
     pub fn add(&mut self, clause: &[u32]) -> Result<bool, ClauseFault>
         requires { All (λ l. l < self.old.limit) clause.now }
-        ensures { MatchResult result (λ met. AddedTo self.old clause.now self.new met) (λ _. self.new ≡ self.old) }
+        ensures { MatchResult result (λ met. AddedTo self.old clause.now self.new met)
+            (λ _. self.new ≡ self.old) }
     {
         let root = self.trail.len();
         match settle(
@@ -355,7 +372,8 @@ impl Propagator {
     /// nothing is changed. What followed stays.
     pub fn delete(&mut self, clause: &[u32])
         ensures left { IsWithout self.old.clauses clause.now self.new.clauses }
-        ensures followed { (self.new.followed ≡ self.old.followed) × (self.new.limit ≡ self.old.limit) }
+        ensures followed { (self.new.followed ≡ self.old.followed)
+            × (self.new.limit ≡ self.old.limit) }
     {
         self.take_away(clause);
         self.sweep();
@@ -393,7 +411,8 @@ impl Propagator {
     /// Takes away the last clause that has the same literals, and leaves its place empty.
     fn take_away(&mut self, clause: &[u32])
         ensures left { IsWithout self.old.clauses clause.now self.new.clauses }
-        ensures followed { (self.new.followed ≡ self.old.followed) × (self.new.limit ≡ self.old.limit) }
+        ensures followed { (self.new.followed ≡ self.old.followed)
+            × (self.new.limit ≡ self.old.limit) }
     {
         let count = self.ends.len();
         if clause.is_empty() {

@@ -19,7 +19,8 @@ fn judge_addition(
 ) -> Result<Option<Judgement>, ClauseFault>
     requires { All (λ l. l < propagator.old.limit) clause.now }
     ensures limit { propagator.new.limit ≡ propagator.old.limit }
-    ensures leads { IfOk result (λ found. LeadsOver propagator.old clause.now line propagator.new found) }
+    ensures leads { IfOk result
+        (λ found. LeadsOver propagator.old clause.now line propagator.new found) }
 {
     match propagator.implied(clause) {
         Err(fault) => Err(fault),
@@ -60,7 +61,8 @@ impl StepJudge {
     pub fn new(alloc: Global, variables: u32) -> Result<StepJudge, ClauseFault>
         requires { variables < 2147483647 }
         ensures limit { IfOk result (λ judge. judge.propagator.limit ≡ 2 * variables + 2) }
-        ensures begins { IfOk result (λ judge. BeginsSteps (record { variables = variables; clauses = [] }) judge) }
+        ensures begins { IfOk result
+            (λ judge. BeginsSteps (record { variables = variables; clauses = [] }) judge) }
     {
         let propagator = Propagator::new(alloc, variables)?;
         Ok(StepJudge {
@@ -73,7 +75,8 @@ impl StepJudge {
     /// Takes a clause of the formula, behind those before, and before any step.
     pub fn give(&mut self, clause: &[u32])
         requires { All (λ l. l < self.old.propagator.limit) clause.now }
-        ensures begins { (f : Formula) → BeginsSteps f self.old → BeginsSteps (record f { clauses = f.clauses ++ clause.now ∷ [] }) self.new }
+        ensures begins { (f : Formula) → BeginsSteps f self.old
+            → BeginsSteps (record f { clauses = f.clauses ++ clause.now ∷ [] }) self.new }
         ensures limit { self.new.propagator.limit ≡ self.old.propagator.limit }
     {
         if self.found.is_some() {
@@ -90,7 +93,8 @@ impl StepJudge {
     /// behind them.
     pub fn add(&mut self, clause: &[u32], line: u64)
         requires { All (λ l. l < self.old.propagator.limit) clause.now }
-        ensures stands { (f : Formula) (steps : List Ended) → StandsForSteps f steps self.old → StandsForSteps f (steps ++ ended line (addition clause.now) ∷ []) self.new }
+        ensures stands { (f : Formula) (steps : List Ended) → StandsForSteps f steps self.old
+            → StandsForSteps f (steps ++ ended line (addition clause.now) ∷ []) self.new }
         ensures limit { self.new.propagator.limit ≡ self.old.propagator.limit }
     {
         if self.found.is_some() {
@@ -104,7 +108,8 @@ impl StepJudge {
 
     /// Takes a step that takes a clause away and ends in a line, likewise.
     pub fn delete(&mut self, clause: &[u32], line: u64)
-        ensures stands { (f : Formula) (steps : List Ended) → StandsForSteps f steps self.old → StandsForSteps f (steps ++ ended line (deletion clause.now) ∷ []) self.new }
+        ensures stands { (f : Formula) (steps : List Ended) → StandsForSteps f steps self.old
+            → StandsForSteps f (steps ++ ended line (deletion clause.now) ∷ []) self.new }
         ensures limit { self.new.propagator.limit ≡ self.old.propagator.limit }
     {
         let _ = line;
@@ -117,7 +122,8 @@ impl StepJudge {
     /// Takes a fault of the text behind the steps so far, in a line: a judge that stood for these has judged them with the
     /// fault, and takes no more.
     pub fn refuse(&mut self, line: u64, why: Why)
-        ensures judged { (f : Formula) (steps : List Ended) → StandsForSteps f steps self.old → HasJudged f steps (record { line = line; why = why }) self.new }
+        ensures judged { (f : Formula) (steps : List Ended) → StandsForSteps f steps self.old
+            → HasJudged f steps (record { line = line; why = why }) self.new }
         ensures limit { self.new.propagator.limit ≡ self.old.propagator.limit }
     {
         if self.found.is_some() {
@@ -128,8 +134,11 @@ impl StepJudge {
 
     /// The judgement of the steps so far.
     pub(crate) fn judgement(&self) -> Result<Judgement, ClauseFault>
-        ensures steps { (f : Formula) (steps : List Ended) → StandsForSteps f steps self.now → IfOk result (λ j. JudgesReading f (record { steps = steps; fault = None }) j) }
-        ensures fault { (f : Formula) (steps : List Ended) (fault : ProofFault) → HasJudged f steps fault self.now → IfOk result (λ j. JudgesReading f (record { steps = steps; fault = Some fault }) j) }
+        ensures steps { (f : Formula) (steps : List Ended) → StandsForSteps f steps self.now
+            → IfOk result (λ j. JudgesReading f (record { steps = steps; fault = None }) j) }
+        ensures fault { (f : Formula) (steps : List Ended) (fault : ProofFault)
+            → HasJudged f steps fault self.now
+            → IfOk result (λ j. JudgesReading f (record { steps = steps; fault = Some fault }) j) }
     {
         if self.failed {
             return Err(ClauseFault::NoMemory);
@@ -144,8 +153,11 @@ impl StepJudge {
     ///
     /// Errors: `NoMemory` where a growth was refused.
     pub fn finish(self) -> Result<Judgement, ClauseFault>
-        ensures steps { (f : Formula) (steps : List Ended) → StandsForSteps f steps self → IfOk result (λ j. JudgesReading f (record { steps = steps; fault = None }) j) }
-        ensures fault { (f : Formula) (steps : List Ended) (fault : ProofFault) → HasJudged f steps fault self → IfOk result (λ j. JudgesReading f (record { steps = steps; fault = Some fault }) j) }
+        ensures steps { (f : Formula) (steps : List Ended) → StandsForSteps f steps self
+            → IfOk result (λ j. JudgesReading f (record { steps = steps; fault = None }) j) }
+        ensures fault { (f : Formula) (steps : List Ended) (fault : ProofFault)
+            → HasJudged f steps fault self
+            → IfOk result (λ j. JudgesReading f (record { steps = steps; fault = Some fault }) j) }
     {
         self.judgement()
     }

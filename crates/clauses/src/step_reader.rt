@@ -18,7 +18,8 @@ use std::alloc::Global;
 /// Judges a step that has ended, which takes its clause away or adds it.
 fn judge_step(judge: &mut StepJudge, deleting: bool, clause: &[u32], line: u64)
     requires { All (λ l. l < judge.old.propagator.limit) clause.now }
-    ensures stands { (f : Formula) (steps : List Ended) → StandsForSteps f steps judge.old → StandsForSteps f (steps ++ ended line (step_of deleting clause.now) ∷ []) judge.new }
+    ensures stands { (f : Formula) (steps : List Ended) → StandsForSteps f steps judge.old
+        → StandsForSteps f (steps ++ ended line (step_of deleting clause.now) ∷ []) judge.new }
     ensures limit { judge.new.propagator.limit ≡ judge.old.propagator.limit }
 {
     if deleting {
@@ -68,7 +69,8 @@ impl StepReader {
     pub(crate) fn new(alloc: Global, variables: u32) -> Result<StepReader, ClauseFault>
         requires { variables < 2147483647 }
         ensures limit { IfOk result (λ r. r.judge.propagator.limit ≡ 2 * variables + 2) }
-        ensures begins { IfOk result (λ r. BeginsReader (record { variables = variables; clauses = [] }) r) }
+        ensures begins { IfOk result
+            (λ r. BeginsReader (record { variables = variables; clauses = [] }) r) }
     {
         let judge = StepJudge::new(alloc, variables)?;
         Ok(StepReader {
@@ -83,7 +85,8 @@ impl StepReader {
     /// Takes a clause of the formula, behind those before, and before any word.
     pub(crate) fn give(&mut self, clause: &[u32])
         requires { All (λ l. l < self.old.judge.propagator.limit) clause.now }
-        ensures begins { (f : Formula) → BeginsReader f self.old → BeginsReader (record f { clauses = f.clauses ++ clause.now ∷ [] }) self.new }
+        ensures begins { (f : Formula) → BeginsReader f self.old
+            → BeginsReader (record f { clauses = f.clauses ++ clause.now ∷ [] }) self.new }
         ensures limit { self.new.judge.propagator.limit ≡ self.old.judge.propagator.limit }
     {
         self.judge.give(clause);
@@ -99,7 +102,8 @@ impl StepReader {
     /// A step ends in a line.
     fn end_step(&mut self, line: u64)
         requires { self.old.closed ≡ false }
-        ensures stands { (f : Formula) (marks : List Mark) → StandsForWords f self.old marks → StandsForWords f self.new (marks ++ mark line ends ∷ []) }
+        ensures stands { (f : Formula) (marks : List Mark) → StandsForWords f self.old marks
+            → StandsForWords f self.new (marks ++ mark line ends ∷ []) }
         ensures limit { self.new.judge.propagator.limit ≡ self.old.judge.propagator.limit }
     {
         judge_step(&mut self.judge, self.deleting, &self.clause, line);
@@ -110,7 +114,8 @@ impl StepReader {
     /// A fault is met in a line.
     pub(crate) fn refuse(&mut self, line: u64, why: Why)
         requires { self.old.closed ≡ false }
-        ensures stands { (f : Formula) (marks : List Mark) → StandsForWords f self.old marks → StandsForWords f self.new (marks ++ mark line (faulty why) ∷ []) }
+        ensures stands { (f : Formula) (marks : List Mark) → StandsForWords f self.old marks
+            → StandsForWords f self.new (marks ++ mark line (faulty why) ∷ []) }
         ensures closed { self.new.closed ≡ true }
         ensures failed { self.new.failed ≡ self.old.failed }
         ensures limit { self.new.judge.propagator.limit ≡ self.old.judge.propagator.limit }
@@ -129,7 +134,8 @@ impl StepReader {
     /// A step that takes a clause away begins in a line.
     fn begin_deletion(&mut self, line: u64)
         requires { self.old.closed ≡ false }
-        ensures stands { (f : Formula) (marks : List Mark) → StandsForWords f self.old marks → StandsForWords f self.new (marks ++ mark line deletes ∷ []) }
+        ensures stands { (f : Formula) (marks : List Mark) → StandsForWords f self.old marks
+            → StandsForWords f self.new (marks ++ mark line deletes ∷ []) }
         ensures limit { self.new.judge.propagator.limit ≡ self.old.judge.propagator.limit }
     {
         if self.has_begun() {
@@ -143,7 +149,8 @@ impl StepReader {
     fn push(&mut self, number: u32, line: u64)
         requires open { self.old.closed ≡ false }
         requires below { number < self.old.judge.propagator.limit }
-        ensures stands { (f : Formula) (marks : List Mark) → StandsForWords f self.old marks → StandsForWords f self.new (marks ++ mark line (literal number) ∷ []) }
+        ensures stands { (f : Formula) (marks : List Mark) → StandsForWords f self.old marks
+            → StandsForWords f self.new (marks ++ mark line (literal number) ∷ []) }
         ensures limit { self.new.judge.propagator.limit ≡ self.old.judge.propagator.limit }
     {
         let _ = line;
@@ -160,7 +167,8 @@ impl StepReader {
     pub(crate) fn take(&mut self, line: u64, token: Token)
         requires open { self.old.closed ≡ false }
         requires below { IsBelow self.old.judge.propagator.limit token }
-        ensures stands { (f : Formula) (marks : List Mark) → StandsForWords f self.old marks → StandsForWords f self.new (marks ++ mark line (token_said token) ∷ []) }
+        ensures stands { (f : Formula) (marks : List Mark) → StandsForWords f self.old marks
+            → StandsForWords f self.new (marks ++ mark line (token_said token) ∷ []) }
         ensures limit { self.new.judge.propagator.limit ≡ self.old.judge.propagator.limit }
     {
         match token {
@@ -173,7 +181,8 @@ impl StepReader {
 
     /// The words end in a line.
     fn close(&mut self, last: u64)
-        ensures read { (f : Formula) (marks : List Mark) → StandsForWords f self.old marks → HasRead f self.new (reading_from last false [] marks) }
+        ensures read { (f : Formula) (marks : List Mark) → StandsForWords f self.old marks
+            → HasRead f self.new (reading_from last false [] marks) }
         ensures failed { self.new.failed ≡ self.old.failed }
         ensures limit { self.new.judge.propagator.limit ≡ self.old.judge.propagator.limit }
     {
@@ -188,7 +197,8 @@ impl StepReader {
 
     /// The judgement of what was read.
     fn judgement(&self) -> Result<Judgement, ClauseFault>
-        ensures { (f : Formula) (reading : ProofReading) → HasRead f self.now reading → IfOk result (λ j. JudgesReading f reading j) }
+        ensures { (f : Formula) (reading : ProofReading) → HasRead f self.now reading
+            → IfOk result (λ j. JudgesReading f reading j) }
     {
         if self.failed {
             return Err(ClauseFault::NoMemory);
@@ -200,7 +210,10 @@ impl StepReader {
     ///
     /// Errors: `NoMemory` where a growth was refused.
     pub(crate) fn finish(&mut self, last: u64) -> Result<Judgement, ClauseFault>
-        ensures judges { (f : Formula) (marks : List Mark) (reading : ProofReading) → StandsForWords f self.old marks → (self.old.failed ≡ false → reading ≡ reading_from last false [] marks) → IfOk result (λ j. JudgesReading f reading j) }
+        ensures judges { (f : Formula) (marks : List Mark) (reading : ProofReading)
+            → StandsForWords f self.old marks → (self.old.failed ≡ false
+            → reading ≡ reading_from last false [] marks) → IfOk result (λ j. JudgesReading f
+            reading j) }
         ensures limit { self.new.judge.propagator.limit ≡ self.old.judge.propagator.limit }
     {
         self.close(last);

@@ -28,7 +28,9 @@ pub(crate) struct Swept {
 impl Swept {
     /// No clauses.
     fn new(alloc: Global, limit: usize) -> Result<Swept, ClauseFault>
-        ensures { IfOk result (λ s. (literals starts ends watched : List ℕ) (lists : List (List ℕ)) (trail : Marked) → KeepsPropagator literals starts ends watched lists trail → limit ≡ length trail.marks → IsSweptOf s [] trail) }
+        ensures { IfOk result (λ s. (literals starts ends watched : List ℕ) (lists : List (List ℕ))
+            (trail : Marked) → KeepsPropagator literals starts ends watched lists trail
+            → limit ≡ length trail.marks → IsSweptOf s [] trail) }
     {
         let lists = Lists::new(alloc, limit)?;
         Ok(Swept {
@@ -45,7 +47,11 @@ impl Swept {
     fn take(&mut self, clause: &[u32], first: u32, second: u32) -> Result<(), ClauseFault>
         requires first { 0 < length clause.now → first < length self.old.lists }
         requires second { 0 < length clause.now → second < length self.old.lists }
-        ensures { IfOk result (λ _. (clauses : List (List ℕ)) (trail : Marked) → IsSweptOf self.old clauses trail → (0 < length clause.now → CanWatch clause.now first second trail) → All (λ l. l < length trail.marks) clause.now → IsSweptOf self.new (clauses ++ standing (clause.now ∷ [])) trail) }
+        ensures { IfOk result (λ _. (clauses : List (List ℕ)) (trail : Marked)
+            → IsSweptOf self.old clauses trail
+            → (0 < length clause.now → CanWatch clause.now first second trail)
+            → All (λ l. l < length trail.marks) clause.now
+            → IsSweptOf self.new (clauses ++ standing (clause.now ∷ [])) trail) }
     {
         if clause.is_empty() {
             return Ok(());
@@ -78,7 +84,8 @@ pub(crate) fn without_dead(
     trail: &Trail,
 ) -> Result<Swept, ClauseFault>
     requires { KeepsPropagator literals.now starts.now ends.now watched.now lists.now trail.now }
-    ensures { IfOk result (λ s. IsSweptOf s (standing (cut literals.now starts.now ends.now)) trail.now) }
+    ensures { IfOk result
+        (λ s. IsSweptOf s (standing (cut literals.now starts.now ends.now)) trail.now) }
 {
     let _ = trail.len();
     let mut clauses = Swept::new(alloc, lists.limit())?;

@@ -75,7 +75,8 @@ impl TextJudge {
     /// Errors: `NoMemory` where a growth was refused.
     pub(crate) fn new(alloc: Global, variables: u32) -> Result<TextJudge, ClauseFault>
         requires { variables < 2147483647 }
-        ensures stands { IfOk result (λ judge. StandsForLines (record { variables = variables; clauses = [] }) judge []) }
+        ensures stands { IfOk result
+            (λ judge. StandsForLines (record { variables = variables; clauses = [] }) judge []) }
         ensures variables { IfOk result (λ judge. judge.variables ≡ variables) }
     {
         let reader = StepReader::new(alloc, variables)?;
@@ -91,7 +92,8 @@ impl TextJudge {
     /// Takes a clause of the formula, behind those before, and before any byte of the text.
     pub(crate) fn give(&mut self, clause: &[u32])
         requires { All (λ l. l < 2 * self.old.variables + 2) clause.now }
-        ensures stands { (f : FormulaValue) → StandsForLines f self.old [] → StandsForLines (record f { clauses = f.clauses ++ clause.now ∷ [] }) self.new [] }
+        ensures stands { (f : FormulaValue) → StandsForLines f self.old []
+            → StandsForLines (record f { clauses = f.clauses ++ clause.now ∷ [] }) self.new [] }
         ensures variables { self.new.variables ≡ self.old.variables }
     {
         self.reader.give(clause);
@@ -122,9 +124,14 @@ impl TextJudge {
     /// The word that has begun ends, where one has.
     fn end_word(&mut self)
         requires { self.old.reader.closed ≡ false }
-        ensures words { (f : FormulaValue) (marks : List Mark) (bytes : List ℕ) → SpellsWord self.old.word bytes → StandsForWords f self.old.reader marks → StandsForWords f self.new.reader (marks ++ word_marks self.old.variables self.old.line bytes) }
-        ensures word { (bytes : List ℕ) → SpellsWord self.old.word bytes → SpellsWord self.new.word [] }
-        ensures same { (self.new.variables ≡ self.old.variables) × (self.new.line ≡ self.old.line) × (self.new.place ≡ self.old.place) }
+        ensures words { (f : FormulaValue) (marks : List Mark) (bytes : List ℕ)
+            → SpellsWord self.old.word bytes → StandsForWords f self.old.reader marks
+            → StandsForWords f self.new.reader
+            (marks ++ word_marks self.old.variables self.old.line bytes) }
+        ensures word { (bytes : List ℕ) → SpellsWord self.old.word bytes
+            → SpellsWord self.new.word [] }
+        ensures same { (self.new.variables ≡ self.old.variables) × (self.new.line ≡ self.old.line)
+            × (self.new.place ≡ self.old.place) }
     {
         if self.word.is_empty() {
             return;
@@ -135,7 +142,8 @@ impl TextJudge {
 
     /// The line ends.
     fn end_line(&mut self)
-        ensures { self.new ≡ record self.old { line = min (self.old.line + 1) (2 ^ 64 - 1); place = place.Begins } }
+        ensures { self.new
+            ≡ record self.old { line = min (self.old.line + 1) (2 ^ 64 - 1); place = place.Begins } }
     {
         self.line = self.line.saturating_add(1);
         self.place = Place::Begins;
@@ -145,7 +153,8 @@ impl TextJudge {
     fn take_within(&mut self, byte: u8)
         requires open { self.old.reader.closed ≡ false }
         requires within { self.old.place ≡ place.Within }
-        ensures stands { (f : FormulaValue) (text : List ℕ) → StandsBefore f self.old text (byte ∷ []) → StandsThrough f self.new text }
+        ensures stands { (f : FormulaValue) (text : List ℕ)
+            → StandsBefore f self.old text (byte ∷ []) → StandsThrough f self.new text }
         ensures variables { self.new.variables ≡ self.old.variables }
     {
         if byte == b'\n' {
@@ -164,7 +173,8 @@ impl TextJudge {
     fn begin_line(&mut self, byte: u8)
         requires open { self.old.reader.closed ≡ false }
         requires begins { self.old.place ≡ place.Begins }
-        ensures stands { (f : FormulaValue) (text : List ℕ) → StandsBefore f self.old text (byte ∷ []) → StandsThrough f self.new text }
+        ensures stands { (f : FormulaValue) (text : List ℕ)
+            → StandsBefore f self.old text (byte ∷ []) → StandsThrough f self.new text }
         ensures variables { self.new.variables ≡ self.old.variables }
     {
         if is_too_many(self.line) {
@@ -183,7 +193,8 @@ impl TextJudge {
     fn pass(&mut self, byte: u8)
         requires open { self.old.reader.closed ≡ false }
         requires comment { self.old.place ≡ place.Comment }
-        ensures stands { (f : FormulaValue) (text : List ℕ) → StandsBefore f self.old text (byte ∷ []) → StandsThrough f self.new text }
+        ensures stands { (f : FormulaValue) (text : List ℕ)
+            → StandsBefore f self.old text (byte ∷ []) → StandsThrough f self.new text }
         ensures variables { self.new.variables ≡ self.old.variables }
     {
         if byte == b'\n' {
@@ -193,7 +204,8 @@ impl TextJudge {
 
     /// Takes a byte of the text behind those before.
     pub(crate) fn take(&mut self, byte: u8)
-        ensures stands { (f : FormulaValue) (text : List ℕ) → StandsForLines f self.old text → StandsForLines f self.new (text ++ byte ∷ []) }
+        ensures stands { (f : FormulaValue) (text : List ℕ) → StandsForLines f self.old text
+            → StandsForLines f self.new (text ++ byte ∷ []) }
         ensures variables { self.new.variables ≡ self.old.variables }
     {
         if self.is_closed() {
@@ -208,7 +220,8 @@ impl TextJudge {
 
     /// Takes bytes of the text behind those before.
     pub(crate) fn feed(&mut self, bytes: &[u8])
-        ensures { (f : FormulaValue) (text : List ℕ) → StandsForLines f self.old text → StandsForLines f self.new (text ++ bytes.now) }
+        ensures { (f : FormulaValue) (text : List ℕ) → StandsForLines f self.old text
+            → StandsForLines f self.new (text ++ bytes.now) }
     {
         for byte in bytes {
             self.take(*byte);
@@ -217,7 +230,8 @@ impl TextJudge {
 
     /// The text ends.
     fn end_text(&mut self)
-        ensures { (f : FormulaValue) (text : List ℕ) → StandsForLines f self.old text → EndsText f self.new text }
+        ensures { (f : FormulaValue) (text : List ℕ) → StandsForLines f self.old text
+            → EndsText f self.new text }
     {
         if self.is_closed() {
             return;
@@ -229,7 +243,8 @@ impl TextJudge {
     ///
     /// Errors: `NoMemory` where a growth was refused.
     pub(crate) fn judgement(&mut self) -> Result<Judgement, ClauseFault>
-        ensures { (f : FormulaValue) (text : List ℕ) → StandsForLines f self.old text → IfOk result (λ j. JudgesReading f (read_text_proof f.variables text) j) }
+        ensures { (f : FormulaValue) (text : List ℕ) → StandsForLines f self.old text
+            → IfOk result (λ j. JudgesReading f (read_text_proof f.variables text) j) }
     {
         self.end_text();
         self.reader.finish(self.line)
@@ -239,7 +254,9 @@ impl TextJudge {
     pub(crate) fn take_word(&mut self, step: u64, token: Token)
         requires open { self.old.reader.closed ≡ false }
         requires below { IsBelow (2 * self.old.variables + 2) token }
-        ensures words { (f : FormulaValue) (marks : List Mark) → StandsForWords f self.old.reader marks → StandsForWords f self.new.reader (marks ++ mark step (token_said token) ∷ []) }
+        ensures words { (f : FormulaValue) (marks : List Mark)
+            → StandsForWords f self.old.reader marks
+            → StandsForWords f self.new.reader (marks ++ mark step (token_said token) ∷ []) }
         ensures variables { self.new.variables ≡ self.old.variables }
     {
         self.reader.take(step, token);
@@ -248,7 +265,9 @@ impl TextJudge {
     /// A fault is met in a step of a proof in the binary form.
     pub(crate) fn refuse(&mut self, step: u64, why: Why)
         requires { self.old.reader.closed ≡ false }
-        ensures words { (f : FormulaValue) (marks : List Mark) → StandsForWords f self.old.reader marks → StandsForWords f self.new.reader (marks ++ mark step (faulty why) ∷ []) }
+        ensures words { (f : FormulaValue) (marks : List Mark)
+            → StandsForWords f self.old.reader marks
+            → StandsForWords f self.new.reader (marks ++ mark step (faulty why) ∷ []) }
         ensures closed { self.new.reader.closed ≡ true }
         ensures variables { self.new.variables ≡ self.old.variables }
     {
@@ -259,7 +278,10 @@ impl TextJudge {
     ///
     /// Errors: `NoMemory` where a growth was refused.
     pub(crate) fn judge_words(&mut self) -> Result<Judgement, ClauseFault>
-        ensures { (f : FormulaValue) (marks : List Mark) (reading : ProofReading) → StandsForWords f self.old.reader marks → (self.old.reader.failed ≡ false → reading ≡ reading_from 0 false [] marks) → IfOk result (λ j. JudgesReading f reading j) }
+        ensures { (f : FormulaValue) (marks : List Mark) (reading : ProofReading)
+            → StandsForWords f self.old.reader marks
+            → (self.old.reader.failed ≡ false → reading ≡ reading_from 0 false [] marks)
+            → IfOk result (λ j. JudgesReading f reading j) }
     {
         self.reader.finish(0)
     }

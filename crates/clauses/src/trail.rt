@@ -27,7 +27,8 @@ impl std::marker::Model for Trail {
 impl Trail {
     /// The empty set of literals below a limit.
     pub fn new(alloc: Global, limit: usize) -> Result<Trail, ClauseFault>
-        ensures { IfOk result (λ t. (length t.marks ≡ limit) × (t.order ≡ []) × ((l : ℕ) → set_of t l ≡ false)) }
+        ensures { IfOk result (λ t. (length t.marks ≡ limit) × (t.order ≡ [])
+            × ((l : ℕ) → set_of t l ≡ false)) }
     {
         let marks = vec![in alloc; false; limit]?;
         let literals = vec![in alloc; 0; limit]?;
@@ -70,7 +71,8 @@ impl Trail {
     pub fn push(&mut self, literal: u32)
         requires inside { literal < length self.old.marks }
         requires fresh { set_of self.old literal ≡ false }
-        ensures { self.new ≡ record { marks = slice_set self.old.marks literal true; order = self.old.order ++ literal ∷ [] } }
+        ensures { self.new
+            ≡ record { marks = slice_set self.old.marks literal true; order = self.old.order ++ literal ∷ [] } }
     {
         self.marks[literal as usize] = true;
         self.literals[self.count] = literal;

@@ -71,7 +71,9 @@ fn move_watch(
     requires there { place < length (list_at lists.old negated) }
     requires other { literal < length lists.old }
     requires differs { literal ≢ negated }
-    ensures { MatchResult result (λ _. Moved watched.old lists.old negated place literal watched.new lists.new) (λ _. (watched.new ≡ watched.old) × (lists.new ≡ lists.old)) }
+    ensures { MatchResult result
+        (λ _. Moved watched.old lists.old negated place literal watched.new lists.new)
+        (λ _. (watched.new ≡ watched.old) × (lists.new ≡ lists.old)) }
 {
     let watch = lists.at(negated, place);
     match lists.push(literal, watch) {
@@ -98,15 +100,19 @@ fn enter(
     requires inside { All (λ l. l < length trail.old.marks) literals.now }
     requires ends { AreStartsAndEnds (length literals.now) starts.now ends.now }
     requires consistent { IsConsistent trail.old }
-    requires watched { IsWatched (cut literals.now starts.now ends.now) watched.old lists.old (length trail.old.marks) }
+    requires watched { IsWatched (cut literals.now starts.now ends.now) watched.old lists.old
+        (length trail.old.marks) }
     requires negated { negated < length trail.old.marks }
     requires off { set_of trail.old (negation negated) ≡ true }
     requires there { place < length (list_at lists.old negated) }
     requires short { place < usize.MAX }
-    ensures watched { IsWatched (cut literals.now starts.now ends.now) watched.new lists.new (length trail.old.marks) }
+    ensures watched { IsWatched (cut literals.now starts.now ends.now) watched.new lists.new
+        (length trail.old.marks) }
     ensures stays { Stays watched.old watched.new trail.old }
     ensures grows { GrowsMarked (cut literals.now starts.now ends.now) trail.old trail.new }
-    ensures answer { IfOk result (λ next. Entered (cut literals.now starts.now ends.now) negated place watched.old lists.old trail.old watched.new lists.new trail.new next) }
+    ensures answer { IfOk result
+        (λ next. Entered (cut literals.now starts.now ends.now) negated place watched.old lists.old
+        trail.old watched.new lists.new trail.new next) }
 {
     let _ = trail.len();
     let watch = lists.at(negated, place);
@@ -143,13 +149,17 @@ fn walk(
     requires inside { All (λ l. l < length trail.old.marks) literals.now }
     requires ends { AreStartsAndEnds (length literals.now) starts.now ends.now }
     requires consistent { IsConsistent trail.old }
-    requires watched { IsWatched (cut literals.now starts.now ends.now) watched.old lists.old (length trail.old.marks) }
+    requires watched { IsWatched (cut literals.now starts.now ends.now) watched.old lists.old
+        (length trail.old.marks) }
     requires negated { negated < length trail.old.marks }
     requires off { set_of trail.old (negation negated) ≡ true }
-    ensures watched { IsWatched (cut literals.now starts.now ends.now) watched.new lists.new (length trail.old.marks) }
+    ensures watched { IsWatched (cut literals.now starts.now ends.now) watched.new lists.new
+        (length trail.old.marks) }
     ensures stays { Stays watched.old watched.new trail.old }
     ensures grows { GrowsMarked (cut literals.now starts.now ends.now) trail.old trail.new }
-    ensures answer { IfOk result (λ met. WalkedTo (cut literals.now starts.now ends.now) negated watched.old trail.old watched.new trail.new met) }
+    ensures answer { IfOk result
+        (λ met. WalkedTo (cut literals.now starts.now ends.now) negated watched.old trail.old
+        watched.new trail.new met) }
 {
     let mut place = 0;
     while place < lists.len_of(negated) {
@@ -180,11 +190,14 @@ pub(crate) fn propagate(
     requires inside { All (λ l. l < length trail.old.marks) literals.now }
     requires ends { AreStartsAndEnds (length literals.now) starts.now ends.now }
     requires consistent { IsConsistent trail.old }
-    requires watched { IsWatched (cut literals.now starts.now ends.now) watched.old lists.old (length trail.old.marks) }
-    ensures watched { IsWatched (cut literals.now starts.now ends.now) watched.new lists.new (length trail.old.marks) }
+    requires watched { IsWatched (cut literals.now starts.now ends.now) watched.old lists.old
+        (length trail.old.marks) }
+    ensures watched { IsWatched (cut literals.now starts.now ends.now) watched.new lists.new
+        (length trail.old.marks) }
     ensures stays { Stays watched.old watched.new trail.old }
     ensures grows { GrowsMarked (cut literals.now starts.now ends.now) trail.old trail.new }
-    ensures answer { IfOk result (λ met. Propagated (cut literals.now starts.now ends.now) watched.new trail.new met) }
+    ensures answer { IfOk result
+        (λ met. Propagated (cut literals.now starts.now ends.now) watched.new trail.new met) }
 {
     let mut head = from;
     while head < trail.len() {

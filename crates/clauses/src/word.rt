@@ -35,7 +35,8 @@ pub(crate) struct Word {
 /// The literal of a variable's number, whose negation it is where it has a minus.
 fn numbered(variables: u32, negative: bool, number: u64) -> Token
     requires { variables < 2147483647 }
-    ensures said { token_said result ≡ variable_numbered variables (sign_of negative) (Some number) }
+    ensures said { token_said result ≡ variable_numbered variables (sign_of negative)
+        (Some number) }
     ensures below { IsBelow (2 * variables + 2) result }
 {
     if number == 0 {
@@ -81,7 +82,8 @@ impl Word {
 
     /// The same with a byte behind it.
     pub(crate) fn with(self, byte: u8) -> Word
-        ensures { (bytes : List ℕ) → SpellsWord self bytes → SpellsWord result (bytes ++ byte ∷ []) }
+        ensures { (bytes : List ℕ) → SpellsWord self bytes
+            → SpellsWord result (bytes ++ byte ∷ []) }
     {
         if !self.is_empty() {
             return Word {
@@ -107,7 +109,8 @@ impl Word {
     /// What the word says over a formula of so many variables.
     pub(crate) fn token(self, variables: u32) -> Token
         requires { variables < 2147483647 }
-        ensures said { (bytes : List ℕ) → SpellsWord self bytes → token_said result ≡ token_of variables bytes }
+        ensures said { (bytes : List ℕ) → SpellsWord self bytes
+            → token_said result ≡ token_of variables bytes }
         ensures below { IsBelow (2 * variables + 2) result }
     {
         if self.is_end() {

@@ -231,7 +231,9 @@ fn names_standard_input(name: Option<&str>) -> bool
 
 /// Whether a command would read standard input twice.
 fn reads_input_twice(order: &Order<'_>) -> bool
-    ensures { result ≡ reads_input_twice order.now.first.now (option_map (λ name. name.now) order.now.second) (option_map (λ name. name.now) order.now.third) }
+    ensures { result ≡ reads_input_twice order.now.first.now
+        (option_map (λ name. name.now) order.now.second)
+        (option_map (λ name. name.now) order.now.third) }
 {
     let first = order.first == STANDARD_INPUT;
     let second = names_standard_input(order.second);
@@ -249,7 +251,9 @@ pub(crate) fn refused(alloc: Global, line: &str) -> Stop {
 
 /// The order that the words of a command give, or what stands in its place.
 fn order_or_stop<'a>(alloc: Global, word: &str, words: &ArgMatches<'a>) -> Result<Order<'a>, Stop>
-    ensures { IfOk result (λ order. reads_input_twice order.first.now (option_map (λ name. name.now) order.second) (option_map (λ name. name.now) order.third) ≡ false) }
+    ensures { IfOk result (λ order. reads_input_twice order.first.now
+        (option_map (λ name. name.now) order.second) (option_map (λ name. name.now) order.third)
+        ≡ false) }
 {
     if word == EXPLAIN {
         let sought = match words.get_strs(REFUSAL) {
@@ -330,7 +334,9 @@ pub fn given_words<R: Env + AllocGlobal>(rt: &R) -> Result<Vec<String>, Stop> {
 /// with 3 where there was no memory.
 pub fn order<'a, S: AsStr>(alloc: Global, words: &'a [S]) -> Result<Order<'a>, Stop>
     // standard input is read once
-    ensures { IfOk result (λ order. reads_input_twice order.first.now (option_map (λ name. name.now) order.second) (option_map (λ name. name.now) order.third) ≡ false) }
+    ensures { IfOk result (λ order. reads_input_twice order.first.now
+        (option_map (λ name. name.now) order.second) (option_map (λ name. name.now) order.third)
+        ≡ false) }
 {
     let Some(first) = words.first() else {
         return Ok(Order {

@@ -34,7 +34,8 @@ fn help(alloc: Global) -> Stop {
 
 /// Whether a command would write the binary form of a circuit to standard output.
 fn shows_binary(order: &Order<'_>) -> bool
-    ensures { result ≡ shows_binary order.now.form (option_map (λ name. name.now) order.now.output) }
+    ensures { result ≡ shows_binary order.now.form
+        (option_map (λ name. name.now) order.now.output) }
 {
     order.form == Form::Binary && order.output.is_none()
 }
@@ -50,9 +51,14 @@ pub fn order_at<'a, S: AsStr>(
     terminals: Terminals,
 ) -> Result<Order<'a>, Stop>
     // standard input is read once
-    ensures once { IfOk result (λ order. reads_input_twice order.first.now (option_map (λ name. name.now) order.second) (option_map (λ name. name.now) order.third) ≡ false) }
-    ensures binary { terminals.output ≡ true → IfOk result (λ order. shows_binary order.form (option_map (λ name. name.now) order.output) ≡ false) }
-    ensures progress { terminals.error ≡ false → IfOk result (λ order. order.tells_progress ≡ false) }
+    ensures once { IfOk result (λ order. reads_input_twice order.first.now
+        (option_map (λ name. name.now) order.second) (option_map (λ name. name.now) order.third)
+        ≡ false) }
+    ensures binary { terminals.output ≡ true
+        → IfOk result (λ order. shows_binary order.form (option_map (λ name. name.now) order.output)
+        ≡ false) }
+    ensures progress { terminals.error ≡ false
+        → IfOk result (λ order. order.tells_progress ≡ false) }
     ensures bare { terminals.input ≡ true → length words.now ≡ 0 → IfOk result (λ _. ⊥) }
 {
     if terminals.input && words.is_empty() {

@@ -296,11 +296,17 @@ pub fn open_output<'a, R: Files, S: Write + Drop>(
     name: Option<&str>,
     process: u32,
 ) -> Result<(Stream<ToWriter<S>, ToWriter<R::File>>, FileName<'a, R>), AllocError>
-    ensures standard { IfOk result (λ opened. is_standard opened.0 ≡ is_none (option_map (λ name. name.now) name.entry)) }
-    ensures bytes { IfOk result (λ opened. is_standard opened.0 ≡ true → ⟦<Stream<ToWriter<S>, ToWriter<R::File>> as Sink>⟧.written opened.0 ≡ S.contents standard) }
-    ensures failures { IfOk result (λ opened. ⟦<Stream<ToWriter<S>, ToWriter<R::File>> as Sink>⟧.failures opened.0 ≡ 0) }
-    ensures given { IfOk result (λ opened. ⟦<FileName<'a, R> as ResultName>⟧.is_given opened.1 ≡ false) }
-    ensures name_failures { IfOk result (λ opened. ⟦<FileName<'a, R> as ResultName>⟧.failures opened.1 ≡ 0) }
+    ensures standard { IfOk result (λ opened. is_standard opened.0
+        ≡ is_none (option_map (λ name. name.now) name.entry)) }
+    ensures bytes { IfOk result (λ opened. is_standard opened.0 ≡ true
+        → ⟦<Stream<ToWriter<S>, ToWriter<R::File>> as Sink>⟧.written opened.0
+        ≡ S.contents standard) }
+    ensures failures { IfOk result
+        (λ opened. ⟦<Stream<ToWriter<S>, ToWriter<R::File>> as Sink>⟧.failures opened.0 ≡ 0) }
+    ensures given { IfOk result (λ opened. ⟦<FileName<'a, R> as ResultName>⟧.is_given opened.1
+        ≡ false) }
+    ensures name_failures { IfOk result
+        (λ opened. ⟦<FileName<'a, R> as ResultName>⟧.failures opened.1 ≡ 0) }
 {
     let Some(name) = name else {
         let out = Stream::Standard(ToWriter::new(standard));

@@ -31,11 +31,15 @@ pub(crate) fn lift_counterexample<B: Source, O: Sink, E: Sink, W: Watch>(
     err: &mut E,
     watch: &mut W,
 ) -> Result<Answer, Refusal>
-    ensures done { (known : Option (List ℕ)) → IsModelOf known model.now → IfOk result (LiftsFound named choice known (B.to_come second.old) (O.written out.old) (O.written out.new) (E.written err.old) (E.written err.new)) }
-    ensures refused { (known : Option (List ℕ)) → IsModelOf known model.now → IfErr result (IfInput (IsNotClaimed claimed_is.Found given_is.Model choice known)) }
+    ensures done { (known : Option (List ℕ)) → IsModelOf known model.now
+        → IfOk result (LiftsFound named choice known (B.to_come second.old) (O.written out.old)
+        (O.written out.new) (E.written err.old) (E.written err.new)) }
+    ensures refused { (known : Option (List ℕ)) → IsModelOf known model.now
+        → IfErr result (IfInput (IsNotClaimed claimed_is.Found given_is.Model choice known)) }
     ensures unwritten { IfErr result (IfInput (λ _. out.new ≡ out.old)) }
     ensures untold { ErrUntold result (err.new ≡ err.old) }
-    ensures counted { (f : ℕ) → Counts result f f (B.failures second.old) (B.failures second.new) (O.failures out.old) (O.failures out.new) (E.failures err.old) (E.failures err.new) }
+    ensures counted { (f : ℕ) → Counts result f f (B.failures second.old) (B.failures second.new)
+        (O.failures out.old) (O.failures out.new) (E.failures err.old) (E.failures err.new) }
 {
     // a model's items are well-formed
     let _ = model.items();
@@ -56,11 +60,15 @@ fn lift_over_circuit<B: Source, O: Sink, E: Sink>(
 ) -> Result<Answer, Refusal>
     requires accepted { lowering_refusal model.now ≡ None }
     requires lowers { Lowers model.now circuit.now }
-    ensures done { (known : Option (List ℕ)) → IsModelOf known model.now → IfOk result (LiftsFound named choice known (B.to_come second.old) (O.written out.old) (O.written out.new) (E.written err.old) (E.written err.new)) }
-    ensures refused { (known : Option (List ℕ)) → IsModelOf known model.now → IfErr result (IfInput (IsNotClaimed claimed_is.Found given_is.Model choice known)) }
+    ensures done { (known : Option (List ℕ)) → IsModelOf known model.now
+        → IfOk result (LiftsFound named choice known (B.to_come second.old) (O.written out.old)
+        (O.written out.new) (E.written err.old) (E.written err.new)) }
+    ensures refused { (known : Option (List ℕ)) → IsModelOf known model.now
+        → IfErr result (IfInput (IsNotClaimed claimed_is.Found given_is.Model choice known)) }
     ensures unwritten { IfErr result (IfInput (λ _. out.new ≡ out.old)) }
     ensures untold { ErrUntold result (err.new ≡ err.old) }
-    ensures counted { (f : ℕ) → Counts result f f (B.failures second.old) (B.failures second.new) (O.failures out.old) (O.failures out.new) (E.failures err.old) (E.failures err.new) }
+    ensures counted { (f : ℕ) → Counts result f f (B.failures second.old) (B.failures second.new)
+        (O.failures out.old) (O.failures out.new) (E.failures err.old) (E.failures err.new) }
 {
     lift::laws::lifting_keeps_the_verdict();
     lift::laws::names_keep_the_verdict();

@@ -33,11 +33,15 @@ pub(crate) fn lift_form_witness<B: Source, O: Sink, E: Sink, W: Watch>(
     err: &mut E,
     watch: &mut W,
 ) -> Result<Answer, Refusal>
-    ensures done { (known : Option (List ℕ)) → IsModelOf known model.now → IfOk result (Judged (IsFormLifted named choice known (B.to_come second.old) (O.written out.old) (O.written out.new) (E.written err.old) (E.written err.new))) }
-    ensures refused { (known : Option (List ℕ)) → IsModelOf known model.now → IfErr result (IfInput (IsNotForEngines given_is.Model choice known)) }
+    ensures done { (known : Option (List ℕ)) → IsModelOf known model.now
+        → IfOk result (Judged (IsFormLifted named choice known (B.to_come second.old)
+        (O.written out.old) (O.written out.new) (E.written err.old) (E.written err.new))) }
+    ensures refused { (known : Option (List ℕ)) → IsModelOf known model.now
+        → IfErr result (IfInput (IsNotForEngines given_is.Model choice known)) }
     ensures unwritten { IfErr result (IfInput (λ _. out.new ≡ out.old)) }
     ensures untold { ErrUntold result (err.new ≡ err.old) }
-    ensures counted { (f : ℕ) → Counts result f f (B.failures second.old) (B.failures second.new) (O.failures out.old) (O.failures out.new) (E.failures err.old) (E.failures err.new) }
+    ensures counted { (f : ℕ) → Counts result f f (B.failures second.old) (B.failures second.new)
+        (O.failures out.old) (O.failures out.new) (E.failures err.old) (E.failures err.new) }
 {
     // a model's items are well-formed
     let _ = model.items();
@@ -58,11 +62,15 @@ fn lift_over_circuit<B: Source, O: Sink, E: Sink>(
 ) -> Result<Answer, Refusal>
     requires accepted { lowering_refusal model.now ≡ None }
     requires lowers { Lowers model.now circuit.now }
-    ensures done { (known : Option (List ℕ)) → IsModelOf known model.now → IfOk result (Judged (IsFormLifted named choice known (B.to_come second.old) (O.written out.old) (O.written out.new) (E.written err.old) (E.written err.new))) }
-    ensures refused { (known : Option (List ℕ)) → IsModelOf known model.now → IfErr result (IfInput (IsNotForEngines given_is.Model choice known)) }
+    ensures done { (known : Option (List ℕ)) → IsModelOf known model.now
+        → IfOk result (Judged (IsFormLifted named choice known (B.to_come second.old)
+        (O.written out.old) (O.written out.new) (E.written err.old) (E.written err.new))) }
+    ensures refused { (known : Option (List ℕ)) → IsModelOf known model.now
+        → IfErr result (IfInput (IsNotForEngines given_is.Model choice known)) }
     ensures unwritten { IfErr result (IfInput (λ _. out.new ≡ out.old)) }
     ensures untold { ErrUntold result (err.new ≡ err.old) }
-    ensures counted { (f : ℕ) → Counts result f f (B.failures second.old) (B.failures second.new) (O.failures out.old) (O.failures out.new) (E.failures err.old) (E.failures err.new) }
+    ensures counted { (f : ℕ) → Counts result f f (B.failures second.old) (B.failures second.new)
+        (O.failures out.old) (O.failures out.new) (E.failures err.old) (E.failures err.new) }
 {
     let form = engine_form(alloc, circuit, choice)?;
     lift_through_form(
@@ -84,10 +92,13 @@ fn lift_through_form<B: Source, O: Sink, E: Sink>(
 ) -> Result<Answer, Refusal>
     requires lowers { Lowers model.now circuit.now }
     requires is_form { IsEngineFormOf circuit.now choice form.now }
-    ensures done { (known : Option (List ℕ)) → IsModelOf known model.now → IfOk result (Judged (IsFormLifted named choice known (B.to_come second.old) (O.written out.old) (O.written out.new) (E.written err.old) (E.written err.new))) }
+    ensures done { (known : Option (List ℕ)) → IsModelOf known model.now
+        → IfOk result (Judged (IsFormLifted named choice known (B.to_come second.old)
+        (O.written out.old) (O.written out.new) (E.written err.old) (E.written err.new))) }
     ensures no_input { IsOfNoInput result }
     ensures untold { ErrUntold result (err.new ≡ err.old) }
-    ensures counted { (f : ℕ) → Counts result f f (B.failures second.old) (B.failures second.new) (O.failures out.old) (O.failures out.new) (E.failures err.old) (E.failures err.new) }
+    ensures counted { (f : ℕ) → Counts result f f (B.failures second.old) (B.failures second.new)
+        (O.failures out.old) (O.failures out.new) (E.failures err.old) (E.failures err.new) }
 {
     let told = lift_form_with_rises(alloc, model, circuit, form, choice, named, second, out);
     tell_lifted(alloc, told, named, Subject::Lowered(model, circuit), err)

@@ -28,21 +28,46 @@ pub fn run_to_file<A: Source, B: Source, T: Source, O: Sink, N: ResultName, E: S
     err: &mut E,
     watch: &mut W,
 ) -> u8
-    ensures done { result ≡ 0 → Answers order.now.named order.now.task order.now.form answer.Done (A.to_come first.old) (B.to_come second.old) (T.to_come third.old) (O.written out.old) (O.written out.new) (E.written err.old) (E.written err.new) }
-    ensures not_accepted { result ≡ 1 → Answers order.now.named order.now.task order.now.form answer.NotAccepted (A.to_come first.old) (B.to_come second.old) (T.to_come third.old) (O.written out.old) (O.written out.new) (E.written err.old) (E.written err.new) }
+    ensures done { result ≡ 0 → Answers order.now.named order.now.task order.now.form answer.Done
+        (A.to_come first.old) (B.to_come second.old) (T.to_come third.old) (O.written out.old)
+        (O.written out.new) (E.written err.old) (E.written err.new) }
+    ensures not_accepted { result ≡ 1
+        → Answers order.now.named order.now.task order.now.form answer.NotAccepted
+        (A.to_come first.old) (B.to_come second.old) (T.to_come third.old) (O.written out.old)
+        (O.written out.new) (E.written err.old) (E.written err.new) }
     // the name is given to a result that is done, and to no other
     ensures named { result ≤ 1 → N.is_given name.new ≡ true }
     ensures unnamed { ¬ (result ≤ 1) → N.is_given name.new ≡ N.is_given name.old }
-    ensures refused { result ≡ 2 → IsRefused order.now.task order.now.first.now (option_map (λ name. name.now) order.now.second) (A.to_come first.old) (B.to_come second.old) (E.written err.old) (E.written err.new) }
-    ensures left_open { result ≡ 4 → IsLeftOpen order.now.task order.now.first.now (A.to_come first.old) (E.written err.old) (E.written err.new) }
+    ensures refused { result ≡ 2 → IsRefused order.now.task order.now.first.now
+        (option_map (λ name. name.now) order.now.second) (A.to_come first.old)
+        (B.to_come second.old) (E.written err.old) (E.written err.new) }
+    ensures left_open { result ≡ 4
+        → IsLeftOpen order.now.task order.now.first.now (A.to_come first.old) (E.written err.old)
+        (E.written err.new) }
     ensures unwritten { result ≡ 2 → out.new ≡ out.old }
     ensures unwritten_words { result ≡ 4 → out.new ≡ out.old }
-    ensures failed { result ≡ 3 → HasFailed order.now.first.now (option_map (λ name. name.now) order.now.second) (option_map (λ name. name.now) order.now.third) (option_map (λ name. name.now) order.now.output) (E.written err.old) (E.written err.new) (A.failures first.old) (A.failures first.new) (B.failures second.old) (B.failures second.new) (T.failures third.old) (T.failures third.new) (O.failures out.old) (O.failures out.new) (E.failures err.old) (E.failures err.new)
-        ⊎ IsUnnamed (Answers order.now.named order.now.task order.now.form) (A.to_come first.old) (B.to_come second.old) (T.to_come third.old) (O.written out.old) (O.written out.new) (option_map (λ name. name.now) order.now.output) (E.written err.old) (E.written err.new) (A.failures first.old) (A.failures first.new) (B.failures second.old) (B.failures second.new) (T.failures third.old) (T.failures third.new) (O.failures out.old) (O.failures out.new) (E.failures err.old) (E.failures err.new) (N.failures name.old) (N.failures name.new) }
+    ensures failed { result ≡ 3
+        → HasFailed order.now.first.now (option_map (λ name. name.now) order.now.second)
+        (option_map (λ name. name.now) order.now.third)
+        (option_map (λ name. name.now) order.now.output) (E.written err.old) (E.written err.new)
+        (A.failures first.old) (A.failures first.new) (B.failures second.old)
+        (B.failures second.new) (T.failures third.old) (T.failures third.new) (O.failures out.old)
+        (O.failures out.new) (E.failures err.old) (E.failures err.new)
+        ⊎ IsUnnamed (Answers order.now.named order.now.task order.now.form) (A.to_come first.old)
+        (B.to_come second.old) (T.to_come third.old) (O.written out.old) (O.written out.new)
+        (option_map (λ name. name.now) order.now.output) (E.written err.old) (E.written err.new)
+        (A.failures first.old) (A.failures first.new) (B.failures second.old)
+        (B.failures second.new) (T.failures third.old) (T.failures third.new) (O.failures out.old)
+        (O.failures out.new) (E.failures err.old) (E.failures err.new) (N.failures name.old)
+        (N.failures name.new) }
     // with any other status nothing failed
-    ensures unfailed { result ≢ 3 → (A.failures first.new ≡ A.failures first.old) × (B.failures second.new ≡ B.failures second.old) × (T.failures third.new ≡ T.failures third.old) × (O.failures out.new ≡ O.failures out.old) × (E.failures err.new ≡ E.failures err.old) }
+    ensures unfailed { result ≢ 3 → (A.failures first.new ≡ A.failures first.old)
+        × (B.failures second.new ≡ B.failures second.old)
+        × (T.failures third.new ≡ T.failures third.old) × (O.failures out.new ≡ O.failures out.old)
+        × (E.failures err.new ≡ E.failures err.old) }
     ensures name_unfailed { result ≢ 3 → N.failures name.new ≡ N.failures name.old }
-    ensures quiet { result ≤ 1 → is_quiet order.now.named order.now.task ≡ true → err.new ≡ err.old }
+    ensures quiet { result ≤ 1 → is_quiet order.now.named order.now.task ≡ true
+        → err.new ≡ err.old }
     ensures one_file { has_one_file order.now.task ≡ true → second.new ≡ second.old }
     ensures no_third { has_three_files order.now.task ≡ false → third.new ≡ third.old }
     ensures statuses { result ≤ 4 }

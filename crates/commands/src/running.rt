@@ -63,18 +63,37 @@ pub fn run<A: Source, B: Source, T: Source, O: Sink, E: Sink, W: Watch>(
     err: &mut E,
     watch: &mut W,
 ) -> u8
-    ensures done { result ≡ 0 → Answers order.now.named order.now.task order.now.form answer.Done (A.to_come first.old) (B.to_come second.old) (T.to_come third.old) (O.written out.old) (O.written out.new) (E.written err.old) (E.written err.new) }
-    ensures not_accepted { result ≡ 1 → Answers order.now.named order.now.task order.now.form answer.NotAccepted (A.to_come first.old) (B.to_come second.old) (T.to_come third.old) (O.written out.old) (O.written out.new) (E.written err.old) (E.written err.new) }
-    ensures refused { result ≡ 2 → IsRefused order.now.task order.now.first.now (option_map (λ name. name.now) order.now.second) (A.to_come first.old) (B.to_come second.old) (E.written err.old) (E.written err.new) }
-    ensures left_open { result ≡ 4 → IsLeftOpen order.now.task order.now.first.now (A.to_come first.old) (E.written err.old) (E.written err.new) }
+    ensures done { result ≡ 0 → Answers order.now.named order.now.task order.now.form answer.Done
+        (A.to_come first.old) (B.to_come second.old) (T.to_come third.old) (O.written out.old)
+        (O.written out.new) (E.written err.old) (E.written err.new) }
+    ensures not_accepted { result ≡ 1
+        → Answers order.now.named order.now.task order.now.form answer.NotAccepted
+        (A.to_come first.old) (B.to_come second.old) (T.to_come third.old) (O.written out.old)
+        (O.written out.new) (E.written err.old) (E.written err.new) }
+    ensures refused { result ≡ 2 → IsRefused order.now.task order.now.first.now
+        (option_map (λ name. name.now) order.now.second) (A.to_come first.old)
+        (B.to_come second.old) (E.written err.old) (E.written err.new) }
+    ensures left_open { result ≡ 4
+        → IsLeftOpen order.now.task order.now.first.now (A.to_come first.old) (E.written err.old)
+        (E.written err.new) }
     // nothing is written of an input that is refused, and nothing where the words are
     ensures unwritten { result ≡ 2 → out.new ≡ out.old }
     ensures unwritten_words { result ≡ 4 → out.new ≡ out.old }
-    ensures failed { result ≡ 3 → HasFailed order.now.first.now (option_map (λ name. name.now) order.now.second) (option_map (λ name. name.now) order.now.third) (option_map (λ name. name.now) order.now.output) (E.written err.old) (E.written err.new) (A.failures first.old) (A.failures first.new) (B.failures second.old) (B.failures second.new) (T.failures third.old) (T.failures third.new) (O.failures out.old) (O.failures out.new) (E.failures err.old) (E.failures err.new) }
+    ensures failed { result ≡ 3
+        → HasFailed order.now.first.now (option_map (λ name. name.now) order.now.second)
+        (option_map (λ name. name.now) order.now.third)
+        (option_map (λ name. name.now) order.now.output) (E.written err.old) (E.written err.new)
+        (A.failures first.old) (A.failures first.new) (B.failures second.old)
+        (B.failures second.new) (T.failures third.old) (T.failures third.new) (O.failures out.old)
+        (O.failures out.new) (E.failures err.old) (E.failures err.new) }
     // with any other status nothing failed
-    ensures unfailed { result ≢ 3 → (A.failures first.new ≡ A.failures first.old) × (B.failures second.new ≡ B.failures second.old) × (T.failures third.new ≡ T.failures third.old) × (O.failures out.new ≡ O.failures out.old) × (E.failures err.new ≡ E.failures err.old) }
+    ensures unfailed { result ≢ 3 → (A.failures first.new ≡ A.failures first.old)
+        × (B.failures second.new ≡ B.failures second.old)
+        × (T.failures third.new ≡ T.failures third.old) × (O.failures out.new ≡ O.failures out.old)
+        × (E.failures err.new ≡ E.failures err.old) }
     // a command that is done tells nothing, but for `lift`, `restore` and `wave`, and those with names
-    ensures quiet { result ≤ 1 → is_quiet order.now.named order.now.task ≡ true → err.new ≡ err.old }
+    ensures quiet { result ≤ 1 → is_quiet order.now.named order.now.task ≡ true
+        → err.new ≡ err.old }
     ensures one_file { has_one_file order.now.task ≡ true → second.new ≡ second.old }
     ensures no_third { has_three_files order.now.task ≡ false → third.new ≡ third.old }
     ensures statuses { result ≤ 4 }
@@ -120,13 +139,20 @@ fn obey<A: Source, B: Source, T: Source, O: Sink, E: Sink, W: Watch>(
     err: &mut E,
     watch: &mut W,
 ) -> Result<Answer, Refusal>
-    ensures done { IfOk result (λ answer. Answers order.now.named order.now.task order.now.form answer (A.to_come first.old) (B.to_come second.old) (T.to_come third.old) (O.written out.old) (O.written out.new) (E.written err.old) (E.written err.new)) }
+    ensures done { IfOk result
+        (λ answer. Answers order.now.named order.now.task order.now.form answer
+        (A.to_come first.old) (B.to_come second.old) (T.to_come third.old) (O.written out.old)
+        (O.written out.new) (E.written err.old) (E.written err.new)) }
     ensures refused { IfErr result (IfInput (RefusesTask order.now.task (A.to_come first.old))) }
-    ensures refused_second { IfErr result (IfSecond (RefusesSecond order.now.task (A.to_come first.old) (B.to_come second.old))) }
+    ensures refused_second { IfErr result
+        (IfSecond (RefusesSecond order.now.task (A.to_come first.old) (B.to_come second.old))) }
     ensures unwritten { IfErr result (IfInput (λ _. out.new ≡ out.old)) }
     ensures unwritten_second { IfErr result (IfSecond (λ _. out.new ≡ out.old)) }
     ensures untold { ErrUntold result (err.new ≡ err.old) }
-    ensures counted { CountsAll result (A.failures first.old) (A.failures first.new) (B.failures second.old) (B.failures second.new) (T.failures third.old) (T.failures third.new) (O.failures out.old) (O.failures out.new) (E.failures err.old) (E.failures err.new) }
+    ensures counted { CountsAll result (A.failures first.old) (A.failures first.new)
+        (B.failures second.old) (B.failures second.new) (T.failures third.old)
+        (T.failures third.new) (O.failures out.old) (O.failures out.new) (E.failures err.old)
+        (E.failures err.new) }
     ensures quiet { is_quiet order.now.named order.now.task ≡ true → err.new ≡ err.old }
     ensures one_file { has_one_file order.now.task ≡ true → second.new ≡ second.old }
     ensures no_third { has_three_files order.now.task ≡ false → third.new ≡ third.old }
@@ -154,13 +180,22 @@ fn obey_on_certificate<A: Source, B: Source, T: Source, O: Sink, E: Sink, W: Wat
     err: &mut E,
     watch: &mut W,
 ) -> Result<Answer, Refusal>
-    ensures done { IfOk result (λ answer. Answers order.now.named (task_is.Certificate task) order.now.form answer (A.to_come first.old) (B.to_come second.old) (T.to_come third.old) (O.written out.old) (O.written out.new) (E.written err.old) (E.written err.new)) }
-    ensures refused { IfErr result (IfInput (RefusesTask (task_is.Certificate task) (A.to_come first.old))) }
-    ensures refused_second { IfErr result (IfSecond (RefusesSecond (task_is.Certificate task) (A.to_come first.old) (B.to_come second.old))) }
+    ensures done { IfOk result
+        (λ answer. Answers order.now.named (task_is.Certificate task) order.now.form answer
+        (A.to_come first.old) (B.to_come second.old) (T.to_come third.old) (O.written out.old)
+        (O.written out.new) (E.written err.old) (E.written err.new)) }
+    ensures refused { IfErr result
+        (IfInput (RefusesTask (task_is.Certificate task) (A.to_come first.old))) }
+    ensures refused_second { IfErr result
+        (IfSecond (RefusesSecond (task_is.Certificate task) (A.to_come first.old)
+        (B.to_come second.old))) }
     ensures unwritten { IfErr result (IfInput (λ _. out.new ≡ out.old)) }
     ensures unwritten_second { IfErr result (IfSecond (λ _. out.new ≡ out.old)) }
     ensures untold { ErrUntold result (err.new ≡ err.old) }
-    ensures counted { CountsAll result (A.failures first.old) (A.failures first.new) (B.failures second.old) (B.failures second.new) (T.failures third.old) (T.failures third.new) (O.failures out.old) (O.failures out.new) (E.failures err.old) (E.failures err.new) }
+    ensures counted { CountsAll result (A.failures first.old) (A.failures first.new)
+        (B.failures second.old) (B.failures second.new) (T.failures third.old)
+        (T.failures third.new) (O.failures out.old) (O.failures out.new) (E.failures err.old)
+        (E.failures err.new) }
     ensures quiet { is_quiet order.now.named (task_is.Certificate task) ≡ true → err.new ≡ err.old }
     ensures no_third { has_three_files (task_is.Certificate task) ≡ false → third.new ≡ third.old }
 {
@@ -194,10 +229,14 @@ fn obey_on_text<A: Source, O: Sink, W: Watch>(
     out: &mut O,
     watch: &mut W,
 ) -> Result<Answer, Refusal>
-    ensures done { (second third told : Option (List ℕ)) → IfOk result (λ answer. Answers order.now.named (task_is.Text task) order.now.form answer (A.to_come first.old) second third (O.written out.old) (O.written out.new) told told) }
-    ensures refused { IfErr result (IfInput (RefusesTask (task_is.Text task) (A.to_come first.old))) }
+    ensures done { (second third told : Option (List ℕ))
+        → IfOk result (λ answer. Answers order.now.named (task_is.Text task) order.now.form answer
+        (A.to_come first.old) second third (O.written out.old) (O.written out.new) told told) }
+    ensures refused { IfErr result
+        (IfInput (RefusesTask (task_is.Text task) (A.to_come first.old))) }
     ensures unwritten { IfErr result (IfInput (λ _. out.new ≡ out.old)) }
-    ensures counted { (s e : ℕ) → Counts result (A.failures first.old) (A.failures first.new) s s (O.failures out.old) (O.failures out.new) e e }
+    ensures counted { (s e : ℕ) → Counts result (A.failures first.old) (A.failures first.new) s s
+        (O.failures out.old) (O.failures out.new) e e }
 {
     match task {
         TextTask::Lower => lower_model(alloc, order.form, first, out, watch),
@@ -217,11 +256,17 @@ fn obey_on_model<A: Source, B: Source, O: Sink, E: Sink, W: Watch>(
     err: &mut E,
     watch: &mut W,
 ) -> Result<Answer, Refusal>
-    ensures done { (third : Option (List ℕ)) → IfOk result (λ answer. Answers order.now.named (task_is.Model task) order.now.form answer (A.to_come first.old) (B.to_come second.old) third (O.written out.old) (O.written out.new) (E.written err.old) (E.written err.new)) }
-    ensures refused { IfErr result (IfInput (RefusesTask (task_is.Model task) (A.to_come first.old))) }
+    ensures done { (third : Option (List ℕ))
+        → IfOk result (λ answer. Answers order.now.named (task_is.Model task) order.now.form answer
+        (A.to_come first.old) (B.to_come second.old) third (O.written out.old) (O.written out.new)
+        (E.written err.old) (E.written err.new)) }
+    ensures refused { IfErr result
+        (IfInput (RefusesTask (task_is.Model task) (A.to_come first.old))) }
     ensures unwritten { IfErr result (IfInput (λ _. out.new ≡ out.old)) }
     ensures untold { ErrUntold result (err.new ≡ err.old) }
-    ensures counted { Counts result (A.failures first.old) (A.failures first.new) (B.failures second.old) (B.failures second.new) (O.failures out.old) (O.failures out.new) (E.failures err.old) (E.failures err.new) }
+    ensures counted { Counts result (A.failures first.old) (A.failures first.new)
+        (B.failures second.old) (B.failures second.new) (O.failures out.old) (O.failures out.new)
+        (E.failures err.old) (E.failures err.new) }
     ensures quiet { is_quiet order.now.named (task_is.Model task) ≡ true → err.new ≡ err.old }
     ensures one_file { has_one_file (task_is.Model task) ≡ true → second.new ≡ second.old }
 {
@@ -241,11 +286,16 @@ fn do_on_model<B: Source, O: Sink, E: Sink, W: Watch>(
     err: &mut E,
     watch: &mut W,
 ) -> Result<Answer, Refusal>
-    ensures done { (known third : Option (List ℕ)) → IsModelOf known model.now → IfOk result (λ answer. Answers order.now.named (task_is.Model task) order.now.form answer known (B.to_come second.old) third (O.written out.old) (O.written out.new) (E.written err.old) (E.written err.new)) }
-    ensures refused { (known : Option (List ℕ)) → IsModelOf known model.now → IfErr result (IfInput (RefusesTask (task_is.Model task) known)) }
+    ensures done { (known third : Option (List ℕ)) → IsModelOf known model.now
+        → IfOk result (λ answer. Answers order.now.named (task_is.Model task) order.now.form answer
+        known (B.to_come second.old) third (O.written out.old) (O.written out.new)
+        (E.written err.old) (E.written err.new)) }
+    ensures refused { (known : Option (List ℕ)) → IsModelOf known model.now
+        → IfErr result (IfInput (RefusesTask (task_is.Model task) known)) }
     ensures unwritten { IfErr result (IfInput (λ _. out.new ≡ out.old)) }
     ensures untold { ErrUntold result (err.new ≡ err.old) }
-    ensures counted { (f : ℕ) → Counts result f f (B.failures second.old) (B.failures second.new) (O.failures out.old) (O.failures out.new) (E.failures err.old) (E.failures err.new) }
+    ensures counted { (f : ℕ) → Counts result f f (B.failures second.old) (B.failures second.new)
+        (O.failures out.old) (O.failures out.new) (E.failures err.old) (E.failures err.new) }
     ensures quiet { is_quiet order.now.named (task_is.Model task) ≡ true → err.new ≡ err.old }
     ensures one_file { has_one_file (task_is.Model task) ≡ true → second.new ≡ second.old }
 {
@@ -278,11 +328,17 @@ fn obey_on_circuit<A: Source, B: Source, O: Sink, E: Sink>(
     out: &mut O,
     err: &mut E,
 ) -> Result<Answer, Refusal>
-    ensures done { (third : Option (List ℕ)) → IfOk result (λ answer. Answers order.now.named (task_is.Circuit task) order.now.form answer (A.to_come first.old) (B.to_come second.old) third (O.written out.old) (O.written out.new) (E.written err.old) (E.written err.new)) }
-    ensures refused { IfErr result (IfInput (RefusesTask (task_is.Circuit task) (A.to_come first.old))) }
+    ensures done { (third : Option (List ℕ))
+        → IfOk result (λ answer. Answers order.now.named (task_is.Circuit task) order.now.form
+        answer (A.to_come first.old) (B.to_come second.old) third (O.written out.old)
+        (O.written out.new) (E.written err.old) (E.written err.new)) }
+    ensures refused { IfErr result
+        (IfInput (RefusesTask (task_is.Circuit task) (A.to_come first.old))) }
     ensures unwritten { IfErr result (IfInput (λ _. out.new ≡ out.old)) }
     ensures untold { ErrUntold result (err.new ≡ err.old) }
-    ensures counted { Counts result (A.failures first.old) (A.failures first.new) (B.failures second.old) (B.failures second.new) (O.failures out.old) (O.failures out.new) (E.failures err.old) (E.failures err.new) }
+    ensures counted { Counts result (A.failures first.old) (A.failures first.new)
+        (B.failures second.old) (B.failures second.new) (O.failures out.old) (O.failures out.new)
+        (E.failures err.old) (E.failures err.new) }
     ensures quiet { is_quiet order.now.named (task_is.Circuit task) ≡ true → err.new ≡ err.old }
     ensures one_file { has_one_file (task_is.Circuit task) ≡ true → second.new ≡ second.old }
 {
@@ -301,11 +357,16 @@ fn do_on_circuit<B: Source, O: Sink, E: Sink>(
     out: &mut O,
     err: &mut E,
 ) -> Result<Answer, Refusal>
-    ensures done { (known third : Option (List ℕ)) → IsCircuitText known circuit.now → IfOk result (λ answer. Answers order.now.named (task_is.Circuit task) order.now.form answer known (B.to_come second.old) third (O.written out.old) (O.written out.new) (E.written err.old) (E.written err.new)) }
-    ensures refused { (known : Option (List ℕ)) → IsCircuitText known circuit.now → IfErr result (IfInput (RefusesTask (task_is.Circuit task) known)) }
+    ensures done { (known third : Option (List ℕ)) → IsCircuitText known circuit.now
+        → IfOk result (λ answer. Answers order.now.named (task_is.Circuit task) order.now.form
+        answer known (B.to_come second.old) third (O.written out.old) (O.written out.new)
+        (E.written err.old) (E.written err.new)) }
+    ensures refused { (known : Option (List ℕ)) → IsCircuitText known circuit.now
+        → IfErr result (IfInput (RefusesTask (task_is.Circuit task) known)) }
     ensures unwritten { IfErr result (IfInput (λ _. out.new ≡ out.old)) }
     ensures untold { ErrUntold result (err.new ≡ err.old) }
-    ensures counted { (f : ℕ) → Counts result f f (B.failures second.old) (B.failures second.new) (O.failures out.old) (O.failures out.new) (E.failures err.old) (E.failures err.new) }
+    ensures counted { (f : ℕ) → Counts result f f (B.failures second.old) (B.failures second.new)
+        (O.failures out.old) (O.failures out.new) (E.failures err.old) (E.failures err.new) }
     ensures quiet { is_quiet order.now.named (task_is.Circuit task) ≡ true → err.new ≡ err.old }
     ensures one_file { has_one_file (task_is.Circuit task) ≡ true → second.new ≡ second.old }
 {

@@ -8,10 +8,14 @@ ghost use Rattle.deltas.specs.declared.reading.DeltaFault.TheVariants as fault;
 pub fn worked_deltas()
     ensures least { delta 0 ≡ 0 ∷ [] }
     ensures one_digit { (delta 2 ≡ 2 ∷ []) × (delta 127 ≡ 127 ∷ []) }
-    ensures two_digits { (delta 128 ≡ 128 ∷ 1 ∷ []) × (delta 130 ≡ 130 ∷ 1 ∷ []) × (delta 16383 ≡ 255 ∷ 127 ∷ []) }
-    ensures three_digits { (delta 16384 ≡ 128 ∷ 128 ∷ 1 ∷ []) × (delta 2097151 ≡ 255 ∷ 255 ∷ 127 ∷ []) }
-    ensures four_digits { (delta 2097152 ≡ 128 ∷ 128 ∷ 128 ∷ 1 ∷ []) × (delta 268435455 ≡ 255 ∷ 255 ∷ 255 ∷ 127 ∷ []) }
-    ensures five_digits { (delta 268435456 ≡ 128 ∷ 128 ∷ 128 ∷ 128 ∷ 1 ∷ []) × (delta 2147483648 ≡ 128 ∷ 128 ∷ 128 ∷ 128 ∷ 8 ∷ []) }
+    ensures two_digits { (delta 128 ≡ 128 ∷ 1 ∷ []) × (delta 130 ≡ 130 ∷ 1 ∷ [])
+        × (delta 16383 ≡ 255 ∷ 127 ∷ []) }
+    ensures three_digits { (delta 16384 ≡ 128 ∷ 128 ∷ 1 ∷ [])
+        × (delta 2097151 ≡ 255 ∷ 255 ∷ 127 ∷ []) }
+    ensures four_digits { (delta 2097152 ≡ 128 ∷ 128 ∷ 128 ∷ 1 ∷ [])
+        × (delta 268435455 ≡ 255 ∷ 255 ∷ 255 ∷ 127 ∷ []) }
+    ensures five_digits { (delta 268435456 ≡ 128 ∷ 128 ∷ 128 ∷ 128 ∷ 1 ∷ [])
+        × (delta 2147483648 ≡ 128 ∷ 128 ∷ 128 ∷ 128 ∷ 8 ∷ []) }
 {}
 
 /// Worked rows: what stands at the front of a text, and why no delta does.
@@ -30,6 +34,8 @@ pub fn worked_numbers()
 
 /// A delta that is written is read again, and each number has one spelling.
 pub fn one_spelling()
-    ensures read { (n : ℕ) (rest : List ℕ) → n < 2 ^ 35 → number_at (delta n ++ rest) ≡ Ok (n, rest) }
-    ensures written { (text : List ℕ) (n : ℕ) (rest : List ℕ) → AllByRecursion (λ b. b < 256) text → number_at text ≡ Ok (n, rest) → text ≡ delta n ++ rest }
+    ensures read { (n : ℕ) (rest : List ℕ) → n < 2 ^ 35 → number_at (delta n ++ rest)
+        ≡ Ok (n, rest) }
+    ensures written { (text : List ℕ) (n : ℕ) (rest : List ℕ) → AllByRecursion (λ b. b < 256) text
+        → number_at text ≡ Ok (n, rest) → text ≡ delta n ++ rest }
 {}

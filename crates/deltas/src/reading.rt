@@ -16,7 +16,8 @@ pub enum DeltaFault {
 /// The digits of a delta behind its first one, of which so many more may follow, and the text behind them.
 fn more_digits(more: u32, text: &[u8]) -> Result<(u64, &[u8]), DeltaFault>
     requires { more ≤ 3 }
-    ensures gives { MatchResult result (λ x. more_digits more text.now ≡ Ok (x.0, x.1.now)) (λ e. more_digits more text.now ≡ Err e) }
+    ensures gives { MatchResult result (λ x. more_digits more text.now ≡ Ok (x.0, x.1.now))
+        (λ e. more_digits more text.now ≡ Err e) }
     ensures small { IfOk result (λ x. x.0 < 128 ^ (more + 1)) }
 {
     match text {
@@ -40,7 +41,8 @@ fn more_digits(more: u32, text: &[u8]) -> Result<(u64, &[u8]), DeltaFault>
 #[inline(never)]
 #[tactic(auto, unfolding(crate::specs::Deltas::number_at))]
 fn any_number(text: &[u8]) -> Result<(u64, &[u8]), DeltaFault>
-    ensures { MatchResult result (λ x. number_at text.now ≡ Ok (x.0, x.1.now)) (λ e. number_at text.now ≡ Err e) }
+    ensures { MatchResult result (λ x. number_at text.now ≡ Ok (x.0, x.1.now))
+        (λ e. number_at text.now ≡ Err e) }
 {
     match text {
         [] => Err(DeltaFault::Truncated),
@@ -59,7 +61,8 @@ fn any_number(text: &[u8]) -> Result<(u64, &[u8]), DeltaFault>
 #[inline(always)]
 #[tactic(auto, unfolding(crate::specs::Deltas::number_at))]
 pub fn read(text: &[u8]) -> Result<(u64, &[u8]), DeltaFault>
-    ensures { MatchResult result (λ x. number_at text.now ≡ Ok (x.0, x.1.now)) (λ e. number_at text.now ≡ Err e) }
+    ensures { MatchResult result (λ x. number_at text.now ≡ Ok (x.0, x.1.now))
+        (λ e. number_at text.now ≡ Err e) }
 {
     if let [low, middle, high, ..] = text {
         let more = *low / 128;

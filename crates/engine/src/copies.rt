@@ -99,7 +99,8 @@ fn push_constraint(constraint: Lit, made: &mut Circuit) -> Result<(), AllocError
 pub(crate) fn push_constraints(constraints: &[Lit], made: &mut Circuit) -> Result<(), AllocError>
     requires defined { All (IsDefined (net made.old)) constraints.now }
     requires few { length made.old.constraints + length constraints.now ≤ greatest_count }
-    ensures { OnOk result (made.new ≡ record made.old { constraints = made.old.constraints ++ constraints.now }) }
+    ensures { OnOk result (made.new
+        ≡ record made.old { constraints = made.old.constraints ++ constraints.now }) }
 {
     for constraint in constraints {
         push_constraint(*constraint, made)?;

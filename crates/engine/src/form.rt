@@ -51,7 +51,8 @@ fn completed(
     requires valid { IsCircuit circuit.now }
     requires sizes { sizes ≡ sizes_of circuit.now }
     requires bare { form ≡ gates_only (net form) }
-    requires made { FormMade circuit.now choice (net form) literals.now.table literals.now.met literals.now.bads.items }
+    requires made { FormMade circuit.now choice (net form) literals.now.table literals.now.met
+        literals.now.bads.items }
     ensures ok { IfOk result (λ d. IsEngineFormOf circuit.now choice d) }
     ensures memory { IfErr result (λ e. e ≡ EngineFault.NoMemory) }
 {

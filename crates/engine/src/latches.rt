@@ -40,7 +40,8 @@ pub(crate) fn set_kept(table: &Table, latches: &[Latch], circuit: &mut Circuit)
     requires room { length latches.now ≤ length circuit.old.latches }
     requires inside { All (λ latch. variable latch.next < length table.now) latches.now }
     requires defined { All (IsDefined (net circuit.old)) table.now }
-    ensures { circuit.new ≡ record circuit.old { latches = map (kept_latch table.now) latches.now ++ drop (length latches.now) circuit.old.latches } }
+    ensures { circuit.new
+        ≡ record circuit.old { latches = map (kept_latch table.now) latches.now ++ drop (length latches.now) circuit.old.latches } }
 {
     for (k, latch) in latches.iter().enumerate() {
         set(circuit, k, kept_next(table, *latch));
@@ -51,7 +52,9 @@ pub(crate) fn set_kept(table: &Table, latches: &[Latch], circuit: &mut Circuit)
 fn set_where(wanted: bool, k: usize, next: Lit, circuit: &mut Circuit)
     requires there { wanted ≡ true → k < length circuit.old.latches }
     requires defined { IsDefined (net circuit.old) next }
-    ensures { circuit.new ≡ (if wanted then with_latch circuit.old k (record { next = next; reset = Zero }) else circuit.old) }
+    ensures { circuit.new
+        ≡ (if wanted then with_latch circuit.old k (record { next = next; reset = Zero })
+        else circuit.old) }
 {
     if wanted {
         set(circuit, k, next);

@@ -16,19 +16,25 @@ ghost use Rattle.engine.specs.declared.fault.EngineFault.TheVariants as fault;
 /// engine form can.
 pub fn bad_properties_rise_alike()
     // With all bad properties.
-    ensures all { (c d : Circuit) (b : ℕ) → IsEngineFormOf c None d → CanRiseInCircuit c b ↔ CanRiseInCircuit d b }
+    ensures all { (c d : Circuit) (b : ℕ) → IsEngineFormOf c None d
+        → CanRiseInCircuit c b ↔ CanRiseInCircuit d b }
     // With a chosen one.
-    ensures one { (c d : Circuit) (b : ℕ) → IsEngineFormOf c (Some b) d → CanRiseInCircuit c b ↔ CanRiseInCircuit d 0 }
+    ensures one { (c d : Circuit) (b : ℕ) → IsEngineFormOf c (Some b) d
+        → CanRiseInCircuit c b ↔ CanRiseInCircuit d 0 }
 {
     aiger::laws::exactly_one_trace();
 }
 
 /// A law: and where it can, it does so in a trace of as many frames; `j` is the place of the property among those of the form.
 pub fn rises_in_as_many_frames()
-    ensures form { (c : Circuit) (choice : Option ℕ) (d : Circuit) (k j : ℕ) → IsEngineFormOf c choice d → slice_get (chosen choice c.bads) j ≡ slice_get c.bads k
-        → (h : CanRiseInCircuit c k) → (g : CanRiseInCircuit d j) × (length g.frames ≡ length h.frames) }
-    ensures circuit { (c : Circuit) (choice : Option ℕ) (d : Circuit) (k j : ℕ) → IsEngineFormOf c choice d → slice_get (chosen choice c.bads) j ≡ slice_get c.bads k
-        → (h : CanRiseInCircuit d j) → (g : CanRiseInCircuit c k) × (length g.frames ≡ length h.frames) }
+    ensures form { (c : Circuit) (choice : Option ℕ) (d : Circuit) (k j : ℕ)
+        → IsEngineFormOf c choice d → slice_get (chosen choice c.bads) j ≡ slice_get c.bads k
+        → (h : CanRiseInCircuit c k)
+        → (g : CanRiseInCircuit d j) × (length g.frames ≡ length h.frames) }
+    ensures circuit { (c : Circuit) (choice : Option ℕ) (d : Circuit) (k j : ℕ)
+        → IsEngineFormOf c choice d → slice_get (chosen choice c.bads) j ≡ slice_get c.bads k
+        → (h : CanRiseInCircuit d j) → (g : CanRiseInCircuit c k)
+        × (length g.frames ≡ length h.frames) }
 {
     aiger::laws::exactly_one_trace();
 }
@@ -37,12 +43,18 @@ pub fn rises_in_as_many_frames()
 /// of the form one of the circuit from initial bits.
 pub fn traces_go_together()
     ensures of_circuit { (c : Circuit) (choice : Option ℕ) (d : Circuit) → IsEngineFormOf c choice d
-        → (state input : List Bool) (inputs : List (List Bool)) (vs : List Valuation) → AreInitial c.latches state → IsCircuitTrace c state (input ∷ inputs) vs
-        → (given : List (List Bool)) × (ws : List Valuation) × (begins c given ≡ state) × (map (take c.inputs) given ≡ input ∷ inputs)
-        × IsCircuitTrace d (replicate (length d.latches) false) given ws × GoTogether c choice d true true vs ws }
+        → (state input : List Bool) (inputs : List (List Bool)) (vs : List Valuation)
+        → AreInitial c.latches state → IsCircuitTrace c state (input ∷ inputs) vs
+        → (given : List (List Bool)) × (ws : List Valuation) × (begins c given ≡ state)
+        × (map (take c.inputs) given ≡ input ∷ inputs)
+        × IsCircuitTrace d (replicate (length d.latches) false) given ws
+        × GoTogether c choice d true true vs ws }
     ensures of_form { (c : Circuit) (choice : Option ℕ) (d : Circuit) → IsEngineFormOf c choice d
-        → (given : List (List Bool)) (ws : List Valuation) → IsCircuitTrace d (replicate (length d.latches) false) given ws
-        → AreInitial c.latches (begins c given) × (vs : List Valuation) × IsCircuitTrace c (begins c given) (map (take c.inputs) given) vs × GoTogether c choice d true true vs ws }
+        → (given : List (List Bool)) (ws : List Valuation)
+        → IsCircuitTrace d (replicate (length d.latches) false) given ws
+        → AreInitial c.latches (begins c given) × (vs : List Valuation)
+        × IsCircuitTrace c (begins c given) (map (take c.inputs) given) vs
+        × GoTogether c choice d true true vs ws }
 {
     aiger::laws::exactly_one_trace();
 }
@@ -75,8 +87,10 @@ pub fn worked_forms()
 
 /// A law: a circuit without a bad property has no form, whether one is chosen or not.
 pub fn nothing_without_a_bad_property()
-    ensures accepted { (c : Circuit) (choice : Option ℕ) → engine_refusal c choice ≡ None → 0 < length c.bads }
-    ensures refused { (c : Circuit) (choice : Option ℕ) → c.justice ≡ [] → c.fair ≡ [] → c.bads ≡ [] → engine_refusal c choice ≡ Some fault.NoBad }
+    ensures accepted { (c : Circuit) (choice : Option ℕ) → engine_refusal c choice ≡ None
+        → 0 < length c.bads }
+    ensures refused { (c : Circuit) (choice : Option ℕ) → c.justice ≡ [] → c.fair ≡ [] → c.bads ≡ []
+        → engine_refusal c choice ≡ Some fault.NoBad }
 {}
 
 /// Worked rows: the variables at most, and what is refused.
@@ -89,27 +103,38 @@ pub fn worked_refusals()
     ensures no_bad { engine_refusal outputs_alone None ≡ Some fault.NoBad }
     ensures no_bad_chosen { engine_refusal outputs_alone (Some 0) ≡ Some fault.NoBad }
     ensures no_such_bad { engine_refusal either (Some 2) ≡ Some fault.NoSuchBad }
-    ensures justice_first { engine_refusal (record either { justice = [] ∷ []; fair = 2 ∷ [] }) (Some 2) ≡ Some fault.Justice }
-    ensures fair_first { engine_refusal (record either { fair = 2 ∷ [] }) (Some 2) ≡ Some fault.Fair }
-    ensures justice_before_no_bad { engine_refusal (record outputs_alone { justice = [] ∷ []; fair = 2 ∷ [] }) None ≡ Some fault.Justice }
-    ensures fair_before_no_bad { engine_refusal (record outputs_alone { fair = 2 ∷ [] }) None ≡ Some fault.Fair }
+    ensures justice_first { engine_refusal (record either { justice = [] ∷ []; fair = 2 ∷ [] })
+        (Some 2) ≡ Some fault.Justice }
+    ensures fair_first { engine_refusal (record either { fair = 2 ∷ [] }) (Some 2)
+        ≡ Some fault.Fair }
+    ensures justice_before_no_bad { engine_refusal
+        (record outputs_alone { justice = [] ∷ []; fair = 2 ∷ [] }) None ≡ Some fault.Justice }
+    ensures fair_before_no_bad { engine_refusal (record outputs_alone { fair = 2 ∷ [] }) None
+        ≡ Some fault.Fair }
 {}
 
 /// A law: a circuit and one that has its outputs as bad properties begin alike and have the same traces; in each frame the
 /// bad property behind the older ones is 1 where the output is, and each older one and each constraint as it was. So an older
 /// one can rise exactly where it could, and the one of an output exactly where the output can be 1.
 pub fn outputs_rise_as_bads()
-    ensures initial { (c d : Circuit) → HasOutputsAsBads c d → (state : List Bool) → AreInitial c.latches state ↔ AreInitial d.latches state }
+    ensures initial { (c d : Circuit) → HasOutputsAsBads c d → (state : List Bool)
+        → AreInitial c.latches state ↔ AreInitial d.latches state }
     ensures traces { (c d : Circuit) → HasOutputsAsBads c d
-        → (state : List Bool) (inputs : List (List Bool)) (vs : List Valuation) → IsCircuitTrace c state inputs vs ↔ IsCircuitTrace d state inputs vs }
+        → (state : List Bool) (inputs : List (List Bool)) (vs : List Valuation)
+        → IsCircuitTrace c state inputs vs ↔ IsCircuitTrace d state inputs vs }
     // In each frame, and so in those of the traces.
     ensures outputs_shown { (c d : Circuit) → HasOutputsAsBads c d
-        → (v : Valuation) (k : ℕ) → slice_get (circuit_shows d v).bads (length c.bads + k) ≡ slice_get (map (literal_value v) c.outputs) k }
+        → (v : Valuation) (k : ℕ) → slice_get (circuit_shows d v).bads (length c.bads + k)
+        ≡ slice_get (map (literal_value v) c.outputs) k }
     ensures bads_shown { (c d : Circuit) → HasOutputsAsBads c d
-        → (v : Valuation) (b : ℕ) → b < length c.bads → slice_get (circuit_shows d v).bads b ≡ slice_get (circuit_shows c v).bads b }
-    ensures constraints_shown { (c d : Circuit) → HasOutputsAsBads c d → (v : Valuation) → (circuit_shows d v).constraints ≡ (circuit_shows c v).constraints }
-    ensures bads_rise { (c d : Circuit) → HasOutputsAsBads c d → (b : ℕ) → b < length c.bads → CanRiseInCircuit c b ↔ CanRiseInCircuit d b }
-    ensures outputs_rise { (c d : Circuit) → HasOutputsAsBads c d → (k : ℕ) → OutputCanBeOne c k ↔ CanRiseInCircuit d (length c.bads + k) }
+        → (v : Valuation) (b : ℕ) → b < length c.bads → slice_get (circuit_shows d v).bads b
+        ≡ slice_get (circuit_shows c v).bads b }
+    ensures constraints_shown { (c d : Circuit) → HasOutputsAsBads c d → (v : Valuation)
+        → (circuit_shows d v).constraints ≡ (circuit_shows c v).constraints }
+    ensures bads_rise { (c d : Circuit) → HasOutputsAsBads c d → (b : ℕ) → b < length c.bads
+        → CanRiseInCircuit c b ↔ CanRiseInCircuit d b }
+    ensures outputs_rise { (c d : Circuit) → HasOutputsAsBads c d → (k : ℕ)
+        → OutputCanBeOne c k ↔ CanRiseInCircuit d (length c.bads + k) }
 {}
 
 /// A law: no circuit has its outputs as bad properties in two ways.
@@ -134,10 +159,14 @@ pub fn worked_outputs()
     ensures is_kept { ¬ HasOutputsAsBads conjunction (record conjunction_bad { outputs = 6 ∷ [] }) }
     ensures is_forgotten { ¬ HasOutputsAsBads named_circuit (record named_bad { bads = 2 ∷ [] }) }
     ensures is_first { ¬ HasOutputsAsBads named_circuit (record named_bad { bads = 6 ∷ 2 ∷ [] }) }
-    ensures loses_its_name { ¬ HasOutputsAsBads named_circuit (record named_bad { names = ((3, 0), codes "low") ∷ [] }) }
-    ensures takes_a_name { ¬ HasOutputsAsBads named_circuit (record named_bad { names = ((3, 0), codes "out") ∷ ((3, 1), codes "low") ∷ [] }) }
-    ensures begins_otherwise { ¬ HasOutputsAsBads named_circuit (record named_bad { latches = record { next = 2; reset = Zero } ∷ [] }) }
-    ensures drops_the_constraint { ¬ HasOutputsAsBads named_circuit (record named_bad { constraints = [] }) }
+    ensures loses_its_name { ¬ HasOutputsAsBads named_circuit
+        (record named_bad { names = ((3, 0), codes "low") ∷ [] }) }
+    ensures takes_a_name { ¬ HasOutputsAsBads named_circuit
+        (record named_bad { names = ((3, 0), codes "out") ∷ ((3, 1), codes "low") ∷ [] }) }
+    ensures begins_otherwise { ¬ HasOutputsAsBads named_circuit
+        (record named_bad { latches = record { next = 2; reset = Zero } ∷ [] }) }
+    ensures drops_the_constraint { ¬ HasOutputsAsBads named_circuit
+        (record named_bad { constraints = [] }) }
 {
     worked_output_circuits();
 }
@@ -145,6 +174,8 @@ pub fn worked_outputs()
 /// Worked rows: what is refused.
 pub fn worked_output_refusals()
     ensures accepted { outputs_refusal named_circuit ≡ None }
-    ensures too_big { (c : Circuit) → length c.bads + length c.outputs ≡ 1073741825 → outputs_refusal c ≡ Some TooBig }
-    ensures greatest { (c : Circuit) → length c.bads + length c.outputs ≡ 1073741824 → outputs_refusal c ≡ None }
+    ensures too_big { (c : Circuit) → length c.bads + length c.outputs ≡ 1073741825
+        → outputs_refusal c ≡ Some TooBig }
+    ensures greatest { (c : Circuit) → length c.bads + length c.outputs ≡ 1073741824
+        → outputs_refusal c ≡ None }
 {}

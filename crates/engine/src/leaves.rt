@@ -23,8 +23,11 @@ fn latch_literal<G: Gates>(
     requires own { IsDefined (G.made g.old) own }
     requires input { IsDefined (G.made g.old) input }
     requires started { IsDefined (G.made g.old) started }
-    ensures ok { IfOk result (MakesLiteral (G.made g.old) (G.made g.new) (3 * taken_bits reset) (λ v. latch_value reset (literal_value v own) (literal_value v input) (literal_value v started))) }
-    ensures refused { IfErr result (RefusesGate (G.made g.old) (G.made g.new) (3 * taken_bits reset)) }
+    ensures ok { IfOk result (MakesLiteral (G.made g.old) (G.made g.new) (3 * taken_bits reset)
+        (λ v. latch_value reset (literal_value v own) (literal_value v input)
+        (literal_value v started))) }
+    ensures refused { IfErr result (RefusesGate (G.made g.old) (G.made g.new)
+        (3 * taken_bits reset)) }
 {
     match reset {
         Reset::Zero => Ok(own),
@@ -47,8 +50,11 @@ pub(crate) fn push_latches<G: Gates>(
     requires own { own + length latches.now ≤ variables (G.made g.old) + 1 }
     requires small { variables (G.made g.old) ≤ greatest_count }
     requires started { IsDefined (G.made g.old) started }
-    ensures ok { OnOk result ((more : List ℕ) × (table.new ≡ table.old ++ more) × LatchLiteralsRead (G.made g.old) (G.made g.new) (3 * free_count latches.now) latches.now own input started more) }
-    ensures refused { IfErr result (RefusesGate (G.made g.old) (G.made g.new) (3 * free_count latches.now)) }
+    ensures ok { OnOk result ((more : List ℕ) × (table.new ≡ table.old ++ more)
+        × LatchLiteralsRead (G.made g.old) (G.made g.new) (3 * free_count latches.now) latches.now
+        own input started more) }
+    ensures refused { IfErr result (RefusesGate (G.made g.old) (G.made g.new)
+        (3 * free_count latches.now)) }
 {
     let mut input = input;
     for (j, latch) in latches.iter().enumerate() {

@@ -67,8 +67,11 @@ fn make_properties<G: Gates>(
     requires before { IsDefined (G.made g.old) before }
     requires many { length table ≡ suc (variables (net circuit.now)) }
     requires table { All (IsDefined (G.made g.old)) table }
-    ensures ok { IfOk result (λ l. (l.table ≡ table) × PropertiesRead circuit.now choice before (G.made g.old) (G.made g.new) table l.met l.bads.items) }
-    ensures refused { IfErr result (RefusesGate (G.made g.old) (G.made g.new) (length circuit.now.constraints + length circuit.now.bads)) }
+    ensures ok { IfOk result (λ l. (l.table ≡ table)
+        × PropertiesRead circuit.now choice before (G.made g.old)
+        (G.made g.new) table l.met l.bads.items) }
+    ensures refused { IfErr result (RefusesGate (G.made g.old) (G.made g.new)
+        (length circuit.now.constraints + length circuit.now.bads)) }
 {
     let met = all_hold(g, &table, circuit.constraints(), before)?;
     let bads = bad_literals(alloc, g, &table, chosen(circuit, choice), met)?;
@@ -89,8 +92,10 @@ pub(crate) fn make<G: Gates>(
     requires bare { G.made g.old ≡ bare_net circuit.now }
     requires small { engine_bound circuit.now ≤ greatest_count }
     requires has_bad { has_chosen choice circuit.now.bads ≡ true }
-    ensures ok { IfOk result (λ l. FormMade circuit.now choice (G.made g.new) l.table l.met l.bads.items) }
-    ensures refused { IfErr result (RefusesGate (bare_net circuit.now) (G.made g.new) (engine_cost circuit.now)) }
+    ensures ok { IfOk result
+        (λ l. FormMade circuit.now choice (G.made g.new) l.table l.met l.bads.items) }
+    ensures refused { IfErr result (RefusesGate (bare_net circuit.now) (G.made g.new)
+        (engine_cost circuit.now)) }
 {
     let table = variable_literals(alloc, g, sizes.inputs, started(circuit, sizes), circuit)?;
     make_properties(alloc, g, circuit, choice, before(circuit, sizes), table)

@@ -14,7 +14,8 @@ use std::alloc::{AllocError, Global};
 
 /// A circuit of as many inputs and latches as another one has. The error is want of memory.
 fn fresh(alloc: Global, circuit: &Circuit) -> Result<Circuit, AllocError>
-    ensures { IfOk result (λ made. made ≡ fresh_circuit circuit.now.inputs (length circuit.now.latches)) }
+    ensures { IfOk result (λ made. made ≡ fresh_circuit circuit.now.inputs
+        (length circuit.now.latches)) }
 {
     match Circuit::new(alloc, circuit.inputs(), circuit.latches().len() as u32) {
         Ok(made) => Ok(made),
@@ -26,7 +27,8 @@ fn fresh(alloc: Global, circuit: &Circuit) -> Result<Circuit, AllocError>
 /// Adds the gates of a circuit, and sets the latches. The error is want of memory.
 fn copy_net(circuit: &Circuit, made: &mut Circuit) -> Result<(), AllocError>
     requires { made.old ≡ fresh_circuit circuit.now.inputs (length circuit.now.latches) }
-    ensures { OnOk result (made.new ≡ record made.old { latches = circuit.now.latches; gates = circuit.now.gates }) }
+    ensures { OnOk result (made.new
+        ≡ record made.old { latches = circuit.now.latches; gates = circuit.now.gates }) }
 {
     push_gates(circuit.gates(), made)?;
     set_latches(circuit.latches(), made);
@@ -36,7 +38,9 @@ fn copy_net(circuit: &Circuit, made: &mut Circuit) -> Result<(), AllocError>
 /// Adds the properties of a circuit, its outputs as bad properties behind the others. The error is want of memory.
 fn copy_properties(circuit: &Circuit, made: &mut Circuit) -> Result<(), AllocError>
     requires few { length circuit.now.bads + length circuit.now.outputs ≤ greatest_count }
-    requires rest { made.old ≡ record (fresh_circuit circuit.now.inputs 0) { latches = circuit.now.latches; gates = circuit.now.gates } }
+    requires rest { made.old
+        ≡ record (fresh_circuit circuit.now.inputs
+        0) { latches = circuit.now.latches; gates = circuit.now.gates } }
     ensures { OnOk result (made.new ≡ unnamed circuit.now) }
 {
     push_bads(circuit.bads(), made)?;

@@ -20,7 +20,8 @@ pub(crate) fn bad_literals<G: Gates>(
     requires inside { All (λ l. variable l < length table.now) bads.now }
     requires defined { All (IsDefined (G.made g.old)) table.now }
     requires met { IsDefined (G.made g.old) met }
-    ensures ok { IfOk result (λ literals. BadLiteralsRead (G.made g.old) (G.made g.new) table.now bads.now met literals.items) }
+    ensures ok { IfOk result (λ literals. BadLiteralsRead (G.made g.old)
+        (G.made g.new) table.now bads.now met literals.items) }
     ensures refused { IfErr result (RefusesGate (G.made g.old) (G.made g.new) (length bads.now)) }
 {
     let mut literals = Vec::new(alloc);

@@ -25,8 +25,10 @@ pub(crate) fn variable_literals<G: Gates>(
     requires latches { inputs + length circuit.now.latches ≤ variables (G.made g.old) }
     requires started { IsDefined (G.made g.old) started }
     requires small { variables (G.made g.old) ≤ greatest_count }
-    ensures ok { IfOk result (λ table. TableRead circuit.now started (G.made g.old) (G.made g.new) table) }
-    ensures refused { IfErr result (RefusesGate (G.made g.old) (G.made g.new) (length circuit.now.gates + 3 * free_count circuit.now.latches)) }
+    ensures ok { IfOk result (λ table. TableRead circuit.now started (G.made g.old)
+        (G.made g.new) table) }
+    ensures refused { IfErr result (RefusesGate (G.made g.old) (G.made g.new)
+        (length circuit.now.gates + 3 * free_count circuit.now.latches)) }
 {
     let own = inputs + 1;
     let mut table = Table::new(alloc, circuit.inputs());

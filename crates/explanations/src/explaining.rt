@@ -172,7 +172,8 @@ fn tell_row(
     row: &Explanation,
     text: &mut String,
 ) -> Result<(), AllocError>
-    ensures { OnOk result (string_bytes text.new ≡ string_bytes text.old ++ told_row sought.entry fitting title.now row.now) }
+    ensures { OnOk result (string_bytes text.new ≡ string_bytes text.old
+        ++ told_row sought.entry fitting title.now row.now) }
 {
     let is_told = is_told(sought, fitting, row);
     if is_told {
@@ -191,7 +192,8 @@ fn tell_part(
     part: &Part,
     text: &mut String,
 ) -> Result<(), AllocError>
-    ensures { OnOk result (string_bytes text.new ≡ string_bytes text.old ++ told_part sought.entry fitting part.now) }
+    ensures { OnOk result (string_bytes text.new ≡ string_bytes text.old
+        ++ told_part sought.entry fitting part.now) }
 {
     let mut rest = part.rows;
     while let [row, behind @ ..] = rest {
@@ -210,7 +212,8 @@ fn tell_parts(
     parts: &[Part],
     text: &mut String,
 ) -> Result<(), AllocError>
-    ensures { OnOk result (string_bytes text.new ≡ string_bytes text.old ++ told_parts sought.entry fitting parts.now) }
+    ensures { OnOk result (string_bytes text.new ≡ string_bytes text.old
+        ++ told_parts sought.entry fitting parts.now) }
 {
     let mut rest = parts;
     while let [part, behind @ ..] = rest {
@@ -256,7 +259,8 @@ fn unknown(alloc: Global, sought: Sought<'_>) -> Stop
 ///
 /// The text is shown, with status 0; where no refusal is sought that there is, the words are refused, with status 4.
 pub fn explain(alloc: Global, table: &[Part], sought: Sought<'_>) -> Stop
-    ensures shown { result.status ≡ 0 → string_bytes result.text ≡ explained sought.entry table.now }
+    ensures shown { result.status ≡ 0 → string_bytes result.text
+        ≡ explained sought.entry table.now }
     // a refusal that is there is told
     ensures known { result.status ≡ 4 → explained sought.entry table.now ≡ [] }
 {

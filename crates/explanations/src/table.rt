@@ -77,27 +77,41 @@ pub struct Part {
 pub fn refusal_table() -> [Part; 19]
     // the number of a why of a model's text that a push gives is its own, which is printed for it
     ensures models { (why : Why) → Explains result (printed_number why) (line_why_name why) }
-    ensures symbols { (fault : SymbolFault) → Explains result (symbol_fault_number fault) (symbol_fault_name fault) }
-    ensures lowerings { (fault : LowerFault) → Explains result (lower_number fault) (lower_name fault) }
-    ensures conversions { (fault : ConvertFault) → Explains result (convert_number fault) (convert_name fault) }
+    ensures symbols { (fault : SymbolFault)
+        → Explains result (symbol_fault_number fault) (symbol_fault_name fault) }
+    ensures lowerings { (fault : LowerFault)
+        → Explains result (lower_number fault) (lower_name fault) }
+    ensures conversions { (fault : ConvertFault)
+        → Explains result (convert_number fault) (convert_name fault) }
     ensures runs { (fault : NewFault) → Explains result (new_number fault) (new_name fault) }
-    ensures judges { (fault : JudgeFault) → Explains result (judge_number fault) (judge_name fault) }
-    ensures witnesses { (why : WitnessWhy) → Explains result (witness_number why) (witness_name why) }
+    ensures judges { (fault : JudgeFault)
+        → Explains result (judge_number fault) (judge_name fault) }
+    ensures witnesses { (why : WitnessWhy)
+        → Explains result (witness_number why) (witness_name why) }
     ensures gates { (fault : GateFault) → Explains result (gate_number fault) (gate_name fault) }
-    ensures circuits { (fault : CircuitFault) → Explains result (circuit_fault_number fault) (circuit_fault_name fault) }
-    ensures lists { (fault : LooseFault) → Explains result (loose_fault_number fault) (loose_fault_name fault) }
+    ensures circuits { (fault : CircuitFault)
+        → Explains result (circuit_fault_number fault) (circuit_fault_name fault) }
+    ensures lists { (fault : LooseFault)
+        → Explains result (loose_fault_number fault) (loose_fault_name fault) }
     ensures liftings { (fault : LiftFault) → Explains result (lift_number fault) (lift_name fault) }
-    ensures engines { (fault : EngineFault) → Explains result (engine_number fault) (engine_name fault) }
-    ensures counterexamples { (why : RestoreWhy) → Explains result (restore_number why) (restore_name why) }
+    ensures engines { (fault : EngineFault)
+        → Explains result (engine_number fault) (engine_name fault) }
+    ensures counterexamples { (why : RestoreWhy)
+        → Explains result (restore_number why) (restore_name why) }
     ensures dumps { (fault : WaveFault) → Explains result (wave_number fault) (wave_name fault) }
-    ensures texts { (why : CircuitWhy) → Explains result (circuit_why_number why) (circuit_why_name why) }
+    ensures texts { (why : CircuitWhy)
+        → Explains result (circuit_why_number why) (circuit_why_name why) }
     ensures proofs { (why : ProofWhy) → Explains result (proof_number why) (proof_name why) }
-    ensures clauses { (fault : ClauseFault) → Explains result (clause_number fault) (clause_name fault) }
-    ensures formulas { (fault : FormulaFault) → Explains result (formula_number fault) (formula_name fault) }
-    ensures claims { (fault : ClaimFault) → Explains result (claim_number fault) (claim_name fault) }
+    ensures clauses { (fault : ClauseFault)
+        → Explains result (clause_number fault) (clause_name fault) }
+    ensures formulas { (fault : FormulaFault)
+        → Explains result (formula_number fault) (formula_name fault) }
+    ensures claims { (fault : ClaimFault)
+        → Explains result (claim_number fault) (claim_name fault) }
     ensures tidying { (fault : TidyFault) → Explains result (tidy_number fault) (tidy_name fault) }
     ensures tests { (fault : TestFault) → Explains result (test_number fault) (test_name fault) }
-    ensures certificates { (fault : CertificateFault) → Explains result (certificate_number fault) (certificate_name fault) }
+    ensures certificates { (fault : CertificateFault)
+        → Explains result (certificate_number fault) (certificate_name fault) }
 {
     [
         Part {

@@ -36,7 +36,8 @@ struct Column {
 fn half_adder<G: Gates>(g: &mut G, a: Lit, b: Lit) -> Result<Column, GateFault>
     requires left { IsDefined (G.made g.old) a }
     requires right { IsDefined (G.made g.old) b }
-    ensures ok { IfOk result (λ c. MakesColumn (G.made g.old) (G.made g.new) 3 (λ v. literal_number v a + literal_number v b) c.sum c.carry) }
+    ensures ok { IfOk result (λ c. MakesColumn (G.made g.old) (G.made g.new) 3
+        (λ v. literal_number v a + literal_number v b) c.sum c.carry) }
     ensures refused { IfErr result (RefusesGate (G.made g.old) (G.made g.new) 3) }
 {
     let both = g.and(a, b)?;
@@ -49,7 +50,8 @@ fn half_adder<G: Gates>(g: &mut G, a: Lit, b: Lit) -> Result<Column, GateFault>
 fn adder_with_one<G: Gates>(g: &mut G, a: Lit, b: Lit) -> Result<Column, GateFault>
     requires left { IsDefined (G.made g.old) a }
     requires right { IsDefined (G.made g.old) b }
-    ensures ok { IfOk result (λ c. MakesColumn (G.made g.old) (G.made g.new) 4 (λ v. literal_number v a + literal_number v b + 1) c.sum c.carry) }
+    ensures ok { IfOk result (λ c. MakesColumn (G.made g.old) (G.made g.new) 4
+        (λ v. literal_number v a + literal_number v b + 1) c.sum c.carry) }
     ensures refused { IfErr result (RefusesGate (G.made g.old) (G.made g.new) 4) }
 {
     let two = half_adder(g, a, b)?;
@@ -65,7 +67,9 @@ fn full_adder<G: Gates>(g: &mut G, a: Lit, b: Lit, c: Lit) -> Result<Column, Gat
     requires left { IsDefined (G.made g.old) a }
     requires right { IsDefined (G.made g.old) b }
     requires carry { IsDefined (G.made g.old) c }
-    ensures ok { IfOk result (λ column. MakesColumn (G.made g.old) (G.made g.new) 7 (λ v. literal_number v a + literal_number v b + literal_number v c) column.sum column.carry) }
+    ensures ok { IfOk result (λ column. MakesColumn (G.made g.old) (G.made g.new) 7
+        (λ v. literal_number v a + literal_number v b + literal_number v c) column.sum
+        column.carry) }
     ensures refused { IfErr result (RefusesGate (G.made g.old) (G.made g.new) 7) }
 {
     if c == Lit::TRUE {
@@ -91,7 +95,8 @@ fn columns<G: Gates>(
     requires operands { AreOperands (G.made g.old) 128 a.now b.now }
     requires carry { IsDefined (G.made g.old) carry }
     requires inside { count ≤ length a.now }
-    ensures ok { IfOk result (λ added. MakesSum (G.made g.old) (G.made g.new) (7 * count) (take count a.now) (take count b.now) carry added.sum.items added.into_top added.out) }
+    ensures ok { IfOk result (λ added. MakesSum (G.made g.old) (G.made g.new) (7 * count)
+        (take count a.now) (take count b.now) carry added.sum.items added.into_top added.out) }
     ensures refused { IfErr result (RefusesGate (G.made g.old) (G.made g.new) (7 * count)) }
 {
     let mut sum = Bits::new();
@@ -113,7 +118,8 @@ fn columns<G: Gates>(
 pub fn add<G: Gates>(g: &mut G, a: &[Lit], b: &[Lit], carry: Lit) -> Result<Added, GateFault>
     requires operands { AreOperands (G.made g.old) 128 a.now b.now }
     requires carry { IsDefined (G.made g.old) carry }
-    ensures ok { IfOk result (λ added. MakesSum (G.made g.old) (G.made g.new) (9 * length a.now) a.now b.now carry added.sum.items added.into_top added.out) }
+    ensures ok { IfOk result (λ added. MakesSum (G.made g.old) (G.made g.new)
+        (9 * length a.now) a.now b.now carry added.sum.items added.into_top added.out) }
     ensures refused { IfErr result (RefusesGate (G.made g.old) (G.made g.new) (9 * length a.now)) }
 {
     columns(g, a, b, carry, a.len())
@@ -128,7 +134,10 @@ pub(crate) fn sum_bits<G: Gates>(
 ) -> Result<Bits, GateFault>
     requires operands { AreOperands (G.made g.old) 128 a.now b.now }
     requires carry { IsDefined (G.made g.old) carry }
-    ensures ok { IfOk result (λ bits. let n = length a.now in MakesWord (G.made g.old) (G.made g.new) (9 * n) n (λ v. (word_value v a.now + word_value v b.now + literal_number v carry) % 2 ^ n) bits.items) }
+    ensures ok { IfOk result (λ bits. let n = length a.now in MakesWord (G.made g.old)
+        (G.made g.new) (9 * n) n
+        (λ v. (word_value v a.now + word_value v b.now + literal_number v carry) % 2 ^ n)
+        bits.items) }
     ensures refused { IfErr result (RefusesGate (G.made g.old) (G.made g.new) (9 * length a.now)) }
 {
     let top = a.len() - 1;
@@ -143,7 +152,8 @@ pub(crate) fn sum_bits<G: Gates>(
 /// The difference of two words as a sum: the second word negated, and one more. The carries are those of the sum.
 pub(crate) fn difference<G: Gates>(g: &mut G, a: &[Lit], b: &[Lit]) -> Result<Added, GateFault>
     requires { AreOperands (G.made g.old) 128 a.now b.now }
-    ensures ok { IfOk result (λ added. MakesSum (G.made g.old) (G.made g.new) (9 * length a.now) a.now (map negation b.now) 1 added.sum.items added.into_top added.out) }
+    ensures ok { IfOk result (λ added. MakesSum (G.made g.old) (G.made g.new)
+        (9 * length a.now) a.now (map negation b.now) 1 added.sum.items added.into_top added.out) }
     ensures refused { IfErr result (RefusesGate (G.made g.old) (G.made g.new) (9 * length a.now)) }
 {
     add(g, a, negation(b).as_slice(), Lit::TRUE)
@@ -152,7 +162,9 @@ pub(crate) fn difference<G: Gates>(g: &mut G, a: &[Lit], b: &[Lit]) -> Result<Ad
 /// The bits of the sum of two words.
 pub(crate) fn add_bits<G: Gates>(g: &mut G, a: &[Lit], b: &[Lit]) -> Result<Bits, GateFault>
     requires { AreOperands (G.made g.old) 64 a.now b.now }
-    ensures ok { IfOk result (λ bits. let n = length a.now in MakesWord (G.made g.old) (G.made g.new) (9 * n) n (λ v. binary_value Binary.Add n (word_value v a.now) (word_value v b.now)) bits.items) }
+    ensures ok { IfOk result (λ bits. let n = length a.now in MakesWord (G.made g.old)
+        (G.made g.new) (9 * n) n (λ v. binary_value Binary.Add n (word_value v a.now)
+        (word_value v b.now)) bits.items) }
     ensures refused { IfErr result (RefusesGate (G.made g.old) (G.made g.new) (9 * length a.now)) }
 {
     sum_bits(g, a, b, Lit::FALSE)
@@ -161,7 +173,9 @@ pub(crate) fn add_bits<G: Gates>(g: &mut G, a: &[Lit], b: &[Lit]) -> Result<Bits
 /// The bits of the difference of two words.
 pub(crate) fn sub_bits<G: Gates>(g: &mut G, a: &[Lit], b: &[Lit]) -> Result<Bits, GateFault>
     requires { AreOperands (G.made g.old) 64 a.now b.now }
-    ensures ok { IfOk result (λ bits. let n = length a.now in MakesWord (G.made g.old) (G.made g.new) (9 * n) n (λ v. binary_value Binary.Sub n (word_value v a.now) (word_value v b.now)) bits.items) }
+    ensures ok { IfOk result (λ bits. let n = length a.now in MakesWord (G.made g.old)
+        (G.made g.new) (9 * n) n (λ v. binary_value Binary.Sub n (word_value v a.now)
+        (word_value v b.now)) bits.items) }
     ensures refused { IfErr result (RefusesGate (G.made g.old) (G.made g.new) (9 * length a.now)) }
 {
     sum_bits(g, a, negation(b).as_slice(), Lit::TRUE)
@@ -172,7 +186,8 @@ pub(crate) fn neg_bits<G: Gates>(g: &mut G, a: &[Lit]) -> Result<Bits, GateFault
     requires some { 1 ≤ length a.now }
     requires most { length a.now ≤ 64 }
     requires defined { All (IsDefined (G.made g.old)) a.now }
-    ensures ok { IfOk result (λ bits. let n = length a.now in MakesWord (G.made g.old) (G.made g.new) (9 * n) n (λ v. unary_value Unary.Neg n (word_value v a.now)) bits.items) }
+    ensures ok { IfOk result (λ bits. let n = length a.now in MakesWord (G.made g.old)
+        (G.made g.new) (9 * n) n (λ v. unary_value Unary.Neg n (word_value v a.now)) bits.items) }
     ensures refused { IfErr result (RefusesGate (G.made g.old) (G.made g.new) (9 * length a.now)) }
 {
     let sum = difference(g, repeated(Lit::FALSE, a.len()).as_slice(), a)?;
@@ -184,7 +199,8 @@ pub(crate) fn inc_bits<G: Gates>(g: &mut G, a: &[Lit]) -> Result<Bits, GateFault
     requires some { 1 ≤ length a.now }
     requires most { length a.now ≤ 64 }
     requires defined { All (IsDefined (G.made g.old)) a.now }
-    ensures ok { IfOk result (λ bits. let n = length a.now in MakesWord (G.made g.old) (G.made g.new) (9 * n) n (λ v. unary_value Unary.Inc n (word_value v a.now)) bits.items) }
+    ensures ok { IfOk result (λ bits. let n = length a.now in MakesWord (G.made g.old)
+        (G.made g.new) (9 * n) n (λ v. unary_value Unary.Inc n (word_value v a.now)) bits.items) }
     ensures refused { IfErr result (RefusesGate (G.made g.old) (G.made g.new) (9 * length a.now)) }
 {
     let sum = add(g, a, repeated(Lit::FALSE, a.len()).as_slice(), Lit::TRUE)?;
@@ -196,7 +212,8 @@ pub(crate) fn dec_bits<G: Gates>(g: &mut G, a: &[Lit]) -> Result<Bits, GateFault
     requires some { 1 ≤ length a.now }
     requires most { length a.now ≤ 64 }
     requires defined { All (IsDefined (G.made g.old)) a.now }
-    ensures ok { IfOk result (λ bits. let n = length a.now in MakesWord (G.made g.old) (G.made g.new) (9 * n) n (λ v. unary_value Unary.Dec n (word_value v a.now)) bits.items) }
+    ensures ok { IfOk result (λ bits. let n = length a.now in MakesWord (G.made g.old)
+        (G.made g.new) (9 * n) n (λ v. unary_value Unary.Dec n (word_value v a.now)) bits.items) }
     ensures refused { IfErr result (RefusesGate (G.made g.old) (G.made g.new) (9 * length a.now)) }
 {
     let negated = inc_bits(g, negation(a).as_slice())?;

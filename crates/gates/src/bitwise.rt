@@ -30,8 +30,10 @@ pub(crate) enum Connective {
 fn connect<G: Gates>(g: &mut G, by: Connective, a: Lit, b: Lit) -> Result<Lit, GateFault>
     requires left { IsDefined (G.made g.old) a }
     requires right { IsDefined (G.made g.old) b }
-    ensures ok { IfOk result (MakesLiteral (G.made g.old) (G.made g.new) (connective_bound by) (λ v. connected by (literal_value v a) (literal_value v b))) }
-    ensures refused { IfErr result (RefusesGate (G.made g.old) (G.made g.new) (connective_bound by)) }
+    ensures ok { IfOk result (MakesLiteral (G.made g.old) (G.made g.new) (connective_bound by)
+        (λ v. connected by (literal_value v a) (literal_value v b))) }
+    ensures refused { IfErr result (RefusesGate (G.made g.old) (G.made g.new)
+        (connective_bound by)) }
 {
     match by {
         Connective::And => g.and(a, b),
@@ -48,8 +50,11 @@ pub(crate) fn connect_words<G: Gates>(
     b: &[Lit],
 ) -> Result<Bits, GateFault>
     requires { AreOperands (G.made g.old) 64 a.now b.now }
-    ensures ok { IfOk result (λ bits. let n = length a.now in MakesWord (G.made g.old) (G.made g.new) (words_bound by n) n (λ v. connected_words by (word_value v a.now) (word_value v b.now)) bits.items) }
-    ensures refused { IfErr result (RefusesGate (G.made g.old) (G.made g.new) (words_bound by (length a.now))) }
+    ensures ok { IfOk result (λ bits. let n = length a.now in MakesWord (G.made g.old)
+        (G.made g.new) (words_bound by n) n
+        (λ v. connected_words by (word_value v a.now) (word_value v b.now)) bits.items) }
+    ensures refused { IfErr result (RefusesGate (G.made g.old) (G.made g.new)
+        (words_bound by (length a.now))) }
 {
     let mut bits = Bits::new();
     for i in 0..a.len() {
@@ -62,8 +67,11 @@ pub(crate) fn connect_words<G: Gates>(
 pub(crate) fn connect_bits<G: Gates>(g: &mut G, by: Connective, a: &[Lit]) -> Result<Lit, GateFault>
     requires most { length a.now ≤ 64 }
     requires defined { All (IsDefined (G.made g.old)) a.now }
-    ensures ok { IfOk result (MakesLiteral (G.made g.old) (G.made g.new) (words_bound by (length a.now)) (λ v. connected_bits by (length a.now) (word_value v a.now))) }
-    ensures refused { IfErr result (RefusesGate (G.made g.old) (G.made g.new) (words_bound by (length a.now))) }
+    ensures ok { IfOk result (MakesLiteral (G.made g.old) (G.made g.new)
+        (words_bound by (length a.now))
+        (λ v. connected_bits by (length a.now) (word_value v a.now))) }
+    ensures refused { IfErr result (RefusesGate (G.made g.old) (G.made g.new)
+        (words_bound by (length a.now))) }
 {
     let mut all = match by {
         Connective::And => Lit::TRUE,
@@ -83,8 +91,11 @@ pub(crate) fn connect_negated<G: Gates>(
     b: &[Lit],
 ) -> Result<Bits, GateFault>
     requires { AreOperands (G.made g.old) 64 a.now b.now }
-    ensures ok { IfOk result (λ bits. let n = length a.now in MakesWord (G.made g.old) (G.made g.new) (words_bound by n) n (λ v. ones n - connected_words by (word_value v a.now) (word_value v b.now)) bits.items) }
-    ensures refused { IfErr result (RefusesGate (G.made g.old) (G.made g.new) (words_bound by (length a.now))) }
+    ensures ok { IfOk result (λ bits. let n = length a.now in MakesWord (G.made g.old)
+        (G.made g.new) (words_bound by n) n
+        (λ v. ones n - connected_words by (word_value v a.now) (word_value v b.now)) bits.items) }
+    ensures refused { IfErr result (RefusesGate (G.made g.old) (G.made g.new)
+        (words_bound by (length a.now))) }
 {
     let bits = connect_words(g, by, a, b)?;
     Ok(negation(bits.as_slice()))
@@ -94,8 +105,11 @@ pub(crate) fn connect_negated<G: Gates>(
 pub(crate) fn reduction<G: Gates>(g: &mut G, by: Connective, a: &[Lit]) -> Result<Bits, GateFault>
     requires most { length a.now ≤ 64 }
     requires defined { All (IsDefined (G.made g.old)) a.now }
-    ensures ok { IfOk result (λ bits. let n = length a.now in MakesWord (G.made g.old) (G.made g.new) (unary_bound (reduction_by by) n) 1 (λ v. unary_value (reduction_by by) n (word_value v a.now)) bits.items) }
-    ensures refused { IfErr result (RefusesGate (G.made g.old) (G.made g.new) (unary_bound (reduction_by by) (length a.now))) }
+    ensures ok { IfOk result (λ bits. let n = length a.now in MakesWord (G.made g.old)
+        (G.made g.new) (unary_bound (reduction_by by) n) 1
+        (λ v. unary_value (reduction_by by) n (word_value v a.now)) bits.items) }
+    ensures refused { IfErr result (RefusesGate (G.made g.old) (G.made g.new)
+        (unary_bound (reduction_by by) (length a.now))) }
 {
     let lit = connect_bits(g, by, a)?;
     Ok(one_bit(lit))
@@ -107,8 +121,10 @@ pub(crate) fn reduction<G: Gates>(g: &mut G, by: Connective, a: &[Lit]) -> Resul
 /// far and 4 times the length sum to more than 2^30, `NoMemory`; the gates made so far stay.
 pub fn equal<G: Gates>(g: &mut G, a: &[Lit], b: &[Lit]) -> Result<Lit, GateFault>
     requires { AreOperands (G.made g.old) 64 a.now b.now }
-    ensures ok { IfOk result (MakesLiteral (G.made g.old) (G.made g.new) (binary_bound binary.Eq (length a.now)) (λ v. word_value v a.now == word_value v b.now)) }
-    ensures refused { IfErr result (RefusesGate (G.made g.old) (G.made g.new) (binary_bound binary.Eq (length a.now))) }
+    ensures ok { IfOk result (MakesLiteral (G.made g.old) (G.made g.new)
+        (binary_bound binary.Eq (length a.now)) (λ v. word_value v a.now == word_value v b.now)) }
+    ensures refused { IfErr result (RefusesGate (G.made g.old) (G.made g.new)
+        (binary_bound binary.Eq (length a.now))) }
 {
     let differing = connect_words(g, Connective::Xor, a, b)?;
     let differ = connect_bits(g, Connective::Or, differing.as_slice())?;
@@ -118,8 +134,11 @@ pub fn equal<G: Gates>(g: &mut G, a: &[Lit], b: &[Lit]) -> Result<Lit, GateFault
 /// The bit of the test whether two words are equal.
 pub(crate) fn eq<G: Gates>(g: &mut G, a: &[Lit], b: &[Lit]) -> Result<Bits, GateFault>
     requires { AreOperands (G.made g.old) 64 a.now b.now }
-    ensures ok { IfOk result (λ bits. let n = length a.now in MakesWord (G.made g.old) (G.made g.new) (binary_bound binary.Eq n) 1 (λ v. binary_value binary.Eq n (word_value v a.now) (word_value v b.now)) bits.items) }
-    ensures refused { IfErr result (RefusesGate (G.made g.old) (G.made g.new) (binary_bound binary.Eq (length a.now))) }
+    ensures ok { IfOk result (λ bits. let n = length a.now in MakesWord (G.made g.old)
+        (G.made g.new) (binary_bound binary.Eq n) 1
+        (λ v. binary_value binary.Eq n (word_value v a.now) (word_value v b.now)) bits.items) }
+    ensures refused { IfErr result (RefusesGate (G.made g.old) (G.made g.new)
+        (binary_bound binary.Eq (length a.now))) }
 {
     let lit = equal(g, a, b)?;
     Ok(one_bit(lit))
@@ -128,8 +147,11 @@ pub(crate) fn eq<G: Gates>(g: &mut G, a: &[Lit], b: &[Lit]) -> Result<Bits, Gate
 /// The bit of the test whether two words differ.
 pub(crate) fn neq<G: Gates>(g: &mut G, a: &[Lit], b: &[Lit]) -> Result<Bits, GateFault>
     requires { AreOperands (G.made g.old) 64 a.now b.now }
-    ensures ok { IfOk result (λ bits. let n = length a.now in MakesWord (G.made g.old) (G.made g.new) (binary_bound binary.Neq n) 1 (λ v. binary_value binary.Neq n (word_value v a.now) (word_value v b.now)) bits.items) }
-    ensures refused { IfErr result (RefusesGate (G.made g.old) (G.made g.new) (binary_bound binary.Neq (length a.now))) }
+    ensures ok { IfOk result (λ bits. let n = length a.now in MakesWord (G.made g.old)
+        (G.made g.new) (binary_bound binary.Neq n) 1
+        (λ v. binary_value binary.Neq n (word_value v a.now) (word_value v b.now)) bits.items) }
+    ensures refused { IfErr result (RefusesGate (G.made g.old) (G.made g.new)
+        (binary_bound binary.Neq (length a.now))) }
 {
     let lit = equal(g, a, b)?;
     Ok(one_bit(lit.not()))
@@ -139,7 +161,8 @@ pub(crate) fn neq<G: Gates>(g: &mut G, a: &[Lit], b: &[Lit]) -> Result<Bits, Gat
 pub(crate) fn implies<G: Gates>(g: &mut G, a: &[Lit], b: &[Lit]) -> Result<Bits, GateFault>
     requires bit { length a.now ≡ 1 }
     requires operands { AreOperands (G.made g.old) 64 a.now b.now }
-    ensures ok { IfOk result (λ bits. MakesWord (G.made g.old) (G.made g.new) 1 1 (λ v. binary_value binary.Implies 1 (word_value v a.now) (word_value v b.now)) bits.items) }
+    ensures ok { IfOk result (λ bits. MakesWord (G.made g.old) (G.made g.new) 1 1
+        (λ v. binary_value binary.Implies 1 (word_value v a.now) (word_value v b.now)) bits.items) }
     ensures refused { IfErr result (RefusesGate (G.made g.old) (G.made g.new) 1) }
 {
     let lit = disjunction(g, a[0].not(), b[0])?;

@@ -29,8 +29,11 @@ pub fn unary_bits<G: Gates>(g: &mut G, op: Unary, a: &[Lit]) -> Result<Bits, Gat
     requires some { 1 ≤ length a.now }
     requires most { length a.now ≤ 64 }
     requires defined { All (IsDefined (G.made g.old)) a.now }
-    ensures ok { IfOk result (λ bits. let n = length a.now in MakesWord (G.made g.old) (G.made g.new) (unary_bound op n) (unary_width op n) (λ v. unary_value op n (word_value v a.now)) bits.items) }
-    ensures refused { IfErr result (RefusesGate (G.made g.old) (G.made g.new) (unary_bound op (length a.now))) }
+    ensures ok { IfOk result (λ bits. let n = length a.now in MakesWord (G.made g.old)
+        (G.made g.new) (unary_bound op n) (unary_width op n)
+        (λ v. unary_value op n (word_value v a.now)) bits.items) }
+    ensures refused { IfErr result (RefusesGate (G.made g.old) (G.made g.new)
+        (unary_bound op (length a.now))) }
 {
     match op {
         Unary::Not => Ok(negation(a)),
@@ -51,8 +54,11 @@ pub fn unary_bits<G: Gates>(g: &mut G, op: Unary, a: &[Lit]) -> Result<Bits, Gat
 pub fn binary_bits<G: Gates>(g: &mut G, op: Binary, a: &[Lit], b: &[Lit]) -> Result<Bits, GateFault>
     requires of_bits { is_of_bits op ≡ true → length a.now ≡ 1 }
     requires operands { AreOperands (G.made g.old) 64 a.now b.now }
-    ensures ok { IfOk result (λ bits. let n = length a.now in MakesWord (G.made g.old) (G.made g.new) (binary_bound op n) (binary_width op n) (λ v. binary_value op n (word_value v a.now) (word_value v b.now)) bits.items) }
-    ensures refused { IfErr result (RefusesGate (G.made g.old) (G.made g.new) (binary_bound op (length a.now))) }
+    ensures ok { IfOk result (λ bits. let n = length a.now in MakesWord (G.made g.old)
+        (G.made g.new) (binary_bound op n) (binary_width op n)
+        (λ v. binary_value op n (word_value v a.now) (word_value v b.now)) bits.items) }
+    ensures refused { IfErr result (RefusesGate (G.made g.old) (G.made g.new)
+        (binary_bound op (length a.now))) }
 {
     match op {
         Binary::Iff => connect_negated(g, Connective::Xor, a, b),

@@ -94,7 +94,8 @@ fn add(list: &mut Vec<u32>, entry: u32)
 /// Adds the place of a pair to a map that has room for it.
 fn add_beyond(beyond: &mut IndexMap<Pair, u32>, pair: Pair, place: u32)
     requires { 0 < spare beyond.old }
-    ensures { (other : Operands) → get is_pair beyond.new other ≡ (if is_pair pair other then Some place else get is_pair beyond.old other) }
+    ensures { (other : Operands) → get is_pair beyond.new other
+        ≡ (if is_pair pair other then Some place else get is_pair beyond.old other) }
 {
     match beyond.insert(pair, place) {
         Ok(_) => {}
@@ -107,7 +108,8 @@ impl Chains {
     pub(crate) fn new(alloc: Global, variables: usize) -> Result<Chains, GateFault>
         ensures last { IfOk result (λ chains. chains.last.items ≡ replicate variables 0) }
         ensures before { IfOk result (λ chains. chains.before.items ≡ []) }
-        ensures beyond { IfOk result (λ chains. (pair : Operands) → get is_pair chains.beyond pair ≡ None) }
+        ensures beyond { IfOk result (λ chains. (pair : Operands)
+            → get is_pair chains.beyond pair ≡ None) }
         ensures memory { IfErr result (λ e. e ≡ GateFault.NoMemory) }
     {
         match vec![in alloc; 0u32; variables] {
@@ -122,9 +124,11 @@ impl Chains {
 
     /// Walks along the chain of a variable.
     fn walk(&self, circuit: &Circuit, pair: Pair, variable: u32) -> Walk
-        requires found { AreFound longest (net circuit.now) self.now.last.items self.now.before.items (get is_pair self.now.beyond) }
+        requires found { AreFound longest (net circuit.now) self.now.last.items
+            self.now.before.items (get is_pair self.now.beyond) }
         requires inside { variable < length self.now.last.items }
-        ensures { result ≡ walked circuit.now.gates self.now.before.items pair longest (get_or self.now.last.items variable 0) }
+        ensures { result ≡ walked circuit.now.gates self.now.before.items pair longest
+            (get_or self.now.last.items variable 0) }
     {
         let first = self.last[variable as usize];
         walk_along(circuit.gates(), &self.before, pair, first, LONGEST)
@@ -142,10 +146,12 @@ impl Chains {
 
     /// Where the gate of a pair stands, or what takes it. It takes no memory.
     pub(crate) fn find(&self, circuit: &Circuit, pair: Pair) -> Look
-        requires found { AreFound longest (net circuit.now) self.now.last.items self.now.before.items (get is_pair self.now.beyond) }
+        requires found { AreFound longest (net circuit.now) self.now.last.items
+            self.now.before.items (get is_pair self.now.beyond) }
         requires greater { IsDefined (net circuit.now) pair.rhs0 }
         requires smaller { IsDefined (net circuit.now) pair.rhs1 }
-        ensures { result ≡ finds longest circuit.now.gates self.now.last.items self.now.before.items (get is_pair self.now.beyond) pair }
+        ensures { result ≡ finds longest circuit.now.gates self.now.last.items self.now.before.items
+            (get is_pair self.now.beyond) pair }
     {
         let first = pair.greater / 2;
         let second = pair.smaller / 2;
@@ -164,7 +170,8 @@ impl Chains {
     pub(crate) fn make_room(&mut self, chain: Option<u32>) -> Result<(), GateFault>
         ensures last { self.new.last.items ≡ self.old.last.items }
         ensures before { self.new.before.items ≡ self.old.before.items }
-        ensures beyond { (pair : Operands) → get is_pair self.new.beyond pair ≡ get is_pair self.old.beyond pair }
+        ensures beyond { (pair : Operands) → get is_pair self.new.beyond pair
+            ≡ get is_pair self.old.beyond pair }
         ensures room_last { OnOk result (vec_len self.new.last < vec_capacity self.new.last) }
         ensures room_before { OnOk result (vec_len self.new.before < vec_capacity self.new.before) }
         ensures room_beyond { OnOk result (chain ≡ None → 0 < spare self.new.beyond) }
@@ -187,9 +194,13 @@ impl Chains {
         requires room_last { vec_len self.old.last < vec_capacity self.old.last }
         requires room_before { vec_len self.old.before < vec_capacity self.old.before }
         requires room_beyond { chain ≡ None → 0 < spare self.old.beyond }
-        ensures last { self.new.last.items ≡ chained self.old.last.items chain (length self.old.before.items + 1) ++ 0 ∷ [] }
-        ensures before { self.new.before.items ≡ self.old.before.items ++ link self.old.last.items chain ∷ [] }
-        ensures beyond { (other : Operands) → get is_pair self.new.beyond other ≡ (if is_beyond chain pair other then Some (length self.old.before.items) else get is_pair self.old.beyond other) }
+        ensures last { self.new.last.items ≡ chained self.old.last.items chain
+            (length self.old.before.items + 1) ++ 0 ∷ [] }
+        ensures before { self.new.before.items ≡ self.old.before.items
+            ++ link self.old.last.items chain ∷ [] }
+        ensures beyond { (other : Operands) → get is_pair self.new.beyond other
+            ≡ (if is_beyond chain pair other then Some (length self.old.before.items) else get
+            is_pair self.old.beyond other) }
     {
         let place = self.before.len() as u32;
         match chain {

@@ -19,7 +19,9 @@ pub(crate) fn choose<G: Gates>(g: &mut G, c: Lit, t: &[Lit], e: &[Lit]) -> Resul
     requires condition { IsDefined (G.made g.old) c }
     requires then { All (IsDefined (G.made g.old)) t.now }
     requires otherwise { All (IsDefined (G.made g.old)) e.now }
-    ensures ok { IfOk result (λ bits. let n = length t.now in MakesWord (G.made g.old) (G.made g.new) (3 * n) n (λ v. if literal_value v c then word_value v t.now else word_value v e.now) bits.items) }
+    ensures ok { IfOk result (λ bits. let n = length t.now in MakesWord (G.made g.old)
+        (G.made g.new) (3 * n) n
+        (λ v. if literal_value v c then word_value v t.now else word_value v e.now) bits.items) }
     ensures refused { IfErr result (RefusesGate (G.made g.old) (G.made g.new) (3 * length t.now)) }
 {
     let mut bits = Bits::new();
@@ -37,8 +39,12 @@ pub fn ite_bits<G: Gates>(g: &mut G, c: &[Lit], t: &[Lit], e: &[Lit]) -> Result<
     requires one { length c.now ≡ 1 }
     requires operands { AreOperands (G.made g.old) 64 t.now e.now }
     requires condition { All (IsDefined (G.made g.old)) c.now }
-    ensures ok { IfOk result (λ bits. let n = length t.now in MakesWord (G.made g.old) (G.made g.new) (ite_bound n) n (λ v. ite_value (word_value v c.now) (word_value v t.now) (word_value v e.now)) bits.items) }
-    ensures refused { IfErr result (RefusesGate (G.made g.old) (G.made g.new) (ite_bound (length t.now))) }
+    ensures ok { IfOk result (λ bits. let n = length t.now in MakesWord (G.made g.old)
+        (G.made g.new) (ite_bound n) n
+        (λ v. ite_value (word_value v c.now) (word_value v t.now) (word_value v e.now))
+        bits.items) }
+    ensures refused { IfErr result (RefusesGate (G.made g.old) (G.made g.new)
+        (ite_bound (length t.now))) }
 {
     choose(g, c[0], t, e)
 }

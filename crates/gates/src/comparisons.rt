@@ -23,7 +23,8 @@ pub(crate) fn less_column<G: Gates>(g: &mut G, a: Lit, b: Lit, below: Lit) -> Re
     requires left { IsDefined (G.made g.old) a }
     requires right { IsDefined (G.made g.old) b }
     requires below { IsDefined (G.made g.old) below }
-    ensures ok { IfOk result (MakesLiteral (G.made g.old) (G.made g.new) 4 (λ v. nat_lt (literal_number v a) (literal_number v b + literal_number v below))) }
+    ensures ok { IfOk result (MakesLiteral (G.made g.old) (G.made g.new) 4
+        (λ v. nat_lt (literal_number v a) (literal_number v b + literal_number v below))) }
     ensures refused { IfErr result (RefusesGate (G.made g.old) (G.made g.new) 4) }
 {
     let less = g.and(a.not(), b)?;
@@ -41,7 +42,8 @@ pub(crate) fn less_column<G: Gates>(g: &mut G, a: Lit, b: Lit, below: Lit) -> Re
 /// variables so far and 6 times the length sum to more than 2^30, `NoMemory`; the gates made so far stay.
 pub fn less<G: Gates>(g: &mut G, a: &[Lit], b: &[Lit]) -> Result<Lit, GateFault>
     requires { AreOperands (G.made g.old) 64 a.now b.now }
-    ensures ok { IfOk result (MakesLiteral (G.made g.old) (G.made g.new) (6 * length a.now) (λ v. nat_lt (word_value v a.now) (word_value v b.now))) }
+    ensures ok { IfOk result (MakesLiteral (G.made g.old) (G.made g.new) (6 * length a.now)
+        (λ v. nat_lt (word_value v a.now) (word_value v b.now))) }
     ensures refused { IfErr result (RefusesGate (G.made g.old) (G.made g.new) (6 * length a.now)) }
 {
     let mut below = Lit::FALSE;
@@ -68,7 +70,8 @@ pub(crate) fn top_negated(a: &[Lit]) -> Bits
 /// words with their highest bits negated.
 fn signed_less<G: Gates>(g: &mut G, a: &[Lit], b: &[Lit]) -> Result<Lit, GateFault>
     requires { AreOperands (G.made g.old) 64 a.now b.now }
-    ensures ok { IfOk result (let n = length a.now in MakesLiteral (G.made g.old) (G.made g.new) (6 * n) (λ v. int_lt (signed n (word_value v a.now)) (signed n (word_value v b.now)))) }
+    ensures ok { IfOk result (let n = length a.now in MakesLiteral (G.made g.old) (G.made g.new)
+        (6 * n) (λ v. int_lt (signed n (word_value v a.now)) (signed n (word_value v b.now)))) }
     ensures refused { IfErr result (RefusesGate (G.made g.old) (G.made g.new) (6 * length a.now)) }
 {
     less(g, top_negated(a).as_slice(), top_negated(b).as_slice())
@@ -78,7 +81,8 @@ fn signed_less<G: Gates>(g: &mut G, a: &[Lit], b: &[Lit]) -> Result<Lit, GateFau
 fn comparison<G: Gates>(g: &mut G, op: Binary, a: &[Lit], b: &[Lit]) -> Result<Lit, GateFault>
     requires comparison { is_comparison op ≡ true }
     requires operands { AreOperands (G.made g.old) 64 a.now b.now }
-    ensures ok { IfOk result (λ l. let n = length a.now in MakesWord (G.made g.old) (G.made g.new) (6 * n) 1 (λ v. binary_value op n (word_value v a.now) (word_value v b.now)) (l ∷ [])) }
+    ensures ok { IfOk result (λ l. let n = length a.now in MakesWord (G.made g.old) (G.made g.new)
+        (6 * n) 1 (λ v. binary_value op n (word_value v a.now) (word_value v b.now)) (l ∷ [])) }
     ensures refused { IfErr result (RefusesGate (G.made g.old) (G.made g.new) (6 * length a.now)) }
 {
     match op {
@@ -103,8 +107,11 @@ pub(crate) fn comparison_bit<G: Gates>(
 ) -> Result<Bits, GateFault>
     requires comparison { is_comparison op ≡ true }
     requires operands { AreOperands (G.made g.old) 64 a.now b.now }
-    ensures ok { IfOk result (λ bits. let n = length a.now in MakesWord (G.made g.old) (G.made g.new) (binary_bound op n) (binary_width op n) (λ v. binary_value op n (word_value v a.now) (word_value v b.now)) bits.items) }
-    ensures refused { IfErr result (RefusesGate (G.made g.old) (G.made g.new) (binary_bound op (length a.now))) }
+    ensures ok { IfOk result (λ bits. let n = length a.now in MakesWord (G.made g.old)
+        (G.made g.new) (binary_bound op n) (binary_width op n)
+        (λ v. binary_value op n (word_value v a.now) (word_value v b.now)) bits.items) }
+    ensures refused { IfErr result (RefusesGate (G.made g.old) (G.made g.new)
+        (binary_bound op (length a.now))) }
 {
     let lit = comparison(g, op, a, b)?;
     Ok(one_bit(lit))

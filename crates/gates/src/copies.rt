@@ -36,7 +36,8 @@ pub fn push_gates<G: Gates>(g: &mut G, gates: &[Gate], table: &mut Table) -> Res
     requires zero { slice_index table.old 0 ≡ 0 }
     requires ordered { AreOrderedFrom (length table.old) gates.now }
     requires defined { All (IsDefined (G.made g.old)) table.old }
-    ensures ok { OnOk result ((more : List ℕ) × (table.new ≡ table.old ++ more) × GatesRead (G.made g.old) (G.made g.new) (length table.old) gates.now table.old more) }
+    ensures ok { OnOk result ((more : List ℕ) × (table.new ≡ table.old ++ more)
+        × GatesRead (G.made g.old) (G.made g.new) (length table.old) gates.now table.old more) }
     ensures refused { IfErr result (RefusesGate (G.made g.old) (G.made g.new) (length gates.now)) }
 {
     for gate in gates {
@@ -54,7 +55,8 @@ fn held<G: Gates>(g: &mut G, table: &Table, constraint: Lit, met: Lit) -> Result
     requires inside { variable constraint < length table.now }
     requires defined { All (IsDefined (G.made g.old)) table.now }
     requires met { IsDefined (G.made g.old) met }
-    ensures ok { IfOk result (MakesAnd (G.made g.old) (G.made g.new) met (literal_in table.now constraint)) }
+    ensures ok { IfOk result (MakesAnd (G.made g.old) (G.made g.new) met
+        (literal_in table.now constraint)) }
     ensures refused { IfErr result (RefusesGate (G.made g.old) (G.made g.new) 1) }
 {
     g.and(met, literal_of(table, constraint))
@@ -73,8 +75,11 @@ pub fn all_hold<G: Gates>(
     requires inside { All (λ l. variable l < length table.now) constraints.now }
     requires defined { All (IsDefined (G.made g.old)) table.now }
     requires met { IsDefined (G.made g.old) met }
-    ensures ok { IfOk result (MakesLiteral (G.made g.old) (G.made g.new) (length constraints.now) (λ v. literal_value v met && list_all (λ l. literal_value v (literal_in table.now l)) constraints.now)) }
-    ensures refused { IfErr result (RefusesGate (G.made g.old) (G.made g.new) (length constraints.now)) }
+    ensures ok { IfOk result (MakesLiteral (G.made g.old) (G.made g.new) (length constraints.now)
+        (λ v. literal_value v met && list_all (λ l. literal_value v (literal_in table.now l))
+        constraints.now)) }
+    ensures refused { IfErr result (RefusesGate (G.made g.old) (G.made g.new)
+        (length constraints.now)) }
 {
     let mut met = met;
     for constraint in constraints {

@@ -40,8 +40,10 @@ pub(crate) fn has_bit_from<G: Gates>(g: &mut G, a: &[Lit], from: usize) -> Resul
     requires most { length a.now ≤ 64 }
     requires inside { from ≤ length a.now }
     requires defined { All (IsDefined (G.made g.old)) a.now }
-    ensures ok { IfOk result (MakesLiteral (G.made g.old) (G.made g.new) (length a.now - from) (λ v. not (word_value v (drop from a.now) == 0))) }
-    ensures refused { IfErr result (RefusesGate (G.made g.old) (G.made g.new) (length a.now - from)) }
+    ensures ok { IfOk result (MakesLiteral (G.made g.old) (G.made g.new) (length a.now - from)
+        (λ v. not (word_value v (drop from a.now) == 0))) }
+    ensures refused { IfErr result (RefusesGate (G.made g.old) (G.made g.new)
+        (length a.now - from)) }
 {
     let width = a.len();
     let mut some = Lit::FALSE;
@@ -61,8 +63,10 @@ fn next_row<G: Gates>(g: &mut G, dividend: &[Lit], b: &[Lit]) -> Result<Row, Gat
     requires most { length b.now ≤ 64 }
     requires left { All (IsDefined (G.made g.old)) dividend.now }
     requires right { All (IsDefined (G.made g.old)) b.now }
-    ensures ok { IfOk result (λ row. MakesQuotientRow (G.made g.old) (G.made g.new) (12 * length b.now + 9) dividend.now b.now row.bit row.remainder.items) }
-    ensures refused { IfErr result (RefusesGate (G.made g.old) (G.made g.new) (12 * length b.now + 9)) }
+    ensures ok { IfOk result (λ row. MakesQuotientRow (G.made g.old) (G.made g.new)
+        (12 * length b.now + 9) dividend.now b.now row.bit row.remainder.items) }
+    ensures refused { IfErr result (RefusesGate (G.made g.old) (G.made g.new)
+        (12 * length b.now + 9)) }
 {
     let width = dividend.len();
     let reduced = difference(g, dividend, &b[..width])?;
@@ -79,8 +83,11 @@ fn next_row<G: Gates>(g: &mut G, dividend: &[Lit], b: &[Lit]) -> Result<Row, Gat
 /// so far and 12 n^2 + 12 n sum to more than 2^30, `NoMemory`; the gates made so far stay.
 pub fn divide<G: Gates>(g: &mut G, a: &[Lit], b: &[Lit]) -> Result<Divided, GateFault>
     requires { AreOperands (G.made g.old) 64 a.now b.now }
-    ensures ok { IfOk result (λ divided. let n = length a.now in MakesDivision (G.made g.old) (G.made g.new) (12 * (n * n) + 12 * n) a.now b.now divided.quotient.items divided.remainder.items) }
-    ensures refused { IfErr result (let n = length a.now in RefusesGate (G.made g.old) (G.made g.new) (12 * (n * n) + 12 * n)) }
+    ensures ok { IfOk result (λ divided. let n = length a.now in MakesDivision (G.made g.old)
+        (G.made g.new) (12 * (n * n) + 12 * n) a.now b.now divided.quotient.items
+        divided.remainder.items) }
+    ensures refused { IfErr result (let n = length a.now in RefusesGate (G.made g.old)
+        (G.made g.new) (12 * (n * n) + 12 * n)) }
 {
     let width = a.len();
     let mut quotient = Bits::new();
@@ -101,8 +108,11 @@ pub fn divide<G: Gates>(g: &mut G, a: &[Lit], b: &[Lit]) -> Result<Divided, Gate
 /// The bits of the quotient of two words as whole numbers.
 pub(crate) fn udiv<G: Gates>(g: &mut G, a: &[Lit], b: &[Lit]) -> Result<Bits, GateFault>
     requires { AreOperands (G.made g.old) 64 a.now b.now }
-    ensures ok { IfOk result (λ bits. let n = length a.now in MakesWord (G.made g.old) (G.made g.new) (12 * (n * n) + 12 * n) n (λ v. binary_value binary.Udiv n (word_value v a.now) (word_value v b.now)) bits.items) }
-    ensures refused { IfErr result (let n = length a.now in RefusesGate (G.made g.old) (G.made g.new) (12 * (n * n) + 12 * n)) }
+    ensures ok { IfOk result (λ bits. let n = length a.now in MakesWord (G.made g.old)
+        (G.made g.new) (12 * (n * n) + 12 * n) n
+        (λ v. binary_value binary.Udiv n (word_value v a.now) (word_value v b.now)) bits.items) }
+    ensures refused { IfErr result (let n = length a.now in RefusesGate (G.made g.old)
+        (G.made g.new) (12 * (n * n) + 12 * n)) }
 {
     let divided = divide(g, a, b)?;
     Ok(divided.quotient)
@@ -111,8 +121,11 @@ pub(crate) fn udiv<G: Gates>(g: &mut G, a: &[Lit], b: &[Lit]) -> Result<Bits, Ga
 /// The bits of the remainder of two words as whole numbers.
 pub(crate) fn urem<G: Gates>(g: &mut G, a: &[Lit], b: &[Lit]) -> Result<Bits, GateFault>
     requires { AreOperands (G.made g.old) 64 a.now b.now }
-    ensures ok { IfOk result (λ bits. let n = length a.now in MakesWord (G.made g.old) (G.made g.new) (12 * (n * n) + 12 * n) n (λ v. binary_value binary.Urem n (word_value v a.now) (word_value v b.now)) bits.items) }
-    ensures refused { IfErr result (let n = length a.now in RefusesGate (G.made g.old) (G.made g.new) (12 * (n * n) + 12 * n)) }
+    ensures ok { IfOk result (λ bits. let n = length a.now in MakesWord (G.made g.old)
+        (G.made g.new) (12 * (n * n) + 12 * n) n
+        (λ v. binary_value binary.Urem n (word_value v a.now) (word_value v b.now)) bits.items) }
+    ensures refused { IfErr result (let n = length a.now in RefusesGate (G.made g.old)
+        (G.made g.new) (12 * (n * n) + 12 * n)) }
 {
     let divided = divide(g, a, b)?;
     Ok(divided.remainder)

@@ -64,7 +64,8 @@ pub fn worked_nets()
     ensures constant { MakesAnd no_gate no_gate 2 0 0 }
     ensures is_literal { MakesLiteral no_gate no_gate 0 (λ v. not (literal_value v 2)) 3 }
     ensures is_no_literal { ¬ MakesLiteral no_gate no_gate 0 (λ v. literal_value v 2) 4 }
-    ensures is_not { MakesWord no_gate no_gate 0 2 (λ v. unary_value unary.Not 2 (word_value v (2 ∷ 4 ∷ []))) (3 ∷ 5 ∷ []) }
+    ensures is_not { MakesWord no_gate no_gate 0 2
+        (λ v. unary_value unary.Not 2 (word_value v (2 ∷ 4 ∷ []))) (3 ∷ 5 ∷ []) }
     ensures no_memory { RefusesGate no_gate no_gate 1 fault.NoMemory }
     ensures too_big { ¬ RefusesGate no_gate no_gate 1 fault.TooBig }
 {}
@@ -127,14 +128,18 @@ pub fn worked_divisions()
     ensures row { MakesQuotientRow no_gate no_gate 0 (1 ∷ []) (1 ∷ 0 ∷ []) 1 (0 ∷ []) }
     ensures row_by_zero { MakesQuotientRow no_gate no_gate 0 (1 ∷ []) (0 ∷ []) 1 (1 ∷ []) }
     ensures row_by_more { MakesQuotientRow no_gate no_gate 0 (1 ∷ []) (1 ∷ 1 ∷ []) 0 (1 ∷ []) }
-    ensures row_that_takes_nothing { ¬ MakesQuotientRow no_gate no_gate 0 (1 ∷ []) (1 ∷ []) 0 (1 ∷ []) }
+    ensures row_that_takes_nothing { ¬ MakesQuotientRow no_gate no_gate 0 (1 ∷ []) (1 ∷ []) 0
+        (1 ∷ []) }
     ensures row_not_reduced { ¬ MakesQuotientRow no_gate no_gate 0 (1 ∷ []) (1 ∷ []) 1 (1 ∷ []) }
     ensures narrow { MakesDivision no_gate no_gate 0 (1 ∷ []) (1 ∷ 1 ∷ []) (0 ∷ []) (1 ∷ []) }
-    ensures remainder_too_wide { ¬ MakesDivision no_gate no_gate 0 (1 ∷ []) (1 ∷ 1 ∷ []) (0 ∷ []) (1 ∷ 0 ∷ []) }
+    ensures remainder_too_wide { ¬ MakesDivision no_gate no_gate 0 (1 ∷ []) (1 ∷ 1 ∷ []) (0 ∷ [])
+        (1 ∷ 0 ∷ []) }
     ensures one_by_one { MakesDivision no_gate no_gate 0 (1 ∷ []) (1 ∷ []) (1 ∷ []) (0 ∷ []) }
     ensures one_by_zero { MakesDivision no_gate no_gate 0 (1 ∷ []) (0 ∷ []) (1 ∷ []) (1 ∷ []) }
-    ensures no_quotient_by_zero { ¬ MakesDivision no_gate no_gate 0 (1 ∷ []) (0 ∷ []) (0 ∷ []) (1 ∷ []) }
-    ensures no_remainder_by_zero { ¬ MakesDivision no_gate no_gate 0 (1 ∷ []) (0 ∷ []) (1 ∷ []) (0 ∷ []) }
+    ensures no_quotient_by_zero { ¬ MakesDivision no_gate no_gate 0 (1 ∷ []) (0 ∷ []) (0 ∷ [])
+        (1 ∷ []) }
+    ensures no_remainder_by_zero { ¬ MakesDivision no_gate no_gate 0 (1 ∷ []) (0 ∷ []) (1 ∷ [])
+        (0 ∷ []) }
 {}
 
 /// Worked rows: an and that is folded, one that stands and one that needs a gate; gates that are shared, and gates with a
@@ -153,5 +158,6 @@ pub fn worked_sharing()
     ensures of_one_variable { ¬ AreShared (one_gate_net 3 2).gates }
     ensures twice { ¬ AreShared (gate_of 2 4 ∷ gate_of 4 2 ∷ []) }
     ensures valuation { HasValuation (one_gate_net 4 2) (true ∷ false ∷ []) [] }
-    ensures no_valuation { ¬ HasValuations (record { inputs = 0; latches = 0; gates = gate_of 3 3 ∷ [] }) }
+    ensures no_valuation { ¬ HasValuations
+        (record { inputs = 0; latches = 0; gates = gate_of 3 3 ∷ [] }) }
 {}

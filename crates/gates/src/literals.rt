@@ -16,7 +16,8 @@ use aiger::Lit;
 pub fn disjunction<G: Gates>(g: &mut G, a: Lit, b: Lit) -> Result<Lit, GateFault>
     requires left { IsDefined (G.made g.old) a }
     requires right { IsDefined (G.made g.old) b }
-    ensures ok { IfOk result (MakesLiteral (G.made g.old) (G.made g.new) 1 (λ v. literal_value v a || literal_value v b)) }
+    ensures ok { IfOk result (MakesLiteral (G.made g.old) (G.made g.new) 1
+        (λ v. literal_value v a || literal_value v b)) }
     ensures refused { IfErr result (RefusesGate (G.made g.old) (G.made g.new) 1) }
 {
     let neither = g.and(a.not(), b.not())?;
@@ -30,7 +31,8 @@ pub fn disjunction<G: Gates>(g: &mut G, a: Lit, b: Lit) -> Result<Lit, GateFault
 pub fn xor<G: Gates>(g: &mut G, a: Lit, b: Lit) -> Result<Lit, GateFault>
     requires left { IsDefined (G.made g.old) a }
     requires right { IsDefined (G.made g.old) b }
-    ensures ok { IfOk result (MakesLiteral (G.made g.old) (G.made g.new) 3 (λ v. differ (literal_value v a) (literal_value v b))) }
+    ensures ok { IfOk result (MakesLiteral (G.made g.old) (G.made g.new) 3
+        (λ v. differ (literal_value v a) (literal_value v b))) }
     ensures refused { IfErr result (RefusesGate (G.made g.old) (G.made g.new) 3) }
 {
     let both = g.and(a, b)?;
@@ -46,7 +48,8 @@ pub fn mux<G: Gates>(g: &mut G, c: Lit, t: Lit, e: Lit) -> Result<Lit, GateFault
     requires condition { IsDefined (G.made g.old) c }
     requires then { IsDefined (G.made g.old) t }
     requires otherwise { IsDefined (G.made g.old) e }
-    ensures ok { IfOk result (MakesLiteral (G.made g.old) (G.made g.new) 3 (λ v. if literal_value v c then literal_value v t else literal_value v e)) }
+    ensures ok { IfOk result (MakesLiteral (G.made g.old) (G.made g.new) 3
+        (λ v. if literal_value v c then literal_value v t else literal_value v e)) }
     ensures refused { IfErr result (RefusesGate (G.made g.old) (G.made g.new) 3) }
 {
     if t == e {

@@ -21,7 +21,8 @@ pub(crate) fn masked<G: Gates>(g: &mut G, a: &[Lit], lit: Lit) -> Result<Bits, G
     requires most { length a.now ≤ 128 }
     requires word { All (IsDefined (G.made g.old)) a.now }
     requires literal { IsDefined (G.made g.old) lit }
-    ensures ok { IfOk result (λ bits. let n = length a.now in MakesWord (G.made g.old) (G.made g.new) n n (λ v. word_value v a.now * literal_number v lit) bits.items) }
+    ensures ok { IfOk result (λ bits. let n = length a.now in MakesWord (G.made g.old)
+        (G.made g.new) n n (λ v. word_value v a.now * literal_number v lit) bits.items) }
     ensures refused { IfErr result (RefusesGate (G.made g.old) (G.made g.new) (length a.now)) }
 {
     let mut bits = Bits::new();
@@ -37,7 +38,8 @@ fn raised(a: &[Lit], by: usize) -> Bits
     requires inside { by ≤ length a.now }
     ensures wide { length result.items ≡ length a.now }
     ensures defined { (n : Net) → All (IsDefined n) a.now → All (IsDefined n) result.items }
-    ensures means { (v : Valuation) → word_value v result.items ≡ word_value v a.now * 2 ^ by % 2 ^ length a.now }
+    ensures means { (v : Valuation) → word_value v result.items
+        ≡ word_value v a.now * 2 ^ by % 2 ^ length a.now }
 {
     let mut bits = repeated(Lit::FALSE, by);
     append(&mut bits, &a[..a.len() - by]);
@@ -57,7 +59,10 @@ fn with_row<G: Gates>(
     requires operands { AreOperands (G.made g.old) 128 a.now sum.now }
     requires inside { place ≤ length a.now }
     requires literal { IsDefined (G.made g.old) lit }
-    ensures ok { IfOk result (λ bits. let n = length a.now in MakesWord (G.made g.old) (G.made g.new) (10 * n) n (λ v. (word_value v sum.now + word_value v a.now * (2 ^ place * literal_number v lit)) % 2 ^ n) bits.items) }
+    ensures ok { IfOk result (λ bits. let n = length a.now in MakesWord (G.made g.old)
+        (G.made g.new) (10 * n) n
+        (λ v. (word_value v sum.now + word_value v a.now * (2 ^ place * literal_number v lit)) % 2 ^
+        n) bits.items) }
     ensures refused { IfErr result (RefusesGate (G.made g.old) (G.made g.new) (10 * length a.now)) }
 {
     let row = masked(g, raised(a, place).as_slice(), lit)?;
@@ -70,8 +75,11 @@ fn with_row<G: Gates>(
 /// variables so far and 10 times the length's square sum to more than 2^30, `NoMemory`; the gates made so far stay.
 pub fn mul<G: Gates>(g: &mut G, a: &[Lit], b: &[Lit]) -> Result<Bits, GateFault>
     requires { AreOperands (G.made g.old) 128 a.now b.now }
-    ensures ok { IfOk result (λ bits. let n = length a.now in MakesWord (G.made g.old) (G.made g.new) (10 * (n * n)) n (λ v. word_value v a.now * word_value v b.now % 2 ^ n) bits.items) }
-    ensures refused { IfErr result (let n = length a.now in RefusesGate (G.made g.old) (G.made g.new) (10 * (n * n))) }
+    ensures ok { IfOk result (λ bits. let n = length a.now in MakesWord (G.made g.old)
+        (G.made g.new) (10 * (n * n)) n (λ v. word_value v a.now * word_value v b.now % 2 ^ n)
+        bits.items) }
+    ensures refused { IfErr result (let n = length a.now in RefusesGate (G.made g.old)
+        (G.made g.new) (10 * (n * n))) }
 {
     let mut product = masked(g, a, b[0])?;
     for place in 1..b.len() {
@@ -83,8 +91,11 @@ pub fn mul<G: Gates>(g: &mut G, a: &[Lit], b: &[Lit]) -> Result<Bits, GateFault>
 /// The bits of the product of two words of an operator's width.
 pub(crate) fn mul_bits<G: Gates>(g: &mut G, a: &[Lit], b: &[Lit]) -> Result<Bits, GateFault>
     requires { AreOperands (G.made g.old) 64 a.now b.now }
-    ensures ok { IfOk result (λ bits. let n = length a.now in MakesWord (G.made g.old) (G.made g.new) (10 * (n * n)) n (λ v. binary_value Binary.Mul n (word_value v a.now) (word_value v b.now)) bits.items) }
-    ensures refused { IfErr result (let n = length a.now in RefusesGate (G.made g.old) (G.made g.new) (10 * (n * n))) }
+    ensures ok { IfOk result (λ bits. let n = length a.now in MakesWord (G.made g.old)
+        (G.made g.new) (10 * (n * n)) n
+        (λ v. binary_value Binary.Mul n (word_value v a.now) (word_value v b.now)) bits.items) }
+    ensures refused { IfErr result (let n = length a.now in RefusesGate (G.made g.old)
+        (G.made g.new) (10 * (n * n))) }
 {
     mul(g, a, b)
 }
@@ -112,8 +123,14 @@ fn with_whole_row<G: Gates>(
     requires some { 1 ≤ place }
     requires inside { place < length a.now }
     requires literal { IsDefined (G.made g.old) lit }
-    ensures bits { IfOk result (λ product. let n = length a.now in MakesWord (G.made g.old) (G.made g.new) (12 * n) n (λ v. (word_value v so_far.now.bits.items + word_value v a.now * (2 ^ place * literal_number v lit)) % 2 ^ n) product.bits.items) }
-    ensures lost { IfOk result (λ product. let n = length a.now in MakesLiteral (G.made g.old) (G.made g.new) (12 * n) (λ v. literal_value v so_far.now.lost || nat_le (2 ^ n) (word_value v so_far.now.bits.items + word_value v a.now * (2 ^ place * literal_number v lit))) product.lost) }
+    ensures bits { IfOk result (λ product. let n = length a.now in MakesWord (G.made g.old)
+        (G.made g.new) (12 * n) n
+        (λ v. (word_value v so_far.now.bits.items + word_value v a.now *
+        (2 ^ place * literal_number v lit)) % 2 ^ n) product.bits.items) }
+    ensures lost { IfOk result (λ product. let n = length a.now in MakesLiteral (G.made g.old)
+        (G.made g.new) (12 * n) (λ v. literal_value v so_far.now.lost
+        || nat_le (2 ^ n) (word_value v so_far.now.bits.items + word_value v a.now *
+        (2 ^ place * literal_number v lit))) product.lost) }
     ensures refused { IfErr result (RefusesGate (G.made g.old) (G.made g.new) (12 * length a.now)) }
 {
     let row = masked(g, raised(a, place).as_slice(), lit)?;
@@ -131,9 +148,14 @@ fn with_whole_row<G: Gates>(
 /// The bits of the product of two words, and whether it is no word of the width.
 pub(crate) fn whole_product<G: Gates>(g: &mut G, a: &[Lit], b: &[Lit]) -> Result<Product, GateFault>
     requires { AreOperands (G.made g.old) 64 a.now b.now }
-    ensures bits { IfOk result (λ product. let n = length a.now in MakesWord (G.made g.old) (G.made g.new) (12 * (n * n)) n (λ v. word_value v a.now * word_value v b.now % 2 ^ n) product.bits.items) }
-    ensures lost { IfOk result (λ product. let n = length a.now in MakesLiteral (G.made g.old) (G.made g.new) (12 * (n * n)) (λ v. nat_le (2 ^ n) (word_value v a.now * word_value v b.now)) product.lost) }
-    ensures refused { IfErr result (let n = length a.now in RefusesGate (G.made g.old) (G.made g.new) (12 * (n * n))) }
+    ensures bits { IfOk result (λ product. let n = length a.now in MakesWord (G.made g.old)
+        (G.made g.new) (12 * (n * n)) n (λ v. word_value v a.now * word_value v b.now % 2 ^ n)
+        product.bits.items) }
+    ensures lost { IfOk result (λ product. let n = length a.now in MakesLiteral (G.made g.old)
+        (G.made g.new) (12 * (n * n))
+        (λ v. nat_le (2 ^ n) (word_value v a.now * word_value v b.now)) product.lost) }
+    ensures refused { IfErr result (let n = length a.now in RefusesGate (G.made g.old)
+        (G.made g.new) (12 * (n * n))) }
 {
     let bits = masked(g, a, b[0])?;
     let mut product = Product {

@@ -31,8 +31,11 @@ use base::Binary;
 pub fn overflow<G: Gates>(g: &mut G, op: Binary, a: &[Lit], b: &[Lit]) -> Result<Lit, GateFault>
     requires overflow { is_overflow op ≡ true }
     requires operands { AreOperands (G.made g.old) 64 a.now b.now }
-    ensures ok { IfOk result (λ l. let n = length a.now in MakesWord (G.made g.old) (G.made g.new) (binary_bound op n) 1 (λ v. binary_value op n (word_value v a.now) (word_value v b.now)) (l ∷ [])) }
-    ensures refused { IfErr result (RefusesGate (G.made g.old) (G.made g.new) (binary_bound op (length a.now))) }
+    ensures ok { IfOk result (λ l. let n = length a.now in MakesWord (G.made g.old) (G.made g.new)
+        (binary_bound op n) 1 (λ v. binary_value op n (word_value v a.now) (word_value v b.now))
+        (l ∷ [])) }
+    ensures refused { IfErr result (RefusesGate (G.made g.old) (G.made g.new)
+        (binary_bound op (length a.now))) }
 {
     match op {
         // the second word is above what the first leaves up to the greatest
@@ -57,8 +60,11 @@ pub(crate) fn overflow_bit<G: Gates>(
 ) -> Result<Bits, GateFault>
     requires overflow { is_overflow op ≡ true }
     requires operands { AreOperands (G.made g.old) 64 a.now b.now }
-    ensures ok { IfOk result (λ bits. let n = length a.now in MakesWord (G.made g.old) (G.made g.new) (binary_bound op n) (binary_width op n) (λ v. binary_value op n (word_value v a.now) (word_value v b.now)) bits.items) }
-    ensures refused { IfErr result (RefusesGate (G.made g.old) (G.made g.new) (binary_bound op (length a.now))) }
+    ensures ok { IfOk result (λ bits. let n = length a.now in MakesWord (G.made g.old)
+        (G.made g.new) (binary_bound op n) (binary_width op n)
+        (λ v. binary_value op n (word_value v a.now) (word_value v b.now)) bits.items) }
+    ensures refused { IfErr result (RefusesGate (G.made g.old) (G.made g.new)
+        (binary_bound op (length a.now))) }
 {
     let lit = overflow(g, op, a, b)?;
     Ok(one_bit(lit))
@@ -76,7 +82,9 @@ fn carry_out<G: Gates>(
     requires operands { AreOperands (G.made g.old) 64 a.now b.now }
     requires carry { IsDefined (G.made g.old) carry }
     requires inside { count ≤ length a.now }
-    ensures ok { IfOk result (MakesLiteral (G.made g.old) (G.made g.new) (4 * count) (λ v. nat_le (2 ^ count) (word_value v (take count a.now) + word_value v (take count b.now) + literal_number v carry))) }
+    ensures ok { IfOk result (MakesLiteral (G.made g.old) (G.made g.new) (4 * count)
+        (λ v. nat_le (2 ^ count) (word_value v (take count a.now) + word_value v
+        (take count b.now) + literal_number v carry))) }
     ensures refused { IfErr result (RefusesGate (G.made g.old) (G.made g.new) (4 * count)) }
 {
     let mut out = carry;
@@ -90,7 +98,9 @@ fn carry_out<G: Gates>(
 fn sum_overflow<G: Gates>(g: &mut G, a: &[Lit], b: &[Lit], carry: Lit) -> Result<Lit, GateFault>
     requires operands { AreOperands (G.made g.old) 64 a.now b.now }
     requires carry { IsDefined (G.made g.old) carry }
-    ensures ok { IfOk result (let n = length a.now in MakesLiteral (G.made g.old) (G.made g.new) (12 * n) (λ v. overflows n (signed n (word_value v a.now) +ℤ signed n (word_value v b.now) +ℤ pos (literal_number v carry)))) }
+    ensures ok { IfOk result (let n = length a.now in MakesLiteral (G.made g.old) (G.made g.new)
+        (12 * n) (λ v. overflows n (signed n (word_value v a.now) +ℤ signed n
+        (word_value v b.now) +ℤ pos (literal_number v carry)))) }
     ensures refused { IfErr result (RefusesGate (G.made g.old) (G.made g.new) (12 * length a.now)) }
 {
     let into_top = carry_out(g, a, b, carry, a.len() - 1)?;
@@ -102,7 +112,9 @@ fn sum_overflow<G: Gates>(g: &mut G, a: &[Lit], b: &[Lit], carry: Lit) -> Result
 /// word of all ones, which is -1.
 fn sdivo<G: Gates>(g: &mut G, a: &[Lit], b: &[Lit]) -> Result<Lit, GateFault>
     requires { AreOperands (G.made g.old) 64 a.now b.now }
-    ensures ok { IfOk result (λ l. let n = length a.now in MakesWord (G.made g.old) (G.made g.new) (3 * n) 1 (λ v. binary_value Binary.Sdivo n (word_value v a.now) (word_value v b.now)) (l ∷ [])) }
+    ensures ok { IfOk result (λ l. let n = length a.now in MakesWord (G.made g.old) (G.made g.new)
+        (3 * n) 1 (λ v. binary_value Binary.Sdivo n (word_value v a.now) (word_value v b.now))
+        (l ∷ [])) }
     ensures refused { IfErr result (RefusesGate (G.made g.old) (G.made g.new) (3 * length a.now)) }
 {
     let as_least = top_negated(negation(a).as_slice());
@@ -114,9 +126,16 @@ fn sdivo<G: Gates>(g: &mut G, a: &[Lit], b: &[Lit]) -> Result<Lit, GateFault>
 /// The product of the sizes of two signed numbers, and whether it is no word of the width.
 fn size_product<G: Gates>(g: &mut G, a: &[Lit], b: &[Lit]) -> Result<Product, GateFault>
     requires { AreOperands (G.made g.old) 64 a.now b.now }
-    ensures bits { IfOk result (λ product. let n = length a.now in MakesWord (G.made g.old) (G.made g.new) (12 * (n * n) + 24 * n) n (λ v. unsigned_abs (signed n (word_value v a.now)) * unsigned_abs (signed n (word_value v b.now)) % 2 ^ n) product.bits.items) }
-    ensures lost { IfOk result (λ product. let n = length a.now in MakesLiteral (G.made g.old) (G.made g.new) (12 * (n * n) + 24 * n) (λ v. nat_le (2 ^ n) (unsigned_abs (signed n (word_value v a.now)) * unsigned_abs (signed n (word_value v b.now)))) product.lost) }
-    ensures refused { IfErr result (let n = length a.now in RefusesGate (G.made g.old) (G.made g.new) (12 * (n * n) + 24 * n)) }
+    ensures bits { IfOk result (λ product. let n = length a.now in MakesWord (G.made g.old)
+        (G.made g.new) (12 * (n * n) + 24 * n) n
+        (λ v. unsigned_abs (signed n (word_value v a.now)) * unsigned_abs
+        (signed n (word_value v b.now)) % 2 ^ n) product.bits.items) }
+    ensures lost { IfOk result (λ product. let n = length a.now in MakesLiteral (G.made g.old)
+        (G.made g.new) (12 * (n * n) + 24 * n)
+        (λ v. nat_le (2 ^ n) (unsigned_abs (signed n (word_value v a.now)) * unsigned_abs
+        (signed n (word_value v b.now)))) product.lost) }
+    ensures refused { IfErr result (let n = length a.now in RefusesGate (G.made g.old)
+        (G.made g.new) (12 * (n * n) + 24 * n)) }
 {
     let first = size(g, a)?;
     let second = size(g, b)?;
@@ -130,8 +149,11 @@ fn size_overflow<G: Gates>(g: &mut G, negative: Lit, size: &[Lit]) -> Result<Lit
     requires most { length size.now ≤ 64 }
     requires literal { IsDefined (G.made g.old) negative }
     requires defined { All (IsDefined (G.made g.old)) size.now }
-    ensures ok { IfOk result (let n = length size.now in MakesLiteral (G.made g.old) (G.made g.new) (n + 1) (λ v. overflows n (if literal_value v negative then neg_ℤ (pos (word_value v size.now)) else pos (word_value v size.now)))) }
-    ensures refused { IfErr result (RefusesGate (G.made g.old) (G.made g.new) (length size.now + 1)) }
+    ensures ok { IfOk result (let n = length size.now in MakesLiteral (G.made g.old) (G.made g.new)
+        (n + 1) (λ v. overflows n (if literal_value v negative then neg_ℤ
+        (pos (word_value v size.now)) else pos (word_value v size.now)))) }
+    ensures refused { IfErr result (RefusesGate (G.made g.old) (G.made g.new)
+        (length size.now + 1)) }
 {
     let top = size.len() - 1;
     let below = connect_bits(g, Connective::Or, &size[..top])?;
@@ -142,8 +164,11 @@ fn size_overflow<G: Gates>(g: &mut G, negative: Lit, size: &[Lit]) -> Result<Lit
 /// Whether the product of signed numbers is none of the width, by the product of their sizes.
 fn smulo<G: Gates>(g: &mut G, a: &[Lit], b: &[Lit]) -> Result<Lit, GateFault>
     requires { AreOperands (G.made g.old) 64 a.now b.now }
-    ensures ok { IfOk result (λ l. let n = length a.now in MakesWord (G.made g.old) (G.made g.new) (40 * (n * n) + 4 * n) 1 (λ v. binary_value Binary.Smulo n (word_value v a.now) (word_value v b.now)) (l ∷ [])) }
-    ensures refused { IfErr result (let n = length a.now in RefusesGate (G.made g.old) (G.made g.new) (40 * (n * n) + 4 * n)) }
+    ensures ok { IfOk result (λ l. let n = length a.now in MakesWord (G.made g.old) (G.made g.new)
+        (40 * (n * n) + 4 * n) 1 (λ v. binary_value Binary.Smulo n (word_value v a.now)
+        (word_value v b.now)) (l ∷ [])) }
+    ensures refused { IfErr result (let n = length a.now in RefusesGate (G.made g.old)
+        (G.made g.new) (40 * (n * n) + 4 * n)) }
 {
     let top = a.len() - 1;
     let product = size_product(g, a, b)?;

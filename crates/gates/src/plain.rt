@@ -38,7 +38,8 @@ impl PlainGates {
     ///
     /// Errors: `TooBig` where their sum is above 2^30, `NoMemory`.
     pub fn new(alloc: Global, inputs: u32, latches: u32) -> Result<PlainGates, GateFault>
-        ensures ok { IfOk result (λ made. made ≡ record { inputs = inputs; latches = latches; gates = [] }) }
+        ensures ok { IfOk result (λ made. made
+            ≡ record { inputs = inputs; latches = latches; gates = [] }) }
         ensures too_big { IsErrOf result GateFault.TooBig ↔ (greatest_count < inputs + latches) }
     {
         match Circuit::new(alloc, inputs, latches) {
@@ -64,9 +65,11 @@ impl PlainGates {
 pub(crate) fn push(circuit: &mut Circuit, pair: Pair) -> Result<Lit, GateFault>
     requires order { pair.rhs1 ≤ pair.rhs0 }
     requires defined { IsDefined (net circuit.old) pair.rhs0 }
-    ensures ok { IfOk result (λ l. (circuit.new ≡ with_gate circuit.old pair.rhs0 pair.rhs1) × (l ≡ 2 * (variables (net circuit.old) + 1))) }
+    ensures ok { IfOk result (λ l. (circuit.new ≡ with_gate circuit.old pair.rhs0 pair.rhs1)
+        × (l ≡ 2 * (variables (net circuit.old) + 1))) }
     ensures err { OnErr result (circuit.new ≡ circuit.old) }
-    ensures too_big { IsErrOf result GateFault.TooBig ↔ (greatest_count < variables (net circuit.old) + 1) }
+    ensures too_big { IsErrOf result GateFault.TooBig
+        ↔ (greatest_count < variables (net circuit.old) + 1) }
 {
     match circuit.push_gate(Lit::new(pair.greater), Lit::new(pair.smaller)) {
         Ok(lit) => Ok(lit),
@@ -87,7 +90,8 @@ impl Gates for PlainGates {
         ensures err { OnErr result (self.new ≡ self.old) }
         ensures refused { IfErr result (RefusesGate self.old self.new 1) }
         ensures own { IfOk result (λ l. l ≡ 2 * (variables self.old + 1)) }
-        ensures too_big { IsErrOf result GateFault.TooBig ↔ (greatest_count < variables self.old + 1) }
+        ensures too_big { IsErrOf result GateFault.TooBig
+            ↔ (greatest_count < variables self.old + 1) }
     {
         push(&mut self.circuit, pair_of(a, b))
     }

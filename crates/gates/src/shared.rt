@@ -59,8 +59,10 @@ fn add_gate(
     pair: Pair,
     chain: Option<u32>,
 ) -> Result<Lit, GateFault>
-    requires found { AreFound longest (net circuit.old) chains.old.last.items chains.old.before.items (get is_pair chains.old.beyond) }
-    requires absent { finds longest circuit.old.gates chains.old.last.items chains.old.before.items (get is_pair chains.old.beyond) pair ≡ Look.Absent chain }
+    requires found { AreFound longest (net circuit.old) chains.old.last.items
+        chains.old.before.items (get is_pair chains.old.beyond) }
+    requires absent { finds longest circuit.old.gates chains.old.last.items chains.old.before.items
+        (get is_pair chains.old.beyond) pair ≡ Look.Absent chain }
     requires order { pair.rhs1 ≤ pair.rhs0 }
     requires greater { IsDefined (net circuit.old) pair.rhs0 }
     requires smaller { IsDefined (net circuit.old) pair.rhs1 }
@@ -68,9 +70,12 @@ fn add_gate(
     requires room_last { vec_len chains.old.last < vec_capacity chains.old.last }
     requires room_before { vec_len chains.old.before < vec_capacity chains.old.before }
     requires room_beyond { chain ≡ None → 0 < spare chains.old.beyond }
-    ensures ok { IfOk result (λ l. (circuit.new ≡ record circuit.old { gates = circuit.old.gates ++ pair ∷ [] }) × (l ≡ 2 * (variables (net circuit.old) + 1))) }
+    ensures ok { IfOk result
+        (λ l. (circuit.new ≡ record circuit.old { gates = circuit.old.gates ++ pair ∷ [] })
+        × (l ≡ 2 * (variables (net circuit.old) + 1))) }
     ensures err { IfErr result (λ e. (e ≡ GateFault.NoMemory) × (circuit.new ≡ circuit.old)) }
-    ensures found { AreFound longest (net circuit.new) chains.new.last.items chains.new.before.items (get is_pair chains.new.beyond) }
+    ensures found { AreFound longest (net circuit.new) chains.new.last.items chains.new.before.items
+        (get is_pair chains.new.beyond) }
 {
     let lit = push(circuit, pair)?;
     chains.note(pair, chain);
@@ -84,15 +89,21 @@ fn make(
     pair: Pair,
     chain: Option<u32>,
 ) -> Result<Lit, GateFault>
-    requires found { AreFound longest (net circuit.old) chains.old.last.items chains.old.before.items (get is_pair chains.old.beyond) }
-    requires absent { finds longest circuit.old.gates chains.old.last.items chains.old.before.items (get is_pair chains.old.beyond) pair ≡ Look.Absent chain }
+    requires found { AreFound longest (net circuit.old) chains.old.last.items
+        chains.old.before.items (get is_pair chains.old.beyond) }
+    requires absent { finds longest circuit.old.gates chains.old.last.items chains.old.before.items
+        (get is_pair chains.old.beyond) pair ≡ Look.Absent chain }
     requires order { pair.rhs1 ≤ pair.rhs0 }
     requires greater { IsDefined (net circuit.old) pair.rhs0 }
     requires smaller { IsDefined (net circuit.old) pair.rhs1 }
-    ensures ok { IfOk result (λ l. (circuit.new ≡ record circuit.old { gates = circuit.old.gates ++ pair ∷ [] }) × (l ≡ 2 * (variables (net circuit.old) + 1))) }
+    ensures ok { IfOk result
+        (λ l. (circuit.new ≡ record circuit.old { gates = circuit.old.gates ++ pair ∷ [] })
+        × (l ≡ 2 * (variables (net circuit.old) + 1))) }
     ensures err { OnErr result (circuit.new ≡ circuit.old) }
-    ensures too_big { IsErrOf result GateFault.TooBig ↔ (greatest_count < variables (net circuit.old) + 1) }
-    ensures found { AreFound longest (net circuit.new) chains.new.last.items chains.new.before.items (get is_pair chains.new.beyond) }
+    ensures too_big { IsErrOf result GateFault.TooBig
+        ↔ (greatest_count < variables (net circuit.old) + 1) }
+    ensures found { AreFound longest (net circuit.new) chains.new.last.items chains.new.before.items
+        (get is_pair chains.new.beyond) }
 {
     if circuit.variables() >= GREATEST_COUNT {
         return Err(GateFault::TooBig);
@@ -117,7 +128,8 @@ impl HashGates {
     ///
     /// Errors: `TooBig` where their sum is above 2^30, `NoMemory`.
     pub fn new(alloc: Global, inputs: u32, latches: u32) -> Result<HashGates, GateFault>
-        ensures ok { IfOk result (λ made. made ≡ record { inputs = inputs; latches = latches; gates = [] }) }
+        ensures ok { IfOk result (λ made. made
+            ≡ record { inputs = inputs; latches = latches; gates = [] }) }
         ensures too_big { IsErrOf result GateFault.TooBig ↔ (greatest_count < inputs + latches) }
     {
         match Circuit::new(alloc, inputs, latches) {
@@ -153,10 +165,16 @@ impl HashGates {
         requires left { IsDefined self.old a }
         requires right { IsDefined self.old b }
         requires needed { folded_and a b ≡ None }
-        ensures standing { (k : ℕ) → position (is_gate_of a b) self.old.gates ≡ Some k → (result ≡ Ok (gate_literal self.old k)) × (self.new ≡ self.old) }
-        ensures fresh { position (is_gate_of a b) self.old.gates ≡ None → IfOk result (λ l. (self.new ≡ record self.old { gates = self.old.gates ++ gate_of a b ∷ [] }) × (l ≡ 2 * (variables self.old + 1))) }
+        ensures standing { (k : ℕ) → position (is_gate_of a b) self.old.gates ≡ Some k
+            → (result ≡ Ok (gate_literal self.old k)) × (self.new ≡ self.old) }
+        ensures fresh { position (is_gate_of a b) self.old.gates ≡ None
+            → IfOk result (λ l. (self.new
+            ≡ record self.old { gates = self.old.gates ++ gate_of a b ∷ [] }) × (l
+            ≡ 2 * (variables self.old + 1))) }
         ensures err { OnErr result (self.new ≡ self.old) }
-        ensures too_big { IsErrOf result GateFault.TooBig ↔ ((position (is_gate_of a b) self.old.gates ≡ None) × (greatest_count < variables self.old + 1)) }
+        ensures too_big { IsErrOf result GateFault.TooBig
+            ↔ ((position (is_gate_of a b) self.old.gates ≡ None)
+            × (greatest_count < variables self.old + 1)) }
         ensures shared { AreShared self.new.gates }
     {
         let pair = pair_of(a, b);
@@ -178,9 +196,14 @@ impl Gates for HashGates {
         ensures ok { IfOk result (MakesAnd self.old self.new a b) }
         ensures err { OnErr result (self.new ≡ self.old) }
         ensures refused { IfErr result (RefusesGate self.old self.new 1) }
-        ensures standing { (l : ℕ) → standing_and self.old a b ≡ Some l → (result ≡ Ok l) × (self.new ≡ self.old) }
-        ensures fresh { standing_and self.old a b ≡ None → IfOk result (λ l. (self.new ≡ record self.old { gates = self.old.gates ++ gate_of a b ∷ [] }) × (l ≡ 2 * (variables self.old + 1))) }
-        ensures too_big { IsErrOf result GateFault.TooBig ↔ ((standing_and self.old a b ≡ None) × (greatest_count < variables self.old + 1)) }
+        ensures standing { (l : ℕ) → standing_and self.old a b ≡ Some l → (result ≡ Ok l)
+            × (self.new ≡ self.old) }
+        ensures fresh { standing_and self.old a b ≡ None
+            → IfOk result (λ l. (self.new
+            ≡ record self.old { gates = self.old.gates ++ gate_of a b ∷ [] }) × (l
+            ≡ 2 * (variables self.old + 1))) }
+        ensures too_big { IsErrOf result GateFault.TooBig
+            ↔ ((standing_and self.old a b ≡ None) × (greatest_count < variables self.old + 1)) }
         ensures shared { AreShared self.new.gates }
     {
         let _ = &self.circuit;

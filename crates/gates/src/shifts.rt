@@ -37,7 +37,8 @@ fn moved(op: Binary, a: &[Lit], by: usize) -> Bits
     requires below { by < length a.now }
     ensures wide { length result.items ≡ length a.now }
     ensures defined { (n : Net) → All (IsDefined n) a.now → All (IsDefined n) result.items }
-    ensures means { (v : Valuation) → word_value v result.items ≡ binary_value op (length a.now) (word_value v a.now) by }
+    ensures means { (v : Valuation) → word_value v result.items
+        ≡ binary_value op (length a.now) (word_value v a.now) by }
 {
     let width = a.len();
     match op {
@@ -66,8 +67,11 @@ fn moved_in_turn<G: Gates>(
     requires near { is_shift op ≡ true → 2 ^ length amount.now < 2 * length a.now }
     requires defined { All (IsDefined (G.made g.old)) a.now }
     requires amount { All (IsDefined (G.made g.old)) amount.now }
-    ensures ok { IfOk result (λ bits. let n = length a.now in MakesWord (G.made g.old) (G.made g.new) (3 * (n * length amount.now)) n (λ v. binary_value op n (word_value v a.now) (word_value v amount.now)) bits.items) }
-    ensures refused { IfErr result (RefusesGate (G.made g.old) (G.made g.new) (3 * (length a.now * length amount.now))) }
+    ensures ok { IfOk result (λ bits. let n = length a.now in MakesWord (G.made g.old)
+        (G.made g.new) (3 * (n * length amount.now)) n
+        (λ v. binary_value op n (word_value v a.now) (word_value v amount.now)) bits.items) }
+    ensures refused { IfErr result (RefusesGate (G.made g.old) (G.made g.new)
+        (3 * (length a.now * length amount.now))) }
 {
     let mut bits = moved(op, a, 0);
     for place in 0..amount.len() {
@@ -86,8 +90,11 @@ fn moved_in_turn<G: Gates>(
 pub fn shift<G: Gates>(g: &mut G, op: Binary, a: &[Lit], b: &[Lit]) -> Result<Bits, GateFault>
     requires shifts { is_shift op ≡ true }
     requires operands { AreOperands (G.made g.old) 64 a.now b.now }
-    ensures ok { IfOk result (λ bits. let n = length a.now in MakesWord (G.made g.old) (G.made g.new) (binary_bound op n) n (λ v. binary_value op n (word_value v a.now) (word_value v b.now)) bits.items) }
-    ensures refused { IfErr result (RefusesGate (G.made g.old) (G.made g.new) (binary_bound op (length a.now))) }
+    ensures ok { IfOk result (λ bits. let n = length a.now in MakesWord (G.made g.old)
+        (G.made g.new) (binary_bound op n) n
+        (λ v. binary_value op n (word_value v a.now) (word_value v b.now)) bits.items) }
+    ensures refused { IfErr result (RefusesGate (G.made g.old) (G.made g.new)
+        (binary_bound op (length a.now))) }
 {
     let width = a.len();
     let (low, high) = b.split_at(log_up(width as u64) as usize);
@@ -108,8 +115,11 @@ pub fn shift<G: Gates>(g: &mut G, op: Binary, a: &[Lit], b: &[Lit]) -> Result<Bi
 pub fn rotate<G: Gates>(g: &mut G, op: Binary, a: &[Lit], b: &[Lit]) -> Result<Bits, GateFault>
     requires rotates { is_rotation op ≡ true }
     requires operands { AreOperands (G.made g.old) 64 a.now b.now }
-    ensures ok { IfOk result (λ bits. let n = length a.now in MakesWord (G.made g.old) (G.made g.new) (binary_bound op n) n (λ v. binary_value op n (word_value v a.now) (word_value v b.now)) bits.items) }
-    ensures refused { IfErr result (RefusesGate (G.made g.old) (G.made g.new) (binary_bound op (length a.now))) }
+    ensures ok { IfOk result (λ bits. let n = length a.now in MakesWord (G.made g.old)
+        (G.made g.new) (binary_bound op n) n
+        (λ v. binary_value op n (word_value v a.now) (word_value v b.now)) bits.items) }
+    ensures refused { IfErr result (RefusesGate (G.made g.old) (G.made g.new)
+        (binary_bound op (length a.now))) }
 {
     moved_in_turn(g, op, a, b)
 }

@@ -23,9 +23,16 @@ use base::Binary;
 /// The quotient and the remainder of the sizes of two signed numbers.
 fn divide_sizes<G: Gates>(g: &mut G, a: &[Lit], b: &[Lit]) -> Result<Divided, GateFault>
     requires { AreOperands (G.made g.old) 64 a.now b.now }
-    ensures quotient { IfOk result (λ divided. let n = length a.now in MakesWord (G.made g.old) (G.made g.new) (12 * (n * n) + 36 * n) n (λ v. udiv n (unsigned_abs (signed n (word_value v a.now))) (unsigned_abs (signed n (word_value v b.now)))) divided.quotient.items) }
-    ensures remainder { IfOk result (λ divided. let n = length a.now in MakesWord (G.made g.old) (G.made g.new) (12 * (n * n) + 36 * n) n (λ v. urem (unsigned_abs (signed n (word_value v a.now))) (unsigned_abs (signed n (word_value v b.now)))) divided.remainder.items) }
-    ensures refused { IfErr result (let n = length a.now in RefusesGate (G.made g.old) (G.made g.new) (12 * (n * n) + 36 * n)) }
+    ensures quotient { IfOk result
+        (λ divided. let n = length a.now in MakesWord (G.made g.old) (G.made g.new)
+        (12 * (n * n) + 36 * n) n (λ v. udiv n (unsigned_abs (signed n (word_value v a.now)))
+        (unsigned_abs (signed n (word_value v b.now)))) divided.quotient.items) }
+    ensures remainder { IfOk result
+        (λ divided. let n = length a.now in MakesWord (G.made g.old) (G.made g.new)
+        (12 * (n * n) + 36 * n) n (λ v. urem (unsigned_abs (signed n (word_value v a.now)))
+        (unsigned_abs (signed n (word_value v b.now)))) divided.remainder.items) }
+    ensures refused { IfErr result (let n = length a.now in RefusesGate (G.made g.old)
+        (G.made g.new) (12 * (n * n) + 36 * n)) }
 {
     let dividend = size(g, a)?;
     let divisor = size(g, b)?;
@@ -39,8 +46,11 @@ fn divide_sizes<G: Gates>(g: &mut G, a: &[Lit], b: &[Lit]) -> Result<Divided, Ga
 /// so far and 12 n^2 + 51 n sum to more than 2^30, `NoMemory`; the gates made so far stay.
 pub fn sdiv<G: Gates>(g: &mut G, a: &[Lit], b: &[Lit]) -> Result<Bits, GateFault>
     requires { AreOperands (G.made g.old) 64 a.now b.now }
-    ensures ok { IfOk result (λ bits. let n = length a.now in MakesWord (G.made g.old) (G.made g.new) (12 * (n * n) + 51 * n) n (λ v. binary_value Binary.Sdiv n (word_value v a.now) (word_value v b.now)) bits.items) }
-    ensures refused { IfErr result (let n = length a.now in RefusesGate (G.made g.old) (G.made g.new) (12 * (n * n) + 51 * n)) }
+    ensures ok { IfOk result (λ bits. let n = length a.now in MakesWord (G.made g.old)
+        (G.made g.new) (12 * (n * n) + 51 * n) n
+        (λ v. binary_value Binary.Sdiv n (word_value v a.now) (word_value v b.now)) bits.items) }
+    ensures refused { IfErr result (let n = length a.now in RefusesGate (G.made g.old)
+        (G.made g.new) (12 * (n * n) + 51 * n)) }
 {
     let top = a.len() - 1;
     let divided = divide_sizes(g, a, b)?;
@@ -54,8 +64,11 @@ pub fn sdiv<G: Gates>(g: &mut G, a: &[Lit], b: &[Lit]) -> Result<Bits, GateFault
 /// so far and 12 n^2 + 48 n sum to more than 2^30, `NoMemory`; the gates made so far stay.
 pub fn srem<G: Gates>(g: &mut G, a: &[Lit], b: &[Lit]) -> Result<Bits, GateFault>
     requires { AreOperands (G.made g.old) 64 a.now b.now }
-    ensures ok { IfOk result (λ bits. let n = length a.now in MakesWord (G.made g.old) (G.made g.new) (12 * (n * n) + 48 * n) n (λ v. binary_value Binary.Srem n (word_value v a.now) (word_value v b.now)) bits.items) }
-    ensures refused { IfErr result (let n = length a.now in RefusesGate (G.made g.old) (G.made g.new) (12 * (n * n) + 48 * n)) }
+    ensures ok { IfOk result (λ bits. let n = length a.now in MakesWord (G.made g.old)
+        (G.made g.new) (12 * (n * n) + 48 * n) n
+        (λ v. binary_value Binary.Srem n (word_value v a.now) (word_value v b.now)) bits.items) }
+    ensures refused { IfErr result (let n = length a.now in RefusesGate (G.made g.old)
+        (G.made g.new) (12 * (n * n) + 48 * n)) }
 {
     let divided = divide_sizes(g, a, b)?;
     negated_where(g, a[a.len() - 1], divided.remainder.as_slice())
@@ -73,8 +86,11 @@ fn is_rounded_down<G: Gates>(
     requires rest { All (IsDefined (G.made g.old)) rest.now }
     requires left { IsDefined (G.made g.old) dividend_sign }
     requires right { IsDefined (G.made g.old) divisor_sign }
-    ensures ok { IfOk result (MakesLiteral (G.made g.old) (G.made g.new) (length rest.now + 4) (λ v. not (word_value v rest.now == 0) && differ (literal_value v dividend_sign) (literal_value v divisor_sign))) }
-    ensures refused { IfErr result (RefusesGate (G.made g.old) (G.made g.new) (length rest.now + 4)) }
+    ensures ok { IfOk result (MakesLiteral (G.made g.old) (G.made g.new) (length rest.now + 4)
+        (λ v. not (word_value v rest.now == 0) && differ (literal_value v dividend_sign)
+        (literal_value v divisor_sign))) }
+    ensures refused { IfErr result (RefusesGate (G.made g.old) (G.made g.new)
+        (length rest.now + 4)) }
 {
     let some = connect_bits(g, Connective::Or, rest)?;
     let other = xor(g, dividend_sign, divisor_sign)?;
@@ -85,7 +101,10 @@ fn is_rounded_down<G: Gates>(
 fn added_where<G: Gates>(g: &mut G, lit: Lit, a: &[Lit], b: &[Lit]) -> Result<Bits, GateFault>
     requires operands { AreOperands (G.made g.old) 64 a.now b.now }
     requires literal { IsDefined (G.made g.old) lit }
-    ensures ok { IfOk result (λ bits. let n = length a.now in MakesWord (G.made g.old) (G.made g.new) (10 * n) n (λ v. (word_value v a.now + word_value v b.now * literal_number v lit) % 2 ^ n) bits.items) }
+    ensures ok { IfOk result (λ bits. let n = length a.now in MakesWord (G.made g.old)
+        (G.made g.new) (10 * n) n
+        (λ v. (word_value v a.now + word_value v b.now * literal_number v lit) % 2 ^ n)
+        bits.items) }
     ensures refused { IfErr result (RefusesGate (G.made g.old) (G.made g.new) (10 * length a.now)) }
 {
     let more = masked(g, b, lit)?;
@@ -99,8 +118,11 @@ fn added_where<G: Gates>(g: &mut G, lit: Lit, a: &[Lit], b: &[Lit]) -> Result<Bi
 /// so far and 12 n^2 + 63 n sum to more than 2^30, `NoMemory`; the gates made so far stay.
 pub fn smod<G: Gates>(g: &mut G, a: &[Lit], b: &[Lit]) -> Result<Bits, GateFault>
     requires { AreOperands (G.made g.old) 64 a.now b.now }
-    ensures ok { IfOk result (λ bits. let n = length a.now in MakesWord (G.made g.old) (G.made g.new) (12 * (n * n) + 63 * n) n (λ v. binary_value Binary.Smod n (word_value v a.now) (word_value v b.now)) bits.items) }
-    ensures refused { IfErr result (let n = length a.now in RefusesGate (G.made g.old) (G.made g.new) (12 * (n * n) + 63 * n)) }
+    ensures ok { IfOk result (λ bits. let n = length a.now in MakesWord (G.made g.old)
+        (G.made g.new) (12 * (n * n) + 63 * n) n
+        (λ v. binary_value Binary.Smod n (word_value v a.now) (word_value v b.now)) bits.items) }
+    ensures refused { IfErr result (let n = length a.now in RefusesGate (G.made g.old)
+        (G.made g.new) (12 * (n * n) + 63 * n)) }
 {
     let top = a.len() - 1;
     let rest = srem(g, a, b)?;

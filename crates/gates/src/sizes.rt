@@ -24,7 +24,9 @@ pub(crate) fn negated_where<G: Gates>(
     requires most { length a.now ≤ 64 }
     requires literal { IsDefined (G.made g.old) negative }
     requires defined { All (IsDefined (G.made g.old)) a.now }
-    ensures ok { IfOk result (λ bits. let n = length a.now in MakesWord (G.made g.old) (G.made g.new) (12 * n) n (λ v. if literal_value v negative then unary_value Unary.Neg n (word_value v a.now) else word_value v a.now) bits.items) }
+    ensures ok { IfOk result (λ bits. let n = length a.now in MakesWord (G.made g.old)
+        (G.made g.new) (12 * n) n (λ v. if literal_value v negative then unary_value Unary.Neg n
+        (word_value v a.now) else word_value v a.now) bits.items) }
     ensures refused { IfErr result (RefusesGate (G.made g.old) (G.made g.new) (12 * length a.now)) }
 {
     let mut bits = Bits::new();
@@ -43,7 +45,8 @@ pub(crate) fn size<G: Gates>(g: &mut G, a: &[Lit]) -> Result<Bits, GateFault>
     requires some { 1 ≤ length a.now }
     requires most { length a.now ≤ 64 }
     requires defined { All (IsDefined (G.made g.old)) a.now }
-    ensures ok { IfOk result (λ bits. let n = length a.now in MakesWord (G.made g.old) (G.made g.new) (12 * n) n (λ v. unsigned_abs (signed n (word_value v a.now))) bits.items) }
+    ensures ok { IfOk result (λ bits. let n = length a.now in MakesWord (G.made g.old)
+        (G.made g.new) (12 * n) n (λ v. unsigned_abs (signed n (word_value v a.now))) bits.items) }
     ensures refused { IfErr result (RefusesGate (G.made g.old) (G.made g.new) (12 * length a.now)) }
 {
     negated_where(g, a[a.len() - 1], a)

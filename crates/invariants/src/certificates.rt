@@ -56,7 +56,8 @@ pub fn judge_proof<P: Source>(
     ensures judged { IfOk result (IsJudgedProof formula (P.to_come proof.old)) }
     ensures end { OnOk result (IsAtEnd (P.to_come proof.new)) }
     ensures fault { IfErr result IsOfProof }
-    ensures counted { (old : ℕ) → CountsCertificate result old old (P.failures proof.old) (P.failures proof.new) }
+    ensures counted { (old : ℕ) → CountsCertificate result old old (P.failures proof.old)
+        (P.failures proof.new) }
 {
     let mut judge = judge_of(alloc, formula)?;
     feed_all(&mut judge, proof)?;
@@ -79,15 +80,18 @@ pub fn judge_certificate<S: Source, P: Source>(
     proof: &mut P,
 ) -> Result<Judgement, CertificateFault>
     // the judgement is that of the whole texts
-    ensures judged { IfOk result (IsCertified circuit.now bad (S.to_come invariant.old) (P.to_come proof.old)) }
+    ensures judged { IfOk result (IsCertified circuit.now bad (S.to_come invariant.old)
+        (P.to_come proof.old)) }
     // where the proof is one, the property never rises
-    ensures holds { IfOk result (λ j. (line : ℕ) → j ≡ judgement.Derived line → ¬ CanRiseInCircuit circuit.now bad) }
+    ensures holds { IfOk result (λ j. (line : ℕ) → j ≡ judgement.Derived line
+        → ¬ CanRiseInCircuit circuit.now bad) }
     ensures end { OnOk result (IsAtEnd (S.to_come invariant.new) × IsAtEnd (P.to_come proof.new)) }
     ensures fault { IfErr result (IsNotCertified circuit.now bad (S.to_come invariant.old)) }
     ensures unread { WithoutFormOf result (invariant.new ≡ invariant.old) }
     ensures proof_unread { WithoutFormula result (proof.new ≡ proof.old) }
     // the source failed once whose fault is told, and else none
-    ensures counted { CountsCertificate result (S.failures invariant.old) (S.failures invariant.new) (P.failures proof.old) (P.failures proof.new) }
+    ensures counted { CountsCertificate result (S.failures invariant.old) (S.failures invariant.new)
+        (P.failures proof.old) (P.failures proof.new) }
 {
     certified_property_never_rises();
     let formula = owed_formula(alloc, circuit, bad, invariant)?;

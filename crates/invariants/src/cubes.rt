@@ -71,8 +71,10 @@ pub(crate) fn read_cube(
     cube: &mut Vec<u32>,
 ) -> Result<(), InvariantWhy>
     requires { All (λ k. k < 2147483647) named.now }
-    ensures ok { OnOk result (plain_cube named.now width (parts_of (line_words line.now)) ≡ Ok cube.new.items) }
-    ensures err { IfErr result (λ e. (e ≡ why.NoMemory) ⊎ (plain_cube named.now width (parts_of (line_words line.now)) ≡ Err e)) }
+    ensures ok { OnOk result (plain_cube named.now width (parts_of (line_words line.now))
+        ≡ Ok cube.new.items) }
+    ensures err { IfErr result (λ e. (e ≡ why.NoMemory)
+        ⊎ (plain_cube named.now width (parts_of (line_words line.now)) ≡ Err e)) }
 {
     let parts = match parts_of(line) {
         None => return Err(InvariantWhy::BadCube),

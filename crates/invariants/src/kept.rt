@@ -55,7 +55,8 @@ impl Invariant {
     /// Errors, of which the first that applies in this order is answered: `HoldsAtStart` where it does not ask that a
     /// latch be 1, `NoSuchLatch` where a literal is of no latch, `NoMemory`. Nothing is changed then.
     pub fn push(&mut self, cube: &[u32]) -> Result<(), InvariantWhy>
-        ensures ok { OnOk result (self.new ≡ record self.old { cubes = self.old.cubes ++ cube.now ∷ [] }) }
+        ensures ok { OnOk result (self.new
+            ≡ record self.old { cubes = self.old.cubes ++ cube.now ∷ [] }) }
         ensures err { OnErr result (self.new ≡ self.old) }
         ensures refused { RefusesCube result self.old cube.now }
     {

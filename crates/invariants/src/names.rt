@@ -53,10 +53,13 @@ fn push_name(
     word: &[u8],
 ) -> Result<(), InvariantWhy>
     requires { Marks latches marks.old named.old.items }
-    ensures ok { OnOk result (with_named_latch latches named.old.items (latch_named word.now) ≡ Ok named.new.items) }
+    ensures ok { OnOk result (with_named_latch latches named.old.items (latch_named word.now)
+        ≡ Ok named.new.items) }
     ensures marks { OnOk result (Marks latches marks.new named.new.items) }
-    ensures inside { OnOk result (All (λ k. k < latches) named.old.items → All (λ k. k < latches) named.new.items) }
-    ensures err { IfErr result (λ e. (e ≡ why.NoMemory) ⊎ (with_named_latch latches named.old.items (latch_named word.now) ≡ Err e)) }
+    ensures inside { OnOk result (All (λ k. k < latches) named.old.items
+        → All (λ k. k < latches) named.new.items) }
+    ensures err { IfErr result (λ e. (e ≡ why.NoMemory)
+        ⊎ (with_named_latch latches named.old.items (latch_named word.now) ≡ Err e)) }
 {
     let latch = match latch_of(word) {
         None => return Err(InvariantWhy::BadNames),
@@ -84,9 +87,13 @@ fn push_names(
     behind: Option<&[u8]>,
 ) -> Result<(), InvariantWhy>
     requires { Marks latches marks.old named.old.items }
-    ensures inside { OnOk result (All (λ k. k < latches) named.old.items → All (λ k. k < latches) named.new.items) }
-    ensures ok { OnOk result (then_named latches (Ok named.old.items) (words_behind (option_copied behind.entry)) ≡ Ok named.new.items) }
-    ensures err { IfErr result (λ e. (e ≡ why.NoMemory) ⊎ (then_named latches (Ok named.old.items) (words_behind (option_copied behind.entry)) ≡ Err e)) }
+    ensures inside { OnOk result (All (λ k. k < latches) named.old.items
+        → All (λ k. k < latches) named.new.items) }
+    ensures ok { OnOk result (then_named latches (Ok named.old.items)
+        (words_behind (option_copied behind.entry)) ≡ Ok named.new.items) }
+    ensures err { IfErr result (λ e. (e ≡ why.NoMemory)
+        ⊎ (then_named latches (Ok named.old.items) (words_behind (option_copied behind.entry))
+        ≡ Err e)) }
 {
     let mut left = behind;
     while let Some(rest) = left {
@@ -105,8 +112,10 @@ pub(crate) fn read_names(
     line: &[u8],
 ) -> Result<Vec<u32>, InvariantWhy>
     ensures inside { IfOk result (λ named. All (λ k. k < latches) named.items) }
-    ensures ok { IfOk result (λ named. named_latches latches width (behind_key (codes ".ilb") (line_words line.now)) ≡ Ok named.items) }
-    ensures err { IfErr result (λ e. (e ≡ why.NoMemory) ⊎ (named_latches latches width (behind_key (codes ".ilb") (line_words line.now)) ≡ Err e)) }
+    ensures ok { IfOk result (λ named. named_latches latches width
+        (behind_key (codes ".ilb") (line_words line.now)) ≡ Ok named.items) }
+    ensures err { IfErr result (λ e. (e ≡ why.NoMemory)
+        ⊎ (named_latches latches width (behind_key (codes ".ilb") (line_words line.now)) ≡ Err e)) }
 {
     let (first, behind) = first_word(line);
     if !is_word(first, b".ilb") {

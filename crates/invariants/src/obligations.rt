@@ -70,8 +70,12 @@ fn put_gate(formula: &mut Formula, truth: u32, variable: u32, gate: Gate) -> Res
 fn put_gates(formula: &mut Formula, truth: u32, circuit: &Circuit) -> Result<(), ClauseFault>
     requires truth { truth ≡ truth_variable circuit.now }
     requires few { truth ≤ 2147483646 }
-    requires literals { AreOver formula.old.variables (gates_clauses truth (suc (circuit.now.inputs + length circuit.now.latches)) circuit.now.gates) }
-    ensures { OnOk result (AddsClauses formula.old formula.new (gates_clauses truth (suc (circuit.now.inputs + length circuit.now.latches)) circuit.now.gates)) }
+    requires literals { AreOver formula.old.variables
+        (gates_clauses truth (suc (circuit.now.inputs + length circuit.now.latches))
+        circuit.now.gates) }
+    ensures { OnOk result (AddsClauses formula.old formula.new
+        (gates_clauses truth (suc (circuit.now.inputs + length circuit.now.latches))
+        circuit.now.gates)) }
 {
     let gates = circuit.gates();
     let first = truth - gates.len() as u32;
@@ -105,8 +109,10 @@ fn put_outsides(
     invariant: &Invariant,
 ) -> Result<(), ClauseFault>
     requires latches { invariant.now.latches ≡ length circuit.now.latches }
-    requires literals { AreOver formula.old.variables (map (outside_clause circuit.now) invariant.now.cubes) }
-    ensures { OnOk result (AddsClauses formula.old formula.new (map (outside_clause circuit.now) invariant.now.cubes)) }
+    requires literals { AreOver formula.old.variables
+        (map (outside_clause circuit.now) invariant.now.cubes) }
+    ensures { OnOk result (AddsClauses formula.old formula.new
+        (map (outside_clause circuit.now) invariant.now.cubes)) }
 {
     let mut clause = Vec::new(alloc);
     for place in 0..invariant.cube_count() {
@@ -141,7 +147,8 @@ fn put_next(
     requires few { variable ≤ 2147483646 }
     requires inside { All (IsLiteral (length circuit.now.latches)) cube.now }
     requires literals { AreOver formula.old.variables (next_clauses circuit.now variable cube.now) }
-    ensures { OnOk result (AddsClauses formula.old formula.new (next_clauses circuit.now variable cube.now)) }
+    ensures { OnOk result (AddsClauses formula.old formula.new
+        (next_clauses circuit.now variable cube.now)) }
 {
     let truth = circuit.variables() + 1;
     for literal in cube {
@@ -161,8 +168,10 @@ fn put_nexts(
 ) -> Result<(), ClauseFault>
     requires latches { invariant.now.latches ≡ length circuit.now.latches }
     requires few { rise_variable circuit.now + length invariant.now.cubes ≤ 2147483646 }
-    requires literals { AreOver formula.old.variables (nexts_clauses circuit.now (cube_variable circuit.now) invariant.now.cubes) }
-    ensures { OnOk result (AddsClauses formula.old formula.new (nexts_clauses circuit.now (cube_variable circuit.now) invariant.now.cubes)) }
+    requires literals { AreOver formula.old.variables
+        (nexts_clauses circuit.now (cube_variable circuit.now) invariant.now.cubes) }
+    ensures { OnOk result (AddsClauses formula.old formula.new
+        (nexts_clauses circuit.now (cube_variable circuit.now) invariant.now.cubes)) }
 {
     let first = circuit.variables() + 3;
     for place in 0..invariant.cube_count() {
@@ -209,8 +218,10 @@ fn put_now(
     invariant: &Invariant,
 ) -> Result<(), ClauseFault>
     requires latches { invariant.now.latches ≡ length circuit.now.latches }
-    requires literals { AreOver formula.old.variables (now_clauses circuit.now invariant.now.cubes) }
-    ensures { OnOk result (AddsClauses formula.old formula.new (now_clauses circuit.now invariant.now.cubes)) }
+    requires literals { AreOver formula.old.variables
+        (now_clauses circuit.now invariant.now.cubes) }
+    ensures { OnOk result (AddsClauses formula.old formula.new
+        (now_clauses circuit.now invariant.now.cubes)) }
 {
     let truth = circuit.variables() + 1;
     put(formula, &[2 * truth])?;
@@ -227,8 +238,10 @@ fn put_failing(
 ) -> Result<(), ClauseFault>
     requires latches { invariant.now.latches ≡ length circuit.now.latches }
     requires few { rise_variable circuit.now + length invariant.now.cubes ≤ 2147483646 }
-    requires literals { AreOver formula.old.variables (failing_clauses circuit.now invariant.now.cubes) }
-    ensures { OnOk result (AddsClauses formula.old formula.new (failing_clauses circuit.now invariant.now.cubes)) }
+    requires literals { AreOver formula.old.variables
+        (failing_clauses circuit.now invariant.now.cubes) }
+    ensures { OnOk result (AddsClauses formula.old formula.new
+        (failing_clauses circuit.now invariant.now.cubes)) }
 {
     let truth = circuit.variables() + 1;
     let rise = truth + 1;
@@ -249,8 +262,12 @@ fn put_all(
 ) -> Result<(), ClauseFault>
     requires latches { invariant.now.latches ≡ length circuit.now.latches }
     requires few { rise_variable circuit.now + length invariant.now.cubes ≤ 2147483646 }
-    requires literals { AreOver formula.old.variables (now_clauses circuit.now invariant.now.cubes ++ failing_clauses circuit.now invariant.now.cubes) }
-    ensures { OnOk result (AddsClauses formula.old formula.new (now_clauses circuit.now invariant.now.cubes ++ failing_clauses circuit.now invariant.now.cubes)) }
+    requires literals { AreOver formula.old.variables
+        (now_clauses circuit.now invariant.now.cubes ++ failing_clauses circuit.now
+        invariant.now.cubes) }
+    ensures { OnOk result (AddsClauses formula.old formula.new
+        (now_clauses circuit.now invariant.now.cubes ++ failing_clauses circuit.now
+        invariant.now.cubes)) }
 {
     put_now(alloc, formula, circuit, invariant)?;
     put_failing(alloc, formula, circuit, invariant)
@@ -268,7 +285,8 @@ pub fn obligation(
 ) -> Result<Formula, ObligationFault>
     requires { invariant.now.latches ≡ length circuit.now.latches }
     ensures ok { IfOk result (λ f. f ≡ obligation circuit.now invariant.now.cubes) }
-    ensures refused { RefusesObligation result (obligation_refusal circuit.now invariant.now.cubes) }
+    ensures refused { RefusesObligation result
+        (obligation_refusal circuit.now invariant.now.cubes) }
 {
     let rise = circuit.variables() + 2;
     let count = invariant.cube_count();

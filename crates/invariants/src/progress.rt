@@ -77,9 +77,11 @@ impl Progress {
 
     /// Takes a line.
     pub(crate) fn take(&mut self, alloc: Global, line: &[u8]) -> Result<(), InvariantWhy>
-        ensures ok { OnOk result (admit_cube_line self.old.latches self.old.reading line.now ≡ Ok self.new.reading) }
+        ensures ok { OnOk result (admit_cube_line self.old.latches self.old.reading line.now
+            ≡ Ok self.new.reading) }
         ensures latches { self.new.latches ≡ self.old.latches }
-        ensures err { IfErr result (λ e. (e ≡ why.NoMemory) ⊎ (admit_cube_line self.old.latches self.old.reading line.now ≡ Err e)) }
+        ensures err { IfErr result (λ e. (e ≡ why.NoMemory)
+            ⊎ (admit_cube_line self.old.latches self.old.reading line.now ≡ Err e)) }
     {
         if is_passed(line) {
             return Ok(());
@@ -97,9 +99,11 @@ impl Progress {
 
     /// Takes the line of the count of latches.
     fn take_inputs(&mut self, line: &[u8]) -> Result<(), InvariantWhy>
-        ensures ok { OnOk result (with_line expect.Inputs self.old.latches self.old.reading line.now ≡ Ok self.new.reading) }
+        ensures ok { OnOk result (with_line expect.Inputs self.old.latches self.old.reading line.now
+            ≡ Ok self.new.reading) }
         ensures latches { self.new.latches ≡ self.old.latches }
-        ensures err { IfErr result (λ e. with_line expect.Inputs self.old.latches self.old.reading line.now ≡ Err e) }
+        ensures err { IfErr result
+            (λ e. with_line expect.Inputs self.old.latches self.old.reading line.now ≡ Err e) }
     {
         match decimal_of(line, b".i") {
             None => Err(InvariantWhy::BadInputs),
@@ -113,9 +117,11 @@ impl Progress {
 
     /// Takes the line of the outputs.
     fn take_outputs(&mut self, line: &[u8]) -> Result<(), InvariantWhy>
-        ensures ok { OnOk result (with_line expect.Outputs self.old.latches self.old.reading line.now ≡ Ok self.new.reading) }
+        ensures ok { OnOk result (with_line expect.Outputs self.old.latches self.old.reading
+            line.now ≡ Ok self.new.reading) }
         ensures latches { self.new.latches ≡ self.old.latches }
-        ensures err { IfErr result (λ e. with_line expect.Outputs self.old.latches self.old.reading line.now ≡ Err e) }
+        ensures err { IfErr result
+            (λ e. with_line expect.Outputs self.old.latches self.old.reading line.now ≡ Err e) }
     {
         match value_of(line, b".o") {
             None => Err(InvariantWhy::BadOutputs),
@@ -132,9 +138,11 @@ impl Progress {
 
     /// Takes the line of the count of cubes.
     fn take_count(&mut self, line: &[u8]) -> Result<(), InvariantWhy>
-        ensures ok { OnOk result (with_line expect.Count self.old.latches self.old.reading line.now ≡ Ok self.new.reading) }
+        ensures ok { OnOk result (with_line expect.Count self.old.latches self.old.reading line.now
+            ≡ Ok self.new.reading) }
         ensures latches { self.new.latches ≡ self.old.latches }
-        ensures err { IfErr result (λ e. with_line expect.Count self.old.latches self.old.reading line.now ≡ Err e) }
+        ensures err { IfErr result
+            (λ e. with_line expect.Count self.old.latches self.old.reading line.now ≡ Err e) }
     {
         match decimal_of(line, b".p") {
             None => Err(InvariantWhy::BadCount),
@@ -148,9 +156,11 @@ impl Progress {
 
     /// Takes the line of the latches' names.
     fn take_names(&mut self, alloc: Global, line: &[u8]) -> Result<(), InvariantWhy>
-        ensures ok { OnOk result (with_line expect.Names self.old.latches self.old.reading line.now ≡ Ok self.new.reading) }
+        ensures ok { OnOk result (with_line expect.Names self.old.latches self.old.reading line.now
+            ≡ Ok self.new.reading) }
         ensures latches { self.new.latches ≡ self.old.latches }
-        ensures err { IfErr result (λ e. (e ≡ why.NoMemory) ⊎ (with_line expect.Names self.old.latches self.old.reading line.now ≡ Err e)) }
+        ensures err { IfErr result (λ e. (e ≡ why.NoMemory)
+            ⊎ (with_line expect.Names self.old.latches self.old.reading line.now ≡ Err e)) }
     {
         match read_names(alloc, self.kept.latches(), self.width, line) {
             Err(why) => Err(why),
@@ -164,9 +174,11 @@ impl Progress {
 
     /// Takes the line of the output's name.
     fn take_output(&mut self, line: &[u8]) -> Result<(), InvariantWhy>
-        ensures ok { OnOk result (with_line expect.Output self.old.latches self.old.reading line.now ≡ Ok self.new.reading) }
+        ensures ok { OnOk result (with_line expect.Output self.old.latches self.old.reading line.now
+            ≡ Ok self.new.reading) }
         ensures latches { self.new.latches ≡ self.old.latches }
-        ensures err { IfErr result (λ e. with_line expect.Output self.old.latches self.old.reading line.now ≡ Err e) }
+        ensures err { IfErr result
+            (λ e. with_line expect.Output self.old.latches self.old.reading line.now ≡ Err e) }
     {
         match value_of(line, b".ob") {
             None => Err(InvariantWhy::BadOutput),
@@ -179,9 +191,11 @@ impl Progress {
 
     /// Takes the line of a cube, or the end.
     fn take_cube(&mut self, line: &[u8]) -> Result<(), InvariantWhy>
-        ensures ok { OnOk result (with_line expect.Cubes self.old.latches self.old.reading line.now ≡ Ok self.new.reading) }
+        ensures ok { OnOk result (with_line expect.Cubes self.old.latches self.old.reading line.now
+            ≡ Ok self.new.reading) }
         ensures latches { self.new.latches ≡ self.old.latches }
-        ensures err { IfErr result (λ e. (e ≡ why.NoMemory) ⊎ (with_line expect.Cubes self.old.latches self.old.reading line.now ≡ Err e)) }
+        ensures err { IfErr result (λ e. (e ≡ why.NoMemory)
+            ⊎ (with_line expect.Cubes self.old.latches self.old.reading line.now ≡ Err e)) }
     {
         if is_word(line, b".e") {
             if self.left == 0 {
@@ -199,9 +213,13 @@ impl Progress {
     /// Takes the line of a cube.
     fn push_cube(&mut self, line: &[u8]) -> Result<(), InvariantWhy>
         requires { 0 < self.old.reading.left }
-        ensures ok { OnOk result (with_cube self.old.reading (cube_or_why self.old.reading.named self.old.reading.width (parts_of (line_words line.now))) ≡ Ok self.new.reading) }
+        ensures ok { OnOk result (with_cube self.old.reading
+            (cube_or_why self.old.reading.named self.old.reading.width
+            (parts_of (line_words line.now))) ≡ Ok self.new.reading) }
         ensures latches { self.new.latches ≡ self.old.latches }
-        ensures err { IfErr result (λ e. (e ≡ why.NoMemory) ⊎ (with_cube self.old.reading (cube_or_why self.old.reading.named self.old.reading.width (parts_of (line_words line.now))) ≡ Err e)) }
+        ensures err { IfErr result (λ e. (e ≡ why.NoMemory)
+            ⊎ (with_cube self.old.reading (cube_or_why self.old.reading.named self.old.reading.width
+            (parts_of (line_words line.now))) ≡ Err e)) }
     {
         let _ = self.kept.latches();
         match read_cube(self.named.as_slice(), self.width, line, &mut self.cube) {
@@ -219,8 +237,10 @@ impl Progress {
 
     /// The cubes, where the end was told.
     pub(crate) fn finish(self) -> Result<Invariant, InvariantWhy>
-        ensures ok { IfOk result (λ v. (is_ended self.reading.expected ≡ true) × (v ≡ record { latches = self.latches; cubes = self.reading.cubes })) }
-        ensures err { IfErr result (λ e. (is_ended self.reading.expected ≡ false) × (e ≡ why.CutOff)) }
+        ensures ok { IfOk result (λ v. (is_ended self.reading.expected ≡ true)
+            × (v ≡ record { latches = self.latches; cubes = self.reading.cubes })) }
+        ensures err { IfErr result (λ e. (is_ended self.reading.expected ≡ false)
+            × (e ≡ why.CutOff)) }
     {
         match self.expected {
             Expected::Nothing => Ok(self.kept),

@@ -31,9 +31,12 @@ fn finish(
     number: u64,
     last: &[u8],
 ) -> Result<Invariant, InvariantFault>
-    ensures ok { IfOk result (λ v. ended number (admit_cube_line progress.latches progress.reading last.now) ≡ Ok v.cubes) }
+    ensures ok { IfOk result
+        (λ v. ended number (admit_cube_line progress.latches progress.reading last.now)
+        ≡ Ok v.cubes) }
     ensures latches { IfOk result (λ v. v.latches ≡ progress.latches) }
-    ensures err { IfErr result (λ e. (e.why ≡ why.NoMemory) ⊎ (ended number (admit_cube_line progress.latches progress.reading last.now) ≡ Err e)) }
+    ensures err { IfErr result (λ e. (e.why ≡ why.NoMemory)
+        ⊎ (ended number (admit_cube_line progress.latches progress.reading last.now) ≡ Err e)) }
     ensures line { IfErr result (λ e. e.line ≡ number) }
 {
     let mut progress = progress;
@@ -60,14 +63,20 @@ pub fn read_invariant<S: Source>(
 ) -> Result<Invariant, InvariantFault>
     requires { latches < 2147483647 }
     ensures reads { IfOk result (λ v. ReadsCubes latches (S.to_come source.old) (Ok v.cubes)) }
-    ensures says { IfOk result (λ v. IfSome (S.to_come source.old) (λ text. SaysCubes latches text v.cubes)) }
+    ensures says { IfOk result (λ v. IfSome (S.to_come source.old)
+        (λ text. SaysCubes latches text v.cubes)) }
     ensures latches { IfOk result (λ v. v.latches ≡ latches) }
     ensures end { OnOk result (IsAtEnd (S.to_come source.new)) }
     ensures counted { OnOk result (S.failures source.new ≡ S.failures source.old) }
-    ensures fault { IfErr result (λ e. (e.why ≡ why.NoMemory) ⊎ ((e ≡ record { line = 0; why = why.Device }) ⊎ ReadsCubes latches (S.to_come source.old) (Err e))) }
-    ensures device { IfErr result (λ e. e ≡ record { line = 0; why = why.Device } → HasRisen (S.failures source.old) (S.failures source.new)) }
-    ensures unfailed { IfErr result (λ e. e ≢ record { line = 0; why = why.Device } → S.failures source.new ≡ S.failures source.old) }
-    ensures apart { IfErr result (λ e. e.why ≡ why.Device → e ≡ record { line = 0; why = why.Device }) }
+    ensures fault { IfErr result (λ e. (e.why ≡ why.NoMemory)
+        ⊎ ((e ≡ record { line = 0; why = why.Device })
+        ⊎ ReadsCubes latches (S.to_come source.old) (Err e))) }
+    ensures device { IfErr result (λ e. e ≡ record { line = 0; why = why.Device }
+        → HasRisen (S.failures source.old) (S.failures source.new)) }
+    ensures unfailed { IfErr result (λ e. e ≢ record { line = 0; why = why.Device }
+        → S.failures source.new ≡ S.failures source.old) }
+    ensures apart { IfErr result (λ e. e.why ≡ why.Device
+        → e ≡ record { line = 0; why = why.Device }) }
 {
     let mut lines = LineReader::new(alloc);
     let mut progress = Progress::new(alloc, latches);

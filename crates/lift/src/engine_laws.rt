@@ -13,7 +13,8 @@ use crate::laws::{lifting_keeps_the_verdict, names_keep_the_verdict};
 /// text is lifted to, with names or without, is judged accepted over the model, with the frames up to and with the first such
 /// one.
 pub fn found_over_the_form_is_found_in_the_model()
-    ensures { (named : Bool) (items : List Item) (c : Circuit) (k : ℕ) (text : List ℕ) → Lowers items c → k < length c.bads → FindsInModel named items c k text }
+    ensures { (named : Bool) (items : List Item) (c : Circuit) (k : ℕ) (text : List ℕ)
+        → Lowers items c → k < length c.bads → FindsInModel named items c k text }
 {
     restore::laws::restored_text_says_a_witness();
     restore::laws::restored_text_is_accepted();
@@ -26,7 +27,8 @@ pub fn found_over_the_form_is_found_in_the_model()
 /// text is lifted to, with names or without, is judged accepted there, with the frames up to and with the first one in which
 /// the property of the form is 1.
 pub fn accepted_over_the_form_is_found_in_the_model()
-    ensures { (named : Bool) (items : List Item) (c : Circuit) (choice : Option ℕ) (d : Circuit) (text : List ℕ) → Lowers items c → IsEngineFormOf c choice d
+    ensures { (named : Bool) (items : List Item) (c : Circuit) (choice : Option ℕ) (d : Circuit)
+        (text : List ℕ) → Lowers items c → IsEngineFormOf c choice d
         → FindsWitnessInModel named items c choice d text }
 {
     restore::form_laws::accepted_over_the_form_is_found_again();

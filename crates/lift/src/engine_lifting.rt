@@ -38,12 +38,16 @@ fn lift_pieces<S: Source, K: Sink>(
 ) -> Result<(Judgement, FirstRises), RestoreFault>
     requires unread { restorer.old.reader.rest ≡ [] }
     requires begins { is_written restorer.old.stage ≡ false }
-    ensures lifts { (named : Bool) (items : List Item) (c : Circuit) (k : ℕ) → Lowers items c → k < length c.bads → BeginsToRestore c k restorer.old → LiftsWith named items c lifter.entry []
-        → LiftsRestored result named items c k (S.to_come source.old) (K.written sink.old) (K.written sink.new) }
+    ensures lifts { (named : Bool) (items : List Item) (c : Circuit) (k : ℕ) → Lowers items c
+        → k < length c.bads → BeginsToRestore c k restorer.old
+        → LiftsWith named items c lifter.entry []
+        → LiftsRestored result named items c k (S.to_come source.old) (K.written sink.old)
+        (K.written sink.new) }
     ensures apart { IfErr result (λ e. is_of_text e.why ≡ false → e.line ≡ 0) }
     ensures end { OnOk result (IsAtEnd (S.to_come source.new)) }
     ensures read_on { IfErr result (λ e. is_of_text e.why ≡ true → IsAtEnd (S.to_come source.new)) }
-    ensures counted { CountsRestore result (S.failures source.old) (S.failures source.new) (K.failures sink.old) (K.failures sink.new) }
+    ensures counted { CountsRestore result (S.failures source.old) (S.failures source.new)
+        (K.failures sink.old) (K.failures sink.new) }
 {
     found_over_the_form_is_found_in_the_model();
     lifting_keeps_the_verdict();
@@ -73,25 +77,44 @@ pub fn lift_restored_with_rises<S: Source, K: Sink>(
     requires lowers { Lowers model.now circuit.now }
     requires claim { claim < length circuit.now.bads }
     // the judgement is that over the circuit of what the text is restored to, with which nothing is wrong
-    ensures judged { IfOk result (λ told. IfSome (S.to_come source.old) (λ text. BitJudges circuit.now (restored_text circuit.now claim text) told.0)) }
+    ensures judged { IfOk result (λ told. IfSome (S.to_come source.old)
+        (λ text. BitJudges circuit.now (restored_text circuit.now claim text) told.0)) }
     // and what stands beside it, with names, are the first rises of that text
-    ensures rises { named ≡ true → IfOk result (λ told. IfSome (S.to_come source.old) (λ text. AreBitFirstRises circuit.now (restored_text circuit.now claim text) told.1)) }
-    ensures right { OnOk result (IfSome (S.to_come source.old) (λ text. (read_found (input_count circuit.now) text).fault ≡ None)) }
+    ensures rises { named ≡ true
+        → IfOk result (λ told. IfSome (S.to_come source.old)
+        (λ text. AreBitFirstRises circuit.now (restored_text circuit.now claim text) told.1)) }
+    ensures right { OnOk result (IfSome (S.to_come source.old)
+        (λ text. (read_found (input_count circuit.now) text).fault ≡ None)) }
     // what is judged of what is written over the model is the same verdict
-    ensures kept { IfOk result (λ told. IfSome (S.to_come source.old) (λ text. KeepsVerdictIn model.now circuit.now (restored_text circuit.now claim text) (engine_lifted_text named model.now circuit.now claim text) told.0)) }
-    ensures written { OnOk result (IfSome (S.to_come source.old) (λ text. Appends (K.written sink.old) (K.written sink.new) (engine_lifted_text named model.now circuit.now claim text))) }
+    ensures kept { IfOk result (λ told. IfSome (S.to_come source.old)
+        (λ text. KeepsVerdictIn model.now circuit.now (restored_text circuit.now claim text)
+        (engine_lifted_text named model.now circuit.now claim text) told.0)) }
+    ensures written { OnOk result (IfSome (S.to_come source.old)
+        (λ text. Appends (K.written sink.old) (K.written sink.new)
+        (engine_lifted_text named model.now circuit.now claim text))) }
     // where the text's frames make the claimed property of an engine form 1, both are accepted, and end with the first such frame
-    ensures found { IfOk result (λ told. IfSome (S.to_come source.old) (λ text. FindsAgain circuit.now claim text told.0)) }
-    ensures in_model { OnOk result (IfSome (S.to_come source.old) (λ text. FindsInModel named model.now circuit.now claim text)) }
+    ensures found { IfOk result (λ told. IfSome (S.to_come source.old)
+        (λ text. FindsAgain circuit.now claim text told.0)) }
+    ensures in_model { OnOk result (IfSome (S.to_come source.old)
+        (λ text. FindsInModel named model.now circuit.now claim text)) }
     // a fault of the text is its own, and what the lines before it give was written; at any other a beginning was
-    ensures faulty { IfErr result (λ e. is_of_text e.why ≡ true → IfSome (S.to_come source.old) (λ text. (read_found (input_count circuit.now) text).fault ≡ Some e)) }
-    ensures before { IfErr result (λ e. is_of_text e.why ≡ true → IfSome (S.to_come source.old) (λ text. Appends (K.written sink.old) (K.written sink.new) (engine_lifted_text named model.now circuit.now claim text))) }
-    ensures beginning { IfErr result (λ e. is_of_text e.why ≡ false → IfSome (S.to_come source.old) (λ text. AppendsBeginning (K.written sink.old) (K.written sink.new) (engine_lifted_text named model.now circuit.now claim text))) }
+    ensures faulty { IfErr result (λ e. is_of_text e.why ≡ true
+        → IfSome (S.to_come source.old) (λ text. (read_found (input_count circuit.now) text).fault
+        ≡ Some e)) }
+    ensures before { IfErr result (λ e. is_of_text e.why ≡ true
+        → IfSome (S.to_come source.old)
+        (λ text. Appends (K.written sink.old) (K.written sink.new)
+        (engine_lifted_text named model.now circuit.now claim text))) }
+    ensures beginning { IfErr result (λ e. is_of_text e.why ≡ false
+        → IfSome (S.to_come source.old)
+        (λ text. AppendsBeginning (K.written sink.old) (K.written sink.new)
+        (engine_lifted_text named model.now circuit.now claim text))) }
     ensures apart { IfErr result (λ e. is_of_text e.why ≡ false → e.line ≡ 0) }
     ensures end { OnOk result (IsAtEnd (S.to_come source.new)) }
     ensures read_on { IfErr result (λ e. is_of_text e.why ≡ true → IsAtEnd (S.to_come source.new)) }
     // the source failed once where that is told, the sink where that is, and else neither
-    ensures counted { CountsRestore result (S.failures source.old) (S.failures source.new) (K.failures sink.old) (K.failures sink.new) }
+    ensures counted { CountsRestore result (S.failures source.old) (S.failures source.new)
+        (K.failures sink.old) (K.failures sink.new) }
 {
     let mut restorer = Restorer::new(alloc, circuit, claim)?;
     let lifter = Lifter::new(alloc, model, circuit, named)?;
@@ -121,23 +144,40 @@ pub fn lift_restored<S: Source, K: Sink>(
     requires lowers { Lowers model.now circuit.now }
     requires claim { claim < length circuit.now.bads }
     // the judgement is that over the circuit of what the text is restored to, with which nothing is wrong
-    ensures judged { IfOk result (λ judgement. IfSome (S.to_come source.old) (λ text. BitJudges circuit.now (restored_text circuit.now claim text) judgement)) }
-    ensures right { OnOk result (IfSome (S.to_come source.old) (λ text. (read_found (input_count circuit.now) text).fault ≡ None)) }
+    ensures judged { IfOk result (λ judgement. IfSome (S.to_come source.old)
+        (λ text. BitJudges circuit.now (restored_text circuit.now claim text) judgement)) }
+    ensures right { OnOk result (IfSome (S.to_come source.old)
+        (λ text. (read_found (input_count circuit.now) text).fault ≡ None)) }
     // what is judged of what is written over the model is the same verdict
-    ensures kept { IfOk result (λ judgement. IfSome (S.to_come source.old) (λ text. KeepsVerdictIn model.now circuit.now (restored_text circuit.now claim text) (engine_lifted_text named model.now circuit.now claim text) judgement)) }
-    ensures written { OnOk result (IfSome (S.to_come source.old) (λ text. Appends (K.written sink.old) (K.written sink.new) (engine_lifted_text named model.now circuit.now claim text))) }
+    ensures kept { IfOk result (λ judgement. IfSome (S.to_come source.old)
+        (λ text. KeepsVerdictIn model.now circuit.now (restored_text circuit.now claim text)
+        (engine_lifted_text named model.now circuit.now claim text) judgement)) }
+    ensures written { OnOk result (IfSome (S.to_come source.old)
+        (λ text. Appends (K.written sink.old) (K.written sink.new)
+        (engine_lifted_text named model.now circuit.now claim text))) }
     // where the text's frames make the claimed property of an engine form 1, both are accepted, and end with the first such frame
-    ensures found { IfOk result (λ judgement. IfSome (S.to_come source.old) (λ text. FindsAgain circuit.now claim text judgement)) }
-    ensures in_model { OnOk result (IfSome (S.to_come source.old) (λ text. FindsInModel named model.now circuit.now claim text)) }
+    ensures found { IfOk result (λ judgement. IfSome (S.to_come source.old)
+        (λ text. FindsAgain circuit.now claim text judgement)) }
+    ensures in_model { OnOk result (IfSome (S.to_come source.old)
+        (λ text. FindsInModel named model.now circuit.now claim text)) }
     // a fault of the text is its own, and what the lines before it give was written; at any other a beginning was
-    ensures faulty { IfErr result (λ e. is_of_text e.why ≡ true → IfSome (S.to_come source.old) (λ text. (read_found (input_count circuit.now) text).fault ≡ Some e)) }
-    ensures before { IfErr result (λ e. is_of_text e.why ≡ true → IfSome (S.to_come source.old) (λ text. Appends (K.written sink.old) (K.written sink.new) (engine_lifted_text named model.now circuit.now claim text))) }
-    ensures beginning { IfErr result (λ e. is_of_text e.why ≡ false → IfSome (S.to_come source.old) (λ text. AppendsBeginning (K.written sink.old) (K.written sink.new) (engine_lifted_text named model.now circuit.now claim text))) }
+    ensures faulty { IfErr result (λ e. is_of_text e.why ≡ true
+        → IfSome (S.to_come source.old) (λ text. (read_found (input_count circuit.now) text).fault
+        ≡ Some e)) }
+    ensures before { IfErr result (λ e. is_of_text e.why ≡ true
+        → IfSome (S.to_come source.old)
+        (λ text. Appends (K.written sink.old) (K.written sink.new)
+        (engine_lifted_text named model.now circuit.now claim text))) }
+    ensures beginning { IfErr result (λ e. is_of_text e.why ≡ false
+        → IfSome (S.to_come source.old)
+        (λ text. AppendsBeginning (K.written sink.old) (K.written sink.new)
+        (engine_lifted_text named model.now circuit.now claim text))) }
     ensures apart { IfErr result (λ e. is_of_text e.why ≡ false → e.line ≡ 0) }
     ensures end { OnOk result (IsAtEnd (S.to_come source.new)) }
     ensures read_on { IfErr result (λ e. is_of_text e.why ≡ true → IsAtEnd (S.to_come source.new)) }
     // the source failed once where that is told, the sink where that is, and else neither
-    ensures counted { CountsRestore result (S.failures source.old) (S.failures source.new) (K.failures sink.old) (K.failures sink.new) }
+    ensures counted { CountsRestore result (S.failures source.old) (S.failures source.new)
+        (K.failures sink.old) (K.failures sink.new) }
 {
     match lift_restored_with_rises(alloc, model, circuit, claim, named, source, sink) {
         Ok((judgement, _)) => Ok(judgement),

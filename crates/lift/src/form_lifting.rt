@@ -35,11 +35,14 @@ fn lift_witness<S: Source, K: Sink>(
     sink: &mut K,
 ) -> Result<(Judgement, FirstRises), RestoreFault>
     requires { IsEngineFormOf circuit.now choice form.now }
-    ensures lifts { (named : Bool) (items : List Item) → Lowers items circuit.now → LiftsWith named items circuit.now lifter.entry []
-        → LiftsForm result named items circuit.now choice form.now (S.to_come source.old) (K.written sink.old) (K.written sink.new) }
+    ensures lifts { (named : Bool) (items : List Item) → Lowers items circuit.now
+        → LiftsWith named items circuit.now lifter.entry []
+        → LiftsForm result named items circuit.now choice form.now (S.to_come source.old)
+        (K.written sink.old) (K.written sink.new) }
     ensures apart { IfErr result (λ e. is_of_text e.why ≡ false × (e.line ≡ 0)) }
     ensures end { OnOk result (IsAtEnd (S.to_come source.new)) }
-    ensures counted { CountsRestore result (S.failures source.old) (S.failures source.new) (K.failures sink.old) (K.failures sink.new) }
+    ensures counted { CountsRestore result (S.failures source.old) (S.failures source.new)
+        (K.failures sink.old) (K.failures sink.new) }
 {
     accepted_over_the_form_is_found_in_the_model();
     lifting_keeps_the_verdict();
@@ -69,20 +72,31 @@ pub fn lift_form_with_rises<S: Source, K: Sink>(
     requires lowers { Lowers model.now circuit.now }
     requires is_form { IsEngineFormOf circuit.now choice form.now }
     // the judgement is that of the text: over the form where it makes no claim or a line is faulty, else over the circuit
-    ensures judged { IfOk result (λ told. IfSome (S.to_come source.old) (λ text. FormJudges circuit.now choice form.now text told.0)) }
+    ensures judged { IfOk result (λ told. IfSome (S.to_come source.old)
+        (λ text. FormJudges circuit.now choice form.now text told.0)) }
     // and what stands beside it, with names, are the first rises of what the text is restored to
-    ensures rises { named ≡ true → IfOk result (λ told. IfSome (S.to_come source.old) (λ text. AreBitFirstRises circuit.now (form_restored_text circuit.now choice form.now text) told.1)) }
+    ensures rises { named ≡ true
+        → IfOk result (λ told. IfSome (S.to_come source.old)
+        (λ text. AreBitFirstRises circuit.now (form_restored_text circuit.now choice form.now text)
+        told.1)) }
     // what is judged of what is written over the model is the same verdict as over the circuit
-    ensures kept { IfOk result (λ told. IfSome (S.to_come source.old) (λ text. KeepsFormVerdict named model.now circuit.now choice form.now text told.0)) }
-    ensures written { OnOk result (IfSome (S.to_come source.old) (λ text. Appends (K.written sink.old) (K.written sink.new) (form_lifted_text named model.now circuit.now choice form.now text))) }
+    ensures kept { IfOk result (λ told. IfSome (S.to_come source.old)
+        (λ text. KeepsFormVerdict named model.now circuit.now choice form.now text told.0)) }
+    ensures written { OnOk result (IfSome (S.to_come source.old)
+        (λ text. Appends (K.written sink.old) (K.written sink.new)
+        (form_lifted_text named model.now circuit.now choice form.now text))) }
     // what is accepted over the form is found again, over the circuit and over the model
-    ensures found { OnOk result (IfSome (S.to_come source.old) (FindsWitnessInModel named model.now circuit.now choice form.now)) }
+    ensures found { OnOk result (IfSome (S.to_come source.old)
+        (FindsWitnessInModel named model.now circuit.now choice form.now)) }
     // at a fault a beginning was written
-    ensures beginning { OnErr result (IfSome (S.to_come source.old) (λ text. AppendsBeginning (K.written sink.old) (K.written sink.new) (form_lifted_text named model.now circuit.now choice form.now text))) }
+    ensures beginning { OnErr result (IfSome (S.to_come source.old)
+        (λ text. AppendsBeginning (K.written sink.old) (K.written sink.new)
+        (form_lifted_text named model.now circuit.now choice form.now text))) }
     ensures apart { IfErr result (λ e. is_of_text e.why ≡ false × (e.line ≡ 0)) }
     ensures end { OnOk result (IsAtEnd (S.to_come source.new)) }
     // the source failed once where that is told, the sink where that is, and else neither
-    ensures counted { CountsRestore result (S.failures source.old) (S.failures source.new) (K.failures sink.old) (K.failures sink.new) }
+    ensures counted { CountsRestore result (S.failures source.old) (S.failures source.new)
+        (K.failures sink.old) (K.failures sink.new) }
 {
     let lifter = Lifter::new(alloc, model, circuit, named)?;
     lift_witness(alloc, circuit, form, choice, lifter, source, sink)
@@ -112,18 +126,26 @@ pub fn lift_form<S: Source, K: Sink>(
     requires lowers { Lowers model.now circuit.now }
     requires is_form { IsEngineFormOf circuit.now choice form.now }
     // the judgement is that of the text: over the form where it makes no claim or a line is faulty, else over the circuit
-    ensures judged { IfOk result (λ judgement. IfSome (S.to_come source.old) (λ text. FormJudges circuit.now choice form.now text judgement)) }
+    ensures judged { IfOk result (λ judgement. IfSome (S.to_come source.old)
+        (λ text. FormJudges circuit.now choice form.now text judgement)) }
     // what is judged of what is written over the model is the same verdict as over the circuit
-    ensures kept { IfOk result (λ judgement. IfSome (S.to_come source.old) (λ text. KeepsFormVerdict named model.now circuit.now choice form.now text judgement)) }
-    ensures written { OnOk result (IfSome (S.to_come source.old) (λ text. Appends (K.written sink.old) (K.written sink.new) (form_lifted_text named model.now circuit.now choice form.now text))) }
+    ensures kept { IfOk result (λ judgement. IfSome (S.to_come source.old)
+        (λ text. KeepsFormVerdict named model.now circuit.now choice form.now text judgement)) }
+    ensures written { OnOk result (IfSome (S.to_come source.old)
+        (λ text. Appends (K.written sink.old) (K.written sink.new)
+        (form_lifted_text named model.now circuit.now choice form.now text))) }
     // what is accepted over the form is found again, over the circuit and over the model
-    ensures found { OnOk result (IfSome (S.to_come source.old) (FindsWitnessInModel named model.now circuit.now choice form.now)) }
+    ensures found { OnOk result (IfSome (S.to_come source.old)
+        (FindsWitnessInModel named model.now circuit.now choice form.now)) }
     // at a fault a beginning was written
-    ensures beginning { OnErr result (IfSome (S.to_come source.old) (λ text. AppendsBeginning (K.written sink.old) (K.written sink.new) (form_lifted_text named model.now circuit.now choice form.now text))) }
+    ensures beginning { OnErr result (IfSome (S.to_come source.old)
+        (λ text. AppendsBeginning (K.written sink.old) (K.written sink.new)
+        (form_lifted_text named model.now circuit.now choice form.now text))) }
     ensures apart { IfErr result (λ e. is_of_text e.why ≡ false × (e.line ≡ 0)) }
     ensures end { OnOk result (IsAtEnd (S.to_come source.new)) }
     // the source failed once where that is told, the sink where that is, and else neither
-    ensures counted { CountsRestore result (S.failures source.old) (S.failures source.new) (K.failures sink.old) (K.failures sink.new) }
+    ensures counted { CountsRestore result (S.failures source.old) (S.failures source.new)
+        (K.failures sink.old) (K.failures sink.new) }
 {
     match lift_form_with_rises(alloc, model, circuit, form, choice, named, source, sink) {
         Ok((judgement, _)) => Ok(judgement),

@@ -47,7 +47,8 @@ pub fn lifting_keeps_the_verdict()
 /// A law: with names too lifting keeps the verdict.
 pub fn names_keep_the_verdict()
     ensures { (items : List Item) (c : Circuit) (text : List ℕ) (j : Judgement)
-        → Lowers items c → BitJudges c text j → KeepsVerdictIn items c text (named_text items c text) j }
+        → Lowers items c → BitJudges c text j
+        → KeepsVerdictIn items c text (named_text items c text) j }
 {
     aiger::laws::exactly_one_trace();
     btor2::laws::exactly_one_trace();
@@ -59,7 +60,8 @@ pub fn names_keep_the_verdict()
 /// has no more lines than a witness may have, what is judged of the lifted text with names over the model is what is judged
 /// of that without.
 pub fn names_mean_nothing()
-    ensures { (items : List Item) (c : Circuit) (text : List ℕ) (w : BitWitness) (j : Judgement) → Lowers items c → BitSays c text w
+    ensures { (items : List Item) (c : Circuit) (text : List ℕ) (w : BitWitness) (j : Judgement)
+        → Lowers items c → BitSays c text w
         → length (whole_lines (lifted_text items c text)) ≤ most_lines
         → Judges items (named_text items c text) j ↔ Judges items (lifted_text items c text) j }
 {
@@ -70,22 +72,31 @@ pub fn names_mean_nothing()
 /// Worked rows: of a state of one bit, of a state of two bits whose word is written the highest first, of a faulty line, of
 /// which no piece is lifted, of an input of three bits, and of a free state, which has a part of its own in each frame.
 pub fn worked_liftings()
-    ensures toggles { lifted_text toggler_model toggling_circuit (codes "1\nb0\n0\n\n\n.\n") ≡ codes "sat\nb0\n#0\n0 0\n@0\n@1\n.\n" }
-    ensures highest_first { lifted_text named_keeper keeper_circuit (codes "1\nb0\n01\n\n.\n") ≡ codes "sat\nb0\n#0\n0 10\n@0\n.\n" }
-    ensures faulty { lifted_text named_keeper keeper_circuit (codes "1\nb0\n01\nz\n") ≡ codes "sat\nb0\n#0\n0 10\n" }
-    ensures inputs { lifted_text high_bit high_bit_circuit (codes "1\nb0\n0\n001\n000\n.\n") ≡ codes "sat\nb0\n#0\n0 0\n@0\n0 100\n@1\n0 000\n.\n" }
-    ensures free { lifted_text named_follower follower_circuit (codes "1\nb0\n0\n01\n00\n.\n") ≡ codes "sat\nb0\n#0\n1 0\n0 1\n@0\n0 0\n#1\n0 0\n@1\n0 0\n.\n" }
+    ensures toggles { lifted_text toggler_model toggling_circuit (codes "1\nb0\n0\n\n\n.\n")
+        ≡ codes "sat\nb0\n#0\n0 0\n@0\n@1\n.\n" }
+    ensures highest_first { lifted_text named_keeper keeper_circuit (codes "1\nb0\n01\n\n.\n")
+        ≡ codes "sat\nb0\n#0\n0 10\n@0\n.\n" }
+    ensures faulty { lifted_text named_keeper keeper_circuit (codes "1\nb0\n01\nz\n")
+        ≡ codes "sat\nb0\n#0\n0 10\n" }
+    ensures inputs { lifted_text high_bit high_bit_circuit (codes "1\nb0\n0\n001\n000\n.\n")
+        ≡ codes "sat\nb0\n#0\n0 0\n@0\n0 100\n@1\n0 000\n.\n" }
+    ensures free { lifted_text named_follower follower_circuit (codes "1\nb0\n0\n01\n00\n.\n")
+        ≡ codes "sat\nb0\n#0\n1 0\n0 1\n@0\n0 0\n#1\n0 0\n@1\n0 0\n.\n" }
     ensures no_claim { lifted_text high_bit high_bit_circuit (codes "2\njunk\n") ≡ [] }
-    ensures unended { lifted_text named_keeper keeper_circuit (codes "1\nb0\n01") ≡ codes "sat\nb0\n" }
+    ensures unended { lifted_text named_keeper keeper_circuit (codes "1\nb0\n01")
+        ≡ codes "sat\nb0\n" }
 {}
 
 /// Worked rows: with names, which stand behind the words of inputs and states that have symbols, `@` and the frame's number
 /// behind each, behind `#0` too; a state without a symbol has none; and a symbol of 253 bytes has a name in the frames up to
 /// 9, and none in the tenth frame behind the first.
 pub fn worked_names()
-    ensures inputs { named_text high_bit high_bit_circuit (codes "1\nb0\n0\n001\n000\n.\n") ≡ codes "sat\nb0\n#0\n0 0 s@0\n@0\n0 100 x@0\n@1\n0 000 x@1\n.\n" }
-    ensures free { named_text named_follower follower_circuit (codes "1\nb0\n0\n01\n00\n.\n") ≡ codes "sat\nb0\n#0\n1 0 s@0\n0 1 f@0\n@0\n0 0 x@0\n#1\n0 0 f@1\n@1\n0 0 x@1\n.\n" }
-    ensures none { named_text toggler_model toggling_circuit (codes "1\nb0\n0\n\n.\n") ≡ codes "sat\nb0\n#0\n0 0\n@0\n.\n" }
+    ensures inputs { named_text high_bit high_bit_circuit (codes "1\nb0\n0\n001\n000\n.\n")
+        ≡ codes "sat\nb0\n#0\n0 0 s@0\n@0\n0 100 x@0\n@1\n0 000 x@1\n.\n" }
+    ensures free { named_text named_follower follower_circuit (codes "1\nb0\n0\n01\n00\n.\n")
+        ≡ codes "sat\nb0\n#0\n1 0 s@0\n0 1 f@0\n@0\n0 0 x@0\n#1\n0 0 f@1\n@1\n0 0 x@1\n.\n" }
+    ensures none { named_text toggler_model toggling_circuit (codes "1\nb0\n0\n\n.\n")
+        ≡ codes "sat\nb0\n#0\n0 0\n@0\n.\n" }
     ensures fits { name_in_frame 9 (replicate 253 65) ≡ Some (replicate 253 65 ++ codes "@9") }
     ensures too_long { name_in_frame 10 (replicate 253 65) ≡ None }
 {}
@@ -95,10 +106,15 @@ pub fn worked_names()
 pub fn worked_verdicts()
     ensures behind_free { latch_states named_follower ≡ 1 ∷ [] }
     ensures two_bits { latch_states named_keeper ≡ 0 ∷ 0 ∷ [] }
-    ensures state { IsSameVerdict named_follower (judgement.InitDiffers 0) (judgement.InitDiffers 1) }
-    ensures not_its_number { ¬ IsSameVerdict named_follower (judgement.InitDiffers 0) (judgement.InitDiffers 0) }
-    ensures no_latch { ¬ IsSameVerdict named_follower (judgement.InitDiffers 1) (judgement.InitDiffers 1) }
+    ensures state { IsSameVerdict named_follower (judgement.InitDiffers 0)
+        (judgement.InitDiffers 1) }
+    ensures not_its_number { ¬ IsSameVerdict named_follower (judgement.InitDiffers 0)
+        (judgement.InitDiffers 0) }
+    ensures no_latch { ¬ IsSameVerdict named_follower (judgement.InitDiffers 1)
+        (judgement.InitDiffers 1) }
     ensures accepted { IsSameVerdict named_keeper (judgement.Accepted 2) (judgement.Accepted 2) }
-    ensures fewer_frames { ¬ IsSameVerdict named_keeper (judgement.Accepted 2) (judgement.Accepted 1) }
-    ensures not_violated { ¬ IsSameVerdict named_keeper (judgement.NotReached 0) (judgement.Violated 0 0) }
+    ensures fewer_frames { ¬ IsSameVerdict named_keeper (judgement.Accepted 2)
+        (judgement.Accepted 1) }
+    ensures not_violated { ¬ IsSameVerdict named_keeper (judgement.NotReached 0)
+        (judgement.Violated 0 0) }
 {}

@@ -93,7 +93,8 @@ impl<'a> Lifter<'a> {
         admitted: bool,
         number: u64,
     ) -> Result<(), DeviceFault>
-        ensures puts { Puts result (K.written sink.old) (K.written sink.new) outbox.old outbox.new (text_of_lines (admitted_piece admitted self.now number)) }
+        ensures puts { Puts result (K.written sink.old) (K.written sink.new) outbox.old outbox.new
+            (text_of_lines (admitted_piece admitted self.now number)) }
         ensures failures { CountsFaults result (K.failures sink.old) (K.failures sink.new) }
     {
         if admitted {
@@ -113,7 +114,9 @@ impl<'a> Lifter<'a> {
 
     /// Takes bytes that end no line.
     fn take_bytes(&mut self, bytes: &[u8])
-        ensures { (named : Bool) (items : List Item) (c : Circuit) (text : List ℕ) → IsLine bytes.now → LiftsWith named items c self.old text → LiftsWith named items c self.new (text ++ bytes.now) }
+        ensures { (named : Bool) (items : List Item) (c : Circuit) (text : List ℕ)
+            → IsLine bytes.now → LiftsWith named items c self.old text
+            → LiftsWith named items c self.new (text ++ bytes.now) }
     {
         self.kept.extend(bytes);
         self.noter.take_bytes(bytes);
@@ -127,7 +130,8 @@ impl<'a> Lifter<'a> {
         line: &[u8],
     ) -> Result<(), DeviceFault>
         requires { IsLine line.now }
-        ensures takes { TakesSourceLine result (K.written sink.old) (K.written sink.new) outbox.old outbox.new self.old self.new (line.now ++ 10 ∷ []) }
+        ensures takes { TakesSourceLine result (K.written sink.old)
+            (K.written sink.new) outbox.old outbox.new self.old self.new (line.now ++ 10 ∷ []) }
         ensures failures { CountsFaults result (K.failures sink.old) (K.failures sink.new) }
     {
         self.kept.extend(line);
@@ -146,7 +150,8 @@ impl<'a> Lifter<'a> {
         sink: &mut K,
         bytes: &[u8],
     ) -> Result<(), DeviceFault>
-        ensures takes { TakesSourceLine result (K.written sink.old) (K.written sink.new) outbox.old outbox.new self.old self.new bytes.now }
+        ensures takes { TakesSourceLine result (K.written sink.old)
+            (K.written sink.new) outbox.old outbox.new self.old self.new bytes.now }
         ensures failures { CountsFaults result (K.failures sink.old) (K.failures sink.new) }
     {
         let mut rest = bytes;
@@ -160,8 +165,11 @@ impl<'a> Lifter<'a> {
 
     /// The judgement of the text, and with names its first rises.
     pub(crate) fn finish(self) -> (Judgement, FirstRises)
-        ensures judged { (named : Bool) (items : List Item) (c : Circuit) (text : List ℕ) → LiftsWith named items c self.entry text → BitJudges c text result.0 }
-        ensures firsts { (named : Bool) (items : List Item) (c : Circuit) (text : List ℕ) → LiftsWith named items c self.entry text → named ≡ true → AreBitFirstRises c text result.1 }
+        ensures judged { (named : Bool) (items : List Item) (c : Circuit) (text : List ℕ)
+            → LiftsWith named items c self.entry text → BitJudges c text result.0 }
+        ensures firsts { (named : Bool) (items : List Item) (c : Circuit) (text : List ℕ)
+            → LiftsWith named items c self.entry text → named ≡ true
+            → AreBitFirstRises c text result.1 }
     {
         self.noter.finish()
     }

@@ -33,7 +33,8 @@ fn take_piece<K: Sink>(
     sink: &mut K,
     bytes: &[u8],
 ) -> Result<(), LiftFault>
-    ensures takes { TakesSourceLine result (K.written sink.old) (K.written sink.new) outbox.old outbox.new lifter.old lifter.new bytes.now }
+    ensures takes { TakesSourceLine result (K.written sink.old)
+        (K.written sink.new) outbox.old outbox.new lifter.old lifter.new bytes.now }
     ensures fault { IfErr result (λ e. e ≡ LiftFault.Write) }
     ensures failures { CountsFaults result (K.failures sink.old) (K.failures sink.new) }
 {
@@ -52,10 +53,13 @@ fn lift_all<S: Source, K: Sink>(
     source: &mut S,
     sink: &mut K,
 ) -> Result<(), LiftFault>
-    ensures takes { IfSome (S.to_come source.old) (TakesSourceLine result (K.written sink.old) (K.written sink.new) outbox.old outbox.new lifter.old lifter.new) }
+    ensures takes { IfSome (S.to_come source.old)
+        (TakesSourceLine result (K.written sink.old) (K.written sink.new) outbox.old outbox.new
+        lifter.old lifter.new) }
     ensures end { OnOk result (IsAtEnd (S.to_come source.new)) }
     ensures fault { IfErr result (λ e. e ≡ LiftFault.NoMemory → ⊥) }
-    ensures counted { CountsLift result (S.failures source.old) (S.failures source.new) (K.failures sink.old) (K.failures sink.new) }
+    ensures counted { CountsLift result (S.failures source.old) (S.failures source.new)
+        (K.failures sink.old) (K.failures sink.new) }
 {
     let mut chunk = [0u8; CHUNK];
     loop {
@@ -72,7 +76,8 @@ fn lift_all<S: Source, K: Sink>(
 /// Errors: the sink's own.
 fn write_rest<K: Sink>(outbox: &mut Outbox, sink: &mut K) -> Result<(), LiftFault>
     ensures ok { OnOk result (Appends (K.written sink.old) (K.written sink.new) outbox.old) }
-    ensures err { OnErr result (AppendsBeginning (K.written sink.old) (K.written sink.new) outbox.old) }
+    ensures err { OnErr result (AppendsBeginning (K.written sink.old)
+        (K.written sink.new) outbox.old) }
     ensures fault { IfErr result (λ e. e ≡ LiftFault.Write) }
     ensures failures { CountsFaults result (K.failures sink.old) (K.failures sink.new) }
 {
@@ -90,10 +95,12 @@ fn lift_through<S: Source, K: Sink>(
     source: &mut S,
     sink: &mut K,
 ) -> Result<(), LiftFault>
-    ensures lifts { LiftsAll result (S.to_come source.old) (K.written sink.old) (K.written sink.new) lifter.old lifter.new }
+    ensures lifts { LiftsAll result (S.to_come source.old) (K.written sink.old)
+        (K.written sink.new) lifter.old lifter.new }
     ensures end { OnOk result (IsAtEnd (S.to_come source.new)) }
     ensures fault { IfErr result (λ e. e ≡ LiftFault.NoMemory → ⊥) }
-    ensures counted { CountsLift result (S.failures source.old) (S.failures source.new) (K.failures sink.old) (K.failures sink.new) }
+    ensures counted { CountsLift result (S.failures source.old) (S.failures source.new)
+        (K.failures sink.old) (K.failures sink.new) }
 {
     let mut outbox = Outbox::new();
     match lift_all(lifter, &mut outbox, source, sink) {
@@ -118,21 +125,32 @@ pub fn lift_with_rises<S: Source, K: Sink>(
 ) -> Result<(Judgement, FirstRises), LiftFault>
     requires { Lowers model.now circuit.now }
     // the judgement is that of the whole text over the circuit
-    ensures judged { IfOk result (λ told. IfSome (S.to_come source.old) (λ text. BitJudges circuit.now text told.0)) }
+    ensures judged { IfOk result (λ told. IfSome (S.to_come source.old)
+        (λ text. BitJudges circuit.now text told.0)) }
     // accepted exactly where it says a witness of which this is judged
-    ensures accepted { IfOk result (λ told. IfSome (S.to_come source.old) (λ text. BitAcceptsExactly circuit.now text told.0)) }
+    ensures accepted { IfOk result (λ told. IfSome (S.to_come source.old)
+        (λ text. BitAcceptsExactly circuit.now text told.0)) }
     // and what stands beside it, with names, are the first rises of the text
-    ensures rises { named ≡ true → IfOk result (λ told. IfSome (S.to_come source.old) (λ text. AreBitFirstRises circuit.now text told.1)) }
+    ensures rises { named ≡ true
+        → IfOk result (λ told. IfSome (S.to_come source.old)
+        (λ text. AreBitFirstRises circuit.now text told.1)) }
     // what is judged of what is written over the model is the same verdict
-    ensures kept { IfOk result (λ told. IfSome (S.to_come source.old) (λ text. KeepsVerdictIn model.now circuit.now text (lifted_with named model.now circuit.now text) told.0)) }
+    ensures kept { IfOk result (λ told. IfSome (S.to_come source.old)
+        (λ text. KeepsVerdictIn model.now circuit.now text
+        (lifted_with named model.now circuit.now text) told.0)) }
     // what is written is the lifted text, with names or without, and after a fault a beginning of it
-    ensures written { OnOk result (IfSome (S.to_come source.old) (λ text. Appends (K.written sink.old) (K.written sink.new) (lifted_with named model.now circuit.now text))) }
-    ensures beginning { OnErr result (IfSome (S.to_come source.old) (λ text. AppendsBeginning (K.written sink.old) (K.written sink.new) (lifted_with named model.now circuit.now text))) }
+    ensures written { OnOk result (IfSome (S.to_come source.old)
+        (λ text. Appends (K.written sink.old) (K.written sink.new)
+        (lifted_with named model.now circuit.now text))) }
+    ensures beginning { OnErr result (IfSome (S.to_come source.old)
+        (λ text. AppendsBeginning (K.written sink.old) (K.written sink.new)
+        (lifted_with named model.now circuit.now text))) }
     ensures unread { IsErrOf result LiftFault.NoMemory → source.new ≡ source.old }
     ensures unwritten { IsErrOf result LiftFault.NoMemory → sink.new ≡ sink.old }
     ensures end { OnOk result (IsAtEnd (S.to_come source.new)) }
     // the source failed once where that is answered, the sink where that is, and else neither
-    ensures counted { CountsLift result (S.failures source.old) (S.failures source.new) (K.failures sink.old) (K.failures sink.new) }
+    ensures counted { CountsLift result (S.failures source.old) (S.failures source.new)
+        (K.failures sink.old) (K.failures sink.new) }
 {
     lifting_keeps_the_verdict();
     names_keep_the_verdict();
@@ -164,19 +182,27 @@ pub fn lift<S: Source, K: Sink>(
 ) -> Result<Judgement, LiftFault>
     requires { Lowers model.now circuit.now }
     // the judgement is that of the whole text over the circuit
-    ensures judged { IfOk result (λ judgement. IfSome (S.to_come source.old) (λ text. BitJudges circuit.now text judgement)) }
+    ensures judged { IfOk result (λ judgement. IfSome (S.to_come source.old)
+        (λ text. BitJudges circuit.now text judgement)) }
     // accepted exactly where it says a witness of which this is judged
-    ensures accepted { IfOk result (λ judgement. IfSome (S.to_come source.old) (λ text. BitAcceptsExactly circuit.now text judgement)) }
+    ensures accepted { IfOk result (λ judgement. IfSome (S.to_come source.old)
+        (λ text. BitAcceptsExactly circuit.now text judgement)) }
     // what is judged of the lifted text over the model is the same verdict
-    ensures kept { IfOk result (λ judgement. IfSome (S.to_come source.old) (λ text. KeepsVerdict model.now circuit.now text judgement)) }
+    ensures kept { IfOk result (λ judgement. IfSome (S.to_come source.old)
+        (λ text. KeepsVerdict model.now circuit.now text judgement)) }
     // what is written is the lifted text, and after a fault a beginning of it
-    ensures written { OnOk result (IfSome (S.to_come source.old) (λ text. Appends (K.written sink.old) (K.written sink.new) (lifted_text model.now circuit.now text))) }
-    ensures beginning { OnErr result (IfSome (S.to_come source.old) (λ text. AppendsBeginning (K.written sink.old) (K.written sink.new) (lifted_text model.now circuit.now text))) }
+    ensures written { OnOk result (IfSome (S.to_come source.old)
+        (λ text. Appends (K.written sink.old) (K.written sink.new)
+        (lifted_text model.now circuit.now text))) }
+    ensures beginning { OnErr result (IfSome (S.to_come source.old)
+        (λ text. AppendsBeginning (K.written sink.old) (K.written sink.new)
+        (lifted_text model.now circuit.now text))) }
     ensures unread { IsErrOf result LiftFault.NoMemory → source.new ≡ source.old }
     ensures unwritten { IsErrOf result LiftFault.NoMemory → sink.new ≡ sink.old }
     ensures end { OnOk result (IsAtEnd (S.to_come source.new)) }
     // the source failed once where that is answered, the sink where that is, and else neither
-    ensures counted { CountsLift result (S.failures source.old) (S.failures source.new) (K.failures sink.old) (K.failures sink.new) }
+    ensures counted { CountsLift result (S.failures source.old) (S.failures source.new)
+        (K.failures sink.old) (K.failures sink.new) }
 {
     match lift_with_rises(alloc, model, circuit, false, source, sink) {
         Ok((judgement, _)) => Ok(judgement),
@@ -201,19 +227,28 @@ pub fn lift_named<S: Source, K: Sink>(
 ) -> Result<Judgement, LiftFault>
     requires { Lowers model.now circuit.now }
     // the judgement is that of the whole text over the circuit
-    ensures judged { IfOk result (λ judgement. IfSome (S.to_come source.old) (λ text. BitJudges circuit.now text judgement)) }
+    ensures judged { IfOk result (λ judgement. IfSome (S.to_come source.old)
+        (λ text. BitJudges circuit.now text judgement)) }
     // accepted exactly where it says a witness of which this is judged
-    ensures accepted { IfOk result (λ judgement. IfSome (S.to_come source.old) (λ text. BitAcceptsExactly circuit.now text judgement)) }
+    ensures accepted { IfOk result (λ judgement. IfSome (S.to_come source.old)
+        (λ text. BitAcceptsExactly circuit.now text judgement)) }
     // what is judged of the text with names over the model is the same verdict
-    ensures kept { IfOk result (λ judgement. IfSome (S.to_come source.old) (λ text. KeepsVerdictIn model.now circuit.now text (named_text model.now circuit.now text) judgement)) }
+    ensures kept { IfOk result (λ judgement. IfSome (S.to_come source.old)
+        (λ text. KeepsVerdictIn model.now circuit.now text (named_text model.now circuit.now text)
+        judgement)) }
     // what is written is the lifted text with names, and after a fault a beginning of it
-    ensures written { OnOk result (IfSome (S.to_come source.old) (λ text. Appends (K.written sink.old) (K.written sink.new) (named_text model.now circuit.now text))) }
-    ensures beginning { OnErr result (IfSome (S.to_come source.old) (λ text. AppendsBeginning (K.written sink.old) (K.written sink.new) (named_text model.now circuit.now text))) }
+    ensures written { OnOk result (IfSome (S.to_come source.old)
+        (λ text. Appends (K.written sink.old) (K.written sink.new)
+        (named_text model.now circuit.now text))) }
+    ensures beginning { OnErr result (IfSome (S.to_come source.old)
+        (λ text. AppendsBeginning (K.written sink.old) (K.written sink.new)
+        (named_text model.now circuit.now text))) }
     ensures unread { IsErrOf result LiftFault.NoMemory → source.new ≡ source.old }
     ensures unwritten { IsErrOf result LiftFault.NoMemory → sink.new ≡ sink.old }
     ensures end { OnOk result (IsAtEnd (S.to_come source.new)) }
     // the source failed once where that is answered, the sink where that is, and else neither
-    ensures counted { CountsLift result (S.failures source.old) (S.failures source.new) (K.failures sink.old) (K.failures sink.new) }
+    ensures counted { CountsLift result (S.failures source.old) (S.failures source.new)
+        (K.failures sink.old) (K.failures sink.new) }
 {
     match lift_with_rises(alloc, model, circuit, true, source, sink) {
         Ok((judgement, _)) => Ok(judgement),

@@ -18,7 +18,8 @@ use itoa::Buffer;
 
 /// Puts bytes.
 fn put_bytes<K: Sink>(outbox: &mut Outbox, sink: &mut K, bytes: &[u8]) -> Result<(), DeviceFault>
-    ensures puts { Puts result (K.written sink.old) (K.written sink.new) outbox.old outbox.new (bytes.now) }
+    ensures puts { Puts result (K.written sink.old) (K.written sink.new) outbox.old outbox.new
+        (bytes.now) }
     ensures failures { CountsFaults result (K.failures sink.old) (K.failures sink.new) }
 {
     outbox.put(sink, bytes)
@@ -26,7 +27,8 @@ fn put_bytes<K: Sink>(outbox: &mut Outbox, sink: &mut K, bytes: &[u8]) -> Result
 
 /// Puts a line.
 fn put_line<K: Sink>(outbox: &mut Outbox, sink: &mut K, line: &[u8]) -> Result<(), DeviceFault>
-    ensures puts { Puts result (K.written sink.old) (K.written sink.new) outbox.old outbox.new (text_of_lines (line.now ∷ [])) }
+    ensures puts { Puts result (K.written sink.old) (K.written sink.new) outbox.old outbox.new
+        (text_of_lines (line.now ∷ [])) }
     ensures failures { CountsFaults result (K.failures sink.old) (K.failures sink.new) }
 {
     put_bytes(outbox, sink, line)?;
@@ -35,7 +37,8 @@ fn put_line<K: Sink>(outbox: &mut Outbox, sink: &mut K, line: &[u8]) -> Result<(
 
 /// Puts a number.
 fn put_number<K: Sink>(outbox: &mut Outbox, sink: &mut K, number: u64) -> Result<(), DeviceFault>
-    ensures puts { Puts result (K.written sink.old) (K.written sink.new) outbox.old outbox.new (decimal number) }
+    ensures puts { Puts result (K.written sink.old) (K.written sink.new) outbox.old outbox.new
+        (decimal number) }
     ensures failures { CountsFaults result (K.failures sink.old) (K.failures sink.new) }
 {
     let mut buffer = Buffer::new();
@@ -49,7 +52,8 @@ fn put_mark<K: Sink>(
     mark: &[u8],
     number: u64,
 ) -> Result<(), DeviceFault>
-    ensures puts { Puts result (K.written sink.old) (K.written sink.new) outbox.old outbox.new (mark.now ++ (decimal number ++ 10 ∷ [])) }
+    ensures puts { Puts result (K.written sink.old) (K.written sink.new) outbox.old outbox.new
+        (mark.now ++ (decimal number ++ 10 ∷ [])) }
     ensures failures { CountsFaults result (K.failures sink.old) (K.failures sink.new) }
 {
     put_bytes(outbox, sink, mark)?;
@@ -70,7 +74,8 @@ fn digit(bit: bool) -> u8
 /// Writes the digits of a word, whose bits are a byte each, to the front of a list, the highest first.
 fn write_digits(bits: &[u8], digits: &mut [u8])
     requires { length bits.now ≤ length digits.old }
-    ensures digits { take (length bits.now) digits.new ≡ map digit (reverse (bits_of_line bits.now)) }
+    ensures digits { take (length bits.now) digits.new
+        ≡ map digit (reverse (bits_of_line bits.now)) }
     ensures as_many { length digits.new ≡ length digits.old }
 {
     for place in 0..bits.len() {
@@ -81,7 +86,8 @@ fn write_digits(bits: &[u8], digits: &mut [u8])
 /// Puts the digits of a word, the highest first.
 fn put_digits<K: Sink>(outbox: &mut Outbox, sink: &mut K, bits: &[u8]) -> Result<(), DeviceFault>
     requires { length bits.now ≤ 64 }
-    ensures puts { Puts result (K.written sink.old) (K.written sink.new) outbox.old outbox.new (map digit (reverse (bits_of_line bits.now))) }
+    ensures puts { Puts result (K.written sink.old) (K.written sink.new) outbox.old outbox.new
+        (map digit (reverse (bits_of_line bits.now))) }
     ensures failures { CountsFaults result (K.failures sink.old) (K.failures sink.new) }
 {
     let mut digits = [0; MOST_BITS];
@@ -100,7 +106,8 @@ fn put_symbol_part<K: Sink>(
     symbol: &[u8],
     digits: &[u8],
 ) -> Result<(), DeviceFault>
-    ensures puts { Puts result (K.written sink.old) (K.written sink.new) outbox.old outbox.new ((32 ∷ []) ++ (symbol.now ++ ((64 ∷ []) ++ digits.now))) }
+    ensures puts { Puts result (K.written sink.old) (K.written sink.new) outbox.old outbox.new
+        ((32 ∷ []) ++ (symbol.now ++ ((64 ∷ []) ++ digits.now))) }
     ensures failures { CountsFaults result (K.failures sink.old) (K.failures sink.new) }
 {
     put_bytes(outbox, sink, b" ")?;
@@ -117,7 +124,8 @@ fn put_name_in_frame<K: Sink>(
     frame: u64,
 ) -> Result<(), DeviceFault>
     requires { is_symbol symbol.now ≡ true }
-    ensures puts { Puts result (K.written sink.old) (K.written sink.new) outbox.old outbox.new (symbol_part (name_in_frame frame symbol.now)) }
+    ensures puts { Puts result (K.written sink.old) (K.written sink.new) outbox.old outbox.new
+        (symbol_part (name_in_frame frame symbol.now)) }
     ensures failures { CountsFaults result (K.failures sink.old) (K.failures sink.new) }
 {
     let mut buffer = Buffer::new();
@@ -137,7 +145,8 @@ fn put_name<K: Sink>(
     frame: u64,
     item: &Item,
 ) -> Result<(), DeviceFault>
-    ensures puts { Puts result (K.written sink.old) (K.written sink.new) outbox.old outbox.new (symbol_part (names named frame item.now)) }
+    ensures puts { Puts result (K.written sink.old) (K.written sink.new) outbox.old outbox.new
+        (symbol_part (names named frame item.now)) }
     ensures failures { CountsFaults result (K.failures sink.old) (K.failures sink.new) }
 {
     if !named {
@@ -160,7 +169,8 @@ fn put_word<K: Sink>(
     bits: &[u8],
 ) -> Result<(), DeviceFault>
     requires { length bits.now ≤ 64 }
-    ensures puts { Puts result (K.written sink.old) (K.written sink.new) outbox.old outbox.new (word_line index (bits_of_line bits.now) (names named frame item.now) ++ 10 ∷ []) }
+    ensures puts { Puts result (K.written sink.old) (K.written sink.new) outbox.old outbox.new
+        (word_line index (bits_of_line bits.now) (names named frame item.now) ++ 10 ∷ []) }
     ensures failures { CountsFaults result (K.failures sink.old) (K.failures sink.new) }
 {
     put_number(outbox, sink, index as u64)?;
@@ -182,7 +192,8 @@ fn put_leaf<K: Sink>(
     bits: &[u8],
 ) -> Result<(), DeviceFault>
     requires { length bits.now ≤ 64 }
-    ensures puts { Puts result (K.written sink.old) (K.written sink.new) outbox.old outbox.new (taken_line takes index (bits_of_line bits.now) (names named frame item.now)) }
+    ensures puts { Puts result (K.written sink.old) (K.written sink.new) outbox.old outbox.new
+        (taken_line takes index (bits_of_line bits.now) (names named frame item.now)) }
     ensures failures { CountsFaults result (K.failures sink.old) (K.failures sink.new) }
 {
     if takes {
@@ -212,7 +223,8 @@ fn item_at(items: &[Item], place: usize) -> &Item
 /// The item at a position of the list that the leaves of a kind are among.
 fn leaf_item(model: &Model, leaves: Leaves, index: usize) -> &Item
     requires { index < length (places (list_of leaves) 0 model.now) }
-    ensures { slice_get model.now (slice_index (places (list_of leaves) 0 model.now) index) ≡ Some result.now }
+    ensures { slice_get model.now (slice_index (places (list_of leaves) 0 model.now) index)
+        ≡ Some result.now }
 {
     item_at(model.items(), leaves.places(model)[index])
 }
@@ -227,7 +239,8 @@ fn put_leaves<K: Sink>(
     leaves: Leaves,
     bits: &[u8],
 ) -> Result<(), DeviceFault>
-    ensures puts { Puts result (K.written sink.old) (K.written sink.new) outbox.old outbox.new (leaf_lines leaves model.now (names named frame) (bits_of_line bits.now)) }
+    ensures puts { Puts result (K.written sink.old) (K.written sink.new) outbox.old outbox.new
+        (leaf_lines leaves model.now (names named frame) (bits_of_line bits.now)) }
     ensures failures { CountsFaults result (K.failures sink.old) (K.failures sink.new) }
 {
     let mut rest = bits;
@@ -260,7 +273,9 @@ fn put_part<K: Sink>(
     leaves: Leaves,
     bits: &[u8],
 ) -> Result<(), DeviceFault>
-    ensures puts { Puts result (K.written sink.old) (K.written sink.new) outbox.old outbox.new ((mark.now ++ (decimal frame ++ 10 ∷ [])) ++ leaf_lines leaves model.now (names named frame) (bits_of_line bits.now)) }
+    ensures puts { Puts result (K.written sink.old) (K.written sink.new) outbox.old outbox.new
+        ((mark.now ++ (decimal frame ++ 10 ∷ [])) ++ leaf_lines leaves model.now (names named frame)
+        (bits_of_line bits.now)) }
     ensures failures { CountsFaults result (K.failures sink.old) (K.failures sink.new) }
 {
     put_mark(outbox, sink, mark, frame)?;
@@ -295,7 +310,8 @@ fn put_initial<K: Sink>(
     named: bool,
     bits: &[u8],
 ) -> Result<(), DeviceFault>
-    ensures puts { Puts result (K.written sink.old) (K.written sink.new) outbox.old outbox.new (text_of_lines (initial_piece named model.now (bits_of_line bits.now))) }
+    ensures puts { Puts result (K.written sink.old) (K.written sink.new) outbox.old outbox.new
+        (text_of_lines (initial_piece named model.now (bits_of_line bits.now))) }
     ensures failures { CountsFaults result (K.failures sink.old) (K.failures sink.new) }
 {
     let _items = model.items();
@@ -314,7 +330,9 @@ fn put_free<K: Sink>(
     bits: &[u8],
 ) -> Result<(), DeviceFault>
     requires { some_free ≡ has_free (shape_of model.now) }
-    ensures puts { Puts result (K.written sink.old) (K.written sink.new) outbox.old outbox.new (text_of_lines (free_piece named model.now frame (drop (input_width model.now) (bits_of_line bits.now)))) }
+    ensures puts { Puts result (K.written sink.old) (K.written sink.new) outbox.old outbox.new
+        (text_of_lines (free_piece named model.now frame
+        (drop (input_width model.now) (bits_of_line bits.now)))) }
     ensures failures { CountsFaults result (K.failures sink.old) (K.failures sink.new) }
 {
     let _items = model.items();
@@ -355,7 +373,8 @@ fn put_frame<K: Sink>(
     bits: &[u8],
 ) -> Result<(), DeviceFault>
     requires { some_free ≡ has_free (shape_of model.now) }
-    ensures puts { Puts result (K.written sink.old) (K.written sink.new) outbox.old outbox.new (text_of_lines (frame_piece named model.now frame (bits_of_line bits.now))) }
+    ensures puts { Puts result (K.written sink.old) (K.written sink.new) outbox.old outbox.new
+        (text_of_lines (frame_piece named model.now frame (bits_of_line bits.now))) }
     ensures failures { CountsFaults result (K.failures sink.old) (K.failures sink.new) }
 {
     let _items = model.items();
@@ -390,7 +409,8 @@ fn put_frame_or_end<K: Sink>(
     line: &[u8],
 ) -> Result<(), DeviceFault>
     requires { some_free ≡ has_free (shape_of model.now) }
-    ensures puts { Puts result (K.written sink.old) (K.written sink.new) outbox.old outbox.new (text_of_lines (piece named model.now (frame + 3) line.now)) }
+    ensures puts { Puts result (K.written sink.old) (K.written sink.new) outbox.old outbox.new
+        (text_of_lines (piece named model.now (frame + 3) line.now)) }
     ensures failures { CountsFaults result (K.failures sink.old) (K.failures sink.new) }
 {
     if is_word(line, b".") {
@@ -411,7 +431,8 @@ pub(crate) fn put_piece<K: Sink>(
     line: &[u8],
 ) -> Result<(), DeviceFault>
     requires { some_free ≡ has_free (shape_of model.now) }
-    ensures puts { Puts result (K.written sink.old) (K.written sink.new) outbox.old outbox.new (text_of_lines (piece named model.now number line.now)) }
+    ensures puts { Puts result (K.written sink.old) (K.written sink.new) outbox.old outbox.new
+        (text_of_lines (piece named model.now number line.now)) }
     ensures failures { CountsFaults result (K.failures sink.old) (K.failures sink.new) }
 {
     if number == 0 {

@@ -35,8 +35,10 @@ use witness::{BitJudge, Judgement, Why};
 /// Feeds a judge with a whole line, and answers whether it is admitted.
 fn admits(judge: &mut BitJudge<'_>, line: &[u8]) -> bool
     requires { IsLine line.now }
-    ensures judged { (d : Circuit) (text : List ℕ) → StandsForBits d judge.old text → StandsForBits d judge.new (text ++ (line.now ++ 10 ∷ [])) }
-    ensures admitted { (d : Circuit) (text : List ℕ) → StandsForBits d judge.old text → result ≡ not (admitted_lines d (text ++ (line.now ++ 10 ∷ [])) == admitted_lines d text) }
+    ensures judged { (d : Circuit) (text : List ℕ) → StandsForBits d judge.old text
+        → StandsForBits d judge.new (text ++ (line.now ++ 10 ∷ [])) }
+    ensures admitted { (d : Circuit) (text : List ℕ) → StandsForBits d judge.old text
+        → result ≡ not (admitted_lines d (text ++ (line.now ++ 10 ∷ [])) == admitted_lines d text) }
 {
     let number = judge.admitted_lines();
     judge.take_line(line);
@@ -60,7 +62,8 @@ fn claim_of(line: &[u8]) -> usize
 /// Takes a line before the frames, and answers what it claims, where it is admitted as that of the claim.
 fn take_head_line(judge: &mut BitJudge<'_>, line: &[u8]) -> Option<usize>
     requires { IsLine line.now }
-    ensures { (d : Circuit) (text : List ℕ) → IsCircuit d → IsHead d judge.old text → IsHeadOrClaimed d judge.new (text ++ (line.now ++ 10 ∷ [])) result }
+    ensures { (d : Circuit) (text : List ℕ) → IsCircuit d → IsHead d judge.old text
+        → IsHeadOrClaimed d judge.new (text ++ (line.now ++ 10 ∷ [])) result }
 {
     let number = judge.admitted_lines();
     if !admits(judge, line) {
@@ -82,9 +85,12 @@ fn read_claim<S: Source>(
     source: &mut S,
 ) -> Result<Option<usize>, RestoreFault>
     requires { lines.old.rest ≡ [] }
-    ensures reads { (d : Circuit) → IsCircuit d → StandsForBits d judge.old [] → ReadsClaim result d (S.to_come source.old) (prepend_known lines.new.rest (S.to_come source.new)) judge.new }
+    ensures reads { (d : Circuit) → IsCircuit d → StandsForBits d judge.old []
+        → ReadsClaim result d (S.to_come source.old)
+        (prepend_known lines.new.rest (S.to_come source.new)) judge.new }
     ensures end { IfOk result (λ claim. claim ≡ None → IsAtEnd (S.to_come source.new)) }
-    ensures counted { (written : ℕ) → CountsRestore result (S.failures source.old) (S.failures source.new) written written }
+    ensures counted { (written : ℕ)
+        → CountsRestore result (S.failures source.old) (S.failures source.new) written written }
     ensures line { IfErr result (λ e. is_of_text e.why ≡ false × (e.line ≡ 0)) }
 {
     loop {
@@ -112,7 +118,10 @@ fn hand_on_first<T: Taker, K: Sink>(
     sink: &mut K,
 ) -> Result<(), RestoreFault>
     requires { restorer.old.stage ≡ stage.Head }
-    ensures takes { IsPutInPieces T.put_for → TakesPiece T.stands T.put_for result (K.written sink.old) (K.written sink.new) outbox.old outbox.new taker.old taker.new (head restorer.old.play.claim ++ (restorer.old.initial ++ restorer.old.line)) }
+    ensures takes { IsPutInPieces T.put_for
+        → TakesPiece T.stands T.put_for result (K.written sink.old)
+        (K.written sink.new) outbox.old outbox.new taker.old taker.new
+        (head restorer.old.play.claim ++ (restorer.old.initial ++ restorer.old.line)) }
     ensures settles { OnOk result (restorer.new ≡ record restorer.old { stage = stage.Frame }) }
     ensures fault { IfErr result (λ e. e ≡ record { line = 0; why = why.Write }) }
     ensures counted { CountsFaults result (K.failures sink.old) (K.failures sink.new) }
@@ -131,7 +140,10 @@ fn hand_on_frame<T: Taker, K: Sink>(
     outbox: &mut Outbox,
     sink: &mut K,
 ) -> Result<(), RestoreFault>
-    ensures takes { IsPutInPieces T.put_for → TakesPiece T.stands T.put_for result (K.written sink.old) (K.written sink.new) outbox.old outbox.new taker.old taker.new (frame_pieces_at restorer.old.stage restorer.old) }
+    ensures takes { IsPutInPieces T.put_for
+        → TakesPiece T.stands T.put_for result (K.written sink.old)
+        (K.written sink.new) outbox.old outbox.new taker.old taker.new
+        (frame_pieces_at restorer.old.stage restorer.old) }
     ensures settles { OnOk result (restorer.new ≡ settled restorer.old) }
     ensures fault { IfErr result (λ e. e ≡ record { line = 0; why = why.Write }) }
     ensures counted { CountsFaults result (K.failures sink.old) (K.failures sink.new) }
@@ -153,8 +165,12 @@ fn put_line<T: Taker, K: Sink>(
     line: &[u8],
 ) -> Result<(), RestoreFault>
     requires { is_reading restorer.old.stage ≡ true }
-    ensures takes { length line.now ≡ length restorer.old.reader.frame → IsPutInPieces T.put_for → TakesPiece T.stands T.put_for result (K.written sink.old) (K.written sink.new) outbox.old outbox.new taker.old taker.new (frame_put restorer.old line.now) }
-    ensures moves { length line.now ≡ length restorer.old.reader.frame → OnOk result (restorer.new ≡ frame_taken restorer.old line.now) }
+    ensures takes { length line.now ≡ length restorer.old.reader.frame → IsPutInPieces T.put_for
+        → TakesPiece T.stands T.put_for result (K.written sink.old)
+        (K.written sink.new) outbox.old outbox.new taker.old taker.new
+        (frame_put restorer.old line.now) }
+    ensures moves { length line.now ≡ length restorer.old.reader.frame
+        → OnOk result (restorer.new ≡ frame_taken restorer.old line.now) }
     ensures reads { OnOk result (is_reading restorer.new.stage ≡ true) }
     ensures fault { IfErr result (λ e. e ≡ record { line = 0; why = why.Write }) }
     ensures counted { CountsFaults result (K.failures sink.old) (K.failures sink.new) }
@@ -185,7 +201,9 @@ fn take_later_line<T: Taker, K: Sink>(
 ) -> Result<(), RestoreFault>
     requires is_line { IsLine line.now }
     requires reads { is_reading restorer.old.stage ≡ true }
-    ensures takes { TakesForm T.stands T.put_for result (K.written sink.old) (K.written sink.new) outbox.old outbox.new taker.old taker.new judge.old judge.new restorer.old restorer.new (line.now ++ 10 ∷ []) }
+    ensures takes { TakesForm T.stands T.put_for result (K.written sink.old)
+        (K.written sink.new) outbox.old outbox.new taker.old taker.new judge.old judge.new
+        restorer.old restorer.new (line.now ++ 10 ∷ []) }
     ensures reads { OnOk result (is_reading restorer.new.stage ≡ true) }
     ensures fault { IfErr result (λ e. e ≡ record { line = 0; why = why.Write }) }
     ensures counted { CountsFaults result (K.failures sink.old) (K.failures sink.new) }
@@ -216,10 +234,14 @@ fn take_lines<S: Source, T: Taker, K: Sink>(
     sink: &mut K,
 ) -> Result<(), RestoreFault>
     requires { is_reading restorer.old.stage ≡ true }
-    ensures takes { TakesFormAll T.stands T.put_for result (prepend_known lines.old.rest (S.to_come source.old)) (K.written sink.old) (K.written sink.new) outbox.old outbox.new taker.old taker.new judge.old judge.new restorer.old restorer.new }
+    ensures takes { TakesFormAll T.stands T.put_for result
+        (prepend_known lines.old.rest (S.to_come source.old)) (K.written sink.old)
+        (K.written sink.new) outbox.old outbox.new taker.old taker.new judge.old judge.new
+        restorer.old restorer.new }
     ensures end { OnOk result (IsAtEnd (S.to_come source.new)) }
     ensures line { IfErr result (λ e. is_of_text e.why ≡ false × (e.line ≡ 0)) }
-    ensures counted { CountsRestore result (S.failures source.old) (S.failures source.new) (K.failures sink.old) (K.failures sink.new) }
+    ensures counted { CountsRestore result (S.failures source.old) (S.failures source.new)
+        (K.failures sink.old) (K.failures sink.new) }
 {
     loop {
         match lines.advance(source) {
@@ -257,11 +279,17 @@ fn take_frames<S: Source, T: Taker, K: Sink>(
     sink: &mut K,
 ) -> Result<Judgement, RestoreFault>
     requires { claim < length circuit.now.bads }
-    ensures writes { (choice : Option ℕ) (d : Circuit) (o : T.Over) (whole : Option (List ℕ)) (front : List ℕ) (j : ℕ) → IsPutInPieces T.put_for → IsCircuit d → d.inputs ≡ input_count circuit.now → property_of choice j ≡ claim
-        → Consumes whole (prepend_known lines.old.rest (S.to_come source.old)) front → IsClaimed d judge.old front j → T.stands o taker.old [] → WritesFormAll T.stands T.put_for (λ j. j) result circuit.now choice d o whole (K.written sink.old) (K.written sink.new) taker.new judge.new }
+    ensures writes { (choice : Option ℕ) (d : Circuit) (o : T.Over) (whole : Option (List ℕ))
+        (front : List ℕ) (j : ℕ) → IsPutInPieces T.put_for → IsCircuit d
+        → d.inputs ≡ input_count circuit.now → property_of choice j ≡ claim
+        → Consumes whole (prepend_known lines.old.rest (S.to_come source.old)) front
+        → IsClaimed d judge.old front j → T.stands o taker.old []
+        → WritesFormAll T.stands T.put_for (λ j. j) result circuit.now choice d o whole
+        (K.written sink.old) (K.written sink.new) taker.new judge.new }
     ensures end { OnOk result (IsAtEnd (S.to_come source.new)) }
     ensures line { IfErr result (λ e. is_of_text e.why ≡ false × (e.line ≡ 0)) }
-    ensures counted { CountsRestore result (S.failures source.old) (S.failures source.new) (K.failures sink.old) (K.failures sink.new) }
+    ensures counted { CountsRestore result (S.failures source.old) (S.failures source.new)
+        (K.failures sink.old) (K.failures sink.new) }
 {
     let mut restorer = Restorer::at_start(alloc, circuit, claim)?;
     take_and_write(lines, &mut restorer, judge, taker, source, sink)?;
@@ -278,11 +306,18 @@ fn take_and_write<S: Source, T: Taker, K: Sink>(
     sink: &mut K,
 ) -> Result<(), RestoreFault>
     requires { restorer.old.stage ≡ stage.Start }
-    ensures writes { (c : Circuit) (choice : Option ℕ) (d : Circuit) (o : T.Over) (whole : Option (List ℕ)) (front : List ℕ) → IsPutInPieces T.put_for → IsCircuit d → d.inputs ≡ input_count c
-        → Consumes whole (prepend_known lines.old.rest (S.to_come source.old)) front → FormHolds c choice d judge.old restorer.old front → form_restored_text c choice d front ≡ [] → T.stands o taker.old [] → WritesFormAll T.stands T.put_for (λ u. judgement_held restorer.new) result c choice d o whole (K.written sink.old) (K.written sink.new) taker.new judge.new }
+    ensures writes { (c : Circuit) (choice : Option ℕ) (d : Circuit) (o : T.Over)
+        (whole : Option (List ℕ)) (front : List ℕ) → IsPutInPieces T.put_for → IsCircuit d
+        → d.inputs ≡ input_count c
+        → Consumes whole (prepend_known lines.old.rest (S.to_come source.old)) front
+        → FormHolds c choice d judge.old restorer.old front → form_restored_text c choice d front
+        ≡ [] → T.stands o taker.old [] → WritesFormAll T.stands T.put_for
+        (λ u. judgement_held restorer.new) result c choice d o whole (K.written sink.old)
+        (K.written sink.new) taker.new judge.new }
     ensures end { OnOk result (IsAtEnd (S.to_come source.new)) }
     ensures line { IfErr result (λ e. is_of_text e.why ≡ false × (e.line ≡ 0)) }
-    ensures counted { CountsRestore result (S.failures source.old) (S.failures source.new) (K.failures sink.old) (K.failures sink.new) }
+    ensures counted { CountsRestore result (S.failures source.old) (S.failures source.new)
+        (K.failures sink.old) (K.failures sink.new) }
 {
     let mut outbox = Outbox::new();
     let told = take_lines(lines, restorer, judge, taker, &mut outbox, source, sink);
@@ -304,13 +339,23 @@ fn take_all<S: Source, T: Taker, K: Sink>(
 ) -> Result<Judgement, RestoreFault>
     requires is_form { IsEngineFormOf circuit.now choice form.now }
     requires begins { StandsForBits form.now judge.old [] }
-    ensures takes { (over : Judgement) (o : T.Over) → IsPutInPieces T.put_for → ((text : List ℕ) → StandsForBits form.now judge.new text → BitJudges form.now text over) → T.stands o taker.old []
-        → OnOk result (IfSome (S.to_come source.old) (TakesRestored T.stands T.put_for (Ok over) circuit.now choice form.now o taker.new (K.written sink.old) (K.written sink.new))) }
-    ensures restored { (o : T.Over) → IsPutInPieces T.put_for → T.stands o taker.old [] → IfOk result (λ restored. IfSome (S.to_come source.old) (JudgesRead circuit.now choice form.now restored)) }
-    ensures beginning { (o : T.Over) → IsPutInPieces T.put_for → T.stands o taker.old [] → OnErr result (IfSome (S.to_come source.old) (λ text. AppendsBeginning (K.written sink.old) (K.written sink.new) (T.put_for o (form_restored_text circuit.now choice form.now text)))) }
+    ensures takes { (over : Judgement) (o : T.Over) → IsPutInPieces T.put_for
+        → ((text : List ℕ) → StandsForBits form.now judge.new text → BitJudges form.now text over)
+        → T.stands o taker.old []
+        → OnOk result (IfSome (S.to_come source.old)
+        (TakesRestored T.stands T.put_for (Ok over) circuit.now choice form.now o taker.new
+        (K.written sink.old) (K.written sink.new))) }
+    ensures restored { (o : T.Over) → IsPutInPieces T.put_for → T.stands o taker.old []
+        → IfOk result (λ restored. IfSome (S.to_come source.old)
+        (JudgesRead circuit.now choice form.now restored)) }
+    ensures beginning { (o : T.Over) → IsPutInPieces T.put_for → T.stands o taker.old []
+        → OnErr result (IfSome (S.to_come source.old)
+        (λ text. AppendsBeginning (K.written sink.old) (K.written sink.new)
+        (T.put_for o (form_restored_text circuit.now choice form.now text)))) }
     ensures end { OnOk result (IsAtEnd (S.to_come source.new)) }
     ensures line { IfErr result (λ e. is_of_text e.why ≡ false × (e.line ≡ 0)) }
-    ensures counted { CountsRestore result (S.failures source.old) (S.failures source.new) (K.failures sink.old) (K.failures sink.new) }
+    ensures counted { CountsRestore result (S.failures source.old) (S.failures source.new)
+        (K.failures sink.old) (K.failures sink.new) }
 {
     aiger::laws::exactly_one_trace();
     let mut lines = LineReader::new(alloc);
@@ -357,11 +402,15 @@ pub fn take_form<S: Source, T: Taker, K: Sink>(
 ) -> Result<Judgement, RestoreFault>
     requires { IsEngineFormOf circuit.now choice form.now }
     // all that the text is restored to was taken, what is put for that was written, and the judgement is that over the form
-    ensures takes { (o : T.Over) → IsPutInPieces T.put_for → T.stands o taker.old [] → IfSome (S.to_come source.old) (TakesRestored T.stands T.put_for result circuit.now choice form.now o taker.new (K.written sink.old) (K.written sink.new)) }
+    ensures takes { (o : T.Over) → IsPutInPieces T.put_for → T.stands o taker.old []
+        → IfSome (S.to_come source.old)
+        (TakesRestored T.stands T.put_for result circuit.now choice form.now o taker.new
+        (K.written sink.old) (K.written sink.new)) }
     ensures end { OnOk result (IsAtEnd (S.to_come source.new)) }
     ensures apart { IfErr result (λ e. is_of_text e.why ≡ false × (e.line ≡ 0)) }
     // the source failed once where that is told, the sink where that is, and else neither
-    ensures counted { CountsRestore result (S.failures source.old) (S.failures source.new) (K.failures sink.old) (K.failures sink.new) }
+    ensures counted { CountsRestore result (S.failures source.old) (S.failures source.new)
+        (K.failures sink.old) (K.failures sink.new) }
 {
     let mut judge = match BitJudge::new(alloc, form) {
         Ok(judge) => judge,
@@ -387,7 +436,9 @@ fn over_or_restored(over: Judgement, restored: Judgement) -> Judgement
 /// circuit: that it makes no claim, or which line is faulty, as the first says; else the second.
 pub fn told_of(over: Judgement, restored: Judgement) -> Judgement
     ensures told { result ≡ told_of over restored }
-    ensures judged { (c : Circuit) (choice : Option ℕ) (d : Circuit) (text : List ℕ) → IsCircuit d → BitJudges d text over → BitJudges c (form_restored_text c choice d text) restored → FormJudges c choice d text result }
+    ensures judged { (c : Circuit) (choice : Option ℕ) (d : Circuit) (text : List ℕ) → IsCircuit d
+        → BitJudges d text over → BitJudges c (form_restored_text c choice d text) restored
+        → FormJudges c choice d text result }
 {
     aiger::laws::exactly_one_trace();
     witness::bit_laws::bit_texts_read();
@@ -415,16 +466,23 @@ pub fn restore_form<S: Source, K: Sink>(
 ) -> Result<Judgement, RestoreFault>
     requires { IsEngineFormOf circuit.now choice form.now }
     // the judgement is that of the text, and all that it is restored to was written
-    ensures judged { IfOk result (λ judgement. IfSome (S.to_come source.old) (λ text. FormJudges circuit.now choice form.now text judgement)) }
-    ensures written { OnOk result (IfSome (S.to_come source.old) (λ text. Appends (K.written sink.old) (K.written sink.new) (form_restored_text circuit.now choice form.now text))) }
+    ensures judged { IfOk result (λ judgement. IfSome (S.to_come source.old)
+        (λ text. FormJudges circuit.now choice form.now text judgement)) }
+    ensures written { OnOk result (IfSome (S.to_come source.old)
+        (λ text. Appends (K.written sink.old) (K.written sink.new)
+        (form_restored_text circuit.now choice form.now text))) }
     // what is accepted over the form is found again
-    ensures found { OnOk result (IfSome (S.to_come source.old) (FindsWitnessAgain circuit.now choice form.now)) }
+    ensures found { OnOk result (IfSome (S.to_come source.old)
+        (FindsWitnessAgain circuit.now choice form.now)) }
     // at a fault a beginning was written
-    ensures beginning { OnErr result (IfSome (S.to_come source.old) (λ text. AppendsBeginning (K.written sink.old) (K.written sink.new) (form_restored_text circuit.now choice form.now text))) }
+    ensures beginning { OnErr result (IfSome (S.to_come source.old)
+        (λ text. AppendsBeginning (K.written sink.old) (K.written sink.new)
+        (form_restored_text circuit.now choice form.now text))) }
     ensures apart { IfErr result (λ e. is_of_text e.why ≡ false × (e.line ≡ 0)) }
     ensures end { OnOk result (IsAtEnd (S.to_come source.new)) }
     // the source failed once where that is told, the sink where that is, and else neither
-    ensures counted { CountsRestore result (S.failures source.old) (S.failures source.new) (K.failures sink.old) (K.failures sink.new) }
+    ensures counted { CountsRestore result (S.failures source.old) (S.failures source.new)
+        (K.failures sink.old) (K.failures sink.new) }
 {
     aiger::laws::exactly_one_trace();
     witness::bit_laws::bit_texts_read();

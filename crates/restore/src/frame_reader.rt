@@ -38,7 +38,8 @@ impl FrameReader {
     ///
     /// Error: where a growth was refused.
     pub fn new(alloc: Global, width: u32) -> Result<FrameReader, AllocError>
-        ensures { IfOk result (λ r. (length r.frame ≡ width) × ((r.place ≡ Start) × (r.rest ≡ []))) }
+        ensures { IfOk result (λ r. (length r.frame ≡ width)
+            × ((r.place ≡ Start) × (r.rest ≡ []))) }
     {
         Ok(FrameReader {
             lines: LineReader::new(alloc),
@@ -68,14 +69,20 @@ impl FrameReader {
     /// byte is lost then, and a further call goes on. Else the first faulty line of the text, by its first why; further
     /// calls tell it again.
     pub fn advance<S: Source>(&mut self, source: &mut S) -> Result<bool, RestoreFault>
-        ensures steps { StepsOn result self.old self.new (prepend_known self.old.rest (S.to_come source.old)) (prepend_known self.new.rest (S.to_come source.new)) }
+        ensures steps { StepsOn result self.old self.new
+            (prepend_known self.old.rest (S.to_come source.old))
+            (prepend_known self.new.rest (S.to_come source.new)) }
         ensures width { length self.new.frame ≡ length self.old.frame }
-        ensures ends { result ≡ Ok true → frames_left self.new (S.calls_left source.new) < frames_left self.old (S.calls_left source.old) }
+        ensures ends { result ≡ Ok true → frames_left self.new (S.calls_left source.new)
+            < frames_left self.old (S.calls_left source.old) }
         ensures end { result ≡ Ok false → IsAtEnd (S.to_come source.new) }
-        ensures read_on { IfErr result (λ e. e.why ≢ why.Device → e.why ≢ why.NoMemory → IsAtEnd (S.to_come source.new)) }
+        ensures read_on { IfErr result (λ e. e.why ≢ why.Device → e.why ≢ why.NoMemory
+            → IsAtEnd (S.to_come source.new)) }
         ensures counted { OnOk result (S.failures source.new ≡ S.failures source.old) }
-        ensures device { IfErr result (λ e. e.why ≡ why.Device → HasRisen (S.failures source.old) (S.failures source.new)) }
-        ensures unfailed { IfErr result (λ e. e.why ≢ why.Device → S.failures source.new ≡ S.failures source.old) }
+        ensures device { IfErr result (λ e. e.why ≡ why.Device
+            → HasRisen (S.failures source.old) (S.failures source.new)) }
+        ensures unfailed { IfErr result (λ e. e.why ≢ why.Device
+            → S.failures source.new ≡ S.failures source.old) }
     {
         while self.progress.place().is_open() {
             if self.take_line(source)? {
@@ -88,13 +95,22 @@ impl FrameReader {
     /// Takes the next line, and answers whether it is a frame.
     fn take_line<S: Source>(&mut self, source: &mut S) -> Result<bool, RestoreFault>
         requires { may_follow self.old.place ≡ true }
-        ensures found { IfOk result (λ is_frame. AgreeAsGiven (frames_to_come self.old) (λ rest. given_by is_frame self.new.frame (frames_to_come self.new rest)) (prepend_known self.old.rest (S.to_come source.old)) (prepend_known self.new.rest (S.to_come source.new))) }
-        ensures ends { OnOk result (frames_left self.new (S.calls_left source.new) < frames_left self.old (S.calls_left source.old)) }
+        ensures found { IfOk result (λ is_frame. AgreeAsGiven (frames_to_come self.old)
+            (λ rest. given_by is_frame self.new.frame (frames_to_come self.new rest))
+            (prepend_known self.old.rest (S.to_come source.old))
+            (prepend_known self.new.rest (S.to_come source.new))) }
+        ensures ends { OnOk result (frames_left self.new (S.calls_left source.new)
+            < frames_left self.old (S.calls_left source.old)) }
         ensures width { length self.new.frame ≡ length self.old.frame }
         ensures counted { OnOk result (S.failures source.new ≡ S.failures source.old) }
-        ensures unread { IfErr result (λ e. IsUnread e × AgreeAsGiven (frames_to_come self.old) (frames_to_come self.new) (prepend_known self.old.rest (S.to_come source.old)) (prepend_known self.new.rest (S.to_come source.new))) }
-        ensures device { IfErr result (λ e. e.why ≡ why.Device → HasRisen (S.failures source.old) (S.failures source.new)) }
-        ensures memory { IfErr result (λ e. e.why ≢ why.Device → S.failures source.new ≡ S.failures source.old) }
+        ensures unread { IfErr result (λ e. IsUnread e
+            × AgreeAsGiven (frames_to_come self.old) (frames_to_come self.new)
+            (prepend_known self.old.rest (S.to_come source.old))
+            (prepend_known self.new.rest (S.to_come source.new))) }
+        ensures device { IfErr result (λ e. e.why ≡ why.Device
+            → HasRisen (S.failures source.old) (S.failures source.new)) }
+        ensures memory { IfErr result (λ e. e.why ≢ why.Device
+            → S.failures source.new ≡ S.failures source.old) }
     {
         let is_whole = match self.lines.advance(source) {
             Ok(is_whole) => is_whole,
@@ -109,8 +125,12 @@ impl FrameReader {
 fn end<S: Source>(place: Place, source: &mut S) -> Result<bool, RestoreFault>
     requires closed { may_follow place ≡ false }
     requires text { FailsByText place }
-    ensures none { IfOk result (λ more. (more ≡ false) × ((place ≡ Ended) × (IsAtEnd (S.to_come source.new) × (S.failures source.new ≡ S.failures source.old)))) }
-    ensures fault { IfErr result (λ e. TellsNoFrame e place (S.to_come source.new) (S.failures source.old) (S.failures source.new)) }
+    ensures none { IfOk result (λ more. (more ≡ false)
+        × ((place ≡ Ended) × (IsAtEnd (S.to_come source.new)
+        × (S.failures source.new ≡ S.failures source.old)))) }
+    ensures fault { IfErr result
+        (λ e. TellsNoFrame e place (S.to_come source.new) (S.failures source.old)
+        (S.failures source.new)) }
 {
     if let Err(DeviceFault::Failed) = skip_all(source) {
         return Err(unread(ReadAllFault::Device));

@@ -36,7 +36,8 @@ impl Place {
     pub(crate) fn at_end(self) -> Place
         ensures closed { may_follow result ≡ false }
         ensures text { FailsByText self → FailsByText result }
-        ensures reads { (width : ℕ) (more : List (List ℕ)) → read_at self width [] ≡ read_at result width more }
+        ensures reads { (width : ℕ) (more : List (List ℕ)) → read_at self width []
+            ≡ read_at result width more }
     {
         match self {
             Place::Start => no_frame(1),

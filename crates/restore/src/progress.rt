@@ -67,7 +67,8 @@ fn read_frame(line: &[u8], bits: &mut [bool]) -> Result<(), RestoreWhy>
 fn behind_initial(line: &[u8], is_last: bool) -> Place
     ensures closed { is_last ≡ true → may_follow result ≡ false }
     ensures text { FailsByText result }
-    ensures reads { (width : ℕ) (more : List (List ℕ)) → read_found_lines width (line.now ∷ later_lines is_last more) ≡ read_at result width more }
+    ensures reads { (width : ℕ) (more : List (List ℕ))
+        → read_found_lines width (line.now ∷ later_lines is_last more) ≡ read_at result width more }
 {
     match initial_why(line) {
         Some(why) => Place::Failed(RestoreFault { line: 1, why }),
@@ -114,7 +115,10 @@ impl Progress {
 
     /// Takes the line of a frame, which may be the last line, and answers whether it is a frame.
     fn take_frame(&mut self, number: u64, line: &[u8], is_last: bool) -> bool
-        ensures reads { (more : List (List ℕ)) → read_frames (length self.old.bits.items) number (line.now ∷ later_lines is_last more) ≡ given_by result self.new.bits.items (read_at self.new.place (length self.new.bits.items) more) }
+        ensures reads { (more : List (List ℕ))
+            → read_frames (length self.old.bits.items) number (line.now ∷ later_lines is_last more)
+            ≡ given_by result self.new.bits.items
+            (read_at self.new.place (length self.new.bits.items) more) }
         ensures closed { is_last ≡ true → may_follow self.new.place ≡ false }
         ensures text { FailsByText self.new.place }
         ensures width { length self.new.bits.items ≡ length self.old.bits.items }
@@ -138,7 +142,10 @@ impl Progress {
     /// Takes a line, which may be the last one, and answers whether it is a frame. A last line without a byte is none.
     pub(crate) fn take(&mut self, line: &[u8], is_last: bool) -> bool
         requires { may_follow self.old.place ≡ true }
-        ensures reads { (more : List (List ℕ)) → read_at self.old.place (length self.old.bits.items) (lines_from line.now is_last more) ≡ given_by result self.new.bits.items (read_at self.new.place (length self.new.bits.items) more) }
+        ensures reads { (more : List (List ℕ))
+            → read_at self.old.place (length self.old.bits.items) (lines_from line.now is_last more)
+            ≡ given_by result self.new.bits.items
+            (read_at self.new.place (length self.new.bits.items) more) }
         ensures closed { is_last ≡ true → may_follow self.new.place ≡ false }
         ensures text { FailsByText self.new.place }
         ensures width { length self.new.bits.items ≡ length self.old.bits.items }

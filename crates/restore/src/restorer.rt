@@ -70,12 +70,15 @@ impl<'c> Restorer<'c> {
         claim: usize,
     ) -> Result<Restorer<'c>, AllocError>
         requires { claim < length circuit.now.bads }
-        ensures restores { IfOk result (λ r. (text : List ℕ) → owed r text ≡ record { bytes = restored_text circuit.now claim text; fault = (read_found (input_count circuit.now) text).fault }) }
+        ensures restores { IfOk result (λ r. (text : List ℕ) → owed r text
+            ≡ record { bytes = restored_text circuit.now claim text; fault = (read_found (input_count circuit.now) text).fault }) }
         ensures unread { IfOk result (λ r. r.reader.rest ≡ []) }
         ensures begins { IfOk result (λ r. is_written r.stage ≡ false) }
         // what is judged in the end is what is judged over the circuit of what the text is restored to, where nothing is wrong
         // with it
-        ensures judges { IfOk result (λ r. (text : List ℕ) → (read_found (input_count circuit.now) text).fault ≡ None → BitJudges circuit.now (restored_text circuit.now claim text) (judged r text)) }
+        ensures judges { IfOk result (λ r. (text : List ℕ)
+            → (read_found (input_count circuit.now) text).fault ≡ None
+            → BitJudges circuit.now (restored_text circuit.now claim text) (judged r text)) }
     {
         let _inputs = circuit.inputs();
         Restorer::at_start(alloc, circuit, claim)
@@ -138,14 +141,23 @@ impl<'c> Restorer<'c> {
     /// nothing is lost then, and a further call goes on. Else the first faulty line of the text, by its first why, once
     /// what the lines before it give was given; further calls tell it again.
     pub fn advance<S: Source>(&mut self, source: &mut S) -> Result<bool, RestoreFault>
-        ensures gives { HandsOn result self.old self.new (prepend_known self.old.reader.rest (S.to_come source.old)) (prepend_known self.new.reader.rest (S.to_come source.new)) }
-        ensures judges { JudgesOn result self.old self.new (prepend_known self.old.reader.rest (S.to_come source.old)) (prepend_known self.new.reader.rest (S.to_come source.new)) }
-        ensures ends { result ≡ Ok true → steps_left self.new (S.calls_left source.new) < steps_left self.old (S.calls_left source.old) }
+        ensures gives { HandsOn result self.old self.new
+            (prepend_known self.old.reader.rest (S.to_come source.old))
+            (prepend_known self.new.reader.rest (S.to_come source.new)) }
+        ensures judges { JudgesOn result self.old self.new
+            (prepend_known self.old.reader.rest (S.to_come source.old))
+            (prepend_known self.new.reader.rest (S.to_come source.new)) }
+        ensures ends { result ≡ Ok true → steps_left self.new (S.calls_left source.new)
+            < steps_left self.old (S.calls_left source.old) }
         ensures counted { OnOk result (S.failures source.new ≡ S.failures source.old) }
-        ensures device { IfErr result (λ e. e.why ≡ why.Device → HasRisen (S.failures source.old) (S.failures source.new)) }
-        ensures unfailed { IfErr result (λ e. e.why ≢ why.Device → S.failures source.new ≡ S.failures source.old) }
-        ensures end { is_written self.old.stage ≡ false → is_written self.new.stage ≡ true → IsAtEnd (S.to_come source.new) }
-        ensures read_on { IfErr result (λ e. e.why ≢ why.Device → e.why ≢ why.NoMemory → IsAtEnd (S.to_come source.new)) }
+        ensures device { IfErr result (λ e. e.why ≡ why.Device
+            → HasRisen (S.failures source.old) (S.failures source.new)) }
+        ensures unfailed { IfErr result (λ e. e.why ≢ why.Device
+            → S.failures source.new ≡ S.failures source.old) }
+        ensures end { is_written self.old.stage ≡ false → is_written self.new.stage ≡ true
+            → IsAtEnd (S.to_come source.new) }
+        ensures read_on { IfErr result (λ e. e.why ≢ why.Device → e.why ≢ why.NoMemory
+            → IsAtEnd (S.to_come source.new)) }
         ensures some { result ≡ Ok false → is_written self.old.stage ≡ true }
         ensures none { is_written self.old.stage ≡ true → result ≡ Ok false }
         ensures stays { is_written self.old.stage ≡ true → source.new ≡ source.old }
@@ -169,14 +181,20 @@ impl<'c> Restorer<'c> {
 
     /// Goes on to the next frame, of which nothing is written yet, and answers whether there is one.
     fn find_frame<S: Source>(&mut self, source: &mut S) -> Result<bool, RestoreFault>
-        ensures steps { StepsOn result self.old.reader self.new.reader (prepend_known self.old.reader.rest (S.to_come source.old)) (prepend_known self.new.reader.rest (S.to_come source.new)) }
+        ensures steps { StepsOn result self.old.reader self.new.reader
+            (prepend_known self.old.reader.rest (S.to_come source.old))
+            (prepend_known self.new.reader.rest (S.to_come source.new)) }
         ensures others { self.new ≡ record self.old { reader = self.new.reader } }
-        ensures ends { result ≡ Ok true → frames_left self.new.reader (S.calls_left source.new) < frames_left self.old.reader (S.calls_left source.old) }
+        ensures ends { result ≡ Ok true → frames_left self.new.reader (S.calls_left source.new)
+            < frames_left self.old.reader (S.calls_left source.old) }
         ensures end { result ≡ Ok false → IsAtEnd (S.to_come source.new) }
-        ensures read_on { IfErr result (λ e. e.why ≢ why.Device → e.why ≢ why.NoMemory → IsAtEnd (S.to_come source.new)) }
+        ensures read_on { IfErr result (λ e. e.why ≢ why.Device → e.why ≢ why.NoMemory
+            → IsAtEnd (S.to_come source.new)) }
         ensures counted { OnOk result (S.failures source.new ≡ S.failures source.old) }
-        ensures device { IfErr result (λ e. e.why ≡ why.Device → HasRisen (S.failures source.old) (S.failures source.new)) }
-        ensures unfailed { IfErr result (λ e. e.why ≢ why.Device → S.failures source.new ≡ S.failures source.old) }
+        ensures device { IfErr result (λ e. e.why ≡ why.Device
+            → HasRisen (S.failures source.old) (S.failures source.new)) }
+        ensures unfailed { IfErr result (λ e. e.why ≢ why.Device
+            → S.failures source.new ≡ S.failures source.old) }
     {
         self.reader.advance(source)
     }
@@ -231,15 +249,23 @@ impl<'c> Restorer<'c> {
     /// Goes on to the next frame that is written, or to the last line where there is none.
     fn read_on<S: Source>(&mut self, source: &mut S) -> Result<bool, RestoreFault>
         requires { is_reading self.old.stage ≡ true }
-        ensures gives { HandsOn result self.old self.new (prepend_known self.old.reader.rest (S.to_come source.old)) (prepend_known self.new.reader.rest (S.to_come source.new)) }
-        ensures judges { JudgesOn result self.old self.new (prepend_known self.old.reader.rest (S.to_come source.old)) (prepend_known self.new.reader.rest (S.to_come source.new)) }
+        ensures gives { HandsOn result self.old self.new
+            (prepend_known self.old.reader.rest (S.to_come source.old))
+            (prepend_known self.new.reader.rest (S.to_come source.new)) }
+        ensures judges { JudgesOn result self.old self.new
+            (prepend_known self.old.reader.rest (S.to_come source.old))
+            (prepend_known self.new.reader.rest (S.to_come source.new)) }
         ensures some { result ≢ Ok false }
-        ensures ends { result ≡ Ok true → steps_left self.new (S.calls_left source.new) < steps_left self.old (S.calls_left source.old) }
+        ensures ends { result ≡ Ok true → steps_left self.new (S.calls_left source.new)
+            < steps_left self.old (S.calls_left source.old) }
         ensures counted { OnOk result (S.failures source.new ≡ S.failures source.old) }
-        ensures device { IfErr result (λ e. e.why ≡ why.Device → HasRisen (S.failures source.old) (S.failures source.new)) }
-        ensures unfailed { IfErr result (λ e. e.why ≢ why.Device → S.failures source.new ≡ S.failures source.old) }
+        ensures device { IfErr result (λ e. e.why ≡ why.Device
+            → HasRisen (S.failures source.old) (S.failures source.new)) }
+        ensures unfailed { IfErr result (λ e. e.why ≢ why.Device
+            → S.failures source.new ≡ S.failures source.old) }
         ensures end { is_written self.new.stage ≡ true → IsAtEnd (S.to_come source.new) }
-        ensures read_on { IfErr result (λ e. e.why ≢ why.Device → e.why ≢ why.NoMemory → IsAtEnd (S.to_come source.new)) }
+        ensures read_on { IfErr result (λ e. e.why ≢ why.Device → e.why ≢ why.NoMemory
+            → IsAtEnd (S.to_come source.new)) }
     {
         while self.find_frame(source)? {
             if self.take_frame() {
@@ -253,8 +279,12 @@ impl<'c> Restorer<'c> {
     /// Takes a frame that was found elsewhere, as its line has it, and answers whether it is written.
     pub(crate) fn take_line(&mut self, line: &[u8]) -> bool
         requires { is_reading self.old.stage ≡ true }
-        ensures other { length line.now ≢ length self.old.reader.frame → (result ≡ false) × (self.new ≡ self.old) }
-        ensures takes { length line.now ≡ length self.old.reader.frame → (self.new ≡ with_found_at self.old.stage (with_frame_bits self.old (line_bits line.now))) × (result ≡ is_taken_at self.old.stage self.old) }
+        ensures other { length line.now ≢ length self.old.reader.frame → (result ≡ false)
+            × (self.new ≡ self.old) }
+        ensures takes { length line.now ≡ length self.old.reader.frame
+            → (self.new ≡ with_found_at self.old.stage
+            (with_frame_bits self.old (line_bits line.now))) × (result
+            ≡ is_taken_at self.old.stage self.old) }
         ensures reads { result ≡ false → is_reading self.new.stage ≡ true }
         ensures goes_on { result ≡ true → is_reading (stage_behind self.new.stage) ≡ true }
     {
@@ -268,7 +298,8 @@ impl<'c> Restorer<'c> {
     /// Whether the first two lines are to be written now.
     pub(crate) fn is_at_head(&self) -> bool
         ensures head { result ≡ true → self.now.stage ≡ stage.Head }
-        ensures other { result ≡ false → frame_pieces_at self.now.stage self.now ≡ piece_held self.now }
+        ensures other { result ≡ false → frame_pieces_at self.now.stage self.now
+            ≡ piece_held self.now }
         ensures stays { result ≡ false → settled self.now ≡ self.now }
     {
         matches!(self.stage, Stage::Head)

@@ -33,7 +33,8 @@ pub(crate) fn hand_on<T: Taker, K: Sink>(
     sink: &mut K,
     piece: &[u8],
 ) -> Result<(), RestoreFault>
-    ensures takes { TakesPiece T.stands T.put_for result (K.written sink.old) (K.written sink.new) outbox.old outbox.new taker.old taker.new piece.now }
+    ensures takes { TakesPiece T.stands T.put_for result (K.written sink.old)
+        (K.written sink.new) outbox.old outbox.new taker.old taker.new piece.now }
     ensures fault { IfErr result (λ e. e ≡ record { line = 0; why = why.Write }) }
     ensures counted { CountsFaults result (K.failures sink.old) (K.failures sink.new) }
 {
@@ -56,12 +57,16 @@ fn hand_on_all<S: Source, T: Taker, K: Sink>(
     requires unread { restorer.old.reader.rest ≡ [] }
     requires unsent { outbox.old ≡ [] }
     requires begins { is_written restorer.old.stage ≡ false }
-    ensures takes { IfSome (S.to_come source.old) (λ text. (o : T.Over) → IsPutInPieces T.put_for → T.stands o taker.old [] → TakesAllOwed T.stands T.put_for result (owed restorer.old text) o taker.new (K.written sink.old) (K.written sink.new) outbox.new) }
-    ensures judges { OnOk result (IfSome (S.to_come source.old) (λ text. judged restorer.old text ≡ judgement_held restorer.new)) }
+    ensures takes { IfSome (S.to_come source.old) (λ text. (o : T.Over) → IsPutInPieces T.put_for
+        → T.stands o taker.old [] → TakesAllOwed T.stands T.put_for result
+        (owed restorer.old text) o taker.new (K.written sink.old) (K.written sink.new) outbox.new) }
+    ensures judges { OnOk result (IfSome (S.to_come source.old)
+        (λ text. judged restorer.old text ≡ judgement_held restorer.new)) }
     ensures end { OnOk result (IsAtEnd (S.to_come source.new)) }
     ensures read_on { IfErr result (λ e. is_of_text e.why ≡ true → IsAtEnd (S.to_come source.new)) }
     ensures line { IfErr result (λ e. is_of_text e.why ≡ false → e.line ≡ 0) }
-    ensures counted { CountsRestore result (S.failures source.old) (S.failures source.new) (K.failures sink.old) (K.failures sink.new) }
+    ensures counted { CountsRestore result (S.failures source.old) (S.failures source.new)
+        (K.failures sink.old) (K.failures sink.new) }
 {
     while restorer.advance(source)? {
         hand_on(taker, outbox, sink, restorer.piece())?;
@@ -74,7 +79,8 @@ fn hand_on_all<S: Source, T: Taker, K: Sink>(
 /// Error: the sink's own.
 fn write_rest<K: Sink>(outbox: &mut Outbox, sink: &mut K) -> Result<(), RestoreFault>
     ensures ok { OnOk result (Appends (K.written sink.old) (K.written sink.new) outbox.old) }
-    ensures err { OnErr result (AppendsBeginning (K.written sink.old) (K.written sink.new) outbox.old) }
+    ensures err { OnErr result (AppendsBeginning (K.written sink.old)
+        (K.written sink.new) outbox.old) }
     ensures fault { IfErr result (λ e. e ≡ record { line = 0; why = why.Write }) }
     ensures counted { CountsFaults result (K.failures sink.old) (K.failures sink.new) }
 {
@@ -92,10 +98,13 @@ pub(crate) fn end<K: Sink>(
     outbox: &mut Outbox,
     sink: &mut K,
 ) -> Result<(), RestoreFault>
-    ensures writes { (more : Owed) (start : Option (List ℕ)) → PutsOwed told more start (K.written sink.old) outbox.old → WritesOwedLines result more start (K.written sink.new) }
+    ensures writes { (more : Owed) (start : Option (List ℕ))
+        → PutsOwed told more start (K.written sink.old) outbox.old
+        → WritesOwedLines result more start (K.written sink.new) }
     ensures same { IfErr result (λ e. (told ≡ Err e) ⊎ (e ≡ record { line = 0; why = why.Write })) }
     ensures right { OnOk result (IsOk told) }
-    ensures counted { (old new before : ℕ) → CountsRestore told old new before (K.failures sink.old) → CountsRestore result old new before (K.failures sink.new) }
+    ensures counted { (old new before : ℕ) → CountsRestore told old new before (K.failures sink.old)
+        → CountsRestore result old new before (K.failures sink.new) }
 {
     match told {
         Ok(()) => write_rest(outbox, sink),
@@ -124,14 +133,18 @@ pub fn take_restored<S: Source, T: Taker, K: Sink>(
 ) -> Result<(), RestoreFault>
     requires unread { restorer.old.reader.rest ≡ [] }
     requires begins { is_written restorer.old.stage ≡ false }
-    ensures writes { IfSome (S.to_come source.old) (λ text. (o : T.Over) → IsPutInPieces T.put_for → T.stands o taker.old [] → WritesAll T.stands T.put_for result (owed restorer.old text) o taker.new (K.written sink.old) (K.written sink.new)) }
+    ensures writes { IfSome (S.to_come source.old) (λ text. (o : T.Over) → IsPutInPieces T.put_for
+        → T.stands o taker.old [] → WritesAll T.stands T.put_for result
+        (owed restorer.old text) o taker.new (K.written sink.old) (K.written sink.new)) }
     // and the restorer's judgement is that of the whole, where nothing is wrong with the text
-    ensures judges { OnOk result (IfSome (S.to_come source.old) (λ text. judged restorer.old text ≡ judgement_held restorer.new)) }
+    ensures judges { OnOk result (IfSome (S.to_come source.old)
+        (λ text. judged restorer.old text ≡ judgement_held restorer.new)) }
     ensures end { OnOk result (IsAtEnd (S.to_come source.new)) }
     ensures read_on { IfErr result (λ e. is_of_text e.why ≡ true → IsAtEnd (S.to_come source.new)) }
     ensures line { IfErr result (λ e. is_of_text e.why ≡ false → e.line ≡ 0) }
     // the source failed once where that is told, the sink where that is, and else neither
-    ensures counted { CountsRestore result (S.failures source.old) (S.failures source.new) (K.failures sink.old) (K.failures sink.new) }
+    ensures counted { CountsRestore result (S.failures source.old) (S.failures source.new)
+        (K.failures sink.old) (K.failures sink.new) }
 {
     let mut outbox = Outbox::new();
     let told = hand_on_all(restorer, taker, &mut outbox, source, sink);
@@ -158,22 +171,37 @@ pub fn restore<S: Source, K: Sink>(
 ) -> Result<Judgement, RestoreFault>
     requires { claim < length circuit.now.bads }
     // the judgement is that of what was written, and that is all that the text is restored to, with which nothing is wrong
-    ensures judged { IfOk result (λ judgement. IfSome (S.to_come source.old) (λ text. BitJudges circuit.now (restored_text circuit.now claim text) judgement)) }
+    ensures judged { IfOk result (λ judgement. IfSome (S.to_come source.old)
+        (λ text. BitJudges circuit.now (restored_text circuit.now claim text) judgement)) }
     // accepted exactly where that says a witness of which this is judged
-    ensures accepted { IfOk result (λ judgement. IfSome (S.to_come source.old) (λ text. BitAcceptsExactly circuit.now (restored_text circuit.now claim text) judgement)) }
-    ensures written { OnOk result (IfSome (S.to_come source.old) (λ text. Appends (K.written sink.old) (K.written sink.new) (restored_text circuit.now claim text))) }
-    ensures right { OnOk result (IfSome (S.to_come source.old) (λ text. (read_found (input_count circuit.now) text).fault ≡ None)) }
+    ensures accepted { IfOk result (λ judgement. IfSome (S.to_come source.old)
+        (λ text. BitAcceptsExactly circuit.now (restored_text circuit.now claim text) judgement)) }
+    ensures written { OnOk result (IfSome (S.to_come source.old)
+        (λ text. Appends (K.written sink.old) (K.written sink.new)
+        (restored_text circuit.now claim text))) }
+    ensures right { OnOk result (IfSome (S.to_come source.old)
+        (λ text. (read_found (input_count circuit.now) text).fault ≡ None)) }
     // where the text's frames make the claimed property of an engine form 1, that is accepted, and ends with the first such frame
-    ensures found { IfOk result (λ judgement. IfSome (S.to_come source.old) (λ text. FindsAgain circuit.now claim text judgement)) }
+    ensures found { IfOk result (λ judgement. IfSome (S.to_come source.old)
+        (λ text. FindsAgain circuit.now claim text judgement)) }
     // a fault of the text is its own, and what the lines before it give was written; at any other a beginning was
-    ensures faulty { IfErr result (λ e. is_of_text e.why ≡ true → IfSome (S.to_come source.old) (λ text. (read_found (input_count circuit.now) text).fault ≡ Some e)) }
-    ensures before { IfErr result (λ e. is_of_text e.why ≡ true → IfSome (S.to_come source.old) (λ text. Appends (K.written sink.old) (K.written sink.new) (restored_text circuit.now claim text))) }
-    ensures beginning { IfErr result (λ e. is_of_text e.why ≡ false → IfSome (S.to_come source.old) (λ text. AppendsBeginning (K.written sink.old) (K.written sink.new) (restored_text circuit.now claim text))) }
+    ensures faulty { IfErr result (λ e. is_of_text e.why ≡ true
+        → IfSome (S.to_come source.old) (λ text. (read_found (input_count circuit.now) text).fault
+        ≡ Some e)) }
+    ensures before { IfErr result (λ e. is_of_text e.why ≡ true
+        → IfSome (S.to_come source.old)
+        (λ text. Appends (K.written sink.old) (K.written sink.new)
+        (restored_text circuit.now claim text))) }
+    ensures beginning { IfErr result (λ e. is_of_text e.why ≡ false
+        → IfSome (S.to_come source.old)
+        (λ text. AppendsBeginning (K.written sink.old) (K.written sink.new)
+        (restored_text circuit.now claim text))) }
     ensures apart { IfErr result (λ e. is_of_text e.why ≡ false → e.line ≡ 0) }
     ensures end { OnOk result (IsAtEnd (S.to_come source.new)) }
     ensures read_on { IfErr result (λ e. is_of_text e.why ≡ true → IsAtEnd (S.to_come source.new)) }
     // the source failed once where that is told, the sink where that is, and else neither
-    ensures counted { CountsRestore result (S.failures source.old) (S.failures source.new) (K.failures sink.old) (K.failures sink.new) }
+    ensures counted { CountsRestore result (S.failures source.old) (S.failures source.new)
+        (K.failures sink.old) (K.failures sink.new) }
 {
     restored_text_is_accepted();
     witness::bit_laws::exactly_one_bit_judgement();

@@ -27,7 +27,8 @@ pub trait Taker {
         sink: &mut K,
         piece: &[u8],
     ) -> Result<(), DeviceFault>
-        ensures takes { TakesPiece stands put_for result (K.written sink.old) (K.written sink.new) outbox.old outbox.new self.old self.new piece.now }
+        ensures takes { TakesPiece stands put_for result (K.written sink.old)
+            (K.written sink.new) outbox.old outbox.new self.old self.new piece.now }
         ensures failures { CountsFaults result (K.failures sink.old) (K.failures sink.new) };
 }
 

@@ -29,7 +29,8 @@ pub struct BitNoter<'a> {
 
 /// Notes the frame that was closed last of each claim that is reached and had none.
 fn note(judge: &BitJudge<'_>, firsts: &mut FirstRises, frame: u64)
-    ensures { (c : Circuit) (text : List ℕ) (vs : List Valuation) → StandsForBits c judge.now text → IsClosedBitTrace c text vs → IsNoted (bit_reached c text vs) frame firsts.old firsts.new }
+    ensures { (c : Circuit) (text : List ℕ) (vs : List Valuation) → StandsForBits c judge.now text
+        → IsClosedBitTrace c text vs → IsNoted (bit_reached c text vs) frame firsts.old firsts.new }
 {
     for position in 0..firsts.len() {
         firsts.note(position, judge.has_reached(position), frame);
@@ -48,7 +49,8 @@ impl<'a> BitNoter<'a> {
     ///
     /// Error: `NoMemory`.
     pub fn new(alloc: Global, circuit: &'a Circuit, noted: bool) -> Result<BitNoter<'a>, NewFault>
-        ensures { MatchResult result (λ n. NotesBits noted circuit.now n []) (λ fault. fault ≡ NewFault.NoMemory) }
+        ensures { MatchResult result (λ n. NotesBits noted circuit.now n [])
+            (λ fault. fault ≡ NewFault.NoMemory) }
     {
         let judge = BitJudge::new(alloc, circuit)?;
         match FirstRises::new(alloc, noted_count(circuit, noted)) {
@@ -59,14 +61,17 @@ impl<'a> BitNoter<'a> {
 
     /// Takes bytes that end no line.
     pub fn take_bytes(&mut self, bytes: &[u8])
-        ensures { (noted : Bool) (c : Circuit) (text : List ℕ) → IsLine bytes.now → NotesBits noted c self.old text → NotesBits noted c self.new (text ++ bytes.now) }
+        ensures { (noted : Bool) (c : Circuit) (text : List ℕ) → IsLine bytes.now
+            → NotesBits noted c self.old text → NotesBits noted c self.new (text ++ bytes.now) }
     {
         self.judge.feed(bytes);
     }
 
     /// Takes the rest of a line, and its end, and notes the frame that they close.
     pub fn take_line(&mut self, line: &[u8])
-        ensures { (noted : Bool) (c : Circuit) (text : List ℕ) → IsLine line.now → NotesBits noted c self.old text → NotesBits noted c self.new (text ++ (line.now ++ 10 ∷ [])) }
+        ensures { (noted : Bool) (c : Circuit) (text : List ℕ) → IsLine line.now
+            → NotesBits noted c self.old text
+            → NotesBits noted c self.new (text ++ (line.now ++ 10 ∷ [])) }
     {
         let closed = self.judge.closed_frames();
         self.judge.take_line(line);
@@ -78,7 +83,8 @@ impl<'a> BitNoter<'a> {
 
     /// Takes a piece of the text behind those before.
     pub fn feed(&mut self, bytes: &[u8])
-        ensures { (noted : Bool) (c : Circuit) (text : List ℕ) → NotesBits noted c self.old text → NotesBits noted c self.new (text ++ bytes.now) }
+        ensures { (noted : Bool) (c : Circuit) (text : List ℕ) → NotesBits noted c self.old text
+            → NotesBits noted c self.new (text ++ bytes.now) }
     {
         let mut rest = bytes;
         while let Some((line, behind)) = next_line(rest) {
@@ -90,15 +96,18 @@ impl<'a> BitNoter<'a> {
 
     /// How many whole lines stand before the first faulty line.
     pub fn admitted_lines(&self) -> u64
-        ensures { (noted : Bool) (c : Circuit) (text : List ℕ) → NotesBits noted c self.now text → result ≡ admitted_lines c text }
+        ensures { (noted : Bool) (c : Circuit) (text : List ℕ) → NotesBits noted c self.now text
+            → result ≡ admitted_lines c text }
     {
         self.judge.admitted_lines()
     }
 
     /// The judgement of the text, and what was noted of it.
     pub fn finish(self) -> (Judgement, FirstRises)
-        ensures judged { (noted : Bool) (c : Circuit) (text : List ℕ) → NotesBits noted c self.entry text → BitJudges c text result.0 }
-        ensures firsts { (noted : Bool) (c : Circuit) (text : List ℕ) → NotesBits noted c self.entry text → noted ≡ true → AreBitFirstRises c text result.1 }
+        ensures judged { (noted : Bool) (c : Circuit) (text : List ℕ)
+            → NotesBits noted c self.entry text → BitJudges c text result.0 }
+        ensures firsts { (noted : Bool) (c : Circuit) (text : List ℕ)
+            → NotesBits noted c self.entry text → noted ≡ true → AreBitFirstRises c text result.1 }
     {
         let BitNoter { judge, firsts } = self;
         (judge.finish(), firsts)

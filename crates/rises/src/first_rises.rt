@@ -61,7 +61,8 @@ impl FirstRises {
     /// Notes a frame of a bad property that is there, where it is reached and none was noted before.
     pub(crate) fn note(&mut self, position: usize, reached: bool, frame: u64)
         requires { position < length self.old }
-        ensures { self.new ≡ slice_set self.old position (noted reached frame (slice_index_or self.old position None)) }
+        ensures { self.new ≡ slice_set self.old position
+            (noted reached frame (slice_index_or self.old position None)) }
     {
         let first = self.frames[position];
         self.frames[position] = noted(first, reached, frame);

@@ -31,7 +31,8 @@ const CHUNK: usize = 65536;
 ///
 /// Error: the source's own, once.
 fn feed_words<S: Source>(noter: &mut WordNoter<'_>, source: &mut S) -> Result<(), DeviceFault>
-    ensures fed { OnOk result ((items : List Item) (text : List ℕ) → NotesWords items noter.old text → IfSome (S.to_come source.old) (λ all. NotesWords items noter.new (text ++ all))) }
+    ensures fed { OnOk result ((items : List Item) (text : List ℕ) → NotesWords items noter.old text
+        → IfSome (S.to_come source.old) (λ all. NotesWords items noter.new (text ++ all))) }
     ensures end { OnOk result (IsAtEnd (S.to_come source.new)) }
     ensures counted { CountsFaults result (S.failures source.old) (S.failures source.new) }
 {
@@ -57,9 +58,11 @@ pub fn judge_words_with_rises<S: Source>(
     source: &mut S,
 ) -> Result<(Judgement, FirstRises), JudgeFault>
     // the judgement is that of the whole text
-    ensures judged { IfOk result (λ told. IfSome (S.to_come source.old) (λ text. Judges model.now text told.0)) }
+    ensures judged { IfOk result (λ told. IfSome (S.to_come source.old)
+        (λ text. Judges model.now text told.0)) }
     // and what stands beside it are the first rises of the text's claims
-    ensures rises { IfOk result (λ told. IfSome (S.to_come source.old) (λ text. (fs : List Frame) → IsClosedTrace model.now text fs → told.1 ≡ word_first_rises model.now text fs)) }
+    ensures rises { IfOk result (λ told. IfSome (S.to_come source.old) (λ text. (fs : List Frame)
+        → IsClosedTrace model.now text fs → told.1 ≡ word_first_rises model.now text fs)) }
     // a state with an init and no next is named exactly where there is one, the first
     ensures answer { AnswersJudge result (first_init_without_next model.now model.now) }
     ensures unread { IfErr result (λ e. NamesState e → source.new ≡ source.old) }
@@ -86,7 +89,8 @@ pub fn judge_words_with_rises<S: Source>(
 ///
 /// Error: the source's own, once.
 fn feed_bits<S: Source>(noter: &mut BitNoter<'_>, source: &mut S) -> Result<(), DeviceFault>
-    ensures fed { OnOk result ((c : Circuit) (text : List ℕ) → NotesBits true c noter.old text → IfSome (S.to_come source.old) (λ all. NotesBits true c noter.new (text ++ all))) }
+    ensures fed { OnOk result ((c : Circuit) (text : List ℕ) → NotesBits true c noter.old text
+        → IfSome (S.to_come source.old) (λ all. NotesBits true c noter.new (text ++ all))) }
     ensures end { OnOk result (IsAtEnd (S.to_come source.new)) }
     ensures counted { CountsFaults result (S.failures source.old) (S.failures source.new) }
 {
@@ -112,9 +116,11 @@ pub fn judge_bits_with_rises<S: Source>(
     source: &mut S,
 ) -> Result<(Judgement, FirstRises), JudgeFault>
     // the judgement is that of the whole text
-    ensures judged { IfOk result (λ told. IfSome (S.to_come source.old) (λ text. BitJudges circuit.now text told.0)) }
+    ensures judged { IfOk result (λ told. IfSome (S.to_come source.old)
+        (λ text. BitJudges circuit.now text told.0)) }
     // and what stands beside it are the first rises of the text's claim
-    ensures rises { IfOk result (λ told. IfSome (S.to_come source.old) (λ text. AreBitFirstRises circuit.now text told.1)) }
+    ensures rises { IfOk result (λ told. IfSome (S.to_come source.old)
+        (λ text. AreBitFirstRises circuit.now text told.1)) }
     ensures no_state { IfErr result (λ e. NamesState e → ⊥) }
     ensures unread { IsErrOf result JudgeFault.NoMemory → source.new ≡ source.old }
     ensures end { OnOk result (IsAtEnd (S.to_come source.new)) }

@@ -29,7 +29,9 @@ pub(crate) struct WordNoter<'a> {
 
 /// Notes the frame that was closed last of each claim that is reached and had none.
 fn note(judge: &WordJudge<'_>, firsts: &mut FirstRises, frame: u64)
-    ensures { (items : List Item) (text : List ℕ) (fs : List Frame) → StandsForWitness items judge.now text → IsClosedTrace items text fs → IsNoted (word_reached items text fs) frame firsts.old firsts.new }
+    ensures { (items : List Item) (text : List ℕ) (fs : List Frame)
+        → StandsForWitness items judge.now text → IsClosedTrace items text fs
+        → IsNoted (word_reached items text fs) frame firsts.old firsts.new }
 {
     for position in 0..firsts.len() {
         firsts.note(position, judge.has_reached(position), frame);
@@ -53,7 +55,8 @@ impl<'a> WordNoter<'a> {
 
     /// Takes bytes that end no line.
     fn take_bytes(&mut self, bytes: &[u8])
-        ensures { (items : List Item) (text : List ℕ) → IsLine bytes.now → NotesWords items self.old text → NotesWords items self.new (text ++ bytes.now) }
+        ensures { (items : List Item) (text : List ℕ) → IsLine bytes.now
+            → NotesWords items self.old text → NotesWords items self.new (text ++ bytes.now) }
     {
         self.judge.feed(bytes);
     }
@@ -61,7 +64,8 @@ impl<'a> WordNoter<'a> {
     /// Takes the rest of a line with its end, and notes the frame that it closes.
     fn take_line(&mut self, bytes: &[u8])
         requires { EndsLine bytes.now }
-        ensures { (items : List Item) (text : List ℕ) → NotesWords items self.old text → NotesWords items self.new (text ++ bytes.now) }
+        ensures { (items : List Item) (text : List ℕ) → NotesWords items self.old text
+            → NotesWords items self.new (text ++ bytes.now) }
     {
         let closed = self.judge.closed_frames();
         self.judge.feed(bytes);
@@ -73,7 +77,8 @@ impl<'a> WordNoter<'a> {
 
     /// Takes a piece of the text behind those before.
     pub(crate) fn feed(&mut self, bytes: &[u8])
-        ensures { (items : List Item) (text : List ℕ) → NotesWords items self.old text → NotesWords items self.new (text ++ bytes.now) }
+        ensures { (items : List Item) (text : List ℕ) → NotesWords items self.old text
+            → NotesWords items self.new (text ++ bytes.now) }
     {
         let mut rest = bytes;
         while let Some((line, behind)) = next_line(rest) {
@@ -86,8 +91,11 @@ impl<'a> WordNoter<'a> {
 
     /// The judgement of the text, and what was noted of it.
     pub(crate) fn finish(self) -> (Judgement, FirstRises)
-        ensures judged { (items : List Item) (text : List ℕ) → NotesWords items self.entry text → Judges items text result.0 }
-        ensures firsts { (items : List Item) (text : List ℕ) (fs : List Frame) → NotesWords items self.entry text → IsClosedTrace items text fs → result.1 ≡ word_first_rises items text fs }
+        ensures judged { (items : List Item) (text : List ℕ) → NotesWords items self.entry text
+            → Judges items text result.0 }
+        ensures firsts { (items : List Item) (text : List ℕ) (fs : List Frame)
+            → NotesWords items self.entry text → IsClosedTrace items text fs
+            → result.1 ≡ word_first_rises items text fs }
     {
         let WordNoter { judge, firsts } = self;
         (judge.finish(), firsts)

@@ -41,7 +41,8 @@ pub(crate) fn settle_gates(gates: &[Gate], first: usize, bits: &mut [bool], tall
     requires inside { first + length gates.now ≤ length bits.old }
     requires constant { slice_index_or bits.old 0 false ≡ false }
     ensures gates { SatisfiesFrom first gates.now (valuation_of bits.new) }
-    ensures others { (p : ℕ) → p < first → slice_index_or bits.new p false ≡ slice_index_or bits.old p false }
+    ensures others { (p : ℕ) → p < first → slice_index_or bits.new p false
+        ≡ slice_index_or bits.old p false }
     ensures as_many { length bits.new ≡ length bits.old }
     ensures steps { tally.new ≡ more_steps (length gates.now) tally.old }
 {
@@ -53,7 +54,9 @@ pub(crate) fn take_nexts(latches: &[Latch], bits: &[bool], taken: &mut [bool], t
     requires inside { All (λ l. variable l.next < length bits.now) latches.now }
     requires constant { slice_index_or bits.now 0 false ≡ false }
     requires as_many { length taken.old ≡ length latches.now }
-    ensures taken { (k : ℕ) (d : Latch) → k < length latches.now → slice_index_or taken.new k false ≡ literal_value (valuation_of bits.now) (slice_index_or latches.now k d).next }
+    ensures taken { (k : ℕ) (d : Latch) → k < length latches.now
+        → slice_index_or taken.new k false ≡ literal_value (valuation_of bits.now)
+        (slice_index_or latches.now k d).next }
     ensures as_many { length taken.new ≡ length taken.old }
     ensures steps { tally.new ≡ more_steps (length latches.now) tally.old }
 {
@@ -76,7 +79,8 @@ fn first_bit(reset: Reset) -> bool
 /// Takes the bits that the latches begin with.
 pub(crate) fn take_first_bits(latches: &[Latch], taken: &mut [bool])
     requires as_many { length taken.old ≡ length latches.now }
-    ensures taken { (k : ℕ) (d : Latch) → k < length latches.now → slice_index_or taken.new k false ≡ reset_bit (slice_index_or latches.now k d).reset }
+    ensures taken { (k : ℕ) (d : Latch) → k < length latches.now
+        → slice_index_or taken.new k false ≡ reset_bit (slice_index_or latches.now k d).reset }
     ensures as_many { length taken.new ≡ length taken.old }
 {
     for (k, latch) in latches.iter().enumerate() {
@@ -87,8 +91,10 @@ pub(crate) fn take_first_bits(latches: &[Latch], taken: &mut [bool])
 /// Puts bits at the places from `first` on.
 pub(crate) fn put_bits(taken: &[bool], first: usize, bits: &mut [bool])
     requires { first + length taken.now ≤ length bits.old }
-    ensures put { (k : ℕ) → k < length taken.now → slice_index_or bits.new (first + k) false ≡ slice_index_or taken.now k false }
-    ensures others { (p : ℕ) → p < first → slice_index_or bits.new p false ≡ slice_index_or bits.old p false }
+    ensures put { (k : ℕ) → k < length taken.now → slice_index_or bits.new (first + k) false
+        ≡ slice_index_or taken.now k false }
+    ensures others { (p : ℕ) → p < first → slice_index_or bits.new p false
+        ≡ slice_index_or bits.old p false }
     ensures as_many { length bits.new ≡ length bits.old }
 {
     bits[first..first + taken.len()].copy_from_slice(taken);
@@ -98,7 +104,8 @@ pub(crate) fn put_bits(taken: &[bool], first: usize, bits: &mut [bool])
 pub(crate) fn clear_inputs(inputs: usize, bits: &mut [bool])
     requires { inputs < length bits.old }
     ensures cleared { (k : ℕ) → k < inputs → slice_index_or bits.new (1 + k) false ≡ false }
-    ensures others { (p : ℕ) → inputs < p → slice_index_or bits.new p false ≡ slice_index_or bits.old p false }
+    ensures others { (p : ℕ) → inputs < p → slice_index_or bits.new p false
+        ≡ slice_index_or bits.old p false }
     ensures constant { slice_index_or bits.new 0 false ≡ slice_index_or bits.old 0 false }
     ensures as_many { length bits.new ≡ length bits.old }
 {

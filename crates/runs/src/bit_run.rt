@@ -80,7 +80,8 @@ impl<'a> BitRun<'a> {
     /// Condition: `k` is below the number of latches.
     pub fn set_state(&mut self, k: usize, bit: bool)
         requires { k < length self.old.circuit.latches }
-        ensures { self.new ≡ record self.old { latches = slice_set self.old.latches k bit; settled = false } }
+        ensures { self.new
+            ≡ record self.old { latches = slice_set self.old.latches k bit; settled = false } }
     {
         self.bits[1 + self.circuit.inputs() as usize + k] = bit;
         self.settled = false;
@@ -91,7 +92,8 @@ impl<'a> BitRun<'a> {
     /// Condition: `k` is below the number of inputs.
     pub fn set_input(&mut self, k: usize, bit: bool)
         requires { k < self.old.circuit.inputs }
-        ensures { self.new ≡ record self.old { inputs = slice_set self.old.inputs k bit; settled = false } }
+        ensures { self.new
+            ≡ record self.old { inputs = slice_set self.old.inputs k bit; settled = false } }
     {
         self.bits[1 + k] = bit;
         self.settled = false;
@@ -100,7 +102,8 @@ impl<'a> BitRun<'a> {
     /// Gives each gate its bit in the frame of the bits that the latches and inputs have. One step for each input and
     /// each gate.
     pub fn settle(&mut self)
-        ensures { self.new ≡ record self.old { settled = true; steps = more_steps (settle_steps self.old.circuit) self.old.steps } }
+        ensures { self.new
+            ≡ record self.old { settled = true; steps = more_steps (settle_steps self.old.circuit) self.old.steps } }
     {
         let inputs = self.circuit.inputs() as usize;
         let first = 1 + inputs + self.circuit.latches().len();
@@ -133,7 +136,8 @@ impl<'a> BitRun<'a> {
     pub fn constraint(&self, i: usize) -> bool
         requires there { i < length self.now.circuit.constraints }
         requires settled { self.now.settled ≡ true }
-        ensures { (v : Valuation) → IsFrameNow self.now v → result ≡ literal_value v (slice_index self.now.circuit.constraints i) }
+        ensures { (v : Valuation) → IsFrameNow self.now v → result
+            ≡ literal_value v (slice_index self.now.circuit.constraints i) }
     {
         self.value(self.circuit.constraints()[i])
     }
@@ -144,7 +148,8 @@ impl<'a> BitRun<'a> {
     pub fn bad(&self, i: usize) -> bool
         requires there { i < length self.now.circuit.bads }
         requires settled { self.now.settled ≡ true }
-        ensures { (v : Valuation) → IsFrameNow self.now v → result ≡ literal_value v (slice_index self.now.circuit.bads i) }
+        ensures { (v : Valuation) → IsFrameNow self.now v → result
+            ≡ literal_value v (slice_index self.now.circuit.bads i) }
     {
         self.value(self.circuit.bads()[i])
     }
@@ -155,7 +160,8 @@ impl<'a> BitRun<'a> {
     pub fn output(&self, i: usize) -> bool
         requires there { i < length self.now.circuit.outputs }
         requires settled { self.now.settled ≡ true }
-        ensures { (v : Valuation) → IsFrameNow self.now v → result ≡ literal_value v (slice_index self.now.circuit.outputs i) }
+        ensures { (v : Valuation) → IsFrameNow self.now v → result
+            ≡ literal_value v (slice_index self.now.circuit.outputs i) }
     {
         self.value(self.circuit.outputs()[i])
     }
@@ -165,8 +171,10 @@ impl<'a> BitRun<'a> {
     /// Condition: the run is settled.
     pub fn advance(&mut self)
         requires { self.old.settled ≡ true }
-        ensures latches { (v : Valuation) → IsFrameNow self.old v → self.new.latches ≡ next_latch_bits self.old.circuit v }
-        ensures others { self.new ≡ record self.old { latches = self.new.latches; inputs = no_inputs self.old.circuit; settled = false; steps = more_steps (length self.old.circuit.latches) self.old.steps } }
+        ensures latches { (v : Valuation) → IsFrameNow self.old v
+            → self.new.latches ≡ next_latch_bits self.old.circuit v }
+        ensures others { self.new
+            ≡ record self.old { latches = self.new.latches; inputs = no_inputs self.old.circuit; settled = false; steps = more_steps (length self.old.circuit.latches) self.old.steps } }
     {
         let inputs = self.circuit.inputs() as usize;
         take_nexts(

@@ -56,9 +56,11 @@ pub(crate) fn take_words(
 pub(crate) fn put_words(words: &[u64], places: &[usize], values: &mut [u64])
     requires inside { All (λ p. p < length values.old) places.now }
     requires as_many { length words.now ≡ length places.now }
-    requires once { (j k : ℕ) → j < k → k < length places.now → slice_index places.now j ≢ slice_index places.now k }
+    requires once { (j k : ℕ) → j < k → k < length places.now
+        → slice_index places.now j ≢ slice_index places.now k }
     ensures put { words_at values.new places.now ≡ words.now }
-    ensures others { (p : ℕ) → ((k : ℕ) → k < length places.now → slice_index places.now k ≢ p) → slice_index values.new p ≡ slice_index values.old p }
+    ensures others { (p : ℕ) → ((k : ℕ) → k < length places.now → slice_index places.now k ≢ p)
+        → slice_index values.new p ≡ slice_index values.old p }
     ensures as_many { length values.new ≡ length values.old }
 {
     for k in 0..places.len() {
@@ -69,8 +71,10 @@ pub(crate) fn put_words(words: &[u64], places: &[usize], values: &mut [u64])
 /// Puts 0 at some places.
 pub(crate) fn clear_words(places: &[usize], values: &mut [u64])
     requires inside { All (λ p. p < length values.old) places.now }
-    ensures cleared { (k : ℕ) → k < length places.now → slice_index values.new (slice_index places.now k) ≡ 0 }
-    ensures others { (p : ℕ) → ((k : ℕ) → k < length places.now → slice_index places.now k ≢ p) → slice_index values.new p ≡ slice_index values.old p }
+    ensures cleared { (k : ℕ) → k < length places.now
+        → slice_index values.new (slice_index places.now k) ≡ 0 }
+    ensures others { (p : ℕ) → ((k : ℕ) → k < length places.now → slice_index places.now k ≢ p)
+        → slice_index values.new p ≡ slice_index values.old p }
     ensures as_many { length values.new ≡ length values.old }
 {
     for k in 0..places.len() {

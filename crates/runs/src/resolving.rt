@@ -61,7 +61,8 @@ pub(crate) fn resolved_nodes(
 
 /// The words of the nodes with a value before any is given: those of the constants, and 0 for the others.
 pub(crate) fn standing_words(alloc: Global, model: &Model) -> Result<Vec<u64>, AllocError>
-    ensures { IfOk result (λ v. v.items ≡ map (λ x. standing_word model.now x.body) (of_kind has_value model.now)) }
+    ensures { IfOk result (λ v. v.items ≡ map (λ x. standing_word model.now x.body)
+        (of_kind has_value model.now)) }
 {
     let items = model.items();
     let mut words = Vec::new(alloc);
@@ -165,7 +166,8 @@ pub(crate) fn property_slots(
     places: &[usize],
 ) -> Result<Vec<usize>, AllocError>
     requires slots { slots.now ≡ map (λ x. slot model.now x.id) model.now }
-    requires properties { (k : ℕ) → k < length places.now → is_some (property_at model.now (slice_index places.now k)) ≡ true }
+    requires properties { (k : ℕ) → k < length places.now
+        → is_some (property_at model.now (slice_index places.now k)) ≡ true }
     ensures { IfOk result (λ v. v.items ≡ map (property_slot model.now) places.now) }
 {
     let mut named = Vec::new(alloc);

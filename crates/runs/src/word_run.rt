@@ -107,8 +107,11 @@ impl<'a> WordRun<'a> {
     /// Conditions: `k` is below the number of states, and `word` is below 2 to the state's width.
     pub fn set_state(&mut self, k: usize, word: u64)
         requires there { k < length (places is_state 0 self.old.items) }
-        requires fits { IfSome (width_at self.old.items (slice_index (places is_state 0 self.old.items) k)) (λ n. word < 2 ^ n) }
-        ensures { self.new ≡ record self.old { states = slice_set self.old.states k word; settled = false } }
+        requires fits { IfSome
+            (width_at self.old.items (slice_index (places is_state 0 self.old.items) k))
+            (λ n. word < 2 ^ n) }
+        ensures { self.new
+            ≡ record self.old { states = slice_set self.old.states k word; settled = false } }
     {
         self.values[self.states[k]] = word;
         self.settled = false;
@@ -119,8 +122,11 @@ impl<'a> WordRun<'a> {
     /// Conditions: `k` is below the number of inputs, and `word` is below 2 to the input's width.
     pub fn set_input(&mut self, k: usize, word: u64)
         requires there { k < length (places is_input 0 self.old.items) }
-        requires fits { IfSome (width_at self.old.items (slice_index (places is_input 0 self.old.items) k)) (λ n. word < 2 ^ n) }
-        ensures { self.new ≡ record self.old { inputs = slice_set self.old.inputs k word; settled = false } }
+        requires fits { IfSome
+            (width_at self.old.items (slice_index (places is_input 0 self.old.items) k))
+            (λ n. word < 2 ^ n) }
+        ensures { self.new
+            ≡ record self.old { inputs = slice_set self.old.inputs k word; settled = false } }
     {
         self.values[self.inputs[k]] = word;
         self.settled = false;
@@ -129,7 +135,8 @@ impl<'a> WordRun<'a> {
     /// Gives each node its word in the frame of the words that the states and inputs have. One step for each node
     /// with a value.
     pub fn settle(&mut self)
-        ensures { self.new ≡ record self.old { settled = true; steps = more_steps (node_count self.old.items) self.old.steps } }
+        ensures { self.new
+            ≡ record self.old { settled = true; steps = more_steps (node_count self.old.items) self.old.steps } }
     {
         settle_nodes(&self.nodes, &mut self.values, &mut self.tally);
         self.settled = true;
@@ -148,7 +155,8 @@ impl<'a> WordRun<'a> {
     pub fn value(&self, node: usize) -> u64
         requires there { is_some (width_at self.now.items node) ≡ true }
         requires settled { self.now.settled ≡ true }
-        ensures { (f : Frame) → IsNow self.now f → IfSome (slice_get self.now.items node) (λ x. result ≡ f x.id) }
+        ensures { (f : Frame) → IsNow self.now f
+            → IfSome (slice_get self.now.items node) (λ x. result ≡ f x.id) }
     {
         self.values[self.slots[node]]
     }
@@ -159,7 +167,10 @@ impl<'a> WordRun<'a> {
     pub fn constraint(&self, i: usize) -> bool
         requires there { i < length (places is_constraint 0 self.now.items) }
         requires settled { self.now.settled ≡ true }
-        ensures { (f : Frame) → IsNow self.now f → IfSome (slice_get self.now.items (slice_index (places is_constraint 0 self.now.items) i)) (λ x. result ≡ is_one f x.body) }
+        ensures { (f : Frame) → IsNow self.now f
+            → IfSome (slice_get self.now.items
+            (slice_index (places is_constraint 0 self.now.items) i)) (λ x. result
+            ≡ is_one f x.body) }
     {
         self.values[self.constraints[i]] == 1
     }
@@ -170,7 +181,9 @@ impl<'a> WordRun<'a> {
     pub fn bad(&self, i: usize) -> bool
         requires there { i < length (places is_bad 0 self.now.items) }
         requires settled { self.now.settled ≡ true }
-        ensures { (f : Frame) → IsNow self.now f → IfSome (slice_get self.now.items (slice_index (places is_bad 0 self.now.items) i)) (λ x. result ≡ is_one f x.body) }
+        ensures { (f : Frame) → IsNow self.now f
+            → IfSome (slice_get self.now.items (slice_index (places is_bad 0 self.now.items) i))
+            (λ x. result ≡ is_one f x.body) }
     {
         self.values[self.bads[i]] == 1
     }
@@ -181,8 +194,10 @@ impl<'a> WordRun<'a> {
     /// Condition: the run is settled.
     pub fn advance(&mut self)
         requires { self.old.settled ≡ true }
-        ensures states { (f : Frame) → IsNow self.old f → self.new.states ≡ map (next_state self.old.items f) (ids_of is_state self.old.items) }
-        ensures others { self.new ≡ record self.old { states = self.new.states; inputs = zeros self.old.items; settled = false; steps = more_steps (state_count self.old.items) self.old.steps } }
+        ensures states { (f : Frame) → IsNow self.old f → self.new.states
+            ≡ map (next_state self.old.items f) (ids_of is_state self.old.items) }
+        ensures others { self.new
+            ≡ record self.old { states = self.new.states; inputs = zeros self.old.items; settled = false; steps = more_steps (state_count self.old.items) self.old.steps } }
     {
         take_words(
             &self.values,

@@ -34,7 +34,8 @@ use std::alloc::{AllocError, Global};
 fn lower_read<W: Watch>(alloc: Global, model: &Model, watch: &mut W) -> Result<Circuit, Refusal>
     ensures accepted { OnOk result (lowering_refusal model.now ≡ None) }
     ensures lowers { IfOk result (Lowers model.now) }
-    ensures refused { (known : Option (List ℕ)) → IsModelOf known model.now → IfErr result (IfInput (IsNotLowered known)) }
+    ensures refused { (known : Option (List ℕ)) → IsModelOf known model.now
+        → IfErr result (IfInput (IsNotLowered known)) }
     ensures counted { (f s o e : ℕ) → Counts result f f s s o o e e }
 {
     // a model's items are well-formed
@@ -71,7 +72,8 @@ fn lower_first<A: Source, W: Watch>(
 ) -> Result<Read, Refusal>
     ensures read { IfOk result (IsRead given_is.Model (A.to_come first.old)) }
     ensures refused { IfErr result (IfInput (IsNotLowered (A.to_come first.old))) }
-    ensures counted { (s o e : ℕ) → Counts result (A.failures first.old) (A.failures first.new) s s o o e e }
+    ensures counted { (s o e : ℕ)
+        → Counts result (A.failures first.old) (A.failures first.new) s s o o e e }
 {
     let model = read_model(alloc, first)?;
     let circuit = lower_read(alloc, &model, watch)?;
@@ -86,7 +88,8 @@ fn lower_first<A: Source, W: Watch>(
 fn read_first<A: Source>(alloc: Global, first: &mut A) -> Result<Read, Refusal>
     ensures read { IfOk result (IsRead given_is.Circuit (A.to_come first.old)) }
     ensures refused { IfErr result (IfInput (IsNoCircuit (A.to_come first.old))) }
-    ensures counted { (s o e : ℕ) → Counts result (A.failures first.old) (A.failures first.new) s s o o e e }
+    ensures counted { (s o e : ℕ)
+        → Counts result (A.failures first.old) (A.failures first.new) s s o o e e }
 {
     match read_numbered(alloc, first) {
         Ok(numbered) => {
@@ -111,7 +114,8 @@ fn read_given<A: Source, W: Watch>(
 ) -> Result<Read, Refusal>
     ensures read { IfOk result (IsRead given (A.to_come first.old)) }
     ensures refused { IfErr result (IfInput (IsNotGiven given (A.to_come first.old))) }
-    ensures counted { (s o e : ℕ) → Counts result (A.failures first.old) (A.failures first.new) s s o o e e }
+    ensures counted { (s o e : ℕ)
+        → Counts result (A.failures first.old) (A.failures first.new) s s o o e e }
 {
     match given {
         Given::Model => lower_first(alloc, first, watch),
@@ -121,10 +125,12 @@ fn read_given<A: Source, W: Watch>(
 
 /// Writes the text of a formula.
 fn write_owed<O: Sink>(formula: &Formula, out: &mut O) -> Result<Answer, Refusal>
-    ensures written { OnOk result (Appends (O.written out.old) (O.written out.new) (formula_text formula.now)) }
+    ensures written { OnOk result (Appends (O.written out.old) (O.written out.new)
+        (formula_text formula.now)) }
     ensures answer { IfOk result (λ answer. answer ≡ Answer.Done) }
     ensures no_input { IsOfNoInput result }
-    ensures counted { (f s e : ℕ) → Counts result f f s s (O.failures out.old) (O.failures out.new) e e }
+    ensures counted { (f s e : ℕ) → Counts result f f s s (O.failures out.old)
+        (O.failures out.new) e e }
 {
     match write_formula(formula, out) {
         Ok(()) => Ok(Answer::Done),
@@ -143,13 +149,20 @@ fn write_owed_over<B: Source, O: Sink>(
     second: &mut B,
     out: &mut O,
 ) -> Result<Answer, Refusal>
-    ensures done { (g : Given) (known : Option (List ℕ)) → GivesItsCircuit g known circuit.now → IsGivenNumbering g known circuit.now numbering.now → OnOk result (WritesOwed g by choice known (B.to_come second.old) (O.written out.old) (O.written out.new)) }
+    ensures done { (g : Given) (known : Option (List ℕ)) → GivesItsCircuit g known circuit.now
+        → IsGivenNumbering g known circuit.now numbering.now
+        → OnOk result (WritesOwed g by choice known (B.to_come second.old) (O.written out.old)
+        (O.written out.new)) }
     ensures answer { IfOk result (λ answer. answer ≡ Answer.Done) }
-    ensures refused { (g : Given) (known : Option (List ℕ)) → GivesItsCircuit g known circuit.now → IfErr result (IfInput (IsNotCertifiable by g choice known)) }
-    ensures second { (g : Given) (known : Option (List ℕ)) → GivesItsCircuit g known circuit.now → IsGivenNumbering g known circuit.now numbering.now → IfErr result (IfSecond (IsFaultyCertificate by g choice known (B.to_come second.old))) }
+    ensures refused { (g : Given) (known : Option (List ℕ)) → GivesItsCircuit g known circuit.now
+        → IfErr result (IfInput (IsNotCertifiable by g choice known)) }
+    ensures second { (g : Given) (known : Option (List ℕ)) → GivesItsCircuit g known circuit.now
+        → IsGivenNumbering g known circuit.now numbering.now
+        → IfErr result (IfSecond (IsFaultyCertificate by g choice known (B.to_come second.old))) }
     ensures unwritten { IfErr result (IfInput (λ _. out.new ≡ out.old)) }
     ensures unwritten_second { IfErr result (IfSecond (λ _. out.new ≡ out.old)) }
-    ensures counted { (f t e : ℕ) → CountsAll result f f (B.failures second.old) (B.failures second.new) t t (O.failures out.old) (O.failures out.new) e e }
+    ensures counted { (f t e : ℕ) → CountsAll result f f (B.failures second.old)
+        (B.failures second.new) t t (O.failures out.old) (O.failures out.new) e e }
 {
     let claim = certified_claim(circuit, by, choice)?;
     let formula = owed(alloc, by, circuit, numbering, claim, second)?;
@@ -170,13 +183,19 @@ pub fn write_obligation<A: Source, B: Source, O: Sink, W: Watch>(
     out: &mut O,
     watch: &mut W,
 ) -> Result<Answer, Refusal>
-    ensures done { OnOk result (WritesOwed given by choice (A.to_come first.old) (B.to_come second.old) (O.written out.old) (O.written out.new)) }
+    ensures done { OnOk result (WritesOwed given by choice (A.to_come first.old)
+        (B.to_come second.old) (O.written out.old) (O.written out.new)) }
     ensures answer { IfOk result (λ answer. answer ≡ Answer.Done) }
-    ensures refused { IfErr result (IfInput (IsNotCertifiable by given choice (A.to_come first.old))) }
-    ensures second { IfErr result (IfSecond (IsFaultyCertificate by given choice (A.to_come first.old) (B.to_come second.old))) }
+    ensures refused { IfErr result
+        (IfInput (IsNotCertifiable by given choice (A.to_come first.old))) }
+    ensures second { IfErr result
+        (IfSecond (IsFaultyCertificate by given choice (A.to_come first.old)
+        (B.to_come second.old))) }
     ensures unwritten { IfErr result (IfInput (λ _. out.new ≡ out.old)) }
     ensures unwritten_second { IfErr result (IfSecond (λ _. out.new ≡ out.old)) }
-    ensures counted { (t e : ℕ) → CountsAll result (A.failures first.old) (A.failures first.new) (B.failures second.old) (B.failures second.new) t t (O.failures out.old) (O.failures out.new) e e }
+    ensures counted { (t e : ℕ) → CountsAll result (A.failures first.old) (A.failures first.new)
+        (B.failures second.old) (B.failures second.new) t t (O.failures out.old)
+        (O.failures out.new) e e }
 {
     let read = read_given(alloc, given, first, watch)?;
     write_owed_over(
@@ -223,10 +242,12 @@ fn write_verdict<O: Sink>(
     judgement: &Judgement,
     out: &mut O,
 ) -> Result<Answer, Refusal>
-    ensures written { OnOk result (Appends (O.written out.old) (O.written out.new) (verdict_line claim judgement.now)) }
+    ensures written { OnOk result (Appends (O.written out.old) (O.written out.new)
+        (verdict_line claim judgement.now)) }
     ensures so { IfOk result (λ answer. IsSoDerived answer judgement.now) }
     ensures no_input { IsOfNoInput result }
-    ensures counted { (f s e : ℕ) → Counts result f f s s (O.failures out.old) (O.failures out.new) e e }
+    ensures counted { (f s e : ℕ) → Counts result f f s s (O.failures out.old)
+        (O.failures out.new) e e }
 {
     let line = verdict_line(alloc, claim, judgement)?;
     write_result(out, line.as_bytes())?;
@@ -241,7 +262,8 @@ fn tell_what_holds<E: Sink>(
     judgement: &Judgement,
     err: &mut E,
 ) -> Result<(), DeviceFault>
-    ensures written { OnOk result (Appends (E.written err.old) (E.written err.new) (where_named named (holds_said judgement.now (bad_said subject.entry claim)))) }
+    ensures written { OnOk result (Appends (E.written err.old) (E.written err.new)
+        (where_named named (holds_said judgement.now (bad_said subject.entry claim)))) }
     ensures quiet { named ≡ false → err.new ≡ err.old }
     ensures counted { CountsFaults result (E.failures err.old) (E.failures err.new) }
 {
@@ -262,13 +284,16 @@ fn tell_verdict<O: Sink, E: Sink>(
     out: &mut O,
     err: &mut E,
 ) -> Result<Answer, Refusal>
-    ensures written { OnOk result (Appends (O.written out.old) (O.written out.new) (verdict_line claim judgement.now)) }
-    ensures told { OnOk result (Appends (E.written err.old) (E.written err.new) (where_named named (holds_said judgement.now (bad_said subject.entry claim)))) }
+    ensures written { OnOk result (Appends (O.written out.old) (O.written out.new)
+        (verdict_line claim judgement.now)) }
+    ensures told { OnOk result (Appends (E.written err.old) (E.written err.new)
+        (where_named named (holds_said judgement.now (bad_said subject.entry claim)))) }
     ensures quiet { named ≡ false → err.new ≡ err.old }
     ensures so { IfOk result (λ answer. IsSoDerived answer judgement.now) }
     ensures no_input { IsOfNoInput result }
     ensures untold { ErrUntold result (err.new ≡ err.old) }
-    ensures counted { (f s : ℕ) → Counts result f f s s (O.failures out.old) (O.failures out.new) (E.failures err.old) (E.failures err.new) }
+    ensures counted { (f s : ℕ) → Counts result f f s s (O.failures out.old) (O.failures out.new)
+        (E.failures err.old) (E.failures err.new) }
 {
     let answer = write_verdict(alloc, claim, judgement, out)?;
     match tell_what_holds(named, subject, claim, judgement, err) {
@@ -292,14 +317,25 @@ fn check_over<B: Source, T: Source, O: Sink, E: Sink>(
     out: &mut O,
     err: &mut E,
 ) -> Result<Answer, Refusal>
-    ensures done { (g : Given) (known : Option (List ℕ)) (gives : GivesItsCircuit g known circuit.now) → ((k : ℕ) → bad_said subject.entry k ≡ given_said g known circuit.now gives k) → IsGivenNumbering g known circuit.now numbering.now → IfOk result (CertifiesWith named g by choice known (B.to_come second.old) (T.to_come third.old) (O.written out.old) (O.written out.new) (E.written err.old) (E.written err.new)) }
-    ensures refused { (g : Given) (known : Option (List ℕ)) → GivesItsCircuit g known circuit.now → IfErr result (IfInput (IsNotCertifiable by g choice known)) }
-    ensures second { (g : Given) (known : Option (List ℕ)) → GivesItsCircuit g known circuit.now → IsGivenNumbering g known circuit.now numbering.now → IfErr result (IfSecond (IsFaultyCertificate by g choice known (B.to_come second.old))) }
+    ensures done { (g : Given) (known : Option (List ℕ))
+        (gives : GivesItsCircuit g known circuit.now)
+        → ((k : ℕ) → bad_said subject.entry k ≡ given_said g known circuit.now gives k)
+        → IsGivenNumbering g known circuit.now numbering.now
+        → IfOk result (CertifiesWith named g by choice known (B.to_come second.old)
+        (T.to_come third.old) (O.written out.old) (O.written out.new) (E.written err.old)
+        (E.written err.new)) }
+    ensures refused { (g : Given) (known : Option (List ℕ)) → GivesItsCircuit g known circuit.now
+        → IfErr result (IfInput (IsNotCertifiable by g choice known)) }
+    ensures second { (g : Given) (known : Option (List ℕ)) → GivesItsCircuit g known circuit.now
+        → IsGivenNumbering g known circuit.now numbering.now
+        → IfErr result (IfSecond (IsFaultyCertificate by g choice known (B.to_come second.old))) }
     ensures unwritten { IfErr result (IfInput (λ _. out.new ≡ out.old)) }
     ensures unwritten_second { IfErr result (IfSecond (λ _. out.new ≡ out.old)) }
     ensures untold { ErrUntold result (err.new ≡ err.old) }
     ensures quiet { named ≡ false → err.new ≡ err.old }
-    ensures counted { (f : ℕ) → CountsAll result f f (B.failures second.old) (B.failures second.new) (T.failures third.old) (T.failures third.new) (O.failures out.old) (O.failures out.new) (E.failures err.old) (E.failures err.new) }
+    ensures counted { (f : ℕ) → CountsAll result f f (B.failures second.old) (B.failures second.new)
+        (T.failures third.old) (T.failures third.new) (O.failures out.old) (O.failures out.new)
+        (E.failures err.old) (E.failures err.new) }
 {
     certified_never_rises();
     blast::laws::bad_properties_rise_alike();
@@ -322,14 +358,22 @@ pub fn check_proof<A: Source, B: Source, T: Source, O: Sink, E: Sink, W: Watch>(
     err: &mut E,
     watch: &mut W,
 ) -> Result<Answer, Refusal>
-    ensures done { IfOk result (CertifiesWith named given by choice (A.to_come first.old) (B.to_come second.old) (T.to_come third.old) (O.written out.old) (O.written out.new) (E.written err.old) (E.written err.new)) }
-    ensures refused { IfErr result (IfInput (IsNotCertifiable by given choice (A.to_come first.old))) }
-    ensures second { IfErr result (IfSecond (IsFaultyCertificate by given choice (A.to_come first.old) (B.to_come second.old))) }
+    ensures done { IfOk result (CertifiesWith named given by choice (A.to_come first.old)
+        (B.to_come second.old) (T.to_come third.old) (O.written out.old) (O.written out.new)
+        (E.written err.old) (E.written err.new)) }
+    ensures refused { IfErr result
+        (IfInput (IsNotCertifiable by given choice (A.to_come first.old))) }
+    ensures second { IfErr result
+        (IfSecond (IsFaultyCertificate by given choice (A.to_come first.old)
+        (B.to_come second.old))) }
     ensures unwritten { IfErr result (IfInput (λ _. out.new ≡ out.old)) }
     ensures unwritten_second { IfErr result (IfSecond (λ _. out.new ≡ out.old)) }
     ensures untold { ErrUntold result (err.new ≡ err.old) }
     ensures quiet { named ≡ false → err.new ≡ err.old }
-    ensures counted { CountsAll result (A.failures first.old) (A.failures first.new) (B.failures second.old) (B.failures second.new) (T.failures third.old) (T.failures third.new) (O.failures out.old) (O.failures out.new) (E.failures err.old) (E.failures err.new) }
+    ensures counted { CountsAll result (A.failures first.old) (A.failures first.new)
+        (B.failures second.old) (B.failures second.new) (T.failures third.old)
+        (T.failures third.new) (O.failures out.old) (O.failures out.new) (E.failures err.old)
+        (E.failures err.new) }
 {
     let read = read_given(alloc, given, first, watch)?;
     let subject = read.subject();

@@ -25,7 +25,8 @@ use witness::judge_bits;
 pub fn read_circuit<A: Source>(alloc: Global, first: &mut A) -> Result<Circuit, Refusal>
     ensures read { IfOk result (IsCircuitText (A.to_come first.old)) }
     ensures refused { IfErr result (IfInput (IsNoCircuit (A.to_come first.old))) }
-    ensures counted { (s o e : ℕ) → Counts result (A.failures first.old) (A.failures first.new) s s o o e e }
+    ensures counted { (s o e : ℕ)
+        → Counts result (A.failures first.old) (A.failures first.new) s s o o e e }
 {
     match read(alloc, first) {
         Ok(circuit) => Ok(circuit),
@@ -39,10 +40,12 @@ pub fn convert_circuit<O: Sink>(
     circuit: &Circuit,
     out: &mut O,
 ) -> Result<Answer, Refusal>
-    ensures done { (known : Option (List ℕ)) → IsCircuitText known circuit.now → OnOk result (Rewrites known (O.written out.old) (O.written out.new) form) }
+    ensures done { (known : Option (List ℕ)) → IsCircuitText known circuit.now
+        → OnOk result (Rewrites known (O.written out.old) (O.written out.new) form) }
     ensures answer { IfOk result (λ answer. answer ≡ Answer.Done) }
     ensures no_input { IsOfNoInput result }
-    ensures counted { (f s e : ℕ) → Counts result f f s s (O.failures out.old) (O.failures out.new) e e }
+    ensures counted { (f s e : ℕ) → Counts result f f s s (O.failures out.old)
+        (O.failures out.new) e e }
 {
     // the lists of a circuit are one
     let _ = circuit.inputs();
@@ -51,10 +54,12 @@ pub fn convert_circuit<O: Sink>(
 
 /// Writes a circuit in a form.
 pub fn write_circuit<O: Sink>(circuit: &Circuit, form: Form, out: &mut O) -> Result<Answer, Refusal>
-    ensures done { OnOk result (Appends (O.written out.old) (O.written out.new) (circuit_text form circuit.now)) }
+    ensures done { OnOk result (Appends (O.written out.old) (O.written out.new)
+        (circuit_text form circuit.now)) }
     ensures answer { IfOk result (λ answer. answer ≡ Answer.Done) }
     ensures no_input { IsOfNoInput result }
-    ensures counted { (f s e : ℕ) → Counts result f f s s (O.failures out.old) (O.failures out.new) e e }
+    ensures counted { (f s e : ℕ) → Counts result f f s s (O.failures out.old)
+        (O.failures out.new) e e }
 {
     match write(circuit, form, out) {
         Ok(()) => Ok(Answer::Done),
@@ -69,9 +74,12 @@ pub fn check_circuit<B: Source, O: Sink>(
     second: &mut B,
     out: &mut O,
 ) -> Result<Answer, Refusal>
-    ensures done { (known : Option (List ℕ)) → IsCircuitText known circuit.now → IfOk result (Judged (IsJudgedOver known (B.to_come second.old) (O.written out.old) (O.written out.new))) }
+    ensures done { (known : Option (List ℕ)) → IsCircuitText known circuit.now
+        → IfOk result (Judged (IsJudgedOver known (B.to_come second.old) (O.written out.old)
+        (O.written out.new))) }
     ensures no_input { IsOfNoInput result }
-    ensures counted { (f e : ℕ) → Counts result f f (B.failures second.old) (B.failures second.new) (O.failures out.old) (O.failures out.new) e e }
+    ensures counted { (f e : ℕ) → Counts result f f (B.failures second.old) (B.failures second.new)
+        (O.failures out.old) (O.failures out.new) e e }
 {
     // the lists of a circuit are one
     let _ = circuit.inputs();
@@ -91,10 +99,13 @@ pub fn check_circuit_by_name<B: Source, O: Sink, E: Sink>(
     out: &mut O,
     err: &mut E,
 ) -> Result<Answer, Refusal>
-    ensures done { (known : Option (List ℕ)) → IsCircuitText known circuit.now → IfOk result (Judged (IsJudgedOverByName known (B.to_come second.old) (O.written out.old) (O.written out.new) (E.written err.old) (E.written err.new))) }
+    ensures done { (known : Option (List ℕ)) → IsCircuitText known circuit.now
+        → IfOk result (Judged (IsJudgedOverByName known (B.to_come second.old) (O.written out.old)
+        (O.written out.new) (E.written err.old) (E.written err.new))) }
     ensures no_input { IsOfNoInput result }
     ensures untold { ErrUntold result (err.new ≡ err.old) }
-    ensures counted { (f : ℕ) → Counts result f f (B.failures second.old) (B.failures second.new) (O.failures out.old) (O.failures out.new) (E.failures err.old) (E.failures err.new) }
+    ensures counted { (f : ℕ) → Counts result f f (B.failures second.old) (B.failures second.new)
+        (O.failures out.old) (O.failures out.new) (E.failures err.old) (E.failures err.new) }
 {
     // the lists of a circuit are one
     let _ = circuit.inputs();

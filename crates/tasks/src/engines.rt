@@ -28,11 +28,13 @@ pub(crate) fn write_engine_form<O: Sink>(
     choice: Option<usize>,
     out: &mut O,
 ) -> Result<Answer, Refusal>
-    ensures done { OnOk result (WritesEngineForm circuit.now choice (O.written out.old) (O.written out.new) form) }
+    ensures done { OnOk result (WritesEngineForm circuit.now choice (O.written out.old)
+        (O.written out.new) form) }
     ensures answer { IfOk result (λ answer. answer ≡ Answer.Done) }
     ensures refused { IfErr result (IfInput (IsWithoutForm circuit.now choice)) }
     ensures unwritten { IfErr result (IfInput (λ _. out.new ≡ out.old)) }
-    ensures counted { (f s e : ℕ) → Counts result f f s s (O.failures out.old) (O.failures out.new) e e }
+    ensures counted { (f s e : ℕ) → Counts result f f s s (O.failures out.old)
+        (O.failures out.new) e e }
 {
     let plain = engine_form(alloc, circuit, choice)?;
     write_circuit(&plain, form, out)
@@ -47,11 +49,14 @@ pub fn lower_for_engines<O: Sink, W: Watch>(
     out: &mut O,
     watch: &mut W,
 ) -> Result<Answer, Refusal>
-    ensures done { (known : Option (List ℕ)) → IsModelOf known model.now → OnOk result (LowersForEngines known (O.written out.old) (O.written out.new) form choice) }
+    ensures done { (known : Option (List ℕ)) → IsModelOf known model.now
+        → OnOk result (LowersForEngines known (O.written out.old) (O.written out.new) form choice) }
     ensures answer { IfOk result (λ answer. answer ≡ Answer.Done) }
-    ensures refused { (known : Option (List ℕ)) → IsModelOf known model.now → IfErr result (IfInput (IsNotForEngines given_is.Model choice known)) }
+    ensures refused { (known : Option (List ℕ)) → IsModelOf known model.now
+        → IfErr result (IfInput (IsNotForEngines given_is.Model choice known)) }
     ensures unwritten { IfErr result (IfInput (λ _. out.new ≡ out.old)) }
-    ensures counted { (f s e : ℕ) → Counts result f f s s (O.failures out.old) (O.failures out.new) e e }
+    ensures counted { (f s e : ℕ) → Counts result f f s s (O.failures out.old)
+        (O.failures out.new) e e }
 {
     // a model's items are well-formed
     let _ = model.items();
@@ -69,11 +74,15 @@ pub fn convert_for_engines<O: Sink>(
     choice: Option<usize>,
     out: &mut O,
 ) -> Result<Answer, Refusal>
-    ensures done { (known : Option (List ℕ)) → IsCircuitText known circuit.now → OnOk result (ConvertsForEngines known (O.written out.old) (O.written out.new) form choice) }
+    ensures done { (known : Option (List ℕ)) → IsCircuitText known circuit.now
+        → OnOk result (ConvertsForEngines known (O.written out.old)
+        (O.written out.new) form choice) }
     ensures answer { IfOk result (λ answer. answer ≡ Answer.Done) }
-    ensures refused { (known : Option (List ℕ)) → IsCircuitText known circuit.now → IfErr result (IfInput (IsNotForEngines given_is.Circuit choice known)) }
+    ensures refused { (known : Option (List ℕ)) → IsCircuitText known circuit.now
+        → IfErr result (IfInput (IsNotForEngines given_is.Circuit choice known)) }
     ensures unwritten { IfErr result (IfInput (λ _. out.new ≡ out.old)) }
-    ensures counted { (f s e : ℕ) → Counts result f f s s (O.failures out.old) (O.failures out.new) e e }
+    ensures counted { (f s e : ℕ) → Counts result f f s s (O.failures out.old)
+        (O.failures out.new) e e }
 {
     // the lists of a circuit are one
     let _ = circuit.inputs();

@@ -99,8 +99,10 @@ impl<'a, R: Files> LateFile<'a, R> {
         requires { self.old.file ≡ opened_is.NotYet }
         ensures within { ReadsAtMost result buf.new }
         ensures bytes { ReadConsumes None None result buf.new }
-        ensures ends { IfOk result (λ n. 0 < n → ⟦<LateFile<'a, R> as Source>⟧.calls_left self.new < ⟦<LateFile<'a, R> as Source>⟧.calls_left self.old) }
-        ensures failures { CountsFaults result (⟦<LateFile<'a, R> as Source>⟧.failures self.old) (⟦<LateFile<'a, R> as Source>⟧.failures self.new) }
+        ensures ends { IfOk result (λ n. 0 < n → ⟦<LateFile<'a, R> as Source>⟧.calls_left self.new
+            < ⟦<LateFile<'a, R> as Source>⟧.calls_left self.old) }
+        ensures failures { CountsFaults result (⟦<LateFile<'a, R> as Source>⟧.failures self.old)
+            (⟦<LateFile<'a, R> as Source>⟧.failures self.new) }
     {
         match fs::open(self.rt, self.name) {
             Ok(file) => {
@@ -205,8 +207,11 @@ pub fn open_input<'a, R: Files, I: Read + Drop>(
     standard: I,
     name: Option<&'a str>,
 ) -> Stream<FromReader<I>, LateFile<'a, R>>
-    ensures standard { is_standard result ≡ names_standard_input (option_map (λ name. name.now) name.entry) }
-    ensures bytes { is_standard result ≡ true → ⟦<Stream<FromReader<I>, LateFile<'a, R>> as Source>⟧.to_come result ≡ I.remaining standard }
+    ensures standard { is_standard result
+        ≡ names_standard_input (option_map (λ name. name.now) name.entry) }
+    ensures bytes { is_standard result ≡ true
+        → ⟦<Stream<FromReader<I>, LateFile<'a, R>> as Source>⟧.to_come result
+        ≡ I.remaining standard }
     ensures failures { ⟦<Stream<FromReader<I>, LateFile<'a, R>> as Source>⟧.failures result ≡ 0 }
 {
     match name {

@@ -29,10 +29,12 @@ pub fn write_judgement<O: Sink>(
     judgement: &Judgement,
     out: &mut O,
 ) -> Result<Answer, Refusal>
-    ensures written { OnOk result (Appends (O.written out.old) (O.written out.new) (judgement_line judgement.now)) }
+    ensures written { OnOk result (Appends (O.written out.old) (O.written out.new)
+        (judgement_line judgement.now)) }
     ensures so { IfOk result (λ answer. IsSo answer judgement.now) }
     ensures no_input { IsOfNoInput result }
-    ensures counted { (f s e : ℕ) → Counts result f f s s (O.failures out.old) (O.failures out.new) e e }
+    ensures counted { (f s e : ℕ) → Counts result f f s s (O.failures out.old)
+        (O.failures out.new) e e }
 {
     let line = judgement_line(alloc, judgement)?;
     write_result(out, line.as_bytes())?;
@@ -49,12 +51,16 @@ pub fn write_judgement_by_name<O: Sink, E: Sink>(
     out: &mut O,
     err: &mut E,
 ) -> Result<Answer, Refusal>
-    ensures written { OnOk result (Appends (O.written out.old) (O.written out.new) (judgement_line judgement.now)) }
-    ensures told { OnOk result (Appends (E.written err.old) (E.written err.new) (said_by_name (subject_said subject.entry) (bad_said subject.entry) firsts.now judgement.now)) }
+    ensures written { OnOk result (Appends (O.written out.old) (O.written out.new)
+        (judgement_line judgement.now)) }
+    ensures told { OnOk result (Appends (E.written err.old) (E.written err.new)
+        (said_by_name (subject_said subject.entry) (bad_said subject.entry) firsts.now
+        judgement.now)) }
     ensures so { IfOk result (λ answer. IsSo answer judgement.now) }
     ensures no_input { IsOfNoInput result }
     ensures untold { ErrUntold result (err.new ≡ err.old) }
-    ensures counted { (f s : ℕ) → Counts result f f s s (O.failures out.old) (O.failures out.new) (E.failures err.old) (E.failures err.new) }
+    ensures counted { (f s : ℕ) → Counts result f f s s (O.failures out.old) (O.failures out.new)
+        (E.failures err.old) (E.failures err.new) }
 {
     let answer = write_judgement(alloc, judgement, out)?;
     match tell_by_name(subject, judgement, firsts, err) {
@@ -69,11 +75,13 @@ pub fn tell_line<E: Sink>(
     judgement: &Judgement,
     err: &mut E,
 ) -> Result<Answer, Refusal>
-    ensures written { OnOk result (Appends (E.written err.old) (E.written err.new) (judgement_line judgement.now)) }
+    ensures written { OnOk result (Appends (E.written err.old) (E.written err.new)
+        (judgement_line judgement.now)) }
     ensures so { IfOk result (λ answer. IsSo answer judgement.now) }
     ensures no_input { IsOfNoInput result }
     ensures untold { ErrUntold result (err.new ≡ err.old) }
-    ensures counted { (f s o : ℕ) → Counts result f f s s o o (E.failures err.old) (E.failures err.new) }
+    ensures counted { (f s o : ℕ) → Counts result f f s s o o (E.failures err.old)
+        (E.failures err.new) }
 {
     let line = judgement_line(alloc, judgement)?;
     match write_all(err, line.as_bytes()) {
@@ -92,11 +100,15 @@ pub fn tell_judgement<E: Sink>(
     firsts: &FirstRises,
     err: &mut E,
 ) -> Result<Answer, Refusal>
-    ensures written { OnOk result (Appends (E.written err.old) (E.written err.new) (judgement_line judgement.now ++ where_named named (said_by_name (subject_said subject.entry) (bad_said subject.entry) firsts.now judgement.now))) }
+    ensures written { OnOk result (Appends (E.written err.old) (E.written err.new)
+        (judgement_line judgement.now ++ where_named named
+        (said_by_name (subject_said subject.entry) (bad_said subject.entry) firsts.now
+        judgement.now))) }
     ensures so { IfOk result (λ answer. IsSo answer judgement.now) }
     ensures no_input { IsOfNoInput result }
     ensures untold { ErrUntold result (err.new ≡ err.old) }
-    ensures counted { (f s o : ℕ) → Counts result f f s s o o (E.failures err.old) (E.failures err.new) }
+    ensures counted { (f s o : ℕ) → Counts result f f s s o o (E.failures err.old)
+        (E.failures err.new) }
 {
     let answer = tell_line(alloc, judgement, err)?;
     match tell_where_named(named, subject, judgement, firsts, err) {

@@ -29,7 +29,8 @@ use witness::judge_words;
 pub fn read_model<A: Source>(alloc: Global, first: &mut A) -> Result<Model, Refusal>
     ensures read { IfOk result (IsModelOf (A.to_come first.old)) }
     ensures refused { IfErr result (IfInput (IsNoModel (A.to_come first.old))) }
-    ensures counted { (s o e : ℕ) → Counts result (A.failures first.old) (A.failures first.new) s s o o e e }
+    ensures counted { (s o e : ℕ)
+        → Counts result (A.failures first.old) (A.failures first.new) s s o o e e }
 {
     match read(alloc, first) {
         Ok(model) => Ok(model),
@@ -45,11 +46,13 @@ pub fn lower_model<A: Source, O: Sink, W: Watch>(
     out: &mut O,
     watch: &mut W,
 ) -> Result<Answer, Refusal>
-    ensures done { OnOk result (Converts (A.to_come first.old) form (Appends (O.written out.old) (O.written out.new))) }
+    ensures done { OnOk result (Converts (A.to_come first.old) form
+        (Appends (O.written out.old) (O.written out.new))) }
     ensures answer { IfOk result (λ answer. answer ≡ Answer.Done) }
     ensures refused { IfErr result (IfInput (IsNotLowered (A.to_come first.old))) }
     ensures unwritten { IfErr result (IfInput (λ _. out.new ≡ out.old)) }
-    ensures counted { (s e : ℕ) → Counts result (A.failures first.old) (A.failures first.new) s s (O.failures out.old) (O.failures out.new) e e }
+    ensures counted { (s e : ℕ) → Counts result (A.failures first.old) (A.failures first.new) s s
+        (O.failures out.old) (O.failures out.new) e e }
 {
     match convert_watched(alloc, first, out, form, watch) {
         Ok(()) => Ok(Answer::Done),
@@ -64,10 +67,14 @@ pub fn check_model<B: Source, O: Sink>(
     second: &mut B,
     out: &mut O,
 ) -> Result<Answer, Refusal>
-    ensures done { (known : Option (List ℕ)) → IsModelOf known model.now → IfOk result (Judged (IsJudged known (B.to_come second.old) (O.written out.old) (O.written out.new))) }
-    ensures refused { (known : Option (List ℕ)) → IsModelOf known model.now → IfErr result (IfInput (IsNotJudged known)) }
+    ensures done { (known : Option (List ℕ)) → IsModelOf known model.now
+        → IfOk result (Judged (IsJudged known (B.to_come second.old) (O.written out.old)
+        (O.written out.new))) }
+    ensures refused { (known : Option (List ℕ)) → IsModelOf known model.now
+        → IfErr result (IfInput (IsNotJudged known)) }
     ensures unwritten { IfErr result (IfInput (λ _. out.new ≡ out.old)) }
-    ensures counted { (f e : ℕ) → Counts result f f (B.failures second.old) (B.failures second.new) (O.failures out.old) (O.failures out.new) e e }
+    ensures counted { (f e : ℕ) → Counts result f f (B.failures second.old) (B.failures second.new)
+        (O.failures out.old) (O.failures out.new) e e }
 {
     judged_claims_are_reached();
     match judge_words(alloc, model, second) {
@@ -85,11 +92,15 @@ pub fn check_model_by_name<B: Source, O: Sink, E: Sink>(
     out: &mut O,
     err: &mut E,
 ) -> Result<Answer, Refusal>
-    ensures done { (known : Option (List ℕ)) → IsModelOf known model.now → IfOk result (Judged (IsJudgedByName known (B.to_come second.old) (O.written out.old) (O.written out.new) (E.written err.old) (E.written err.new))) }
-    ensures refused { (known : Option (List ℕ)) → IsModelOf known model.now → IfErr result (IfInput (IsNotJudged known)) }
+    ensures done { (known : Option (List ℕ)) → IsModelOf known model.now
+        → IfOk result (Judged (IsJudgedByName known (B.to_come second.old) (O.written out.old)
+        (O.written out.new) (E.written err.old) (E.written err.new))) }
+    ensures refused { (known : Option (List ℕ)) → IsModelOf known model.now
+        → IfErr result (IfInput (IsNotJudged known)) }
     ensures unwritten { IfErr result (IfInput (λ _. out.new ≡ out.old)) }
     ensures untold { ErrUntold result (err.new ≡ err.old) }
-    ensures counted { (f : ℕ) → Counts result f f (B.failures second.old) (B.failures second.new) (O.failures out.old) (O.failures out.new) (E.failures err.old) (E.failures err.new) }
+    ensures counted { (f : ℕ) → Counts result f f (B.failures second.old) (B.failures second.new)
+        (O.failures out.old) (O.failures out.new) (E.failures err.old) (E.failures err.new) }
 {
     judged_claims_are_reached();
     match judge_words_with_rises(alloc, model, second) {
@@ -107,10 +118,12 @@ pub fn check_model_by_name<B: Source, O: Sink, E: Sink>(
 
 /// Writes a model in the writer's form and the line of its counts.
 pub fn show<O: Sink>(alloc: Global, model: &Model, out: &mut O) -> Result<Answer, Refusal>
-    ensures done { (known : Option (List ℕ)) → IsModelOf known model.now → OnOk result (ShowsModel known (O.written out.old) (O.written out.new)) }
+    ensures done { (known : Option (List ℕ)) → IsModelOf known model.now
+        → OnOk result (ShowsModel known (O.written out.old) (O.written out.new)) }
     ensures answer { IfOk result (λ answer. answer ≡ Answer.Done) }
     ensures no_input { IsOfNoInput result }
-    ensures counted { (f s e : ℕ) → Counts result f f s s (O.failures out.old) (O.failures out.new) e e }
+    ensures counted { (f s e : ℕ) → Counts result f f s s (O.failures out.old)
+        (O.failures out.new) e e }
 {
     // a model's items are well-formed
     let _ = model.items();
@@ -139,10 +152,12 @@ fn counts_line(alloc: Global, model: &Model) -> Result<String, AllocError>
 
 /// Writes how many gates and variables the lowering of a model has at most.
 pub fn tell_cost<O: Sink>(alloc: Global, model: &Model, out: &mut O) -> Result<Answer, Refusal>
-    ensures done { (known : Option (List ℕ)) → IsModelOf known model.now → OnOk result (TellsCost known (O.written out.old) (O.written out.new)) }
+    ensures done { (known : Option (List ℕ)) → IsModelOf known model.now
+        → OnOk result (TellsCost known (O.written out.old) (O.written out.new)) }
     ensures answer { IfOk result (λ answer. answer ≡ Answer.Done) }
     ensures no_input { IsOfNoInput result }
-    ensures counted { (f s e : ℕ) → Counts result f f s s (O.failures out.old) (O.failures out.new) e e }
+    ensures counted { (f s e : ℕ) → Counts result f f s s (O.failures out.old)
+        (O.failures out.new) e e }
 {
     // a model's items are well-formed
     let _ = model.items();

@@ -45,7 +45,8 @@ pub(crate) fn is_harmless(name: &[u8]) -> bool
 
 /// Writes a name as lines tell it, byte by byte.
 fn write_hidden<E: Sink>(name: &[u8], err: &mut E) -> Result<(), DeviceFault>
-    ensures written { OnOk result (Appends (E.written err.old) (E.written err.new) (harmless name.now)) }
+    ensures written { OnOk result (Appends (E.written err.old) (E.written err.new)
+        (harmless name.now)) }
     ensures counted { CountsFaults result (E.failures err.old) (E.failures err.new) }
 {
     let mut before = 0;
@@ -60,7 +61,8 @@ fn write_hidden<E: Sink>(name: &[u8], err: &mut E) -> Result<(), DeviceFault>
 
 /// Writes a name as lines tell it.
 pub(crate) fn write_name<E: Sink>(name: &str, err: &mut E) -> Result<(), DeviceFault>
-    ensures written { OnOk result (Appends (E.written err.old) (E.written err.new) (harmless name.now)) }
+    ensures written { OnOk result (Appends (E.written err.old) (E.written err.new)
+        (harmless name.now)) }
     ensures counted { CountsFaults result (E.failures err.old) (E.failures err.new) }
 {
     let bytes = name.as_bytes();

@@ -35,11 +35,14 @@ pub fn convert_outputs<O: Sink>(
     form: Form,
     out: &mut O,
 ) -> Result<Answer, Refusal>
-    ensures done { (known : Option (List ℕ)) → IsCircuitText known circuit.now → OnOk result (ConvertsOutputs known (O.written out.old) (O.written out.new) form) }
+    ensures done { (known : Option (List ℕ)) → IsCircuitText known circuit.now
+        → OnOk result (ConvertsOutputs known (O.written out.old) (O.written out.new) form) }
     ensures answer { IfOk result (λ answer. answer ≡ Answer.Done) }
-    ensures refused { (known : Option (List ℕ)) → IsCircuitText known circuit.now → IfErr result (IfInput (IsNotWithOutputs known)) }
+    ensures refused { (known : Option (List ℕ)) → IsCircuitText known circuit.now
+        → IfErr result (IfInput (IsNotWithOutputs known)) }
     ensures unwritten { IfErr result (IfInput (λ _. out.new ≡ out.old)) }
-    ensures counted { (f s e : ℕ) → Counts result f f s s (O.failures out.old) (O.failures out.new) e e }
+    ensures counted { (f s e : ℕ) → Counts result f f s s (O.failures out.old)
+        (O.failures out.new) e e }
 {
     engine::laws::outputs_rise_as_bads();
     let made = with_outputs(alloc, circuit)?;
@@ -54,11 +57,15 @@ pub fn convert_outputs_for_engines<O: Sink>(
     choice: Option<usize>,
     out: &mut O,
 ) -> Result<Answer, Refusal>
-    ensures done { (known : Option (List ℕ)) → IsCircuitText known circuit.now → OnOk result (ConvertsOutputsForEngines known (O.written out.old) (O.written out.new) form choice) }
+    ensures done { (known : Option (List ℕ)) → IsCircuitText known circuit.now
+        → OnOk result (ConvertsOutputsForEngines known (O.written out.old)
+        (O.written out.new) form choice) }
     ensures answer { IfOk result (λ answer. answer ≡ Answer.Done) }
-    ensures refused { (known : Option (List ℕ)) → IsCircuitText known circuit.now → IfErr result (IfInput (IsNotWithOutputsForEngines choice known)) }
+    ensures refused { (known : Option (List ℕ)) → IsCircuitText known circuit.now
+        → IfErr result (IfInput (IsNotWithOutputsForEngines choice known)) }
     ensures unwritten { IfErr result (IfInput (λ _. out.new ≡ out.old)) }
-    ensures counted { (f s e : ℕ) → Counts result f f s s (O.failures out.old) (O.failures out.new) e e }
+    ensures counted { (f s e : ℕ) → Counts result f f s s (O.failures out.old)
+        (O.failures out.new) e e }
 {
     engine::laws::outputs_rise_as_bads();
     engine::laws::bad_properties_rise_alike();

@@ -63,8 +63,10 @@ fn owed_by_invariant<B: Source>(
 ) -> Result<Formula, Refusal>
     ensures owed { IfOk result (IsOwed circuit.now claim (B.to_come second.old)) }
     ensures refused { IfErr result (IfInput (IsWithoutForm circuit.now (Some claim))) }
-    ensures second { IfErr result (IfSecond (IsFaultyFor circuit.now claim (B.to_come second.old))) }
-    ensures counted { (f t o e : ℕ) → CountsAll result f f (B.failures second.old) (B.failures second.new) t t o o e e }
+    ensures second { IfErr result
+        (IfSecond (IsFaultyFor circuit.now claim (B.to_come second.old))) }
+    ensures counted { (f t o e : ℕ)
+        → CountsAll result f f (B.failures second.old) (B.failures second.new) t t o o e e }
 {
     match invariants::owed_formula(alloc, circuit, claim, second) {
         Ok(formula) => Ok(formula),
@@ -80,10 +82,13 @@ fn owed_by_circuit<B: Source>(
     claim: usize,
     second: &mut B,
 ) -> Result<Formula, Refusal>
-    ensures owed { IfOk result (IsTestedFormula numbering.now circuit.now claim (B.to_come second.old)) }
+    ensures owed { IfOk result (IsTestedFormula numbering.now circuit.now claim
+        (B.to_come second.old)) }
     ensures no_input { IsOfNoInput result }
-    ensures second { IfErr result (IfSecond (IsFaultyWitness numbering.now circuit.now claim (B.to_come second.old))) }
-    ensures counted { (f t o e : ℕ) → CountsAll result f f (B.failures second.old) (B.failures second.new) t t o o e e }
+    ensures second { IfErr result
+        (IfSecond (IsFaultyWitness numbering.now circuit.now claim (B.to_come second.old))) }
+    ensures counted { (f t o e : ℕ)
+        → CountsAll result f f (B.failures second.old) (B.failures second.new) t t o o e e }
 {
     match certificates::owed_formula(alloc, circuit, numbering, claim, second) {
         Ok(formula) => Ok(formula),
@@ -100,8 +105,10 @@ fn owed_by_circuit_of_form<B: Source>(
 ) -> Result<Formula, Refusal>
     ensures owed { IfOk result (IsTestedOverForm circuit.now claim (B.to_come second.old)) }
     ensures refused { IfErr result (IfInput (IsWithoutForm circuit.now (Some claim))) }
-    ensures second { IfErr result (IfSecond (IsFaultyOverForm circuit.now claim (B.to_come second.old))) }
-    ensures counted { (f t o e : ℕ) → CountsAll result f f (B.failures second.old) (B.failures second.new) t t o o e e }
+    ensures second { IfErr result
+        (IfSecond (IsFaultyOverForm circuit.now claim (B.to_come second.old))) }
+    ensures counted { (f t o e : ℕ)
+        → CountsAll result f f (B.failures second.old) (B.failures second.new) t t o o e e }
 {
     match certificates::owed_formula_over_form(alloc, circuit, claim, second) {
         Ok(formula) => Ok(formula),
@@ -119,10 +126,13 @@ pub fn owed<B: Source>(
     claim: usize,
     second: &mut B,
 ) -> Result<Formula, Refusal>
-    ensures owed { IfOk result (IsOwedBy by numbering.now circuit.now claim (B.to_come second.old)) }
+    ensures owed { IfOk result (IsOwedBy by numbering.now circuit.now claim
+        (B.to_come second.old)) }
     ensures refused { IfErr result (IfInput (IsWithoutFormBy by circuit.now claim)) }
-    ensures second { IfErr result (IfSecond (IsFaultyBy by numbering.now circuit.now claim (B.to_come second.old))) }
-    ensures counted { (f t o e : ℕ) → CountsAll result f f (B.failures second.old) (B.failures second.new) t t o o e e }
+    ensures second { IfErr result
+        (IfSecond (IsFaultyBy by numbering.now circuit.now claim (B.to_come second.old))) }
+    ensures counted { (f t o e : ℕ)
+        → CountsAll result f f (B.failures second.old) (B.failures second.new) t t o o e e }
 {
     match by {
         Certificate::Invariant => owed_by_invariant(alloc, circuit, claim, second),
@@ -135,7 +145,8 @@ pub fn owed<B: Source>(
 fn proved<T: Source>(alloc: Global, formula: Formula, third: &mut T) -> Result<Judgement, Refusal>
     ensures judged { IfOk result (IsJudgedProof formula (T.to_come third.old)) }
     ensures no_input { IsOfNoInput result }
-    ensures counted { (f s o e : ℕ) → CountsAll result f f s s (T.failures third.old) (T.failures third.new) o o e e }
+    ensures counted { (f s o e : ℕ)
+        → CountsAll result f f s s (T.failures third.old) (T.failures third.new) o o e e }
     ensures no_second { IfErr result (IfSecond (λ _. ⊥)) }
 {
     match judge_proof(alloc, formula, third) {
@@ -154,10 +165,13 @@ pub fn judged<B: Source, T: Source>(
     second: &mut B,
     third: &mut T,
 ) -> Result<Judgement, Refusal>
-    ensures certified { IfOk result (IsCertifiedBy by numbering.now circuit.now claim (B.to_come second.old) (T.to_come third.old)) }
+    ensures certified { IfOk result (IsCertifiedBy by numbering.now circuit.now claim
+        (B.to_come second.old) (T.to_come third.old)) }
     ensures refused { IfErr result (IfInput (IsWithoutFormBy by circuit.now claim)) }
-    ensures second { IfErr result (IfSecond (IsFaultyBy by numbering.now circuit.now claim (B.to_come second.old))) }
-    ensures counted { (f o e : ℕ) → CountsAll result f f (B.failures second.old) (B.failures second.new) (T.failures third.old) (T.failures third.new) o o e e }
+    ensures second { IfErr result
+        (IfSecond (IsFaultyBy by numbering.now circuit.now claim (B.to_come second.old))) }
+    ensures counted { (f o e : ℕ) → CountsAll result f f (B.failures second.old)
+        (B.failures second.new) (T.failures third.old) (T.failures third.new) o o e e }
 {
     let formula = owed(alloc, by, circuit, numbering, claim, second)?;
     proved(alloc, formula, third)
@@ -166,7 +180,9 @@ pub fn judged<B: Source, T: Source>(
 /// A law: a bad property of which a certificate is judged to hold rises in no frame up to which the circuit's constraints
 /// hold, in no trace from initial bits that agree with its resets.
 pub fn certified_never_rises()
-    ensures { (by : Certificate) (n : Option (List ℕ)) (c : Circuit) (k : ℕ) (second : Option (List ℕ)) (third : Option (List ℕ)) (line : ℕ) → IsCertifiedBy by n c k second third (verdict.Derived line) → ¬ CanRiseInCircuit c k }
+    ensures { (by : Certificate) (n : Option (List ℕ)) (c : Circuit) (k : ℕ)
+        (second : Option (List ℕ)) (third : Option (List ℕ)) (line : ℕ)
+        → IsCertifiedBy by n c k second third (verdict.Derived line) → ¬ CanRiseInCircuit c k }
 {
     invariants::laws::certified_property_never_rises();
     certificates::laws::owed_formula_proved_never_rises();

@@ -42,7 +42,8 @@ fn number_of(reason: Reason) -> Option<u32>
 
 /// Writes a number, where there is one.
 fn write_number<E: Sink>(number: Option<u32>, err: &mut E) -> Result<(), DeviceFault>
-    ensures written { OnOk result (Appends (E.written err.old) (E.written err.new) (number_said number)) }
+    ensures written { OnOk result (Appends (E.written err.old) (E.written err.new)
+        (number_said number)) }
     ensures counted { CountsFaults result (E.failures err.old) (E.failures err.new) }
 {
     let mut buffer = Buffer::new();
@@ -54,7 +55,8 @@ fn write_number<E: Sink>(number: Option<u32>, err: &mut E) -> Result<(), DeviceF
 
 /// Writes why a device failed, where that is told.
 pub(crate) fn write_reason<E: Sink>(reason: Option<Reason>, err: &mut E) -> Result<(), DeviceFault>
-    ensures written { OnOk result (Appends (E.written err.old) (E.written err.new) (reason_said reason)) }
+    ensures written { OnOk result (Appends (E.written err.old) (E.written err.new)
+        (reason_said reason)) }
     ensures counted { CountsFaults result (E.failures err.old) (E.failures err.new) }
 {
     match reason {

@@ -357,21 +357,24 @@ fn item_line(
     number: u32,
     name: &str,
 ) -> Result<String, AllocError>
-    ensures { IfOk result (λ line. string_bytes line ≡ about file.now (item_said id number name.now)) }
+    ensures { IfOk result (λ line. string_bytes line
+        ≡ about file.now (item_said id number name.now)) }
 {
     format!(in alloc; "{file}: item {id}: {number} {name}\n")
 }
 
 /// The line that tells of a file as a whole the number and the name of what speaks against it.
 fn plain_line(alloc: Global, file: &str, number: u32, name: &str) -> Result<String, AllocError>
-    ensures { IfOk result (λ line. string_bytes line ≡ about file.now (numbered_name number name.now)) }
+    ensures { IfOk result (λ line. string_bytes line
+        ≡ about file.now (numbered_name number name.now)) }
 {
     format!(in alloc; "{file}: {number} {name}\n")
 }
 
 /// The line that tells of a file why its model is not lowered.
 fn lowering_line(alloc: Global, file: &str, fault: LowerFault) -> Result<String, AllocError>
-    ensures { IfOk result (λ line. string_bytes line ≡ about file.now (fault_said (fault_is.Lowering fault))) }
+    ensures { IfOk result (λ line. string_bytes line
+        ≡ about file.now (fault_said (fault_is.Lowering fault))) }
 {
     let number = fault.number();
     let name = fault.name();

@@ -48,11 +48,13 @@ fn tell_malformed<E: Sink>(
     fault: &RestoreFault,
     err: &mut E,
 ) -> Result<Answer, Refusal>
-    ensures written { OnOk result (Appends (E.written err.old) (E.written err.new) (malformed_line fault.now)) }
+    ensures written { OnOk result (Appends (E.written err.old) (E.written err.new)
+        (malformed_line fault.now)) }
     ensures answer { IfOk result (λ answer. answer ≡ answer_is.NotAccepted) }
     ensures no_input { IsOfNoInput result }
     ensures untold { ErrUntold result (err.new ≡ err.old) }
-    ensures counted { (f s o : ℕ) → Counts result f f s s o o (E.failures err.old) (E.failures err.new) }
+    ensures counted { (f s o : ℕ) → Counts result f f s s o o (E.failures err.old)
+        (E.failures err.new) }
 {
     let line = malformed_line(alloc, fault)?;
     match write_all(err, line.as_bytes()) {
@@ -101,11 +103,13 @@ pub fn has_form(circuit: &Circuit, claim: usize) -> Result<(), Refusal>
 /// memory was wanting.
 fn tell_fault<E: Sink>(alloc: Global, fault: &RestoreFault, err: &mut E) -> Result<Answer, Refusal>
     ensures of_text { OnOk result (is_of_text fault.now.why ≡ true) }
-    ensures written { OnOk result (Appends (E.written err.old) (E.written err.new) (malformed_line fault.now)) }
+    ensures written { OnOk result (Appends (E.written err.old) (E.written err.new)
+        (malformed_line fault.now)) }
     ensures answer { IfOk result (λ answer. answer ≡ answer_is.NotAccepted) }
     ensures no_input { IsOfNoInput result }
     ensures untold { ErrUntold result (err.new ≡ err.old) }
-    ensures counted { (f s s' o o' : ℕ) → CountsRestoreWhy fault.now.why s s' o o' → Counts result f f s s' o o' (E.failures err.old) (E.failures err.new) }
+    ensures counted { (f s s' o o' : ℕ) → CountsRestoreWhy fault.now.why s s' o o'
+        → Counts result f f s s' o o' (E.failures err.old) (E.failures err.new) }
 {
     match fault.why {
         RestoreWhy::Device => Err(Refusal::Failed(Device::Second)),
@@ -121,12 +125,17 @@ pub fn tell_restored<E: Sink>(
     told: Result<Judgement, RestoreFault>,
     err: &mut E,
 ) -> Result<Answer, Refusal>
-    ensures done { (c : Circuit) (claim : ℕ) (found : Option (List ℕ)) → IsAnswerOf c claim found told → IfOk result (λ answer. TellsRestored (λ verdict. []) answer c claim found (E.written err.old) (E.written err.new)) }
+    ensures done { (c : Circuit) (claim : ℕ) (found : Option (List ℕ))
+        → IsAnswerOf c claim found told
+        → IfOk result (λ answer. TellsRestored (λ verdict. []) answer c claim found
+        (E.written err.old) (E.written err.new)) }
     ensures whole { OnOk result (IsWhole told) }
-    ensures verdict { IfOk result (λ answer. TellsVerdict told answer (E.written err.old) (E.written err.new)) }
+    ensures verdict { IfOk result
+        (λ answer. TellsVerdict told answer (E.written err.old) (E.written err.new)) }
     ensures no_input { IsOfNoInput result }
     ensures untold { ErrUntold result (err.new ≡ err.old) }
-    ensures counted { (f s s' o o' : ℕ) → CountsRestore told s s' o o' → Counts result f f s s' o o' (E.failures err.old) (E.failures err.new) }
+    ensures counted { (f s s' o o' : ℕ) → CountsRestore told s s' o o'
+        → Counts result f f s s' o o' (E.failures err.old) (E.failures err.new) }
 {
     match told {
         Ok(judgement) => tell_line(alloc, &judgement, err),
@@ -143,10 +152,14 @@ pub fn tell_lifted<E: Sink>(
     subject: Subject<'_>,
     err: &mut E,
 ) -> Result<Answer, Refusal>
-    ensures told { IfOk result (λ answer. TellsLifted (λ firsts verdict. where_named named (said_by_name (subject_said subject.entry) (bad_said subject.entry) firsts verdict)) told answer (E.written err.old) (E.written err.new)) }
+    ensures told { IfOk result
+        (λ answer. TellsLifted (λ firsts verdict. where_named named
+        (said_by_name (subject_said subject.entry) (bad_said subject.entry) firsts
+        verdict)) told answer (E.written err.old) (E.written err.new)) }
     ensures no_input { IsOfNoInput result }
     ensures untold { ErrUntold result (err.new ≡ err.old) }
-    ensures counted { (f s s' o o' : ℕ) → CountsRestore told s s' o o' → Counts result f f s s' o o' (E.failures err.old) (E.failures err.new) }
+    ensures counted { (f s s' o o' : ℕ) → CountsRestore told s s' o o'
+        → Counts result f f s s' o o' (E.failures err.old) (E.failures err.new) }
 {
     match told {
         Ok((judgement, firsts)) => {
@@ -169,11 +182,15 @@ pub fn restore_counterexample<B: Source, O: Sink, E: Sink>(
     out: &mut O,
     err: &mut E,
 ) -> Result<Answer, Refusal>
-    ensures done { (known : Option (List ℕ)) → IsCircuitText known circuit.now → IfOk result (Restores choice known (B.to_come second.old) (O.written out.old) (O.written out.new) (E.written err.old) (E.written err.new)) }
-    ensures refused { (known : Option (List ℕ)) → IsCircuitText known circuit.now → IfErr result (IfInput (IsNotClaimed claimed_is.Found given_is.Circuit choice known)) }
+    ensures done { (known : Option (List ℕ)) → IsCircuitText known circuit.now
+        → IfOk result (Restores choice known (B.to_come second.old) (O.written out.old)
+        (O.written out.new) (E.written err.old) (E.written err.new)) }
+    ensures refused { (known : Option (List ℕ)) → IsCircuitText known circuit.now
+        → IfErr result (IfInput (IsNotClaimed claimed_is.Found given_is.Circuit choice known)) }
     ensures unwritten { IfErr result (IfInput (λ _. out.new ≡ out.old)) }
     ensures untold { ErrUntold result (err.new ≡ err.old) }
-    ensures counted { (f : ℕ) → Counts result f f (B.failures second.old) (B.failures second.new) (O.failures out.old) (O.failures out.new) (E.failures err.old) (E.failures err.new) }
+    ensures counted { (f : ℕ) → Counts result f f (B.failures second.old) (B.failures second.new)
+        (O.failures out.old) (O.failures out.new) (E.failures err.old) (E.failures err.new) }
 {
     // the lists of a circuit are one
     let _ = circuit.inputs();

@@ -27,7 +27,8 @@ pub enum Subject<'a> {
 
 /// Writes the number of a thing of a kind.
 fn tell_number<E: Sink>(kind: &[u8], number: u64, err: &mut E) -> Result<(), DeviceFault>
-    ensures written { OnOk result (Appends (E.written err.old) (E.written err.new) (kind.now ++ (decimal number ++ codes " is "))) }
+    ensures written { OnOk result (Appends (E.written err.old) (E.written err.new)
+        (kind.now ++ (decimal number ++ codes " is "))) }
     ensures counted { CountsFaults result (E.failures err.old) (E.failures err.new) }
 {
     let mut buffer = Buffer::new();
@@ -38,7 +39,8 @@ fn tell_number<E: Sink>(kind: &[u8], number: u64, err: &mut E) -> Result<(), Dev
 
 /// Writes a symbol, where there is one.
 fn tell_symbol<E: Sink>(symbol: &Option<Symbol>, err: &mut E) -> Result<(), DeviceFault>
-    ensures written { OnOk result (Appends (E.written err.old) (E.written err.new) (symbol_said symbol.now)) }
+    ensures written { OnOk result (Appends (E.written err.old) (E.written err.new)
+        (symbol_said symbol.now)) }
     ensures counted { CountsFaults result (E.failures err.old) (E.failures err.new) }
 {
     match symbol {
@@ -52,7 +54,8 @@ fn tell_symbol<E: Sink>(symbol: &Option<Symbol>, err: &mut E) -> Result<(), Devi
 
 /// Writes what names a line of a model.
 fn tell_line<E: Sink>(item: &Item, err: &mut E) -> Result<(), DeviceFault>
-    ensures written { OnOk result (Appends (E.written err.old) (E.written err.new) (line_said item.now ++ codes "\n")) }
+    ensures written { OnOk result (Appends (E.written err.old) (E.written err.new)
+        (line_said item.now ++ codes "\n")) }
     ensures counted { CountsFaults result (E.failures err.old) (E.failures err.new) }
 {
     let mut buffer = Buffer::new();
@@ -64,7 +67,8 @@ fn tell_line<E: Sink>(item: &Item, err: &mut E) -> Result<(), DeviceFault>
 
 /// Says which line of a model the thing of a kind with a number is.
 fn tell_item<E: Sink>(kind: &[u8], number: u64, item: &Item, err: &mut E) -> Result<(), DeviceFault>
-    ensures written { OnOk result (Appends (E.written err.old) (E.written err.new) (says kind.now number (line_said item.now))) }
+    ensures written { OnOk result (Appends (E.written err.old) (E.written err.new)
+        (says kind.now number (line_said item.now))) }
     ensures counted { CountsFaults result (E.failures err.old) (E.failures err.new) }
 {
     tell_number(kind, number, err)?;
@@ -94,7 +98,9 @@ fn tell_item_of<E: Sink>(
     list: &[usize],
     err: &mut E,
 ) -> Result<(), DeviceFault>
-    ensures written { OnOk result ((test : Body → Bool) → list.now ≡ places test 0 model.now → Appends (E.written err.old) (E.written err.new) (says_item kind.now number (numbered_item test model.now number))) }
+    ensures written { OnOk result ((test : Body → Bool) → list.now ≡ places test 0 model.now
+        → Appends (E.written err.old) (E.written err.new)
+        (says_item kind.now number (numbered_item test model.now number))) }
     ensures counted { CountsFaults result (E.failures err.old) (E.failures err.new) }
 {
     match place_at(list, number) {
@@ -113,7 +119,8 @@ fn tell_name<E: Sink>(
     name: Option<&[u8]>,
     err: &mut E,
 ) -> Result<(), DeviceFault>
-    ensures written { OnOk result (Appends (E.written err.old) (E.written err.new) (says_name kind.now number (option_copied name.entry))) }
+    ensures written { OnOk result (Appends (E.written err.old) (E.written err.new)
+        (says_name kind.now number (option_copied name.entry))) }
     ensures counted { CountsFaults result (E.failures err.old) (E.failures err.new) }
 {
     match name {
@@ -128,7 +135,8 @@ fn tell_name<E: Sink>(
 
 /// Says which line of a model a bad property is.
 fn tell_bad_item<E: Sink>(model: &Model, number: u64, err: &mut E) -> Result<(), DeviceFault>
-    ensures written { OnOk result (Appends (E.written err.old) (E.written err.new) (bad_item_said model.now number)) }
+    ensures written { OnOk result (Appends (E.written err.old) (E.written err.new)
+        (bad_item_said model.now number)) }
     ensures counted { CountsFaults result (E.failures err.old) (E.failures err.new) }
 {
     tell_item_of(b"b", number, model, model.bads(), err)
@@ -136,7 +144,8 @@ fn tell_bad_item<E: Sink>(model: &Model, number: u64, err: &mut E) -> Result<(),
 
 /// Says which name a bad property of a circuit has.
 fn tell_bad_name<E: Sink>(circuit: &Circuit, number: u64, err: &mut E) -> Result<(), DeviceFault>
-    ensures written { OnOk result (Appends (E.written err.old) (E.written err.new) (bad_name_said circuit.now number)) }
+    ensures written { OnOk result (Appends (E.written err.old) (E.written err.new)
+        (bad_name_said circuit.now number)) }
     ensures counted { CountsFaults result (E.failures err.old) (E.failures err.new) }
 {
     let name = circuit.name(Section::Bad, number as usize);
@@ -149,7 +158,8 @@ fn tell_item_said<E: Sink>(
     judgement: &Judgement,
     err: &mut E,
 ) -> Result<(), DeviceFault>
-    ensures written { OnOk result (Appends (E.written err.old) (E.written err.new) (item_line model.now judgement.now)) }
+    ensures written { OnOk result (Appends (E.written err.old) (E.written err.new)
+        (item_line model.now judgement.now)) }
     ensures counted { CountsFaults result (E.failures err.old) (E.failures err.new) }
 {
     match judgement {
@@ -170,7 +180,8 @@ fn tell_name_said<E: Sink>(
     judgement: &Judgement,
     err: &mut E,
 ) -> Result<(), DeviceFault>
-    ensures written { OnOk result (Appends (E.written err.old) (E.written err.new) (name_said circuit.now judgement.now)) }
+    ensures written { OnOk result (Appends (E.written err.old) (E.written err.new)
+        (name_said circuit.now judgement.now)) }
     ensures counted { CountsFaults result (E.failures err.old) (E.failures err.new) }
 {
     match judgement {
@@ -200,7 +211,8 @@ fn tell_lifted_said<E: Sink>(
     judgement: &Judgement,
     err: &mut E,
 ) -> Result<(), DeviceFault>
-    ensures written { OnOk result (Appends (E.written err.old) (E.written err.new) (lifted_said model.now circuit.now judgement.now)) }
+    ensures written { OnOk result (Appends (E.written err.old) (E.written err.new)
+        (lifted_said model.now circuit.now judgement.now)) }
     ensures counted { CountsFaults result (E.failures err.old) (E.failures err.new) }
 {
     match judgement {
@@ -215,7 +227,8 @@ fn tell_said<E: Sink>(
     judgement: &Judgement,
     err: &mut E,
 ) -> Result<(), DeviceFault>
-    ensures written { OnOk result (Appends (E.written err.old) (E.written err.new) (subject_said subject.entry judgement.now)) }
+    ensures written { OnOk result (Appends (E.written err.old) (E.written err.new)
+        (subject_said subject.entry judgement.now)) }
     ensures counted { CountsFaults result (E.failures err.old) (E.failures err.new) }
 {
     match subject {
@@ -227,7 +240,8 @@ fn tell_said<E: Sink>(
 
 /// Says which bad property of a subject has a number.
 fn tell_bad_said<E: Sink>(subject: Subject<'_>, number: u64, err: &mut E) -> Result<(), DeviceFault>
-    ensures written { OnOk result (Appends (E.written err.old) (E.written err.new) (bad_said subject.entry number)) }
+    ensures written { OnOk result (Appends (E.written err.old) (E.written err.new)
+        (bad_said subject.entry number)) }
     ensures counted { CountsFaults result (E.failures err.old) (E.failures err.new) }
 {
     match subject {
@@ -238,7 +252,8 @@ fn tell_bad_said<E: Sink>(subject: Subject<'_>, number: u64, err: &mut E) -> Res
 
 /// Writes in which frame something is reached.
 fn tell_frame<E: Sink>(frame: u64, err: &mut E) -> Result<(), DeviceFault>
-    ensures written { OnOk result (Appends (E.written err.old) (E.written err.new) (frame_said frame ++ codes "\n")) }
+    ensures written { OnOk result (Appends (E.written err.old) (E.written err.new)
+        (frame_said frame ++ codes "\n")) }
     ensures counted { CountsFaults result (E.failures err.old) (E.failures err.new) }
 {
     let mut buffer = Buffer::new();
@@ -249,7 +264,8 @@ fn tell_frame<E: Sink>(frame: u64, err: &mut E) -> Result<(), DeviceFault>
 
 /// Says of the bad property with a number in which frame it is reached.
 fn tell_reached<E: Sink>(number: u64, frame: u64, err: &mut E) -> Result<(), DeviceFault>
-    ensures written { OnOk result (Appends (E.written err.old) (E.written err.new) (says (codes "b") number (frame_said frame))) }
+    ensures written { OnOk result (Appends (E.written err.old) (E.written err.new)
+        (says (codes "b") number (frame_said frame))) }
     ensures counted { CountsFaults result (E.failures err.old) (E.failures err.new) }
 {
     tell_number(b"b", number, err)?;
@@ -263,7 +279,8 @@ fn tell_first<E: Sink>(
     first: Option<u64>,
     err: &mut E,
 ) -> Result<(), DeviceFault>
-    ensures written { OnOk result (Appends (E.written err.old) (E.written err.new) (first_said (bad_said subject.entry) number first)) }
+    ensures written { OnOk result (Appends (E.written err.old) (E.written err.new)
+        (first_said (bad_said subject.entry) number first)) }
     ensures counted { CountsFaults result (E.failures err.old) (E.failures err.new) }
 {
     match first {
@@ -281,7 +298,8 @@ fn tell_firsts<E: Sink>(
     firsts: &FirstRises,
     err: &mut E,
 ) -> Result<(), DeviceFault>
-    ensures written { OnOk result (Appends (E.written err.old) (E.written err.new) (firsts_said (bad_said subject.entry) 0 firsts.now)) }
+    ensures written { OnOk result (Appends (E.written err.old) (E.written err.new)
+        (firsts_said (bad_said subject.entry) 0 firsts.now)) }
     ensures counted { CountsFaults result (E.failures err.old) (E.failures err.new) }
 {
     for position in 0..firsts.len() {
@@ -297,7 +315,9 @@ pub fn tell_by_name<E: Sink>(
     firsts: &FirstRises,
     err: &mut E,
 ) -> Result<(), DeviceFault>
-    ensures written { OnOk result (Appends (E.written err.old) (E.written err.new) (said_by_name (subject_said subject.entry) (bad_said subject.entry) firsts.now judgement.now)) }
+    ensures written { OnOk result (Appends (E.written err.old) (E.written err.new)
+        (said_by_name (subject_said subject.entry) (bad_said subject.entry) firsts.now
+        judgement.now)) }
     ensures counted { CountsFaults result (E.failures err.old) (E.failures err.new) }
 {
     tell_said(subject, judgement, err)?;
@@ -315,7 +335,9 @@ pub fn tell_where_named<E: Sink>(
     firsts: &FirstRises,
     err: &mut E,
 ) -> Result<(), DeviceFault>
-    ensures written { OnOk result (Appends (E.written err.old) (E.written err.new) (where_named named (said_by_name (subject_said subject.entry) (bad_said subject.entry) firsts.now judgement.now))) }
+    ensures written { OnOk result (Appends (E.written err.old) (E.written err.new)
+        (where_named named (said_by_name (subject_said subject.entry)
+        (bad_said subject.entry) firsts.now judgement.now))) }
     ensures quiet { named ≡ false → err.new ≡ err.old }
     ensures counted { CountsFaults result (E.failures err.old) (E.failures err.new) }
 {
@@ -332,7 +354,8 @@ pub fn tell_bad<E: Sink>(
     number: usize,
     err: &mut E,
 ) -> Result<(), DeviceFault>
-    ensures written { OnOk result (Appends (E.written err.old) (E.written err.new) (where_named named (bad_said subject.entry number))) }
+    ensures written { OnOk result (Appends (E.written err.old) (E.written err.new)
+        (where_named named (bad_said subject.entry number))) }
     ensures quiet { named ≡ false → err.new ≡ err.old }
     ensures counted { CountsFaults result (E.failures err.old) (E.failures err.new) }
 {

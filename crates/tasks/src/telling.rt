@@ -27,7 +27,8 @@ const NO_MEMORY: &[u8] = b"no memory\n";
 pub fn write_result<O: Sink>(out: &mut O, text: &[u8]) -> Result<(), Refusal>
     ensures written { OnOk result (Appends (O.written out.old) (O.written out.new) text.now) }
     ensures no_input { IsOfNoInput result }
-    ensures counted { (f s e : ℕ) → Counts result f f s s (O.failures out.old) (O.failures out.new) e e }
+    ensures counted { (f s e : ℕ) → Counts result f f s s (O.failures out.old)
+        (O.failures out.new) e e }
 {
     match write_all(out, text) {
         Ok(()) => Ok(()),
@@ -42,7 +43,8 @@ fn tell_device<E: Sink>(
     err: &mut E,
 ) -> Result<u8, DeviceFault>
     ensures status { IfOk result (λ status. status ≡ 3) }
-    ensures told { OnOk result (Appends (E.written err.old) (E.written err.new) (device_line device.now reason)) }
+    ensures told { OnOk result (Appends (E.written err.old) (E.written err.new)
+        (device_line device.now reason)) }
     ensures counted { CountsFaults result (E.failures err.old) (E.failures err.new) }
 {
     write_name(device, err)?;
@@ -60,7 +62,8 @@ pub fn tell_output<E: Sink>(
     err: &mut E,
 ) -> Result<u8, DeviceFault>
     ensures status { IfOk result (λ status. status ≡ 3) }
-    ensures told { OnOk result (Appends (E.written err.old) (E.written err.new) (device_line (output_name (option_map (λ name. name.now) output.entry)) reason)) }
+    ensures told { OnOk result (Appends (E.written err.old) (E.written err.new)
+        (device_line (output_name (option_map (λ name. name.now) output.entry)) reason)) }
     ensures counted { CountsFaults result (E.failures err.old) (E.failures err.new) }
 {
     tell_device(output.unwrap_or(OUTPUT), reason, err)
@@ -69,7 +72,8 @@ pub fn tell_output<E: Sink>(
 /// Tells that memory was wanting. It takes none.
 pub fn tell_no_memory<E: Sink>(err: &mut E) -> Result<u8, DeviceFault>
     ensures status { IfOk result (λ status. status ≡ 3) }
-    ensures told { OnOk result (Appends (E.written err.old) (E.written err.new) (codes "no memory\n")) }
+    ensures told { OnOk result (Appends (E.written err.old) (E.written err.new)
+        (codes "no memory\n")) }
     ensures counted { CountsFaults result (E.failures err.old) (E.failures err.new) }
 {
     write_all(err, NO_MEMORY)?;
@@ -83,7 +87,8 @@ fn tell_fault_behind<E: Sink>(
     fault: &Fault,
     err: &mut E,
 ) -> Result<u8, DeviceFault>
-    ensures told { IfOk result (λ status. TellsFault file.now fault.now status (E.written err.old) (E.written err.new)) }
+    ensures told { IfOk result (λ status. TellsFault file.now fault.now status (E.written err.old)
+        (E.written err.new)) }
     ensures counted { CountsFaults result (E.failures err.old) (E.failures err.new) }
 {
     match fault.line(alloc, "") {
@@ -104,7 +109,8 @@ fn tell_plain_fault<E: Sink>(
     err: &mut E,
 ) -> Result<u8, DeviceFault>
     requires { harmless file.now ≡ file.now }
-    ensures told { IfOk result (λ status. TellsFault file.now fault.now status (E.written err.old) (E.written err.new)) }
+    ensures told { IfOk result (λ status. TellsFault file.now fault.now status (E.written err.old)
+        (E.written err.new)) }
     ensures counted { CountsFaults result (E.failures err.old) (E.failures err.new) }
 {
     match fault.line(alloc, file) {
@@ -123,7 +129,8 @@ fn tell_fault<E: Sink>(
     fault: &Fault,
     err: &mut E,
 ) -> Result<u8, DeviceFault>
-    ensures told { IfOk result (λ status. TellsFault file.now fault.now status (E.written err.old) (E.written err.new)) }
+    ensures told { IfOk result (λ status. TellsFault file.now fault.now status (E.written err.old)
+        (E.written err.new)) }
     ensures counted { CountsFaults result (E.failures err.old) (E.failures err.new) }
 {
     if is_harmless(file.as_bytes()) {
@@ -142,7 +149,11 @@ pub fn tell<E: Sink>(
     reason: Option<Reason>,
     err: &mut E,
 ) -> Result<u8, DeviceFault>
-    ensures told { IfOk result (λ status. Tells order.now.first.now (option_map (λ name. name.now) order.now.second) (option_map (λ name. name.now) order.now.third) (option_map (λ name. name.now) order.now.output) reason refusal.now status (E.written err.old) (E.written err.new)) }
+    ensures told { IfOk result
+        (λ status. Tells order.now.first.now (option_map (λ name. name.now) order.now.second)
+        (option_map (λ name. name.now) order.now.third)
+        (option_map (λ name. name.now) order.now.output) reason refusal.now status
+        (E.written err.old) (E.written err.new)) }
     ensures untold { OnErr result (¬ (refusal.now ≡ refusal_is.Failed device.Error)) }
     ensures counted { CountsFaults result (E.failures err.old) (E.failures err.new) }
 {
@@ -171,8 +182,10 @@ pub fn tell<E: Sink>(
 /// it.
 pub fn end<O: Sink, E: Sink>(stop: &Stop, out: &mut O, err: &mut E) -> u8
     ensures status { (result ≡ stop.now.status) ⊎ (result ≡ 3) }
-    ensures shown { result ≡ 0 → Appends (O.written out.old) (O.written out.new) (string_bytes stop.now.text) }
-    ensures refused { result ≡ 4 → Appends (E.written err.old) (E.written err.new) (string_bytes stop.now.text) }
+    ensures shown { result ≡ 0 → Appends (O.written out.old) (O.written out.new)
+        (string_bytes stop.now.text) }
+    ensures refused { result ≡ 4 → Appends (E.written err.old) (E.written err.new)
+        (string_bytes stop.now.text) }
 {
     let text = stop.text.as_bytes();
     match stop.status {

@@ -18,10 +18,12 @@ pub fn tidy_witness<A: Source, O: Sink>(
     first: &mut A,
     out: &mut O,
 ) -> Result<Answer, Refusal>
-    ensures done { OnOk result (Tidies pick (A.to_come first.old) (O.written out.old) (O.written out.new)) }
+    ensures done { OnOk result (Tidies pick (A.to_come first.old) (O.written out.old)
+        (O.written out.new)) }
     ensures answer { IfOk result (λ answer. answer ≡ Answer.Done) }
     ensures no_input { IsOfNoInput result }
-    ensures counted { (s e : ℕ) → Counts result (A.failures first.old) (A.failures first.new) s s (O.failures out.old) (O.failures out.new) e e }
+    ensures counted { (s e : ℕ) → Counts result (A.failures first.old) (A.failures first.new) s s
+        (O.failures out.old) (O.failures out.new) e e }
 {
     match tidy(pick, first, out) {
         Ok(()) => Ok(Answer::Done),

@@ -18,10 +18,12 @@ pub fn compare_vectors<A: Source, O: Sink>(
     first: &mut A,
     out: &mut O,
 ) -> Result<Answer, Refusal>
-    ensures done { IfOk result (Compares (A.to_come first.old) (O.written out.old) (O.written out.new)) }
+    ensures done { IfOk result (Compares (A.to_come first.old) (O.written out.old)
+        (O.written out.new)) }
     ensures refused { IfErr result (IfInput (IsNoVectorList (A.to_come first.old))) }
     ensures unwritten { IfErr result (IfInput (λ _. out.new ≡ out.old)) }
-    ensures counted { (s e : ℕ) → Counts result (A.failures first.old) (A.failures first.new) s s (O.failures out.old) (O.failures out.new) e e }
+    ensures counted { (s e : ℕ) → Counts result (A.failures first.old) (A.failures first.new) s s
+        (O.failures out.old) (O.failures out.new) e e }
 {
     let text = read_all(alloc, first)?;
     compare_text(alloc, text.as_slice(), out)
@@ -32,7 +34,8 @@ fn compare_text<O: Sink>(alloc: Global, text: &[u8], out: &mut O) -> Result<Answ
     ensures done { IfOk result (Compares (Some text.now) (O.written out.old) (O.written out.new)) }
     ensures refused { IfErr result (IfInput (IsNoVectorList (Some text.now))) }
     ensures unwritten { IfErr result (IfInput (λ _. out.new ≡ out.old)) }
-    ensures counted { (f s e : ℕ) → Counts result f f s s (O.failures out.old) (O.failures out.new) e e }
+    ensures counted { (f s e : ℕ) → Counts result f f s s (O.failures out.old)
+        (O.failures out.new) e e }
 {
     let report = judge_vectors(alloc, text)?;
     write_result(out, report.text.as_bytes())?;

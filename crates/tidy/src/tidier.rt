@@ -165,7 +165,8 @@ fn put_emitted<K: Sink>(
     sink: &mut K,
     emitted: Emitted,
 ) -> Result<(), DeviceFault>
-    ensures puts { Puts result (K.written sink.old) (K.written sink.new) outbox.old outbox.new (emitted_bytes emitted) }
+    ensures puts { Puts result (K.written sink.old) (K.written sink.new) outbox.old outbox.new
+        (emitted_bytes emitted) }
     ensures failures { CountsFaults result (K.failures sink.old) (K.failures sink.new) }
 {
     match emitted {
@@ -189,7 +190,8 @@ fn behind_status(skip: u64, line: Line) -> Place
 
 /// The place behind a line in front of a status line, or in its place.
 fn behind_front(skip: u64, place: Place, line: Line) -> Place
-    ensures { result ≡ if is_in_front (spelled_line line) then place else behind_status skip (spelled_line line) }
+    ensures { result ≡ if is_in_front (spelled_line line) then place else behind_status skip
+        (spelled_line line) }
 {
     match line {
         Line::Empty | Line::Copied | Line::Gone => place,
@@ -281,7 +283,8 @@ impl Tidier {
         run: &[u8],
     ) -> Result<(), DeviceFault>
         requires { IsTidying self run.now }
-        ensures puts { Puts result (K.written sink.old) (K.written sink.new) outbox.old outbox.new (bytes_written self run.now) }
+        ensures puts { Puts result (K.written sink.old) (K.written sink.new) outbox.old outbox.new
+            (bytes_written self run.now) }
         ensures failures { CountsFaults result (K.failures sink.old) (K.failures sink.new) }
     {
         if self.is_hidden() {
@@ -297,7 +300,8 @@ impl Tidier {
         sink: &mut K,
         emitted: Emitted,
     ) -> Result<(), DeviceFault>
-        ensures puts { Puts result (K.written sink.old) (K.written sink.new) outbox.old outbox.new (shown self.skip (emitted_bytes emitted)) }
+        ensures puts { Puts result (K.written sink.old) (K.written sink.new) outbox.old outbox.new
+            (shown self.skip (emitted_bytes emitted)) }
         ensures failures { CountsFaults result (K.failures sink.old) (K.failures sink.new) }
     {
         if self.skip > 0 {
@@ -315,7 +319,8 @@ impl Tidier {
     ) -> Result<(), DeviceFault>
         requires { (byte == 10) ≡ false }
         ensures behind { OnOk result (self.new ≡ behind_byte self.old byte) }
-        ensures puts { Puts result (K.written sink.old) (K.written sink.new) outbox.old outbox.new (byte_written self.old byte) }
+        ensures puts { Puts result (K.written sink.old) (K.written sink.new) outbox.old outbox.new
+            (byte_written self.old byte) }
         ensures failures { CountsFaults result (K.failures sink.old) (K.failures sink.new) }
     {
         let before = *self;
@@ -337,8 +342,10 @@ impl Tidier {
         requires is_line { IsLine bytes.now }
         ensures within { IfOk result (λ n. (0 < n) × (n ≤ length bytes.now)) }
         ensures behind { IfOk result (λ n. self.new ≡ behind_bytes self.old (take n bytes.now)) }
-        ensures puts { IfOk result (λ n. Sent (K.written sink.old) (K.written sink.new) (outbox.old ++ bytes_written self.old (take n bytes.now)) outbox.new) }
-        ensures err { OnErr result (AppendsBeginning (K.written sink.old) (K.written sink.new) (outbox.old ++ bytes_written self.old bytes.now)) }
+        ensures puts { IfOk result (λ n. Sent (K.written sink.old) (K.written sink.new)
+            (outbox.old ++ bytes_written self.old (take n bytes.now)) outbox.new) }
+        ensures err { OnErr result (AppendsBeginning (K.written sink.old) (K.written sink.new)
+            (outbox.old ++ bytes_written self.old bytes.now)) }
         ensures failures { CountsFaults result (K.failures sink.old) (K.failures sink.new) }
     {
         let count = self.run(bytes);
@@ -360,7 +367,8 @@ impl Tidier {
     ) -> Result<(), DeviceFault>
         requires { IsLine part.now }
         ensures behind { OnOk result (self.new ≡ behind_bytes self.old part.now) }
-        ensures puts { Puts result (K.written sink.old) (K.written sink.new) outbox.old outbox.new (bytes_written self.old part.now) }
+        ensures puts { Puts result (K.written sink.old) (K.written sink.new) outbox.old outbox.new
+            (bytes_written self.old part.now) }
         ensures failures { CountsFaults result (K.failures sink.old) (K.failures sink.new) }
     {
         let mut rest = part;
@@ -393,7 +401,8 @@ impl Tidier {
     /// Takes the end of the line.
     fn take_end<K: Sink>(&mut self, outbox: &mut Outbox, sink: &mut K) -> Result<(), DeviceFault>
         ensures behind { OnOk result (self.new ≡ behind_tidied self.old) }
-        ensures puts { Puts result (K.written sink.old) (K.written sink.new) outbox.old outbox.new (shown self.old.skip (end_bytes self.old.place self.old.line)) }
+        ensures puts { Puts result (K.written sink.old) (K.written sink.new) outbox.old outbox.new
+            (shown self.old.skip (end_bytes self.old.place self.old.line)) }
         ensures failures { CountsFaults result (K.failures sink.old) (K.failures sink.new) }
     {
         let before = *self;
@@ -411,7 +420,8 @@ impl Tidier {
     ) -> Result<(), DeviceFault>
         requires { IsLine line.now }
         ensures behind { OnOk result (self.new ≡ behind_bytes self.old (line.now ++ 10 ∷ [])) }
-        ensures puts { Puts result (K.written sink.old) (K.written sink.new) outbox.old outbox.new (bytes_written self.old (line.now ++ 10 ∷ [])) }
+        ensures puts { Puts result (K.written sink.old) (K.written sink.new) outbox.old outbox.new
+            (bytes_written self.old (line.now ++ 10 ∷ [])) }
         ensures failures { CountsFaults result (K.failures sink.old) (K.failures sink.new) }
     {
         self.take_part(outbox, sink, line)?;
@@ -428,7 +438,8 @@ impl Tidier {
         bytes: &[u8],
     ) -> Result<(), DeviceFault>
         ensures behind { OnOk result (self.new ≡ behind_bytes self.old bytes.now) }
-        ensures puts { Puts result (K.written sink.old) (K.written sink.new) outbox.old outbox.new (bytes_written self.old bytes.now) }
+        ensures puts { Puts result (K.written sink.old) (K.written sink.new) outbox.old outbox.new
+            (bytes_written self.old bytes.now) }
         ensures failures { CountsFaults result (K.failures sink.old) (K.failures sink.new) }
     {
         let mut rest = bytes;
@@ -447,8 +458,10 @@ impl Tidier {
         outbox: &mut Outbox,
         sink: &mut K,
     ) -> Result<(), DeviceFault>
-        ensures ok { OnOk result (Appends (K.written sink.old) (K.written sink.new) (outbox.old ++ last_written self)) }
-        ensures err { OnErr result (AppendsBeginning (K.written sink.old) (K.written sink.new) (outbox.old ++ last_written self)) }
+        ensures ok { OnOk result (Appends (K.written sink.old) (K.written sink.new)
+            (outbox.old ++ last_written self)) }
+        ensures err { OnErr result (AppendsBeginning (K.written sink.old) (K.written sink.new)
+            (outbox.old ++ last_written self)) }
         ensures failures { CountsFaults result (K.failures sink.old) (K.failures sink.new) }
     {
         self.put_shown(outbox, sink, held_bytes(self.line))?;

@@ -24,7 +24,8 @@ fn take_piece<K: Sink>(
     bytes: &[u8],
 ) -> Result<(), TidyFault>
     ensures behind { OnOk result (tidier.new ≡ behind_bytes tidier.old bytes.now) }
-    ensures puts { Puts result (K.written sink.old) (K.written sink.new) outbox.old outbox.new (bytes_written tidier.old bytes.now) }
+    ensures puts { Puts result (K.written sink.old) (K.written sink.new) outbox.old outbox.new
+        (bytes_written tidier.old bytes.now) }
     ensures fault { IfErr result (λ e. e ≡ TidyFault.Write) }
     ensures failures { CountsFaults result (K.failures sink.old) (K.failures sink.new) }
 {
@@ -43,9 +44,12 @@ fn take_all<S: Source, K: Sink>(
     source: &mut S,
     sink: &mut K,
 ) -> Result<(), TidyFault>
-    ensures takes { IfSome (S.to_come source.old) (TakesAll result (K.written sink.old) (K.written sink.new) outbox.old outbox.new tidier.old tidier.new) }
+    ensures takes { IfSome (S.to_come source.old)
+        (TakesAll result (K.written sink.old) (K.written sink.new) outbox.old outbox.new tidier.old
+        tidier.new) }
     ensures end { OnOk result (IsAtEnd (S.to_come source.new)) }
-    ensures counted { CountsTidy result (S.failures source.old) (S.failures source.new) (K.failures sink.old) (K.failures sink.new) }
+    ensures counted { CountsTidy result (S.failures source.old) (S.failures source.new)
+        (K.failures sink.old) (K.failures sink.new) }
 {
     let mut chunk = [0u8; CHUNK];
     loop {
@@ -61,8 +65,10 @@ fn take_all<S: Source, K: Sink>(
 ///
 /// Errors: the sink's own.
 fn end<K: Sink>(tidier: Tidier, outbox: &mut Outbox, sink: &mut K) -> Result<(), TidyFault>
-    ensures ok { OnOk result (Appends (K.written sink.old) (K.written sink.new) (outbox.old ++ last_written tidier)) }
-    ensures err { OnErr result (AppendsBeginning (K.written sink.old) (K.written sink.new) (outbox.old ++ last_written tidier)) }
+    ensures ok { OnOk result (Appends (K.written sink.old) (K.written sink.new)
+        (outbox.old ++ last_written tidier)) }
+    ensures err { OnErr result (AppendsBeginning (K.written sink.old) (K.written sink.new)
+        (outbox.old ++ last_written tidier)) }
     ensures fault { IfErr result (λ e. e ≡ TidyFault.Write) }
     ensures failures { CountsFaults result (K.failures sink.old) (K.failures sink.new) }
 {
@@ -84,11 +90,14 @@ fn end<K: Sink>(tidier: Tidier, outbox: &mut Outbox, sink: &mut K) -> Result<(),
 /// text was written then.
 pub fn tidy<S: Source, K: Sink>(pick: u64, source: &mut S, sink: &mut K) -> Result<(), TidyFault>
     // what is written is the tidied text of the whole source, and after a fault a beginning of it
-    ensures written { OnOk result (IfSome (S.to_come source.old) (λ text. Appends (K.written sink.old) (K.written sink.new) (tidied pick text))) }
-    ensures beginning { OnErr result (IfSome (S.to_come source.old) (λ text. AppendsBeginning (K.written sink.old) (K.written sink.new) (tidied pick text))) }
+    ensures written { OnOk result (IfSome (S.to_come source.old)
+        (λ text. Appends (K.written sink.old) (K.written sink.new) (tidied pick text))) }
+    ensures beginning { OnErr result (IfSome (S.to_come source.old)
+        (λ text. AppendsBeginning (K.written sink.old) (K.written sink.new) (tidied pick text))) }
     ensures end { OnOk result (IsAtEnd (S.to_come source.new)) }
     // the source failed once where that is answered, the sink where that is, and else neither
-    ensures counted { CountsTidy result (S.failures source.old) (S.failures source.new) (K.failures sink.old) (K.failures sink.new) }
+    ensures counted { CountsTidy result (S.failures source.old) (S.failures source.new)
+        (K.failures sink.old) (K.failures sink.new) }
 {
     let mut tidier = Tidier::new(pick);
     let mut outbox = Outbox::new();

@@ -38,7 +38,8 @@ fn push(model: &mut Model, id: u64, body: Body) -> Result<(), PushFault>
 /// Adds the sorts of the operands and of the result.
 fn push_sorts(model: &mut Model, operands: u64, given: u64) -> Result<(), PushFault>
     requires { model.old ≡ [] }
-    ensures { OnOk result (model.new ≡ operator_line 1 (body.Sort operands) ∷ operator_line 2 (body.Sort given) ∷ []) }
+    ensures { OnOk result (model.new ≡ operator_line 1 (body.Sort operands)
+        ∷ operator_line 2 (body.Sort given) ∷ []) }
 {
     push(model, u64::from(OPERANDS), Body::Sort { width: operands })?;
     push(model, u64::from(RESULT), Body::Sort { width: given })
@@ -47,7 +48,9 @@ fn push_sorts(model: &mut Model, operands: u64, given: u64) -> Result<(), PushFa
 /// Adds the lines of an input, of an operator on it, and of an output.
 fn push_unary(model: &mut Model, operator: Unary, width: Width) -> Result<(), PushFault>
     requires { model.old ≡ [] }
-    ensures { OnOk result (model.new ≡ operator_line 1 (body.Sort width) ∷ operator_line 2 (body.Sort (unary_width operator width)) ∷ operator_line 3 (body.Input 1) ∷ operator_line 4 (body.Unary operator 2 3) ∷ operator_line 5 (body.Output 4) ∷ []) }
+    ensures { OnOk result (model.new ≡ operator_line 1 (body.Sort width)
+        ∷ operator_line 2 (body.Sort (unary_width operator width)) ∷ operator_line 3 (body.Input 1)
+        ∷ operator_line 4 (body.Unary operator 2 3) ∷ operator_line 5 (body.Output 4) ∷ []) }
 {
     push_sorts(model, width.bits(), operator.width(width.bits()))?;
     push(model, 3, Body::Input { sort: OPERANDS })?;
@@ -63,7 +66,10 @@ fn push_unary(model: &mut Model, operator: Unary, width: Width) -> Result<(), Pu
 /// Adds the lines of two inputs, of an operator on them, and of an output.
 fn push_binary(model: &mut Model, operator: Binary, width: Width) -> Result<(), PushFault>
     requires { model.old ≡ [] }
-    ensures { OnOk result (model.new ≡ operator_line 1 (body.Sort width) ∷ operator_line 2 (body.Sort (binary_width operator width)) ∷ operator_line 3 (body.Input 1) ∷ operator_line 4 (body.Input 1) ∷ operator_line 5 (body.Binary operator 2 3 4) ∷ operator_line 6 (body.Output 5) ∷ []) }
+    ensures { OnOk result (model.new ≡ operator_line 1 (body.Sort width)
+        ∷ operator_line 2 (body.Sort (binary_width operator width)) ∷ operator_line 3 (body.Input 1)
+        ∷ operator_line 4 (body.Input 1) ∷ operator_line 5 (body.Binary operator 2 3 4)
+        ∷ operator_line 6 (body.Output 5) ∷ []) }
 {
     push_sorts(model, width.bits(), operator.width(width.bits()))?;
     push(model, 3, Body::Input { sort: OPERANDS })?;
@@ -147,7 +153,8 @@ fn set_word(run: &mut BitRun<'_>, first: usize, width: Width, word: u64)
     requires first { first ≤ 64 }
     ensures same { run.new.circuit ≡ run.old.circuit }
     ensures run { IsRunOf run.new.circuit run.new }
-    ensures inputs { take (first + width) run.new.inputs ≡ take first run.old.inputs ++ bits width word }
+    ensures inputs { take (first + width) run.new.inputs
+        ≡ take first run.old.inputs ++ bits width word }
 {
     let mut left = word;
     for k in 0..width.bits() as usize {
@@ -184,7 +191,8 @@ fn output_word(run: &BitRun<'_>, circuit: &Circuit) -> u64
     requires same { run.now.circuit ≡ circuit.now }
     requires settled { run.now.settled ≡ true }
     requires few { length circuit.now.outputs ≤ 64 }
-    ensures { (v : Valuation) → IsFrameNow run.now v → result ≡ word (map (literal_value v) circuit.now.outputs) }
+    ensures { (v : Valuation) → IsFrameNow run.now v → result
+        ≡ word (map (literal_value v) circuit.now.outputs) }
 {
     let mut value: u64 = 0;
     let mut left = circuit.outputs().len();

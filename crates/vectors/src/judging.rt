@@ -66,7 +66,8 @@ fn note(
     requires lowers { Lowers (items_of vector.now.vector) circuit.now }
     requires run { IsRunOf circuit.now run.old }
     ensures same { IsRunOf circuit.now run.new }
-    ensures noted { OnOk result (lines.new.items ≡ lines.old.items ++ lines_that_differ (vector.now ∷ [])) }
+    ensures noted { OnOk result (lines.new.items ≡ lines.old.items
+        ++ lines_that_differ (vector.now ∷ [])) }
 {
     let said = said(vector.vector());
     if evaluated(vector.vector()) == said && circuit_word(run, circuit, vector.vector()) == said {
@@ -90,7 +91,8 @@ fn note_alike<'a>(
 ) -> Result<&'a [Numbered], AllocError>
     requires lowers { Lowers (items_of kind.now.vector) circuit.now }
     requires run { IsRunOf circuit.now run.old }
-    ensures noted { IfOk result (λ rest. lines.new.items ++ lines_that_differ rest.now ≡ lines.old.items ++ lines_that_differ vectors.now) }
+    ensures noted { IfOk result (λ rest. lines.new.items ++ lines_that_differ rest.now
+        ≡ lines.old.items ++ lines_that_differ vectors.now) }
     ensures behind { IfOk result (λ rest. length rest.now ≤ length vectors.now) }
 {
     let mut rest = vectors;
@@ -113,7 +115,8 @@ fn note_by<'a>(
     lines: &mut Vec<u64>,
 ) -> Result<&'a [Numbered], AllocError>
     requires { Lowers (items_of first.now.vector) circuit.now }
-    ensures noted { IfOk result (λ rest. lines.new.items ++ lines_that_differ rest.now ≡ lines.old.items ++ lines_that_differ (first.now ∷ vectors.now)) }
+    ensures noted { IfOk result (λ rest. lines.new.items ++ lines_that_differ rest.now
+        ≡ lines.old.items ++ lines_that_differ (first.now ∷ vectors.now)) }
     ensures behind { IfOk result (λ rest. length rest.now ≤ length vectors.now) }
 {
     let mut run = operator_run(alloc, circuit, first.vector())?;
@@ -129,7 +132,8 @@ fn note_kind<'a>(
     vectors: &'a [Numbered],
     lines: &mut Vec<u64>,
 ) -> Result<&'a [Numbered], AllocError>
-    ensures noted { IfOk result (λ rest. lines.new.items ++ lines_that_differ rest.now ≡ lines.old.items ++ lines_that_differ (first.now ∷ vectors.now)) }
+    ensures noted { IfOk result (λ rest. lines.new.items ++ lines_that_differ rest.now
+        ≡ lines.old.items ++ lines_that_differ (first.now ∷ vectors.now)) }
     ensures behind { IfOk result (λ rest. length rest.now ≤ length vectors.now) }
 {
     let circuit = operator_circuit(alloc, first.vector())?;
@@ -149,7 +153,8 @@ fn note_all(alloc: Global, vectors: &[Numbered], lines: &mut Vec<u64>) -> Result
 
 /// The lines, in order, of the vectors for which the evaluator or the circuit gives another word than they say.
 fn differing(alloc: Global, vectors: &mut Vec<Numbered>) -> Result<Vec<u64>, AllocError>
-    ensures lines { IfOk result (λ lines. (all : List Vector) → vectors.old.items ≡ numbered 1 all → lines.items ≡ lines_that_differ (numbered 1 all)) }
+    ensures lines { IfOk result (λ lines. (all : List Vector) → vectors.old.items ≡ numbered 1 all
+        → lines.items ≡ lines_that_differ (numbered 1 all)) }
     ensures kept { length vectors.new.items ≡ length vectors.old.items }
 {
     vectors.sort_unstable_by_key(|vector| vector.kind());
@@ -185,7 +190,8 @@ fn report_text(alloc: Global, differing: &[u64], count: usize) -> Result<String,
 
 /// What is told of vectors, and whether all of them agree.
 fn judged(alloc: Global, vectors: &mut Vec<Numbered>) -> Result<Report, AllocError>
-    ensures { IfOk result (λ told. (all : List Vector) → vectors.old.items ≡ numbered 1 all → TellsVectors (string_bytes told.text) told.all_agree all) }
+    ensures { IfOk result (λ told. (all : List Vector) → vectors.old.items ≡ numbered 1 all
+        → TellsVectors (string_bytes told.text) told.all_agree all) }
 {
     let differing = differing(alloc, vectors)?;
     let text = report_text(alloc, differing.as_slice(), vectors.len())?;
@@ -201,7 +207,8 @@ fn judged(alloc: Global, vectors: &mut Vec<Numbered>) -> Result<Report, AllocErr
 /// Errors: `Bad` with the first line that writes no vector or has no byte 10, from 1; `NoMemory`. Nothing is evaluated
 /// before all lines have been read.
 pub fn judge_vectors(alloc: Global, text: &[u8]) -> Result<Report, LinesFault>
-    ensures report { IfOk result (λ told. IsReportOf text.now (string_bytes told.text) told.all_agree) }
+    ensures report { IfOk result
+        (λ told. IsReportOf text.now (string_bytes told.text) told.all_agree) }
     ensures bad { IfErr result (IfBad (IsFirstBad text.now)) }
 {
     let mut vectors = read_vectors(alloc, text)?;

@@ -182,7 +182,8 @@ fn word(width: Width, token: &[u8]) -> Option<u64>
 fn first_width(line: &[u8]) -> Option<(Width, &[u8])>
     ensures written { IfSome result (λ x. line.now ≡ decimal x.0 ++ 32 ∷ x.1.now) }
     ensures fits { IfSome result (λ x. x.0 ≤ 64) }
-    ensures none { result ≡ None → (n : ℕ) (rest : List ℕ) → 1 ≤ n → n ≤ 64 → line.now ≢ decimal n ++ 32 ∷ rest }
+    ensures none { result ≡ None → (n : ℕ) (rest : List ℕ) → 1 ≤ n → n ≤ 64
+        → line.now ≢ decimal n ++ 32 ∷ rest }
 {
     match cut_at(line, b' ') {
         Some((token, behind)) => match number(token) {
@@ -200,7 +201,8 @@ fn first_width(line: &[u8]) -> Option<(Width, &[u8])>
 fn first_word(width: Width, line: &[u8]) -> Option<(u64, &[u8])>
     ensures written { IfSome result (λ x. line.now ≡ decimal x.0 ++ 32 ∷ x.1.now) }
     ensures fits { IfSome result (λ x. x.0 < 2 ^ width) }
-    ensures none { result ≡ None → width ≤ 64 → (n : ℕ) (rest : List ℕ) → n < 2 ^ width → line.now ≢ decimal n ++ 32 ∷ rest }
+    ensures none { result ≡ None → width ≤ 64 → (n : ℕ) (rest : List ℕ) → n < 2 ^ width
+        → line.now ≢ decimal n ++ 32 ∷ rest }
 {
     match cut_at(line, b' ') {
         Some((token, behind)) => match word(width, token) {
@@ -215,7 +217,8 @@ fn first_word(width: Width, line: &[u8]) -> Option<(u64, &[u8])>
 fn word_of_bits(bits: u64, token: &[u8]) -> Option<u64>
     ensures written { IfSome result (λ n. token.now ≡ decimal n) }
     ensures fits { IfSome result (λ n. n < 2 ^ bits) }
-    ensures none { result ≡ None → 1 ≤ bits → bits ≤ 64 → (n : ℕ) → n < 2 ^ bits → token.now ≢ decimal n }
+    ensures none { result ≡ None → 1 ≤ bits → bits ≤ 64 → (n : ℕ) → n < 2 ^ bits
+        → token.now ≢ decimal n }
 {
     match Width::new(bits) {
         Some(width) => word(width, token),
@@ -227,8 +230,10 @@ fn word_of_bits(bits: u64, token: &[u8]) -> Option<u64>
 fn with_operand(operator: Unary, width: Width, line: &[u8]) -> Option<Vector>
     ensures written { IfSome result (λ v. decimal width ++ 32 ∷ line.now ≡ numbers v) }
     ensures fits { IfSome result IsVector }
-    ensures named { (word : List ℕ) → unary_of word ≡ Some operator → IfSome result (NamesOperator word) }
-    ensures none { result ≡ None → (a r : ℕ) → IsVector (vector.Unary operator width a r) → line.now ≢ decimal a ++ 32 ∷ decimal r }
+    ensures named { (word : List ℕ) → unary_of word ≡ Some operator
+        → IfSome result (NamesOperator word) }
+    ensures none { result ≡ None → (a r : ℕ) → IsVector (vector.Unary operator width a r)
+        → line.now ≢ decimal a ++ 32 ∷ decimal r }
 {
     let bits = width.bits();
     match first_word(width, line) {
@@ -249,10 +254,13 @@ fn with_operand(operator: Unary, width: Width, line: &[u8]) -> Option<Vector>
 fn with_right(operator: Binary, width: Width, left: u64, line: &[u8]) -> Option<Vector>
     requires left { left < 2 ^ width }
     requires bits { is_of_bits operator ≡ true → width ≡ 1 }
-    ensures written { IfSome result (λ v. decimal width ++ 32 ∷ (decimal left ++ 32 ∷ line.now) ≡ numbers v) }
+    ensures written { IfSome result (λ v. decimal width ++ 32 ∷ (decimal left ++ 32 ∷ line.now)
+        ≡ numbers v) }
     ensures fits { IfSome result IsVector }
-    ensures named { (word : List ℕ) → binary_of word ≡ Some operator → IfSome result (NamesOperator word) }
-    ensures none { result ≡ None → (b r : ℕ) → IsVector (vector.Binary operator width left b r) → line.now ≢ decimal b ++ 32 ∷ decimal r }
+    ensures named { (word : List ℕ) → binary_of word ≡ Some operator
+        → IfSome result (NamesOperator word) }
+    ensures none { result ≡ None → (b r : ℕ) → IsVector (vector.Binary operator width left b r)
+        → line.now ≢ decimal b ++ 32 ∷ decimal r }
 {
     let bits = width.bits();
     match first_word(width, line) {
@@ -274,8 +282,10 @@ fn with_right(operator: Binary, width: Width, left: u64, line: &[u8]) -> Option<
 fn with_operands(operator: Binary, width: Width, line: &[u8]) -> Option<Vector>
     ensures written { IfSome result (λ v. decimal width ++ 32 ∷ line.now ≡ numbers v) }
     ensures fits { IfSome result IsVector }
-    ensures named { (word : List ℕ) → binary_of word ≡ Some operator → IfSome result (NamesOperator word) }
-    ensures none { result ≡ None → (a b r : ℕ) → IsVector (vector.Binary operator width a b r) → line.now ≢ decimal a ++ 32 ∷ (decimal b ++ 32 ∷ decimal r) }
+    ensures named { (word : List ℕ) → binary_of word ≡ Some operator
+        → IfSome result (NamesOperator word) }
+    ensures none { result ≡ None → (a b r : ℕ) → IsVector (vector.Binary operator width a b r)
+        → line.now ≢ decimal a ++ 32 ∷ (decimal b ++ 32 ∷ decimal r) }
 {
     if operator.is_of_bits() && width.bits() != 1 {
         return None;
@@ -290,8 +300,10 @@ fn with_operands(operator: Binary, width: Width, line: &[u8]) -> Option<Vector>
 fn unary_vector(operator: Unary, rest: &[u8]) -> Option<Vector>
     ensures written { IfSome result (λ v. rest.now ≡ numbers v) }
     ensures fits { IfSome result IsVector }
-    ensures named { (word : List ℕ) → unary_of word ≡ Some operator → IfSome result (NamesOperator word) }
-    ensures none { result ≡ None → (n a r : ℕ) → IsVector (vector.Unary operator n a r) → rest.now ≢ numbers (vector.Unary operator n a r) }
+    ensures named { (word : List ℕ) → unary_of word ≡ Some operator
+        → IfSome result (NamesOperator word) }
+    ensures none { result ≡ None → (n a r : ℕ) → IsVector (vector.Unary operator n a r)
+        → rest.now ≢ numbers (vector.Unary operator n a r) }
 {
     match first_width(rest) {
         Some((width, behind)) => with_operand(operator, width, behind),
@@ -303,8 +315,10 @@ fn unary_vector(operator: Unary, rest: &[u8]) -> Option<Vector>
 fn binary_vector(operator: Binary, rest: &[u8]) -> Option<Vector>
     ensures written { IfSome result (λ v. rest.now ≡ numbers v) }
     ensures fits { IfSome result IsVector }
-    ensures named { (word : List ℕ) → binary_of word ≡ Some operator → IfSome result (NamesOperator word) }
-    ensures none { result ≡ None → (n a b r : ℕ) → IsVector (vector.Binary operator n a b r) → rest.now ≢ numbers (vector.Binary operator n a b r) }
+    ensures named { (word : List ℕ) → binary_of word ≡ Some operator
+        → IfSome result (NamesOperator word) }
+    ensures none { result ≡ None → (n a b r : ℕ) → IsVector (vector.Binary operator n a b r)
+        → rest.now ≢ numbers (vector.Binary operator n a b r) }
 {
     match first_width(rest) {
         Some((width, behind)) => with_operands(operator, width, behind),
@@ -317,7 +331,8 @@ fn named_unary(name: &[u8], rest: &[u8]) -> Option<Vector>
     ensures written { IfSome result (λ v. rest.now ≡ numbers v) }
     ensures fits { IfSome result IsVector }
     ensures named { IfSome result (NamesOperator name.now) }
-    ensures none { result ≡ None → (op : Unary) (n a r : ℕ) → unary_of name.now ≡ Some op → IsVector (vector.Unary op n a r) → rest.now ≢ numbers (vector.Unary op n a r) }
+    ensures none { result ≡ None → (op : Unary) (n a r : ℕ) → unary_of name.now ≡ Some op
+        → IsVector (vector.Unary op n a r) → rest.now ≢ numbers (vector.Unary op n a r) }
 {
     match unary_of(name) {
         Some(operator) => unary_vector(operator, rest),
@@ -330,7 +345,8 @@ fn named_binary(name: &[u8], rest: &[u8]) -> Option<Vector>
     ensures written { IfSome result (λ v. rest.now ≡ numbers v) }
     ensures fits { IfSome result IsVector }
     ensures named { IfSome result (NamesOperator name.now) }
-    ensures none { result ≡ None → (op : Binary) (n a b r : ℕ) → binary_of name.now ≡ Some op → IsVector (vector.Binary op n a b r) → rest.now ≢ numbers (vector.Binary op n a b r) }
+    ensures none { result ≡ None → (op : Binary) (n a b r : ℕ) → binary_of name.now ≡ Some op
+        → IsVector (vector.Binary op n a b r) → rest.now ≢ numbers (vector.Binary op n a b r) }
 {
     match binary_of(name) {
         Some(operator) => binary_vector(operator, rest),
@@ -343,7 +359,8 @@ fn named_vector(name: &[u8], rest: &[u8]) -> Option<Vector>
     ensures written { IfSome result (λ v. rest.now ≡ numbers v) }
     ensures fits { IfSome result IsVector }
     ensures named { IfSome result (NamesOperator name.now) }
-    ensures none { result ≡ None → (v : Vector) → NamesOperator name.now v → IsVector v → rest.now ≢ numbers v }
+    ensures none { result ≡ None → (v : Vector) → NamesOperator name.now v → IsVector v
+        → rest.now ≢ numbers v }
 {
     match named_unary(name, rest) {
         Some(vector) => Some(vector),
@@ -368,7 +385,8 @@ pub(crate) fn vector_of(line: &[u8]) -> Option<Vector>
 /// Errors: `Bad` with the first line that writes none or has no byte 10, from 1; `NoMemory`.
 #[tactic(auto, using(crate::proofs::VectorLemmas::all_numbered))]
 pub(crate) fn read_vectors(alloc: Global, text: &[u8]) -> Result<Vec<Numbered>, LinesFault>
-    ensures read { IfOk result (λ read. (vectors : List Vector) × AreVectorsOf text.now vectors × (read.items ≡ numbered 1 vectors)) }
+    ensures read { IfOk result (λ read. (vectors : List Vector) × AreVectorsOf text.now vectors
+        × (read.items ≡ numbered 1 vectors)) }
     ensures bad { IfErr result (IfBad (IsFirstBad text.now)) }
 {
     let mut vectors = Vec::new(alloc);

@@ -65,8 +65,10 @@ impl Seen {
     /// Adds a signal that is named by these bytes; whether one before it is.
     fn add(&mut self, stem: Vec<u8>) -> Result<bool, AllocError>
         requires { self.old.number < 2 ^ 64 - 1 }
-        ensures there { IfOk result (λ there. there ≡ list_any (bytes_eq stem.items) self.old.names) }
-        ensures names { OnOk result ((name : List ℕ) → list_any (bytes_eq name) self.new.names ≡ (list_any (bytes_eq name) self.old.names || bytes_eq name stem.items)) }
+        ensures there { IfOk result (λ there. there
+            ≡ list_any (bytes_eq stem.items) self.old.names) }
+        ensures names { OnOk result ((name : List ℕ) → list_any (bytes_eq name) self.new.names
+            ≡ (list_any (bytes_eq name) self.old.names || bytes_eq name stem.items)) }
         ensures number { OnOk result (self.new.number ≡ self.old.number + 1) }
     {
         let added = self.stems.insert(stem)?;
@@ -77,8 +79,13 @@ impl Seen {
     /// Takes the signal of a line; whether it is told apart from those before it.
     fn take(&mut self, alloc: Global, scope: Scope, item: &Item) -> Result<bool, AllocError>
         requires { self.old.number < 2 ^ 64 - 1 }
-        ensures apart { IfOk result (λ apart. apart ≡ (list_any (bytes_eq (stem_by scope self.old.number item.now.id item.now.symbol)) self.old.names || ends_in_number (stem_by scope self.old.number item.now.id item.now.symbol))) }
-        ensures names { OnOk result ((name : List ℕ) → list_any (bytes_eq name) self.new.names ≡ (list_any (bytes_eq name) self.old.names || bytes_eq name (stem_by scope self.old.number item.now.id item.now.symbol))) }
+        ensures apart { IfOk result (λ apart. apart
+            ≡ (list_any (bytes_eq (stem_by scope self.old.number item.now.id item.now.symbol))
+            self.old.names || ends_in_number
+            (stem_by scope self.old.number item.now.id item.now.symbol))) }
+        ensures names { OnOk result ((name : List ℕ) → list_any (bytes_eq name) self.new.names
+            ≡ (list_any (bytes_eq name) self.old.names || bytes_eq name
+            (stem_by scope self.old.number item.now.id item.now.symbol))) }
         ensures number { OnOk result (self.new.number ≡ self.old.number + 1) }
     {
         let stem = stem(alloc, scope, self.number, item)?;
@@ -101,7 +108,8 @@ fn is_marked(
     requires well_formed { IsWellFormed model.now }
     requires at { slice_get model.now place ≡ Some item.now }
     requires seen { HasSeen shown model.now scope place seen.old }
-    ensures marked { IfOk result (λ apart. apart ≡ is_marked_signal shown model.now scope item.now) }
+    ensures marked { IfOk result (λ apart. apart
+        ≡ is_marked_signal shown model.now scope item.now) }
     ensures seen { OnOk result (HasSeen shown model.now scope (place + 1) seen.new) }
 {
     if !is_in(model, shown, scope, place, item) {
@@ -118,7 +126,8 @@ fn push_marks(
     shown: Shown,
     scope: Scope,
 ) -> Result<(), AllocError>
-    ensures pushed { OnOk result (marks.new.items ≡ marks.old.items ++ scope_marks shown model.now scope) }
+    ensures pushed { OnOk result (marks.new.items
+        ≡ marks.old.items ++ scope_marks shown model.now scope) }
 {
     let items = model.items();
     let mut seen = Seen::new(alloc);

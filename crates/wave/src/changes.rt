@@ -52,7 +52,8 @@ pub(crate) fn put_moment<K: Sink>(
     sink: &mut K,
     number: u64,
 ) -> Result<(), DeviceFault>
-    ensures puts { Puts result (K.written sink.old) (K.written sink.new) outbox.old outbox.new (moment number ++ 10 ∷ []) }
+    ensures puts { Puts result (K.written sink.old) (K.written sink.new) outbox.old outbox.new
+        (moment number ++ 10 ∷ []) }
     ensures failures { CountsFaults result (K.failures sink.old) (K.failures sink.new) }
 {
     let mut buffer = Buffer::new();
@@ -71,7 +72,8 @@ fn put_value<K: Sink>(
     word: u64,
 ) -> Result<(), DeviceFault>
     requires { signal.now.width ≤ 64 }
-    ensures puts { Puts result (K.written sink.old) (K.written sink.new) outbox.old outbox.new (value signal.now.width word ++ (code signal.now.id ++ 10 ∷ [])) }
+    ensures puts { Puts result (K.written sink.old) (K.written sink.new) outbox.old outbox.new
+        (value signal.now.width word ++ (code signal.now.id ++ 10 ∷ [])) }
     ensures failures { CountsFaults result (K.failures sink.old) (K.failures sink.new) }
 {
     let width = signal.width as usize;
@@ -96,7 +98,8 @@ fn put_change<K: Sink>(
 ) -> Result<(), DeviceFault>
     requires { signal.old.width ≤ 64 }
     ensures kept { signal.new ≡ record signal.old { word = word } }
-    ensures puts { Puts result (K.written sink.old) (K.written sink.new) outbox.old outbox.new (change first signal.old word) }
+    ensures puts { Puts result (K.written sink.old) (K.written sink.new) outbox.old outbox.new
+        (change first signal.old word) }
     ensures failures { CountsFaults result (K.failures sink.old) (K.failures sink.new) }
 {
     let old = signal.word;
@@ -109,7 +112,8 @@ fn put_change<K: Sink>(
 
 /// The word of the node at a place in the frame that was closed last.
 fn word_now(judge: &WordJudge<'_>, node: usize) -> u64
-    ensures { (items : List Item) (f : Frame) → Shows judge.now items f → result ≡ told_word items f node }
+    ensures { (items : List Item) (f : Frame) → Shows judge.now items f
+        → result ≡ told_word items f node }
 {
     judge.closed_word(node).unwrap_or(0)
 }
@@ -123,8 +127,11 @@ fn put_changes<K: Sink>(
     first: bool,
 ) -> Result<(), DeviceFault>
     requires { All (λ s. s.width ≤ 64) signals.old }
-    ensures puts { (items : List Item) (f : Frame) → Shows judge.now items f → Puts result (K.written sink.old) (K.written sink.new) outbox.old outbox.new (changes first (told_word items f) signals.old) }
-    ensures kept { OnOk result ((items : List Item) (f : Frame) → Shows judge.now items f → signals.new ≡ map (with_word (told_word items f)) signals.old) }
+    ensures puts { (items : List Item) (f : Frame) → Shows judge.now items f
+        → Puts result (K.written sink.old) (K.written sink.new) outbox.old outbox.new
+        (changes first (told_word items f) signals.old) }
+    ensures kept { OnOk result ((items : List Item) (f : Frame) → Shows judge.now items f
+        → signals.new ≡ map (with_word (told_word items f)) signals.old) }
     ensures allowed { All (λ s. s.width ≤ 64) signals.new }
     ensures many { length signals.new ≡ length signals.old }
     ensures failures { CountsFaults result (K.failures sink.old) (K.failures sink.new) }
@@ -145,8 +152,11 @@ pub(crate) fn put_frame<K: Sink>(
     number: u64,
 ) -> Result<(), DeviceFault>
     requires { All (λ s. s.width ≤ 64) signals.old }
-    ensures puts { (items : List Item) (f : Frame) → Shows judge.now items f → Puts result (K.written sink.old) (K.written sink.new) outbox.old outbox.new ((moment number ++ 10 ∷ []) ++ changes (number == 0) (told_word items f) signals.old) }
-    ensures kept { OnOk result ((items : List Item) (f : Frame) → Shows judge.now items f → signals.new ≡ map (with_word (told_word items f)) signals.old) }
+    ensures puts { (items : List Item) (f : Frame) → Shows judge.now items f
+        → Puts result (K.written sink.old) (K.written sink.new) outbox.old outbox.new
+        ((moment number ++ 10 ∷ []) ++ changes (number == 0) (told_word items f) signals.old) }
+    ensures kept { OnOk result ((items : List Item) (f : Frame) → Shows judge.now items f
+        → signals.new ≡ map (with_word (told_word items f)) signals.old) }
     ensures allowed { All (λ s. s.width ≤ 64) signals.new }
     ensures many { length signals.new ≡ length signals.old }
     ensures failures { CountsFaults result (K.failures sink.old) (K.failures sink.new) }

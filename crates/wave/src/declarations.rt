@@ -19,7 +19,8 @@ use itoa::Buffer;
 /// Puts the places of a word of several bits.
 fn put_range<K: Sink>(outbox: &mut Outbox, sink: &mut K, width: u64) -> Result<(), DeviceFault>
     requires { 1 ≤ width }
-    ensures puts { Puts result (K.written sink.old) (K.written sink.new) outbox.old outbox.new (range width) }
+    ensures puts { Puts result (K.written sink.old) (K.written sink.new) outbox.old outbox.new
+        (range width) }
     ensures failures { CountsFaults result (K.failures sink.old) (K.failures sink.new) }
 {
     if width == 1 {
@@ -40,7 +41,8 @@ fn put_kind<K: Sink>(
     width: u64,
     id: u64,
 ) -> Result<(), DeviceFault>
-    ensures puts { Puts result (K.written sink.old) (K.written sink.new) outbox.old outbox.new (codes "$var wire " ++ (decimal width ++ 32 ∷ (code id ++ 32 ∷ []))) }
+    ensures puts { Puts result (K.written sink.old) (K.written sink.new) outbox.old outbox.new
+        (codes "$var wire " ++ (decimal width ++ 32 ∷ (code id ++ 32 ∷ []))) }
     ensures failures { CountsFaults result (K.failures sink.old) (K.failures sink.new) }
 {
     let mut wide = Buffer::new();
@@ -70,7 +72,11 @@ fn put_var<K: Sink>(
     apart: bool,
 ) -> Result<(), DeviceFault>
     requires { 1 ≤ width }
-    ensures puts { Puts result (K.written sink.old) (K.written sink.new) outbox.old outbox.new (codes "$var wire " ++ (decimal width ++ 32 ∷ (code item.now.id ++ 32 ∷ (escaped (with_id apart item.now.id (plain_name scope number item.now)) ++ (range width ++ codes " $end\n"))))) }
+    ensures puts { Puts result (K.written sink.old) (K.written sink.new) outbox.old outbox.new
+        (codes "$var wire " ++ (decimal width ++ 32
+        ∷ (code item.now.id ++ 32
+        ∷ (escaped (with_id apart item.now.id (plain_name scope number item.now))
+        ++ (range width ++ codes " $end\n"))))) }
     ensures failures { CountsFaults result (K.failures sink.old) (K.failures sink.new) }
 {
     put_kind(outbox, sink, width, item.id)?;
@@ -97,8 +103,11 @@ fn put_shown<K: Sink>(
     requires number { number ≡ length (signals_before shown model.now scope item.now) }
     requires few { number ≤ place }
     requires apart { apart ≡ is_marked_signal shown model.now scope item.now }
-    ensures puts { Puts result (K.written sink.old) (K.written sink.new) outbox.old outbox.new (text_of_lines (map (var_line shown model.now scope) (filter (is_in shown scope) (item.now ∷ [])))) }
-    ensures number { IfOk result (λ more. more ≡ number + length (filter (is_in shown scope) (item.now ∷ []))) }
+    ensures puts { Puts result (K.written sink.old) (K.written sink.new) outbox.old outbox.new
+        (text_of_lines (map (var_line shown model.now scope)
+        (filter (is_in shown scope) (item.now ∷ [])))) }
+    ensures number { IfOk result (λ more. more
+        ≡ number + length (filter (is_in shown scope) (item.now ∷ []))) }
     ensures failures { CountsFaults result (K.failures sink.old) (K.failures sink.new) }
 {
     if !is_in(model, shown, scope, place, item) {
@@ -119,7 +128,8 @@ fn put_vars<K: Sink>(
     marks: &[bool],
 ) -> Result<(), DeviceFault>
     requires { marks.now ≡ scope_marks shown model.now scope }
-    ensures puts { Puts result (K.written sink.old) (K.written sink.new) outbox.old outbox.new (text_of_lines (map (var_line shown model.now scope) (signals_in shown model.now scope))) }
+    ensures puts { Puts result (K.written sink.old) (K.written sink.new) outbox.old outbox.new
+        (text_of_lines (map (var_line shown model.now scope) (signals_in shown model.now scope))) }
     ensures failures { CountsFaults result (K.failures sink.old) (K.failures sink.new) }
 {
     let items = model.items();
@@ -143,7 +153,8 @@ fn put_scope<K: Sink>(
     marks: &[bool],
 ) -> Result<(), DeviceFault>
     requires { marks.now ≡ scope_marks shown model.now scope }
-    ensures puts { Puts result (K.written sink.old) (K.written sink.new) outbox.old outbox.new (text_of_lines (scope_lines shown model.now scope)) }
+    ensures puts { Puts result (K.written sink.old) (K.written sink.new) outbox.old outbox.new
+        (text_of_lines (scope_lines shown model.now scope)) }
     ensures failures { CountsFaults result (K.failures sink.old) (K.failures sink.new) }
 {
     put_parts(
@@ -164,7 +175,8 @@ fn put_scopes<K: Sink>(
     marks: &[bool],
 ) -> Result<(), DeviceFault>
     requires { marks.now ≡ all_marks shown model.now }
-    ensures puts { Puts result (K.written sink.old) (K.written sink.new) outbox.old outbox.new (text_of_lines (flat_map (scope_lines shown model.now) scopes)) }
+    ensures puts { Puts result (K.written sink.old) (K.written sink.new) outbox.old outbox.new
+        (text_of_lines (flat_map (scope_lines shown model.now) scopes)) }
     ensures failures { CountsFaults result (K.failures sink.old) (K.failures sink.new) }
 {
     let lines = model.items().len();
@@ -188,7 +200,8 @@ pub(crate) fn put_declarations<K: Sink>(
     title: &[u8],
 ) -> Result<(), DeviceFault>
     requires { marks.now ≡ all_marks shown model.now }
-    ensures puts { Puts result (K.written sink.old) (K.written sink.new) outbox.old outbox.new (text_of_lines (declaration_lines shown title.now model.now)) }
+    ensures puts { Puts result (K.written sink.old) (K.written sink.new) outbox.old outbox.new
+        (text_of_lines (declaration_lines shown title.now model.now)) }
     ensures failures { CountsFaults result (K.failures sink.old) (K.failures sink.new) }
 {
     put_parts(outbox, sink, &[b"$comment "])?;

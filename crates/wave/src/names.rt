@@ -44,7 +44,8 @@ fn is_plain_name(name: &[u8]) -> bool
 
 /// Puts bytes.
 fn put_bytes<K: Sink>(outbox: &mut Outbox, sink: &mut K, bytes: &[u8]) -> Result<(), DeviceFault>
-    ensures puts { Puts result (K.written sink.old) (K.written sink.new) outbox.old outbox.new bytes.now }
+    ensures puts { Puts result (K.written sink.old) (K.written sink.new) outbox.old outbox.new
+        bytes.now }
     ensures failures { CountsFaults result (K.failures sink.old) (K.failures sink.new) }
 {
     outbox.put(sink, bytes)
@@ -56,7 +57,8 @@ pub(crate) fn put_parts<K: Sink>(
     sink: &mut K,
     parts: &[&[u8]],
 ) -> Result<(), DeviceFault>
-    ensures puts { Puts result (K.written sink.old) (K.written sink.new) outbox.old outbox.new (concat_slices parts.now) }
+    ensures puts { Puts result (K.written sink.old) (K.written sink.new) outbox.old outbox.new
+        (concat_slices parts.now) }
     ensures failures { CountsFaults result (K.failures sink.old) (K.failures sink.new) }
 {
     for part in parts {
@@ -72,7 +74,8 @@ fn put_number<K: Sink>(
     front: &[u8],
     number: u64,
 ) -> Result<(), DeviceFault>
-    ensures puts { Puts result (K.written sink.old) (K.written sink.new) outbox.old outbox.new (front.now ++ decimal number) }
+    ensures puts { Puts result (K.written sink.old) (K.written sink.new) outbox.old outbox.new
+        (front.now ++ decimal number) }
     ensures failures { CountsFaults result (K.failures sink.old) (K.failures sink.new) }
 {
     let mut buffer = Buffer::new();
@@ -109,7 +112,8 @@ fn put_stem<K: Sink>(
     number: u64,
     item: &Item,
 ) -> Result<(), DeviceFault>
-    ensures puts { Puts result (K.written sink.old) (K.written sink.new) outbox.old outbox.new (stem_by scope number item.now.id item.now.symbol) }
+    ensures puts { Puts result (K.written sink.old) (K.written sink.new) outbox.old outbox.new
+        (stem_by scope number item.now.id item.now.symbol) }
     ensures failures { CountsFaults result (K.failures sink.old) (K.failures sink.new) }
 {
     if let Some(symbol) = &item.symbol {
@@ -126,7 +130,8 @@ fn put_id<K: Sink>(
     apart: bool,
     id: u64,
 ) -> Result<(), DeviceFault>
-    ensures puts { Puts result (K.written sink.old) (K.written sink.new) outbox.old outbox.new (if apart then 35 ∷ decimal id else []) }
+    ensures puts { Puts result (K.written sink.old) (K.written sink.new) outbox.old outbox.new
+        (if apart then 35 ∷ decimal id else []) }
     ensures failures { CountsFaults result (K.failures sink.old) (K.failures sink.new) }
 {
     if !apart {
@@ -137,7 +142,9 @@ fn put_id<K: Sink>(
 
 /// Whether the name of a signal of a scope is escaped: plain are symbols that are plain names, and identifier codes.
 fn is_escaped(scope: Scope, id: u64, symbol: &Option<Symbol>, apart: bool) -> bool
-    ensures { (number : ℕ) → result ≡ not (is_plain_name (with_id apart id (prefix scope ++ stem_by scope number id symbol.now))) }
+    ensures { (number : ℕ) → result
+        ≡ not (is_plain_name (with_id apart id
+        (prefix scope ++ stem_by scope number id symbol.now))) }
 {
     if apart || !prefix(scope).is_empty() {
         return true;
@@ -150,7 +157,8 @@ fn is_escaped(scope: Scope, id: u64, symbol: &Option<Symbol>, apart: bool) -> bo
 
 /// Puts the `\` of a name that is escaped.
 fn put_escape<K: Sink>(outbox: &mut Outbox, sink: &mut K, escaped: bool) -> Result<(), DeviceFault>
-    ensures puts { Puts result (K.written sink.old) (K.written sink.new) outbox.old outbox.new (if escaped then 92 ∷ [] else []) }
+    ensures puts { Puts result (K.written sink.old) (K.written sink.new) outbox.old outbox.new
+        (if escaped then 92 ∷ [] else []) }
     ensures failures { CountsFaults result (K.failures sink.old) (K.failures sink.new) }
 {
     if !escaped {
@@ -168,7 +176,8 @@ pub(crate) fn put_name<K: Sink>(
     item: &Item,
     apart: bool,
 ) -> Result<(), DeviceFault>
-    ensures puts { Puts result (K.written sink.old) (K.written sink.new) outbox.old outbox.new (escaped (with_id apart item.now.id (plain_name scope number item.now))) }
+    ensures puts { Puts result (K.written sink.old) (K.written sink.new) outbox.old outbox.new
+        (escaped (with_id apart item.now.id (plain_name scope number item.now))) }
     ensures failures { CountsFaults result (K.failures sink.old) (K.failures sink.new) }
 {
     let escaped = is_escaped(scope, item.id, &item.symbol, apart);
@@ -206,7 +215,8 @@ pub(crate) fn put_title<K: Sink>(
     sink: &mut K,
     title: &[u8],
 ) -> Result<(), DeviceFault>
-    ensures puts { Puts result (K.written sink.old) (K.written sink.new) outbox.old outbox.new (title_bytes title.now) }
+    ensures puts { Puts result (K.written sink.old) (K.written sink.new) outbox.old outbox.new
+        (title_bytes title.now) }
     ensures failures { CountsFaults result (K.failures sink.old) (K.failures sink.new) }
 {
     for byte in title {

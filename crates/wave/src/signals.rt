@@ -83,7 +83,9 @@ fn push_signal(
     requires well_formed { IsWellFormed model.now }
     requires at { slice_get model.now place ≡ Some item.now }
     requires allowed { All (λ s. s.width ≤ 64) signals.old.items }
-    ensures pushed { OnOk result (signals.new.items ≡ signals.old.items ++ map (signal_of model.now) (filter (is_in shown scope) (item.now ∷ []))) }
+    ensures pushed { OnOk result (signals.new.items
+        ≡ signals.old.items ++ map (signal_of model.now)
+        (filter (is_in shown scope) (item.now ∷ []))) }
     ensures kept { All (λ s. s.width ≤ 64) signals.new.items }
 {
     if !is_in(model, shown, scope, place, item) {
@@ -101,7 +103,8 @@ fn push_signals(
     scope: Scope,
 ) -> Result<(), AllocError>
     requires { All (λ s. s.width ≤ 64) signals.old.items }
-    ensures pushed { OnOk result (signals.new.items ≡ signals.old.items ++ map (signal_of model.now) (signals_in shown model.now scope)) }
+    ensures pushed { OnOk result (signals.new.items
+        ≡ signals.old.items ++ map (signal_of model.now) (signals_in shown model.now scope)) }
     ensures kept { All (λ s. s.width ≤ 64) signals.new.items }
 {
     let items = model.items();
@@ -113,7 +116,8 @@ fn push_signals(
 
 /// The signals of a model, scope by scope.
 pub(crate) fn signals(alloc: Global, model: &Model, shown: Shown) -> Result<Vec<Signal>, AllocError>
-    ensures signals { IfOk result (λ v. v.items ≡ map (signal_of model.now) (signals shown model.now)) }
+    ensures signals { IfOk result (λ v. v.items
+        ≡ map (signal_of model.now) (signals shown model.now)) }
     ensures allowed { IfOk result (λ v. All (λ s. s.width ≤ 64) v.items) }
 {
     let scopes = scopes();

@@ -67,7 +67,8 @@ impl<'a> Waver<'a> {
 
     /// Takes bytes that end no line.
     fn take_bytes(&mut self, bytes: &[u8])
-        ensures { (s : ShownSpec) (items : List Item) (text : List ℕ) → IsLine bytes.now → Waves s items self.old text → Waves s items self.new (text ++ bytes.now) }
+        ensures { (s : ShownSpec) (items : List Item) (text : List ℕ) → IsLine bytes.now
+            → Waves s items self.old text → Waves s items self.new (text ++ bytes.now) }
     {
         self.judge.feed(bytes);
     }
@@ -82,7 +83,8 @@ impl<'a> Waver<'a> {
     ) -> Result<(), DeviceFault>
         requires is_line { IsLine line.now }
         requires whole { whole.now ≡ line.now ++ 10 ∷ [] }
-        ensures takes { Takes result (K.written sink.old) (K.written sink.new) outbox.old outbox.new self.old self.new (line.now ++ 10 ∷ []) }
+        ensures takes { Takes result (K.written sink.old) (K.written sink.new) outbox.old outbox.new
+            self.old self.new (line.now ++ 10 ∷ []) }
         ensures failures { CountsFaults result (K.failures sink.old) (K.failures sink.new) }
     {
         let closed = self.judge.closed_frames();
@@ -106,7 +108,8 @@ impl<'a> Waver<'a> {
         sink: &mut K,
         bytes: &[u8],
     ) -> Result<(), DeviceFault>
-        ensures takes { Takes result (K.written sink.old) (K.written sink.new) outbox.old outbox.new self.old self.new bytes.now }
+        ensures takes { Takes result (K.written sink.old) (K.written sink.new) outbox.old outbox.new
+            self.old self.new bytes.now }
         ensures failures { CountsFaults result (K.failures sink.old) (K.failures sink.new) }
     {
         let mut rest = bytes;
@@ -125,7 +128,10 @@ impl<'a> Waver<'a> {
         outbox: &mut Outbox,
         sink: &mut K,
     ) -> Result<(), DeviceFault>
-        ensures puts { (s : ShownSpec) (items : List Item) (text : List ℕ) (fs : List Frame) → Waves s items self.now text → IsClosedTrace items text fs → Puts result (K.written sink.old) (K.written sink.new) outbox.old outbox.new (text_of_lines (end_lines fs)) }
+        ensures puts { (s : ShownSpec) (items : List Item) (text : List ℕ) (fs : List Frame)
+            → Waves s items self.now text → IsClosedTrace items text fs
+            → Puts result (K.written sink.old) (K.written sink.new) outbox.old outbox.new
+            (text_of_lines (end_lines fs)) }
         ensures failures { CountsFaults result (K.failures sink.old) (K.failures sink.new) }
     {
         let frames = self.judge.closed_frames();
@@ -137,7 +143,8 @@ impl<'a> Waver<'a> {
 
     /// The judgement of the text.
     pub(crate) fn finish(self) -> Judgement
-        ensures { (s : ShownSpec) (items : List Item) (text : List ℕ) → Waves s items self.entry text → Judges items text result }
+        ensures { (s : ShownSpec) (items : List Item) (text : List ℕ)
+            → Waves s items self.entry text → Judges items text result }
     {
         self.judge.finish()
     }

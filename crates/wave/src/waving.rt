@@ -37,7 +37,8 @@ fn take_piece<K: Sink>(
     sink: &mut K,
     bytes: &[u8],
 ) -> Result<(), WaveFault>
-    ensures takes { Takes result (K.written sink.old) (K.written sink.new) outbox.old outbox.new waver.old waver.new bytes.now }
+    ensures takes { Takes result (K.written sink.old) (K.written sink.new) outbox.old outbox.new
+        waver.old waver.new bytes.now }
     ensures fault { IfErr result (λ e. e ≡ WaveFault.Write) }
     ensures failures { CountsFaults result (K.failures sink.old) (K.failures sink.new) }
 {
@@ -56,10 +57,13 @@ fn take_all<S: Source, K: Sink>(
     source: &mut S,
     sink: &mut K,
 ) -> Result<(), WaveFault>
-    ensures takes { IfSome (S.to_come source.old) (Takes result (K.written sink.old) (K.written sink.new) outbox.old outbox.new waver.old waver.new) }
+    ensures takes { IfSome (S.to_come source.old)
+        (Takes result (K.written sink.old) (K.written sink.new) outbox.old outbox.new waver.old
+        waver.new) }
     ensures end { OnOk result (IsAtEnd (S.to_come source.new)) }
     ensures fault { IfErr result IsDeviceFault }
-    ensures counted { CountsWave result (S.failures source.old) (S.failures source.new) (K.failures sink.old) (K.failures sink.new) }
+    ensures counted { CountsWave result (S.failures source.old) (S.failures source.new)
+        (K.failures sink.old) (K.failures sink.new) }
 {
     let mut chunk = [0u8; CHUNK];
     loop {
@@ -83,7 +87,8 @@ fn begin<K: Sink>(
     title: &[u8],
 ) -> Result<(), WaveFault>
     requires { marks.now ≡ all_marks shown model.now }
-    ensures puts { Puts result (K.written sink.old) (K.written sink.new) outbox.old outbox.new (text_of_lines (declaration_lines shown title.now model.now)) }
+    ensures puts { Puts result (K.written sink.old) (K.written sink.new) outbox.old outbox.new
+        (text_of_lines (declaration_lines shown title.now model.now)) }
     ensures fault { IfErr result (λ e. e ≡ WaveFault.Write) }
     ensures failures { CountsFaults result (K.failures sink.old) (K.failures sink.new) }
 {
@@ -97,8 +102,14 @@ fn begin<K: Sink>(
 ///
 /// Errors: the sink's own.
 fn end<K: Sink>(waver: &Waver<'_>, outbox: &mut Outbox, sink: &mut K) -> Result<(), WaveFault>
-    ensures ok { OnOk result ((s : ShownSpec) (items : List Item) (text : List ℕ) (fs : List Frame) → Waves s items waver.now text → IsClosedTrace items text fs → Appends (K.written sink.old) (K.written sink.new) (outbox.old ++ text_of_lines (end_lines fs))) }
-    ensures err { OnErr result ((s : ShownSpec) (items : List Item) (text : List ℕ) (fs : List Frame) → Waves s items waver.now text → IsClosedTrace items text fs → AppendsBeginning (K.written sink.old) (K.written sink.new) (outbox.old ++ text_of_lines (end_lines fs))) }
+    ensures ok { OnOk result ((s : ShownSpec) (items : List Item) (text : List ℕ) (fs : List Frame)
+        → Waves s items waver.now text → IsClosedTrace items text fs
+        → Appends (K.written sink.old) (K.written sink.new)
+        (outbox.old ++ text_of_lines (end_lines fs))) }
+    ensures err { OnErr result ((s : ShownSpec) (items : List Item) (text : List ℕ)
+        (fs : List Frame) → Waves s items waver.now text → IsClosedTrace items text fs
+        → AppendsBeginning (K.written sink.old) (K.written sink.new)
+        (outbox.old ++ text_of_lines (end_lines fs))) }
     ensures fault { IfErr result (λ e. e ≡ WaveFault.Write) }
     ensures failures { CountsFaults result (K.failures sink.old) (K.failures sink.new) }
 {
@@ -124,10 +135,12 @@ fn write_dump<S: Source, K: Sink>(
     sink: &mut K,
 ) -> Result<(), WaveFault>
     requires { marks.now ≡ all_marks shown model.now }
-    ensures writes { WavesAll result shown title.now model.now (S.to_come source.old) (K.written sink.old) (K.written sink.new) waver.old waver.new }
+    ensures writes { WavesAll result shown title.now model.now (S.to_come source.old)
+        (K.written sink.old) (K.written sink.new) waver.old waver.new }
     ensures end { OnOk result (IsAtEnd (S.to_come source.new)) }
     ensures fault { IfErr result IsDeviceFault }
-    ensures counted { CountsWave result (S.failures source.old) (S.failures source.new) (K.failures sink.old) (K.failures sink.new) }
+    ensures counted { CountsWave result (S.failures source.old) (S.failures source.new)
+        (K.failures sink.old) (K.failures sink.new) }
 {
     let mut outbox = Outbox::new();
     begin(&mut outbox, sink, model, shown, marks, title)?;
@@ -147,12 +160,14 @@ fn write_told<S: Source, K: Sink>(
     source: &mut S,
     sink: &mut K,
 ) -> Result<(), WaveFault>
-    ensures writes { WavesAll result shown title.now model.now (S.to_come source.old) (K.written sink.old) (K.written sink.new) waver.old waver.new }
+    ensures writes { WavesAll result shown title.now model.now (S.to_come source.old)
+        (K.written sink.old) (K.written sink.new) waver.old waver.new }
     ensures fault { AnswersWave result None }
     ensures unread { IsBefore result → source.new ≡ source.old }
     ensures unwritten { IsBefore result → sink.new ≡ sink.old }
     ensures end { OnOk result (IsAtEnd (S.to_come source.new)) }
-    ensures counted { CountsWave result (S.failures source.old) (S.failures source.new) (K.failures sink.old) (K.failures sink.new) }
+    ensures counted { CountsWave result (S.failures source.old) (S.failures source.new)
+        (K.failures sink.old) (K.failures sink.new) }
 {
     match marks(alloc, model, shown) {
         Ok(marks) => write_dump(waver, model, shown, marks.as_slice(), title, source, sink),
@@ -182,17 +197,25 @@ pub fn wave<S: Source, K: Sink>(
     sink: &mut K,
 ) -> Result<Judgement, WaveFault>
     // the judgement is that of the whole text
-    ensures judged { IfOk result (λ judgement. IfSome (S.to_come source.old) (λ text. Judges model.now text judgement)) }
+    ensures judged { IfOk result (λ judgement. IfSome (S.to_come source.old)
+        (λ text. Judges model.now text judgement)) }
     // what is written is the dump of the text's closed frames, and after a fault a beginning of it
-    ensures written { OnOk result (IfSome (S.to_come source.old) (λ text. (fs : List Frame) → IsClosedTrace model.now text fs → Appends (K.written sink.old) (K.written sink.new) (vcd_text shown title.now model.now fs))) }
-    ensures beginning { IfErr result (λ e. IsDeviceFault e → IfSome (S.to_come source.old) (λ text. (fs : List Frame) → IsClosedTrace model.now text fs → AppendsBeginning (K.written sink.old) (K.written sink.new) (vcd_text shown title.now model.now fs))) }
+    ensures written { OnOk result (IfSome (S.to_come source.old) (λ text. (fs : List Frame)
+        → IsClosedTrace model.now text fs
+        → Appends (K.written sink.old) (K.written sink.new)
+        (vcd_text shown title.now model.now fs))) }
+    ensures beginning { IfErr result (λ e. IsDeviceFault e
+        → IfSome (S.to_come source.old) (λ text. (fs : List Frame) → IsClosedTrace model.now text fs
+        → AppendsBeginning (K.written sink.old) (K.written sink.new)
+        (vcd_text shown title.now model.now fs))) }
     // a state with an init and no next is named exactly where there is one, the first
     ensures answer { AnswersWave result (first_init_without_next model.now model.now) }
     ensures unread { IsBefore result → source.new ≡ source.old }
     ensures unwritten { IsBefore result → sink.new ≡ sink.old }
     ensures end { OnOk result (IsAtEnd (S.to_come source.new)) }
     // the source failed once where that is answered, the sink where that is, and else neither
-    ensures counted { CountsWave result (S.failures source.old) (S.failures source.new) (K.failures sink.old) (K.failures sink.new) }
+    ensures counted { CountsWave result (S.failures source.old) (S.failures source.new)
+        (K.failures sink.old) (K.failures sink.new) }
     // the items of a model are one, so that its frames have a trace
     ensures well_formed { IsWellFormed model.now }
 {

@@ -69,7 +69,8 @@ impl<'a> BitJudge<'a> {
     ///
     /// Error: `NoMemory`.
     pub fn new(alloc: Global, circuit: &'a Circuit) -> Result<BitJudge<'a>, NewFault>
-        ensures { MatchResult result (λ judge. StandsForBits circuit.now judge []) (λ fault. fault ≡ NewFault.NoMemory) }
+        ensures { MatchResult result (λ judge. StandsForBits circuit.now judge [])
+            (λ fault. fault ≡ NewFault.NoMemory) }
     {
         let line = match CutLine::new(alloc, line_room(circuit)) {
             Ok(line) => line,
@@ -85,7 +86,8 @@ impl<'a> BitJudge<'a> {
     /// Takes the rest of a line, and its end: for callers that cut lines themselves. A judge that stood for a text stands for
     /// that text with the line and its byte 10 behind it.
     pub fn take_line(&mut self, line: &[u8])
-        ensures { (c : Circuit) (text : List ℕ) → IsLine line.now → StandsForBits c self.old text → StandsForBits c self.new (text ++ (line.now ++ 10 ∷ [])) }
+        ensures { (c : Circuit) (text : List ℕ) → IsLine line.now → StandsForBits c self.old text
+            → StandsForBits c self.new (text ++ (line.now ++ 10 ∷ [])) }
     {
         if self.line.is_empty() {
             self.lines.take(line, true);
@@ -99,7 +101,8 @@ impl<'a> BitJudge<'a> {
     /// Takes a piece of the text behind those before: a judge that stood for a text stands for that text with the piece
     /// behind it.
     pub fn feed(&mut self, bytes: &[u8])
-        ensures { (c : Circuit) (text : List ℕ) → StandsForBits c self.old text → StandsForBits c self.new (text ++ bytes.now) }
+        ensures { (c : Circuit) (text : List ℕ) → StandsForBits c self.old text
+            → StandsForBits c self.new (text ++ bytes.now) }
     {
         let mut rest = bytes;
         while let Some((line, behind)) = next_line(rest) {
@@ -111,7 +114,8 @@ impl<'a> BitJudge<'a> {
 
     /// The judgement of the text so far: of every one that the judge stands for.
     fn judgement(&self) -> Judgement
-        ensures { (c : Circuit) (text : List ℕ) → StandsForBits c self.now text → BitJudges c text result }
+        ensures { (c : Circuit) (text : List ℕ) → StandsForBits c self.now text
+            → BitJudges c text result }
     {
         if self.lines.no_claim {
             return Judgement::NoClaim;
@@ -132,16 +136,19 @@ impl<'a> BitJudge<'a> {
 
     /// The judgement of the text: of every one that the judge stands for.
     pub fn finish(self) -> Judgement
-        ensures judged { (c : Circuit) (text : List ℕ) → StandsForBits c self.entry text → BitJudges c text result }
+        ensures judged { (c : Circuit) (text : List ℕ) → StandsForBits c self.entry text
+            → BitJudges c text result }
         // accepted exactly where the text says a witness of which this is judged
-        ensures accepted { (c : Circuit) (text : List ℕ) → IsCircuit c → StandsForBits c self.entry text → BitAcceptsExactly c text result }
+        ensures accepted { (c : Circuit) (text : List ℕ) → IsCircuit c
+            → StandsForBits c self.entry text → BitAcceptsExactly c text result }
     {
         self.judgement()
     }
 
     /// How many bits the judge's run holds: one for 0 and each variable, and one for each latch.
     pub fn held(&self) -> u64
-        ensures { (c : Circuit) (text : List ℕ) → StandsForBits c self.now text → result ≡ circuit_held c }
+        ensures { (c : Circuit) (text : List ℕ) → StandsForBits c self.now text
+            → result ≡ circuit_held c }
     {
         self.lines.reader.play().held()
     }
@@ -150,7 +157,8 @@ impl<'a> BitJudge<'a> {
     /// stays at its greatest value, 2^128 - 1, once it is there.
     #[tactic(auto, unfolding(crate::specs::Readings::reading))]
     pub fn steps(&self) -> u128
-        ensures { (c : Circuit) (text : List ℕ) → StandsForBits c self.now text → result ≡ bit_steps_of c (closed_frames c text) }
+        ensures { (c : Circuit) (text : List ℕ) → StandsForBits c self.now text
+            → result ≡ bit_steps_of c (closed_frames c text) }
     {
         self.lines.reader.play().steps()
     }
@@ -158,7 +166,8 @@ impl<'a> BitJudge<'a> {
     /// How many frames are closed: those whose lines have ended before the first faulty line.
     #[tactic(auto, unfolding(crate::specs::Readings::reading))]
     pub fn closed_frames(&self) -> u64
-        ensures { (c : Circuit) (text : List ℕ) → StandsForBits c self.now text → result ≡ closed_frames c text }
+        ensures { (c : Circuit) (text : List ℕ) → StandsForBits c self.now text
+            → result ≡ closed_frames c text }
     {
         self.lines.reader.play().frames()
     }
@@ -166,7 +175,9 @@ impl<'a> BitJudge<'a> {
     /// Whether the bad property at a position, counted from 0, is the claim, and was 1 in a closed frame; none is beyond the
     /// last. It takes no memory.
     pub fn has_reached(&self, position: usize) -> bool
-        ensures { (c : Circuit) (text : List ℕ) (vs : List Valuation) → StandsForBits c self.now text → IsClosedBitTrace c text vs → result ≡ bit_reached c text vs position }
+        ensures { (c : Circuit) (text : List ℕ) (vs : List Valuation)
+            → StandsForBits c self.now text → IsClosedBitTrace c text vs
+            → result ≡ bit_reached c text vs position }
     {
         self.lines.reader.reaches(position)
     }
@@ -174,7 +185,8 @@ impl<'a> BitJudge<'a> {
     /// How many whole lines stand before the first faulty line.
     #[tactic(auto, unfolding(crate::specs::Readings::reading))]
     pub fn admitted_lines(&self) -> u64
-        ensures { (c : Circuit) (text : List ℕ) → StandsForBits c self.now text → result ≡ admitted_lines c text }
+        ensures { (c : Circuit) (text : List ℕ) → StandsForBits c self.now text
+            → result ≡ admitted_lines c text }
     {
         let lines = self.lines.admitted;
         lines

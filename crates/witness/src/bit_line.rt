@@ -32,7 +32,8 @@ pub(crate) fn are_bits(line: &[u8], count: u64) -> bool
 
 /// Why a line is not so many bits.
 pub(crate) fn why_no_bits(line: &[u8], count: u64) -> Why
-    ensures { ((length line.now == count) && list_all is_bit line.now) ≡ false → bits_at count line.now ≡ Err result }
+    ensures { ((length line.now == count) && list_all is_bit line.now) ≡ false
+        → bits_at count line.now ≡ Err result }
 {
     if line.len() as u64 == count {
         refusal(line)
@@ -43,7 +44,9 @@ pub(crate) fn why_no_bits(line: &[u8], count: u64) -> Why
 
 /// The bad property that a claim by a byte and a number is of, of so many, or why it is of none.
 fn judged(first: u8, number: u64, bads: u64) -> Result<u64, Why>
-    ensures { result ≡ judged_claim bads (if first == 98 then Some (record { justice = false; index = number }) else (if first == 106 then Some (record { justice = true; index = number }) else None)) }
+    ensures { result ≡ judged_claim bads
+        (if first == 98 then Some (record { justice = false; index = number })
+        else (if first == 106 then Some (record { justice = true; index = number }) else None)) }
 {
     if first == b'b' {
         return if number < bads {
@@ -72,7 +75,8 @@ fn claimed(line: &[u8], bads: u64) -> Result<u64, Why>
 /// The bad property that a line claims, of so many, or why it claims none. Of a longer line the first 22 bytes are enough, and
 /// whether all others are digits.
 pub(crate) fn claim_of(line: &[u8], digits: bool, bads: u64) -> Result<u64, Why>
-    ensures { (room : ℕ) (whole : List ℕ) → 21 < room → AreFront room line.now digits whole → result ≡ claim_at bads whole }
+    ensures { (room : ℕ) (whole : List ℕ) → 21 < room → AreFront room line.now digits whole
+        → result ≡ claim_at bads whole }
 {
     if !digits {
         return Err(Why::BadClaim);

@@ -25,7 +25,8 @@ pub(crate) struct BitLines<'a> {
 
 /// Whether a line says that there is no claim, where it is the first.
 fn says_no_claim(place: BitPlace, line: &[u8]) -> bool
-    ensures { result ≡ (is_header (bit_place_of place) && (bytes_eq line.now (codes "0") || bytes_eq line.now (codes "2"))) }
+    ensures { result ≡ (is_header (bit_place_of place)
+        && (bytes_eq line.now (codes "0") || bytes_eq line.now (codes "2"))) }
 {
     matches!(place, BitPlace::Header) && (is_word(line, b"0") || is_word(line, b"2"))
 }
@@ -33,7 +34,8 @@ fn says_no_claim(place: BitPlace, line: &[u8]) -> bool
 impl<'a> BitLines<'a> {
     /// Of no line yet.
     pub(crate) fn new(reader: BitReader<'a>) -> BitLines<'a>
-        ensures { result ≡ record { reader = reader.entry; admitted = 0; refused = None; no_claim = false } }
+        ensures { result
+            ≡ record { reader = reader.entry; admitted = 0; refused = None; no_claim = false } }
     {
         BitLines {
             reader,
@@ -45,7 +47,10 @@ impl<'a> BitLines<'a> {
 
     /// Judges a line behind others, none of which was refused.
     fn judge(&mut self, line: &[u8], digits: bool)
-        ensures { (c : Circuit) (k : CutLine) (lines : List (List ℕ)) (part whole : List ℕ) → IsOfLines (bit_judging c) (judge_of self.old k) lines part → AreFront (line_room c) line.now digits whole → self.old.refused ≡ None → IsOfLines (bit_judging c) (judge_of self.new k) (lines ++ whole ∷ []) [] }
+        ensures { (c : Circuit) (k : CutLine) (lines : List (List ℕ)) (part whole : List ℕ)
+            → IsOfLines (bit_judging c) (judge_of self.old k) lines part
+            → AreFront (line_room c) line.now digits whole → self.old.refused ≡ None
+            → IsOfLines (bit_judging c) (judge_of self.new k) (lines ++ whole ∷ []) [] }
     {
         if are_most(self.admitted) {
             self.refused = Some(Why::TooLong);
@@ -61,7 +66,10 @@ impl<'a> BitLines<'a> {
     /// Takes a line behind the others. Of a longer line as many bytes are enough as there is room for, and whether all others
     /// are digits.
     pub(crate) fn take(&mut self, line: &[u8], digits: bool)
-        ensures { (c : Circuit) (k : CutLine) (lines : List (List ℕ)) (part whole : List ℕ) → IsOfLines (bit_judging c) (judge_of self.old k) lines part → AreFront (line_room c) line.now digits whole → IsOfLines (bit_judging c) (judge_of self.new k) (lines ++ whole ∷ []) [] }
+        ensures { (c : Circuit) (k : CutLine) (lines : List (List ℕ)) (part whole : List ℕ)
+            → IsOfLines (bit_judging c) (judge_of self.old k) lines part
+            → AreFront (line_room c) line.now digits whole
+            → IsOfLines (bit_judging c) (judge_of self.new k) (lines ++ whole ∷ []) [] }
     {
         if self.refused.is_none() {
             self.judge(line, digits);

@@ -80,7 +80,8 @@ pub fn first_violated(circuit: &Circuit, run: &BitRun<'_>) -> Option<u64>
 fn rises(circuit: &Circuit, run: &BitRun<'_>, claim: u64) -> bool
     requires same { run.now.circuit ≡ circuit.now }
     requires settled { run.now.settled ≡ true }
-    ensures { (v : Valuation) → IsFrameNow run.now v → claim < length circuit.now.bads → result ≡ literal_value v (slice_index circuit.now.bads claim) }
+    ensures { (v : Valuation) → IsFrameNow run.now v → claim < length circuit.now.bads
+        → result ≡ literal_value v (slice_index circuit.now.bads claim) }
 {
     let claim = claim as usize;
     claim < circuit.bads().len() && run.bad(claim)
@@ -91,7 +92,8 @@ impl<'a> BitPlay<'a> {
     ///
     /// Error: `NoMemory`.
     pub(crate) fn new(alloc: Global, circuit: &'a Circuit) -> Result<BitPlay<'a>, NewFault>
-        ensures { MatchResult result (λ p. p ≡ play_start circuit.now) (λ fault. fault ≡ NewFault.NoMemory) }
+        ensures { MatchResult result (λ p. p ≡ play_start circuit.now)
+            (λ fault. fault ≡ NewFault.NoMemory) }
     {
         let run = BitRun::new(alloc, circuit)?;
         Ok(BitPlay {
@@ -146,7 +148,8 @@ impl<'a> BitPlay<'a> {
     /// Gives a latch that is there its initial bit.
     fn set_latch(&mut self, k: usize, bit: bool)
         requires { k < length self.old.circuit.latches }
-        ensures { (d : Latch) → self.new ≡ latch_given self.old k bit (differs_from_reset (slice_index_or self.old.circuit.latches k d).reset bit) }
+        ensures { (d : Latch) → self.new ≡ latch_given self.old k bit
+            (differs_from_reset (slice_index_or self.old.circuit.latches k d).reset bit) }
     {
         self.run.set_state(k, bit);
         let differs = differs_from_reset(self.circuit.latches()[k].reset, bit);
@@ -158,7 +161,8 @@ impl<'a> BitPlay<'a> {
     /// Condition: the line has as many bytes as there are latches.
     pub(crate) fn take_initial_line(&mut self, line: &[u8])
         requires { length line.now ≡ length self.old.circuit.latches }
-        ensures { (c : Circuit) (claim : ℕ) → self.old ≡ play_start c → PlaysBits c claim (map is_one_bit line.now) [] self.new }
+        ensures { (c : Circuit) (claim : ℕ) → self.old ≡ play_start c
+            → PlaysBits c claim (map is_one_bit line.now) [] self.new }
     {
         for (k, byte) in line.iter().enumerate() {
             self.set_latch(k, *byte == b'1');
@@ -178,7 +182,9 @@ impl<'a> BitPlay<'a> {
     /// Condition: the line has as many bytes as there are inputs.
     pub(crate) fn take_input_line(&mut self, line: &[u8])
         requires { length line.now ≡ self.old.circuit.inputs }
-        ensures { (c : Circuit) (claim : ℕ) (initial : List Bool) (frames : List (List Bool)) → PlaysBits c claim initial frames self.old → PlaysBits c claim initial frames self.new × (self.new.run.inputs ≡ map is_one_bit line.now) }
+        ensures { (c : Circuit) (claim : ℕ) (initial : List Bool) (frames : List (List Bool))
+            → PlaysBits c claim initial frames self.old → PlaysBits c claim initial frames self.new
+            × (self.new.run.inputs ≡ map is_one_bit line.now) }
     {
         for (k, byte) in line.iter().enumerate() {
             self.set_input(k, *byte == b'1');
@@ -188,7 +194,10 @@ impl<'a> BitPlay<'a> {
     /// Closes the frame of the bits that the inputs have: settles it, looks at its constraints and at the claimed bad
     /// property, and moves on.
     pub(crate) fn close(&mut self, claim: u64)
-        ensures { (c : Circuit) (initial : List Bool) (frames : List (List Bool)) → PlaysBits c claim initial frames self.old → claim < length c.bads → length frames < 2 ^ 62 → PlaysBits c claim initial (frames ++ self.old.run.inputs ∷ []) self.new }
+        ensures { (c : Circuit) (initial : List Bool) (frames : List (List Bool))
+            → PlaysBits c claim initial frames self.old → claim < length c.bads
+            → length frames < 2 ^ 62
+            → PlaysBits c claim initial (frames ++ self.old.run.inputs ∷ []) self.new }
     {
         self.run.settle();
         let violated = first_violated(self.circuit, &self.run);

@@ -46,7 +46,9 @@ impl<'a> BitReader<'a> {
     ///
     /// Error: `NoMemory`.
     pub(crate) fn new(alloc: Global, circuit: &'a Circuit) -> Result<BitReader<'a>, NewFault>
-        ensures { MatchResult result (λ q. q ≡ record { play = play_start circuit.now; place = BitPlace.Header; claim = 0 }) (λ fault. fault ≡ NewFault.NoMemory) }
+        ensures { MatchResult result
+            (λ q. q ≡ record { play = play_start circuit.now; place = BitPlace.Header; claim = 0 })
+            (λ fault. fault ≡ NewFault.NoMemory) }
     {
         let play = BitPlay::new(alloc, circuit)?;
         Ok(BitReader {
@@ -89,7 +91,8 @@ impl<'a> BitReader<'a> {
 
     /// The line of the initial bits has ended.
     fn admit_initial(&mut self, line: &[u8]) -> Result<(), Why>
-        ensures line { (c : Circuit) (r : BitRead) → ReadsBits c self.old r → self.old.place ≡ place.Initial → GivesBitLine c r line.now self.new result }
+        ensures line { (c : Circuit) (r : BitRead) → ReadsBits c self.old r
+            → self.old.place ≡ place.Initial → GivesBitLine c r line.now self.new result }
         ensures err { OnErr result (self.new ≡ self.old) }
     {
         let count = self.play.latches();
@@ -103,7 +106,12 @@ impl<'a> BitReader<'a> {
 
     /// The line of a frame has ended.
     fn admit_frame(&mut self, line: &[u8]) -> Result<(), Why>
-        ensures frame { (c : Circuit) (r : BitRead) → ReadsBits c self.old r → is_frame self.old.place ≡ true → length r.frames < 2 ^ 62 → MatchResult result (λ _. (bits_at c.inputs line.now ≡ Ok (map is_one_bit line.now)) × ReadsBits c self.new (record r { place = AtLater; frames = r.frames ++ map is_one_bit line.now ∷ [] })) (λ why. bits_at c.inputs line.now ≡ Err why) }
+        ensures frame { (c : Circuit) (r : BitRead) → ReadsBits c self.old r
+            → is_frame self.old.place ≡ true → length r.frames < 2 ^ 62
+            → MatchResult result (λ _. (bits_at c.inputs line.now ≡ Ok (map is_one_bit line.now))
+            × ReadsBits c self.new
+            (record r { place = AtLater; frames = r.frames ++ map is_one_bit line.now ∷ [] })) (λ
+            why. bits_at c.inputs line.now ≡ Err why) }
         ensures err { OnErr result (self.new ≡ self.old) }
     {
         let count = self.play.inputs();
@@ -119,7 +127,9 @@ impl<'a> BitReader<'a> {
     /// The line has ended: it is admitted, or why it is not. Of a longer line as many bytes are enough as there is room for, and
     /// whether all others are digits.
     pub(crate) fn admit(&mut self, line: &[u8], digits: bool) -> Result<(), Why>
-        ensures line { (c : Circuit) (r : BitRead) (whole : List ℕ) → ReadsBits c self.old r → AreFront (line_room c) line.now digits whole → length r.frames < 2 ^ 62 → GivesBitLine c r whole self.new result }
+        ensures line { (c : Circuit) (r : BitRead) (whole : List ℕ) → ReadsBits c self.old r
+            → AreFront (line_room c) line.now digits whole → length r.frames < 2 ^ 62
+            → GivesBitLine c r whole self.new result }
         ensures err { OnErr result (self.new ≡ self.old) }
     {
         match self.place {

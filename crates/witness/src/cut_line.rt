@@ -113,7 +113,8 @@ impl CutLine {
 
     /// Takes bytes behind the others.
     pub fn extend(&mut self, bytes: &[u8])
-        ensures { (room : ℕ) (line : List ℕ) → self.old ≡ cut_of room line → self.new ≡ cut_of room (line ++ bytes.now) }
+        ensures { (room : ℕ) (line : List ℕ) → self.old ≡ cut_of room line
+            → self.new ≡ cut_of room (line ++ bytes.now) }
     {
         let (front, behind) = parted(bytes, self.buffer.len() - self.used);
         self.keep(front);

@@ -30,7 +30,9 @@ const CHUNK: usize = 65536;
 ///
 /// Error: the source's own, once.
 fn feed_words<S: Source>(judge: &mut WordJudge<'_>, source: &mut S) -> Result<(), DeviceFault>
-    ensures fed { OnOk result ((items : List Item) (text : List ℕ) → StandsForWitness items judge.old text → IfSome (S.to_come source.old) (λ all. StandsForWitness items judge.new (text ++ all))) }
+    ensures fed { OnOk result ((items : List Item) (text : List ℕ)
+        → StandsForWitness items judge.old text
+        → IfSome (S.to_come source.old) (λ all. StandsForWitness items judge.new (text ++ all))) }
     ensures end { OnOk result (IsAtEnd (S.to_come source.new)) }
     ensures counted { CountsFaults result (S.failures source.old) (S.failures source.new) }
 {
@@ -55,9 +57,11 @@ pub fn judge_words<S: Source>(
     source: &mut S,
 ) -> Result<Judgement, JudgeFault>
     // the judgement is that of the whole text
-    ensures judged { IfOk result (λ judgement. IfSome (S.to_come source.old) (λ text. Judges model.now text judgement)) }
+    ensures judged { IfOk result (λ judgement. IfSome (S.to_come source.old)
+        (λ text. Judges model.now text judgement)) }
     // accepted exactly where the text says a witness of which this is judged
-    ensures accepted { IfOk result (λ judgement. IfSome (S.to_come source.old) (λ text. AcceptsExactly model.now text judgement)) }
+    ensures accepted { IfOk result (λ judgement. IfSome (S.to_come source.old)
+        (λ text. AcceptsExactly model.now text judgement)) }
     // a state with an init and no next is named exactly where there is one, the first
     ensures answer { AnswersJudge result (first_init_without_next model.now model.now) }
     ensures unread { IfErr result (λ e. NamesState e → source.new ≡ source.old) }
@@ -84,7 +88,8 @@ pub fn judge_words<S: Source>(
 ///
 /// Error: the source's own, once.
 fn feed_bits<S: Source>(judge: &mut BitJudge<'_>, source: &mut S) -> Result<(), DeviceFault>
-    ensures fed { OnOk result ((c : Circuit) (text : List ℕ) → StandsForBits c judge.old text → IfSome (S.to_come source.old) (λ all. StandsForBits c judge.new (text ++ all))) }
+    ensures fed { OnOk result ((c : Circuit) (text : List ℕ) → StandsForBits c judge.old text
+        → IfSome (S.to_come source.old) (λ all. StandsForBits c judge.new (text ++ all))) }
     ensures end { OnOk result (IsAtEnd (S.to_come source.new)) }
     ensures counted { CountsFaults result (S.failures source.old) (S.failures source.new) }
 {
@@ -109,9 +114,11 @@ pub fn judge_bits<S: Source>(
     source: &mut S,
 ) -> Result<Judgement, JudgeFault>
     // the judgement is that of the whole text
-    ensures judged { IfOk result (λ judgement. IfSome (S.to_come source.old) (λ text. BitJudges circuit.now text judgement)) }
+    ensures judged { IfOk result (λ judgement. IfSome (S.to_come source.old)
+        (λ text. BitJudges circuit.now text judgement)) }
     // accepted exactly where the text says a witness of which this is judged
-    ensures accepted { IfOk result (λ judgement. IfSome (S.to_come source.old) (λ text. BitAcceptsExactly circuit.now text judgement)) }
+    ensures accepted { IfOk result (λ judgement. IfSome (S.to_come source.old)
+        (λ text. BitAcceptsExactly circuit.now text judgement)) }
     ensures no_state { IfErr result (λ e. NamesState e → ⊥) }
     ensures unread { IsErrOf result JudgeFault.NoMemory → source.new ≡ source.old }
     ensures end { OnOk result (IsAtEnd (S.to_come source.new)) }

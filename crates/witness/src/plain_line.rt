@@ -16,7 +16,8 @@ const MOST_DIGITS: usize = 19;
 /// A number whose digits end in front of a place of a text, and the text behind this byte, where the byte stands there.
 #[inline(always)]
 fn ended(text: &[u8], at: usize, value: u64, end: u8) -> Option<(u64, &[u8])>
-    ensures { MatchOption result (slice_get text.now at ≢ Some end) (λ x. (x.0 ≡ value) × (text.now ≡ take at text.now ++ end ∷ x.1.now)) }
+    ensures { MatchOption result (slice_get text.now at ≢ Some end)
+        (λ x. (x.0 ≡ value) × (text.now ≡ take at text.now ++ end ∷ x.1.now)) }
 {
     if at >= text.len() || text[at] != end {
         return None;
@@ -30,7 +31,8 @@ fn ended(text: &[u8], at: usize, value: u64, end: u8) -> Option<(u64, &[u8])>
 #[inline(always)]
 fn number_before(text: &[u8], end: u8) -> Option<(u64, &[u8])>
     requires { end < 48 }
-    ensures { MatchOption result (NoNumber end text.now) (λ x. (x.0 < 2 ^ 64) × (text.now ≡ decimal x.0 ++ end ∷ x.1.now)) }
+    ensures { MatchOption result (NoNumber end text.now) (λ x. (x.0 < 2 ^ 64)
+        × (text.now ≡ decimal x.0 ++ end ∷ x.1.now)) }
 {
     let (first, _) = text.split_first()?;
     if !is_digit(*first) {
@@ -57,7 +59,8 @@ fn number_before(text: &[u8], end: u8) -> Option<(u64, &[u8])>
 /// The text behind the line `@<k>` that opens the frame behind so many, where a text begins with it.
 #[inline(always)]
 pub(crate) fn behind_frame_line<'t>(text: &'t [u8], frames: &Counter) -> Option<&'t [u8]>
-    ensures { MatchOption result (NoFrameLine (suc frames.now) text.now) (λ rest. text.now ≡ (64 ∷ decimal (suc frames.now)) ++ 10 ∷ rest.now) }
+    ensures { MatchOption result (NoFrameLine (suc frames.now) text.now)
+        (λ rest. text.now ≡ (64 ∷ decimal (suc frames.now)) ++ 10 ∷ rest.now) }
 {
     let (first, behind) = text.split_first()?;
     if *first != b'@' {
@@ -71,7 +74,8 @@ pub(crate) fn behind_frame_line<'t>(text: &'t [u8], frames: &Counter) -> Option<
 /// bytes are those of names.
 #[inline(always)]
 fn first_other(text: &[u8]) -> Option<(usize, u8, &[u8])>
-    ensures { MatchOption result (list_all is_printed text.now ≡ true) (λ x. IsFirstOther text.now x.0 x.1 x.2.now) }
+    ensures { MatchOption result (list_all is_printed text.now ≡ true)
+        (λ x. IsFirstOther text.now x.0 x.1 x.2.now) }
 {
     let count = printed_front(text);
     let (_, others) = text.split_at(count);
@@ -94,7 +98,8 @@ fn is_name(bytes: &[u8]) -> bool
 /// The text behind a name and the end of its line, where a text begins so behind a space.
 #[inline(always)]
 fn behind_symbol(text: &[u8]) -> Option<&[u8]>
-    ensures { MatchOption result (NoName (32 ∷ text.now)) (λ rest. BeginsName (32 ∷ text.now) rest.now) }
+    ensures { MatchOption result (NoName (32 ∷ text.now))
+        (λ rest. BeginsName (32 ∷ text.now) rest.now) }
 {
     let (count, end, rest) = first_other(text)?;
     if end != b'\n' {
@@ -123,7 +128,8 @@ fn behind_name(text: &[u8]) -> Option<&[u8]>
 /// behind the line.
 #[inline(always)]
 fn plain_word(text: &[u8], width: Width) -> Option<(u64, &[u8])>
-    ensures { MatchOption result (NoWord width text.now) (λ x. BeginsWord width text.now x.0 x.1.now) }
+    ensures { MatchOption result (NoWord width text.now)
+        (λ x. BeginsWord width text.now x.0 x.1.now) }
 {
     let count = width.bits() as usize;
     if text.len() < count {
@@ -144,7 +150,8 @@ pub(crate) fn plain_assignment<'t>(
     given: &Given,
 ) -> Option<(u64, u64, &'t [u8])>
     requires { length given.now ≡ length widths.now }
-    ensures { MatchOption result (NoAssignment widths.now given.now text.now) (λ x. BeginsAssignment widths.now given.now text.now x.0 x.1 x.2.now) }
+    ensures { MatchOption result (NoAssignment widths.now given.now text.now)
+        (λ x. BeginsAssignment widths.now given.now text.now x.0 x.1 x.2.now) }
 {
     let (index, behind) = number_before(text, b' ')?;
     let k = index as usize;

@@ -101,7 +101,8 @@ fn differs_from_init(model: &Model, run: &WordRun<'_>, k: usize) -> bool
     requires well_formed { IsWellFormed model.now }
     requires settled { run.now.settled ≡ true }
     requires there { k < length (places is_state 0 model.now) }
-    ensures { (f : Frame) → IsNow run.now f → IfSome (slice_get (of_kind is_state model.now) k) (λ x. result ≡ differs (init_word model.now x.id) (f x.id)) }
+    ensures { (f : Frame) → IsNow run.now f → IfSome (slice_get (of_kind is_state model.now) k)
+        (λ x. result ≡ differs (init_word model.now x.id) (f x.id)) }
 {
     match model.init_of(k) {
         Some(place) => differs(model.constant(place), run.value(model.states()[k])),
@@ -142,7 +143,8 @@ pub(crate) fn first_violated(model: &Model, run: &WordRun<'_>) -> Option<u64>
 pub(crate) fn note_rises(run: &WordRun<'_>, rose: &mut [bool])
     requires many { length rose.old ≡ length (places is_bad 0 run.now.items) }
     requires settled { run.now.settled ≡ true }
-    ensures { (f : Frame) → IsNow run.now f → RisesIn (nodes_of is_bad run.now.items) f rose.old rose.new }
+    ensures { (f : Frame) → IsNow run.now f
+        → RisesIn (nodes_of is_bad run.now.items) f rose.old rose.new }
 {
     for i in 0..rose.len() {
         rose[i] |= run.bad(i);
@@ -164,7 +166,9 @@ pub fn note_breach(found: &mut Option<Breach>, frame: u64, violated: Option<u64>
 /// The first bad property that is claimed and does not rise, by two flags for each.
 pub(crate) fn first_unreached(claimed: &[bool], rose: &[bool]) -> Option<u64>
     requires many { length claimed.now ≡ length rose.now }
-    ensures { (claims nodes : List ℕ) (fs : List Frame) (none : List Bool) → AreClaimed claimed.now claims → length nodes ≡ length rose.now → NoneIsSet none → RisesAmong nodes fs none rose.now → result ≡ first_unreached claims fs 0 nodes }
+    ensures { (claims nodes : List ℕ) (fs : List Frame) (none : List Bool)
+        → AreClaimed claimed.now claims → length nodes ≡ length rose.now → NoneIsSet none
+        → RisesAmong nodes fs none rose.now → result ≡ first_unreached claims fs 0 nodes }
 {
     for i in 0..rose.len() {
         if claimed[i] & !rose[i] {

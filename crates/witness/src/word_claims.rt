@@ -23,7 +23,8 @@ pub(crate) struct ClaimScan {
 
 /// Sets the flag of a number, and answers whether it has one that was not set.
 fn set_flag(claimed: &mut [bool], number: u64) -> bool
-    ensures fresh { result ≡ (nat_lt number (length claimed.old) && not (is_set claimed.old number)) }
+    ensures fresh { result
+        ≡ (nat_lt number (length claimed.old) && not (is_set claimed.old number)) }
     ensures set { number < length claimed.old → claimed.new ≡ slice_set claimed.old number true }
     ensures many { length claimed.new ≡ length claimed.old }
 {
@@ -51,7 +52,9 @@ impl ClaimScan {
 
     /// The piece is whole, whose flag is set then, and another begins.
     fn end_piece(&mut self, claimed: &mut [bool])
-        ensures told { (before : Option (List Claim)) (bytes : List ℕ) → Scans self.old.piece bytes → AreTold self.old claimed.old before → AreTold self.new claimed.new (and_claim before (claim_of bytes)) }
+        ensures told { (before : Option (List Claim)) (bytes : List ℕ) → Scans self.old.piece bytes
+            → AreTold self.old claimed.old before
+            → AreTold self.new claimed.new (and_claim before (claim_of bytes)) }
         ensures piece { Scans self.new.piece [] }
         ensures many { length claimed.new ≡ length claimed.old }
     {
@@ -67,7 +70,8 @@ impl ClaimScan {
 
     /// Takes a byte behind the others, and sets the flag of a claim that ends with it.
     fn push(&mut self, byte: u8, claimed: &mut [bool])
-        ensures line { (line : List ℕ) → AreClaims self.old claimed.old line → AreClaims self.new claimed.new (line ++ byte ∷ []) }
+        ensures line { (line : List ℕ) → AreClaims self.old claimed.old line
+            → AreClaims self.new claimed.new (line ++ byte ∷ []) }
         ensures many { length claimed.new ≡ length claimed.old }
     {
         if byte == b' ' {
@@ -79,7 +83,8 @@ impl ClaimScan {
 
     /// Takes bytes behind the others.
     pub(crate) fn take(&mut self, bytes: &[u8], claimed: &mut [bool])
-        ensures line { (line : List ℕ) → AreClaims self.old claimed.old line → AreClaims self.new claimed.new (line ++ bytes.now) }
+        ensures line { (line : List ℕ) → AreClaims self.old claimed.old line
+            → AreClaims self.new claimed.new (line ++ bytes.now) }
         ensures many { length claimed.new ≡ length claimed.old }
     {
         for byte in bytes {
@@ -89,7 +94,10 @@ impl ClaimScan {
 
     /// The line has ended: that flags are set at what it claims and nowhere else, or why it claims nothing.
     pub(crate) fn end(self, claimed: &mut [bool]) -> Result<(), Why>
-        ensures line { (line : List ℕ) → AreClaims self claimed.old line → MatchResult result (λ _. (list : List ℕ) × ((claims_at (length claimed.old) line ≡ Ok list) × AreClaimed claimed.new list)) (λ why. claims_at (length claimed.old) line ≡ Err why) }
+        ensures line { (line : List ℕ) → AreClaims self claimed.old line
+            → MatchResult result (λ _. (list : List ℕ)
+            × ((claims_at (length claimed.old) line ≡ Ok list)
+            × AreClaimed claimed.new list)) (λ why. claims_at (length claimed.old) line ≡ Err why) }
         ensures many { length claimed.new ≡ length claimed.old }
     {
         let mut all = self;

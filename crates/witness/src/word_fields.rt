@@ -46,7 +46,8 @@ pub(crate) fn index_of(line: &[u8]) -> Option<u64>
 
 /// The word of so many bits that digits write, where what stands behind them is a symbol, or why there is none.
 fn named(digits: &[u8], name: &[u8], width: Width) -> Result<u64, Why>
-    ensures is { IsAsValueRead (λ w. w) result (word_with (Some name.now) (value_of width digits.now)) }
+    ensures is { IsAsValueRead (λ w. w) result
+        (word_with (Some name.now) (value_of width digits.now)) }
     ensures fits { IfOk result (λ w. w < 2 ^ width) }
 {
     let word = value_of(digits, width)?;
@@ -87,7 +88,8 @@ fn assigned_number(
     line: &[u8],
 ) -> Result<(u64, u64), Why>
     requires { length given.now ≡ length widths.now }
-    ensures is { IsAsValueRead (λ p. p) result (assigned_number widths.now given.now (cut_at_space line.now).1 index) }
+    ensures is { IsAsValueRead (λ p. p) result
+        (assigned_number widths.now given.now (cut_at_space line.now).1 index) }
     ensures fits { IfOk result (PairFits widths.now) }
 {
     let k = index as usize;

@@ -60,7 +60,8 @@ impl<'a> std::marker::Model for WordJudge<'a> {
 
 /// Whether a line says that there is no claim, where it may be the status.
 fn says_no_claim(place: Place, line: &[u8]) -> bool
-    ensures { result ≡ (is_status (place_of place) && (bytes_eq line.now (codes "unsat") || bytes_eq line.now (codes "unknown"))) }
+    ensures { result ≡ (is_status (place_of place)
+        && (bytes_eq line.now (codes "unsat") || bytes_eq line.now (codes "unknown"))) }
 {
     matches!(place, Place::Status) && (is_word(line, b"unsat") || is_word(line, b"unknown"))
 }
@@ -92,7 +93,10 @@ impl<'a> WordJudge<'a> {
 
     /// A line has ended behind the whole lines, none of which was refused. Of its bytes the first 342 are enough.
     fn judge_line(&mut self, line: &[u8])
-        ensures lines { (items : List Item) (lines : List (List ℕ)) (bytes : List ℕ) → IsOfLines (word_judging items) self.old lines bytes → AreAlike line.now bytes → self.old.refused ≡ None → IsOfLines (word_judging items) self.new (lines ++ bytes ∷ []) [] }
+        ensures lines { (items : List Item) (lines : List (List ℕ)) (bytes : List ℕ)
+            → IsOfLines (word_judging items) self.old lines bytes → AreAlike line.now bytes
+            → self.old.refused ≡ None → IsOfLines (word_judging items) self.new
+            (lines ++ bytes ∷ []) [] }
         ensures line { self.new.line ≡ self.old.line }
     {
         if are_most(self.admitted) {
@@ -108,7 +112,9 @@ impl<'a> WordJudge<'a> {
 
     /// Takes bytes of a line that does not end with them.
     fn take_part(&mut self, bytes: &[u8])
-        ensures stands { (items : List Item) (text : List ℕ) → IsLine bytes.now → StandsForWitness items self.old text → StandsForWitness items self.new (text ++ bytes.now) }
+        ensures stands { (items : List Item) (text : List ℕ) → IsLine bytes.now
+            → StandsForWitness items self.old text
+            → StandsForWitness items self.new (text ++ bytes.now) }
         ensures refused { self.new.refused ≡ self.old.refused }
     {
         self.line.extend(bytes);
@@ -119,7 +125,9 @@ impl<'a> WordJudge<'a> {
 
     /// Takes the rest of a line, none before which was refused, and its end.
     fn take_rest(&mut self, bytes: &[u8])
-        ensures { (items : List Item) (text : List ℕ) → IsLine bytes.now → StandsForWitness items self.old text → self.old.refused ≡ None → StandsForWitness items self.new (text ++ (bytes.now ++ 10 ∷ [])) }
+        ensures { (items : List Item) (text : List ℕ) → IsLine bytes.now
+            → StandsForWitness items self.old text → self.old.refused ≡ None
+            → StandsForWitness items self.new (text ++ (bytes.now ++ 10 ∷ [])) }
     {
         self.take_part(bytes);
         let line = mem::replace(&mut self.line, KeptLine::new());
@@ -129,14 +137,17 @@ impl<'a> WordJudge<'a> {
     /// Whether a line that begins is judged by its bytes alone.
     fn takes_whole_lines(&self) -> bool
         ensures alone { result ≡ true → is_alone (place_of self.now.reader.place) ≡ true }
-        ensures begins { (items : List Item) (text : List ℕ) → StandsForWitness items self.now text → result ≡ true → unfinished text ≡ [] }
+        ensures begins { (items : List Item) (text : List ℕ) → StandsForWitness items self.now text
+            → result ≡ true → unfinished text ≡ [] }
     {
         is_alone(self.reader.place()) & self.line.is_empty()
     }
 
     /// Takes the rest of a line and its end.
     fn take_line(&mut self, bytes: &[u8])
-        ensures { (items : List Item) (text : List ℕ) → IsLine bytes.now → StandsForWitness items self.old text → StandsForWitness items self.new (text ++ (bytes.now ++ 10 ∷ [])) }
+        ensures { (items : List Item) (text : List ℕ) → IsLine bytes.now
+            → StandsForWitness items self.old text
+            → StandsForWitness items self.new (text ++ (bytes.now ++ 10 ∷ [])) }
     {
         if self.refused.is_some() {
             self.line.clear();
@@ -155,7 +166,8 @@ impl<'a> WordJudge<'a> {
         requires unrefused { self.old.refused ≡ None }
         requires begins { self.old.line ≡ [] }
         ensures line { IfSome result (λ rest. JudgesLine self.old self.new text.now rest.now) }
-        ensures none { IfNone result (self.old.admitted < 2 ^ 62 → self.old.reader.place ≡ place.Frame → NoPlainLine self.old.reader text.now) }
+        ensures none { IfNone result (self.old.admitted < 2 ^ 62
+            → self.old.reader.place ≡ place.Frame → NoPlainLine self.old.reader text.now) }
         ensures kept { IfNone result (self.new ≡ self.old) }
         ensures unrefused { self.new.refused ≡ None }
         ensures begins { self.new.line ≡ [] }
@@ -172,7 +184,8 @@ impl<'a> WordJudge<'a> {
     #[inline(always)]
     fn take_plain_lines<'t>(&mut self, text: &'t [u8]) -> &'t [u8]
         ensures lines { JudgesLines self.old self.new text.now result.now }
-        ensures none { self.new.refused ≡ None → self.new.admitted < 2 ^ 62 → self.new.line ≡ [] → self.new.reader.place ≡ place.Frame
+        ensures none { self.new.refused ≡ None → self.new.admitted < 2 ^ 62 → self.new.line ≡ []
+            → self.new.reader.place ≡ place.Frame
             → NoPlainLine self.new.reader result.now }
     {
         if self.refused.is_some() || !self.line.is_empty() {
@@ -200,7 +213,8 @@ impl<'a> WordJudge<'a> {
     /// Takes a piece of the text behind those before: a judge that stood for a text stands for that text with the piece
     /// behind it.
     pub fn feed(&mut self, bytes: &[u8])
-        ensures { (items : List Item) (text : List ℕ) → StandsForWitness items self.old text → StandsForWitness items self.new (text ++ bytes.now) }
+        ensures { (items : List Item) (text : List ℕ) → StandsForWitness items self.old text
+            → StandsForWitness items self.new (text ++ bytes.now) }
     {
         let mut rest = self.take_plain_lines(bytes);
         while let Some(behind) = self.take_any(rest) {
@@ -211,7 +225,8 @@ impl<'a> WordJudge<'a> {
 
     /// The judgement of the text so far: of every one that the judge stands for.
     fn judgement(&self) -> Judgement
-        ensures { (items : List Item) (text : List ℕ) → StandsForWitness items self.now text → Judges items text result }
+        ensures { (items : List Item) (text : List ℕ) → StandsForWitness items self.now text
+            → Judges items text result }
     {
         if self.no_claim {
             return Judgement::NoClaim;
@@ -229,16 +244,19 @@ impl<'a> WordJudge<'a> {
 
     /// The judgement of the text: of every one that the judge stands for.
     pub fn finish(self) -> Judgement
-        ensures judged { (items : List Item) (text : List ℕ) → StandsForWitness items self.entry text → Judges items text result }
+        ensures judged { (items : List Item) (text : List ℕ)
+            → StandsForWitness items self.entry text → Judges items text result }
         // accepted exactly where the text says a witness of which this is judged
-        ensures accepted { (items : List Item) (text : List ℕ) → IsWellFormed items → StandsForWitness items self.entry text → AcceptsExactly items text result }
+        ensures accepted { (items : List Item) (text : List ℕ) → IsWellFormed items
+            → StandsForWitness items self.entry text → AcceptsExactly items text result }
     {
         self.judgement()
     }
 
     /// How many words the judge's run holds: one for each node with a value, and one for each state.
     pub fn held(&self) -> u64
-        ensures { (items : List Item) (text : List ℕ) → StandsForWitness items self.now text → result ≡ node_count items + state_count items }
+        ensures { (items : List Item) (text : List ℕ) → StandsForWitness items self.now text
+            → result ≡ node_count items + state_count items }
     {
         self.reader.play().held()
     }
@@ -247,7 +265,8 @@ impl<'a> WordJudge<'a> {
     /// of moving on from the last of them too. The count stays at its greatest value, 2^128 - 1, once it is there.
     #[tactic(auto, unfolding(crate::specs::Readings::reading))]
     pub fn steps(&self) -> u128
-        ensures { (items : List Item) (text : List ℕ) → StandsForWitness items self.now text → result ≡ steps_of items (closed_word_frames (shape_of items) text) }
+        ensures { (items : List Item) (text : List ℕ) → StandsForWitness items self.now text
+            → result ≡ steps_of items (closed_word_frames (shape_of items) text) }
     {
         self.reader.play().steps()
     }
@@ -256,7 +275,8 @@ impl<'a> WordJudge<'a> {
     /// the first faulty line.
     #[tactic(auto, unfolding(crate::specs::Readings::reading))]
     pub fn closed_frames(&self) -> u64
-        ensures { (items : List Item) (text : List ℕ) → StandsForWitness items self.now text → result ≡ closed_word_frames (shape_of items) text }
+        ensures { (items : List Item) (text : List ℕ) → StandsForWitness items self.now text
+            → result ≡ closed_word_frames (shape_of items) text }
     {
         self.reader.play().frames()
     }
@@ -264,7 +284,9 @@ impl<'a> WordJudge<'a> {
     /// The word of a node in the frame that was closed last, by its position in the model's items. There is one at a node
     /// with a value, from the line that closes the frame on until a line gives a word in the next frame.
     pub fn closed_word(&self, node: usize) -> Option<u64>
-        ensures { (items : List Item) (text : List ℕ) (fs : List Frame) → StandsForWitness items self.now text → IsClosedTrace items text fs → result ≡ last_word items text fs node }
+        ensures { (items : List Item) (text : List ℕ) (fs : List Frame)
+            → StandsForWitness items self.now text → IsClosedTrace items text fs
+            → result ≡ last_word items text fs node }
     {
         self.reader.play().closed_word(node)
     }
@@ -272,7 +294,9 @@ impl<'a> WordJudge<'a> {
     /// Whether the bad property at a position, counted from 0 in file order, is claimed, and was 1 in a closed frame; none is
     /// beyond the last. It takes no memory.
     pub fn has_reached(&self, position: usize) -> bool
-        ensures { (items : List Item) (text : List ℕ) (fs : List Frame) → StandsForWitness items self.now text → IsClosedTrace items text fs → result ≡ word_reached items text fs position }
+        ensures { (items : List Item) (text : List ℕ) (fs : List Frame)
+            → StandsForWitness items self.now text → IsClosedTrace items text fs
+            → result ≡ word_reached items text fs position }
     {
         self.reader.reaches(position)
     }
@@ -280,7 +304,8 @@ impl<'a> WordJudge<'a> {
     /// How many whole lines stand before the first faulty line.
     #[tactic(auto, unfolding(crate::specs::Readings::reading))]
     pub fn admitted_lines(&self) -> u64
-        ensures { (items : List Item) (text : List ℕ) → StandsForWitness items self.now text → result ≡ admitted_word_lines (shape_of items) text }
+        ensures { (items : List Item) (text : List ℕ) → StandsForWitness items self.now text
+            → result ≡ admitted_word_lines (shape_of items) text }
     {
         self.admitted
     }

@@ -110,7 +110,8 @@ fn note_difference(model: &Model, run: &WordRun<'_>, frame: u64, found: &mut Opt
     requires same { run.now.items ≡ model.now }
     requires well_formed { IsWellFormed model.now }
     requires settled { run.now.settled ≡ true }
-    ensures { (f : Frame) → IsNow run.now f → found.new ≡ (if frame == 0 then first_different model.now f else found.old) }
+    ensures { (f : Frame) → IsNow run.now f → found.new
+        ≡ (if frame == 0 then first_different model.now f else found.old) }
 {
     if frame == 0 {
         *found = first_different(model, run);
@@ -189,7 +190,8 @@ impl<'a> WordPlay<'a> {
     /// The text behind the line that opens the next frame, where a text begins with it.
     #[inline(always)]
     pub(crate) fn behind_next<'t>(&self, text: &'t [u8]) -> Option<&'t [u8]>
-        ensures line { MatchOption result (NoFrameLine (suc self.now.frames) text.now) (λ rest. text.now ≡ (64 ∷ decimal (suc self.now.frames)) ++ 10 ∷ rest.now) }
+        ensures line { MatchOption result (NoFrameLine (suc self.now.frames) text.now)
+            (λ rest. text.now ≡ (64 ∷ decimal (suc self.now.frames)) ++ 10 ∷ rest.now) }
         ensures small { suc self.now.frames < 2 ^ 64 }
     {
         let _frames = self.frames.count();
@@ -219,7 +221,10 @@ impl<'a> WordPlay<'a> {
 
     /// Gives a state the word of a line in the open part, or answers why the line gives none.
     pub(crate) fn assign_state(&mut self, line: &[u8]) -> Result<(), Why>
-        ensures line { (frames : List FrameWords) (before : List Assignment) → Plays self.old.items frames (record { states = pairs_of before; inputs = [] }) self.old → MayGive self.old.items frames line.now → GivesState self.old.items frames before line.now self.new result }
+        ensures line { (frames : List FrameWords) (before : List Assignment)
+            → Plays self.old.items frames (record { states = pairs_of before; inputs = [] })
+            self.old → MayGive self.old.items frames line.now
+            → GivesState self.old.items frames before line.now self.new result }
         ensures same { self.new.items ≡ self.old.items }
         ensures err { OnErr result (self.new ≡ self.old) }
     {
@@ -233,7 +238,9 @@ impl<'a> WordPlay<'a> {
 
     /// Gives an input the word of a line in the open part, or answers why the line gives none.
     pub(crate) fn assign_input(&mut self, line: &[u8]) -> Result<(), Why>
-        ensures line { (frames : List FrameWords) (states : List (ℕ × ℕ)) (before : List Assignment) → Plays self.old.items frames (record { states = states; inputs = pairs_of before }) self.old → GivesInput self.old.items frames states before line.now self.new result }
+        ensures line { (frames : List FrameWords) (states : List (ℕ × ℕ)) (before : List Assignment)
+            → Plays self.old.items frames (record { states = states; inputs = pairs_of before })
+            self.old → GivesInput self.old.items frames states before line.now self.new result }
         ensures same { self.new.items ≡ self.old.items }
         ensures err { OnErr result (self.new ≡ self.old) }
     {
@@ -251,7 +258,8 @@ impl<'a> WordPlay<'a> {
     pub(crate) fn take_input<'t>(&mut self, text: &'t [u8]) -> Option<&'t [u8]>
         ensures line { IfSome result (λ rest. TakesInput self.old self.new text.now rest.now) }
         ensures same { self.new.items ≡ self.old.items }
-        ensures none { IfNone result (NoAssignment (widths_of is_input self.old.items) self.old.inputs_given text.now) }
+        ensures none { IfNone result
+            (NoAssignment (widths_of is_input self.old.items) self.old.inputs_given text.now) }
         ensures kept { IfNone result (self.new ≡ self.old) }
     {
         let _items = self.model.items();
@@ -265,7 +273,9 @@ impl<'a> WordPlay<'a> {
     /// Closes the open frame: settles it, and looks at its constraints and at the bad properties. The run moves on later,
     /// so that the frame's words can be read.
     pub(crate) fn close(&mut self)
-        ensures more { (frames : List FrameWords) (here : FrameWords) → Plays self.old.items frames here self.old → length frames < 2 ^ 62 → Plays self.old.items (frames ++ here ∷ []) nothing_given self.new }
+        ensures more { (frames : List FrameWords) (here : FrameWords)
+            → Plays self.old.items frames here self.old → length frames < 2 ^ 62
+            → Plays self.old.items (frames ++ here ∷ []) nothing_given self.new }
         ensures same { self.new.items ≡ self.old.items }
     {
         let _items = self.model.items();
@@ -302,7 +312,8 @@ impl<'a> WordPlay<'a> {
     /// The word of a node in the frame that was closed last, by its position in the model's items. There is one while the
     /// run has not moved on from that frame, at a node with a value.
     pub(crate) fn closed_word(&self, node: usize) -> Option<u64>
-        ensures { (f : Frame) → (self.now.run.settled ≡ true → IsNow self.now.run f) → result ≡ (if self.now.run.settled then word_at self.now.items f node else None) }
+        ensures { (f : Frame) → (self.now.run.settled ≡ true → IsNow self.now.run f)
+            → result ≡ (if self.now.run.settled then word_at self.now.items f node else None) }
     {
         if !self.run.is_settled() {
             return None;

@@ -129,14 +129,18 @@ impl<'a> WordReader<'a> {
 
     /// The first bad property that is claimed and rose in no closed frame.
     pub(crate) fn unreached(&self) -> Option<u64>
-        ensures { (claims : List ℕ) (fs : List Frame) (none : List Bool) → AreClaimed self.now.claimed claims → NoneIsSet none → RisesAmong (nodes_of is_bad self.now.play.items) fs none self.now.play.rose → result ≡ first_unreached claims fs 0 (nodes_of is_bad self.now.play.items) }
+        ensures { (claims : List ℕ) (fs : List Frame) (none : List Bool)
+            → AreClaimed self.now.claimed claims → NoneIsSet none
+            → RisesAmong (nodes_of is_bad self.now.play.items) fs none self.now.play.rose
+            → result ≡ first_unreached claims fs 0 (nodes_of is_bad self.now.play.items) }
     {
         first_unreached(self.claimed.as_slice(), self.play.rose())
     }
 
     /// Whether the bad property at a position is claimed, and rose in a closed frame; none is beyond the last.
     pub(crate) fn reaches(&self, position: usize) -> bool
-        ensures flags { result ≡ (is_set self.now.claimed position && is_set self.now.play.rose position) }
+        ensures flags { result
+            ≡ (is_set self.now.claimed position && is_set self.now.play.rose position) }
         ensures there { result ≡ true → position < length (places is_bad 0 self.now.play.items) }
     {
         let rose = self.play.rose();
@@ -145,7 +149,8 @@ impl<'a> WordReader<'a> {
 
     /// Takes bytes of the next line.
     pub(crate) fn take(&mut self, bytes: &[u8])
-        ensures { (items : List Item) (r : Read) (line : List ℕ) → ReadsWords items self.old r line → ReadsWords items self.new r (line ++ bytes.now) }
+        ensures { (items : List Item) (r : Read) (line : List ℕ) → ReadsWords items self.old r line
+            → ReadsWords items self.new r (line ++ bytes.now) }
     {
         if !is_alone(self.place) {
             self.claims.take(bytes, self.claimed.as_mut_slice());
@@ -155,7 +160,9 @@ impl<'a> WordReader<'a> {
     /// Whether an assignment may stand in a part of states: any in the first frame, and behind it one of a free state.
     fn may_assign(&self, line: &[u8]) -> bool
         ensures first { self.now.play.frames ≡ 0 → result ≡ true }
-        ensures later { 0 < self.now.play.frames → result ≡ option_map_or (is_free_index (shape_of self.now.play.items)) (number_of (cut_at_space line.now).0) false }
+        ensures later { 0 < self.now.play.frames → result
+            ≡ option_map_or (is_free_index (shape_of self.now.play.items))
+            (number_of (cut_at_space line.now).0) false }
     {
         let model = self.play.model();
         if self.play.frames() == 0 {
@@ -179,7 +186,8 @@ impl<'a> WordReader<'a> {
 
     /// A comment or the status has ended.
     fn admit_status(&mut self, line: &[u8]) -> Result<(), Why>
-        ensures line { (items : List Item) (r : Read) → ReadsWords items self.old r line.now → self.old.place ≡ place.Status → GivesLine items r line.now self.new result }
+        ensures line { (items : List Item) (r : Read) → ReadsWords items self.old r line.now
+            → self.old.place ≡ place.Status → GivesLine items r line.now self.new result }
         ensures err { OnErr result (self.new ≡ self.old) }
     {
         if is_comment(line) {
@@ -194,7 +202,9 @@ impl<'a> WordReader<'a> {
 
     /// The line of claims has ended.
     fn admit_claims(&mut self) -> Result<(), Why>
-        ensures line { (items : List Item) (r : Read) (bytes : List ℕ) → ReadsWords items self.old r bytes → self.old.place ≡ place.Claims → GivesLine items r bytes self.new result }
+        ensures line { (items : List Item) (r : Read) (bytes : List ℕ)
+            → ReadsWords items self.old r bytes → self.old.place ≡ place.Claims
+            → GivesLine items r bytes self.new result }
         ensures err { OnErr result (self.new.play ≡ self.old.play) }
     {
         self.claims.end(self.claimed.as_mut_slice())?;
@@ -204,7 +214,8 @@ impl<'a> WordReader<'a> {
 
     /// The line behind the claims has ended.
     fn admit_parts(&mut self, line: &[u8]) -> Result<(), Why>
-        ensures line { (items : List Item) (r : Read) → ReadsWords items self.old r line.now → self.old.place ≡ place.Parts → GivesLine items r line.now self.new result }
+        ensures line { (items : List Item) (r : Read) → ReadsWords items self.old r line.now
+            → self.old.place ≡ place.Parts → GivesLine items r line.now self.new result }
         ensures err { OnErr result (self.new ≡ self.old) }
     {
         if is_numbered(line, b'#', 0) {
@@ -220,7 +231,9 @@ impl<'a> WordReader<'a> {
 
     /// A line of a part of states has ended, or the one behind it.
     fn admit_states(&mut self, line: &[u8]) -> Result<(), Why>
-        ensures line { (items : List Item) (r : Read) → ReadsWords items self.old r line.now → self.old.place ≡ place.States → length r.closed < 2 ^ 62 → GivesLine items r line.now self.new result }
+        ensures line { (items : List Item) (r : Read) → ReadsWords items self.old r line.now
+            → self.old.place ≡ place.States → length r.closed < 2 ^ 62
+            → GivesLine items r line.now self.new result }
         ensures err { OnErr result (self.new ≡ self.old) }
     {
         if is_numbered(line, b'@', self.play.frames()) {
@@ -238,7 +251,9 @@ impl<'a> WordReader<'a> {
 
     /// A line behind that which opens a frame has ended.
     fn admit_frame(&mut self, line: &[u8]) -> Result<(), Why>
-        ensures line { (items : List Item) (r : Read) → ReadsWords items self.old r line.now → self.old.place ≡ place.Frame → length r.closed < 2 ^ 62 → GivesLine items r line.now self.new result }
+        ensures line { (items : List Item) (r : Read) → ReadsWords items self.old r line.now
+            → self.old.place ≡ place.Frame → length r.closed < 2 ^ 62
+            → GivesLine items r line.now self.new result }
         ensures err { OnErr result (self.new ≡ self.old) }
     {
         if !begins_part(line) {
@@ -265,7 +280,8 @@ impl<'a> WordReader<'a> {
     /// Takes the line of an input's word or that which opens the next frame, where a text begins with it.
     #[inline(always)]
     fn take_in_frame<'t>(&mut self, text: &'t [u8]) -> Option<&'t [u8]>
-        ensures line { self.old.place ≡ place.Frame → IfSome result (λ rest. TakesLine self.old self.new text.now rest.now) }
+        ensures line { self.old.place ≡ place.Frame
+            → IfSome result (λ rest. TakesLine self.old self.new text.now rest.now) }
         ensures none { IfNone result (NoPlainLine self.old text.now) }
         ensures kept { IfNone result (self.new ≡ self.old) }
     {
@@ -283,7 +299,8 @@ impl<'a> WordReader<'a> {
     #[inline(always)]
     pub(crate) fn take_line<'t>(&mut self, text: &'t [u8]) -> Option<&'t [u8]>
         ensures line { IfSome result (λ rest. TakesLine self.old self.new text.now rest.now) }
-        ensures none { IfNone result (self.old.place ≡ place.Frame → NoPlainLine self.old text.now) }
+        ensures none { IfNone result (self.old.place ≡ place.Frame
+            → NoPlainLine self.old text.now) }
         ensures kept { IfNone result (self.new ≡ self.old) }
     {
         match self.place {
@@ -294,7 +311,9 @@ impl<'a> WordReader<'a> {
 
     /// The line has ended: it is admitted, or why it is not. Of its bytes the first 342 are enough.
     pub(crate) fn admit(&mut self, line: &[u8]) -> Result<(), Why>
-        ensures line { (items : List Item) (r : Read) (bytes : List ℕ) → ReadsWords items self.old r bytes → AreAlike line.now bytes → length r.closed < 2 ^ 62 → GivesLine items r bytes self.new result }
+        ensures line { (items : List Item) (r : Read) (bytes : List ℕ)
+            → ReadsWords items self.old r bytes → AreAlike line.now bytes → length r.closed < 2 ^ 62
+            → GivesLine items r bytes self.new result }
         ensures err { OnErr result (self.new.play ≡ self.old.play) }
         // the line of the claims sets flags before it is refused
         ensures other { OnErr result ((self.old.place ≡ place.Claims → ⊥) → self.new ≡ self.old) }

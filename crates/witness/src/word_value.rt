@@ -20,7 +20,8 @@ fn are_value_bytes(bytes: &[u8]) -> bool
 
 /// The bit that a byte `0` or `1` writes; none for another byte. No branch asks which of the two it is.
 fn known_bit(byte: u8) -> Option<u64>
-    ensures { MatchOption result (is_bit byte ≡ false) (λ bit. (bit ≡ bit_number (is_one_bit byte)) × (is_bit byte ≡ true)) }
+    ensures { MatchOption result (is_bit byte ≡ false) (λ bit. (bit ≡ bit_number (is_one_bit byte))
+        × (is_bit byte ≡ true)) }
 {
     if byte < b'0' || byte > b'1' {
         return None;
@@ -41,7 +42,8 @@ const GATHER: u64 = 0x8040_2010_0804_0201;
 /// tested at once, and their bits gathered by one product.
 #[inline(always)]
 fn eight_bits(bytes: &[u8; 8]) -> Option<u64>
-    ensures { MatchOption result (list_all is_bit bytes.now ≡ false) (λ word. (list_all is_bit bytes.now ≡ true) × (word ≡ digits_word 0 bytes.now)) }
+    ensures { MatchOption result (list_all is_bit bytes.now ≡ false)
+        (λ word. (list_all is_bit bytes.now ≡ true) × (word ≡ digits_word 0 bytes.now)) }
 {
     let read = u64::from_le_bytes(*bytes);
     let bare = read ^ ZEROS;
@@ -58,7 +60,8 @@ fn eight_bits(bytes: &[u8; 8]) -> Option<u64>
 fn known_behind(front: u64, bytes: &[u8]) -> Option<u64>
     requires few { length bytes.now ≤ 64 }
     requires room { front < 2 ^ (64 - length bytes.now) }
-    ensures { MatchOption result (list_all is_bit bytes.now ≡ false) (λ word. (list_all is_bit bytes.now ≡ true) × (word ≡ digits_word front bytes.now)) }
+    ensures { MatchOption result (list_all is_bit bytes.now ≡ false)
+        (λ word. (list_all is_bit bytes.now ≡ true) × (word ≡ digits_word front bytes.now)) }
 {
     let mut word = front;
     for byte in bytes {
@@ -73,7 +76,8 @@ fn known_behind(front: u64, bytes: &[u8]) -> Option<u64>
 #[inline(always)]
 pub(crate) fn known_word(bytes: &[u8]) -> Option<u64>
     requires { length bytes.now ≤ 64 }
-    ensures { MatchOption result (list_all is_bit bytes.now ≡ false) (λ word. IsValueOf word bytes.now) }
+    ensures { MatchOption result (list_all is_bit bytes.now ≡ false)
+        (λ word. IsValueOf word bytes.now) }
 {
     let mut word = 0;
     let mut rest = bytes;
@@ -87,7 +91,8 @@ pub(crate) fn known_word(bytes: &[u8]) -> Option<u64>
 
 /// Why as many bytes as a word has bits write none.
 pub(crate) fn refusal(bytes: &[u8]) -> Why
-    ensures { result ≡ (if list_all is_value_byte bytes.now then why.Undetermined else why.BadValue) }
+    ensures { result ≡ (if list_all is_value_byte bytes.now then why.Undetermined
+        else why.BadValue) }
 {
     if are_value_bytes(bytes) {
         Why::Undetermined

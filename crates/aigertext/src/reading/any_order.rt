@@ -24,7 +24,8 @@ use std::alloc::{AllocError, Global};
 /// Adds gates to the lists of a file, the first of which has the given variable; nothing where memory is wanting.
 fn push_own(lists: &mut Loose, greatest: u32, first: u32, gates: &[Gate]) -> Option<()>
     requires { first + length gates.now ≤ 1073741825 }
-    ensures { result ≡ Some tt → IsPutOnLists greatest lists.old lists.new (gates_text variant.Ascii first gates.now) }
+    ensures { result ≡ Some tt → IsPutOnLists greatest lists.old lists.new
+        (gates_text variant.Ascii first gates.now) }
 {
     let mut variable = first;
     for gate in gates {
@@ -45,7 +46,8 @@ pub fn lists_so_far(
 ) -> Option<(Counts, Loose)>
     requires { first + length gates.now ≤ 1073741825 }
     ensures stand { IfSome result (λ x. StandBefore x.0 before.now x.1) }
-    ensures own { IfSome result (λ x. line_texts x.1.gates ≡ gates_text variant.Ascii first gates.now) }
+    ensures own { IfSome result (λ x. line_texts x.1.gates
+        ≡ gates_text variant.Ascii first gates.now) }
 {
     let Ok(((Form::Ascii, counts), lines)) = header_line(before) else {
         return None;
@@ -76,7 +78,8 @@ fn append_lines(text: &mut Vec<u8>, gates: &[GateLine]) -> Result<(), AllocError
 
 /// The text that was read: what stands before the gates, the lines of those that were read, and what is held behind them.
 fn restored(alloc: Global, before: &[u8], gates: &[GateLine], window: &[u8]) -> Option<Vec<u8>>
-    ensures { IfSome result (λ text. text.items ≡ before.now ++ (line_texts gates.now ++ window.now)) }
+    ensures { IfSome result (λ text. text.items
+        ≡ before.now ++ (line_texts gates.now ++ window.now)) }
 {
     let mut text = before.to_vec(alloc).ok()?;
     append_lines(&mut text, gates).ok()?;
@@ -96,11 +99,15 @@ pub fn take_onto<S: Source>(
     wanted: bool,
 ) -> Result<Taken, ReadAllFault>
     requires { StandBefore counts.now before.now lists.old }
-    ensures taken { IfOk result (IsTakenFrom (prepend_known (before.now ++ (line_texts lists.old.gates ++ window.old.items)) (S.to_come source.old)) wanted) }
+    ensures taken { IfOk result
+        (IsTakenFrom (prepend_known (before.now ++ (line_texts lists.old.gates ++ window.old.items))
+        (S.to_come source.old)) wanted) }
     ensures end { OnOk result (IsAtEnd (S.to_come source.new)) }
     ensures counted { OnOk result (S.failures source.new ≡ S.failures source.old) }
-    ensures device { IsErrOf result ReadAllFault.Device → HasRisen (S.failures source.old) (S.failures source.new) }
-    ensures memory { IsErrOf result ReadAllFault.NoMemory → S.failures source.new ≡ S.failures source.old }
+    ensures device { IsErrOf result ReadAllFault.Device
+        → HasRisen (S.failures source.old) (S.failures source.new) }
+    ensures memory { IsErrOf result ReadAllFault.NoMemory → S.failures source.new
+        ≡ S.failures source.old }
 {
     one_renumbering();
     let greatest = 2 * counts.variables + 1;

@@ -32,7 +32,8 @@ fn push_properties<'a>(
 ) -> Result<&'a [u8], Stop>
     requires none { file_lists lists.old ≡ no_lists }
     requires small { AreSmall counts.now }
-    ensures { WasToBeRead (λ x. (lists.new, x.now)) result (properties_onto counts.now lists.old text.now) }
+    ensures { WasToBeRead (λ x. (lists.new, x.now)) result
+        (properties_onto counts.now lists.old text.now) }
 {
     let mut properties = PropertyLines::new(alloc);
     let rest = read_properties(&mut properties, text, counts)?;
@@ -141,8 +142,10 @@ pub fn named(
     wanted: bool,
 ) -> Result<Numbered, Stop>
     requires { AreSmall counts.now }
-    ensures answers { ReadsBy (λ e. e.why) (λ x. x.circuit) result (AnswersLists counts.now text.now (Ok (lists.now, names.now))) }
-    ensures numbering { wanted ≡ true → IfOk result (λ x. AreNumbersOf lists.now names.now x.circuit x.numbering) }
+    ensures answers { ReadsBy (λ e. e.why) (λ x. x.circuit) result
+        (AnswersLists counts.now text.now (Ok (lists.now, names.now))) }
+    ensures numbering { wanted ≡ true
+        → IfOk result (λ x. AreNumbersOf lists.now names.now x.circuit x.numbering) }
 {
     match numbered(alloc, lists, wanted) {
         Ok(mut numbered) => {
@@ -167,8 +170,10 @@ pub fn read_file(
 ) -> Result<Numbered, Stop>
     requires small { AreSmall counts.now }
     requires fits { Fits form.Ascii counts.now }
-    ensures answers { ReadsBy (λ e. e.why) (λ x. x.circuit) result (AnswersLists counts.now text.now (lists_of_file counts.now text.now)) }
-    ensures numbering { wanted ≡ true → IfOk result (λ x. IsNumberingOfLists counts.now text.now x.circuit x.numbering) }
+    ensures answers { ReadsBy (λ e. e.why) (λ x. x.circuit) result
+        (AnswersLists counts.now text.now (lists_of_file counts.now text.now)) }
+    ensures numbering { wanted ≡ true
+        → IfOk result (λ x. IsNumberingOfLists counts.now text.now x.circuit x.numbering) }
 {
     one_renumbering();
     let mut lists = Loose::new(alloc);

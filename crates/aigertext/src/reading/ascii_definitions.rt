@@ -32,7 +32,8 @@ pub(crate) trait Definition {
     /// What the line at the front of a text defines, and the text behind it, where it is quickly read; else nothing. Of
     /// nothing no more is said.
     fn plain<'a>(text: &'a [u8], greatest: u32, lists: &Loose) -> Option<(Self, &'a [u8])>
-        ensures { IfSome result (λ x. line_at (says greatest lists.now) text.now ≡ Ok (x.0, x.1.now)) }
+        ensures { IfSome result (λ x. line_at (says greatest lists.now) text.now
+            ≡ Ok (x.0, x.1.now)) }
     {
         None
     }
@@ -173,7 +174,8 @@ pub fn push_definitions<'a, D: Definition>(
     greatest: u32,
     count: u32,
 ) -> Result<&'a [u8], Stop>
-    ensures { WasToBeRead (λ x. (lists.new, x.now)) result (onto_lists (D.says greatest) D.with_line lists.old count text.now) }
+    ensures { WasToBeRead (λ x. (lists.new, x.now)) result
+        (onto_lists (D.says greatest) D.with_line lists.old count text.now) }
 {
     let mut rest = text;
     for _index in 0..count {

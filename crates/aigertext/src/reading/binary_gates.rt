@@ -34,7 +34,8 @@ fn delta(text: &[u8]) -> Result<(u64, &[u8]), Stop>
 /// The greater operand of a gate with this literal, and the text behind its delta.
 #[inline(always)]
 fn greater_operand(text: &[u8], own: u32) -> Result<(u32, &[u8]), Stop>
-    ensures gives { IsAsRead (λ x. (x.0, x.1.now)) result (said_at_front text.now (greater_at own text.now)) }
+    ensures gives { IsAsRead (λ x. (x.0, x.1.now)) result
+        (said_at_front text.now (greater_at own text.now)) }
     ensures below { IfOk result (λ x. x.0 < own) }
 {
     let (difference, behind) = delta(text)?;
@@ -47,7 +48,8 @@ fn greater_operand(text: &[u8], own: u32) -> Result<(u32, &[u8]), Stop>
 /// The smaller operand of a gate whose greater one is given, and the text behind its delta.
 #[inline(always)]
 fn smaller_operand(text: &[u8], greater: u32) -> Result<(u32, &[u8]), Stop>
-    ensures gives { IsAsRead (λ x. (x.0, x.1.now)) result (said_at_front text.now (smaller_at greater text.now)) }
+    ensures gives { IsAsRead (λ x. (x.0, x.1.now)) result
+        (said_at_front text.now (smaller_at greater text.now)) }
     ensures below { IfOk result (λ x. x.0 ≤ greater) }
 {
     let (difference, behind) = delta(text)?;

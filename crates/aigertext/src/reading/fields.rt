@@ -16,7 +16,8 @@ pub fn first_field(line: &[u8]) -> (&[u8], &[u8])
 
 /// The part behind a space, and the rest of the line; nothing where the line ended.
 pub fn next_field(rest: &[u8]) -> Option<(&[u8], &[u8])>
-    ensures { MatchOption result (fields_behind rest.now ≡ []) (λ x. fields_behind rest.now ≡ x.0.now ∷ fields_behind x.1.now) }
+    ensures { MatchOption result (fields_behind rest.now ≡ [])
+        (λ x. fields_behind rest.now ≡ x.0.now ∷ fields_behind x.1.now) }
 {
     match rest {
         [] => None,

@@ -33,11 +33,15 @@ fn set_latches(circuit: &mut Circuit, latches: &[Latch]) -> Result<(), CircuitFa
 ///
 /// Errors: those of the names, and `NoMemory`.
 fn finish(circuit: &mut Circuit, front: &Front, names: &[u8]) -> Result<(), Stop>
-    requires bare { circuit.old ≡ with_more_gates (fresh_circuit front.now.counts.inputs front.now.counts.latches) circuit.old.gates }
+    requires bare { circuit.old
+        ≡ with_more_gates (fresh_circuit front.now.counts.inputs front.now.counts.latches)
+        circuit.old.gates }
     requires all { length circuit.old.gates ≡ front.now.counts.gates }
     requires small { AreSmall front.now.counts }
-    requires front { (before : List ℕ) × IsFront front.now.form front.now.counts (uses_of front.now) before }
-    ensures { IsFinish front.now.counts (uses_of front.now) circuit.old.gates circuit.new names.now result }
+    requires front { (before : List ℕ)
+        × IsFront front.now.form front.now.counts (uses_of front.now) before }
+    ensures { IsFinish front.now.counts (uses_of front.now) circuit.old.gates circuit.new names.now
+        result }
 {
     if set_latches(circuit, &front.latches).is_err()
         || put_properties(circuit, &front.properties).is_err()
@@ -54,11 +58,17 @@ fn finish(circuit: &mut Circuit, front: &Front, names: &[u8]) -> Result<(), Stop
 /// other gates, of a binary text, and what stands behind the gates; then it gets what stands before them.
 pub fn read_left(circuit: &mut Circuit, front: &Front, window: &[u8]) -> Result<(), Stop>
     requires small { AreSmall front.now.counts }
-    requires front { (before : List ℕ) × IsFront front.now.form front.now.counts (uses_of front.now) before }
-    requires bare { circuit.old ≡ with_more_gates (fresh_circuit front.now.counts.inputs front.now.counts.latches) circuit.old.gates }
+    requires front { (before : List ℕ)
+        × IsFront front.now.form front.now.counts (uses_of front.now) before }
+    requires bare { circuit.old
+        ≡ with_more_gates (fresh_circuit front.now.counts.inputs front.now.counts.latches)
+        circuit.old.gates }
     requires few { length circuit.old.gates ≤ front.now.counts.gates }
-    requires all { front.now.form ≡ variant.Ascii → length circuit.old.gates ≡ front.now.counts.gates }
-    ensures { (before : List ℕ) → IsFront front.now.form front.now.counts (uses_of front.now) before → ReadsOnto circuit.new (text_with front.now.form front.now.counts before circuit.old.gates window.now) result }
+    requires all { front.now.form ≡ variant.Ascii → length circuit.old.gates
+        ≡ front.now.counts.gates }
+    ensures { (before : List ℕ) → IsFront front.now.form front.now.counts (uses_of front.now) before
+        → ReadsOnto circuit.new (text_with front.now.form front.now.counts before circuit.old.gates
+        window.now) result }
 {
     own_numbers();
     let gates = front.counts.gates as usize;

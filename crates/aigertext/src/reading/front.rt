@@ -44,7 +44,8 @@ fn read_latches<'a>(
 ) -> Result<&'a [u8], Stop>
     requires none { latches.old.items ≡ [] }
     requires fits { first + 2 * count ≤ 4294967295 }
-    ensures { WasToBeRead (λ x. (latches.new.items, x.now)) result (latches_in form greatest first count text.now) }
+    ensures { WasToBeRead (λ x. (latches.new.items, x.now)) result
+        (latches_in form greatest first count text.now) }
 {
     let mut rest = text;
     for index in 0..count {
@@ -64,8 +65,10 @@ fn read_latches<'a>(
 fn read_uses<'a>(front: &mut Front, text: &'a [u8]) -> Result<&'a [u8], Stop>
     requires none { uses_of front.old ≡ ([], no_numbers) }
     requires small { AreSmall front.old.counts }
-    requires fits { front.old.counts.inputs + front.old.counts.latches ≤ front.old.counts.variables }
-    ensures reads { WasToBeRead (λ x. (uses_of front.new, x.now)) result (uses_at front.old.form front.old.counts text.now) }
+    requires fits { front.old.counts.inputs + front.old.counts.latches
+        ≤ front.old.counts.variables }
+    ensures reads { WasToBeRead (λ x. (uses_of front.new, x.now)) result
+        (uses_at front.old.form front.old.counts text.now) }
     ensures form { front.new.form ≡ front.old.form }
     ensures counts { front.new.counts ≡ front.old.counts }
 {
@@ -86,7 +89,8 @@ pub fn uses<'a>(
 ) -> Result<(Front, &'a [u8]), Stop>
     requires small { AreSmall counts.now }
     requires fits { counts.now.inputs + counts.now.latches ≤ counts.now.variables }
-    ensures reads { WasToBeRead (λ x. (uses_of x.0, x.1.now)) result (uses_at form counts.now text.now) }
+    ensures reads { WasToBeRead (λ x. (uses_of x.0, x.1.now)) result
+        (uses_at form counts.now text.now) }
     ensures form { IfOk result (λ x. x.0.form ≡ form) }
     ensures counts { IfOk result (λ x. x.0.counts ≡ counts.now) }
 {
@@ -145,11 +149,15 @@ pub fn read_front<S: Source>(
     text: &mut Vec<u8>,
     source: &mut S,
 ) -> Result<Option<(Front, usize)>, ReadAllFault>
-    ensures bytes { OnOk result (Keeps (prepend_known text.old.items (S.to_come source.old)) (prepend_known text.new.items (S.to_come source.new))) }
-    ensures front { IfOk result (λ x. MatchOption x (IsAtEnd (S.to_come source.new)) (λ x. HasFront x.0 x.1 text.new.items)) }
+    ensures bytes { OnOk result (Keeps (prepend_known text.old.items (S.to_come source.old))
+        (prepend_known text.new.items (S.to_come source.new))) }
+    ensures front { IfOk result (λ x. MatchOption x (IsAtEnd (S.to_come source.new))
+        (λ x. HasFront x.0 x.1 text.new.items)) }
     ensures counted { OnOk result (S.failures source.new ≡ S.failures source.old) }
-    ensures device { IsErrOf result ReadAllFault.Device → HasRisen (S.failures source.old) (S.failures source.new) }
-    ensures memory { IsErrOf result ReadAllFault.NoMemory → S.failures source.new ≡ S.failures source.old }
+    ensures device { IsErrOf result ReadAllFault.Device
+        → HasRisen (S.failures source.old) (S.failures source.new) }
+    ensures memory { IsErrOf result ReadAllFault.NoMemory → S.failures source.new
+        ≡ S.failures source.old }
 {
     let mut piece = [0u8; PIECE];
     let mut enough = 0;

@@ -23,7 +23,8 @@ const LONG_GATE: usize = 64;
 /// The gate of the line at the front of an ascii text, where its own literal is the given one, and the text behind it.
 #[inline(always)]
 fn line_gate(text: &[u8], own: u32) -> Option<(Gate, &[u8])>
-    ensures { IfSome result (λ x. text.now ≡ numbers_line (own ∷ x.0.rhs0 ∷ x.0.rhs1 ∷ []) ++ x.1.now) }
+    ensures { IfSome result (λ x. text.now ≡ numbers_line (own ∷ x.0.rhs0 ∷ x.0.rhs1 ∷ [])
+        ++ x.1.now) }
 {
     let (number, first, second, behind) = three_numbers(text)?;
     if number != own {
@@ -66,7 +67,8 @@ pub(crate) trait TakesGates {
     /// Adds the gates at the front of a text, at most so many and as long as it takes them, with literals up to the top one,
     /// and answers the text behind them. It ends where memory is wanting, too.
     fn push_gates<'a>(&mut self, form: Form, top: u32, text: &'a [u8], most: usize) -> &'a [u8]
-        ensures puts { PutsText (puts form top) self.old self.new (length text.now - length result.now) (Some text.now) (Some result.now) }
+        ensures puts { PutsText (puts form top) self.old self.new
+            (length text.now - length result.now) (Some text.now) (Some result.now) }
         ensures few { count self.new ≤ count self.old + most };
 }
 
@@ -128,7 +130,9 @@ impl TakesGates for Loose {
 /// there is memory; else there is nothing, and the lists are the same.
 #[inline(always)]
 pub fn push_line(lists: &mut Loose, greatest: u32, own: u32, first: u32, second: u32) -> Option<()>
-    ensures added { result ≡ Some tt → (lists.new ≡ with_gate_line lists.old (record { lhs = own; rhs0 = first; rhs1 = second })) × IsLineUpTo greatest (record { lhs = own; rhs0 = first; rhs1 = second }) }
+    ensures added { result ≡ Some tt
+        → (lists.new ≡ with_gate_line lists.old (record { lhs = own; rhs0 = first; rhs1 = second }))
+        × IsLineUpTo greatest (record { lhs = own; rhs0 = first; rhs1 = second }) }
     ensures same { result ≡ None → lists.new ≡ lists.old }
 {
     if own > greatest || first > greatest || second > greatest {
@@ -148,11 +152,16 @@ pub fn read_gates<T: TakesGates, S: Source>(
     count: usize,
     source: &mut S,
 ) -> Result<u64, ReadAllFault>
-    ensures puts { IfOk result (λ passed. PutsText (T.puts form greatest) target.old target.new passed (prepend_known window.old.items (S.to_come source.old)) (prepend_known window.new.items (S.to_come source.new))) }
+    ensures puts { IfOk result
+        (λ passed. PutsText (T.puts form greatest) target.old target.new passed
+        (prepend_known window.old.items (S.to_come source.old))
+        (prepend_known window.new.items (S.to_come source.new))) }
     ensures few { OnOk result (T.count target.old ≤ count → T.count target.new ≤ count) }
     ensures counted { OnOk result (S.failures source.new ≡ S.failures source.old) }
-    ensures device { IsErrOf result ReadAllFault.Device → HasRisen (S.failures source.old) (S.failures source.new) }
-    ensures memory { IsErrOf result ReadAllFault.NoMemory → S.failures source.new ≡ S.failures source.old }
+    ensures device { IsErrOf result ReadAllFault.Device
+        → HasRisen (S.failures source.old) (S.failures source.new) }
+    ensures memory { IsErrOf result ReadAllFault.NoMemory → S.failures source.new
+        ≡ S.failures source.old }
 {
     T::in_pieces();
     let mut piece = [0u8; PIECE];

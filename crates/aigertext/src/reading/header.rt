@@ -13,7 +13,8 @@ use base::decimal;
 
 /// Puts the numbers of a line behind its first field into a list, and answers how many they are.
 fn numbers_in(rest: &[u8], numbers: &mut [u64; 9]) -> Result<usize, Why>
-    ensures told { IfOk result (λ n. numbers_in (fields_behind rest.now) ≡ Ok (take n numbers.new)) }
+    ensures told { IfOk result (λ n. numbers_in (fields_behind rest.now)
+        ≡ Ok (take n numbers.new)) }
     ensures few { IfOk result (λ n. n ≤ 9) }
     ensures refused { IfErr result (λ e. counts_told (fields_behind rest.now) ≡ Err e) }
 {

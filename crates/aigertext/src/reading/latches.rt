@@ -39,7 +39,8 @@ fn reset_behind(rest: &[u8], own: u32) -> Result<Reset, Why>
 /// The latch of a next literal and what stands behind it on its line.
 #[tactic(auto, unfolding(crate::specs::Reading::next_fields))]
 pub fn latch_behind(next: &[u8], rest: &[u8], greatest: u32, own: u32) -> Result<Latch, Why>
-    ensures { IsAsRead (λ x. x) result (next_fields greatest own (next.now ∷ fields_behind rest.now)) }
+    ensures { IsAsRead (λ x. x) result
+        (next_fields greatest own (next.now ∷ fields_behind rest.now)) }
 {
     let next = literal_within(next, greatest, Why::BadLatch)?;
     let reset = reset_behind(rest, own)?;

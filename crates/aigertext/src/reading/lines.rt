@@ -24,7 +24,8 @@ pub fn stop(text: &[u8], why: Why) -> Stop
 /// What was read at the front of a text, whose why is told with its place.
 #[inline(always)]
 pub fn at<T>(text: &[u8], read: Result<T, Why>) -> Result<T, Stop>
-    ensures { MatchResult result (λ x. read ≡ Ok x) (λ e. (read ≡ Err e.why) × (e ≡ stop text.now e.why)) }
+    ensures { MatchResult result (λ x. read ≡ Ok x) (λ e. (read ≡ Err e.why)
+        × (e ≡ stop text.now e.why)) }
 {
     match read {
         Ok(found) => Ok(found),
@@ -67,7 +68,8 @@ pub fn header_line(text: &[u8]) -> Result<((Form, Counts), &[u8]), Stop>
 
 /// The latch of the first line of a text of a form, whose own literal is given, and the text behind it.
 pub fn latch_line(form: Form, text: &[u8], greatest: u32, own: u32) -> Result<(Latch, &[u8]), Stop>
-    ensures { IsAsRead (λ x. (x.0, x.1.now)) result (line_at (latch_in form greatest own) text.now) }
+    ensures { IsAsRead (λ x. (x.0, x.1.now)) result
+        (line_at (latch_in form greatest own) text.now) }
 {
     let (bytes, behind) = line(text)?;
     let latch = at(text, latch_in(form, bytes, greatest, own))?;

@@ -24,7 +24,9 @@ fn section(letter: u8) -> Option<Section>
 ///
 /// Errors: `BadSymbol` and `NoMemory`.
 fn give(circuit: &mut Circuit, section: Section, position: u64, name: &[u8]) -> Result<(), Why>
-    ensures { IsLineReadOf (λ u. circuit.new) result (name_accepted (with_name circuit.old section position name.now) (name_refusal circuit.old section position name.now)) }
+    ensures { IsLineReadOf (λ u. circuit.new) result
+        (name_accepted (with_name circuit.old section position name.now)
+        (name_refusal circuit.old section position name.now)) }
 {
     match circuit.set_name(section, position as usize, name) {
         Ok(()) => Ok(()),
@@ -35,7 +37,8 @@ fn give(circuit: &mut Circuit, section: Section, position: u64, name: &[u8]) -> 
 
 /// Gives a section's position the name that stands behind its letter.
 fn give_by(circuit: &mut Circuit, section: Section, bytes: &[u8]) -> Result<(), Why>
-    ensures { IsLineReadOf (λ u. circuit.new) result (named_by circuit.old section (cut_at_byte 32 bytes.now)) }
+    ensures { IsLineReadOf (λ u. circuit.new) result
+        (named_by circuit.old section (cut_at_byte 32 bytes.now)) }
 {
     let (digits, name) = cut_at(bytes, b' ').ok_or(Why::BadSymbol)?;
     let position = decimal(digits).ok_or(Why::BadSymbol)?;

@@ -14,12 +14,15 @@ pub fn read_piece<S: Source>(
     piece: &mut [u8; PIECE],
     source: &mut S,
 ) -> Result<bool, ReadAllFault>
-    ensures bytes { OnOk result (Keeps (prepend_known bytes.old.items (S.to_come source.old)) (prepend_known bytes.new.items (S.to_come source.new))) }
+    ensures bytes { OnOk result (Keeps (prepend_known bytes.old.items (S.to_come source.old))
+        (prepend_known bytes.new.items (S.to_come source.new))) }
     ensures end { result ≡ Ok false → IsAtEnd (S.to_come source.new) }
     ensures ends { result ≡ Ok true → S.calls_left source.new < S.calls_left source.old }
     ensures counted { OnOk result (S.failures source.new ≡ S.failures source.old) }
-    ensures device { IsErrOf result ReadAllFault.Device → HasRisen (S.failures source.old) (S.failures source.new) }
-    ensures memory { IsErrOf result ReadAllFault.NoMemory → S.failures source.new ≡ S.failures source.old }
+    ensures device { IsErrOf result ReadAllFault.Device
+        → HasRisen (S.failures source.old) (S.failures source.new) }
+    ensures memory { IsErrOf result ReadAllFault.NoMemory → S.failures source.new
+        ≡ S.failures source.old }
 {
     match source.read(piece) {
         Err(DeviceFault::Failed) => Err(ReadAllFault::Device),
@@ -32,11 +35,14 @@ pub fn read_piece<S: Source>(
 
 /// Reads all that a source has left behind some bytes.
 pub fn read_rest<S: Source>(bytes: &mut Vec<u8>, source: &mut S) -> Result<(), ReadAllFault>
-    ensures bytes { OnOk result (Keeps (prepend_known bytes.old.items (S.to_come source.old)) (prepend_known bytes.new.items (S.to_come source.new))) }
+    ensures bytes { OnOk result (Keeps (prepend_known bytes.old.items (S.to_come source.old))
+        (prepend_known bytes.new.items (S.to_come source.new))) }
     ensures end { OnOk result (IsAtEnd (S.to_come source.new)) }
     ensures counted { OnOk result (S.failures source.new ≡ S.failures source.old) }
-    ensures device { IsErrOf result ReadAllFault.Device → HasRisen (S.failures source.old) (S.failures source.new) }
-    ensures memory { IsErrOf result ReadAllFault.NoMemory → S.failures source.new ≡ S.failures source.old }
+    ensures device { IsErrOf result ReadAllFault.Device
+        → HasRisen (S.failures source.old) (S.failures source.new) }
+    ensures memory { IsErrOf result ReadAllFault.NoMemory → S.failures source.new
+        ≡ S.failures source.old }
 {
     let mut piece = [0u8; PIECE];
     while read_piece(bytes, &mut piece, source)? {}

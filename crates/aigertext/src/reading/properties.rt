@@ -53,7 +53,8 @@ fn read_literals<'a>(
     count: u32,
 ) -> Result<&'a [u8], Stop>
     requires { list.old.items ≡ [] }
-    ensures { WasToBeRead (λ x. (list.new.items, x.now)) result (literals_at greatest count text.now) }
+    ensures { WasToBeRead (λ x. (list.new.items, x.now)) result
+        (literals_at greatest count text.now) }
 {
     let mut rest = text;
     for _index in 0..count {
@@ -96,7 +97,8 @@ pub fn read_properties<'a>(
 ) -> Result<&'a [u8], Stop>
     requires none { numbers_of lines.old ≡ no_numbers }
     requires small { counts.now.variables ≤ 1073741824 }
-    ensures { WasToBeRead (λ x. (numbers_of lines.new, x.now)) result (properties_at counts.now text.now) }
+    ensures { WasToBeRead (λ x. (numbers_of lines.new, x.now)) result
+        (properties_at counts.now text.now) }
 {
     let greatest = 2 * counts.variables + 1;
     let rest = read_literals(&mut lines.outputs, text, greatest, counts.outputs)?;

@@ -31,11 +31,13 @@ pub(crate) trait PropertyLists {
 
     /// Adds a literal to a section.
     fn add_literal(&mut self, section: LiteralSection, literal: Lit) -> Result<(), CircuitFault>
-        ensures { OnOk result (self.new ≡ with_lists self.old (with_literals section (lists self.old) (literal ∷ []))) };
+        ensures { OnOk result (self.new
+            ≡ with_lists self.old (with_literals section (lists self.old) (literal ∷ []))) };
 
     /// Adds a justice property.
     fn add_justice(&mut self, literals: &[Lit]) -> Result<(), CircuitFault>
-        ensures { OnOk result (self.new ≡ with_lists self.old (with_justice_lists (lists self.old) (literals.now ∷ []))) };
+        ensures { OnOk result (self.new
+            ≡ with_lists self.old (with_justice_lists (lists self.old) (literals.now ∷ []))) };
 
     /// They are lists beside which nothing changes.
     ghost laws: { ArePropertyLists lists with_lists };
@@ -89,7 +91,8 @@ fn put_literals<L: PropertyLists>(
     section: LiteralSection,
     literals: &[Lit],
 ) -> Result<(), CircuitFault>
-    ensures { OnOk result (lists.new ≡ L.with_lists lists.old (with_literals section (L.lists lists.old) literals.now)) }
+    ensures { OnOk result (lists.new ≡ L.with_lists lists.old
+        (with_literals section (L.lists lists.old) literals.now)) }
 {
     for literal in literals {
         lists.add_literal(section, *literal)?;
@@ -104,7 +107,8 @@ fn put_justice<L: PropertyLists>(
     listed: &[Lit],
 ) -> Result<(), CircuitFault>
     requires { length listed.now ≡ sum sizes.now }
-    ensures { OnOk result (lists.new ≡ L.with_lists lists.old (with_justice_lists (L.lists lists.old) (sized_lists sizes.now listed.now))) }
+    ensures { OnOk result (lists.new ≡ L.with_lists lists.old
+        (with_justice_lists (L.lists lists.old) (sized_lists sizes.now listed.now))) }
 {
     let mut rest = listed;
     for size in sizes {
@@ -122,7 +126,8 @@ pub fn put_properties<L: PropertyLists>(
 ) -> Result<(), CircuitFault>
     requires sums { length properties.now.listed.items ≡ sum properties.now.sizes.items }
     requires none { L.lists lists.old ≡ no_lists }
-    ensures { OnOk result (lists.new ≡ L.with_lists lists.old (lists_made (numbers_of properties.now))) }
+    ensures { OnOk result (lists.new ≡ L.with_lists lists.old
+        (lists_made (numbers_of properties.now))) }
 {
     put_literals(lists, LiteralSection::Output, &properties.outputs)?;
     put_literals(lists, LiteralSection::Bad, &properties.bads)?;

@@ -63,11 +63,15 @@ fn read_onto<S: Source>(
     requires front { IsFront front.now.form front.now.counts (uses_of front.now) before.now }
     requires small { AreSmall front.now.counts }
     requires fresh { circuit.old ≡ fresh_circuit front.now.counts.inputs front.now.counts.latches }
-    ensures taken { IfOk result (IsTakenOnto (prepend_known (before.now ++ window.old.items) (S.to_come source.old)) wanted circuit.new) }
+    ensures taken { IfOk result
+        (IsTakenOnto (prepend_known (before.now ++ window.old.items) (S.to_come source.old)) wanted
+        circuit.new) }
     ensures end { OnOk result (IsAtEnd (S.to_come source.new)) }
     ensures counted { OnOk result (S.failures source.new ≡ S.failures source.old) }
-    ensures device { IsErrOf result ReadAllFault.Device → HasRisen (S.failures source.old) (S.failures source.new) }
-    ensures memory { IsErrOf result ReadAllFault.NoMemory → S.failures source.new ≡ S.failures source.old }
+    ensures device { IsErrOf result ReadAllFault.Device
+        → HasRisen (S.failures source.old) (S.failures source.new) }
+    ensures memory { IsErrOf result ReadAllFault.NoMemory → S.failures source.new
+        ≡ S.failures source.old }
 {
     let counts = &front.counts;
     let count = counts.gates as usize;
@@ -101,11 +105,14 @@ fn take_behind<S: Source>(
 ) -> Result<Taken, ReadAllFault>
     requires front { IsFront front.now.form front.now.counts (uses_of front.now) before.now }
     requires small { AreSmall front.now.counts }
-    ensures taken { IfOk result (IsTakenFrom (prepend_known (before.now ++ gates.now) (S.to_come source.old)) wanted) }
+    ensures taken { IfOk result
+        (IsTakenFrom (prepend_known (before.now ++ gates.now) (S.to_come source.old)) wanted) }
     ensures end { OnOk result (IsAtEnd (S.to_come source.new)) }
     ensures counted { OnOk result (S.failures source.new ≡ S.failures source.old) }
-    ensures device { IsErrOf result ReadAllFault.Device → HasRisen (S.failures source.old) (S.failures source.new) }
-    ensures memory { IsErrOf result ReadAllFault.NoMemory → S.failures source.new ≡ S.failures source.old }
+    ensures device { IsErrOf result ReadAllFault.Device
+        → HasRisen (S.failures source.old) (S.failures source.new) }
+    ensures memory { IsErrOf result ReadAllFault.NoMemory → S.failures source.new
+        ≡ S.failures source.old }
 {
     let Ok(mut window) = gates.to_vec(alloc) else {
         return Err(ReadAllFault::NoMemory);
@@ -135,8 +142,10 @@ pub fn take<S: Source>(alloc: Global, source: &mut S, wanted: bool) -> Result<Ta
     ensures taken { IfOk result (IsTakenFrom (S.to_come source.old) wanted) }
     ensures end { OnOk result (IsAtEnd (S.to_come source.new)) }
     ensures counted { OnOk result (S.failures source.new ≡ S.failures source.old) }
-    ensures device { IsErrOf result ReadAllFault.Device → HasRisen (S.failures source.old) (S.failures source.new) }
-    ensures memory { IsErrOf result ReadAllFault.NoMemory → S.failures source.new ≡ S.failures source.old }
+    ensures device { IsErrOf result ReadAllFault.Device
+        → HasRisen (S.failures source.old) (S.failures source.new) }
+    ensures memory { IsErrOf result ReadAllFault.NoMemory → S.failures source.new
+        ≡ S.failures source.old }
 {
     let mut text = Vec::new(alloc);
     match read_front(alloc, &mut text, source)? {

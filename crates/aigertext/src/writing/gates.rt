@@ -26,7 +26,8 @@ pub fn first_gate(circuit: &Circuit) -> u32
 pub fn put_gates<K: Sink>(pen: &mut Pen, sink: &mut K, form: Form, first: u32, gates: &[Gate])
     requires few { first + length gates.now ≤ 1073741825 }
     requires ordered { AreOrderedFrom first gates.now }
-    ensures { WritesText K.written K.failures sink.old sink.new pen.old pen.new (gates_text form first gates.now) }
+    ensures { WritesText K.written K.failures sink.old sink.new pen.old pen.new
+        (gates_text form first gates.now) }
 {
     match form {
         Form::Ascii => put_lines(pen, sink, first, gates),
@@ -37,7 +38,8 @@ pub fn put_gates<K: Sink>(pen: &mut Pen, sink: &mut K, form: Form, first: u32, g
 /// Puts the lines of gates: of each its literal and its operands.
 fn put_lines<K: Sink>(pen: &mut Pen, sink: &mut K, first: u32, gates: &[Gate])
     requires { first + length gates.now ≤ 1073741825 }
-    ensures { WritesText K.written K.failures sink.old sink.new pen.old pen.new (gates_text variant.Ascii first gates.now) }
+    ensures { WritesText K.written K.failures sink.old sink.new pen.old pen.new
+        (gates_text variant.Ascii first gates.now) }
 {
     let mut variable = first;
     for gate in gates {
@@ -53,7 +55,8 @@ fn put_lines<K: Sink>(pen: &mut Pen, sink: &mut K, first: u32, gates: &[Gate])
 fn put_deltas<K: Sink>(pen: &mut Pen, sink: &mut K, first: u32, gates: &[Gate])
     requires few { first + length gates.now ≤ 1073741825 }
     requires ordered { AreOrderedFrom first gates.now }
-    ensures { WritesText K.written K.failures sink.old sink.new pen.old pen.new (gates_text variant.Binary first gates.now) }
+    ensures { WritesText K.written K.failures sink.old sink.new pen.old pen.new
+        (gates_text variant.Binary first gates.now) }
 {
     let mut buffer = [0u8; ROOM];
     let mut variable = first;
@@ -91,7 +94,8 @@ fn write_gate(buffer: &mut [u8], at: usize, own: u32, gate: &Gate) -> usize
     requires room { at + 10 ≤ length buffer.old }
     requires below { gate.now.rhs0 ≤ own }
     requires ordered { gate.now.rhs1 ≤ gate.now.rhs0 }
-    ensures bytes { take result buffer.new ≡ take at buffer.old ++ gate_text variant.Binary own gate.now }
+    ensures bytes { take result buffer.new ≡ take at buffer.old
+        ++ gate_text variant.Binary own gate.now }
     ensures most { result ≤ at + 10 }
     ensures same { length buffer.new ≡ length buffer.old }
 {

@@ -11,7 +11,8 @@ use base::{Line, Pen, Sink};
 
 /// Puts the header of a circuit in a form.
 pub fn put_header<K: Sink>(pen: &mut Pen, sink: &mut K, form: Form, circuit: &Circuit)
-    ensures { WritesText K.written K.failures sink.old sink.new pen.old pen.new (header form circuit.now) }
+    ensures { WritesText K.written K.failures sink.old sink.new pen.old pen.new
+        (header form circuit.now) }
 {
     write_last_counts(&mut pen.line, circuit);
     before(&mut pen.line, circuit.outputs().len() as u32);
@@ -27,7 +28,9 @@ pub fn put_header<K: Sink>(pen: &mut Pen, sink: &mut K, form: Form, circuit: &Ci
 
 /// Writes the end of a header: the gates, and the counts behind them as far as they are not 0.
 fn write_last_counts(line: &mut Line, circuit: &Circuit)
-    ensures counts { line.new ≡ numbers_line (length circuit.now.gates ∷ without_zero_tail (last_of_counts (counts_in circuit.now))) }
+    ensures counts { line.new
+        ≡ numbers_line (length circuit.now.gates ∷ without_zero_tail
+        (last_of_counts (counts_in circuit.now))) }
     ensures short { length line.new ≤ 105 }
 {
     line.clear();

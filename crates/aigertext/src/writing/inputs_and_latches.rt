@@ -12,7 +12,8 @@ use base::{Line, Pen, Sink};
 /// Puts the lines of so many inputs, which only the ascii form has.
 pub fn put_inputs<K: Sink>(pen: &mut Pen, sink: &mut K, form: Form, count: u32)
     requires { count ≤ 1073741824 }
-    ensures { WritesText K.written K.failures sink.old sink.new pen.old pen.new (inputs_text form count) }
+    ensures { WritesText K.written K.failures sink.old sink.new pen.old pen.new
+        (inputs_text form count) }
 {
     if form == Form::Binary {
         return;
@@ -25,7 +26,8 @@ pub fn put_inputs<K: Sink>(pen: &mut Pen, sink: &mut K, form: Form, count: u32)
 /// Puts the lines of the latches, the first of which has the given variable.
 pub fn put_latches<K: Sink>(pen: &mut Pen, sink: &mut K, form: Form, first: u32, latches: &[Latch])
     requires { first + length latches.now ≤ 1073741825 }
-    ensures { WritesText K.written K.failures sink.old sink.new pen.old pen.new (latches_text form first latches.now) }
+    ensures { WritesText K.written K.failures sink.old sink.new pen.old pen.new
+        (latches_text form first latches.now) }
 {
     let mut variable = first;
     for latch in latches {
@@ -36,7 +38,8 @@ pub fn put_latches<K: Sink>(pen: &mut Pen, sink: &mut K, form: Form, first: u32,
 
 /// Puts the line of a latch: its literal, which the binary form leaves out, its next literal and its reset.
 fn put_latch<K: Sink>(pen: &mut Pen, sink: &mut K, form: Form, own: u32, latch: &Latch)
-    ensures { WritesText K.written K.failures sink.old sink.new pen.old pen.new (latch_text form own latch.now) }
+    ensures { WritesText K.written K.failures sink.old sink.new pen.old pen.new
+        (latch_text form own latch.now) }
 {
     write_next(&mut pen.line, own, latch);
     if form == Form::Ascii {

@@ -10,7 +10,8 @@ use base::{Pen, Sink};
 
 /// Puts the names of all sections, in the order of the letters i l o b c j f.
 pub fn put_all_names<K: Sink>(pen: &mut Pen, sink: &mut K, circuit: &Circuit)
-    ensures { WritesText K.written K.failures sink.old sink.new pen.old pen.new (all_names circuit.now) }
+    ensures { WritesText K.written K.failures sink.old sink.new pen.old pen.new
+        (all_names circuit.now) }
 {
     for section in &Section::ALL {
         put_names(pen, sink, circuit, *section);
@@ -19,7 +20,8 @@ pub fn put_all_names<K: Sink>(pen: &mut Pen, sink: &mut K, circuit: &Circuit)
 
 /// Puts a line for each name of a section.
 fn put_names<K: Sink>(pen: &mut Pen, sink: &mut K, circuit: &Circuit, section: Section)
-    ensures { WritesText K.written K.failures sink.old sink.new pen.old pen.new (names_of circuit.now section) }
+    ensures { WritesText K.written K.failures sink.old sink.new pen.old pen.new
+        (names_of circuit.now section) }
 {
     for position in 0..circuit.count(section) as u32 {
         put_name_at(pen, sink, circuit, section, position);
@@ -28,7 +30,8 @@ fn put_names<K: Sink>(pen: &mut Pen, sink: &mut K, circuit: &Circuit, section: S
 
 /// Puts the line of a position's name, where it has one.
 fn put_name_at<K: Sink>(pen: &mut Pen, sink: &mut K, circuit: &Circuit, section: Section, at: u32)
-    ensures { WritesText K.written K.failures sink.old sink.new pen.old pen.new (name_line (letter section) at (name_of circuit.now section at)) }
+    ensures { WritesText K.written K.failures sink.old sink.new pen.old pen.new
+        (name_line (letter section) at (name_of circuit.now section at)) }
 {
     if let Some(name) = circuit.name(section, at as usize) {
         put_name(pen, sink, section, at, name);
@@ -37,7 +40,8 @@ fn put_name_at<K: Sink>(pen: &mut Pen, sink: &mut K, circuit: &Circuit, section:
 
 /// Puts the line of a name: the section's letter, the position, a space and the name.
 fn put_name<K: Sink>(pen: &mut Pen, sink: &mut K, section: Section, position: u32, name: &[u8])
-    ensures { WritesText K.written K.failures sink.old sink.new pen.old pen.new (name_line (letter section) position (Some name.now)) }
+    ensures { WritesText K.written K.failures sink.old sink.new pen.old pen.new
+        (name_line (letter section) position (Some name.now)) }
 {
     pen.line.clear();
     before(&mut pen.line, position);

@@ -28,7 +28,8 @@ pub fn before(line: &mut Line, number: u32)
 /// Puts a count in front of those behind it: nothing where it is 0 and there are none.
 pub fn count(line: &mut Line, count: u32)
     requires { length line.old + 21 ≤ 512 }
-    ensures counts { (behind : List ℕ) → line.old ≡ kept_line behind → line.new ≡ kept_line (before_kept count behind) }
+    ensures counts { (behind : List ℕ) → line.old ≡ kept_line behind
+        → line.new ≡ kept_line (before_kept count behind) }
     ensures short { length line.new ≤ length line.old + 21 }
 {
     if !line.bytes().is_empty() {
@@ -40,7 +41,8 @@ pub fn count(line: &mut Line, count: u32)
 
 /// Puts the line of one number.
 pub fn put_number<K: Sink>(pen: &mut Pen, sink: &mut K, number: u32)
-    ensures { WritesText K.written K.failures sink.old sink.new pen.old pen.new (numbers_line (number ∷ [])) }
+    ensures { WritesText K.written K.failures sink.old sink.new pen.old pen.new
+        (numbers_line (number ∷ [])) }
 {
     last(&mut pen.line, number);
     pen.put_line(sink);

@@ -8,7 +8,8 @@ use base::{Pen, Sink};
 
 /// Puts the lines of the outputs, bad properties, constraints, justice properties and fairness constraints.
 pub fn put_properties<K: Sink>(pen: &mut Pen, sink: &mut K, circuit: &Circuit)
-    ensures { WritesText K.written K.failures sink.old sink.new pen.old pen.new (property_lines circuit.now) }
+    ensures { WritesText K.written K.failures sink.old sink.new pen.old pen.new
+        (property_lines circuit.now) }
 {
     put_literals(pen, sink, circuit.outputs());
     put_literals(pen, sink, circuit.bads());
@@ -20,7 +21,8 @@ pub fn put_properties<K: Sink>(pen: &mut Pen, sink: &mut K, circuit: &Circuit)
 
 /// Puts a line for each justice property: how many literals it has.
 fn put_sizes<K: Sink>(pen: &mut Pen, sink: &mut K, circuit: &Circuit)
-    ensures { WritesText K.written K.failures sink.old sink.new pen.old pen.new (size_lines circuit.now.justice) }
+    ensures { WritesText K.written K.failures sink.old sink.new pen.old pen.new
+        (size_lines circuit.now.justice) }
 {
     for index in 0..circuit.justice_count() {
         put_number(pen, sink, circuit.justice(index).len() as u32);
@@ -29,7 +31,8 @@ fn put_sizes<K: Sink>(pen: &mut Pen, sink: &mut K, circuit: &Circuit)
 
 /// Puts a line for each literal of each justice property.
 fn put_lists<K: Sink>(pen: &mut Pen, sink: &mut K, circuit: &Circuit)
-    ensures { WritesText K.written K.failures sink.old sink.new pen.old pen.new (list_lines circuit.now.justice) }
+    ensures { WritesText K.written K.failures sink.old sink.new pen.old pen.new
+        (list_lines circuit.now.justice) }
 {
     for index in 0..circuit.justice_count() {
         put_literals(pen, sink, circuit.justice(index));
@@ -38,7 +41,8 @@ fn put_lists<K: Sink>(pen: &mut Pen, sink: &mut K, circuit: &Circuit)
 
 /// Puts a line for each literal.
 fn put_literals<K: Sink>(pen: &mut Pen, sink: &mut K, literals: &[Lit])
-    ensures { WritesText K.written K.failures sink.old sink.new pen.old pen.new (literal_lines literals.now) }
+    ensures { WritesText K.written K.failures sink.old sink.new pen.old pen.new
+        (literal_lines literals.now) }
 {
     for literal in literals {
         put_number(pen, sink, literal.number());

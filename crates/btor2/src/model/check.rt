@@ -22,7 +22,9 @@ const GREATEST_ID: u64 = 4_294_967_295;
 
 /// Whether the widths of an operator's operands are not those that it takes, or that of its sort not that of what it gives.
 fn binary_differs(operator: Binary, sort: u64, left: u64, right: u64) -> bool
-    ensures { result ≡ not ((left == right) && ((not (is_of_bits operator) || (left == 1)) && (sort == binary_width operator left))) }
+    ensures { result ≡ not
+        ((left == right) && ((not (is_of_bits operator) || (left == 1))
+        && (sort == binary_width operator left))) }
 {
     !(left == right && (!operator.is_of_bits() || left == 1) && sort == operator.width(left))
 }
@@ -44,7 +46,8 @@ fn is_no_slice_width(width: u64, upper: u32, lower: u32) -> bool
 /// Whether a decimal constant fits a sort of so many bits.
 fn decimal_fits(width: u64, value: i128) -> bool
     requires { width ≤ 64 }
-    ensures { result ≡ (int_le (neg_ℤ (pos (2 ^ (width - 1)))) value && int_lt value (pos (2 ^ width))) }
+    ensures { result ≡ (int_le (neg_ℤ (pos (2 ^ (width - 1)))) value
+        && int_lt value (pos (2 ^ width))) }
 {
     let least = i128::from(all_ones(width.saturating_sub(1))) + 1;
     -least <= value && value <= i128::from(all_ones(width))
@@ -69,7 +72,8 @@ fn is_of_hex_digits(digits: u32, value: u64) -> bool
 /// Whether a hexadecimal constant fits a sort of so many bits.
 fn hex_digits_fit(width: u64, digits: u32, value: u64) -> bool
     requires { width ≤ 64 }
-    ensures { result ≡ (nat_le 1 digits && (nat_le digits 16 && (nat_lt value (2 ^ width) && nat_lt value (16 ^ digits)))) }
+    ensures { result ≡ (nat_le 1 digits
+        && (nat_le digits 16 && (nat_lt value (2 ^ width) && nat_lt value (16 ^ digits)))) }
 {
     1 <= digits && digits <= 16 && value <= all_ones(width) && is_of_hex_digits(digits, value)
 }
@@ -85,7 +89,8 @@ impl Model {
     /// The width of a sort that is named.
     #[inline(always)]
     fn named_sort(&self, id: u32) -> Result<u64, PushFault>
-        ensures value { MatchResult result (λ n. sort_width self.now id ≡ Some n) (λ e. (e ≡ PushFault.NoSuchSort) × (sort_width self.now id ≡ None)) }
+        ensures value { MatchResult result (λ n. sort_width self.now id ≡ Some n)
+            (λ e. (e ≡ PushFault.NoSuchSort) × (sort_width self.now id ≡ None)) }
         ensures range { IfOk result (λ n. n ≤ 64) }
     {
         match self.sort_width(id) {
@@ -97,7 +102,8 @@ impl Model {
     /// The width of a node that is named.
     #[inline(always)]
     fn named_node(&self, id: u32) -> Result<u64, PushFault>
-        ensures { MatchResult result (λ n. node_width self.now id ≡ Some n) (λ e. (e ≡ PushFault.NoSuchNode) × (node_width self.now id ≡ None)) }
+        ensures { MatchResult result (λ n. node_width self.now id ≡ Some n)
+            (λ e. (e ≡ PushFault.NoSuchNode) × (node_width self.now id ≡ None)) }
     {
         match self.node_width(id) {
             Some(width) => Ok(width),
@@ -169,7 +175,8 @@ impl Model {
 
     /// Tests a slice.
     fn check_slice(&self, sort: u32, operand: u32, upper: u32, lower: u32) -> Result<(), PushFault>
-        ensures { Refuses result (first_row (said_rows self.now (body.Slice sort operand upper lower))) }
+        ensures { Refuses result
+            (first_row (said_rows self.now (body.Slice sort operand upper lower))) }
     {
         let width = self.named_sort(sort)?;
         let given = self.named_node(operand)?;
@@ -184,7 +191,8 @@ impl Model {
 
     /// Tests an operator of one operand.
     fn check_unary(&self, operator: Unary, sort: u32, operand: u32) -> Result<(), PushFault>
-        ensures { Refuses result (first_row (said_rows self.now (body.Unary operator sort operand))) }
+        ensures { Refuses result
+            (first_row (said_rows self.now (body.Unary operator sort operand))) }
     {
         let width = self.named_sort(sort)?;
         let given = self.named_node(operand)?;
@@ -199,7 +207,8 @@ impl Model {
         left: u32,
         right: u32,
     ) -> Result<(), PushFault>
-        ensures { Refuses result (first_row (said_rows self.now (body.Binary operator sort left right))) }
+        ensures { Refuses result
+            (first_row (said_rows self.now (body.Binary operator sort left right))) }
     {
         let width = self.named_sort(sort)?;
         let first = self.named_node(left)?;
@@ -222,7 +231,8 @@ impl Model {
 
     /// Tests a choice.
     fn check_ite(&self, sort: u32, condition: u32, first: u32, second: u32) -> Result<(), PushFault>
-        ensures { Refuses result (first_row (said_rows self.now (body.Ite sort condition first second))) }
+        ensures { Refuses result
+            (first_row (said_rows self.now (body.Ite sort condition first second))) }
     {
         let width = self.named_sort(sort)?;
         let chooses = self.named_node(condition)?;

@@ -34,8 +34,10 @@ fn add_place(list: &mut Vec<usize>, place: usize) -> Result<(), PushFault>
 /// Gives a state's id the id of a value.
 fn add_value(map: &mut IndexMap<u64, u64>, state: u32, value: u32) -> Result<(), PushFault>
     ensures { MatchResult result
-        (λ u. (id : ℕ) → get nat_eq map.new id ≡ (if id == state then Some value else get nat_eq map.old id))
-        (λ fault. (fault ≡ PushFault.NoMemory) × ((id : ℕ) → get nat_eq map.new id ≡ get nat_eq map.old id)) }
+        (λ u. (id : ℕ) → get nat_eq map.new id
+        ≡ (if id == state then Some value else get nat_eq map.old id))
+        (λ fault. (fault ≡ PushFault.NoMemory)
+        × ((id : ℕ) → get nat_eq map.new id ≡ get nat_eq map.old id)) }
 {
     match map.insert(u64::from(state), u64::from(value)) {
         Ok(_) => Ok(()),
@@ -52,7 +54,10 @@ fn make_room(
     id: u64,
 ) -> Result<usize, PushFault>
     ensures answer { MatchResult result
-        (λ place. (place ≡ length items.old.items) × ((vec_len items.new < vec_capacity items.new) × ((vec_len entries.new < vec_capacity entries.new) × ((id - 1 == place) ≡ false → 0 < spare elsewhere.new))))
+        (λ place. (place ≡ length items.old.items)
+        × ((vec_len items.new < vec_capacity items.new)
+        × ((vec_len entries.new < vec_capacity entries.new)
+        × ((id - 1 == place) ≡ false → 0 < spare elsewhere.new))))
         (λ fault. fault ≡ PushFault.NoMemory) }
     ensures same { items.new.items ≡ items.old.items }
     ensures same_entries { entries.new.items ≡ entries.old.items }
@@ -79,8 +84,10 @@ fn make_room(
 fn add_by_id(elsewhere: &mut IndexMap<u64, usize>, in_place: usize, id: u64, place: usize) -> usize
     requires room { (id - 1 == place) ≡ false → 0 < spare elsewhere.old }
     requires few { place < 2 ^ 64 - 1 }
-    ensures elsewhere { (k : ℕ) → get nat_eq elsewhere.new k ≡ (if not (id - 1 == place) && (k == id) then Some place else get nat_eq elsewhere.old k) }
-    ensures front { result ≡ (if (in_place == place) && (id - 1 == place) then in_place + 1 else in_place) }
+    ensures elsewhere { (k : ℕ) → get nat_eq elsewhere.new k
+        ≡ (if not (id - 1 == place) && (k == id) then Some place else get nat_eq elsewhere.old k) }
+    ensures front { result
+        ≡ (if (in_place == place) && (id - 1 == place) then in_place + 1 else in_place) }
 {
     if place_by_number(id) != place {
         match elsewhere.insert(id, place) {
@@ -117,14 +124,22 @@ fn note(
     nexts: &mut IndexMap<u64, u64>,
 ) -> Result<(), PushFault>
     ensures fault { IfErr result (λ fault. fault ≡ PushFault.NoMemory) }
-    ensures inputs { inputs.new.items ≡ with_place (is_ok result && is_input body.now) place inputs.old.items }
-    ensures states { states.new.items ≡ with_place (is_ok result && is_state body.now) place states.old.items }
-    ensures bads { bads.new.items ≡ with_place (is_ok result && is_bad body.now) place bads.old.items }
-    ensures constraints { constraints.new.items ≡ with_place (is_ok result && is_constraint body.now) place constraints.old.items }
-    ensures inits { OnOk result ((id : ℕ) → get nat_eq inits.new id ≡ option_or (init_for id body.now) (get nat_eq inits.old id)) }
-    ensures nexts { OnOk result ((id : ℕ) → get nat_eq nexts.new id ≡ option_or (next_for id body.now) (get nat_eq nexts.old id)) }
-    ensures inits_kept { OnErr result ((id : ℕ) → get nat_eq inits.new id ≡ get nat_eq inits.old id) }
-    ensures nexts_kept { OnErr result ((id : ℕ) → get nat_eq nexts.new id ≡ get nat_eq nexts.old id) }
+    ensures inputs { inputs.new.items
+        ≡ with_place (is_ok result && is_input body.now) place inputs.old.items }
+    ensures states { states.new.items
+        ≡ with_place (is_ok result && is_state body.now) place states.old.items }
+    ensures bads { bads.new.items ≡ with_place (is_ok result && is_bad body.now) place
+        bads.old.items }
+    ensures constraints { constraints.new.items
+        ≡ with_place (is_ok result && is_constraint body.now) place constraints.old.items }
+    ensures inits { OnOk result ((id : ℕ) → get nat_eq inits.new id
+        ≡ option_or (init_for id body.now) (get nat_eq inits.old id)) }
+    ensures nexts { OnOk result ((id : ℕ) → get nat_eq nexts.new id
+        ≡ option_or (next_for id body.now) (get nat_eq nexts.old id)) }
+    ensures inits_kept { OnErr result ((id : ℕ) → get nat_eq inits.new id
+        ≡ get nat_eq inits.old id) }
+    ensures nexts_kept { OnErr result ((id : ℕ) → get nat_eq nexts.new id
+        ≡ get nat_eq nexts.old id) }
 {
     match body {
         Body::Input { .. } => add_place(inputs, place),

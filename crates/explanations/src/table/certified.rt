@@ -234,17 +234,22 @@ const WITNESS_CIRCUITS: [Explanation; 8] = [
 /// The cases of formulas, and proofs over them.
 pub(super) fn proofs() -> &'static [Explanation]
     ensures whys { (why : Why) → Has result.now (proof_why_number why) (proof_why_name why) }
-    ensures clauses { (fault : ClauseFault) → Has result.now (clause_number fault) (clause_name fault) }
-    ensures formulas { (fault : FormulaFault) → Has result.now (formula_number fault) (formula_name fault) }
+    ensures clauses { (fault : ClauseFault)
+        → Has result.now (clause_number fault) (clause_name fault) }
+    ensures formulas { (fault : FormulaFault)
+        → Has result.now (formula_number fault) (formula_name fault) }
 {
     &PROOFS
 }
 
 /// The cases of invariants, and certificates.
 pub(super) fn invariants() -> &'static [Explanation]
-    ensures whys { (why : InvariantWhy) → Has result.now (invariant_number why) (invariant_name why) }
-    ensures obligations { (fault : ObligationFault) → Has result.now (obligation_number fault) (obligation_name fault) }
-    ensures device { Has result.now (certificate_number certificate.Device) (certificate_name certificate.Device) }
+    ensures whys { (why : InvariantWhy)
+        → Has result.now (invariant_number why) (invariant_name why) }
+    ensures obligations { (fault : ObligationFault)
+        → Has result.now (obligation_number fault) (obligation_name fault) }
+    ensures device { Has result.now (certificate_number certificate.Device)
+        (certificate_name certificate.Device) }
 {
     &INVARIANTS
 }

@@ -266,7 +266,8 @@ const COUNTEREXAMPLES: [Explanation; 7] = [
 
 /// The cases of gate makers.
 pub(super) fn gates() -> &'static [Explanation]
-    ensures { (fault : GateFault) → Has result.now (gate_fault_number fault) (gate_fault_name fault) }
+    ensures { (fault : GateFault) → Has result.now (gate_fault_number fault)
+        (gate_fault_name fault) }
 {
     &GATES
 }
@@ -280,8 +281,10 @@ pub(super) fn engines() -> &'static [Explanation]
 
 /// The cases of calls of circuits, and of the lists of a file.
 pub(super) fn calls() -> &'static [Explanation]
-    ensures circuits { (fault : CircuitFault) → Has result.now (circuit_fault_number fault) (circuit_fault_name fault) }
-    ensures lists { (fault : LooseFault) → Has result.now (loose_fault_number fault) (loose_fault_name fault) }
+    ensures circuits { (fault : CircuitFault)
+        → Has result.now (circuit_fault_number fault) (circuit_fault_name fault) }
+    ensures lists { (fault : LooseFault)
+        → Has result.now (loose_fault_number fault) (loose_fault_name fault) }
 {
     &CIRCUITS
 }

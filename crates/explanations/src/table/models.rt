@@ -264,22 +264,26 @@ pub(super) fn texts() -> &'static [Explanation]
 
 /// The cases of items.
 pub(super) fn items() -> &'static [Explanation]
-    ensures { (fault : PushFault) → Has result.now (push_fault_number fault) (push_fault_name fault) }
+    ensures { (fault : PushFault) → Has result.now (push_fault_number fault)
+        (push_fault_name fault) }
 {
     &ITEMS
 }
 
 /// The cases of names.
 pub(super) fn names() -> &'static [Explanation]
-    ensures { (fault : SymbolFault) → Has result.now (symbol_fault_number fault) (symbol_fault_name fault) }
+    ensures { (fault : SymbolFault)
+        → Has result.now (symbol_fault_number fault) (symbol_fault_name fault) }
 {
     &NAMES
 }
 
 /// The cases of lowering.
 pub(super) fn lowering() -> &'static [Explanation]
-    ensures lowerings { (fault : LowerFault) → Has result.now (lower_number fault) (lower_name fault) }
-    ensures conversions { (fault : ConvertFault) → Has result.now (convert_number fault) (convert_name fault) }
+    ensures lowerings { (fault : LowerFault)
+        → Has result.now (lower_number fault) (lower_name fault) }
+    ensures conversions { (fault : ConvertFault)
+        → Has result.now (convert_number fault) (convert_name fault) }
 {
     &LOWERING
 }

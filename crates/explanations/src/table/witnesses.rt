@@ -254,7 +254,8 @@ pub(super) fn bit_texts() -> &'static [Explanation] {
 
 /// The cases of lifting.
 pub(super) fn lifting() -> &'static [Explanation]
-    ensures { (fault : LiftFault) → Has result.now (lift_fault_number fault) (lift_fault_name fault) }
+    ensures { (fault : LiftFault) → Has result.now (lift_fault_number fault)
+        (lift_fault_name fault) }
 {
     &LIFTING
 }
