@@ -12,7 +12,7 @@ use Rattle.runs.specs.Run.{more_steps}
 use Rattle.runs.specs.CircuitRun.{CircuitRun, IsFrameNow, circuit_start, no_inputs, reset_bit, settle_steps}
 use Rattle.base.proofs.StepLemmas.{more_steps-sum}
 use Rattle.witness.specs.Judgements.{Violation, violated_at}
-use Rattle.witness.specs.BitPlays.{first_bit_violated, BitPlay, bit_frame_steps, bit_steps_of, state_behind, play_start, TracedBits, PlaysBits, differing, latch_given, input_given, bit_rises}
+use Rattle.witness.specs.BitPlays.{first_bit_violated, BitPlay, bit_frame_steps, bit_steps_of, state_behind, play_start, TracedBits, PlaysBits, differing, latch_given, bit_given, bit_rises}
 use Rattle.witness.specs.Fits.{breach_from}
 use Rattle.witness.specs.BitJudgements.{differs_from_reset, first_reset_differing}
 use Rattle.witness.specs.BitScans.{is_one_bit}
@@ -119,7 +119,7 @@ pub record Gives (c : Circuit) (claim : ℕ) (initial : List Bool) (frames : Lis
 
 -- a byte more
 pub gives_more : (c : Circuit) (claim : ℕ) (initial : List Bool) (frames : List (List Bool)) (p : BitPlay) (line : List ℕ) (byte k : ℕ) → k ≡ length line → k < c.inputs → Gives c claim initial frames p line
-    → Gives c claim initial frames (input_given p k (is_one_bit byte)) (line ++ byte ∷ [])
+    → Gives c claim initial frames (bit_given p k (is_one_bit byte)) (line ++ byte ∷ [])
 gives_more c claim initial frames p line byte k at room h =
     let many = h.plays.many in
     let inside : k < length p.run.inputs = omega (arith, room, many) in

@@ -70,5 +70,5 @@ abbrev pub latch_given : BitPlay → ℕ → Bool → Bool → BitPlay
 latch_given p k b differs = record p { run = record p.run { latches = slice_set p.run.latches k b; settled = false }; differs = differing p.differs k differs }
 
 -- with the bit of an input that is there
-abbrev pub input_given : BitPlay → ℕ → Bool → BitPlay
-input_given p k bit = record p { run = record p.run { inputs = slice_set p.run.inputs k bit; settled = false } }
+abbrev pub bit_given : BitPlay → ℕ → Bool → BitPlay
+bit_given p k bit = record p { run = record p.run { inputs = slice_set p.run.inputs k bit; settled = false } }

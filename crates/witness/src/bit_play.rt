@@ -7,7 +7,7 @@ ghost use Rattle.runs.specs.CircuitRun.{IsFrameNow, circuit_held};
 ghost use Rattle.witness.specs.BitScans.{is_one_bit};
 ghost use Rattle.witness.specs.Judgements.{first_of};
 ghost use Rattle.witness.specs.BitJudgements.{differs_from_reset};
-ghost use Rattle.witness.specs.BitPlays.{first_bit_violated, PlaysBits, play_start, differing, latch_given, input_given};
+ghost use Rattle.witness.specs.BitPlays.{first_bit_violated, PlaysBits, play_start, differing, latch_given, bit_given};
 
 use crate::judgement::Judgement;
 use crate::verdicts::{Breach, judgement_of, note_breach};
@@ -172,7 +172,7 @@ impl<'a> BitPlay<'a> {
     /// Gives an input that is there its bit.
     fn set_input(&mut self, k: usize, bit: bool)
         requires { k < self.old.circuit.inputs }
-        ensures { self.new ≡ input_given self.old k bit }
+        ensures { self.new ≡ bit_given self.old k bit }
     {
         self.run.set_input(k, bit);
     }
