@@ -147,7 +147,8 @@ def named_in(modules, text, scope):
 def is_carried(word, clause):
     """Whether a clause names a word as one that is carried: of a value that is made, with nothing fed to it; as a premise on
     the value before; or as what such a premise gives of the value after."""
-    term = r"(?:[\w.]+|\[\]|\([^()]*\))"
+    clause = " ".join(clause.split())
+    term = r"(?:[\w.]+|\[\]|\((?:[^()]|\([^()]*\))*\))"
     over = r"%s(?: %s)?" % (term, term)
     made = re.compile(r"\(λ (\w+)\. %s %s \1 \[\]\)" % (word, over))
     premise = re.compile(r"\b%s %s self(?:\.(?:old|now|entry))? %s →" % (word, over, term))
