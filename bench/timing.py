@@ -43,15 +43,15 @@ def ours():
     return OURS
 
 
-def measure(command):
-    """Processor seconds (user and system) and peak memory in MB of one run, whose output is thrown away.
+def measure(command, wanted=0):
+    """Processor seconds (user and system) and peak memory in MB of one run with this status, whose output is thrown away.
 
     It is spawned, since a process that is forked off this one pays for this one's pages, a millisecond and a half.
     """
-    nowhere = [(os.POSIX_SPAWN_OPEN, 1, os.devnull, os.O_WRONLY, 0)]
+    nowhere = [(os.POSIX_SPAWN_OPEN, it, os.devnull, os.O_WRONLY, 0) for it in (1, 2)[: 1 + wanted]]
     child = os.posix_spawnp(command[0], command, os.environ, file_actions=nowhere)
     _, status, used = os.wait4(child, 0)
-    if status != 0:
+    if os.waitstatus_to_exitcode(status) != wanted:
         sys.exit(f"{' '.join(command)}: status {os.waitstatus_to_exitcode(status)}")
     return used.ru_utime + used.ru_stime, used.ru_maxrss / 1024
 
@@ -65,13 +65,13 @@ def head(name, count, other):
     return f"| {' | '.join(cells)} |\n|{'---|' * len(cells)}"
 
 
-def row(name, count, other, arguments):
-    """The row of a table: the least time and the greatest memory of each program, in turns, with these arguments."""
+def row(name, count, other, arguments, status=0):
+    """The row of a table: the least time and the greatest memory of each program, in turns, with these arguments and status."""
     best, taken, rounds = {}, 0, 0
     while rounds < ROUNDS or taken < ENOUGH:
         rounds += 1
         for program in [ours()] + ([other] if other else []):
-            seconds, memory = measure([program, *arguments])
+            seconds, memory = measure([program, *arguments], status)
             taken += seconds
             least, most = best.get(program, (seconds, memory))
             best[program] = (min(least, seconds), max(most, memory))
