@@ -4,7 +4,7 @@ use Rattle.btor2.specs.declared.item.Item.{Item}
 use Rattle.btor2text.specs.Spelling.{StandsFor}
 use Rattle.aiger.specs.Circuit.{Circuit}
 use Rattle.blast.specs.Lowering.{Lowers}
-use Rattle.engine.specs.EngineForm.{IsEngineFormOf}
+use Rattle.engine_form.specs.EngineForm.{IsEngineFormOf}
 use Rattle.lift.specs.EngineLifting.{form_lifted_text, FindsWitnessInModel, KeepsFormVerdict}
 use Rattle.restore.specs.FormWitness.{FormJudges}
 use Rattle.witness.specs.declared.judgement.Judgement.{Judgement}

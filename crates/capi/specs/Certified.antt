@@ -10,8 +10,8 @@ use Rattle.clauses.specs.Printed.{proof_why_number}
 use Rattle.clauses.specs.FormulaTexts.{formula_text}
 use Rattle.clauses.specs.declared.judgement.Judgement.{Judgement}
 use Rattle.clauses.specs.declared.judgement.Judgement.TheVariants as judgement
-use Rattle.engine.specs.Faults.{engine_fault_number as engine_number}
-use Rattle.engine.specs.declared.fault.EngineFault.TheVariants as engine
+use Rattle.engine_form.specs.Faults.{engine_fault_number as engine_number}
+use Rattle.engine_form.specs.declared.fault.EngineFault.TheVariants as engine
 use Rattle.invariants.specs.Certificates.{IsCertified, IsOwed, OwesNone}
 use Rattle.invariants.specs.Faults.{obligation_number, invariant_why_number as invariant_number}
 use Rattle.invariants.specs.declared.claim_fault.ClaimFault.{ClaimFault}

@@ -4,10 +4,10 @@ use Rattle.btor2.specs.declared.item.Item.{Item}
 use Rattle.btor2text.specs.Spelling.{StandsFor}
 use Rattle.aiger.specs.Circuit.{Circuit}
 use Rattle.blast.specs.Lowering.{Lowers}
-use Rattle.engine.specs.EngineForm.{IsEngineFormOf, input_count}
-use Rattle.engine.specs.Faults.{engine_fault_number as engine_number}
-use Rattle.engine.specs.Refusal.{engine_refusal}
-use Rattle.engine.specs.declared.fault.EngineFault.{EngineFault}
+use Rattle.engine_form.specs.EngineForm.{IsEngineFormOf, input_count}
+use Rattle.engine_form.specs.Faults.{engine_fault_number as engine_number}
+use Rattle.engine_form.specs.Refusal.{engine_refusal}
+use Rattle.engine_form.specs.declared.fault.EngineFault.{EngineFault}
 use Rattle.lift.specs.EngineLifting.{engine_lifted_text, form_lifted_text, FindsInModel, FindsWitnessInModel, KeepsFormVerdict}
 use Rattle.lift.specs.Verdicts.{KeepsVerdictIn}
 use Rattle.restore.specs.Accepted.{FindsAgain}

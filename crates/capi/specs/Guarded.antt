@@ -20,8 +20,8 @@ use Rattle.certificates.specs.declared.witness_fault.WitnessFault.TheVariants as
 use Rattle.clauses.specs.Formula.{Formula}
 use Rattle.clauses.specs.FormulaTexts.{formula_text}
 use Rattle.clauses.specs.declared.judgement.Judgement.{Judgement}
-use Rattle.engine.specs.Faults.{engine_fault_number}
-use Rattle.engine.specs.declared.fault.EngineFault.TheVariants as engine
+use Rattle.engine_form.specs.Faults.{engine_fault_number}
+use Rattle.engine_form.specs.declared.fault.EngineFault.TheVariants as engine
 use Rattle.invariants.specs.Certificates.{IsJudgedProof}
 use Rattle.capi.specs.Certified.{proof_verdict_of}
 use Rattle.capi.specs.Judged.{CallTellsNoCircuit, CallTellsNoModel}

@@ -9,11 +9,11 @@ use Rattle.aiger.specs.Circuit.{Circuit}
 use Rattle.aigertext.specs.Binary.{circuit_text}
 use Rattle.aigertext.specs.Spelling.{SpellsCircuit}
 use Rattle.blast.specs.Lowering.{Lowers}
-use Rattle.engine.specs.EngineForm.{IsEngineFormOf}
-use Rattle.engine.specs.Faults.{engine_fault_number as engine_number}
-use Rattle.engine.specs.Refusal.{engine_refusal}
-use Rattle.engine.specs.declared.fault.EngineFault.{EngineFault}
-use Rattle.engine.specs.declared.fault.EngineFault.TheVariants as engine
+use Rattle.engine_form.specs.EngineForm.{IsEngineFormOf}
+use Rattle.engine_form.specs.Faults.{engine_fault_number as engine_number}
+use Rattle.engine_form.specs.Refusal.{engine_refusal}
+use Rattle.engine_form.specs.declared.fault.EngineFault.{EngineFault}
+use Rattle.engine_form.specs.declared.fault.EngineFault.TheVariants as engine
 use Rattle.lift.specs.Lifted.{lifted_text}
 use Rattle.lift.specs.Verdicts.{KeepsVerdict}
 use Rattle.wave.specs.Dumps.{vcd_text}

@@ -20,8 +20,8 @@ use Rattle.clauses.specs.Printed.{proof_why_name as proof_name, proof_why_number
 use Rattle.clauses.specs.declared.fault.ClauseFault.{ClauseFault}
 use Rattle.clauses.specs.declared.fault.FormulaFault.{FormulaFault}
 use Rattle.clauses.specs.declared.why.Why.{Why as ProofWhy}
-use Rattle.engine.specs.Faults.{engine_fault_name as engine_name, engine_fault_number as engine_number}
-use Rattle.engine.specs.declared.fault.EngineFault.{EngineFault}
+use Rattle.engine_form.specs.Faults.{engine_fault_name as engine_name, engine_fault_number as engine_number}
+use Rattle.engine_form.specs.declared.fault.EngineFault.{EngineFault}
 use Rattle.gates.specs.Faults.{gate_fault_name as gate_name, gate_fault_number as gate_number}
 use Rattle.gates.specs.declared.fault.GateFault.{GateFault}
 use Rattle.invariants.specs.Faults.{certificate_name, certificate_number, claim_name, claim_number}

@@ -2,8 +2,8 @@
 use Rattle.std.specs.Prelude.{◌≡◌, ◌⊎◌, ℕ, Bool, List, None, Some}
 use Rattle.aiger.specs.Circuit.{Circuit, IsCircuit}
 use Rattle.aigertext.specs.Spelling.{SpellsCircuit}
-use Rattle.engine.specs.EngineForm.{IsEngineFormOf, input_count}
-use Rattle.engine.specs.Refusal.{engine_refusal}
+use Rattle.engine_form.specs.EngineForm.{IsEngineFormOf, input_count}
+use Rattle.engine_form.specs.Refusal.{engine_refusal}
 use Rattle.restore.specs.Accepted.{FindsAgain}
 use Rattle.restore.specs.Faults.{restore_why_number as restore_number}
 use Rattle.restore.specs.FormWitness.{form_restored_text, FindsWitnessAgain, FormJudges}

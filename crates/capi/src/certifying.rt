@@ -20,7 +20,7 @@ use base::{Sink, VecSink};
 use blast::lower;
 use btor2::Model;
 use clauses::{Formula, write_formula};
-use engine::EngineFault;
+use engine_form::EngineFault;
 use invariants::{
     CertificateFault, ClaimFault, InvariantFault, InvariantWhy, ObligationFault, judge_certificate,
     owed_formula,

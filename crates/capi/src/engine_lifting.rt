@@ -2,8 +2,8 @@
 ghost use Rattle.std.specs.Prelude.{◌≡◌, ◌⊎◌, ◌<◌, ℕ, List, [], None, Some, true, IfOk, IfErr, IfSome, length};
 ghost use Rattle.btor2text.specs.Spelling.{StandsFor};
 ghost use Rattle.blast.specs.Lowering.{Lowers};
-ghost use Rattle.engine.specs.EngineForm.{IsEngineFormOf};
-ghost use Rattle.engine.specs.Refusal.{engine_refusal};
+ghost use Rattle.engine_form.specs.EngineForm.{IsEngineFormOf};
+ghost use Rattle.engine_form.specs.Refusal.{engine_refusal};
 ghost use Rattle.capi.specs.EngineLifted.{CallLiftsForm, IsFoundLifted, CallTellsNoForm};
 ghost use Rattle.capi.specs.Judged.{CallTellsNoModel, IsStop};
 ghost use Rattle.capi.specs.Lifted.{choice_of};
@@ -18,7 +18,7 @@ use aiger::Circuit;
 use base::{Sink, VecSink};
 use blast::lower;
 use btor2::Model;
-use engine::{engine_form, why_no_form};
+use engine_form::{engine_form, why_no_form};
 use lift::{lift_form, lift_restored};
 use std::alloc::Global;
 

@@ -11,7 +11,7 @@ use crate::lowering::{form_of, text_of};
 use crate::reading::read_circuit;
 use aiger::Circuit;
 use base::{Sink, VecSink};
-use engine::{EngineFault, engine_form};
+use engine_form::{EngineFault, engine_form};
 use std::alloc::Global;
 
 /// The bad property that is chosen, where one is.

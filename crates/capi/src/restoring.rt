@@ -1,8 +1,8 @@
 //! The calls that restore what engines find over engine forms of circuits.
 ghost use Rattle.std.specs.Prelude.{◌≡◌, ◌⊎◌, ◌<◌, ℕ, List, [], None, Some, true, IfOk, IfErr, IfSome, length};
 ghost use Rattle.aigertext.specs.Spelling.{SpellsCircuit};
-ghost use Rattle.engine.specs.EngineForm.{IsEngineFormOf};
-ghost use Rattle.engine.specs.Refusal.{engine_refusal};
+ghost use Rattle.engine_form.specs.EngineForm.{IsEngineFormOf};
+ghost use Rattle.engine_form.specs.Refusal.{engine_refusal};
 ghost use Rattle.capi.specs.Judged.{CallTellsNoCircuit, IsStop};
 ghost use Rattle.capi.specs.Lifted.{IsFormless, choice_of};
 ghost use Rattle.capi.specs.Restored.{CallRestoresForm, CallRestores};
@@ -14,7 +14,7 @@ use crate::engines::{choice_of, form_stop};
 use crate::reading::read_circuit;
 use aiger::Circuit;
 use base::{Sink, VecSink};
-use engine::{engine_form, why_no_form};
+use engine_form::{engine_form, why_no_form};
 use restore::{restore, restore_form};
 use std::alloc::Global;
 

@@ -18,7 +18,7 @@ use blast::lower;
 use btor2::Model;
 use certificates::{TestFault, WitnessFault, owed_formula, owed_formula_over_form};
 use clauses::{Formula, Judgement};
-use engine::EngineFault;
+use engine_form::EngineFault;
 use invariants::judge_proof;
 use std::alloc::Global;
 

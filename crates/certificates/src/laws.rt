@@ -84,7 +84,7 @@ pub fn owed_formula_over_form_proved_never_rises()
         → ¬ CanRiseInCircuit c k }
 {
     owed_formula_proved_never_rises();
-    engine::laws::bad_properties_rise_alike();
+    engine_form::laws::bad_properties_rise_alike();
 }
 
 /// A law: each certificate of the competition owes an unsatisfiable formula.

@@ -12,7 +12,7 @@ use aigerlists::Numbering;
 use aigertext::read;
 use base::Source;
 use clauses::Formula;
-use engine::engine_form;
+use engine_form::engine_form;
 use invariants::{Invariant, ObligationFault, obligation};
 use std::alloc::Global;
 

@@ -3,7 +3,7 @@ ghost use Rattle.std.specs.Prelude.{◌≡◌};
 
 use crate::fault::TestFault;
 use aigertext::ReadFault;
-use engine::EngineFault;
+use engine_form::EngineFault;
 
 /// Why a text owes no formula as a witness circuit.
 #[derive(Clone, Copy, Debug, PartialEq, Eq)]

@@ -4,8 +4,8 @@ use Rattle.std.specs.Io.KnownBytes.{Appends}
 use Rattle.btor2.specs.declared.item.Item.{Item}
 use Rattle.aiger.specs.Circuit.{Circuit}
 use Rattle.blast.specs.Lowering.{Lowers}
-use Rattle.engine.specs.EngineForm.{input_count, IsEngineFormOf}
-use Rattle.engine.specs.Refusal.{engine_refusal}
+use Rattle.engine_form.specs.EngineForm.{input_count, IsEngineFormOf}
+use Rattle.engine_form.specs.Refusal.{engine_refusal}
 use Rattle.witness.specs.declared.judgement.Judgement.{Judgement}
 use Rattle.witness.specs.BitJudgements.{BitJudges}
 use Rattle.witness.proofs.FeedLemmas.{if_some_then}

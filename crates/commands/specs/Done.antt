@@ -6,8 +6,8 @@ use Rattle.aiger.specs.Circuit.{Circuit}
 use Rattle.aigertext.specs.declared.forms.Form.{Form}
 use Rattle.blast.specs.Conversion.{Converts}
 use Rattle.blast.specs.Lowering.{Lowers}
-use Rattle.engine.specs.EngineForm.{input_count, IsEngineFormOf}
-use Rattle.engine.specs.Refusal.{engine_refusal}
+use Rattle.engine_form.specs.EngineForm.{input_count, IsEngineFormOf}
+use Rattle.engine_form.specs.Refusal.{engine_refusal}
 use Rattle.rises.specs.FirstRises.{AreBitFirstRises}
 use Rattle.restore.specs.FormWitness.{form_restored_text, FormJudges}
 use Rattle.restore.specs.Reading.{read_found}

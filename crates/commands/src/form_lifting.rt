@@ -3,7 +3,7 @@
 ghost use Rattle.std.specs.Prelude.{◌≡◌, ℕ, List, None, Option, IfOk, IfErr};
 ghost use Rattle.blast.specs.Lowering.{Lowers};
 ghost use Rattle.blast.specs.Refusal.{lowering_refusal};
-ghost use Rattle.engine.specs.EngineForm.{IsEngineFormOf};
+ghost use Rattle.engine_form.specs.EngineForm.{IsEngineFormOf};
 ghost use Rattle.orders.specs.declared.tasks.Given.TheVariants as given_is;
 ghost use Rattle.btor2text.specs.Spelling.{IsModelOf};
 ghost use Rattle.tasks.specs.Done.{Judged};
@@ -15,7 +15,7 @@ use aiger::Circuit;
 use base::{Sink, Source};
 use blast::{Watch, lower_watched};
 use btor2::Model;
-use engine::engine_form;
+use engine_form::engine_form;
 use lift::lift_form_with_rises;
 use std::alloc::Global;
 use tasks::{Answer, Refusal, Subject, read_model, tell_lifted};

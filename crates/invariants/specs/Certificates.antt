@@ -4,8 +4,8 @@ use Rattle.std.specs.Prelude.{◌≡◌, ◌⊎◌, ℕ, true, List, Option, Non
 use Rattle.std.specs.List.{list_all}
 use Rattle.base.specs.Device.{HasRisen}
 use Rattle.aiger.specs.Circuit.{Circuit}
-use Rattle.engine.specs.EngineForm.{IsEngineFormOf}
-use Rattle.engine.specs.Refusal.{engine_refusal, AnswersForm}
+use Rattle.engine_form.specs.EngineForm.{IsEngineFormOf}
+use Rattle.engine_form.specs.Refusal.{engine_refusal, AnswersForm}
 use Rattle.clauses.specs.declared.judgement.Judgement.{Judgement}
 use Rattle.clauses.specs.Formula.{Formula}
 use Rattle.clauses.specs.Judgements.{JudgesProof}

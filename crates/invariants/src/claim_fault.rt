@@ -4,7 +4,7 @@ ghost use Rattle.invariants.specs.Faults.{claim_number, claim_name, claim_line};
 
 use crate::fault::ObligationFault;
 use crate::why::InvariantFault;
-use engine::EngineFault;
+use engine_form::EngineFault;
 use std::fmt;
 use thiserror::Error;
 

@@ -9,7 +9,7 @@ use crate::reader::read_invariant;
 use aiger::Circuit;
 use base::Source;
 use clauses::Formula;
-use engine::engine_form;
+use engine_form::engine_form;
 use std::alloc::Global;
 
 /// The formula that the text of an invariant owes over an engine form with one bad property.

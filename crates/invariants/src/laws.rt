@@ -7,7 +7,7 @@ ghost use Rattle.aiger.specs.Circuit.{Circuit, IsCircuit};
 ghost use Rattle.aiger.specs.Trace.{IsCircuitTrace};
 ghost use Rattle.aiger.specs.Reachability.{CanRiseInCircuit};
 ghost use Rattle.aiger.specs.Worked.{toggler};
-ghost use Rattle.engine.specs.EngineForm.{IsEngineFormOf};
+ghost use Rattle.engine_form.specs.EngineForm.{IsEngineFormOf};
 ghost use Rattle.clauses.specs.declared.judgement.Judgement.{Judgement};
 ghost use Rattle.clauses.specs.declared.judgement.Judgement.TheVariants as judgement;
 ghost use Rattle.clauses.specs.Formula.{IsFormula, IsUnsatisfiable};
@@ -61,7 +61,7 @@ pub fn proved_property_never_rises()
         → JudgesProof (obligation d cubes) text (judgement.Derived line) → ¬ CanRiseInCircuit c k }
 {
     clauses::laws::derived_is_unsatisfiable();
-    engine::laws::bad_properties_rise_alike();
+    engine_form::laws::bad_properties_rise_alike();
 }
 
 /// A law, what a certificate is worth: where it is judged as `Derived`, the bad property rises in no frame up to which the

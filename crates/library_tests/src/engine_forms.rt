@@ -3,7 +3,7 @@ use crate::circuits::{Call, circuit_of};
 use crate::samples::Comparing;
 use aiger::{Circuit, Reset, Section};
 use aigertext::write_ascii;
-use engine::{EngineFault, engine_form, outputs_as_bads};
+use engine_form::{EngineFault, engine_form, outputs_as_bads};
 use std::alloc::Global;
 
 /// The text of a form, or why there is none.

@@ -5,7 +5,7 @@ use base::{DeviceFault, ReadAllFault};
 use btor2::{PushFault, SymbolFault};
 use btor2text::{ReadFault, Why};
 use certificates::TestFault;
-use engine::EngineFault;
+use engine_form::EngineFault;
 use gates::GateFault;
 use std::alloc::Global;
 use std::fmt::Display;

@@ -11,7 +11,7 @@ use Rattle.witness.specs.Judgements.{Judges}
 use Rattle.witness.specs.BitTexts.{BitWitness, BitSays}
 use Rattle.witness.specs.BitJudgements.{BitJudges}
 use Rattle.witness.proofs.FeedLemmas.{if_some_then}
-use Rattle.engine.specs.EngineForm.{input_count}
+use Rattle.engine_form.specs.EngineForm.{input_count}
 use Rattle.rises.specs.FirstRises.{AreBitFirstRises}
 use Rattle.restore.specs.declared.fault.RestoreFault.{RestoreFault}
 use Rattle.restore.specs.Accepted.{FindsAgain}

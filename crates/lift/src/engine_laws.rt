@@ -3,7 +3,7 @@ ghost use Rattle.std.specs.Prelude.{ℕ, ◌<◌, Bool, List, Option, length};
 ghost use Rattle.btor2.specs.declared.item.Item.{Item};
 ghost use Rattle.aiger.specs.Circuit.{Circuit};
 ghost use Rattle.blast.specs.Lowering.{Lowers};
-ghost use Rattle.engine.specs.EngineForm.{IsEngineFormOf};
+ghost use Rattle.engine_form.specs.EngineForm.{IsEngineFormOf};
 ghost use Rattle.lift.specs.EngineLifting.{FindsInModel, FindsWitnessInModel};
 
 use crate::laws::{lifting_keeps_the_verdict, names_keep_the_verdict};

@@ -5,7 +5,7 @@ ghost use Rattle.base.specs.Device.{AppendsBeginning};
 ghost use Rattle.btor2.specs.declared.item.Item.{Item};
 ghost use Rattle.aiger.specs.Circuit.{Circuit};
 ghost use Rattle.blast.specs.Lowering.{Lowers};
-ghost use Rattle.engine.specs.EngineForm.{input_count};
+ghost use Rattle.engine_form.specs.EngineForm.{input_count};
 ghost use Rattle.witness.specs.BitJudgements.{BitJudges};
 ghost use Rattle.rises.specs.FirstRises.{AreBitFirstRises};
 ghost use Rattle.restore.specs.Accepted.{FindsAgain};

@@ -4,7 +4,7 @@ ghost use Rattle.std.specs.Io.KnownBytes.{Appends, IsAtEnd};
 ghost use Rattle.base.specs.Device.{AppendsBeginning};
 ghost use Rattle.btor2.specs.declared.item.Item.{Item};
 ghost use Rattle.blast.specs.Lowering.{Lowers};
-ghost use Rattle.engine.specs.EngineForm.{IsEngineFormOf};
+ghost use Rattle.engine_form.specs.EngineForm.{IsEngineFormOf};
 ghost use Rattle.rises.specs.FirstRises.{AreBitFirstRises};
 ghost use Rattle.restore.specs.Answers.{CountsRestore};
 ghost use Rattle.restore.specs.Faults.{is_of_text};

@@ -8,7 +8,7 @@ use Rattle.base.specs.Lines.{text_of_lines, whole_lines, unfinished}
 use Rattle.base.specs.Literal.{Valuation}
 use Rattle.aiger.specs.Circuit.{Circuit}
 use Rattle.aiger.specs.Trace.{next_latch_bits}
-use Rattle.engine.specs.EngineForm.{begins, all_hold}
+use Rattle.engine_form.specs.EngineForm.{begins, all_hold}
 use Rattle.witness.specs.declared.why.Why.{Why}
 use Rattle.witness.specs.BitTexts.{bit_line}
 use Rattle.witness.specs.Readings.{lines_read, reading}

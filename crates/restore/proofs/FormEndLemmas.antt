@@ -5,7 +5,7 @@ use Rattle.std.proofs.KnownBytes.{Appends-nil}
 use Rattle.base.specs.Device.{Sent, AppendsBeginning}
 use Rattle.base.specs.Lines.{text_of_lines}
 use Rattle.aiger.specs.Circuit.{Circuit}
-use Rattle.engine.specs.EngineForm.{input_count}
+use Rattle.engine_form.specs.EngineForm.{input_count}
 use Rattle.witness.specs.declared.judgement.Judgement.{Judgement}
 use Rattle.witness.specs.BitAdmits.{is_done}
 use Rattle.witness.specs.BitJudgements.{BitJudges}

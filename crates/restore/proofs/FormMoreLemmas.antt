@@ -6,7 +6,7 @@ use Rattle.std.proofs.lemmas.List.Concat.{flat_map-append}
 use Rattle.base.specs.Device.{Sent, AppendsBeginning}
 use Rattle.base.specs.Lines.{IsLine, text_of_lines}
 use Rattle.aiger.specs.Circuit.{Circuit}
-use Rattle.engine.specs.EngineForm.{input_count}
+use Rattle.engine_form.specs.EngineForm.{input_count}
 use Rattle.witness.specs.BitAdmits.{BitPlace, BitRead, admitted_lines, is_done}
 use Rattle.witness.specs.BitStands.{BitJudge, StandsForBits}
 use Rattle.witness.proofs.TextEndLemmas.{unfinished-line_end}

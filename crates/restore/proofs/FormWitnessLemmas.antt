@@ -13,7 +13,7 @@ use Rattle.aiger.specs.declared.circuit.Reset.TheVariants as reset
 use Rattle.base.specs.Literal.{Valuation, literal_value}
 use Rattle.aiger.specs.Circuit.{Circuit, IsCircuit}
 use Rattle.aiger.specs.Trace.{IsCircuitTrace}
-use Rattle.engine.specs.EngineForm.{begins, input_count, chosen, has_chosen, GoTogether, IsEngineFormOf}
+use Rattle.engine_form.specs.EngineForm.{begins, input_count, chosen, has_chosen, GoTogether, IsEngineFormOf}
 use Rattle.witness.specs.declared.judgement.Judgement.{Judgement}
 use Rattle.witness.specs.declared.judgement.Judgement.TheVariants as judgement
 use Rattle.witness.specs.declared.why.Why.{Why}

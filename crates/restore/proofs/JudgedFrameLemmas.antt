@@ -8,7 +8,7 @@ use Rattle.base.specs.Literal.{Valuation, literal_value}
 use Rattle.aiger.specs.Circuit.{Circuit, IsCircuit}
 use Rattle.aiger.specs.Trace.{IsCircuitTrace}
 use Rattle.aiger.proofs.TraceLemmas.{trace_length, trace_unique}
-use Rattle.engine.specs.EngineForm.{begins, input_count, all_hold}
+use Rattle.engine_form.specs.EngineForm.{begins, input_count, all_hold}
 use Rattle.witness.specs.declared.judgement.Judgement.{Judgement}
 use Rattle.witness.specs.declared.judgement.Judgement.TheVariants as judgement
 use Rattle.witness.specs.declared.why.Why.TheVariants as why

@@ -13,7 +13,7 @@ use Rattle.base.specs.Literal.{Valuation, literal_value}
 use Rattle.aiger.specs.Circuit.{Circuit}
 use Rattle.aiger.specs.Trace.{IsCircuitTrace}
 use Rattle.aiger.proofs.TraceLemmas.{trace_length}
-use Rattle.engine.specs.EngineForm.{taken_bits, first_bit, first_bits, begins, chosen, has_chosen, all_hold, GoTogether, IsEngineFormOf}
+use Rattle.engine_form.specs.EngineForm.{taken_bits, first_bit, first_bits, begins, chosen, has_chosen, all_hold, GoTogether, IsEngineFormOf}
 use Rattle.witness.specs.declared.judgement.Judgement.TheVariants as judgement
 use Rattle.witness.specs.Judgements.{violated_at}
 use Rattle.witness.specs.BitTexts.{IsBitWitness}

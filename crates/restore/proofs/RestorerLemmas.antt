@@ -2,7 +2,7 @@
 use Rattle.std.proofs.Common.{◌≡◌, ◌<◌, ℕ, Bool, true, false, List, [], length, Option, None, Some, Err, IfSome, inl, inr, refl, sym, ap, ap₂, subst, ◌∙◌, Result, IfOk, Ok}
 use Rattle.base.specs.Lines.{text_of_lines, all_lines}
 use Rattle.aiger.specs.Circuit.{Circuit, IsCircuit}
-use Rattle.engine.specs.EngineForm.{input_count}
+use Rattle.engine_form.specs.EngineForm.{input_count}
 use Rattle.witness.specs.declared.judgement.Judgement.{Judgement}
 use Rattle.witness.specs.BitJudgements.{BitJudges}
 use Rattle.restore.specs.declared.fault.RestoreFault.{RestoreFault}

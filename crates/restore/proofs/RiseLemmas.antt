@@ -9,7 +9,7 @@ use Rattle.base.specs.Literal.{Valuation, literal_value}
 use Rattle.aiger.specs.Circuit.{Circuit}
 use Rattle.aiger.specs.Trace.{IsCircuitTrace}
 use Rattle.aiger.proofs.TraceLemmas.{trace_length, trace_taken}
-use Rattle.engine.specs.EngineForm.{begins, input_count, all_hold, chosen, GoesTogether, GoTogether, IsEngineFormOf}
+use Rattle.engine_form.specs.EngineForm.{begins, input_count, all_hold, chosen, GoesTogether, GoTogether, IsEngineFormOf}
 use Rattle.witness.specs.declared.judgement.Judgement.TheVariants as judgement
 use Rattle.witness.specs.Texts.{claim, most_lines}
 use Rattle.witness.specs.BitTexts.{bit_witness_lines, IsBitWitness, BitSays}

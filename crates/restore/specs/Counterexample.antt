@@ -4,7 +4,7 @@ use Rattle.std.specs.List.{position_from}
 use Rattle.base.specs.Literal.{Valuation, literal_value}
 use Rattle.aiger.specs.Circuit.{Circuit}
 use Rattle.witness.specs.BitTexts.{BitWitness, bit_line}
-use Rattle.engine.specs.EngineForm.{begins}
+use Rattle.engine_form.specs.EngineForm.{begins}
 
 -- a line's end, or nothing of it, where the text ends: a mark ends it too, whatever stands behind
 abbrev pub IsEndOfLine : List ℕ → Type 0

@@ -2,7 +2,7 @@
 use Rattle.std.specs.Prelude.{◌≡◌, ℕ, ◌+◌, ◌<◌, List, length}
 use Rattle.aiger.specs.Circuit.{Circuit, IsCircuit}
 use Rattle.runs.specs.CircuitRun.{CircuitRun}
-use Rattle.engine.specs.EngineForm.{input_count}
+use Rattle.engine_form.specs.EngineForm.{input_count}
 use Rattle.restore.specs.Steps.{FramesReader}
 use Rattle.restore.specs.Pieces.{Play, head}
 

@@ -4,7 +4,7 @@ use Rattle.std.specs.Option.{option_or}
 use Rattle.base.specs.Lines.{text_of_lines}
 use Rattle.aiger.specs.Circuit.{Circuit}
 use Rattle.aiger.specs.Trace.{next_latch_bits}
-use Rattle.engine.specs.EngineForm.{first_bits}
+use Rattle.engine_form.specs.EngineForm.{first_bits}
 use Rattle.witness.specs.Texts.{claim}
 use Rattle.witness.specs.Judgements.{Violation, violated_at}
 use Rattle.witness.specs.BitPlays.{first_bit_violated}

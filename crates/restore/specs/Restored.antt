@@ -3,7 +3,7 @@ use Rattle.std.specs.Prelude.{ℕ, Bool, true, ◌&&◌, List, [], ◌∷◌, �
 use Rattle.base.specs.Lines.{text_of_lines}
 use Rattle.base.specs.Literal.{Valuation, literal_value}
 use Rattle.aiger.specs.Circuit.{Circuit}
-use Rattle.engine.specs.EngineForm.{begins, all_hold, input_count}
+use Rattle.engine_form.specs.EngineForm.{begins, all_hold, input_count}
 use Rattle.witness.specs.Texts.{claim}
 use Rattle.witness.specs.BitTexts.{BitWitness, bit_line}
 use Rattle.restore.specs.declared.fault.RestoreFault.{RestoreFault}

@@ -2,7 +2,7 @@
 ghost use Rattle.std.specs.Prelude.{◌≡◌, ◌+◌, ◌++◌, ◌∷◌, [], length, drop};
 ghost use Rattle.witness.specs.Texts.{digit};
 ghost use Rattle.witness.specs.BitTexts.{bit_line};
-ghost use Rattle.engine.specs.EngineForm.{taken_bits, first_bit, first_bits};
+ghost use Rattle.engine_form.specs.EngineForm.{taken_bits, first_bit, first_bits};
 
 use aiger::{Latch, Reset};
 

@@ -1,8 +1,8 @@
 //! Laws of witnesses of engine forms, and worked rows, as functions with no code.
 ghost use Rattle.std.specs.Prelude.{◌≡◌, ℕ, Option, None, Some, List, [], codes};
 ghost use Rattle.aiger.specs.Circuit.{Circuit};
-ghost use Rattle.engine.specs.EngineForm.{IsEngineFormOf};
-ghost use Rattle.engine.specs.Worked.{keeper, keeper_form};
+ghost use Rattle.engine_form.specs.EngineForm.{IsEngineFormOf};
+ghost use Rattle.engine_form.specs.Worked.{keeper, keeper_form};
 ghost use Rattle.witness.specs.declared.judgement.Judgement.TheVariants as judgement;
 ghost use Rattle.witness.specs.BitJudgements.{BitJudges};
 ghost use Rattle.restore.specs.FormWitness.{form_restored_text, IsFoundAgain};

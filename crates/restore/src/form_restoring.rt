@@ -5,7 +5,7 @@ ghost use Rattle.std.specs.Io.KnownBytes.{Appends, Consumes, IsAtEnd, prepend_kn
 ghost use Rattle.base.specs.Device.{AppendsBeginning, CountsFaults};
 ghost use Rattle.base.specs.Lines.{IsLine};
 ghost use Rattle.aiger.specs.Circuit.{Circuit, IsCircuit};
-ghost use Rattle.engine.specs.EngineForm.{IsEngineFormOf, input_count};
+ghost use Rattle.engine_form.specs.EngineForm.{IsEngineFormOf, input_count};
 ghost use Rattle.witness.specs.declared.judgement.Judgement.{Judgement};
 ghost use Rattle.witness.specs.Texts.{claim};
 ghost use Rattle.witness.specs.BitAdmits.{admitted_lines};

@@ -4,8 +4,8 @@ ghost use Rattle.std.specs.Prelude.{◌≡◌, ◌≢◌, ◌<◌, ◌≤◌, �
 ghost use Rattle.base.specs.Literal.{Valuation};
 ghost use Rattle.aiger.specs.Circuit.{Circuit};
 ghost use Rattle.aiger.specs.Trace.{IsCircuitTrace};
-ghost use Rattle.engine.specs.EngineForm.{input_count, IsEngineFormOf};
-ghost use Rattle.engine.specs.Worked.{keeper, keeper_form, negated_toggler, either};
+ghost use Rattle.engine_form.specs.EngineForm.{input_count, IsEngineFormOf};
+ghost use Rattle.engine_form.specs.Worked.{keeper, keeper_form, negated_toggler, either};
 ghost use Rattle.witness.specs.declared.judgement.Judgement.TheVariants as judgement;
 ghost use Rattle.witness.specs.Texts.{most_lines};
 ghost use Rattle.witness.specs.BitTexts.{IsBitWitness, BitSays};

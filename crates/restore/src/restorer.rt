@@ -5,7 +5,7 @@ ghost use Rattle.base.specs.Device.{HasRisen};
 ghost use Rattle.restore.specs.declared.fault.RestoreWhy.TheVariants as why;
 ghost use Rattle.restore.specs.declared.place.Place.TheVariants as place;
 ghost use Rattle.restore.specs.declared.stage.Stage.TheVariants as stage;
-ghost use Rattle.engine.specs.EngineForm.{input_count};
+ghost use Rattle.engine_form.specs.EngineForm.{input_count};
 ghost use Rattle.witness.specs.BitJudgements.{BitJudges};
 ghost use Rattle.restore.specs.FormSteps.{with_frame_bits, frame_pieces_at, settled, stage_behind};
 ghost use Rattle.restore.specs.Reading.{line_bits, read_found};

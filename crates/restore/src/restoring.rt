@@ -2,7 +2,7 @@
 ghost use Rattle.std.specs.Prelude.{◌≡◌, ◌<◌, ℕ, List, [], Option, None, Some, Err, true, false, length, IfErr, IfOk, IfSome, IsOk, OnErr, OnOk, ◌⊎◌};
 ghost use Rattle.std.specs.Io.KnownBytes.{Appends, IsAtEnd};
 ghost use Rattle.base.specs.Device.{AppendsBeginning, CountsFaults};
-ghost use Rattle.engine.specs.EngineForm.{input_count};
+ghost use Rattle.engine_form.specs.EngineForm.{input_count};
 ghost use Rattle.witness.specs.BitJudgements.{BitJudges};
 ghost use Rattle.witness.specs.Accepted.{BitAcceptsExactly};
 ghost use Rattle.restore.specs.declared.fault.RestoreWhy.TheVariants as why;

@@ -1,7 +1,7 @@
 //! How many bits a frame over an engine form has.
 ghost use Rattle.std.specs.Prelude.{◌≡◌, ◌≤◌, length};
 ghost use Rattle.aiger.specs.Limits.{greatest_count};
-ghost use Rattle.engine.specs.EngineForm.{taken_bits, free_count, input_count};
+ghost use Rattle.engine_form.specs.EngineForm.{taken_bits, free_count, input_count};
 
 use aiger::{Circuit, Latch, Reset};
 

@@ -7,8 +7,8 @@ use Rattle.aiger.specs.Reachability.{CanRiseInCircuit}
 use Rattle.blast.specs.Lowering.{Lowers}
 use Rattle.btor2.specs.Reachability.{CanRise}
 use Rattle.blast.specs.Refusal.{lowering_refusal}
-use Rattle.engine.specs.declared.fault.EngineFault.{EngineFault}
-use Rattle.engine.specs.declared.fault.EngineFault.TheVariants as engine
+use Rattle.engine_form.specs.declared.fault.EngineFault.{EngineFault}
+use Rattle.engine_form.specs.declared.fault.EngineFault.TheVariants as engine
 use Rattle.clauses.specs.declared.judgement.Judgement.{Judgement}
 use Rattle.clauses.specs.declared.judgement.Judgement.TheVariants as verdict
 use Rattle.invariants.specs.declared.why.InvariantFault.{InvariantFault}

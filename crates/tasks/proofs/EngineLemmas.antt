@@ -9,8 +9,8 @@ use Rattle.aigertext.specs.Binary.{circuit_text}
 use Rattle.blast.specs.Lowering.{Lowers}
 use Rattle.btor2.specs.Reachability.{CanRise}
 use Rattle.blast.specs.Refusal.{lowering_refusal}
-use Rattle.engine.specs.EngineForm.{IsEngineFormOf}
-use Rattle.engine.specs.Outputs.{HasOutputsAsBads, OutputCanBeOne}
+use Rattle.engine_form.specs.EngineForm.{IsEngineFormOf}
+use Rattle.engine_form.specs.Outputs.{HasOutputsAsBads, OutputCanBeOne}
 use Rattle.tasks.specs.declared.answers.Answer.{Answer}
 use Rattle.tasks.specs.declared.refusals.Refusal.{Refusal}
 use Rattle.btor2text.specs.Spelling.{IsModelOf}

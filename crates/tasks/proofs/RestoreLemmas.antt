@@ -3,8 +3,8 @@ use Rattle.std.proofs.Common.{false, ◌≡◌, ℕ, inl, subst, List, [], Optio
 use Rattle.std.specs.Io.KnownBytes.{Appends}
 use Rattle.std.proofs.lemmas.List.{append-nil}
 use Rattle.aiger.specs.Circuit.{Circuit, IsCircuit}
-use Rattle.engine.specs.EngineForm.{input_count, IsEngineFormOf}
-use Rattle.engine.specs.Refusal.{engine_refusal}
+use Rattle.engine_form.specs.EngineForm.{input_count, IsEngineFormOf}
+use Rattle.engine_form.specs.Refusal.{engine_refusal}
 use Rattle.witness.specs.declared.judgement.Judgement.{Judgement}
 use Rattle.witness.specs.BitJudgements.{BitJudges}
 use Rattle.restore.specs.declared.fault.RestoreFault.{RestoreFault}

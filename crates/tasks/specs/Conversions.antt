@@ -9,8 +9,8 @@ use Rattle.aigertext.specs.declared.fault.Why.{Why as CircuitWhy}
 use Rattle.aigertext.specs.declared.fault.Why.TheVariants as circuit_why
 use Rattle.aiger.specs.declared.fault.CircuitFault.{CircuitFault as Made}
 use Rattle.aiger.specs.declared.fault.CircuitFault.TheVariants as made
-use Rattle.engine.specs.declared.fault.EngineFault.{EngineFault}
-use Rattle.engine.specs.declared.fault.EngineFault.TheVariants as engine
+use Rattle.engine_form.specs.declared.fault.EngineFault.{EngineFault}
+use Rattle.engine_form.specs.declared.fault.EngineFault.TheVariants as engine
 use Rattle.blast.specs.declared.fault.LowerFault.{LowerFault}
 use Rattle.blast.specs.declared.fault.LowerFault.TheVariants as lower
 use Rattle.blast.specs.declared.fault.ConvertFault.{ConvertFault}

@@ -14,8 +14,8 @@ use Rattle.aigertext.specs.Binary.{circuit_text}
 use Rattle.blast.specs.Cost.{cost, bound}
 use Rattle.btor2.specs.Reachability.{CanRise}
 use Rattle.blast.specs.Refusal.{lowering_refusal}
-use Rattle.engine.specs.EngineForm.{IsEngineFormOf, input_count}
-use Rattle.engine.specs.Refusal.{engine_refusal}
+use Rattle.engine_form.specs.EngineForm.{IsEngineFormOf, input_count}
+use Rattle.engine_form.specs.Refusal.{engine_refusal}
 use Rattle.restore.specs.declared.fault.RestoreFault.{RestoreFault}
 use Rattle.restore.specs.Accepted.{FindsAgain}
 use Rattle.restore.specs.Faults.{restore_why_number, restore_why_name}

@@ -6,10 +6,10 @@ use Rattle.aiger.specs.Reachability.{CanRiseInCircuit}
 use Rattle.aiger.specs.declared.fault.CircuitFault.{CircuitFault}
 use Rattle.aigertext.specs.declared.forms.Form.{Form}
 use Rattle.aigertext.specs.Binary.{circuit_text}
-use Rattle.engine.specs.EngineForm.{IsEngineFormOf}
-use Rattle.engine.specs.Outputs.{HasOutputsAsBads, OutputCanBeOne, outputs_refusal}
-use Rattle.engine.specs.Refusal.{engine_refusal}
-use Rattle.engine.specs.declared.fault.EngineFault.{EngineFault}
+use Rattle.engine_form.specs.EngineForm.{IsEngineFormOf}
+use Rattle.engine_form.specs.Outputs.{HasOutputsAsBads, OutputCanBeOne, outputs_refusal}
+use Rattle.engine_form.specs.Refusal.{engine_refusal}
+use Rattle.engine_form.specs.declared.fault.EngineFault.{EngineFault}
 use Rattle.tasks.specs.declared.refusals.Fault.{Fault}
 use Rattle.tasks.specs.declared.refusals.Fault.TheVariants as fault
 use Rattle.aigertext.specs.Spelling.{IsCircuitText}

@@ -15,9 +15,9 @@ use Rattle.blast.specs.declared.fault.LowerFault.{LowerFault}
 use Rattle.blast.specs.declared.fault.LowerFault.TheVariants as lower
 use Rattle.blast.specs.Faults.{lower_number, lower_name}
 use Rattle.blast.specs.Refusal.{lowering_refusal}
-use Rattle.engine.specs.Faults.{engine_fault_number as engine_number, engine_fault_name as engine_name}
-use Rattle.engine.specs.Refusal.{engine_refusal}
-use Rattle.engine.specs.declared.fault.EngineFault.{EngineFault}
+use Rattle.engine_form.specs.Faults.{engine_fault_number as engine_number, engine_fault_name as engine_name}
+use Rattle.engine_form.specs.Refusal.{engine_refusal}
+use Rattle.engine_form.specs.declared.fault.EngineFault.{EngineFault}
 use Rattle.vectors.specs.Vectors.{IsFirstBad}
 use Rattle.certificates.specs.Faults.{test_number, test_name}
 use Rattle.certificates.specs.Refusal.{test_refusal}

@@ -17,7 +17,7 @@ use aigertext::Form;
 use base::{Sink, Source};
 use blast::{Watch, lower_watched};
 use btor2::Model;
-use engine::engine_form;
+use engine_form::engine_form;
 use std::alloc::Global;
 
 /// Writes the engine form of a circuit, with all its bad properties or with a chosen one.
@@ -62,7 +62,7 @@ pub fn lower_for_engines<O: Sink, W: Watch>(
     let _ = model.items();
     let circuit = lower_watched(alloc, model, watch)?;
     blast::laws::bad_properties_rise_alike();
-    engine::laws::bad_properties_rise_alike();
+    engine_form::laws::bad_properties_rise_alike();
     write_engine_form(alloc, &circuit, form, choice, out)
 }
 
@@ -86,6 +86,6 @@ pub fn convert_for_engines<O: Sink>(
 {
     // the lists of a circuit are one
     let _ = circuit.inputs();
-    engine::laws::bad_properties_rise_alike();
+    engine_form::laws::bad_properties_rise_alike();
     write_engine_form(alloc, circuit, form, choice, out)
 }

@@ -1,7 +1,7 @@
 //! The command that restores witnesses of engine forms.
 
 ghost use Rattle.std.specs.Prelude.{◌≡◌, ℕ, List, Option, IfOk, IfErr};
-ghost use Rattle.engine.specs.EngineForm.{IsEngineFormOf};
+ghost use Rattle.engine_form.specs.EngineForm.{IsEngineFormOf};
 ghost use Rattle.orders.specs.declared.tasks.Given.TheVariants as given_is;
 ghost use Rattle.aigertext.specs.Spelling.{IsCircuitText};
 ghost use Rattle.tasks.specs.Done.{IsFormRestored, Judged};
@@ -14,7 +14,7 @@ use crate::refusals::Refusal;
 use crate::restoring::tell_restored;
 use aiger::Circuit;
 use base::{Sink, Source};
-use engine::engine_form;
+use engine_form::engine_form;
 use restore::restore_form;
 use std::alloc::Global;
 

@@ -1,7 +1,7 @@
 //! The commands that take the outputs of a circuit as bad properties.
 
 ghost use Rattle.std.specs.Prelude.{◌≡◌, ℕ, List, Option, IfOk, IfErr, OnOk};
-ghost use Rattle.engine.specs.Outputs.{HasOutputsAsBads};
+ghost use Rattle.engine_form.specs.Outputs.{HasOutputsAsBads};
 ghost use Rattle.aigertext.specs.Spelling.{IsCircuitText};
 ghost use Rattle.tasks.specs.Outputs.{ConvertsOutputs, ConvertsOutputsForEngines, HasTooManyOutputs, IsNotWithOutputs, IsNotWithOutputsForEngines};
 ghost use Rattle.tasks.specs.Statuses.{Counts, IfInput};
@@ -13,7 +13,7 @@ use crate::refusals::Refusal;
 use aiger::Circuit;
 use aigertext::Form;
 use base::{Sink, Source};
-use engine::outputs_as_bads;
+use engine_form::outputs_as_bads;
 use std::alloc::Global;
 
 /// A circuit with its outputs as bad properties.
@@ -44,7 +44,7 @@ pub fn convert_outputs<O: Sink>(
     ensures counted { (f s e : ℕ) → Counts result f f s s (O.failures out.old)
         (O.failures out.new) e e }
 {
-    engine::laws::outputs_rise_as_bads();
+    engine_form::laws::outputs_rise_as_bads();
     let made = with_outputs(alloc, circuit)?;
     write_circuit(&made, form, out)
 }
@@ -67,8 +67,8 @@ pub fn convert_outputs_for_engines<O: Sink>(
     ensures counted { (f s e : ℕ) → Counts result f f s s (O.failures out.old)
         (O.failures out.new) e e }
 {
-    engine::laws::outputs_rise_as_bads();
-    engine::laws::bad_properties_rise_alike();
+    engine_form::laws::outputs_rise_as_bads();
+    engine_form::laws::bad_properties_rise_alike();
     let made = with_outputs(alloc, circuit)?;
     write_engine_form(alloc, &made, form, choice, out)
 }

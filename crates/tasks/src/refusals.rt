@@ -11,7 +11,7 @@ use aiger::CircuitFault;
 use base::ReadAllFault;
 use blast::{ConvertFault, LowerFault};
 use certificates::{TestFault, WitnessFault};
-use engine::EngineFault;
+use engine_form::EngineFault;
 use invariants::{CertificateFault, ClaimFault, InvariantFault, InvariantWhy, ObligationFault};
 use orders::{REFUSED, WORDS_REFUSED};
 use std::alloc::{AllocError, Global};

@@ -3,7 +3,7 @@
 ghost use Rattle.std.specs.Prelude.{◌≡◌, ◌≢◌, ◌<◌, ℕ, true, List, [], None, Option, Some, IfOk, IfErr, OnOk, length};
 ghost use Rattle.std.specs.Io.KnownBytes.{Appends};
 ghost use Rattle.std.specs.String.{string_bytes};
-ghost use Rattle.engine.specs.Refusal.{engine_refusal};
+ghost use Rattle.engine_form.specs.Refusal.{engine_refusal};
 ghost use Rattle.tasks.specs.declared.answers.Answer.TheVariants as answer_is;
 ghost use Rattle.orders.specs.declared.tasks.Given.TheVariants as given_is;
 ghost use Rattle.tasks.specs.declared.refusals.Refusal.TheVariants as refusal;
@@ -26,7 +26,7 @@ use crate::refusals::{Claimed, Device, Fault, Refusal};
 use crate::subjects::Subject;
 use aiger::Circuit;
 use base::{Sink, Source, write_all};
-use engine::why_no_form;
+use engine_form::why_no_form;
 use restore::{RestoreFault, RestoreWhy, restore};
 use rises::FirstRises;
 use std::alloc::{AllocError, Global};

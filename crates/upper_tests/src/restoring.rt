@@ -3,7 +3,7 @@
 //! and the calls of `restore` that no row reaches by text, each once.
 ghost use Rattle.std.specs.Prelude.{◌≡◌, ◌<◌, length, [], false, None};
 ghost use Rattle.blast.specs.Lowering.{Lowers};
-ghost use Rattle.engine.specs.EngineForm.{IsEngineFormOf};
+ghost use Rattle.engine_form.specs.EngineForm.{IsEngineFormOf};
 ghost use Rattle.restore.specs.Pieces.{is_written};
 
 use crate::made::{expect_none, over_circuit, over_model};
@@ -12,7 +12,7 @@ use aiger::Circuit;
 use base::{Chop, FailAt, Sink, VecSink};
 use blast::lower;
 use btor2::Model;
-use engine::engine_form;
+use engine_form::engine_form;
 use library_tests::samples::Comparing;
 use lift::{lift_form, lift_restored};
 use restore::{

@@ -2,7 +2,7 @@ use Rattle.std.proofs.Common.{Bool, List}
 use Rattle.aiger.specs.Refusal.{circuit_fault_name, circuit_fault_number}
 use Rattle.aigerlists.specs.Renumbering.{loose_fault_name, loose_fault_number}
 use Rattle.aigertext.specs.Whys.{circuit_why_name, circuit_why_number}
-use Rattle.engine.specs.Faults.{engine_fault_name as engine_name, engine_fault_number as engine_number}
+use Rattle.engine_form.specs.Faults.{engine_fault_name as engine_name, engine_fault_number as engine_number}
 use Rattle.lift.specs.Answers.{lift_fault_name as lift_name, lift_fault_number as lift_number}
 use Rattle.restore.specs.Faults.{restore_why_name as restore_name, restore_why_number as restore_number}
 use Rattle.tidy.specs.Answers.{tidy_fault_name as tidy_name, tidy_fault_number as tidy_number}

@@ -2,7 +2,7 @@ use Rattle.std.proofs.Common.{◌≡◌, ℕ, zero, suc, ◌+◌, ◌*◌, ◌�
 use Rattle.std.proofs.lemmas.Nat.{mul-le}
 use Rattle.btor2.specs.declared.item.Item.{Item}
 use Rattle.aiger.specs.Circuit.{Circuit, IsCircuit}
-use Rattle.engine.specs.EngineForm.{chosen}
+use Rattle.engine_form.specs.EngineForm.{chosen}
 use Rattle.restore.specs.Counterexample.{HasProperty, place_in}
 use Rattle.witness.specs.Texts.{most_lines}
 use Rattle.found.specs.Bound.{frame_bound}

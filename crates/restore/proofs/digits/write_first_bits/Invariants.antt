@@ -1,5 +1,5 @@
 use Rattle.std.proofs.Common.{◌≡◌, ◌++◌, length, take, drop}
-use Rattle.engine.specs.EngineForm.{first_bits}
+use Rattle.engine_form.specs.EngineForm.{first_bits}
 use Rattle.restore.proofs.digits.write_first_bits.Given as goal
 
 abbrev pub invariant-loop-place : goal.invariant-loop-place

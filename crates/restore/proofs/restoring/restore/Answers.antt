@@ -1,7 +1,7 @@
 use Rattle.std.proofs.Common.{◌≡◌, ◌+◌, ℕ, Bool, List, None, Some, Ok, Err, subst}
 use Rattle.std.specs.Io.KnownBytes.{Appends}
 use Rattle.base.specs.Device.{AppendsBeginning}
-use Rattle.engine.specs.EngineForm.{input_count}
+use Rattle.engine_form.specs.EngineForm.{input_count}
 use Rattle.witness.proofs.FeedLemmas.{if_some_then}
 use Rattle.witness.specs.declared.judgement.Judgement.TheVariants as judgement
 use Rattle.witness.specs.Accepted.{BitAcceptsExactly}

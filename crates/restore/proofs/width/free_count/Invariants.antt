@@ -1,5 +1,5 @@
 use Rattle.std.proofs.Common.{◌≡◌, ◌≤◌, take}
-use Rattle.engine.specs.EngineForm.{free_count}
+use Rattle.engine_form.specs.EngineForm.{free_count}
 use Rattle.restore.proofs.width.free_count.Given as goal
 
 abbrev pub invariant-loop-latch : goal.invariant-loop-latch

@@ -1,5 +1,0 @@
-use Rattle.std.proofs.Common.{◌≡◌, ◌++◌, take}
-use Rattle.engine.proofs.copies.push_fairs.Given as goal
-
-abbrev pub invariant-loop-fair : goal.invariant-loop-fair
-invariant-loop-fair l = l.made ≡ record l.fn.made { fair = l.fn.made.fair ++ take l.fair-index l.fairs }
