@@ -43,8 +43,8 @@ GHOST_IMPORT = re.compile(r"\bghost\s+use\s+([\w.]+?)(?:\.\{([^}]*)\}|\s+as\s+(\
 HEAD = re.compile(r"^(?:(?:abbrev|unfoldable|opaque) pub|pub (?:record|data|abbrev|enum)) ([^\s:]+)", re.M)
 STEPS = "◌>>=◌"
 # the words that are carried: what a judge stands for, or what a noter notes, and the values of judges, which nothing else speaks of
-CARRIED = {("witness", "WordStands", "StandsForWitness"), ("witness", "BitStands", "StandsForBits"), ("rises", "Notes", "NotesBits"), ("clauses", "ProofJudges", "StandsForText")}
-CARRIED_VALUES = {("witness", "WordStands", "WordJudge"), ("witness", "BitStands", "BitJudge"), ("clauses", "ProofJudges", "ProofJudge")}
+CARRIED = {("witness", "WordStands", "StandsForWitness"), ("witness", "BitStands", "StandsForBits"), ("rises", "Notes", "NotesBits"), ("drup", "ProofJudges", "StandsForText")}
+CARRIED_VALUES = {("witness", "WordStands", "WordJudge"), ("witness", "BitStands", "BitJudge"), ("drup", "ProofJudges", "ProofJudge")}
 
 
 def fail(text):

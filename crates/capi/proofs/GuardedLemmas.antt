@@ -6,9 +6,9 @@ use Rattle.aiger.specs.Circuit.{Circuit}
 use Rattle.aiger.specs.Reachability.{CanRiseInCircuit}
 use Rattle.blast.specs.Lowering.{Lowers}
 use Rattle.certificates.specs.Owing.{IsTestedFormula, IsTestedOverForm}
-use Rattle.clauses.specs.Formula.{Formula}
-use Rattle.clauses.specs.Judgements.{JudgesProof}
-use Rattle.clauses.specs.declared.judgement.Judgement.TheVariants as judgement
+use Rattle.drup.specs.Formula.{Formula}
+use Rattle.drup.specs.Judgements.{JudgesProof}
+use Rattle.drup.specs.declared.judgement.Judgement.TheVariants as judgement
 use Rattle.capi.specs.Guarded.{IsOwedAsWitness, NeverRisesInText, TextGives}
 
 -- what never rises in the circuit never does in the model that it lowers

@@ -5,11 +5,11 @@ use Rattle.btor2text.specs.Spelling.{StandsFor}
 use Rattle.aiger.specs.Circuit.{Circuit}
 use Rattle.blast.specs.Lowering.{Lowers}
 use Rattle.btor2.specs.Reachability.{CanRise}
-use Rattle.clauses.specs.Formula.{Formula}
-use Rattle.clauses.specs.Printed.{proof_why_number}
-use Rattle.clauses.specs.FormulaTexts.{formula_text}
-use Rattle.clauses.specs.declared.judgement.Judgement.{Judgement}
-use Rattle.clauses.specs.declared.judgement.Judgement.TheVariants as judgement
+use Rattle.drup.specs.Formula.{Formula}
+use Rattle.drup.specs.Printed.{proof_why_number}
+use Rattle.drup.specs.FormulaTexts.{formula_text}
+use Rattle.drup.specs.declared.judgement.Judgement.{Judgement}
+use Rattle.drup.specs.declared.judgement.Judgement.TheVariants as judgement
 use Rattle.engine_form.specs.Faults.{engine_fault_number as engine_number}
 use Rattle.engine_form.specs.declared.fault.EngineFault.TheVariants as engine
 use Rattle.invariants.specs.Certificates.{IsCertified, IsOwed, OwesNone}

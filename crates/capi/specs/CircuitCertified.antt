@@ -3,9 +3,9 @@ use Rattle.std.specs.Prelude.{◌≡◌, ℕ, List, Some}
 use Rattle.aiger.specs.Circuit.{Circuit, IsCircuit}
 use Rattle.aiger.specs.Reachability.{CanRiseInCircuit}
 use Rattle.aigertext.specs.Spelling.{SpellsCircuit}
-use Rattle.clauses.specs.Formula.{Formula}
-use Rattle.clauses.specs.FormulaTexts.{formula_text}
-use Rattle.clauses.specs.declared.judgement.Judgement.{Judgement}
+use Rattle.drup.specs.Formula.{Formula}
+use Rattle.drup.specs.FormulaTexts.{formula_text}
+use Rattle.drup.specs.declared.judgement.Judgement.{Judgement}
 use Rattle.invariants.specs.Certificates.{IsCertified, IsOwed, OwesNone}
 use Rattle.invariants.specs.declared.claim_fault.ClaimFault.{ClaimFault}
 use Rattle.capi.specs.Certified.{claim_stop, proof_verdict_of}

@@ -17,9 +17,9 @@ use Rattle.certificates.specs.Owing.{HasNoTest, HasNoTestOverForm, IsTestedFormu
 use Rattle.certificates.specs.declared.fault.TestFault.TheVariants as test
 use Rattle.certificates.specs.declared.witness_fault.WitnessFault.{WitnessFault}
 use Rattle.certificates.specs.declared.witness_fault.WitnessFault.TheVariants as witness
-use Rattle.clauses.specs.Formula.{Formula}
-use Rattle.clauses.specs.FormulaTexts.{formula_text}
-use Rattle.clauses.specs.declared.judgement.Judgement.{Judgement}
+use Rattle.drup.specs.Formula.{Formula}
+use Rattle.drup.specs.FormulaTexts.{formula_text}
+use Rattle.drup.specs.declared.judgement.Judgement.{Judgement}
 use Rattle.engine_form.specs.Faults.{engine_fault_number}
 use Rattle.engine_form.specs.declared.fault.EngineFault.TheVariants as engine
 use Rattle.invariants.specs.Certificates.{IsJudgedProof}

@@ -15,11 +15,11 @@ use Rattle.btor2text.specs.Whys.{line_why_name, printed_number}
 use Rattle.btor2text.specs.declared.fault.Why.{Why}
 use Rattle.certificates.specs.Faults.{test_name, test_number}
 use Rattle.certificates.specs.declared.fault.TestFault.{TestFault}
-use Rattle.clauses.specs.Faults.{clause_name, clause_number, formula_name, formula_number}
-use Rattle.clauses.specs.Printed.{proof_why_name as proof_name, proof_why_number as proof_number}
-use Rattle.clauses.specs.declared.fault.ClauseFault.{ClauseFault}
-use Rattle.clauses.specs.declared.fault.FormulaFault.{FormulaFault}
-use Rattle.clauses.specs.declared.why.Why.{Why as ProofWhy}
+use Rattle.drup.specs.Faults.{clause_name, clause_number, formula_name, formula_number}
+use Rattle.drup.specs.Printed.{proof_why_name as proof_name, proof_why_number as proof_number}
+use Rattle.drup.specs.declared.fault.ClauseFault.{ClauseFault}
+use Rattle.drup.specs.declared.fault.FormulaFault.{FormulaFault}
+use Rattle.drup.specs.declared.why.Why.{Why as ProofWhy}
 use Rattle.engine_form.specs.Faults.{engine_fault_name as engine_name, engine_fault_number as engine_number}
 use Rattle.engine_form.specs.declared.fault.EngineFault.{EngineFault}
 use Rattle.gates.specs.Faults.{gate_fault_name as gate_name, gate_fault_number as gate_number}

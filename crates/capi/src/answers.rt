@@ -48,14 +48,14 @@ impl Verdict {
 
 impl Verdict {
     /// What a judgement of a proof is told as.
-    pub(crate) fn of_proof(judgement: &clauses::Judgement) -> Verdict
+    pub(crate) fn of_proof(judgement: &drup::Judgement) -> Verdict
         ensures { result ≡ proof_verdict_of judgement.now }
     {
         let (kind, why, first) = match *judgement {
-            clauses::Judgement::Derived { line } => (0, 0, line),
-            clauses::Judgement::Malformed { line, why } => (4, why.number(), line),
-            clauses::Judgement::NotImplied { line } => (6, 0, line),
-            clauses::Judgement::NotDerived => (7, 0, 0),
+            drup::Judgement::Derived { line } => (0, 0, line),
+            drup::Judgement::Malformed { line, why } => (4, why.number(), line),
+            drup::Judgement::NotImplied { line } => (6, 0, line),
+            drup::Judgement::NotDerived => (7, 0, 0),
         };
         Verdict {
             kind,

@@ -8,7 +8,7 @@ ghost use Rattle.capi.specs.declared.answers.Stop.TheVariants as stop;
 ghost use Rattle.capi.specs.Certified.{IsClaimStop, IsObligation, IsProofVerdict, OwesNothing, claim_stop};
 ghost use Rattle.capi.specs.CircuitCertified.{IsClaimStopOver, IsObligationOver, IsProofVerdictOver, OwesNothingOver};
 ghost use Rattle.capi.specs.Judged.{CallTellsNoModel, IsStop};
-ghost use Rattle.clauses.specs.FormulaTexts.{formula_text};
+ghost use Rattle.drup.specs.FormulaTexts.{formula_text};
 ghost use Rattle.capi.specs.Written.{Fills, CallTellsUnlowered, Needs};
 
 use crate::answers::{DONE, Refusal, Stop, Verdict, tell};
@@ -19,7 +19,7 @@ use aiger::Circuit;
 use base::{Sink, VecSink};
 use blast::lower;
 use btor2::Model;
-use clauses::{Formula, write_formula};
+use drup::{Formula, write_formula};
 use engine_form::EngineFault;
 use invariants::{
     CertificateFault, ClaimFault, InvariantFault, InvariantWhy, ObligationFault, judge_certificate,

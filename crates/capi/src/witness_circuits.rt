@@ -17,7 +17,7 @@ use base::{Sink, VecSink};
 use blast::lower;
 use btor2::Model;
 use certificates::{TestFault, WitnessFault, owed_formula, owed_formula_over_form};
-use clauses::{Formula, Judgement};
+use drup::{Formula, Judgement};
 use engine_form::EngineFault;
 use invariants::judge_proof;
 use std::alloc::Global;

@@ -7,7 +7,7 @@ use Rattle.aigertext.specs.Spelling.{IsCircuitText}
 use Rattle.aigertext.specs.declared.fault.ReadFault.{ReadFault}
 use Rattle.aigertext.specs.declared.fault.Why.{Why}
 use Rattle.aigertext.specs.declared.fault.Why.TheVariants as why
-use Rattle.clauses.specs.Formula.{Formula}
+use Rattle.drup.specs.Formula.{Formula}
 use Rattle.engine_form.specs.Refusal.{engine_refusal, AnswersForm}
 use Rattle.invariants.specs.Certificates.{IsFormFor}
 use Rattle.invariants.specs.Obligation.{obligation}

@@ -3,9 +3,9 @@ ghost use Rattle.std.specs.Prelude.{◌≡◌, ◌∷◌, ℕ, List, [], Option,
 ghost use Rattle.aiger.specs.Circuit.{Circuit, IsCircuit};
 ghost use Rattle.aiger.specs.Reachability.{CanRiseInCircuit};
 ghost use Rattle.aiger.specs.Worked.{toggler};
-ghost use Rattle.clauses.specs.declared.judgement.Judgement.TheVariants as judgement;
-ghost use Rattle.clauses.specs.Formula.{Formula, IsUnsatisfiable};
-ghost use Rattle.clauses.specs.Judgements.{JudgesProof};
+ghost use Rattle.drup.specs.declared.judgement.Judgement.TheVariants as judgement;
+ghost use Rattle.drup.specs.Formula.{Formula, IsUnsatisfiable};
+ghost use Rattle.drup.specs.Judgements.{JudgesProof};
 ghost use Rattle.invariants.specs.Obligation.{obligation};
 ghost use Rattle.certificates.specs.Mapping.{Mapping, IsMappingOf, shared_literal, mapping_of};
 ghost use Rattle.certificates.specs.Certificate.{IsCertificate};
@@ -63,7 +63,7 @@ pub fn proved_property_never_rises()
         → JudgesProof (obligation t []) text (judgement.Derived line) → ¬ CanRiseInCircuit c k }
 {
     unsatisfiable_where_it_guards();
-    clauses::laws::derived_is_unsatisfiable();
+    drup::laws::derived_is_unsatisfiable();
     guarded_property_never_rises();
 }
 

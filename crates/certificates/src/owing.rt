@@ -11,7 +11,7 @@ use aiger::Circuit;
 use aigerlists::Numbering;
 use aigertext::read;
 use base::Source;
-use clauses::Formula;
+use drup::Formula;
 use engine_form::engine_form;
 use invariants::{Invariant, ObligationFault, obligation};
 use std::alloc::Global;

@@ -4,7 +4,7 @@ use Rattle.std.specs.List.{list_all, list_any}
 use Rattle.std.proofs.lemmas.Bool.{cases_Bool, and_parts}
 use Rattle.std.proofs.lemmas.List.Folds.{list_any_at}
 use Rattle.base.specs.Literal.{Valuation, literal_value}
-use Rattle.clauses.specs.Formula.{SatisfiesClause, SatisfiesClauses}
+use Rattle.drup.specs.Formula.{SatisfiesClause, SatisfiesClauses}
 
 -- whether a clause, and each of some clauses, is satisfied
 abbrev pub clause_bit : Valuation → List ℕ → Bool

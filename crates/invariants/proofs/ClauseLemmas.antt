@@ -12,7 +12,7 @@ use Rattle.aiger.specs.Net.{SatisfiesFrom, bits_from, latch_bits}
 use Rattle.aiger.specs.Circuit.{Circuit, net}
 use Rattle.aiger.specs.Trace.{next_latch_bits}
 use Rattle.base.proofs.LiteralLemmas.{literal_value-negation, literal_value-even, literal_value-odd}
-use Rattle.clauses.specs.Formula.{IsLiteral}
+use Rattle.drup.specs.Formula.{IsLiteral}
 use Rattle.invariants.specs.Invariants.{AreOver, state_bit, is_in_cube, is_outside}
 use Rattle.invariants.specs.Obligation.{over, gate_clauses, gates_clauses, outside_clause, taken_literal, truth_variable, next_literal, next_clauses, nexts_clauses}
 use Rattle.invariants.proofs.BitLemmas.{formula_bit, clause_bit, or_not, not_or, not_or_self, two, three, two_all}

@@ -2,8 +2,8 @@
 use Rattle.std.proofs.Common.{◌≡◌, ℕ, List, [], ◌++◌, Option, Some, None, refl, sym, ap, ◌∙◌, append_assoc, append-nil}
 use Rattle.std.specs.Prelude.{IfSome}
 use Rattle.std.specs.Io.KnownBytes.{Consumes, IsAtEnd}
-use Rattle.clauses.specs.Formula.{Formula}
-use Rattle.clauses.specs.ProofJudges.{ProofJudge, StandsForText}
+use Rattle.drup.specs.Formula.{Formula}
+use Rattle.drup.specs.ProofJudges.{ProofJudge, StandsForText}
 use Rattle.invariants.specs.Feeding.{Fed, FedAll}
 
 consumes_none : (old : Option (List ℕ)) → Consumes old old []

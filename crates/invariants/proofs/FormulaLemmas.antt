@@ -8,7 +8,7 @@ use Rattle.aiger.specs.declared.circuit.Latch.{Latch}
 use Rattle.aiger.specs.Net.{IsDefined, AreOrderedFrom}
 use Rattle.aiger.specs.Circuit.{Circuit, IsCircuit, net}
 use Rattle.base.specs.Literal.{negation}
-use Rattle.clauses.specs.Formula.{IsLiteral, IsFormula}
+use Rattle.drup.specs.Formula.{IsLiteral, IsFormula}
 use Rattle.invariants.specs.Invariants.{AreOver, bad_literal}
 use Rattle.invariants.specs.Obligation.{truth_variable, rise_variable, cube_variable, over, gate_clauses, gates_clauses, outside_clause, taken_literal, next_literal, next_clauses, nexts_clauses, fails_clause, now_clauses, failing_clauses, obligation}
 use Rattle.invariants.proofs.ClauseLemmas.{next_even, next_odd, literals_from, from_more}

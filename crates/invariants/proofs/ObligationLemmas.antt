@@ -12,7 +12,7 @@ use Rattle.aiger.specs.Circuit.{Circuit, IsCircuit, net}
 use Rattle.aiger.specs.Trace.{IsCircuitFrame, next_latch_bits}
 use Rattle.base.proofs.LiteralLemmas.{literal_value-even, literal_value-odd}
 use Rattle.aiger.proofs.TraceLemmas.{AgreeBelow, literal_value-agree, bits_from-agree}
-use Rattle.clauses.specs.Formula.{IsUnsatisfiable}
+use Rattle.drup.specs.Formula.{IsUnsatisfiable}
 use Rattle.invariants.specs.Invariants.{AreOver, is_in_cube, is_outside, bad_literal, KeepsCubes, IsInductive}
 use Rattle.invariants.specs.Obligation.{truth_variable, rise_variable, cube_variable, over, gates_clauses, outside_clause, nexts_clauses, fails_clause, now_clauses, failing_clauses, obligation}
 use Rattle.invariants.proofs.BitLemmas.{formula_bit, clause_bit, formula_true, formula_satisfied, two, one_is, not_or_self}

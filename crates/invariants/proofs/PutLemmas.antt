@@ -5,7 +5,7 @@ use Rattle.std.proofs.lemmas.List.Elements.{All-nil, All-cons, All-head, All-tai
 use Rattle.aiger.specs.declared.circuit.Gate.{Gate}
 use Rattle.aiger.specs.Circuit.{Circuit}
 use Rattle.base.specs.Literal.{negation}
-use Rattle.clauses.specs.Formula.{Formula, IsLiteral}
+use Rattle.drup.specs.Formula.{Formula, IsLiteral}
 use Rattle.invariants.specs.Invariants.{AreOver}
 use Rattle.invariants.specs.Obligation.{over, gate_clauses, gates_clauses, outside_clause, next_literal, next_clauses, nexts_clauses, rise_variable, fails_clause}
 use Rattle.invariants.specs.Made.{AddsClauses}

@@ -9,7 +9,7 @@ use Rattle.base.specs.Lines.{IsLine, whole_lines, unfinished, line_after}
 use Rattle.std.specs.Prelude.{IfOk, IfErr}
 use Rattle.base.specs.Held.{Held, Advances}
 use Rattle.base.proofs.LineLemmas.{whole_lines-line, unfinished-line, whole_lines-last, unfinished-last}
-use Rattle.clauses.specs.Formula.{IsLiteral}
+use Rattle.drup.specs.Formula.{IsLiteral}
 use Rattle.invariants.specs.declared.why.InvariantWhy.{InvariantWhy}
 use Rattle.invariants.specs.declared.why.InvariantWhy.TheVariants as why
 use Rattle.invariants.specs.declared.why.InvariantFault.{InvariantFault}

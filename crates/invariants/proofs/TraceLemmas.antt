@@ -13,7 +13,7 @@ use Rattle.aiger.specs.Circuit.{Circuit, IsCircuit}
 use Rattle.aiger.specs.Trace.{AgreesWithReset, AreInitial, IsCircuitTrace, next_latch_bits}
 use Rattle.base.specs.Shown.{rises_within}
 use Rattle.aiger.specs.Reachability.{circuit_shows, CanRiseInCircuit}
-use Rattle.clauses.specs.Formula.{IsUnsatisfiable}
+use Rattle.drup.specs.Formula.{IsUnsatisfiable}
 use Rattle.invariants.specs.Invariants.{AreOver, state_bit, is_in_cube, is_outside, asks_one, bad_literal, IsInductive}
 use Rattle.invariants.specs.Obligation.{obligation}
 use Rattle.invariants.proofs.ClauseLemmas.{state_even}

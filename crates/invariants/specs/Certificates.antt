@@ -6,9 +6,9 @@ use Rattle.base.specs.Device.{HasRisen}
 use Rattle.aiger.specs.Circuit.{Circuit}
 use Rattle.engine_form.specs.EngineForm.{IsEngineFormOf}
 use Rattle.engine_form.specs.Refusal.{engine_refusal, AnswersForm}
-use Rattle.clauses.specs.declared.judgement.Judgement.{Judgement}
-use Rattle.clauses.specs.Formula.{Formula}
-use Rattle.clauses.specs.Judgements.{JudgesProof}
+use Rattle.drup.specs.declared.judgement.Judgement.{Judgement}
+use Rattle.drup.specs.Formula.{Formula}
+use Rattle.drup.specs.Judgements.{JudgesProof}
 use Rattle.invariants.specs.declared.why.InvariantWhy.{InvariantWhy}
 use Rattle.invariants.specs.declared.why.InvariantWhy.TheVariants as why
 use Rattle.invariants.specs.declared.claim_fault.ClaimFault.{ClaimFault}

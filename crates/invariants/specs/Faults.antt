@@ -2,7 +2,7 @@
 -- number, a space and a name; and the line of the text that is meant.
 use Rattle.std.specs.Prelude.{ℕ, List, Option, None, Some, codes}
 use Rattle.engine_form.specs.Faults.{engine_fault_number as engine_number, engine_fault_name as engine_name}
-use Rattle.clauses.specs.Faults.{clause_number, clause_name}
+use Rattle.drup.specs.Faults.{clause_number, clause_name}
 use Rattle.invariants.specs.declared.why.InvariantWhy.{InvariantWhy}
 use Rattle.invariants.specs.declared.why.InvariantWhy.TheVariants as why
 use Rattle.invariants.specs.declared.fault.ObligationFault.{ObligationFault}

@@ -1,8 +1,8 @@
 -- A judge of proofs that is fed with what a source gives.
 use Rattle.std.specs.Prelude.{◌≡◌, List, ℕ, [], Option, IfSome}
 use Rattle.std.specs.Io.KnownBytes.{Consumes}
-use Rattle.clauses.specs.Formula.{Formula}
-use Rattle.clauses.specs.ProofJudges.{ProofJudge, StandsForText}
+use Rattle.drup.specs.Formula.{Formula}
+use Rattle.drup.specs.ProofJudges.{ProofJudge, StandsForText}
 
 -- a judge that took no byte was fed so far with what a source gave
 pub record Fed (old now : Option (List ℕ)) (before after : ProofJudge) : Type 0 where

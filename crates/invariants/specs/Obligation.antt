@@ -8,7 +8,7 @@ use Rattle.aiger.specs.declared.circuit.Gate.{Gate}
 use Rattle.aiger.specs.Net.{variables}
 use Rattle.aiger.specs.Circuit.{Circuit, net}
 use Rattle.base.specs.Literal.{negation}
-use Rattle.clauses.specs.Formula.{Formula}
+use Rattle.drup.specs.Formula.{Formula}
 use Rattle.invariants.specs.Invariants.{bad_literal}
 
 -- the variable that is true, that for "the bad property rises", and that of the first cube

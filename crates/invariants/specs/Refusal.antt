@@ -1,7 +1,7 @@
 -- When a cube is no cube of an invariant, and when there is no obligation.
 use Rattle.std.specs.Prelude.{◌≡◌, ℕ, ◌+◌, true, false, ◌⊎◌, List, length, All, Option, None, Some, Result, Ok, Err, nat_lt, if◌then◌else◌}
 use Rattle.aiger.specs.Circuit.{Circuit}
-use Rattle.clauses.specs.Formula.{IsLiteral}
+use Rattle.drup.specs.Formula.{IsLiteral}
 use Rattle.invariants.specs.declared.why.InvariantWhy.{InvariantWhy}
 use Rattle.invariants.specs.declared.why.InvariantWhy.TheVariants as why
 use Rattle.invariants.specs.declared.fault.ObligationFault.{ObligationFault}

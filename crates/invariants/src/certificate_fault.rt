@@ -4,7 +4,7 @@ ghost use Rattle.invariants.specs.Faults.{certificate_number, certificate_name, 
 
 use crate::claim_fault::ClaimFault;
 use base::DeviceFault;
-use clauses::ClauseFault;
+use drup::ClauseFault;
 use std::fmt;
 use thiserror::Error;
 

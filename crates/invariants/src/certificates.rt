@@ -3,8 +3,8 @@ ghost use Rattle.std.specs.Prelude.{◌≡◌, ℕ, [], IfErr, IfOk, OnOk};
 ghost use Rattle.std.specs.Io.KnownBytes.{IsAtEnd};
 ghost use Rattle.base.specs.Device.{CountsFaults};
 ghost use Rattle.aiger.specs.Reachability.{CanRiseInCircuit};
-ghost use Rattle.clauses.specs.declared.judgement.Judgement.TheVariants as judgement;
-ghost use Rattle.clauses.specs.ProofJudges.{StandsForText};
+ghost use Rattle.drup.specs.declared.judgement.Judgement.TheVariants as judgement;
+ghost use Rattle.drup.specs.ProofJudges.{StandsForText};
 ghost use Rattle.invariants.specs.Certificates.{CountsCertificate, IsCertified, IsJudgedProof, IsNotCertified, IsOfProof, WithoutFormOf, WithoutFormula};
 ghost use Rattle.invariants.specs.Feeding.{FedAll};
 
@@ -13,7 +13,7 @@ use crate::claims::owed_formula;
 use crate::laws::certified_property_never_rises;
 use aiger::Circuit;
 use base::{DeviceFault, Source};
-use clauses::{ClauseFault, Formula, Judgement, ProofJudge};
+use drup::{ClauseFault, Formula, Judgement, ProofJudge};
 use std::alloc::Global;
 
 /// How many bytes one call of a source is asked for.

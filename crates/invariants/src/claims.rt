@@ -8,7 +8,7 @@ use crate::obligations::obligation;
 use crate::reader::read_invariant;
 use aiger::Circuit;
 use base::Source;
-use clauses::Formula;
+use drup::Formula;
 use engine_form::engine_form;
 use std::alloc::Global;
 

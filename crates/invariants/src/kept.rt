@@ -1,11 +1,11 @@
 //! Invariants that are kept.
 ghost use Rattle.std.specs.Prelude.{◌≡◌, ◌<◌, ◌++◌, ◌∷◌, [], true, length, slice_index_or, All, OnOk, OnErr};
 ghost use Rattle.std.specs.List.{list_all};
-ghost use Rattle.clauses.specs.Formula.{IsLiteral};
+ghost use Rattle.drup.specs.Formula.{IsLiteral};
 ghost use Rattle.invariants.specs.Invariants.{asks_one, AreOver};
 
 use crate::why::InvariantWhy;
-use clauses::{Formula, FormulaFault};
+use drup::{Formula, FormulaFault};
 use std::alloc::Global;
 use std::marker::Model;
 

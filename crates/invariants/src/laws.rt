@@ -8,10 +8,10 @@ ghost use Rattle.aiger.specs.Trace.{IsCircuitTrace};
 ghost use Rattle.aiger.specs.Reachability.{CanRiseInCircuit};
 ghost use Rattle.aiger.specs.Worked.{toggler};
 ghost use Rattle.engine_form.specs.EngineForm.{IsEngineFormOf};
-ghost use Rattle.clauses.specs.declared.judgement.Judgement.{Judgement};
-ghost use Rattle.clauses.specs.declared.judgement.Judgement.TheVariants as judgement;
-ghost use Rattle.clauses.specs.Formula.{IsFormula, IsUnsatisfiable};
-ghost use Rattle.clauses.specs.Judgements.{JudgesProof};
+ghost use Rattle.drup.specs.declared.judgement.Judgement.{Judgement};
+ghost use Rattle.drup.specs.declared.judgement.Judgement.TheVariants as judgement;
+ghost use Rattle.drup.specs.Formula.{IsFormula, IsUnsatisfiable};
+ghost use Rattle.drup.specs.Judgements.{JudgesProof};
 ghost use Rattle.invariants.specs.Certificates.{IsCertified};
 ghost use Rattle.invariants.specs.Invariants.{AreOver, asks_one, bad_literal, IsInductive};
 ghost use Rattle.invariants.specs.Obligation.{obligation};
@@ -60,7 +60,7 @@ pub fn proved_property_never_rises()
         → list_all asks_one cubes ≡ true
         → JudgesProof (obligation d cubes) text (judgement.Derived line) → ¬ CanRiseInCircuit c k }
 {
-    clauses::laws::derived_is_unsatisfiable();
+    drup::laws::derived_is_unsatisfiable();
     engine_form::laws::bad_properties_rise_alike();
 }
 
@@ -80,7 +80,7 @@ pub fn one_judgement_of_a_certificate()
         (b : IsCertified c k (Some invariant) (Some proof) j)
         → a.is_owed.form ≡ b.is_owed.form → i ≡ j }
 {
-    clauses::laws::one_judgement();
+    drup::laws::one_judgement();
 }
 
 /// A law: a text is read as some cubes exactly where it says them.

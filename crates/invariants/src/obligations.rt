@@ -3,7 +3,7 @@ ghost use Rattle.std.specs.Prelude.{◌≡◌, ℕ, suc, ◌+◌, ◌*◌, ◌<�
 ghost use Rattle.std.specs.List.{range_with_len};
 ghost use Rattle.aiger.specs.Circuit.{IsCircuit};
 ghost use Rattle.base.specs.Literal.{negation};
-ghost use Rattle.clauses.specs.Formula.{IsLiteral};
+ghost use Rattle.drup.specs.Formula.{IsLiteral};
 ghost use Rattle.invariants.specs.Invariants.{AreOver, bad_literal};
 ghost use Rattle.invariants.specs.Obligation.{over, gate_clauses, gates_clauses, outside_clause, truth_variable, rise_variable, cube_variable, next_literal, next_clauses, nexts_clauses, fails_clause, now_clauses, failing_clauses, obligation};
 ghost use Rattle.invariants.specs.Made.{AddsClauses};
@@ -12,7 +12,7 @@ ghost use Rattle.invariants.specs.Refusal.{obligation_refusal, RefusesObligation
 use crate::fault::ObligationFault;
 use crate::kept::Invariant;
 use aiger::{Circuit, Gate, Lit};
-use clauses::{ClauseFault, Formula, FormulaFault};
+use drup::{ClauseFault, Formula, FormulaFault};
 use std::alloc::Global;
 
 /// The greatest count of variables that a formula may have.

@@ -1,5 +1,5 @@
 //! Proofs over formulas, fed to a judge in two pieces, cut at each place, and byte by byte.
-use clauses::{ClauseFault, Formula, FormulaFault, Judgement, ProofJudge, Why};
+use drup::{ClauseFault, Formula, FormulaFault, Judgement, ProofJudge, Why};
 use std::alloc::Global;
 use std::test::Fail;
 

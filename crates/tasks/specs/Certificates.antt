@@ -7,11 +7,11 @@ use Rattle.aiger.specs.Reachability.{CanRiseInCircuit}
 use Rattle.blast.specs.Lowering.{Lowers}
 use Rattle.btor2.specs.Reachability.{CanRise}
 use Rattle.blast.specs.Refusal.{lowering_refusal}
-use Rattle.clauses.specs.declared.judgement.Judgement.{Judgement}
-use Rattle.clauses.specs.declared.judgement.Judgement.TheVariants as verdict
-use Rattle.clauses.specs.Formula.{Formula}
-use Rattle.clauses.specs.FormulaTexts.{formula_text}
-use Rattle.clauses.specs.Printed.{proof_why_number, proof_why_name}
+use Rattle.drup.specs.declared.judgement.Judgement.{Judgement}
+use Rattle.drup.specs.declared.judgement.Judgement.TheVariants as verdict
+use Rattle.drup.specs.Formula.{Formula}
+use Rattle.drup.specs.FormulaTexts.{formula_text}
+use Rattle.drup.specs.Printed.{proof_why_number, proof_why_name}
 use Rattle.certificates.specs.Owing.{IsTestedFormula, IsTestedOverForm}
 use Rattle.invariants.specs.Certificates.{IsJudgedProof, IsOwed}
 use Rattle.tasks.specs.declared.answers.Answer.{Answer}

@@ -6,8 +6,8 @@ use Rattle.btor2.specs.Items.{is_state, is_bad, is_constraint}
 use Rattle.btor2.specs.Lists.{of_kind}
 use Rattle.aiger.specs.declared.circuit.Section.TheVariants as section
 use Rattle.aiger.specs.Circuit.{Circuit, name_of}
-use Rattle.clauses.specs.declared.judgement.Judgement.{Judgement as Verdict}
-use Rattle.clauses.specs.declared.judgement.Judgement.TheVariants as verdict
+use Rattle.drup.specs.declared.judgement.Judgement.{Judgement as Verdict}
+use Rattle.drup.specs.declared.judgement.Judgement.TheVariants as verdict
 use Rattle.witness.specs.declared.judgement.Judgement.{Judgement}
 use Rattle.witness.specs.declared.judgement.Judgement.TheVariants as judgement
 use Rattle.tasks.specs.declared.subjects.Subject.{Subject}

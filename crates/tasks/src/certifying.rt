@@ -6,7 +6,7 @@ ghost use Rattle.std.specs.String.{string_bytes};
 ghost use Rattle.base.specs.Device.{CountsFaults};
 ghost use Rattle.blast.specs.Lowering.{Lowers};
 ghost use Rattle.blast.specs.Refusal.{lowering_refusal};
-ghost use Rattle.clauses.specs.FormulaTexts.{formula_text};
+ghost use Rattle.drup.specs.FormulaTexts.{formula_text};
 ghost use Rattle.orders.specs.declared.tasks.Given.TheVariants as given_is;
 ghost use Rattle.tasks.specs.Certificates.{CertifiesWith, GivesItsCircuit, IsGivenNumbering, IsRead, IsSoDerived, WritesOwed, given_said, read_said, verdict_line};
 ghost use Rattle.btor2text.specs.Spelling.{IsModelOf};
@@ -26,7 +26,7 @@ use aigertext::read_numbered;
 use base::{DeviceFault, Sink, Source};
 use blast::{Watch, lower_watched};
 use btor2::Model;
-use clauses::{Formula, Judgement, write_formula};
+use drup::{Formula, Judgement, write_formula};
 use orders::{Certificate, Given};
 use std::alloc::{AllocError, Global};
 

@@ -4,7 +4,7 @@ ghost use Rattle.std.specs.Prelude.{◌≡◌, ◌<◌, ℕ, List, length, None,
 ghost use Rattle.aiger.specs.Circuit.{Circuit};
 ghost use Rattle.aiger.specs.Reachability.{CanRiseInCircuit};
 ghost use Rattle.certificates.specs.Owing.{IsTestedFormula, IsTestedOverForm};
-ghost use Rattle.clauses.specs.declared.judgement.Judgement.TheVariants as verdict;
+ghost use Rattle.drup.specs.declared.judgement.Judgement.TheVariants as verdict;
 ghost use Rattle.invariants.specs.Certificates.{IsJudgedProof, IsOwed};
 ghost use Rattle.orders.specs.declared.tasks.Certificate.{Certificate};
 ghost use Rattle.tasks.specs.Certificates.{IsCertifiedBy, IsOwedBy};
@@ -18,7 +18,7 @@ use aiger::Circuit;
 use aigerlists::Numbering;
 use base::Source;
 use certificates::TestFault;
-use clauses::{Formula, Judgement};
+use drup::{Formula, Judgement};
 use invariants::judge_proof;
 use orders::Certificate;
 use std::alloc::Global;

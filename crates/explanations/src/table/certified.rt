@@ -2,11 +2,11 @@
 
 ghost use Rattle.certificates.specs.Faults.{test_name, test_number};
 ghost use Rattle.certificates.specs.declared.fault.TestFault.{TestFault};
-ghost use Rattle.clauses.specs.Faults.{clause_name, clause_number, formula_name, formula_number};
-ghost use Rattle.clauses.specs.Printed.{proof_why_name, proof_why_number};
-ghost use Rattle.clauses.specs.declared.fault.ClauseFault.{ClauseFault};
-ghost use Rattle.clauses.specs.declared.fault.FormulaFault.{FormulaFault};
-ghost use Rattle.clauses.specs.declared.why.Why.{Why};
+ghost use Rattle.drup.specs.Faults.{clause_name, clause_number, formula_name, formula_number};
+ghost use Rattle.drup.specs.Printed.{proof_why_name, proof_why_number};
+ghost use Rattle.drup.specs.declared.fault.ClauseFault.{ClauseFault};
+ghost use Rattle.drup.specs.declared.fault.FormulaFault.{FormulaFault};
+ghost use Rattle.drup.specs.declared.why.Why.{Why};
 ghost use Rattle.explanations.specs.Explanations.{Has};
 ghost use Rattle.invariants.specs.Faults.{certificate_name, certificate_number, obligation_name, obligation_number, invariant_why_name as invariant_name, invariant_why_number as invariant_number};
 ghost use Rattle.invariants.specs.declared.certificate_fault.CertificateFault.TheVariants as certificate;

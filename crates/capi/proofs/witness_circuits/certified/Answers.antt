@@ -1,6 +1,6 @@
 use Rattle.std.proofs.Common.{ap, ◌∙◌, sym, subst}
-use Rattle.clauses.specs.Judgements.{JudgesProof}
-use Rattle.clauses.specs.declared.judgement.Judgement.{Judgement}
+use Rattle.drup.specs.Judgements.{JudgesProof}
+use Rattle.drup.specs.declared.judgement.Judgement.{Judgement}
 use Rattle.capi.specs.Guarded.{NeverRisesInText}
 use Rattle.capi.specs.declared.answers.Verdict.{Verdict}
 use Rattle.capi.proofs.GuardedLemmas.{never_in_text, owed_never_rises}

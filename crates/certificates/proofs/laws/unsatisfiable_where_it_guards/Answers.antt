@@ -1,6 +1,6 @@
 use Rattle.std.proofs.Common.{All, []}
 use Rattle.std.proofs.lemmas.List.Elements.{All-nil}
-use Rattle.clauses.specs.Formula.{IsLiteral}
+use Rattle.drup.specs.Formula.{IsLiteral}
 use Rattle.certificates.proofs.TestLemmas.{guards, inductive}
 use Rattle.certificates.proofs.laws.unsatisfiable_where_it_guards.Goals as goal
 

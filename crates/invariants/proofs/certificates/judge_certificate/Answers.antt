@@ -1,7 +1,7 @@
 use Rattle.std.proofs.Common.{◌≡◌, ℕ, subst}
 use Rattle.aiger.specs.Reachability.{CanRiseInCircuit}
-use Rattle.clauses.specs.declared.judgement.Judgement.{Judgement}
-use Rattle.clauses.specs.declared.judgement.Judgement.TheVariants as judgement
+use Rattle.drup.specs.declared.judgement.Judgement.{Judgement}
+use Rattle.drup.specs.declared.judgement.Judgement.TheVariants as judgement
 use Rattle.invariants.specs.Certificates.{IsJudgedProof}
 use Rattle.invariants.proofs.ReaderLemmas.{ok_weaker}
 use Rattle.invariants.proofs.certificates.judge_certificate.Goals as goal

@@ -1,7 +1,7 @@
 use Rattle.std.proofs.Common.{subst}
-use Rattle.clauses.specs.declared.judgement.Judgement.TheVariants as judgement
-use Rattle.clauses.specs.Formula.{Formula}
-use Rattle.clauses.specs.Judgements.{JudgesProof}
+use Rattle.drup.specs.declared.judgement.Judgement.TheVariants as judgement
+use Rattle.drup.specs.Formula.{Formula}
+use Rattle.drup.specs.Judgements.{JudgesProof}
 use Rattle.invariants.proofs.laws.certified_property_never_rises.Goals as goal
 
 pub returns : goal.returns

@@ -1,7 +1,7 @@
 use Rattle.std.proofs.Common.{◌≡◌, List, ℕ, Some, sym, ap, subst, ◌∙◌, length}
 use Rattle.aiger.specs.Circuit.{Circuit}
-use Rattle.clauses.specs.Formula.{Formula}
-use Rattle.clauses.specs.Judgements.{JudgesProof}
+use Rattle.drup.specs.Formula.{Formula}
+use Rattle.drup.specs.Judgements.{JudgesProof}
 use Rattle.invariants.specs.Certificates.{IsOwedOver}
 use Rattle.invariants.specs.Obligation.{obligation}
 use Rattle.invariants.specs.Texts.{SaysCubes}

@@ -1,5 +1,5 @@
 use Rattle.std.proofs.Common.{◌≡◌, ℕ, ◌+◌, ◌++◌, length, sym, ap, subst, ◌∙◌, arith}
-use Rattle.clauses.specs.Formula.{Formula}
+use Rattle.drup.specs.Formula.{Formula}
 use Rattle.invariants.specs.Invariants.{AreOver}
 use Rattle.invariants.specs.Obligation.{rise_variable, now_clauses, failing_clauses}
 use Rattle.invariants.proofs.FormulaLemmas.{is_formula}

@@ -1,6 +1,6 @@
 use Rattle.std.proofs.Common.{ℕ, All, ◌∷◌, [], ◌+◌, ◌*◌, ap, sym, subst, ◌∙◌}
 use Rattle.base.specs.Literal.{negation}
-use Rattle.clauses.specs.Formula.{IsLiteral}
+use Rattle.drup.specs.Formula.{IsLiteral}
 use Rattle.invariants.proofs.PutLemmas.{gate_first, gate_second, gate_third}
 use Rattle.invariants.proofs.obligations.put_gate.Goals as goal
 

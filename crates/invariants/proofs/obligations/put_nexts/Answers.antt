@@ -1,5 +1,5 @@
 use Rattle.std.proofs.Common.{◌+◌, All, subst, arith}
-use Rattle.clauses.specs.Formula.{IsLiteral}
+use Rattle.drup.specs.Formula.{IsLiteral}
 use Rattle.invariants.specs.Obligation.{cube_variable}
 use Rattle.invariants.proofs.PutLemmas.{nexts_front, nexts_less}
 use Rattle.invariants.proofs.obligations.put_nexts.Goals as goal

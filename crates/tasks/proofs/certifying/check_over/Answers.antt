@@ -1,6 +1,6 @@
 use Rattle.std.proofs.Common.{rules, ◌≡◌, Err, OnOk, List, ℕ, subst}
 use Rattle.std.specs.Io.KnownBytes.{Appends}
-use Rattle.clauses.specs.declared.judgement.Judgement.{Judgement}
+use Rattle.drup.specs.declared.judgement.Judgement.{Judgement}
 use Rattle.tasks.specs.Refusals.{IsFaultyCertificate}
 use Rattle.tasks.specs.Subjects.{holds_said, where_named}
 use Rattle.tasks.proofs.CertificateLemmas.{certified}

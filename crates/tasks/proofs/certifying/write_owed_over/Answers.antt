@@ -1,5 +1,5 @@
 use Rattle.std.proofs.Common.{rules, ◌≡◌, Err, refl}
-use Rattle.clauses.specs.Formula.{Formula}
+use Rattle.drup.specs.Formula.{Formula}
 use Rattle.tasks.specs.Refusals.{IsFaultyCertificate}
 use Rattle.tasks.proofs.CountLemmas.{counted_after, handed_on, no_second}
 use Rattle.tasks.proofs.certifying.write_owed_over.Goals as goal

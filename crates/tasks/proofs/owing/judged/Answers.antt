@@ -1,5 +1,5 @@
 use Rattle.std.proofs.Common.{rules, ◌≡◌, ℕ, Err, subst}
-use Rattle.clauses.specs.Formula.{Formula}
+use Rattle.drup.specs.Formula.{Formula}
 use Rattle.tasks.specs.Statuses.{CountsAll}
 use Rattle.tasks.proofs.CountLemmas.{handed_on}
 use Rattle.tasks.proofs.owing.judged.Goals as goal

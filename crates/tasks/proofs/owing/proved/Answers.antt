@@ -1,5 +1,5 @@
 use Rattle.std.proofs.Common.{Err, refl, sym, subst}
-use Rattle.clauses.specs.declared.judgement.Judgement.{Judgement}
+use Rattle.drup.specs.declared.judgement.Judgement.{Judgement}
 use Rattle.tasks.specs.declared.refusals.Refusal.{Refusal}
 use Rattle.tasks.specs.Statuses.{CountsAll}
 use Rattle.tasks.proofs.CertificateLemmas.{counted_proof}

@@ -1,8 +1,0 @@
-use Rattle.std.proofs.Common.{take}
-use Rattle.std.specs.Prelude.{All}
-use Rattle.clauses.specs.Formula.{IsLiteral}
-use Rattle.clauses.proofs.formula.are_literals.Given as goal
-
--- the literals before are of the variables
-abbrev pub invariant-loop-literal : goal.invariant-loop-literal
-invariant-loop-literal l = All (IsLiteral l.variables) (take l.literal-index l.clause)

@@ -1,5 +1,0 @@
-use Rattle.clauses.proofs.StepJudgeLemmas.{stands_begun}
-use Rattle.clauses.proofs.laws.begun_judge_stands.Goals as goal
-
-pub returns : goal.returns
-returns c = stands_begun

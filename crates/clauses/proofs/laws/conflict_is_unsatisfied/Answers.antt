@@ -1,5 +1,0 @@
-use Rattle.clauses.proofs.SoundLemmas.{is_unsatisfied}
-use Rattle.clauses.proofs.laws.conflict_is_unsatisfied.Goals as goal
-
-pub returns : goal.returns
-returns c = is_unsatisfied

@@ -1,5 +1,0 @@
-use Rattle.clauses.proofs.JudgementLemmas.{derived_sound}
-use Rattle.clauses.proofs.laws.derived_is_unsatisfiable.Goals as goal
-
-pub returns : goal.returns
-returns c = derived_sound

@@ -1,8 +1,0 @@
-use Rattle.std.proofs.Common.{ℕ, List, ◌++◌, take}
-use Rattle.clauses.specs.Formula.{Formula}
-use Rattle.clauses.specs.ProofJudges.{StandsForText}
-use Rattle.clauses.proofs.proof_judge.ProofJudge.take_all.Given as goal
-
--- the bytes before are taken
-abbrev pub invariant-loop-byte : goal.invariant-loop-byte
-invariant-loop-byte l = (f : Formula) (text : List ℕ) → StandsForText f l.fn.self text → StandsForText f l.self (text ++ take l.byte-index l.bytes)

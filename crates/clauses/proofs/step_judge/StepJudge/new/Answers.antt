@@ -1,6 +1,0 @@
-use Rattle.std.proofs.Common.{false}
-use Rattle.clauses.proofs.StepJudgeLemmas.{begins_empty}
-use Rattle.clauses.proofs.step_judge.StepJudge.new.Goals as goal
-
-pub returns-clause-begins : goal.returns-clause-begins
-returns-clause-begins c = begins_empty c.args.variables c.in_ok-propagator.propagator false c.in_ok-propagator.ensures.1 c.in_ok-propagator.ensures.2

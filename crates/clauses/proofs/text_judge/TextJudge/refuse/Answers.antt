@@ -1,7 +1,0 @@
-use Rattle.std.proofs.Common.{sym, subst}
-use Rattle.clauses.specs.StepReaders.{StandsForWords}
-use Rattle.clauses.specs.TextJudges.{TextJudge}
-use Rattle.clauses.proofs.text_judge.TextJudge.refuse.Goals as goal
-
-pub returns-clause-words : goal.returns-clause-words
-returns-clause-words c f marks s = c.refuse.ensures.stands f marks (subst (λ (x : TextJudge). StandsForWords f x.reader marks) (sym c.self.view_is) s)

@@ -1,0 +1,26 @@
+-- Clauses in one flat list of literals, each with the place of its start and its end. A clause that was taken away is empty there, and stands no longer.
+use Rattle.drup.specs.Without.{times}
+use Rattle.std.specs.Prelude.{◌≢◌, ◌≡◌, ℕ, ◌<◌, ◌≤◌, List, [], ◌∷◌, length, slice_index, slice_range}
+
+-- the clauses, by their places
+abbrev pub cut : List ℕ → List ℕ → List ℕ → List (List ℕ)
+cut literals [] ends = []
+cut literals (s ∷ ss) [] = []
+cut literals (s ∷ ss) (e ∷ es) = slice_range literals s e ∷ cut literals ss es
+
+-- those that stand: a clause that stands has a literal, since one without brings a conflict
+abbrev pub standing : List (List ℕ) → List (List ℕ)
+standing [] = []
+standing ([] ∷ clauses) = standing clauses
+standing ((l ∷ ls) ∷ clauses) = (l ∷ ls) ∷ standing clauses
+
+-- as many starts as ends, in order, and inside
+pub record AreStartsAndEnds (size : ℕ) (starts ends : List ℕ) : Type 0 where
+  pub as_many : length starts ≡ length ends
+  pub stretch : (k : ℕ) → k < length ends → (slice_index starts k ≤ slice_index ends k) × (slice_index ends k ≤ size)
+
+-- two clauses have one literal at a place, or each of the two there stands as often in one as in the other
+abbrev pub AgreeAt : List ℕ → List ℕ → ℕ → Type 0
+AgreeAt one other i =
+    slice_index one i ≢ slice_index other i
+    → (times (slice_index one i) one ≡ times (slice_index one i) other) × (times (slice_index other i) one ≡ times (slice_index other i) other)

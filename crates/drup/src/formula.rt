@@ -1,0 +1,128 @@
+//! Formulas that are kept.
+ghost use Rattle.std.specs.Prelude.{◌≡◌, ℕ, ◌+◌, ◌*◌, ◌<◌, ◌≤◌, ◌++◌, ◌∷◌, [], All, MatchBool, OnOk, OnErr, length, slice_index, slice_index_or};
+ghost use Rattle.drup.specs.Formula.{IsLiteral, IsFormula};
+ghost use Rattle.drup.specs.FormulaKept.{RefusesClause, start_at};
+
+use crate::fault::FormulaFault;
+use crate::passes::clause_between;
+use std::alloc::Global;
+use std::marker::Model;
+
+/// Whether a literal is one of so many variables: 2v is variable v, from 1 on, and 2v + 1 its negation.
+fn is_literal(variables: u32, literal: u32) -> bool
+    requires { variables < 2147483647 }
+    ensures { MatchBool result (IsLiteral variables literal) (¬ IsLiteral variables literal) }
+{
+    literal >= 2 && literal < 2 * variables + 2
+}
+
+/// Whether all literals of a clause are of so many variables.
+fn are_literals(variables: u32, clause: &[u32]) -> bool
+    requires { variables < 2147483647 }
+    ensures { MatchBool result (All (IsLiteral variables) clause.now)
+        (¬ All (IsLiteral variables) clause.now) }
+{
+    for literal in clause {
+        if !is_literal(variables, *literal) {
+            return false;
+        }
+    }
+    true
+}
+
+/// Where the clause at a place starts: at the end of the one before.
+fn start_of(ends: &[usize], k: usize) -> usize
+    requires { k < length ends.now }
+    ensures { result ≡ start_at ends.now k }
+{
+    if k == 0 { 0 } else { ends[k - 1] }
+}
+
+/// A formula in conjunctive normal form: a count of variables, and clauses of their literals, in the order in which they
+/// came. Literal 2v is variable v, from 1 on, and 2v + 1 its negation, as in AIGER.
+///
+/// Clauses see it as the formula.
+#[derive(Drop)]
+pub struct Formula {
+    variables: u32,
+    // the literals of all clauses, one clause after the other, and where each clause ends
+    literals: Vec<u32>,
+    ends: Vec<usize>,
+}
+
+impl Model for Formula {
+    ghost use Rattle.drup.specs.Formula.{Formula as FormulaValue};
+    ghost use Rattle.drup.specs.FormulaKept.{formula_of, IsKeptFormula};
+
+    ghost Value = { FormulaValue };
+
+    ghost view = { formula_of };
+
+    ghost invariant = { IsKeptFormula };
+}
+
+impl Formula {
+    /// A formula of so many variables, below 2^31 - 1, without clauses. It takes no memory.
+    pub fn new(alloc: Global, variables: u32) -> Formula
+        requires { variables < 2147483647 }
+        ensures { result ≡ record { variables = variables; clauses = [] } }
+    {
+        Formula {
+            variables,
+            literals: Vec::new(alloc),
+            ends: Vec::new(alloc),
+        }
+    }
+
+    /// Adds a clause behind those before; it may have no literals.
+    ///
+    /// Errors: `BadLiteral` where a literal is none of the formula's variables, and `NoMemory` where there is none and a
+    /// growth was refused. Nothing is changed then.
+    pub fn push(&mut self, clause: &[u32]) -> Result<(), FormulaFault>
+        ensures ok { OnOk result (self.new
+            ≡ record self.old { clauses = self.old.clauses ++ clause.now ∷ [] }) }
+        ensures err { OnErr result (self.new ≡ self.old) }
+        ensures refused { RefusesClause result self.old clause.now }
+    {
+        if !are_literals(self.variables, clause) {
+            return Err(FormulaFault::BadLiteral);
+        }
+        match self.ends.reserve(1) {
+            Ok(()) => {}
+            Err(_) => return Err(FormulaFault::NoMemory),
+        }
+        match self.literals.extend_from_slice(clause) {
+            Ok(()) => {}
+            Err(_) => return Err(FormulaFault::NoMemory),
+        }
+        match self.ends.push(self.literals.len()) {
+            Ok(()) => Ok(()),
+            Err(_) => unreachable!(),
+        }
+    }
+
+    /// The count of variables.
+    pub fn variables(&self) -> u32
+        ensures value { result ≡ self.now.variables }
+        ensures few { result < 2147483647 }
+        ensures formula { IsFormula self.now }
+    {
+        self.variables
+    }
+
+    /// How many clauses there are.
+    pub fn clause_count(&self) -> usize
+        ensures { result ≡ length self.now.clauses }
+    {
+        self.ends.len()
+    }
+
+    /// The literals of the clause at a place, from 0.
+    pub fn clause(&self, k: usize) -> &[u32]
+        requires { k < length self.now.clauses }
+        ensures clause { result.now ≡ slice_index_or self.now.clauses k [] }
+        ensures literals { All (IsLiteral self.now.variables) result.now }
+    {
+        clause_between(&self.literals, start_of(&self.ends, k), self.ends[k])
+    }
+}

@@ -1,0 +1,160 @@
+//! The places of clauses by their sums, which do not go by the order of literals.
+ghost use Rattle.std.specs.Prelude.{◌≡◌, ℕ, ◌+◌, ◌<◌, [], ◌==◌, if◌then◌else◌, IfOk, MatchOption, length};
+ghost use Rattle.drup.specs.Flat.{cut, AreStartsAndEnds};
+ghost use Rattle.drup.specs.Without.{NoneAlikeFrom, IsLastAlike};
+ghost use Rattle.drup.specs.Places.{mixed, clause_sum, last_at, HasRoom, IsLink, AreLinked, IsLinkedBehind, IsUnlinked};
+
+use crate::alike::are_alike;
+use crate::fault::ClauseFault;
+use crate::passes::clause_of;
+use indexmap::IndexMap;
+use std::alloc::Global;
+
+/// What stands for no place.
+const NO_PLACE: u32 = 4294967295;
+
+/// What a literal gives to the sum of its clause.
+#[tactic(auto, unfolding(crate::specs::Places::mixed))]
+fn mixed(literal: u32) -> u32
+    ensures { result ≡ mixed literal }
+{
+    let scaled = literal.wrapping_mul(2654435761);
+    scaled.wrapping_mul(scaled / 32768)
+}
+
+/// The sum of a clause, which is the same in any order of its literals.
+pub(crate) fn clause_sum(clause: &[u32]) -> u32
+    ensures { result ≡ clause_sum clause.now }
+{
+    let mut sum: u32 = 0;
+    for literal in clause {
+        sum = sum.wrapping_add(mixed(*literal));
+    }
+    sum
+}
+
+/// For each sum the last place of a clause that has it, and for each place the one before it of the same sum; clauses that
+/// were taken away have none.
+#[derive(Drop)]
+pub(crate) struct Places {
+    lasts: IndexMap<u32, u32>,
+    before: Vec<u32>,
+}
+
+impl Places {
+    /// No places.
+    pub(crate) fn new(alloc: Global) -> Places
+        ensures last { (s : ℕ) → last_at result s ≡ 4294967295 }
+        ensures before { result.before.items ≡ [] }
+    {
+        Places {
+            lasts: IndexMap::new(alloc),
+            before: Vec::new(alloc),
+        }
+    }
+
+    /// The last place of a sum, or what stands for none.
+    fn last(&self, sum: u32) -> u32
+        ensures { result ≡ last_at self.now sum }
+    {
+        match self.lasts.get(&sum) {
+            None => NO_PLACE,
+            Some(place) => *place,
+        }
+    }
+
+    /// Makes room for one more place.
+    pub(crate) fn make_room(&mut self) -> Result<(), ClauseFault>
+        ensures room { IfOk result (λ _. HasRoom self.new) }
+        ensures last { (s : ℕ) → last_at self.new s ≡ last_at self.old s }
+        ensures before { self.new.before.items ≡ self.old.before.items }
+    {
+        self.before.reserve(1)?;
+        match self.lasts.reserve(1) {
+            Ok(()) => Ok(()),
+            Err(_) => Err(ClauseFault::NoMemory),
+        }
+    }
+
+    /// Puts a place with a sum behind the others, where there is room.
+    pub(crate) fn link(&mut self, sum: u32, place: u32)
+        requires { HasRoom self.old }
+        ensures { IsLinkedBehind self.old sum place self.new }
+    {
+        let before = self.last(sum);
+        match self.lasts.insert(sum, place) {
+            Ok(_) => {}
+            Err(_) => unreachable!(),
+        }
+        match self.before.push(before) {
+            Ok(_) => {}
+            Err(_) => unreachable!(),
+        }
+    }
+
+    /// Lets a place be the last one of a sum that has one, or none be it.
+    fn set_last(&mut self, sum: u32, place: u32)
+        requires { last_at self.old sum ≡ 4294967295 → ⊥ }
+        ensures last { (s : ℕ) → last_at self.new s
+            ≡ (if s == sum then place else last_at self.old s) }
+        ensures before { self.new.before.items ≡ self.old.before.items }
+    {
+        if place == NO_PLACE {
+            let _ = self.lasts.swap_remove(&sum);
+            return;
+        }
+        match self.lasts.insert(sum, place) {
+            Ok(_) => {}
+            Err(_) => unreachable!(),
+        }
+    }
+
+    /// Takes a place with a sum away, where the link to it stands at another, or behind all of so many.
+    pub(crate) fn unlink(&mut self, count: usize, sum: u32, place: usize, behind: usize)
+        requires inside { place < length self.old.before.items }
+        requires others { count ≡ length self.old.before.items }
+        requires behind { behind < count + 1 }
+        requires there { behind ≡ count → last_at self.old sum ≡ place }
+        requires low { place < 4294967295 }
+        ensures { IsUnlinked self.old count sum place behind self.new }
+    {
+        let next = self.before[place];
+        if behind == count {
+            self.set_last(sum, next);
+            return;
+        }
+        self.before[behind] = next;
+    }
+}
+
+/// The place of the last clause that has the same literals as one with a literal, and where the link to it stands.
+pub(crate) fn last_alike(
+    literals: &[u32],
+    starts: &[usize],
+    ends: &[usize],
+    places: &Places,
+    sum: u32,
+    clause: &[u32],
+) -> Option<(usize, usize)>
+    requires ends { AreStartsAndEnds (length literals.now) starts.now ends.now }
+    requires linked { AreLinked (cut literals.now starts.now ends.now)
+        (last_at places.now) places.now.before.items }
+    requires sum { sum ≡ clause_sum clause.now }
+    requires some { 0 < length clause.now }
+    ensures { MatchOption result
+        (NoneAlikeFrom (cut literals.now starts.now ends.now) clause.now 0)
+        (λ at. IsLastAlike (cut literals.now starts.now ends.now) clause.now at.0
+        × IsLink (cut literals.now starts.now ends.now) (last_at places.now) places.now.before.items
+        sum at.0 at.1 × (at.0 < at.1)) }
+{
+    let mut behind = ends.len();
+    let mut place = places.last(sum) as usize;
+    while place < behind {
+        if are_alike(clause, clause_of(literals, starts, ends, place)) {
+            return Some((place, behind));
+        }
+        behind = place;
+        place = places.before[place] as usize;
+    }
+    None
+}

@@ -1,0 +1,97 @@
+//! The clauses that stand, put together anew without those that were taken away.
+ghost use Rattle.std.specs.Prelude.{◌≡◌, ℕ, ◌<◌, ◌++◌, ◌∷◌, [], List, All, IfOk, length};
+ghost use Rattle.drup.specs.Flat.{cut, standing};
+ghost use Rattle.drup.specs.Marked.{Marked};
+ghost use Rattle.drup.specs.Propagator.{KeepsPropagator};
+ghost use Rattle.drup.specs.Swept.{IsSweptOf};
+ghost use Rattle.drup.specs.Watched.{CanWatch};
+
+use crate::fault::ClauseFault;
+use crate::lists::Lists;
+use crate::passes::clause_of;
+use crate::places::Places;
+use crate::propagator::put;
+use crate::trail::Trail;
+use std::alloc::Global;
+
+/// Clauses with what they watch and where those of each sum stand.
+#[derive(Drop)]
+pub(crate) struct Swept {
+    pub(crate) literals: Vec<u32>,
+    pub(crate) starts: Vec<usize>,
+    pub(crate) ends: Vec<usize>,
+    pub(crate) watched: Vec<u32>,
+    pub(crate) lists: Lists,
+    pub(crate) places: Places,
+}
+
+impl Swept {
+    /// No clauses.
+    fn new(alloc: Global, limit: usize) -> Result<Swept, ClauseFault>
+        ensures { IfOk result (λ s. (literals starts ends watched : List ℕ) (lists : List (List ℕ))
+            (trail : Marked) → KeepsPropagator literals starts ends watched lists trail
+            → limit ≡ length trail.marks → IsSweptOf s [] trail) }
+    {
+        let lists = Lists::new(alloc, limit)?;
+        Ok(Swept {
+            literals: Vec::new(alloc),
+            starts: Vec::new(alloc),
+            ends: Vec::new(alloc),
+            watched: Vec::new(alloc),
+            lists,
+            places: Places::new(alloc),
+        })
+    }
+
+    /// Takes a clause with the two literals that it watches, where it has a literal.
+    fn take(&mut self, clause: &[u32], first: u32, second: u32) -> Result<(), ClauseFault>
+        requires first { 0 < length clause.now → first < length self.old.lists }
+        requires second { 0 < length clause.now → second < length self.old.lists }
+        ensures { IfOk result (λ _. (clauses : List (List ℕ)) (trail : Marked)
+            → IsSweptOf self.old clauses trail
+            → (0 < length clause.now → CanWatch clause.now first second trail)
+            → All (λ l. l < length trail.marks) clause.now
+            → IsSweptOf self.new (clauses ++ standing (clause.now ∷ [])) trail) }
+    {
+        if clause.is_empty() {
+            return Ok(());
+        }
+        match put(
+            &mut self.literals,
+            &mut self.starts,
+            &mut self.ends,
+            &mut self.watched,
+            &mut self.lists,
+            &mut self.places,
+            clause,
+            first,
+            second,
+        ) {
+            Ok(()) => Ok(()),
+            Err(fault) => Err(fault),
+        }
+    }
+}
+
+/// The clauses that stand, in their order, with the literals that they watch.
+pub(crate) fn without_dead(
+    alloc: Global,
+    literals: &[u32],
+    starts: &[usize],
+    ends: &[usize],
+    watched: &[u32],
+    lists: &Lists,
+    trail: &Trail,
+) -> Result<Swept, ClauseFault>
+    requires { KeepsPropagator literals.now starts.now ends.now watched.now lists.now trail.now }
+    ensures { IfOk result
+        (λ s. IsSweptOf s (standing (cut literals.now starts.now ends.now)) trail.now) }
+{
+    let _ = trail.len();
+    let mut clauses = Swept::new(alloc, lists.limit())?;
+    for k in 0..ends.len() {
+        let clause = clause_of(literals, starts, ends, k);
+        clauses.take(clause, watched[2 * k], watched[2 * k + 1])?;
+    }
+    Ok(clauses)
+}

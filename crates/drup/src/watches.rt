@@ -1,0 +1,212 @@
+//! Unit propagation by two watched literals: a clause is looked at only when a literal that it watches is negated. Watch
+//! 2k and watch 2k + 1 are those of clause k.
+ghost use Rattle.std.specs.Prelude.{◌≡◌, true, ◌≢◌, ◌+◌, ◌-◌, ◌<◌, ◌≤◌, All, length, Contains, IfOk, MatchResult, MatchOption, slice_index, slice_index_or, []};
+ghost use Rattle.base.specs.Literal.{negation};
+ghost use Rattle.drup.specs.Marked.{IsConsistent, IsEven, set_of};
+ghost use Rattle.drup.specs.Growth.{GrowsMarked};
+ghost use Rattle.drup.specs.Flat.{cut, AreStartsAndEnds};
+ghost use Rattle.drup.specs.Lists.{list_at};
+ghost use Rattle.drup.specs.Watched.{Watches, Visited, Entered, WalkedTo, Propagated, Processed, Stays, IsWatched, Moved};
+
+use crate::fault::ClauseFault;
+use crate::lists::Lists;
+use crate::literal::negation;
+use crate::passes::{clause_of, open_other};
+use crate::trail::Trail;
+
+/// What is done with a watch of a clause.
+#[derive(Clone, Copy)]
+pub(crate) enum Visit {
+    /// The clause is falsified.
+    Conflict,
+    /// The other watched literal is marked.
+    Keep,
+    /// This literal, which is not negated, is to be watched.
+    Move(u32),
+}
+
+/// Looks at a clause, one of whose watched literals is negated; `other` is the other one.
+pub(crate) fn look(clause: &[u32], other: u32, trail: &mut Trail) -> Visit
+    requires even { IsEven trail.old }
+    requires inside { All (λ l. l < length trail.old.marks) clause.now }
+    requires consistent { IsConsistent trail.old }
+    requires there { Contains clause.now other }
+    ensures { Visited clause.now other trail.old trail.new result }
+{
+    if trail.has(other) {
+        return Visit::Keep;
+    }
+    match open_other(clause, other, trail) {
+        Some(literal) => Visit::Move(literal),
+        None => {
+            if trail.has(negation(other)) {
+                return Visit::Conflict;
+            }
+            trail.push(other);
+            Visit::Keep
+        }
+    }
+}
+
+/// Whether a number is that of a watch of a literal.
+fn watches(watched: &[u32], watch: u32, literal: u32) -> bool
+    ensures { Watches watched.now watch literal result }
+{
+    if watch as usize >= watched.len() {
+        return false;
+    }
+    watched[watch as usize] == literal
+}
+
+/// Lets another literal be watched in place of the one at a place of its list.
+fn move_watch(
+    watched: &mut [u32],
+    lists: &mut Lists,
+    negated: u32,
+    place: usize,
+    literal: u32,
+) -> Result<(), ClauseFault>
+    requires watch { slice_index (list_at lists.old negated) place < length watched.old }
+    requires inside { negated < length lists.old }
+    requires there { place < length (list_at lists.old negated) }
+    requires other { literal < length lists.old }
+    requires differs { literal ≢ negated }
+    ensures { MatchResult result
+        (λ _. Moved watched.old lists.old negated place literal watched.new lists.new)
+        (λ _. (watched.new ≡ watched.old) × (lists.new ≡ lists.old)) }
+{
+    let watch = lists.at(negated, place);
+    match lists.push(literal, watch) {
+        Ok(()) => {}
+        Err(error) => return Err(error),
+    }
+    lists.remove(negated, place);
+    watched[watch as usize] = literal;
+    Ok(())
+}
+
+/// Looks at the clause at a place of a list; the next place to look at, or none if the clause is falsified.
+fn enter(
+    literals: &[u32],
+    starts: &[usize],
+    ends: &[usize],
+    watched: &mut [u32],
+    lists: &mut Lists,
+    negated: u32,
+    place: usize,
+    trail: &mut Trail,
+) -> Result<Option<usize>, ClauseFault>
+    requires even { IsEven trail.old }
+    requires inside { All (λ l. l < length trail.old.marks) literals.now }
+    requires ends { AreStartsAndEnds (length literals.now) starts.now ends.now }
+    requires consistent { IsConsistent trail.old }
+    requires watched { IsWatched (cut literals.now starts.now ends.now) watched.old lists.old
+        (length trail.old.marks) }
+    requires negated { negated < length trail.old.marks }
+    requires off { set_of trail.old (negation negated) ≡ true }
+    requires there { place < length (list_at lists.old negated) }
+    requires short { place < usize.MAX }
+    ensures watched { IsWatched (cut literals.now starts.now ends.now) watched.new lists.new
+        (length trail.old.marks) }
+    ensures stays { Stays watched.old watched.new trail.old }
+    ensures grows { GrowsMarked (cut literals.now starts.now ends.now) trail.old trail.new }
+    ensures answer { IfOk result
+        (λ next. Entered (cut literals.now starts.now ends.now) negated place watched.old lists.old
+        trail.old watched.new lists.new trail.new next) }
+{
+    let _ = trail.len();
+    let watch = lists.at(negated, place);
+    if !watches(watched, watch, negated) {
+        lists.remove(negated, place);
+        return Ok(Some(place));
+    }
+    let other = watched[negation(watch) as usize];
+    match look(
+        clause_of(literals, starts, ends, (watch / 2) as usize),
+        other,
+        trail,
+    ) {
+        Visit::Conflict => Ok(None),
+        Visit::Keep => Ok(Some(place + 1)),
+        Visit::Move(literal) => match move_watch(watched, lists, negated, place, literal) {
+            Ok(()) => Ok(Some(place)),
+            Err(error) => Err(error),
+        },
+    }
+}
+
+/// Looks at all clauses that watch a negated literal; whether one is falsified.
+fn walk(
+    literals: &[u32],
+    starts: &[usize],
+    ends: &[usize],
+    watched: &mut [u32],
+    lists: &mut Lists,
+    negated: u32,
+    trail: &mut Trail,
+) -> Result<bool, ClauseFault>
+    requires even { IsEven trail.old }
+    requires inside { All (λ l. l < length trail.old.marks) literals.now }
+    requires ends { AreStartsAndEnds (length literals.now) starts.now ends.now }
+    requires consistent { IsConsistent trail.old }
+    requires watched { IsWatched (cut literals.now starts.now ends.now) watched.old lists.old
+        (length trail.old.marks) }
+    requires negated { negated < length trail.old.marks }
+    requires off { set_of trail.old (negation negated) ≡ true }
+    ensures watched { IsWatched (cut literals.now starts.now ends.now) watched.new lists.new
+        (length trail.old.marks) }
+    ensures stays { Stays watched.old watched.new trail.old }
+    ensures grows { GrowsMarked (cut literals.now starts.now ends.now) trail.old trail.new }
+    ensures answer { IfOk result
+        (λ met. WalkedTo (cut literals.now starts.now ends.now) negated watched.old trail.old
+        watched.new trail.new met) }
+{
+    let mut place = 0;
+    while place < lists.len_of(negated) {
+        match enter(
+            literals, starts, ends, watched, lists, negated, place, trail,
+        ) {
+            Err(error) => return Err(error),
+            Ok(None) => return Ok(true),
+            Ok(Some(next)) => place = next,
+        }
+    }
+    Ok(false)
+}
+
+/// Looks at all clauses that watch the negation of a literal from a place of the trail on; whether one is falsified.
+pub(crate) fn propagate(
+    literals: &[u32],
+    starts: &[usize],
+    ends: &[usize],
+    watched: &mut [u32],
+    lists: &mut Lists,
+    trail: &mut Trail,
+    from: usize,
+) -> Result<bool, ClauseFault>
+    requires begun { Processed (cut literals.now starts.now ends.now) watched.old trail.old from }
+    requires within { from ≤ length trail.old.order }
+    requires even { IsEven trail.old }
+    requires inside { All (λ l. l < length trail.old.marks) literals.now }
+    requires ends { AreStartsAndEnds (length literals.now) starts.now ends.now }
+    requires consistent { IsConsistent trail.old }
+    requires watched { IsWatched (cut literals.now starts.now ends.now) watched.old lists.old
+        (length trail.old.marks) }
+    ensures watched { IsWatched (cut literals.now starts.now ends.now) watched.new lists.new
+        (length trail.old.marks) }
+    ensures stays { Stays watched.old watched.new trail.old }
+    ensures grows { GrowsMarked (cut literals.now starts.now ends.now) trail.old trail.new }
+    ensures answer { IfOk result
+        (λ met. Propagated (cut literals.now starts.now ends.now) watched.new trail.new met) }
+{
+    let mut head = from;
+    while head < trail.len() {
+        let negated = negation(trail.at(head));
+        match walk(literals, starts, ends, watched, lists, negated, trail) {
+            Err(error) => return Err(error),
+            Ok(true) => return Ok(true),
+            Ok(false) => head += 1,
+        }
+    }
+    Ok(false)
+}
