@@ -5,7 +5,7 @@ use Rattle.btor2.specs.Reachability.{CanRise}
 use Rattle.aiger.specs.Circuit.{Circuit}
 use Rattle.aiger.specs.Reachability.{CanRiseInCircuit}
 use Rattle.blast.specs.Lowering.{Lowers}
-use Rattle.certificates.specs.Owing.{IsTestedFormula, IsTestedOverForm}
+use Rattle.witness_circuits.specs.Owing.{IsTestedFormula, IsTestedOverForm}
 use Rattle.drup.specs.Formula.{Formula}
 use Rattle.drup.specs.Judgements.{JudgesProof}
 use Rattle.drup.specs.declared.judgement.Judgement.TheVariants as judgement

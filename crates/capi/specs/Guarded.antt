@@ -12,11 +12,11 @@ use Rattle.aigertext.specs.declared.fault.ReadFault.{ReadFault}
 use Rattle.aigertext.specs.declared.fault.Why.{Why}
 use Rattle.aigertext.specs.declared.fault.Why.TheVariants as why
 use Rattle.blast.specs.Lowering.{Lowers}
-use Rattle.certificates.specs.Faults.{test_number}
-use Rattle.certificates.specs.Owing.{HasNoTest, HasNoTestOverForm, IsTestedFormula, IsTestedOverForm}
-use Rattle.certificates.specs.declared.fault.TestFault.TheVariants as test
-use Rattle.certificates.specs.declared.witness_fault.WitnessFault.{WitnessFault}
-use Rattle.certificates.specs.declared.witness_fault.WitnessFault.TheVariants as witness
+use Rattle.witness_circuits.specs.Faults.{test_number}
+use Rattle.witness_circuits.specs.Owing.{HasNoTest, HasNoTestOverForm, IsTestedFormula, IsTestedOverForm}
+use Rattle.witness_circuits.specs.declared.fault.TestFault.TheVariants as test
+use Rattle.witness_circuits.specs.declared.witness_fault.WitnessFault.{WitnessFault}
+use Rattle.witness_circuits.specs.declared.witness_fault.WitnessFault.TheVariants as witness
 use Rattle.drup.specs.Formula.{Formula}
 use Rattle.drup.specs.FormulaTexts.{formula_text}
 use Rattle.drup.specs.declared.judgement.Judgement.{Judgement}

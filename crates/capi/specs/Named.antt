@@ -13,8 +13,8 @@ use Rattle.btor2.specs.Faults.{symbol_fault_name, symbol_fault_number}
 use Rattle.btor2.specs.declared.symbol.SymbolFault.{SymbolFault}
 use Rattle.btor2text.specs.Whys.{line_why_name, printed_number}
 use Rattle.btor2text.specs.declared.fault.Why.{Why}
-use Rattle.certificates.specs.Faults.{test_name, test_number}
-use Rattle.certificates.specs.declared.fault.TestFault.{TestFault}
+use Rattle.witness_circuits.specs.Faults.{test_name, test_number}
+use Rattle.witness_circuits.specs.declared.fault.TestFault.{TestFault}
 use Rattle.drup.specs.Faults.{clause_name, clause_number, formula_name, formula_number}
 use Rattle.drup.specs.Printed.{proof_why_name as proof_name, proof_why_number as proof_number}
 use Rattle.drup.specs.declared.fault.ClauseFault.{ClauseFault}

@@ -14,6 +14,6 @@ mod lowering;
 mod names;
 mod reading;
 mod restoring;
-mod witness_circuits;
+mod guarding;
 
 pub use answers::{Refusal, Verdict};

@@ -31,4 +31,4 @@ mod sources_and_sinks;
 #[cfg(test)]
 mod tidied_witnesses;
 #[cfg(test)]
-mod witness_circuits;
+mod guarding_circuits;

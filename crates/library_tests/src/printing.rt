@@ -4,7 +4,7 @@ use aigerlists::LooseFault;
 use base::{DeviceFault, ReadAllFault};
 use btor2::{PushFault, SymbolFault};
 use btor2text::{ReadFault, Why};
-use certificates::TestFault;
+use witness_circuits::TestFault;
 use engine_form::EngineFault;
 use gates::GateFault;
 use std::alloc::Global;

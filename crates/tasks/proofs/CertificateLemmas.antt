@@ -25,11 +25,11 @@ use Rattle.aigertext.specs.AsciiReading.{IsAsciiFaultOf}
 use Rattle.aigertext.specs.declared.fault.ReadFault.{ReadFault}
 use Rattle.aigertext.specs.declared.fault.Why.{Why}
 use Rattle.aigertext.specs.declared.fault.Why.TheVariants as circuit_why
-use Rattle.certificates.specs.Owing.{HasNoTest, HasNoTestOverForm}
-use Rattle.certificates.specs.declared.fault.TestFault.{TestFault}
-use Rattle.certificates.specs.declared.fault.TestFault.TheVariants as test
-use Rattle.certificates.specs.declared.witness_fault.WitnessFault.{WitnessFault}
-use Rattle.certificates.specs.declared.witness_fault.WitnessFault.TheVariants as witness
+use Rattle.witness_circuits.specs.Owing.{HasNoTest, HasNoTestOverForm}
+use Rattle.witness_circuits.specs.declared.fault.TestFault.{TestFault}
+use Rattle.witness_circuits.specs.declared.fault.TestFault.TheVariants as test
+use Rattle.witness_circuits.specs.declared.witness_fault.WitnessFault.{WitnessFault}
+use Rattle.witness_circuits.specs.declared.witness_fault.WitnessFault.TheVariants as witness
 use Rattle.tasks.specs.declared.answers.Answer.{Answer}
 use Rattle.tasks.specs.declared.answers.Answer.TheVariants as answer
 use Rattle.orders.specs.declared.tasks.Certificate.{Certificate}

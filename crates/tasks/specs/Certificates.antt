@@ -12,7 +12,7 @@ use Rattle.drup.specs.declared.judgement.Judgement.TheVariants as verdict
 use Rattle.drup.specs.Formula.{Formula}
 use Rattle.drup.specs.FormulaTexts.{formula_text}
 use Rattle.drup.specs.Printed.{proof_why_number, proof_why_name}
-use Rattle.certificates.specs.Owing.{IsTestedFormula, IsTestedOverForm}
+use Rattle.witness_circuits.specs.Owing.{IsTestedFormula, IsTestedOverForm}
 use Rattle.invariants.specs.Certificates.{IsJudgedProof, IsOwed}
 use Rattle.tasks.specs.declared.answers.Answer.{Answer}
 use Rattle.tasks.specs.declared.answers.Answer.TheVariants as answer

@@ -21,9 +21,9 @@ use Rattle.wave.specs.declared.fault.WaveFault.{WaveFault}
 use Rattle.wave.specs.declared.fault.WaveFault.TheVariants as wave
 use Rattle.vectors.specs.declared.lines.LinesFault.{LinesFault}
 use Rattle.vectors.specs.declared.lines.LinesFault.TheVariants as lines
-use Rattle.certificates.specs.declared.fault.TestFault.TheVariants as test
-use Rattle.certificates.specs.declared.witness_fault.WitnessFault.{WitnessFault}
-use Rattle.certificates.specs.declared.witness_fault.WitnessFault.TheVariants as witness
+use Rattle.witness_circuits.specs.declared.fault.TestFault.TheVariants as test
+use Rattle.witness_circuits.specs.declared.witness_fault.WitnessFault.{WitnessFault}
+use Rattle.witness_circuits.specs.declared.witness_fault.WitnessFault.TheVariants as witness
 use Rattle.invariants.specs.declared.why.InvariantFault.{InvariantFault}
 use Rattle.invariants.specs.declared.why.InvariantWhy.{InvariantWhy}
 use Rattle.invariants.specs.declared.why.InvariantWhy.TheVariants as invariant_why

@@ -19,9 +19,9 @@ use Rattle.engine_form.specs.Faults.{engine_fault_number as engine_number, engin
 use Rattle.engine_form.specs.Refusal.{engine_refusal}
 use Rattle.engine_form.specs.declared.fault.EngineFault.{EngineFault}
 use Rattle.vectors.specs.Vectors.{IsFirstBad}
-use Rattle.certificates.specs.Faults.{test_number, test_name}
-use Rattle.certificates.specs.Refusal.{test_refusal}
-use Rattle.certificates.specs.declared.fault.TestFault.TheVariants as test
+use Rattle.witness_circuits.specs.Faults.{test_number, test_name}
+use Rattle.witness_circuits.specs.Refusal.{test_refusal}
+use Rattle.witness_circuits.specs.declared.fault.TestFault.TheVariants as test
 use Rattle.invariants.specs.Certificates.{AreCubes, IsFormFor}
 use Rattle.invariants.specs.Faults.{invariant_why_number as invariant_number, invariant_why_name as invariant_name, obligation_number, obligation_name}
 use Rattle.invariants.specs.Reading.{ReadsCubes}

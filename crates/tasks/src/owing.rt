@@ -3,7 +3,7 @@
 ghost use Rattle.std.specs.Prelude.{◌≡◌, ◌<◌, ℕ, List, length, None, Option, Some, IfOk, IfErr};
 ghost use Rattle.aiger.specs.Circuit.{Circuit};
 ghost use Rattle.aiger.specs.Reachability.{CanRiseInCircuit};
-ghost use Rattle.certificates.specs.Owing.{IsTestedFormula, IsTestedOverForm};
+ghost use Rattle.witness_circuits.specs.Owing.{IsTestedFormula, IsTestedOverForm};
 ghost use Rattle.drup.specs.declared.judgement.Judgement.TheVariants as verdict;
 ghost use Rattle.invariants.specs.Certificates.{IsJudgedProof, IsOwed};
 ghost use Rattle.orders.specs.declared.tasks.Certificate.{Certificate};
@@ -17,7 +17,7 @@ use crate::restoring::claim_of;
 use aiger::Circuit;
 use aigerlists::Numbering;
 use base::Source;
-use certificates::TestFault;
+use witness_circuits::TestFault;
 use drup::{Formula, Judgement};
 use invariants::judge_proof;
 use orders::Certificate;
@@ -90,7 +90,7 @@ fn owed_by_circuit<B: Source>(
     ensures counted { (f t o e : ℕ)
         → CountsAll result f f (B.failures second.old) (B.failures second.new) t t o o e e }
 {
-    match certificates::owed_formula(alloc, circuit, numbering, claim, second) {
+    match witness_circuits::owed_formula(alloc, circuit, numbering, claim, second) {
         Ok(formula) => Ok(formula),
         Err(fault) => Err(Refusal::from(fault)),
     }
@@ -110,7 +110,7 @@ fn owed_by_circuit_of_form<B: Source>(
     ensures counted { (f t o e : ℕ)
         → CountsAll result f f (B.failures second.old) (B.failures second.new) t t o o e e }
 {
-    match certificates::owed_formula_over_form(alloc, circuit, claim, second) {
+    match witness_circuits::owed_formula_over_form(alloc, circuit, claim, second) {
         Ok(formula) => Ok(formula),
         Err(fault) => Err(Refusal::from(fault)),
     }
@@ -185,6 +185,6 @@ pub fn certified_never_rises()
         → IsCertifiedBy by n c k second third (verdict.Derived line) → ¬ CanRiseInCircuit c k }
 {
     invariants::laws::certified_property_never_rises();
-    certificates::laws::owed_formula_proved_never_rises();
-    certificates::laws::owed_formula_over_form_proved_never_rises();
+    witness_circuits::laws::owed_formula_proved_never_rises();
+    witness_circuits::laws::owed_formula_over_form_proved_never_rises();
 }

@@ -10,7 +10,7 @@ ghost use Rattle.tasks.specs.Conversions.{of_reading, of_circuit_reading, of_low
 use aiger::CircuitFault;
 use base::ReadAllFault;
 use blast::{ConvertFault, LowerFault};
-use certificates::{TestFault, WitnessFault};
+use witness_circuits::{TestFault, WitnessFault};
 use engine_form::EngineFault;
 use invariants::{CertificateFault, ClaimFault, InvariantFault, InvariantWhy, ObligationFault};
 use orders::{REFUSED, WORDS_REFUSED};

@@ -1,7 +1,7 @@
 //! Refusals of proofs, invariants, certificates and witness circuits.
 
-ghost use Rattle.certificates.specs.Faults.{test_name, test_number};
-ghost use Rattle.certificates.specs.declared.fault.TestFault.{TestFault};
+ghost use Rattle.witness_circuits.specs.Faults.{test_name, test_number};
+ghost use Rattle.witness_circuits.specs.declared.fault.TestFault.{TestFault};
 ghost use Rattle.drup.specs.Faults.{clause_name, clause_number, formula_name, formula_number};
 ghost use Rattle.drup.specs.Printed.{proof_why_name, proof_why_number};
 ghost use Rattle.drup.specs.declared.fault.ClauseFault.{ClauseFault};

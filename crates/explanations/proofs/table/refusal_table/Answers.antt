@@ -9,7 +9,7 @@ use Rattle.tidy.specs.Answers.{tidy_fault_name as tidy_name, tidy_fault_number a
 use Rattle.wave.specs.Answers.{wave_fault_name as wave_name, wave_fault_number as wave_number}
 use Rattle.explanations.specs.Explanations.{has_row}
 use Rattle.explanations.specs.declared.table.Explanation.{Explanation}
-use Rattle.certificates.specs.Faults.{test_name, test_number}
+use Rattle.witness_circuits.specs.Faults.{test_name, test_number}
 use Rattle.drup.specs.Faults.{clause_name, clause_number, formula_name, formula_number}
 use Rattle.drup.specs.Printed.{proof_why_name as proof_name, proof_why_number as proof_number}
 use Rattle.invariants.specs.Faults.{certificate_name, certificate_number, claim_name, claim_number}

@@ -1,6 +1,0 @@
-use Rattle.std.proofs.Common.{◌≡◌, take}
-use Rattle.certificates.specs.Made.{beside_literals}
-use Rattle.certificates.proofs.copies.beside_literals.Given as goal
-
-abbrev pub invariant-loop-j : goal.invariant-loop-j
-invariant-loop-j l = l.literals.items ≡ beside_literals l.table (take l.j l.shared) l.own
