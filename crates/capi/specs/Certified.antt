@@ -12,14 +12,14 @@ use Rattle.drup.specs.declared.judgement.Judgement.{Judgement}
 use Rattle.drup.specs.declared.judgement.Judgement.TheVariants as judgement
 use Rattle.engine_form.specs.Faults.{engine_fault_number as engine_number}
 use Rattle.engine_form.specs.declared.fault.EngineFault.TheVariants as engine
-use Rattle.invariants.specs.Certificates.{IsCertified, IsOwed, OwesNone}
-use Rattle.invariants.specs.Faults.{obligation_number, invariant_why_number as invariant_number}
-use Rattle.invariants.specs.declared.claim_fault.ClaimFault.{ClaimFault}
-use Rattle.invariants.specs.declared.claim_fault.ClaimFault.TheVariants as claim
-use Rattle.invariants.specs.declared.fault.ObligationFault.TheVariants as obligation
-use Rattle.invariants.specs.declared.why.InvariantFault.{InvariantFault}
-use Rattle.invariants.specs.declared.why.InvariantWhy.{InvariantWhy}
-use Rattle.invariants.specs.declared.why.InvariantWhy.TheVariants as invariant
+use Rattle.certificates.specs.Certificates.{IsCertified, IsOwed, OwesNone}
+use Rattle.certificates.specs.Faults.{obligation_number, invariant_why_number as invariant_number}
+use Rattle.certificates.specs.declared.claim_fault.ClaimFault.{ClaimFault}
+use Rattle.certificates.specs.declared.claim_fault.ClaimFault.TheVariants as claim
+use Rattle.certificates.specs.declared.fault.ObligationFault.TheVariants as obligation
+use Rattle.certificates.specs.declared.why.InvariantFault.{InvariantFault}
+use Rattle.certificates.specs.declared.why.InvariantWhy.{InvariantWhy}
+use Rattle.certificates.specs.declared.why.InvariantWhy.TheVariants as invariant
 use Rattle.capi.specs.Judged.{CallTellsNoModel}
 use Rattle.capi.specs.Written.{CallTellsUnlowered}
 use Rattle.capi.specs.declared.answers.Stop.{Stop}

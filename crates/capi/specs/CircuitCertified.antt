@@ -6,8 +6,8 @@ use Rattle.aigertext.specs.Spelling.{SpellsCircuit}
 use Rattle.drup.specs.Formula.{Formula}
 use Rattle.drup.specs.FormulaTexts.{formula_text}
 use Rattle.drup.specs.declared.judgement.Judgement.{Judgement}
-use Rattle.invariants.specs.Certificates.{IsCertified, IsOwed, OwesNone}
-use Rattle.invariants.specs.declared.claim_fault.ClaimFault.{ClaimFault}
+use Rattle.certificates.specs.Certificates.{IsCertified, IsOwed, OwesNone}
+use Rattle.certificates.specs.declared.claim_fault.ClaimFault.{ClaimFault}
 use Rattle.capi.specs.Certified.{claim_stop, proof_verdict_of}
 use Rattle.capi.specs.Judged.{CallTellsNoCircuit}
 use Rattle.capi.specs.declared.answers.Stop.{Stop}

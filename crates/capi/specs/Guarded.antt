@@ -22,7 +22,7 @@ use Rattle.drup.specs.FormulaTexts.{formula_text}
 use Rattle.drup.specs.declared.judgement.Judgement.{Judgement}
 use Rattle.engine_form.specs.Faults.{engine_fault_number}
 use Rattle.engine_form.specs.declared.fault.EngineFault.TheVariants as engine
-use Rattle.invariants.specs.Certificates.{IsJudgedProof}
+use Rattle.certificates.specs.Certificates.{IsJudgedProof}
 use Rattle.capi.specs.Certified.{proof_verdict_of}
 use Rattle.capi.specs.Judged.{CallTellsNoCircuit, CallTellsNoModel}
 use Rattle.capi.specs.Written.{CallTellsUnlowered}

@@ -24,9 +24,9 @@ use Rattle.engine_form.specs.Faults.{engine_fault_name as engine_name, engine_fa
 use Rattle.engine_form.specs.declared.fault.EngineFault.{EngineFault}
 use Rattle.gates.specs.Faults.{gate_fault_name as gate_name, gate_fault_number as gate_number}
 use Rattle.gates.specs.declared.fault.GateFault.{GateFault}
-use Rattle.invariants.specs.Faults.{certificate_name, certificate_number, claim_name, claim_number}
-use Rattle.invariants.specs.declared.certificate_fault.CertificateFault.{CertificateFault}
-use Rattle.invariants.specs.declared.claim_fault.ClaimFault.{ClaimFault}
+use Rattle.certificates.specs.Faults.{certificate_name, certificate_number, claim_name, claim_number}
+use Rattle.certificates.specs.declared.certificate_fault.CertificateFault.{CertificateFault}
+use Rattle.certificates.specs.declared.claim_fault.ClaimFault.{ClaimFault}
 use Rattle.lift.specs.Answers.{lift_fault_name as lift_name, lift_fault_number as lift_number}
 use Rattle.lift.specs.declared.fault.LiftFault.{LiftFault}
 use Rattle.restore.specs.Faults.{restore_why_name as restore_name, restore_why_number as restore_number}

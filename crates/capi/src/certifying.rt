@@ -21,7 +21,7 @@ use blast::lower;
 use btor2::Model;
 use drup::{Formula, write_formula};
 use engine_form::EngineFault;
-use invariants::{
+use certificates::{
     CertificateFault, ClaimFault, InvariantFault, InvariantWhy, ObligationFault, judge_certificate,
     owed_formula,
 };

@@ -4,7 +4,7 @@ ghost use Rattle.btor2text.specs.Spelling.{StandsFor};
 ghost use Rattle.capi.specs.declared.answers.Stop.TheVariants as stop;
 ghost use Rattle.capi.specs.Guarded.{GivesNothingOwed, IsFirstStop, IsOwedAsWitness, IsWitnessObligation, IsWitnessStop, IsWitnessVerdict, OwesNoneAsWitness, TellsNothingGiven, TellsNotLowered, TextGives, TextNumbers, witness_stop};
 ghost use Rattle.capi.specs.Written.{Fills, Needs};
-ghost use Rattle.invariants.specs.Certificates.{IsJudgedProof};
+ghost use Rattle.certificates.specs.Certificates.{IsJudgedProof};
 
 use crate::answers::{DONE, Refusal, Stop, Verdict, tell};
 use crate::buffers::hand_over;
@@ -19,7 +19,7 @@ use btor2::Model;
 use witness_circuits::{TestFault, WitnessFault, owed_formula, owed_formula_over_form};
 use drup::{Formula, Judgement};
 use engine_form::EngineFault;
-use invariants::judge_proof;
+use certificates::judge_proof;
 use std::alloc::Global;
 
 /// The circuit that a text gives, and the numbering of its file.

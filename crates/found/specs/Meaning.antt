@@ -5,7 +5,7 @@ use Rattle.btor2.specs.Reachability.{CanRise}
 use Rattle.aiger.specs.Circuit.{Circuit}
 use Rattle.aiger.specs.Reachability.{CanRiseInCircuit}
 use Rattle.drup.specs.declared.judgement.Judgement.TheVariants as verdict
-use Rattle.invariants.specs.Certificates.{IsCertified}
+use Rattle.certificates.specs.Certificates.{IsCertified}
 use Rattle.restore.specs.Counterexample.{place_in}
 use Rattle.reached.specs.Accepted.{IsAcceptedFor, IsAcceptedForCircuit}
 

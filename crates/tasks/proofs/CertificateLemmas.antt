@@ -11,16 +11,16 @@ use Rattle.engine_form.specs.declared.fault.EngineFault.{EngineFault}
 use Rattle.engine_form.specs.declared.fault.EngineFault.TheVariants as engine
 use Rattle.drup.specs.declared.judgement.Judgement.{Judgement}
 use Rattle.drup.specs.declared.judgement.Judgement.TheVariants as verdict
-use Rattle.invariants.specs.declared.why.InvariantFault.{InvariantFault}
-use Rattle.invariants.specs.declared.why.InvariantWhy.{InvariantWhy}
-use Rattle.invariants.specs.declared.why.InvariantWhy.TheVariants as why
-use Rattle.invariants.specs.declared.fault.ObligationFault.{ObligationFault}
-use Rattle.invariants.specs.declared.fault.ObligationFault.TheVariants as obligation
-use Rattle.invariants.specs.declared.claim_fault.ClaimFault.{ClaimFault}
-use Rattle.invariants.specs.declared.claim_fault.ClaimFault.TheVariants as claim
-use Rattle.invariants.specs.declared.certificate_fault.CertificateFault.{CertificateFault}
-use Rattle.invariants.specs.declared.certificate_fault.CertificateFault.TheVariants as certificate
-use Rattle.invariants.specs.Certificates.{CountsCertificate, IsFormFor, IsOfProof, OwesNone, OwesNoneOver}
+use Rattle.certificates.specs.declared.why.InvariantFault.{InvariantFault}
+use Rattle.certificates.specs.declared.why.InvariantWhy.{InvariantWhy}
+use Rattle.certificates.specs.declared.why.InvariantWhy.TheVariants as why
+use Rattle.certificates.specs.declared.fault.ObligationFault.{ObligationFault}
+use Rattle.certificates.specs.declared.fault.ObligationFault.TheVariants as obligation
+use Rattle.certificates.specs.declared.claim_fault.ClaimFault.{ClaimFault}
+use Rattle.certificates.specs.declared.claim_fault.ClaimFault.TheVariants as claim
+use Rattle.certificates.specs.declared.certificate_fault.CertificateFault.{CertificateFault}
+use Rattle.certificates.specs.declared.certificate_fault.CertificateFault.TheVariants as certificate
+use Rattle.certificates.specs.Certificates.{CountsCertificate, IsFormFor, IsOfProof, OwesNone, OwesNoneOver}
 use Rattle.aigertext.specs.AsciiReading.{IsAsciiFaultOf}
 use Rattle.aigertext.specs.declared.fault.ReadFault.{ReadFault}
 use Rattle.aigertext.specs.declared.fault.Why.{Why}

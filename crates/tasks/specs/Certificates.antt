@@ -13,7 +13,7 @@ use Rattle.drup.specs.Formula.{Formula}
 use Rattle.drup.specs.FormulaTexts.{formula_text}
 use Rattle.drup.specs.Printed.{proof_why_number, proof_why_name}
 use Rattle.witness_circuits.specs.Owing.{IsTestedFormula, IsTestedOverForm}
-use Rattle.invariants.specs.Certificates.{IsJudgedProof, IsOwed}
+use Rattle.certificates.specs.Certificates.{IsJudgedProof, IsOwed}
 use Rattle.tasks.specs.declared.answers.Answer.{Answer}
 use Rattle.tasks.specs.declared.answers.Answer.TheVariants as answer
 use Rattle.tasks.specs.declared.certifying.Read.{Read}

@@ -24,15 +24,15 @@ use Rattle.vectors.specs.declared.lines.LinesFault.TheVariants as lines
 use Rattle.witness_circuits.specs.declared.fault.TestFault.TheVariants as test
 use Rattle.witness_circuits.specs.declared.witness_fault.WitnessFault.{WitnessFault}
 use Rattle.witness_circuits.specs.declared.witness_fault.WitnessFault.TheVariants as witness
-use Rattle.invariants.specs.declared.why.InvariantFault.{InvariantFault}
-use Rattle.invariants.specs.declared.why.InvariantWhy.{InvariantWhy}
-use Rattle.invariants.specs.declared.why.InvariantWhy.TheVariants as invariant_why
-use Rattle.invariants.specs.declared.fault.ObligationFault.{ObligationFault}
-use Rattle.invariants.specs.declared.fault.ObligationFault.TheVariants as obligation
-use Rattle.invariants.specs.declared.claim_fault.ClaimFault.{ClaimFault}
-use Rattle.invariants.specs.declared.claim_fault.ClaimFault.TheVariants as claim
-use Rattle.invariants.specs.declared.certificate_fault.CertificateFault.{CertificateFault}
-use Rattle.invariants.specs.declared.certificate_fault.CertificateFault.TheVariants as certificate
+use Rattle.certificates.specs.declared.why.InvariantFault.{InvariantFault}
+use Rattle.certificates.specs.declared.why.InvariantWhy.{InvariantWhy}
+use Rattle.certificates.specs.declared.why.InvariantWhy.TheVariants as invariant_why
+use Rattle.certificates.specs.declared.fault.ObligationFault.{ObligationFault}
+use Rattle.certificates.specs.declared.fault.ObligationFault.TheVariants as obligation
+use Rattle.certificates.specs.declared.claim_fault.ClaimFault.{ClaimFault}
+use Rattle.certificates.specs.declared.claim_fault.ClaimFault.TheVariants as claim
+use Rattle.certificates.specs.declared.certificate_fault.CertificateFault.{CertificateFault}
+use Rattle.certificates.specs.declared.certificate_fault.CertificateFault.TheVariants as certificate
 use Rattle.tasks.specs.declared.refusals.Device.TheVariants as device
 use Rattle.tasks.specs.declared.refusals.Fault.TheVariants as fault
 use Rattle.tasks.specs.declared.refusals.Refusal.{Refusal}

@@ -22,10 +22,10 @@ use Rattle.vectors.specs.Vectors.{IsFirstBad}
 use Rattle.witness_circuits.specs.Faults.{test_number, test_name}
 use Rattle.witness_circuits.specs.Refusal.{test_refusal}
 use Rattle.witness_circuits.specs.declared.fault.TestFault.TheVariants as test
-use Rattle.invariants.specs.Certificates.{AreCubes, IsFormFor}
-use Rattle.invariants.specs.Faults.{invariant_why_number as invariant_number, invariant_why_name as invariant_name, obligation_number, obligation_name}
-use Rattle.invariants.specs.Reading.{ReadsCubes}
-use Rattle.invariants.specs.Refusal.{obligation_refusal}
+use Rattle.certificates.specs.Certificates.{AreCubes, IsFormFor}
+use Rattle.certificates.specs.Faults.{invariant_why_number as invariant_number, invariant_why_name as invariant_name, obligation_number, obligation_name}
+use Rattle.certificates.specs.Reading.{ReadsCubes}
+use Rattle.certificates.specs.Refusal.{obligation_refusal}
 use Rattle.witness.specs.Answers.{judge_number, judge_name}
 use Rattle.witness.specs.declared.fault.JudgeFault.TheVariants as judge
 use Rattle.tasks.specs.declared.refusals.Claimed.{Claimed}

@@ -5,7 +5,7 @@ ghost use Rattle.aiger.specs.Circuit.{Circuit};
 ghost use Rattle.aiger.specs.Reachability.{CanRiseInCircuit};
 ghost use Rattle.witness_circuits.specs.Owing.{IsTestedFormula, IsTestedOverForm};
 ghost use Rattle.drup.specs.declared.judgement.Judgement.TheVariants as verdict;
-ghost use Rattle.invariants.specs.Certificates.{IsJudgedProof, IsOwed};
+ghost use Rattle.certificates.specs.Certificates.{IsJudgedProof, IsOwed};
 ghost use Rattle.orders.specs.declared.tasks.Certificate.{Certificate};
 ghost use Rattle.tasks.specs.Certificates.{IsCertifiedBy, IsOwedBy};
 ghost use Rattle.tasks.specs.Claims.{IsClaim};
@@ -19,7 +19,7 @@ use aigerlists::Numbering;
 use base::Source;
 use witness_circuits::TestFault;
 use drup::{Formula, Judgement};
-use invariants::judge_proof;
+use certificates::judge_proof;
 use orders::Certificate;
 use std::alloc::Global;
 
@@ -68,7 +68,7 @@ fn owed_by_invariant<B: Source>(
     ensures counted { (f t o e : ℕ)
         → CountsAll result f f (B.failures second.old) (B.failures second.new) t t o o e e }
 {
-    match invariants::owed_formula(alloc, circuit, claim, second) {
+    match certificates::owed_formula(alloc, circuit, claim, second) {
         Ok(formula) => Ok(formula),
         Err(fault) => Err(Refusal::from(fault)),
     }
@@ -184,7 +184,7 @@ pub fn certified_never_rises()
         (second : Option (List ℕ)) (third : Option (List ℕ)) (line : ℕ)
         → IsCertifiedBy by n c k second third (verdict.Derived line) → ¬ CanRiseInCircuit c k }
 {
-    invariants::laws::certified_property_never_rises();
+    certificates::laws::certified_property_never_rises();
     witness_circuits::laws::owed_formula_proved_never_rises();
     witness_circuits::laws::owed_formula_over_form_proved_never_rises();
 }

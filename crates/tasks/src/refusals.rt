@@ -12,7 +12,7 @@ use base::ReadAllFault;
 use blast::{ConvertFault, LowerFault};
 use witness_circuits::{TestFault, WitnessFault};
 use engine_form::EngineFault;
-use invariants::{CertificateFault, ClaimFault, InvariantFault, InvariantWhy, ObligationFault};
+use certificates::{CertificateFault, ClaimFault, InvariantFault, InvariantWhy, ObligationFault};
 use orders::{REFUSED, WORDS_REFUSED};
 use std::alloc::{AllocError, Global};
 use vectors::LinesFault;

@@ -6,7 +6,7 @@ use Rattle.base.specs.Literal.{Valuation, literal_value}
 use Rattle.aiger.specs.Net.{net_input_bits, latch_bits}
 use Rattle.aiger.specs.Circuit.{Circuit, net}
 use Rattle.aiger.specs.Trace.{IsCircuitFrame}
-use Rattle.invariants.specs.Invariants.{IsInductive}
+use Rattle.certificates.specs.Invariants.{IsInductive}
 use Rattle.witness_circuits.specs.Mapping.{Mapping}
 use Rattle.witness_circuits.specs.Certificate.{bad_rises, constraints_hold, property_fails}
 use Rattle.witness_circuits.specs.Guards.{ClaimHolds, Guards}

@@ -9,8 +9,8 @@ use Rattle.aigertext.specs.declared.fault.Why.{Why}
 use Rattle.aigertext.specs.declared.fault.Why.TheVariants as why
 use Rattle.drup.specs.Formula.{Formula}
 use Rattle.engine_form.specs.Refusal.{engine_refusal, AnswersForm}
-use Rattle.invariants.specs.Certificates.{IsFormFor}
-use Rattle.invariants.specs.Obligation.{obligation}
+use Rattle.certificates.specs.Certificates.{IsFormFor}
+use Rattle.certificates.specs.Obligation.{obligation}
 use Rattle.witness_circuits.specs.Mapping.{mapping_of}
 use Rattle.witness_circuits.specs.Refusal.{test_refusal, AnswersTest}
 use Rattle.witness_circuits.specs.Tests.{IsTestOf}

@@ -6,7 +6,7 @@ ghost use Rattle.aiger.specs.Worked.{toggler};
 ghost use Rattle.drup.specs.declared.judgement.Judgement.TheVariants as judgement;
 ghost use Rattle.drup.specs.Formula.{Formula, IsUnsatisfiable};
 ghost use Rattle.drup.specs.Judgements.{JudgesProof};
-ghost use Rattle.invariants.specs.Obligation.{obligation};
+ghost use Rattle.certificates.specs.Obligation.{obligation};
 ghost use Rattle.witness_circuits.specs.Mapping.{Mapping, IsMappingOf, shared_literal, mapping_of};
 ghost use Rattle.witness_circuits.specs.Certificate.{IsCertificate};
 ghost use Rattle.witness_circuits.specs.Guards.{Guards};
@@ -52,7 +52,7 @@ pub fn unsatisfiable_where_it_guards()
     ensures unsatisfiable { (c : Circuit) (k : ℕ) (w : Circuit) (m : Mapping) (t : Circuit)
         → IsTestOf c k w m t → Guards c k w m → IsUnsatisfiable (obligation t []) }
 {
-    invariants::laws::unsatisfiable_where_inductive();
+    certificates::laws::unsatisfiable_where_inductive();
 }
 
 /// A law: where a text is judged as a proof over the formula of a test, the bad property rises in no frame up to which the

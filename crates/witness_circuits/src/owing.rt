@@ -1,7 +1,7 @@
 //! The formula that the text of a witness circuit owes.
 ghost use Rattle.std.specs.Prelude.{◌≡◌, [], IfErr, IfOk, OnOk};
 ghost use Rattle.std.specs.Io.KnownBytes.{IsAtEnd};
-ghost use Rattle.invariants.specs.Obligation.{obligation};
+ghost use Rattle.certificates.specs.Obligation.{obligation};
 ghost use Rattle.witness_circuits.specs.Owing.{CountsWitness, HasNoTest, HasNoTestOverForm, IsTestedBy, IsTestedFormula, IsTestedOverForm, WithoutFormOfWitness};
 
 use crate::fault::TestFault;
@@ -13,7 +13,7 @@ use aigertext::read;
 use base::Source;
 use drup::Formula;
 use engine_form::engine_form;
-use invariants::{Invariant, ObligationFault, obligation};
+use certificates::{Invariant, ObligationFault, obligation};
 use std::alloc::Global;
 
 /// The test of the witness circuit that a text spells.

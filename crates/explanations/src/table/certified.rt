@@ -8,10 +8,10 @@ ghost use Rattle.drup.specs.declared.fault.ClauseFault.{ClauseFault};
 ghost use Rattle.drup.specs.declared.fault.FormulaFault.{FormulaFault};
 ghost use Rattle.drup.specs.declared.why.Why.{Why};
 ghost use Rattle.explanations.specs.Explanations.{Has};
-ghost use Rattle.invariants.specs.Faults.{certificate_name, certificate_number, obligation_name, obligation_number, invariant_why_name as invariant_name, invariant_why_number as invariant_number};
-ghost use Rattle.invariants.specs.declared.certificate_fault.CertificateFault.TheVariants as certificate;
-ghost use Rattle.invariants.specs.declared.fault.ObligationFault.{ObligationFault};
-ghost use Rattle.invariants.specs.declared.why.InvariantWhy.{InvariantWhy};
+ghost use Rattle.certificates.specs.Faults.{certificate_name, certificate_number, obligation_name, obligation_number, invariant_why_name as invariant_name, invariant_why_number as invariant_number};
+ghost use Rattle.certificates.specs.declared.certificate_fault.CertificateFault.TheVariants as certificate;
+ghost use Rattle.certificates.specs.declared.fault.ObligationFault.{ObligationFault};
+ghost use Rattle.certificates.specs.declared.why.InvariantWhy.{InvariantWhy};
 
 use super::Explanation;
 

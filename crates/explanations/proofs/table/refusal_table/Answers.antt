@@ -12,9 +12,9 @@ use Rattle.explanations.specs.declared.table.Explanation.{Explanation}
 use Rattle.witness_circuits.specs.Faults.{test_name, test_number}
 use Rattle.drup.specs.Faults.{clause_name, clause_number, formula_name, formula_number}
 use Rattle.drup.specs.Printed.{proof_why_name as proof_name, proof_why_number as proof_number}
-use Rattle.invariants.specs.Faults.{certificate_name, certificate_number, claim_name, claim_number}
-use Rattle.invariants.specs.declared.certificate_fault.CertificateFault.TheVariants as certificate
-use Rattle.invariants.specs.declared.claim_fault.ClaimFault.TheVariants as claim
+use Rattle.certificates.specs.Faults.{certificate_name, certificate_number, claim_name, claim_number}
+use Rattle.certificates.specs.declared.certificate_fault.CertificateFault.TheVariants as certificate
+use Rattle.certificates.specs.declared.claim_fault.ClaimFault.TheVariants as claim
 use Rattle.explanations.proofs.TableLemmas.{behind, behind_nine, behind_six, here, in_models}
 use Rattle.explanations.proofs.table.refusal_table.Goals as goal
 

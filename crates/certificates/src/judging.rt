@@ -1,0 +1,99 @@
+//! Judging certificates of bad properties of circuits.
+ghost use Rattle.std.specs.Prelude.{◌≡◌, ℕ, [], IfErr, IfOk, OnOk};
+ghost use Rattle.std.specs.Io.KnownBytes.{IsAtEnd};
+ghost use Rattle.base.specs.Device.{CountsFaults};
+ghost use Rattle.aiger.specs.Reachability.{CanRiseInCircuit};
+ghost use Rattle.drup.specs.declared.judgement.Judgement.TheVariants as judgement;
+ghost use Rattle.drup.specs.ProofJudges.{StandsForText};
+ghost use Rattle.certificates.specs.Certificates.{CountsCertificate, IsCertified, IsJudgedProof, IsNotCertified, IsOfProof, WithoutFormOf, WithoutFormula};
+ghost use Rattle.certificates.specs.Feeding.{FedAll};
+
+use crate::certificate_fault::CertificateFault;
+use crate::claims::owed_formula;
+use crate::laws::certified_property_never_rises;
+use aiger::Circuit;
+use base::{DeviceFault, Source};
+use drup::{ClauseFault, Formula, Judgement, ProofJudge};
+use std::alloc::Global;
+
+/// How many bytes one call of a source is asked for.
+const CHUNK: usize = 65536;
+
+/// Reads a source to its end and feeds a judge with all that it gives.
+///
+/// Error: the source's own, once.
+fn feed_all<P: Source>(judge: &mut ProofJudge, proof: &mut P) -> Result<(), DeviceFault>
+    ensures fed { OnOk result (FedAll (P.to_come proof.old) judge.old judge.new) }
+    ensures end { OnOk result (IsAtEnd (P.to_come proof.new)) }
+    ensures counted { CountsFaults result (P.failures proof.old) (P.failures proof.new) }
+{
+    let mut chunk = [0u8; CHUNK];
+    loop {
+        match proof.read(&mut chunk) {
+            Ok(0) => return Ok(()),
+            Ok(count) => judge.feed(&chunk[..count]),
+            Err(fault) => return Err(fault),
+        }
+    }
+}
+
+/// A judge of proofs over a formula, which it has taken over: the formula itself is not held beside it.
+fn judge_of(alloc: Global, formula: Formula) -> Result<ProofJudge, ClauseFault>
+    ensures { IfOk result (λ judge. StandsForText formula judge []) }
+{
+    ProofJudge::over(alloc, &formula)
+}
+
+/// Reads a source to its end and judges its text as a proof over a formula. Of the text only what one call gives is held at
+/// a time, and beside it what the judge holds.
+///
+/// Errors: `Judge` where the judge of proofs was refused a growth, and `Device` where the source failed.
+pub fn judge_proof<P: Source>(
+    alloc: Global,
+    formula: Formula,
+    proof: &mut P,
+) -> Result<Judgement, CertificateFault>
+    ensures judged { IfOk result (IsJudgedProof formula (P.to_come proof.old)) }
+    ensures end { OnOk result (IsAtEnd (P.to_come proof.new)) }
+    ensures fault { IfErr result IsOfProof }
+    ensures counted { (old : ℕ) → CountsCertificate result old old (P.failures proof.old)
+        (P.failures proof.new) }
+{
+    let mut judge = judge_of(alloc, formula)?;
+    feed_all(&mut judge, proof)?;
+    Ok(judge.finish()?)
+}
+
+/// Judges a certificate of the bad property of a circuit at a position, from 0: reads the text of an invariant and that of a
+/// proof to their ends, and judges the proof over the formula that the invariant owes. Where it is judged as `Derived`, the
+/// property rises in no frame up to which the circuit's constraints hold, in no trace from initial bits that agree with its
+/// resets. Of the proof only what one call gives is held at a time, and beside it what the judge holds.
+///
+/// Errors, of which the first that applies in this order is answered: `Claim` where the invariant owes no formula, and then
+/// nothing of the proof is read; `Judge` where the judge of proofs was refused a growth, and `Device` where the proof's
+/// source failed.
+pub fn judge_certificate<S: Source, P: Source>(
+    alloc: Global,
+    circuit: &Circuit,
+    bad: usize,
+    invariant: &mut S,
+    proof: &mut P,
+) -> Result<Judgement, CertificateFault>
+    // the judgement is that of the whole texts
+    ensures judged { IfOk result (IsCertified circuit.now bad (S.to_come invariant.old)
+        (P.to_come proof.old)) }
+    // where the proof is one, the property never rises
+    ensures holds { IfOk result (λ j. (line : ℕ) → j ≡ judgement.Derived line
+        → ¬ CanRiseInCircuit circuit.now bad) }
+    ensures end { OnOk result (IsAtEnd (S.to_come invariant.new) × IsAtEnd (P.to_come proof.new)) }
+    ensures fault { IfErr result (IsNotCertified circuit.now bad (S.to_come invariant.old)) }
+    ensures unread { WithoutFormOf result (invariant.new ≡ invariant.old) }
+    ensures proof_unread { WithoutFormula result (proof.new ≡ proof.old) }
+    // the source failed once whose fault is told, and else none
+    ensures counted { CountsCertificate result (S.failures invariant.old) (S.failures invariant.new)
+        (P.failures proof.old) (P.failures proof.new) }
+{
+    certified_property_never_rises();
+    let formula = owed_formula(alloc, circuit, bad, invariant)?;
+    judge_proof(alloc, formula, proof)
+}

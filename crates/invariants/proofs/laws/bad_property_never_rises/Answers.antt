@@ -1,8 +1,0 @@
-use Rattle.invariants.proofs.TraceLemmas.{safe_frames, cannot_rise}
-use Rattle.invariants.proofs.laws.bad_property_never_rises.Goals as goal
-
-pub returns-clause-frames : goal.returns-clause-frames
-returns-clause-frames c = safe_frames
-
-pub returns-clause-circuit : goal.returns-clause-circuit
-returns-clause-circuit c = cannot_rise

@@ -1,8 +1,0 @@
-use Rattle.invariants.proofs.SaidLemmas.{said, read}
-use Rattle.invariants.proofs.laws.cubes_are_read_where_said.Goals as goal
-
-pub returns-clause-said : goal.returns-clause-said
-returns-clause-said c = said
-
-pub returns-clause-read : goal.returns-clause-read
-returns-clause-read c = read

@@ -1,6 +1,0 @@
-use Rattle.invariants.proofs.TraceLemmas.{cannot_rise, zero_resets}
-use Rattle.invariants.proofs.laws.proved_property_never_rises.Goals as goal
-
-pub returns : goal.returns
-returns c circuit k d cubes text line form over ask derived rise =
-    cannot_rise d cubes form.circuit over ask (c.derived_is_unsatisfiable.ensures _ text line derived) (zero_resets d.latches _ form.resets) ((c.bad_properties_rise_alike.ensures.one circuit d k form).0 rise)

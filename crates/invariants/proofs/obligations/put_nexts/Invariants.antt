@@ -1,8 +1,0 @@
-use Rattle.std.proofs.Common.{◌+◌, drop}
-use Rattle.invariants.specs.Obligation.{cube_variable, nexts_clauses}
-use Rattle.invariants.proofs.PutLemmas.{Leaves}
-use Rattle.invariants.proofs.obligations.put_nexts.Given as goal
-
--- the clauses of the cubes from here on are left
-abbrev pub invariant-loop-place : goal.invariant-loop-place
-invariant-loop-place l = Leaves l.fn.formula l.formula (nexts_clauses l.circuit (cube_variable l.circuit) l.invariant'.cubes) (nexts_clauses l.circuit (cube_variable l.circuit + l.place) (drop l.place l.invariant'.cubes))

@@ -1,8 +1,0 @@
-use Rattle.std.proofs.Common.{map, drop}
-use Rattle.invariants.specs.Obligation.{outside_clause}
-use Rattle.invariants.proofs.PutLemmas.{Leaves}
-use Rattle.invariants.proofs.obligations.put_outsides.Given as goal
-
--- the clauses of the cubes from here on are left
-abbrev pub invariant-loop-place : goal.invariant-loop-place
-invariant-loop-place l = Leaves l.fn.formula l.formula (map (outside_clause l.circuit) l.invariant'.cubes) (map (outside_clause l.circuit) (drop l.place l.invariant'.cubes))
