@@ -16,9 +16,9 @@ use Rattle.engine_form.specs.declared.fault.EngineFault.{EngineFault}
 use Rattle.engine_form.specs.declared.fault.EngineFault.TheVariants as engine
 use Rattle.lift.specs.Lifted.{lifted_text}
 use Rattle.lift.specs.Verdicts.{KeepsVerdict}
-use Rattle.wave.specs.Dumps.{vcd_text}
-use Rattle.wave.specs.declared.scope.Shown.{Shown}
-use Rattle.wave.specs.declared.scope.Shown.TheVariants as shown
+use Rattle.vcd.specs.Dumps.{vcd_text}
+use Rattle.vcd.specs.declared.scope.Shown.{Shown}
+use Rattle.vcd.specs.declared.scope.Shown.TheVariants as shown
 use Rattle.witness.specs.BitJudgements.{BitJudges}
 use Rattle.witness.specs.ClosedWords.{IsClosedTrace}
 use Rattle.witness.specs.Judgements.{Judges}

@@ -35,8 +35,8 @@ use Rattle.runs.specs.Faults.{new_name, new_number}
 use Rattle.runs.specs.declared.fault.NewFault.{NewFault}
 use Rattle.tidy.specs.Answers.{tidy_fault_name as tidy_name, tidy_fault_number as tidy_number}
 use Rattle.tidy.specs.declared.fault.TidyFault.{TidyFault}
-use Rattle.wave.specs.Answers.{wave_fault_name as wave_name, wave_fault_number as wave_number}
-use Rattle.wave.specs.declared.fault.WaveFault.{WaveFault}
+use Rattle.vcd.specs.Answers.{wave_fault_name as wave_name, wave_fault_number as wave_number}
+use Rattle.vcd.specs.declared.fault.WaveFault.{WaveFault}
 use Rattle.witness.specs.Answers.{judge_name, judge_number}
 use Rattle.witness.specs.Printed.{why_number as witness_number, why_name as witness_name}
 use Rattle.witness.specs.declared.fault.JudgeFault.{JudgeFault}

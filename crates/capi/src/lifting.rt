@@ -16,7 +16,7 @@ use blast::lower;
 use btor2::Model;
 use lift::lift;
 use std::alloc::Global;
-use wave::{Shown, WaveFault, wave};
+use vcd::{Shown, WaveFault, wave};
 
 /// Lifts a witness of the circuit of a model.
 fn lift_over(

@@ -1,7 +1,7 @@
 //! The table of the commands: their words, and what help says of them.
 
 use orders::{Certificate, CertificateTask, CircuitTask, Given, ModelTask, Task, TextTask};
-use wave::Shown;
+use vcd::Shown;
 
 /// What a word of a command is.
 #[derive(Clone, Copy)]

@@ -20,7 +20,7 @@ use std::alloc::{AllocError, AllocGlobal, Global};
 use std::convert::AsStr;
 use std::env::Env;
 use std::{env, io};
-use wave::Shown;
+use vcd::Shown;
 
 /// The program's name, with which each usage line begins.
 const PROGRAM: &str = "hwtool";

@@ -6,7 +6,7 @@ ghost use Rattle.std.specs.String.{string_bytes};
 use crate::statuses::{DEVICE, DONE, WORDS_REFUSED};
 use aigertext::Form;
 use std::alloc::Global;
-use wave::Shown;
+use vcd::Shown;
 
 /// The file name that stands for standard input.
 pub const STANDARD_INPUT: &str = "-";

@@ -8,8 +8,8 @@ use Rattle.btor2.specs.Trace.{Frame}
 use Rattle.witness.specs.declared.judgement.Judgement.{Judgement}
 use Rattle.witness.specs.Judgements.{Judges}
 use Rattle.witness.specs.ClosedWords.{IsClosedTrace}
-use Rattle.wave.specs.Dumps.{vcd_text}
-use Rattle.wave.specs.declared.scope.Shown.{Shown}
+use Rattle.vcd.specs.Dumps.{vcd_text}
+use Rattle.vcd.specs.declared.scope.Shown.{Shown}
 use Rattle.tasks.specs.declared.answers.Answer.{Answer}
 use Rattle.tasks.specs.declared.refusals.Refusal.{Refusal}
 use Rattle.btor2text.specs.Spelling.{IsModelOf}

@@ -17,8 +17,8 @@ use Rattle.blast.specs.declared.fault.ConvertFault.{ConvertFault}
 use Rattle.blast.specs.declared.fault.ConvertFault.TheVariants as convert
 use Rattle.witness.specs.declared.fault.JudgeFault.{JudgeFault}
 use Rattle.witness.specs.declared.fault.JudgeFault.TheVariants as judge
-use Rattle.wave.specs.declared.fault.WaveFault.{WaveFault}
-use Rattle.wave.specs.declared.fault.WaveFault.TheVariants as wave
+use Rattle.vcd.specs.declared.fault.WaveFault.{WaveFault}
+use Rattle.vcd.specs.declared.fault.WaveFault.TheVariants as wave
 use Rattle.vectors.specs.declared.lines.LinesFault.{LinesFault}
 use Rattle.vectors.specs.declared.lines.LinesFault.TheVariants as lines
 use Rattle.witness_circuits.specs.declared.fault.TestFault.TheVariants as test

@@ -31,8 +31,8 @@ use Rattle.blast.specs.Lowering.{Lowers}
 use Rattle.btor2.specs.Trace.{Frame}
 use Rattle.witness.specs.ClosedWords.{IsClosedTrace}
 use Rattle.rises.specs.FirstRises.{word_first_rises, AreBitFirstRises}
-use Rattle.wave.specs.Dumps.{vcd_text}
-use Rattle.wave.specs.declared.scope.Shown.{Shown}
+use Rattle.vcd.specs.Dumps.{vcd_text}
+use Rattle.vcd.specs.declared.scope.Shown.{Shown}
 use Rattle.witness.specs.Printed.{judgement_text}
 use Rattle.tidy.specs.Tidied.{tidied}
 use Rattle.vectors.specs.declared.lines.Vector.{Vector}

@@ -16,7 +16,7 @@ use certificates::{CertificateFault, ClaimFault, InvariantFault, InvariantWhy, O
 use orders::{REFUSED, WORDS_REFUSED};
 use std::alloc::{AllocError, Global};
 use vectors::LinesFault;
-use wave::WaveFault;
+use vcd::WaveFault;
 use witness::JudgeFault;
 
 /// What is wrong with a file.

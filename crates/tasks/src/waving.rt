@@ -14,7 +14,7 @@ use base::{Sink, Source};
 use btor2::Model;
 use orders::{Order, STANDARD_INPUT};
 use std::alloc::{AllocError, Global};
-use wave::{Shown, wave};
+use vcd::{Shown, wave};
 
 /// The title of a dump: the names of the files.
 fn title_of(alloc: Global, order: &Order<'_>) -> Result<String, AllocError> {

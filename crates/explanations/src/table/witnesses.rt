@@ -11,8 +11,8 @@ ghost use Rattle.witness.specs.declared.fault.JudgeFault.{JudgeFault};
 ghost use Rattle.witness.specs.declared.why.Why.{Why};
 ghost use Rattle.tidy.specs.Answers.{tidy_fault_name as tidy_name, tidy_fault_number as tidy_number};
 ghost use Rattle.tidy.specs.declared.fault.TidyFault.{TidyFault};
-ghost use Rattle.wave.specs.Answers.{wave_fault_name as wave_name, wave_fault_number as wave_number};
-ghost use Rattle.wave.specs.declared.fault.WaveFault.{WaveFault};
+ghost use Rattle.vcd.specs.Answers.{wave_fault_name as wave_name, wave_fault_number as wave_number};
+ghost use Rattle.vcd.specs.declared.fault.WaveFault.{WaveFault};
 
 use super::Explanation;
 

@@ -6,7 +6,7 @@ use Rattle.engine_form.specs.Faults.{engine_fault_name as engine_name, engine_fa
 use Rattle.lift.specs.Answers.{lift_fault_name as lift_name, lift_fault_number as lift_number}
 use Rattle.restore.specs.Faults.{restore_why_name as restore_name, restore_why_number as restore_number}
 use Rattle.tidy.specs.Answers.{tidy_fault_name as tidy_name, tidy_fault_number as tidy_number}
-use Rattle.wave.specs.Answers.{wave_fault_name as wave_name, wave_fault_number as wave_number}
+use Rattle.vcd.specs.Answers.{wave_fault_name as wave_name, wave_fault_number as wave_number}
 use Rattle.explanations.specs.Explanations.{has_row}
 use Rattle.explanations.specs.declared.table.Explanation.{Explanation}
 use Rattle.witness_circuits.specs.Faults.{test_name, test_number}

@@ -1,0 +1,229 @@
+//! Writing whole sources as dumps.
+ghost use Rattle.std.specs.Prelude.{◌≡◌, ◌++◌, List, ℕ, None, IfErr, IfOk, IfSome, OnErr, OnOk};
+ghost use Rattle.std.specs.Io.KnownBytes.{Appends, IsAtEnd};
+ghost use Rattle.base.specs.Device.{AppendsBeginning, CountsFaults};
+ghost use Rattle.base.specs.Lines.{text_of_lines};
+ghost use Rattle.base.specs.Pieces.{Puts};
+ghost use Rattle.btor2.specs.declared.item.Item.{Item};
+ghost use Rattle.btor2.specs.Check.{IsWellFormed};
+ghost use Rattle.btor2.specs.Lists.{first_init_without_next};
+ghost use Rattle.btor2.specs.Trace.{Frame};
+ghost use Rattle.witness.specs.Judgements.{Judges};
+ghost use Rattle.witness.specs.ClosedWords.{IsClosedTrace};
+ghost use Rattle.vcd.specs.declared.scope.Shown.{Shown as ShownSpec};
+ghost use Rattle.vcd.specs.Answers.{AnswersWave, CountsWave, IsBefore, IsDeviceFault};
+ghost use Rattle.vcd.specs.Dumps.{declaration_lines, end_lines, vcd_text};
+ghost use Rattle.vcd.specs.Stands.{Waves, Takes, WavesAll, marks as all_marks};
+
+use crate::apart::marks;
+use crate::declarations::put_declarations;
+use crate::fault::WaveFault;
+use crate::scope::Shown;
+use crate::waver::Waver;
+use base::{Outbox, Sink, Source};
+use btor2::Model;
+use std::alloc::Global;
+use witness::Judgement;
+
+/// How many bytes one call of a source is asked for.
+const CHUNK: usize = 65536;
+
+/// Takes a piece of the witness.
+///
+/// Errors: the sink's own.
+fn take_piece<K: Sink>(
+    waver: &mut Waver<'_>,
+    outbox: &mut Outbox,
+    sink: &mut K,
+    bytes: &[u8],
+) -> Result<(), WaveFault>
+    ensures takes { Takes result (K.written sink.old) (K.written sink.new) outbox.old outbox.new
+        waver.old waver.new bytes.now }
+    ensures fault { IfErr result (λ e. e ≡ WaveFault.Write) }
+    ensures failures { CountsFaults result (K.failures sink.old) (K.failures sink.new) }
+{
+    match waver.take(outbox, sink, bytes) {
+        Ok(()) => Ok(()),
+        Err(_) => Err(WaveFault::Write),
+    }
+}
+
+/// Reads a source to its end, and puts the frames of its text.
+///
+/// Errors: the source's own, and the sink's.
+fn take_all<S: Source, K: Sink>(
+    waver: &mut Waver<'_>,
+    outbox: &mut Outbox,
+    source: &mut S,
+    sink: &mut K,
+) -> Result<(), WaveFault>
+    ensures takes { IfSome (S.to_come source.old)
+        (Takes result (K.written sink.old) (K.written sink.new) outbox.old outbox.new waver.old
+        waver.new) }
+    ensures end { OnOk result (IsAtEnd (S.to_come source.new)) }
+    ensures fault { IfErr result IsDeviceFault }
+    ensures counted { CountsWave result (S.failures source.old) (S.failures source.new)
+        (K.failures sink.old) (K.failures sink.new) }
+{
+    let mut chunk = [0u8; CHUNK];
+    loop {
+        match source.read(&mut chunk) {
+            Ok(0) => return Ok(()),
+            Ok(count) => take_piece(waver, outbox, sink, &chunk[..count])?,
+            Err(_) => return Err(WaveFault::Read),
+        }
+    }
+}
+
+/// Puts the declarations.
+///
+/// Errors: the sink's own.
+fn begin<K: Sink>(
+    outbox: &mut Outbox,
+    sink: &mut K,
+    model: &Model,
+    shown: Shown,
+    marks: &[bool],
+    title: &[u8],
+) -> Result<(), WaveFault>
+    requires { marks.now ≡ all_marks shown model.now }
+    ensures puts { Puts result (K.written sink.old) (K.written sink.new) outbox.old outbox.new
+        (text_of_lines (declaration_lines shown title.now model.now)) }
+    ensures fault { IfErr result (λ e. e ≡ WaveFault.Write) }
+    ensures failures { CountsFaults result (K.failures sink.old) (K.failures sink.new) }
+{
+    match put_declarations(outbox, sink, model, shown, marks, title) {
+        Ok(()) => Ok(()),
+        Err(_) => Err(WaveFault::Write),
+    }
+}
+
+/// Puts the moment behind the last frame, and writes what the outbox keeps.
+///
+/// Errors: the sink's own.
+fn end<K: Sink>(waver: &Waver<'_>, outbox: &mut Outbox, sink: &mut K) -> Result<(), WaveFault>
+    ensures ok { OnOk result ((s : ShownSpec) (items : List Item) (text : List ℕ) (fs : List Frame)
+        → Waves s items waver.now text → IsClosedTrace items text fs
+        → Appends (K.written sink.old) (K.written sink.new)
+        (outbox.old ++ text_of_lines (end_lines fs))) }
+    ensures err { OnErr result ((s : ShownSpec) (items : List Item) (text : List ℕ)
+        (fs : List Frame) → Waves s items waver.now text → IsClosedTrace items text fs
+        → AppendsBeginning (K.written sink.old) (K.written sink.new)
+        (outbox.old ++ text_of_lines (end_lines fs))) }
+    ensures fault { IfErr result (λ e. e ≡ WaveFault.Write) }
+    ensures failures { CountsFaults result (K.failures sink.old) (K.failures sink.new) }
+{
+    match waver.put_end(outbox, sink) {
+        Ok(()) => match outbox.flush(sink) {
+            Ok(()) => Ok(()),
+            Err(_) => Err(WaveFault::Write),
+        },
+        Err(_) => Err(WaveFault::Write),
+    }
+}
+
+/// Reads a source to its end, and writes the dump of the frames of its text, in which signals with a mark are told apart.
+///
+/// Errors: the source's own, and the sink's.
+fn write_dump<S: Source, K: Sink>(
+    waver: &mut Waver<'_>,
+    model: &Model,
+    shown: Shown,
+    marks: &[bool],
+    title: &[u8],
+    source: &mut S,
+    sink: &mut K,
+) -> Result<(), WaveFault>
+    requires { marks.now ≡ all_marks shown model.now }
+    ensures writes { WavesAll result shown title.now model.now (S.to_come source.old)
+        (K.written sink.old) (K.written sink.new) waver.old waver.new }
+    ensures end { OnOk result (IsAtEnd (S.to_come source.new)) }
+    ensures fault { IfErr result IsDeviceFault }
+    ensures counted { CountsWave result (S.failures source.old) (S.failures source.new)
+        (K.failures sink.old) (K.failures sink.new) }
+{
+    let mut outbox = Outbox::new();
+    begin(&mut outbox, sink, model, shown, marks, title)?;
+    take_all(waver, &mut outbox, source, sink)?;
+    end(waver, &mut outbox, sink)
+}
+
+/// Reads a source to its end, and writes the dump of the frames of its text.
+///
+/// Errors: `NoMemory`, with nothing read or written; the source's own, and the sink's.
+fn write_told<S: Source, K: Sink>(
+    alloc: Global,
+    waver: &mut Waver<'_>,
+    model: &Model,
+    shown: Shown,
+    title: &[u8],
+    source: &mut S,
+    sink: &mut K,
+) -> Result<(), WaveFault>
+    ensures writes { WavesAll result shown title.now model.now (S.to_come source.old)
+        (K.written sink.old) (K.written sink.new) waver.old waver.new }
+    ensures fault { AnswersWave result None }
+    ensures unread { IsBefore result → source.new ≡ source.old }
+    ensures unwritten { IsBefore result → sink.new ≡ sink.old }
+    ensures end { OnOk result (IsAtEnd (S.to_come source.new)) }
+    ensures counted { CountsWave result (S.failures source.old) (S.failures source.new)
+        (K.failures sink.old) (K.failures sink.new) }
+{
+    match marks(alloc, model, shown) {
+        Ok(marks) => write_dump(waver, model, shown, marks.as_slice(), title, source, sink),
+        Err(_) => Err(WaveFault::NoMemory),
+    }
+}
+
+/// Reads a witness of a model to its end, judges it, and writes its frames as a value change dump: the declarations of the
+/// signals, scope by scope, then for each frame the words of those that changed, of the first frame all, and the moment
+/// behind the last frame. Of a malformed witness the frames that are closed before the faulty line are written, and where
+/// no claim is made the declarations alone. Of the text only what one call of the source gives is held at a time, and
+/// beside it what the judge holds, a word for each signal, and what one call of the sink takes.
+///
+/// `shown` says which nodes are shown beside inputs, states, properties and outputs; the title stands in the dump's
+/// comment, with `_` in place of bytes that could end it. Two signals of a scope have two names: to see to that, what names
+/// the signals of one scope is held before anything is written, and six marks for each line of the model until the end.
+///
+/// Errors: `NoNext` with the first state in file order that has an init and no next, or else `NoMemory` where a growth was
+/// refused, and after both nothing was read or written; `Read` where the source failed in this call, and `Write` where the
+/// sink did, once. After these a beginning of the dump was written.
+pub fn wave<S: Source, K: Sink>(
+    alloc: Global,
+    model: &Model,
+    shown: Shown,
+    title: &[u8],
+    source: &mut S,
+    sink: &mut K,
+) -> Result<Judgement, WaveFault>
+    // the judgement is that of the whole text
+    ensures judged { IfOk result (λ judgement. IfSome (S.to_come source.old)
+        (λ text. Judges model.now text judgement)) }
+    // what is written is the dump of the text's closed frames, and after a fault a beginning of it
+    ensures written { OnOk result (IfSome (S.to_come source.old) (λ text. (fs : List Frame)
+        → IsClosedTrace model.now text fs
+        → Appends (K.written sink.old) (K.written sink.new)
+        (vcd_text shown title.now model.now fs))) }
+    ensures beginning { IfErr result (λ e. IsDeviceFault e
+        → IfSome (S.to_come source.old) (λ text. (fs : List Frame) → IsClosedTrace model.now text fs
+        → AppendsBeginning (K.written sink.old) (K.written sink.new)
+        (vcd_text shown title.now model.now fs))) }
+    // a state with an init and no next is named exactly where there is one, the first
+    ensures answer { AnswersWave result (first_init_without_next model.now model.now) }
+    ensures unread { IsBefore result → source.new ≡ source.old }
+    ensures unwritten { IsBefore result → sink.new ≡ sink.old }
+    ensures end { OnOk result (IsAtEnd (S.to_come source.new)) }
+    // the source failed once where that is answered, the sink where that is, and else neither
+    ensures counted { CountsWave result (S.failures source.old) (S.failures source.new)
+        (K.failures sink.old) (K.failures sink.new) }
+    // the items of a model are one, so that its frames have a trace
+    ensures well_formed { IsWellFormed model.now }
+{
+    let mut waver = Waver::new(alloc, model, shown)?;
+    let written = write_told(alloc, &mut waver, model, shown, title, source, sink);
+    let judgement = waver.finish();
+    match written {
+        Ok(()) => Ok(judgement),
+        Err(fault) => Err(fault),
+    }
+}

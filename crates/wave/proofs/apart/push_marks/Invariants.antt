@@ -1,9 +1,0 @@
-use Rattle.std.proofs.Common.{◌≡◌, ◌++◌, map, take}
-use Rattle.wave.specs.Stands.{HasSeen, is_marked_signal}
-use Rattle.wave.proofs.apart.push_marks.Given as goal
-
-abbrev pub invariant-loop-place : goal.invariant-loop-place
-invariant-loop-place l = record {
-  pushed : l.marks.items ≡ l.fn.marks.items ++ map (is_marked_signal l.shown l.model l.scope) (take l.place l.items);
-  seen : HasSeen l.shown l.model l.scope l.place l.seen;
-}

@@ -1,7 +1,0 @@
-use Rattle.std.proofs.Common.{refl}
-use Rattle.std.specs.Fmt.{digits}
-use Rattle.wave.proofs.laws.worked_declarations.Goals as goal
-
-pub returns : goal.returns
-unfolding digits
-returns c = record { named = refl; all = refl }
