@@ -16,7 +16,7 @@ import sys
 import tempfile
 
 TOP = os.path.dirname(os.path.dirname(os.path.realpath(__file__)))
-ROWS = f"{TOP}/crates/rows/stdin"
+ROWS = f"{TOP}/crates/cli_rows/stdin"
 NAMES = {150: "NoFrame", 151: "InitialOne", 152: "NoBit", 153: "WrongLength"}
 
 

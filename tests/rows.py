@@ -1,9 +1,9 @@
 #!/usr/bin/env python3
-"""Runs a program on the rows of the gate, which `crates/rows` tries by calls: files in a folder, words, status, both streams.
+"""Runs a program on the rows of the gate, which `crates/cli_rows` tries by calls: files in a folder, words, status, both streams.
 
     rows.py [PROGRAM]
 
-PROGRAM is crates/hwtool/out/hwtool where none is given. The head of crates/rows/src/main.rt says how rows are written. The
+PROGRAM is crates/hwtool/out/hwtool where none is given. The head of crates/cli_rows/src/main.rt says how rows are written. The
 status is 0 where all is as it should be, else 1.
 """
 import os
@@ -14,7 +14,7 @@ import tempfile
 import typing
 
 TOP = os.path.dirname(os.path.dirname(os.path.realpath(__file__)))
-ROWS = f"{TOP}/crates/rows/stdin"
+ROWS = f"{TOP}/crates/cli_rows/stdin"
 PROGRAM = f"{TOP}/crates/hwtool/out/hwtool"
 
 

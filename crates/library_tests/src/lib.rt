@@ -1,4 +1,4 @@
-//! Tests of the libraries up to texts and gates, of what no clause says and no row of the crate `rows` shows, and what tests
+//! Tests of the libraries up to texts and gates, of what no clause says and no row of the crate `cli_rows` shows, and what tests
 //! here and in the crates above speak of. They stand in crates of their own because a crate with tests is proved twice, and in
 //! several because those of the lower libraries need not wait for the upper ones.
 #![tactic(auto)]

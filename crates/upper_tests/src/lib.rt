@@ -1,5 +1,5 @@
 //! Tests of the libraries that stand on texts and gates: lowerings, runs, witnesses, lifting and the way back from engines,
-//! of what no clause says and no row of the crate `rows` shows.
+//! of what no clause says and no row of the crate `cli_rows` shows.
 #![tactic(auto)]
 
 #[cfg(test)]
