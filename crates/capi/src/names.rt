@@ -1,12 +1,12 @@
 //! The calls that name refusals and the version.
 ghost use Rattle.std.specs.Prelude.{◌≡◌, ◌⊎◌, None, IfSome, option_map};
-ghost use Rattle.orders.specs.Version.{version};
+ghost use Rattle.invocation.specs.Version.{version};
 ghost use Rattle.capi.specs.Named.{IsRefusalName, IsOfNone, name_among, name_listed};
 ghost use Rattle.capi.specs.Written.{Fills, Needs};
 
 use crate::buffers::hand_over;
 use explanations::{Explanation, Part, refusal_table};
-use orders::version;
+use invocation::version;
 
 /// The status where no refusal has a number.
 const UNKNOWN: u32 = 2;

@@ -3,7 +3,7 @@
 use base::{Chop, FailAt, Sink, Source, VecSink};
 use blast::Unwatched;
 use commands::run;
-use orders::Order;
+use invocation::Order;
 use std::alloc::{AllocError, Global};
 use tasks::{NoFile, Stream};
 

@@ -3,7 +3,7 @@
 use crate::answers::{Answer, Files, gives, status_on};
 use crate::blocks::Cut;
 use base::VecSink;
-use orders::Order;
+use invocation::Order;
 use std::alloc::{AllocError, Global};
 use tasks::NoFile;
 

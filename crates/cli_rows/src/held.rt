@@ -7,7 +7,7 @@ use crate::Fault;
 use crate::answers::status_on;
 use base::{DeviceFault, Sink, Source};
 use command_line::order;
-use orders::Order;
+use invocation::Order;
 use std::alloc::{AllocError, Global};
 use std::fmt::Write;
 use std::fs;

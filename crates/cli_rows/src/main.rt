@@ -55,7 +55,7 @@ use command_lines::CommandLine;
 use cuts::tells_cuts;
 use held::fault_of_held;
 use on_disk::gives_on_disk;
-use orders::{Order, Stop};
+use invocation::{Order, Stop};
 use progress::fault_of_progress;
 use results::fault_of_results;
 use std::alloc::{AllocError, Global};

@@ -3,7 +3,7 @@
 use crate::answers::{Answer, Files};
 use base::VecSink;
 use commands::{Surroundings, run_on_files};
-use orders::Order;
+use invocation::Order;
 use std::alloc::Global;
 use std::cell::Cell;
 use std::fs;

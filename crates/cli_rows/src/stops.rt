@@ -2,7 +2,7 @@
 
 use crate::answers::Answer;
 use base::{Chop, FailAt, VecSink};
-use orders::Stop;
+use invocation::Stop;
 use std::alloc::Global;
 use tasks::end;
 

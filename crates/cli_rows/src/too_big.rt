@@ -1,7 +1,7 @@
 //! A model that is too big for a row.
 
 use crate::answers::{Answer, gives_on};
-use orders::Order;
+use invocation::Order;
 use std::alloc::{AllocError, Global};
 
 /// How many overflow tests of a product of two inputs of 64 bits have too many gates: each has 164,096 at most, and the

@@ -1,6 +1,6 @@
 //! The table of the commands: their words, and what help says of them.
 
-use orders::{Certificate, CertificateTask, CircuitTask, Given, ModelTask, Task, TextTask};
+use invocation::{Certificate, CertificateTask, CircuitTask, Given, ModelTask, Task, TextTask};
 use vcd::Shown;
 
 /// What a word of a command is.

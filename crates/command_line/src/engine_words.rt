@@ -3,7 +3,7 @@
 use crate::command_table::{ABC, AIGER, BAD, CERTIFICATE, CIRCUIT, ENGINE, row_of};
 use base::decimal;
 use clap::ArgMatches;
-use orders::{Certificate, CertificateTask, CircuitTask, Given, ModelTask, Task, TextTask};
+use invocation::{Certificate, CertificateTask, CircuitTask, Given, ModelTask, Task, TextTask};
 
 /// What is told of words that choose a bad property and no engine form.
 const BAD_ALONE: &str = "words: --bad goes with --engine\n";

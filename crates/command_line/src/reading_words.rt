@@ -1,7 +1,7 @@
 //! The command line: the words that the program is given, and what they ask for.
 
 ghost use Rattle.std.specs.Prelude.{◌≡◌, IfOk, false, option_map};
-ghost use Rattle.orders.specs.Files.{names_standard_input, reads_input_twice};
+ghost use Rattle.invocation.specs.Files.{names_standard_input, reads_input_twice};
 
 use crate::command_table::{
     ALL, ASCII, BINARY, CERTIFICATE, Kind, NAMES, OUTPUT, OUTPUTS, PICK, PROOF, QUIET, ROWS, Row,
@@ -13,7 +13,7 @@ use base::decimal;
 use clap::error::ErrorKind;
 use clap::{Arg, ArgAction, ArgMatches, Command, Error};
 use explanations::{Sought, explain, refusal_table};
-use orders::{
+use invocation::{
     CircuitTask, ModelTask, Order, STANDARD_INPUT, STANDARD_OUTPUT, Stop, Task, TextTask, version,
 };
 use std::alloc::{AllocError, AllocGlobal, Global};

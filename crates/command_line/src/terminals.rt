@@ -1,11 +1,11 @@
 //! Words that are given at a terminal.
 
 ghost use Rattle.std.specs.Prelude.{◌≡◌, IfOk, true, false, length, option_map};
-ghost use Rattle.orders.specs.Files.{reads_input_twice, shows_binary};
+ghost use Rattle.invocation.specs.Files.{reads_input_twice, shows_binary};
 
 use crate::reading_words::{order, refused};
 use aigertext::Form;
-use orders::{Order, Stop};
+use invocation::{Order, Stop};
 use std::alloc::Global;
 use std::convert::AsStr;
 

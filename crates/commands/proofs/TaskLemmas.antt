@@ -1,10 +1,10 @@
 -- What a command answers that is done, and a first text that is no model or no circuit.
 use Rattle.std.proofs.Common.{◌≡◌, ℕ, List, Option, Result, Ok, Err, IfOk, OnOk, sym, subst}
-use Rattle.orders.specs.declared.tasks.CircuitTask.{CircuitTask}
-use Rattle.orders.specs.declared.tasks.CircuitTask.TheVariants as circuit
-use Rattle.orders.specs.declared.tasks.ModelTask.{ModelTask}
-use Rattle.orders.specs.declared.tasks.ModelTask.TheVariants as model
-use Rattle.orders.specs.declared.tasks.Task.TheVariants as task
+use Rattle.invocation.specs.declared.tasks.CircuitTask.{CircuitTask}
+use Rattle.invocation.specs.declared.tasks.CircuitTask.TheVariants as circuit
+use Rattle.invocation.specs.declared.tasks.ModelTask.{ModelTask}
+use Rattle.invocation.specs.declared.tasks.ModelTask.TheVariants as model
+use Rattle.invocation.specs.declared.tasks.Task.TheVariants as task
 use Rattle.tasks.specs.declared.answers.Answer.{Answer}
 use Rattle.tasks.specs.declared.answers.Answer.TheVariants as answer
 use Rattle.tasks.specs.declared.refusals.Fault.{Fault}

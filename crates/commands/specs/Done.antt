@@ -25,12 +25,12 @@ use Rattle.tasks.specs.Outputs.{ConvertsOutputs, ConvertsOutputsForEngines}
 use Rattle.tasks.specs.Subjects.{bad_item_said, lifted_said, said_by_name, where_named}
 use Rattle.btor2text.specs.Spelling.{IsModelOf}
 use Rattle.tasks.specs.Claims.{IsClaim}
-use Rattle.orders.specs.declared.tasks.CertificateTask.TheVariants as certificate
-use Rattle.orders.specs.declared.tasks.CircuitTask.TheVariants as circuit
-use Rattle.orders.specs.declared.tasks.ModelTask.TheVariants as model
-use Rattle.orders.specs.declared.tasks.TextTask.TheVariants as text
-use Rattle.orders.specs.declared.tasks.Task.{Task}
-use Rattle.orders.specs.declared.tasks.Task.TheVariants as task
+use Rattle.invocation.specs.declared.tasks.CertificateTask.TheVariants as certificate
+use Rattle.invocation.specs.declared.tasks.CircuitTask.TheVariants as circuit
+use Rattle.invocation.specs.declared.tasks.ModelTask.TheVariants as model
+use Rattle.invocation.specs.declared.tasks.TextTask.TheVariants as text
+use Rattle.invocation.specs.declared.tasks.Task.{Task}
+use Rattle.invocation.specs.declared.tasks.Task.TheVariants as task
 
 -- what is said by name of a judgement over the circuit of a model: what it is about, and of an acceptance in which frames the claims are reached first; and nothing where names are not asked for
 abbrev pub lifting_said : Bool → List Item → Circuit → List (Option ℕ) → Judgement → List ℕ

@@ -2,13 +2,13 @@
 use Rattle.std.specs.Prelude.{ℕ, List, Option}
 use Rattle.lift.specs.declared.fault.LiftFault.{LiftFault}
 use Rattle.lift.specs.declared.fault.LiftFault.TheVariants as lift
-use Rattle.orders.specs.declared.tasks.CertificateTask.TheVariants as certificate
-use Rattle.orders.specs.declared.tasks.CircuitTask.TheVariants as circuit
-use Rattle.orders.specs.declared.tasks.Given.TheVariants as given
-use Rattle.orders.specs.declared.tasks.ModelTask.TheVariants as model
-use Rattle.orders.specs.declared.tasks.Task.{Task}
-use Rattle.orders.specs.declared.tasks.Task.TheVariants as task
-use Rattle.orders.specs.declared.tasks.TextTask.TheVariants as text
+use Rattle.invocation.specs.declared.tasks.CertificateTask.TheVariants as certificate
+use Rattle.invocation.specs.declared.tasks.CircuitTask.TheVariants as circuit
+use Rattle.invocation.specs.declared.tasks.Given.TheVariants as given
+use Rattle.invocation.specs.declared.tasks.ModelTask.TheVariants as model
+use Rattle.invocation.specs.declared.tasks.Task.{Task}
+use Rattle.invocation.specs.declared.tasks.Task.TheVariants as task
+use Rattle.invocation.specs.declared.tasks.TextTask.TheVariants as text
 use Rattle.tasks.specs.declared.refusals.Claimed.TheVariants as claimed
 use Rattle.tasks.specs.declared.refusals.Device.TheVariants as device
 use Rattle.tasks.specs.declared.refusals.Fault.{Fault}

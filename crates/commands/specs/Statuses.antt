@@ -3,7 +3,7 @@ use Rattle.std.specs.Prelude.{◌≡◌, ℕ, List, Option, Err, ◌⊎◌}
 use Rattle.std.specs.Io.KnownBytes.{Appends}
 use Rattle.base.specs.Device.{HasRisen}
 use Rattle.base.specs.declared.reasons.Reason.{Reason}
-use Rattle.orders.specs.declared.tasks.Task.{Task}
+use Rattle.invocation.specs.declared.tasks.Task.{Task}
 use Rattle.tasks.specs.declared.refusals.Claimed.{Claimed}
 use Rattle.tasks.specs.declared.refusals.Device.TheVariants as device
 use Rattle.tasks.specs.declared.refusals.Fault.{Fault}

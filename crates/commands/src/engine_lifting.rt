@@ -3,7 +3,7 @@
 ghost use Rattle.std.specs.Prelude.{◌≡◌, ℕ, List, None, Option, IfOk, IfErr};
 ghost use Rattle.blast.specs.Lowering.{Lowers};
 ghost use Rattle.blast.specs.Refusal.{lowering_refusal};
-ghost use Rattle.orders.specs.declared.tasks.Given.TheVariants as given_is;
+ghost use Rattle.invocation.specs.declared.tasks.Given.TheVariants as given_is;
 ghost use Rattle.btor2text.specs.Spelling.{IsModelOf};
 ghost use Rattle.commands.specs.Done.{LiftsFound};
 ghost use Rattle.tasks.specs.Refusals.{IsNotClaimed};

@@ -4,7 +4,7 @@ ghost use Rattle.std.specs.Prelude.{◌≡◌, ℕ, List, None, Option, IfOk, If
 ghost use Rattle.blast.specs.Lowering.{Lowers};
 ghost use Rattle.blast.specs.Refusal.{lowering_refusal};
 ghost use Rattle.engine_form.specs.EngineForm.{IsEngineFormOf};
-ghost use Rattle.orders.specs.declared.tasks.Given.TheVariants as given_is;
+ghost use Rattle.invocation.specs.declared.tasks.Given.TheVariants as given_is;
 ghost use Rattle.btor2text.specs.Spelling.{IsModelOf};
 ghost use Rattle.tasks.specs.Done.{Judged};
 ghost use Rattle.commands.specs.Done.{IsFormLifted};

@@ -5,7 +5,7 @@ ghost use Rattle.std.specs.Prelude.{◌≤◌};
 use crate::destinations::open_output;
 use crate::outputs::run_to_file;
 use base::Sink;
-use orders::{DEVICE, Order};
+use invocation::{DEVICE, Order};
 use std::alloc::Global;
 use std::io::{Read, Write};
 use std::rt::Files;

@@ -9,7 +9,7 @@ use crate::result_names::ResultName;
 use crate::running::run;
 use base::{Sink, Source};
 use blast::Watch;
-use orders::{DEVICE, NOT_ACCEPTED, Order};
+use invocation::{DEVICE, NOT_ACCEPTED, Order};
 use std::alloc::Global;
 use tasks::tell_output;
 

@@ -4,7 +4,7 @@ ghost use Rattle.std.specs.Prelude.{◌≡◌, ◌≢◌, ◌≤◌, ◌⊎◌, 
 ghost use Rattle.tasks.specs.declared.answers.Answer.TheVariants as answer;
 ghost use Rattle.btor2text.specs.Spelling.{IsModelOf};
 ghost use Rattle.aigertext.specs.Spelling.{IsCircuitText};
-ghost use Rattle.orders.specs.declared.tasks.Task.TheVariants as task_is;
+ghost use Rattle.invocation.specs.declared.tasks.Task.TheVariants as task_is;
 ghost use Rattle.commands.specs.Done.{Answers, has_one_file, has_three_files, is_quiet};
 ghost use Rattle.commands.specs.Refusals.{RefusesTask, RefusesSecond};
 ghost use Rattle.tasks.specs.Statuses.{Counts, CountsAll, ErrUntold, IfInput, IfSecond};
@@ -17,7 +17,7 @@ use aiger::Circuit;
 use base::{Reason, Sink, Source};
 use blast::Watch;
 use btor2::Model;
-use orders::{CertificateTask, CircuitTask, DEVICE, ModelTask, Order, Task, TextTask};
+use invocation::{CertificateTask, CircuitTask, DEVICE, ModelTask, Order, Task, TextTask};
 use std::alloc::Global;
 use tasks::{
     Answer, Device, Refusal, check_circuit, check_circuit_by_name, check_model,

@@ -6,7 +6,7 @@ ghost use Rattle.explanations.specs.Explanations.{explained, has_name, has_sough
 
 use crate::table::{Explanation, Part};
 use base::decimal;
-use orders::Stop;
+use invocation::Stop;
 use std::alloc::{AllocError, Global};
 
 /// What is sought among refusals: those of a number, of a name, or of both, or all; and whether what was told of it is of the

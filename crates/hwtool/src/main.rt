@@ -4,7 +4,7 @@
 use base::ToWriter;
 use command_line::{Terminals, given_words, order_at};
 use commands::{Surroundings, run_on_files};
-use orders::{Order, Stop};
+use invocation::{Order, Stop};
 use std::fs;
 use std::io::{self, IsTerminal, Read, Stdin};
 use std::os::fd::AsRawFd;

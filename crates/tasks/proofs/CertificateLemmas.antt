@@ -32,9 +32,9 @@ use Rattle.witness_circuits.specs.declared.witness_fault.WitnessFault.{WitnessFa
 use Rattle.witness_circuits.specs.declared.witness_fault.WitnessFault.TheVariants as witness
 use Rattle.tasks.specs.declared.answers.Answer.{Answer}
 use Rattle.tasks.specs.declared.answers.Answer.TheVariants as answer
-use Rattle.orders.specs.declared.tasks.Certificate.{Certificate}
-use Rattle.orders.specs.declared.tasks.Given.{Given}
-use Rattle.orders.specs.declared.tasks.Given.TheVariants as given
+use Rattle.invocation.specs.declared.tasks.Certificate.{Certificate}
+use Rattle.invocation.specs.declared.tasks.Given.{Given}
+use Rattle.invocation.specs.declared.tasks.Given.TheVariants as given
 use Rattle.tasks.specs.declared.refusals.Fault.{Fault}
 use Rattle.tasks.specs.declared.refusals.Refusal.{Refusal}
 use Rattle.tasks.specs.declared.refusals.Refusal.TheVariants as refusal

@@ -17,10 +17,10 @@ use Rattle.certificates.specs.Certificates.{IsJudgedProof, IsOwed}
 use Rattle.tasks.specs.declared.answers.Answer.{Answer}
 use Rattle.tasks.specs.declared.answers.Answer.TheVariants as answer
 use Rattle.tasks.specs.declared.certifying.Read.{Read}
-use Rattle.orders.specs.declared.tasks.Certificate.{Certificate}
-use Rattle.orders.specs.declared.tasks.Certificate.TheVariants as certificate
-use Rattle.orders.specs.declared.tasks.Given.{Given}
-use Rattle.orders.specs.declared.tasks.Given.TheVariants as given
+use Rattle.invocation.specs.declared.tasks.Certificate.{Certificate}
+use Rattle.invocation.specs.declared.tasks.Certificate.TheVariants as certificate
+use Rattle.invocation.specs.declared.tasks.Given.{Given}
+use Rattle.invocation.specs.declared.tasks.Given.TheVariants as given
 use Rattle.tasks.specs.Subjects.{bad_item_said, bad_name_said, holds_said}
 use Rattle.btor2text.specs.Spelling.{IsModelOf}
 use Rattle.aigertext.specs.Numbering.{IsNumberingOfText}

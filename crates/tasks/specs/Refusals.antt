@@ -36,10 +36,10 @@ use Rattle.tasks.specs.declared.refusals.Fault.{Fault}
 use Rattle.tasks.specs.declared.refusals.Fault.TheVariants as fault
 use Rattle.tasks.specs.declared.refusals.Refusal.{Refusal}
 use Rattle.tasks.specs.declared.refusals.Refusal.TheVariants as refusal
-use Rattle.orders.specs.declared.tasks.Certificate.{Certificate}
-use Rattle.orders.specs.declared.tasks.Certificate.TheVariants as certificate
-use Rattle.orders.specs.declared.tasks.Given.{Given}
-use Rattle.orders.specs.declared.tasks.Given.TheVariants as given
+use Rattle.invocation.specs.declared.tasks.Certificate.{Certificate}
+use Rattle.invocation.specs.declared.tasks.Certificate.TheVariants as certificate
+use Rattle.invocation.specs.declared.tasks.Given.{Given}
+use Rattle.invocation.specs.declared.tasks.Given.TheVariants as given
 use Rattle.tasks.specs.Certificates.{GivesItsCircuit, IsGivenNumbering}
 use Rattle.tasks.specs.Names.{harmless}
 use Rattle.btor2text.specs.Spelling.{IsModelOf}

@@ -3,7 +3,7 @@
 ghost use Rattle.std.specs.Prelude.{◌≡◌};
 ghost use Rattle.tasks.specs.Done.{IsSo, status_of};
 
-use orders::{DONE, NOT_ACCEPTED};
+use invocation::{DONE, NOT_ACCEPTED};
 use witness::Judgement;
 
 /// The answer of a command that is done: what it was to write is written.

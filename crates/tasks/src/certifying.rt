@@ -7,7 +7,7 @@ ghost use Rattle.base.specs.Device.{CountsFaults};
 ghost use Rattle.blast.specs.Lowering.{Lowers};
 ghost use Rattle.blast.specs.Refusal.{lowering_refusal};
 ghost use Rattle.drup.specs.FormulaTexts.{formula_text};
-ghost use Rattle.orders.specs.declared.tasks.Given.TheVariants as given_is;
+ghost use Rattle.invocation.specs.declared.tasks.Given.TheVariants as given_is;
 ghost use Rattle.tasks.specs.Certificates.{CertifiesWith, GivesItsCircuit, IsGivenNumbering, IsRead, IsSoDerived, WritesOwed, given_said, read_said, verdict_line};
 ghost use Rattle.btor2text.specs.Spelling.{IsModelOf};
 ghost use Rattle.tasks.specs.Refusals.{IsFaultyCertificate, IsNoCircuit, IsNotCertifiable, IsNotGiven, IsNotLowered};
@@ -27,7 +27,7 @@ use base::{DeviceFault, Sink, Source};
 use blast::{Watch, lower_watched};
 use btor2::Model;
 use drup::{Formula, Judgement, write_formula};
-use orders::{Certificate, Given};
+use invocation::{Certificate, Given};
 use std::alloc::{AllocError, Global};
 
 /// The circuit that lowers a model.

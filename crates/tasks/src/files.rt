@@ -6,10 +6,10 @@ ghost use Rattle.std.specs.Io.KnownBytes.{ReadConsumes};
 ghost use Rattle.base.specs.Device.{CountsFaults};
 ghost use Rattle.tasks.specs.declared.files.Opened.TheVariants as opened_is;
 ghost use Rattle.tasks.specs.Files.{is_standard, of_stream, of_opened};
-ghost use Rattle.orders.specs.Files.{names_standard_input};
+ghost use Rattle.invocation.specs.Files.{names_standard_input};
 
 use base::{DeviceFault, FromReader, Reason, Sink, Source};
-use orders::STANDARD_INPUT;
+use invocation::STANDARD_INPUT;
 use std::fs;
 use std::io::Read;
 use std::rt::Files;

@@ -2,7 +2,7 @@
 
 ghost use Rattle.std.specs.Prelude.{◌≡◌, ℕ, List, Option, IfOk, IfErr};
 ghost use Rattle.engine_form.specs.EngineForm.{IsEngineFormOf};
-ghost use Rattle.orders.specs.declared.tasks.Given.TheVariants as given_is;
+ghost use Rattle.invocation.specs.declared.tasks.Given.TheVariants as given_is;
 ghost use Rattle.aigertext.specs.Spelling.{IsCircuitText};
 ghost use Rattle.tasks.specs.Done.{IsFormRestored, Judged};
 ghost use Rattle.tasks.specs.Refusals.{IsNotForEngines};

@@ -6,7 +6,7 @@ ghost use Rattle.aiger.specs.Reachability.{CanRiseInCircuit};
 ghost use Rattle.witness_circuits.specs.Owing.{IsTestedFormula, IsTestedOverForm};
 ghost use Rattle.drup.specs.declared.judgement.Judgement.TheVariants as verdict;
 ghost use Rattle.certificates.specs.Certificates.{IsJudgedProof, IsOwed};
-ghost use Rattle.orders.specs.declared.tasks.Certificate.{Certificate};
+ghost use Rattle.invocation.specs.declared.tasks.Certificate.{Certificate};
 ghost use Rattle.tasks.specs.Certificates.{IsCertifiedBy, IsOwedBy};
 ghost use Rattle.tasks.specs.Claims.{IsClaim};
 ghost use Rattle.tasks.specs.Refusals.{IsFaultyBy, IsFaultyFor, IsFaultyOverForm, IsFaultyWitness, IsUnclaimedBy, IsUnguarded, IsWithoutForm, IsWithoutFormBy};
@@ -20,7 +20,7 @@ use base::Source;
 use witness_circuits::TestFault;
 use drup::{Formula, Judgement};
 use certificates::judge_proof;
-use orders::Certificate;
+use invocation::Certificate;
 use std::alloc::Global;
 
 /// The bad property of a circuit that a witness circuit is to guard: the chosen one, or the only one.

@@ -5,7 +5,7 @@ ghost use Rattle.std.specs.Prelude.{◌≡◌, None};
 use base::{DeviceFault, Reason, Sink, Source};
 use blast::Watch;
 use itoa::Buffer;
-use orders::{ModelTask, Task};
+use invocation::{ModelTask, Task};
 use std::io::{self, Write};
 use std::time::{Clock, Duration};
 

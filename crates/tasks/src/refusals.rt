@@ -13,7 +13,7 @@ use blast::{ConvertFault, LowerFault};
 use witness_circuits::{TestFault, WitnessFault};
 use engine_form::EngineFault;
 use certificates::{CertificateFault, ClaimFault, InvariantFault, InvariantWhy, ObligationFault};
-use orders::{REFUSED, WORDS_REFUSED};
+use invocation::{REFUSED, WORDS_REFUSED};
 use std::alloc::{AllocError, Global};
 use vectors::LinesFault;
 use vcd::WaveFault;

@@ -5,7 +5,7 @@ ghost use Rattle.std.specs.Io.KnownBytes.{Appends};
 ghost use Rattle.std.specs.String.{string_bytes};
 ghost use Rattle.engine_form.specs.Refusal.{engine_refusal};
 ghost use Rattle.tasks.specs.declared.answers.Answer.TheVariants as answer_is;
-ghost use Rattle.orders.specs.declared.tasks.Given.TheVariants as given_is;
+ghost use Rattle.invocation.specs.declared.tasks.Given.TheVariants as given_is;
 ghost use Rattle.tasks.specs.declared.refusals.Refusal.TheVariants as refusal;
 ghost use Rattle.tasks.specs.declared.refusals.Fault.TheVariants as fault_is;
 ghost use Rattle.restore.specs.Answers.{CountsRestore, CountsRestoreWhy};

@@ -14,7 +14,7 @@ use crate::names::{is_harmless, write_name};
 use crate::reasons::write_reason;
 use crate::refusals::{Device, Fault, Refusal};
 use base::{DeviceFault, Reason, Sink, write_all};
-use orders::{DEVICE, DONE, Order, STANDARD_INPUT, Stop};
+use invocation::{DEVICE, DONE, Order, STANDARD_INPUT, Stop};
 use std::alloc::Global;
 
 /// The name of standard output.

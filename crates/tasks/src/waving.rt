@@ -12,7 +12,7 @@ use crate::models::read_model;
 use crate::refusals::Refusal;
 use base::{Sink, Source};
 use btor2::Model;
-use orders::{Order, STANDARD_INPUT};
+use invocation::{Order, STANDARD_INPUT};
 use std::alloc::{AllocError, Global};
 use vcd::{Shown, wave};
 

@@ -1,5 +1,5 @@
 use Rattle.std.proofs.Common.{rules, ◌≡◌, true, false}
-use Rattle.orders.specs.declared.tasks.ModelTask.TheVariants as model
+use Rattle.invocation.specs.declared.tasks.ModelTask.TheVariants as model
 use Rattle.commands.specs.Done.{Answers}
 use Rattle.commands.specs.Refusals.{RefusesTask}
 use Rattle.commands.proofs.TaskLemmas.{done_so}

@@ -1,4 +1,4 @@
-use Rattle.orders.specs.declared.tasks.Certificate.TheVariants as certificate
+use Rattle.invocation.specs.declared.tasks.Certificate.TheVariants as certificate
 use Rattle.tasks.proofs.owing.certified_never_rises.Goals as goal
 
 pub returns : goal.returns

@@ -1,7 +1,7 @@
 //! The version.
 
 ghost use Rattle.std.specs.Prelude.{◌≡◌};
-ghost use Rattle.orders.specs.Version.{version};
+ghost use Rattle.invocation.specs.Version.{version};
 
 /// The version of the program and of the library for C programs.
 pub fn version() -> &'static str
