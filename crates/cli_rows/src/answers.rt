@@ -5,7 +5,7 @@ use blast::Unwatched;
 use commands::run;
 use invocation::Order;
 use std::alloc::{AllocError, Global};
-use tasks::{NoFile, Stream};
+use subcommands::{NoFile, Stream};
 
 /// The status of a command, and what it writes to standard output and to standard error.
 #[derive(Clone, Copy)]

@@ -5,7 +5,7 @@ use crate::blocks::Cut;
 use base::VecSink;
 use invocation::Order;
 use std::alloc::{AllocError, Global};
-use tasks::NoFile;
+use subcommands::NoFile;
 
 /// The beginning of a text: its bytes, how many of its lines are whole, and where the line behind these begins.
 #[derive(Clone, Copy)]

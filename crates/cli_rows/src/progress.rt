@@ -8,7 +8,7 @@ use std::alloc::{AllocError, Global};
 use std::cell::Cell;
 use std::io::{self, Write};
 use std::time::{Clock, Duration};
-use tasks::{Counted, Progress, Watched, Work};
+use subcommands::{Counted, Progress, Watched, Work};
 
 /// A clock that begins with 0 and goes on by so many milliseconds at each look.
 #[derive(Drop)]

@@ -4,7 +4,7 @@ use crate::answers::Answer;
 use base::{Chop, FailAt, VecSink};
 use invocation::Stop;
 use std::alloc::Global;
-use tasks::end;
+use subcommands::end;
 
 /// Whether a text has a part, or is empty where the part is.
 fn has_part(text: &[u8], part: &[u8]) -> bool {

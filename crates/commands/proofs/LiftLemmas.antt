@@ -19,12 +19,12 @@ use Rattle.restore.specs.Restored.{restored_text}
 use Rattle.lift.specs.EngineLifting.{engine_lifted_text, form_lifted_text, FindsInModel, FindsWitnessInModel, KeepsFormVerdict}
 use Rattle.lift.specs.Lifted.{lifted_with, named_text}
 use Rattle.lift.specs.Verdicts.{KeepsVerdict, KeepsVerdictIn}
-use Rattle.tasks.specs.declared.answers.Answer.{Answer}
-use Rattle.tasks.specs.declared.refusals.Refusal.{Refusal}
-use Rattle.tasks.specs.Done.{Judged}
-use Rattle.tasks.specs.Restoring.{TellsLifted}
+use Rattle.subcommands.specs.declared.answers.Answer.{Answer}
+use Rattle.subcommands.specs.declared.refusals.Refusal.{Refusal}
+use Rattle.subcommands.specs.Done.{Judged}
+use Rattle.subcommands.specs.Restoring.{TellsLifted}
 use Rattle.btor2text.specs.Spelling.{IsModelOf}
-use Rattle.tasks.specs.Claims.{IsClaim}
+use Rattle.subcommands.specs.Claims.{IsClaim}
 use Rattle.commands.specs.Done.{LiftsFound, IsFormLifted, lifting_said}
 
 -- lifting keeps the verdict, with names or without

@@ -5,14 +5,14 @@ use Rattle.invocation.specs.declared.tasks.CircuitTask.TheVariants as circuit
 use Rattle.invocation.specs.declared.tasks.ModelTask.{ModelTask}
 use Rattle.invocation.specs.declared.tasks.ModelTask.TheVariants as model
 use Rattle.invocation.specs.declared.tasks.Task.TheVariants as task
-use Rattle.tasks.specs.declared.answers.Answer.{Answer}
-use Rattle.tasks.specs.declared.answers.Answer.TheVariants as answer
-use Rattle.tasks.specs.declared.refusals.Fault.{Fault}
-use Rattle.tasks.specs.declared.refusals.Fault.TheVariants as fault
-use Rattle.tasks.specs.declared.refusals.Refusal.{Refusal}
-use Rattle.tasks.specs.declared.refusals.Refusal.TheVariants as refusal
-use Rattle.tasks.specs.Refusals.{IsNoCircuit, IsNoModel}
-use Rattle.tasks.specs.Statuses.{IfInput}
+use Rattle.subcommands.specs.declared.answers.Answer.{Answer}
+use Rattle.subcommands.specs.declared.answers.Answer.TheVariants as answer
+use Rattle.subcommands.specs.declared.refusals.Fault.{Fault}
+use Rattle.subcommands.specs.declared.refusals.Fault.TheVariants as fault
+use Rattle.subcommands.specs.declared.refusals.Refusal.{Refusal}
+use Rattle.subcommands.specs.declared.refusals.Refusal.TheVariants as refusal
+use Rattle.subcommands.specs.Refusals.{IsNoCircuit, IsNoModel}
+use Rattle.subcommands.specs.Statuses.{IfInput}
 use Rattle.commands.specs.Refusals.{RefusesTask}
 
 -- a command that answers only that all is done has done what it says

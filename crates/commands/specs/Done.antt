@@ -17,14 +17,14 @@ use Rattle.witness.specs.BitJudgements.{BitJudges}
 use Rattle.lift.specs.EngineLifting.{engine_lifted_text, form_lifted_text, FindsInModel, FindsWitnessInModel, KeepsFormVerdict}
 use Rattle.lift.specs.Lifted.{lifted_with}
 use Rattle.lift.specs.Verdicts.{KeepsVerdictIn}
-use Rattle.tasks.specs.declared.answers.Answer.{Answer}
-use Rattle.tasks.specs.declared.answers.Answer.TheVariants as answer
-use Rattle.tasks.specs.Certificates.{CertifiesWith, WritesOwed}
-use Rattle.tasks.specs.Done.{Compares, ConvertsForEngines, IsDumped, IsFormRestored, IsJudged, IsJudgedByName, IsJudgedOver, IsJudgedOverByName, Judged, LowersForEngines, Restores, Rewrites, ShowsModel, TellsCost, TellsRestored, Tidies, judgement_line}
-use Rattle.tasks.specs.Outputs.{ConvertsOutputs, ConvertsOutputsForEngines}
-use Rattle.tasks.specs.Subjects.{bad_item_said, lifted_said, said_by_name, where_named}
+use Rattle.subcommands.specs.declared.answers.Answer.{Answer}
+use Rattle.subcommands.specs.declared.answers.Answer.TheVariants as answer
+use Rattle.subcommands.specs.Certificates.{CertifiesWith, WritesOwed}
+use Rattle.subcommands.specs.Done.{Compares, ConvertsForEngines, IsDumped, IsFormRestored, IsJudged, IsJudgedByName, IsJudgedOver, IsJudgedOverByName, Judged, LowersForEngines, Restores, Rewrites, ShowsModel, TellsCost, TellsRestored, Tidies, judgement_line}
+use Rattle.subcommands.specs.Outputs.{ConvertsOutputs, ConvertsOutputsForEngines}
+use Rattle.subcommands.specs.Subjects.{bad_item_said, lifted_said, said_by_name, where_named}
 use Rattle.btor2text.specs.Spelling.{IsModelOf}
-use Rattle.tasks.specs.Claims.{IsClaim}
+use Rattle.subcommands.specs.Claims.{IsClaim}
 use Rattle.invocation.specs.declared.tasks.CertificateTask.TheVariants as certificate
 use Rattle.invocation.specs.declared.tasks.CircuitTask.TheVariants as circuit
 use Rattle.invocation.specs.declared.tasks.ModelTask.TheVariants as model

@@ -9,13 +9,13 @@ use Rattle.invocation.specs.declared.tasks.ModelTask.TheVariants as model
 use Rattle.invocation.specs.declared.tasks.Task.{Task}
 use Rattle.invocation.specs.declared.tasks.Task.TheVariants as task
 use Rattle.invocation.specs.declared.tasks.TextTask.TheVariants as text
-use Rattle.tasks.specs.declared.refusals.Claimed.TheVariants as claimed
-use Rattle.tasks.specs.declared.refusals.Device.TheVariants as device
-use Rattle.tasks.specs.declared.refusals.Fault.{Fault}
-use Rattle.tasks.specs.declared.refusals.Refusal.{Refusal}
-use Rattle.tasks.specs.declared.refusals.Refusal.TheVariants as refusal
-use Rattle.tasks.specs.Refusals.{IsFaultyCertificate, IsNoCircuit, IsNoModel, IsNoVectorList, IsNotCertifiable, IsNotClaimed, IsNotForEngines, IsNotJudged, IsNotLowered}
-use Rattle.tasks.specs.Outputs.{IsNotWithOutputs, IsNotWithOutputsForEngines}
+use Rattle.subcommands.specs.declared.refusals.Claimed.TheVariants as claimed
+use Rattle.subcommands.specs.declared.refusals.Device.TheVariants as device
+use Rattle.subcommands.specs.declared.refusals.Fault.{Fault}
+use Rattle.subcommands.specs.declared.refusals.Refusal.{Refusal}
+use Rattle.subcommands.specs.declared.refusals.Refusal.TheVariants as refusal
+use Rattle.subcommands.specs.Refusals.{IsFaultyCertificate, IsNoCircuit, IsNoModel, IsNoVectorList, IsNotCertifiable, IsNotClaimed, IsNotForEngines, IsNotJudged, IsNotLowered}
+use Rattle.subcommands.specs.Outputs.{IsNotWithOutputs, IsNotWithOutputsForEngines}
 
 -- the first text has this fault, for which a command refuses it
 unfoldable pub RefusesTask : Task → Option (List ℕ) → Fault → Type 0

@@ -4,15 +4,15 @@ use Rattle.std.specs.Io.KnownBytes.{Appends}
 use Rattle.base.specs.Device.{HasRisen}
 use Rattle.base.specs.declared.reasons.Reason.{Reason}
 use Rattle.invocation.specs.declared.tasks.Task.{Task}
-use Rattle.tasks.specs.declared.refusals.Claimed.{Claimed}
-use Rattle.tasks.specs.declared.refusals.Device.TheVariants as device
-use Rattle.tasks.specs.declared.refusals.Fault.{Fault}
-use Rattle.tasks.specs.declared.refusals.Fault.TheVariants as fault
-use Rattle.tasks.specs.declared.refusals.Refusal.{Refusal}
-use Rattle.tasks.specs.declared.refusals.Refusal.TheVariants as refusal
-use Rattle.tasks.specs.declared.answers.Answer.{Answer}
-use Rattle.tasks.specs.Refusals.{device_line, fault_line, output_name, refusal_line, second_name, status_of_fault}
-use Rattle.tasks.specs.Statuses.{CountsAll}
+use Rattle.subcommands.specs.declared.refusals.Claimed.{Claimed}
+use Rattle.subcommands.specs.declared.refusals.Device.TheVariants as device
+use Rattle.subcommands.specs.declared.refusals.Fault.{Fault}
+use Rattle.subcommands.specs.declared.refusals.Fault.TheVariants as fault
+use Rattle.subcommands.specs.declared.refusals.Refusal.{Refusal}
+use Rattle.subcommands.specs.declared.refusals.Refusal.TheVariants as refusal
+use Rattle.subcommands.specs.declared.answers.Answer.{Answer}
+use Rattle.subcommands.specs.Refusals.{device_line, fault_line, output_name, refusal_line, second_name, status_of_fault}
+use Rattle.subcommands.specs.Statuses.{CountsAll}
 use Rattle.commands.specs.Refusals.{RefusesTask, RefusesSecond}
 
 -- the first text has a fault for which the command refuses it, and the line that tells that fault of the first file was written

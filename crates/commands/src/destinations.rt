@@ -4,7 +4,7 @@ ghost use Rattle.std.specs.Prelude.{◌≡◌, false, true, IfOk, OnOk, is_none,
 ghost use Rattle.std.specs.String.{string_bytes};
 ghost use Rattle.base.specs.Device.{CountsFaults};
 ghost use Rattle.commands.specs.Files.{part_name};
-ghost use Rattle.tasks.specs.Files.{is_standard};
+ghost use Rattle.subcommands.specs.Files.{is_standard};
 
 use crate::result_names::ResultName;
 use base::{DeviceFault, Reason, Sink, ToWriter};
@@ -13,7 +13,7 @@ use std::fs::{self, Metadata, OpenFile, OpenOptions};
 use std::io::{self, ErrorKind, Write};
 use std::path::{Path, PathBuf};
 use std::rt::Files;
-use tasks::{NoFile, Stream};
+use subcommands::{NoFile, Stream};
 
 /// The most bytes of a file's last name that stand in that of its part. A file system takes 255.
 const MOST_OF_NAME: usize = 200;

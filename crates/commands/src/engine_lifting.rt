@@ -6,9 +6,9 @@ ghost use Rattle.blast.specs.Refusal.{lowering_refusal};
 ghost use Rattle.invocation.specs.declared.tasks.Given.TheVariants as given_is;
 ghost use Rattle.btor2text.specs.Spelling.{IsModelOf};
 ghost use Rattle.commands.specs.Done.{LiftsFound};
-ghost use Rattle.tasks.specs.Refusals.{IsNotClaimed};
-ghost use Rattle.tasks.specs.declared.refusals.Claimed.TheVariants as claimed_is;
-ghost use Rattle.tasks.specs.Statuses.{Counts, IfInput, ErrUntold};
+ghost use Rattle.subcommands.specs.Refusals.{IsNotClaimed};
+ghost use Rattle.subcommands.specs.declared.refusals.Claimed.TheVariants as claimed_is;
+ghost use Rattle.subcommands.specs.Statuses.{Counts, IfInput, ErrUntold};
 
 use aiger::Circuit;
 use base::{Sink, Source};
@@ -16,7 +16,7 @@ use blast::{Watch, lower_watched};
 use btor2::Model;
 use lift::lift_restored_with_rises;
 use std::alloc::Global;
-use tasks::{Answer, Claimed, Refusal, Subject, claim_of, has_form, read_model, tell_lifted};
+use subcommands::{Answer, Claimed, Refusal, Subject, claim_of, has_form, read_model, tell_lifted};
 
 /// Lowers a model, lifts a counterexample over the engine form of its circuit to standard output, with names or without, and
 /// tells on standard error how that is judged, with names behind it what the judgement is about, and of an acceptance in which

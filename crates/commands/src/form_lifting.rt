@@ -6,10 +6,10 @@ ghost use Rattle.blast.specs.Refusal.{lowering_refusal};
 ghost use Rattle.engine_form.specs.EngineForm.{IsEngineFormOf};
 ghost use Rattle.invocation.specs.declared.tasks.Given.TheVariants as given_is;
 ghost use Rattle.btor2text.specs.Spelling.{IsModelOf};
-ghost use Rattle.tasks.specs.Done.{Judged};
+ghost use Rattle.subcommands.specs.Done.{Judged};
 ghost use Rattle.commands.specs.Done.{IsFormLifted};
-ghost use Rattle.tasks.specs.Refusals.{IsNotForEngines};
-ghost use Rattle.tasks.specs.Statuses.{Counts, IfInput, IsOfNoInput, ErrUntold};
+ghost use Rattle.subcommands.specs.Refusals.{IsNotForEngines};
+ghost use Rattle.subcommands.specs.Statuses.{Counts, IfInput, IsOfNoInput, ErrUntold};
 
 use aiger::Circuit;
 use base::{Sink, Source};
@@ -18,7 +18,7 @@ use btor2::Model;
 use engine_form::engine_form;
 use lift::lift_form_with_rises;
 use std::alloc::Global;
-use tasks::{Answer, Refusal, Subject, read_model, tell_lifted};
+use subcommands::{Answer, Refusal, Subject, read_model, tell_lifted};
 
 /// Lowers a model, lifts a witness of the engine form of its circuit to standard output, with names or without, and tells on
 /// standard error how that is judged, with names behind it what the judgement is about, and of an acceptance in which frame the

@@ -3,11 +3,11 @@
 ghost use Rattle.std.specs.Prelude.{◌≡◌, ℕ, List, Option, IfOk, IfErr};
 ghost use Rattle.blast.specs.Lowering.{Lowers};
 ghost use Rattle.btor2text.specs.Spelling.{IsModelOf};
-ghost use Rattle.tasks.specs.Done.{Judged};
+ghost use Rattle.subcommands.specs.Done.{Judged};
 ghost use Rattle.commands.specs.Done.{IsLifted};
 ghost use Rattle.commands.specs.Refusals.{of_lifting};
-ghost use Rattle.tasks.specs.Refusals.{IsNotLowered};
-ghost use Rattle.tasks.specs.Statuses.{Counts, IfInput, ErrUntold, IsOfNoInput};
+ghost use Rattle.subcommands.specs.Refusals.{IsNotLowered};
+ghost use Rattle.subcommands.specs.Statuses.{Counts, IfInput, ErrUntold, IsOfNoInput};
 
 use aiger::Circuit;
 use base::{Sink, Source};
@@ -15,7 +15,7 @@ use blast::{Watch, lower_watched};
 use btor2::Model;
 use lift::{LiftFault, lift_with_rises};
 use std::alloc::Global;
-use tasks::{Answer, Device, Refusal, Subject, read_model, tell_judgement};
+use subcommands::{Answer, Device, Refusal, Subject, read_model, tell_judgement};
 
 /// Lowers a model, lifts a witness of its circuit to standard output, with names or without, and tells its judgement on
 /// standard error, with names behind it what the judgement is about, and of an acceptance in which frame the claim is reached

@@ -10,7 +10,7 @@ use std::alloc::Global;
 use std::io::{Read, Write};
 use std::rt::Files;
 use std::time::Clock;
-use tasks::{Counted, Progress, Watched, Work, open_input, tell_no_memory};
+use subcommands::{Counted, Progress, Watched, Work, open_input, tell_no_memory};
 
 /// The standard streams that a command reads and writes, the terminal on which it is told how far work is, and the process
 /// in which it runs.

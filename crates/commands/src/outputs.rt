@@ -1,7 +1,7 @@
 //! Commands whose result gets a name once all of it is written.
 
 ghost use Rattle.std.specs.Prelude.{◌≡◌, ◌≢◌, ◌≤◌, ◌⊎◌, true, false, option_map};
-ghost use Rattle.tasks.specs.declared.answers.Answer.TheVariants as answer;
+ghost use Rattle.subcommands.specs.declared.answers.Answer.TheVariants as answer;
 ghost use Rattle.commands.specs.Done.{Answers, has_one_file, has_three_files, is_quiet};
 ghost use Rattle.commands.specs.Statuses.{HasFailed, IsLeftOpen, IsRefused, IsUnnamed};
 
@@ -11,7 +11,7 @@ use base::{Sink, Source};
 use blast::Watch;
 use invocation::{DEVICE, NOT_ACCEPTED, Order};
 use std::alloc::Global;
-use tasks::tell_output;
+use subcommands::tell_output;
 
 /// Does a command, gives its result its name, and answers the exit status, as `run` does.
 ///

@@ -1,13 +1,13 @@
 //! Doing a command.
 
 ghost use Rattle.std.specs.Prelude.{◌≡◌, ◌≢◌, ◌≤◌, ◌⊎◌, ℕ, List, Option, true, false, IfOk, IfErr, option_map};
-ghost use Rattle.tasks.specs.declared.answers.Answer.TheVariants as answer;
+ghost use Rattle.subcommands.specs.declared.answers.Answer.TheVariants as answer;
 ghost use Rattle.btor2text.specs.Spelling.{IsModelOf};
 ghost use Rattle.aigertext.specs.Spelling.{IsCircuitText};
 ghost use Rattle.invocation.specs.declared.tasks.Task.TheVariants as task_is;
 ghost use Rattle.commands.specs.Done.{Answers, has_one_file, has_three_files, is_quiet};
 ghost use Rattle.commands.specs.Refusals.{RefusesTask, RefusesSecond};
-ghost use Rattle.tasks.specs.Statuses.{Counts, CountsAll, ErrUntold, IfInput, IfSecond};
+ghost use Rattle.subcommands.specs.Statuses.{Counts, CountsAll, ErrUntold, IfInput, IfSecond};
 ghost use Rattle.commands.specs.Statuses.{HasFailed, IsLeftOpen, IsRefused};
 
 use crate::engine_lifting::lift_counterexample;
@@ -19,7 +19,7 @@ use blast::Watch;
 use btor2::Model;
 use invocation::{CertificateTask, CircuitTask, DEVICE, ModelTask, Order, Task, TextTask};
 use std::alloc::Global;
-use tasks::{
+use subcommands::{
     Answer, Device, Refusal, check_circuit, check_circuit_by_name, check_model,
     check_model_by_name, check_proof, compare_vectors, convert_circuit, convert_for_engines,
     convert_outputs, convert_outputs_for_engines, dump_witness, lower_for_engines, lower_model,

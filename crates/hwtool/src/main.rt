@@ -9,7 +9,7 @@ use std::fs;
 use std::io::{self, IsTerminal, Read, Stdin};
 use std::os::fd::AsRawFd;
 use std::process::{self, ExitCode};
-use tasks::{Progress, Watched, end};
+use subcommands::{Progress, Watched, end};
 
 /// The error of the system that a stream is closed.
 const CLOSED: i32 = 9;

@@ -1,6 +1,6 @@
 use Rattle.std.proofs.Common.{◌<◌, ℕ, List, Option, Bor, inr, arith}
 use Rattle.std.specs.Prelude.{option_map}
-use Rattle.tasks.specs.Refusals.{device_line, output_name}
+use Rattle.subcommands.specs.Refusals.{device_line, output_name}
 use Rattle.commands.specs.Done.{Answers}
 use Rattle.commands.proofs.FailureLemmas.{answered_by, told_or_failed}
 use Rattle.commands.proofs.outputs.run_to_file.Goals as goal

@@ -1,5 +1,5 @@
 use Rattle.std.proofs.Common.{refl}
-use Rattle.tasks.proofs.CountLemmas.{counted_all, no_second}
+use Rattle.subcommands.proofs.CountLemmas.{counted_all, no_second}
 use Rattle.commands.proofs.running.obey.Goals as goal
 
 pub returns-in-Text-clause-counted : goal.returns-in-Text-clause-counted

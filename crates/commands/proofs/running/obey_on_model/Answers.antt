@@ -1,5 +1,5 @@
 use Rattle.std.proofs.Common.{rules, ◌≡◌, Err}
-use Rattle.tasks.proofs.CountLemmas.{counted_behind}
+use Rattle.subcommands.proofs.CountLemmas.{counted_behind}
 use Rattle.commands.proofs.TaskLemmas.{refuses_no_model}
 use Rattle.commands.proofs.running.obey_on_model.Goals as goal
 

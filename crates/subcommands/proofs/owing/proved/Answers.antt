@@ -1,0 +1,16 @@
+use Rattle.std.proofs.Common.{Err, refl, sym, subst}
+use Rattle.drup.specs.declared.judgement.Judgement.{Judgement}
+use Rattle.subcommands.specs.declared.refusals.Refusal.{Refusal}
+use Rattle.subcommands.specs.Statuses.{CountsAll}
+use Rattle.subcommands.proofs.CertificateLemmas.{counted_proof}
+use Rattle.subcommands.proofs.owing.proved.Goals as goal
+
+pub returns-in-Ok-clause-counted : goal.returns-in-Ok-clause-counted
+returns-in-Ok-clause-counted g c = λ f s o e. ((refl, refl, refl, refl), (c.in-Ok.ensures.counted 0).1)
+
+pub returns-in-Err-clause-counted : goal.returns-in-Err-clause-counted
+returns-in-Err-clause-counted g c = λ f s o e.
+    let third = g.T.Source.failures c.args.third.now in
+    let third' = g.T.Source.failures c.judge_proof.new.proof in
+    let Counted : Refusal → Type 0 = λ r. CountsAll {T = Judgement} (Err r) f f s s third third' o o e e in
+    subst Counted (sym c.from.ensures) (counted_proof c.in-Err.fault f s third third' o e c.in-Err.ensures.fault c.in-Err.ensures.counted)

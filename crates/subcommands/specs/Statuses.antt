@@ -1,0 +1,58 @@
+-- What is told of a task that is not done, with which exit status, and which failures are counted.
+use Rattle.std.specs.Prelude.{◌≡◌, ℕ, List, Option, Result, Ok, Err, ◌⊎◌, codes}
+use Rattle.std.specs.Io.KnownBytes.{Appends}
+use Rattle.base.specs.Device.{HasRisen}
+use Rattle.base.specs.declared.reasons.Reason.{Reason}
+use Rattle.subcommands.specs.declared.refusals.Device.TheVariants as device
+use Rattle.subcommands.specs.declared.refusals.Fault.{Fault}
+use Rattle.subcommands.specs.declared.refusals.Refusal.{Refusal}
+use Rattle.subcommands.specs.declared.refusals.Refusal.TheVariants as refusal
+use Rattle.subcommands.specs.Refusals.{fault_line, refusal_line, second_name, status_of_fault}
+
+-- the counts of failures of the first file, the second, standard output and standard error, before and after, of a command that reads no third file and refuses no second one: one more of the one that is told, and no other
+abbrev pub Counts : {T : Type 0} → Result T Refusal → ℕ → ℕ → ℕ → ℕ → ℕ → ℕ → ℕ → ℕ → Type 0
+Counts (Err (refusal.Failed device.First)) f f' s s' o o' e e' = HasRisen f f' × (s' ≡ s) × (o' ≡ o) × (e' ≡ e)
+Counts (Err (refusal.Failed device.Second)) f f' s s' o o' e e' = (f' ≡ f) × HasRisen s s' × (o' ≡ o) × (e' ≡ e)
+Counts (Err (refusal.Failed device.Output)) f f' s s' o o' e e' = (f' ≡ f) × (s' ≡ s) × HasRisen o o' × (e' ≡ e)
+Counts (Err (refusal.Failed device.Error)) f f' s s' o o' e e' = (f' ≡ f) × (s' ≡ s) × (o' ≡ o) × HasRisen e e'
+Counts (Err (refusal.Failed device.Third)) f f' s s' o o' e e' = ⊥
+Counts (Err (refusal.Second x)) f f' s s' o o' e e' = ⊥
+Counts _ f f' s s' o o' e e' = (f' ≡ f) × (s' ≡ s) × (o' ≡ o) × (e' ≡ e)
+
+-- the same of any command, with the count of the third file behind that of the second
+abbrev pub CountsAll : {T : Type 0} → Result T Refusal → ℕ → ℕ → ℕ → ℕ → ℕ → ℕ → ℕ → ℕ → ℕ → ℕ → Type 0
+CountsAll (Err (refusal.Failed device.Third)) f f' s s' t t' o o' e e' = (f' ≡ f) × (s' ≡ s) × HasRisen t t' × (o' ≡ o) × (e' ≡ e)
+CountsAll (Err (refusal.Second x)) f f' s s' t t' o o' e e' = ((f' ≡ f) × (s' ≡ s) × (o' ≡ o) × (e' ≡ e)) × (t' ≡ t)
+CountsAll r f f' s s' t t' o o' e e' = Counts r f f' s s' o o' e e' × (t' ≡ t)
+
+-- a refusal is none of an input
+abbrev pub IsOfNoInput : {T : Type 0} → Result T Refusal → Type 0
+IsOfNoInput (Err (refusal.Input f)) = ⊥
+IsOfNoInput _ = Unit {0}
+
+-- nothing was told before a refusal, but where standard error failed
+abbrev pub ErrUntold : {T : Type 0} → Result T Refusal → Type 0 → Type 0
+ErrUntold (Err (refusal.Failed device.Error)) unchanged = Unit {0}
+ErrUntold (Err r) unchanged = unchanged
+ErrUntold (Ok x) unchanged = Unit {0}
+
+-- what a refusal of an input says of its fault
+abbrev pub IfInput : (Fault → Type 0) → Refusal → Type 0
+IfInput P (refusal.Input f) = P f
+IfInput P _ = Unit {0}
+
+-- what a refusal of a second input says of its fault
+abbrev pub IfSecond : (Fault → Type 0) → Refusal → Type 0
+IfSecond P (refusal.Second f) = P f
+IfSecond P _ = Unit {0}
+
+-- what was told of the fault of a file, and the status: its line and its own, or `no memory` where there was none for the line
+abbrev pub TellsFault : List ℕ → Fault → ℕ → Option (List ℕ) → Option (List ℕ) → Type 0
+TellsFault file fault status told told' = ((status ≡ status_of_fault fault) × Appends told told' (fault_line file fault)) ⊎ ((status ≡ 3) × Appends told told' (codes "no memory\n"))
+
+-- what was told of a refusal, by the names of the files and the reason of a device that failed, and the status
+abbrev pub Tells : List ℕ → Option (List ℕ) → Option (List ℕ) → Option (List ℕ) → Option Reason → Refusal → ℕ → Option (List ℕ) → Option (List ℕ) → Type 0
+Tells file second third output why (refusal.Input f) status told told' = TellsFault file f status told told'
+Tells file second third output why (refusal.Second f) status told told' = TellsFault (second_name second) f status told told'
+Tells file second third output why (refusal.Failed device.Error) status told told' = status ≡ 3
+Tells file second third output why r status told told' = (status ≡ 3) × Appends told told' (refusal_line file second third output why r)

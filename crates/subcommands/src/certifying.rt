@@ -1,0 +1,393 @@
+//! The commands on certificates: invariants and witness circuits, and proofs of the formulas that they owe.
+
+ghost use Rattle.std.specs.Prelude.{◌≡◌, ℕ, List, None, Option, Some, false, IfOk, IfErr, OnOk};
+ghost use Rattle.std.specs.Io.KnownBytes.{Appends};
+ghost use Rattle.std.specs.String.{string_bytes};
+ghost use Rattle.base.specs.Device.{CountsFaults};
+ghost use Rattle.blast.specs.Lowering.{Lowers};
+ghost use Rattle.blast.specs.Refusal.{lowering_refusal};
+ghost use Rattle.drup.specs.FormulaTexts.{formula_text};
+ghost use Rattle.invocation.specs.declared.tasks.Given.TheVariants as given_is;
+ghost use Rattle.subcommands.specs.Certificates.{CertifiesWith, GivesItsCircuit, IsGivenNumbering, IsRead, IsSoDerived, WritesOwed, given_said, read_said, verdict_line};
+ghost use Rattle.btor2text.specs.Spelling.{IsModelOf};
+ghost use Rattle.subcommands.specs.Refusals.{IsFaultyCertificate, IsNoCircuit, IsNotCertifiable, IsNotGiven, IsNotLowered};
+ghost use Rattle.subcommands.specs.Statuses.{Counts, CountsAll, ErrUntold, IfInput, IfSecond, IsOfNoInput};
+ghost use Rattle.subcommands.specs.Subjects.{bad_said, holds_said, where_named};
+
+use crate::answers::Answer;
+use crate::models::read_model;
+use crate::owing::{certified_claim, certified_never_rises, judged, owed};
+use crate::refusals::{Device, Refusal};
+use crate::subjects::{Subject, tell_bad};
+use crate::telling::write_result;
+use aiger::Circuit;
+use aigerlists::Numbering;
+use aigertext::read_numbered;
+use base::{DeviceFault, Sink, Source};
+use blast::{Watch, lower_watched};
+use btor2::Model;
+use drup::{Formula, Judgement, write_formula};
+use invocation::{Certificate, Given};
+use std::alloc::{AllocError, Global};
+
+/// The circuit that lowers a model.
+fn lower_read<W: Watch>(alloc: Global, model: &Model, watch: &mut W) -> Result<Circuit, Refusal>
+    ensures accepted { OnOk result (lowering_refusal model.now ≡ None) }
+    ensures lowers { IfOk result (Lowers model.now) }
+    ensures refused { (known : Option (List ℕ)) → IsModelOf known model.now
+        → IfErr result (IfInput (IsNotLowered known)) }
+    ensures counted { (f s o e : ℕ) → Counts result f f s s o o e e }
+{
+    // a model's items are well-formed
+    let _ = model.items();
+    Ok(lower_watched(alloc, model, watch)?)
+}
+
+/// What the first file gives: a circuit, the model that it lowers, where that is what is given, and the numbering of the
+/// circuit's file.
+#[derive(Drop)]
+struct Read {
+    model: Option<Model>,
+    circuit: Circuit,
+    numbering: Numbering,
+}
+
+impl Read {
+    /// What a judgement of it is about.
+    fn subject(&self) -> Subject<'_>
+        ensures { (k : ℕ) → bad_said result k ≡ read_said self.now k }
+    {
+        match &self.model {
+            Some(model) => Subject::Model(model),
+            None => Subject::Circuit(&self.circuit),
+        }
+    }
+}
+
+/// Reads the first file as a model, and lowers it.
+fn lower_first<A: Source, W: Watch>(
+    alloc: Global,
+    first: &mut A,
+    watch: &mut W,
+) -> Result<Read, Refusal>
+    ensures read { IfOk result (IsRead given_is.Model (A.to_come first.old)) }
+    ensures refused { IfErr result (IfInput (IsNotLowered (A.to_come first.old))) }
+    ensures counted { (s o e : ℕ)
+        → Counts result (A.failures first.old) (A.failures first.new) s s o o e e }
+{
+    let model = read_model(alloc, first)?;
+    let circuit = lower_read(alloc, &model, watch)?;
+    Ok(Read {
+        model: Some(model),
+        circuit,
+        numbering: Numbering::own(),
+    })
+}
+
+/// Reads the first file as a circuit.
+fn read_first<A: Source>(alloc: Global, first: &mut A) -> Result<Read, Refusal>
+    ensures read { IfOk result (IsRead given_is.Circuit (A.to_come first.old)) }
+    ensures refused { IfErr result (IfInput (IsNoCircuit (A.to_come first.old))) }
+    ensures counted { (s o e : ℕ)
+        → Counts result (A.failures first.old) (A.failures first.new) s s o o e e }
+{
+    match read_numbered(alloc, first) {
+        Ok(numbered) => {
+            // the lists of a circuit are one
+            let _ = numbered.circuit.inputs();
+            Ok(Read {
+                model: None,
+                circuit: numbered.circuit,
+                numbering: numbered.numbering,
+            })
+        }
+        Err(fault) => Err(Refusal::from(fault)),
+    }
+}
+
+/// What the first file gives: a circuit that lowers its model, or its own.
+fn read_given<A: Source, W: Watch>(
+    alloc: Global,
+    given: Given,
+    first: &mut A,
+    watch: &mut W,
+) -> Result<Read, Refusal>
+    ensures read { IfOk result (IsRead given (A.to_come first.old)) }
+    ensures refused { IfErr result (IfInput (IsNotGiven given (A.to_come first.old))) }
+    ensures counted { (s o e : ℕ)
+        → Counts result (A.failures first.old) (A.failures first.new) s s o o e e }
+{
+    match given {
+        Given::Model => lower_first(alloc, first, watch),
+        Given::Circuit => read_first(alloc, first),
+    }
+}
+
+/// Writes the text of a formula.
+fn write_owed<O: Sink>(formula: &Formula, out: &mut O) -> Result<Answer, Refusal>
+    ensures written { OnOk result (Appends (O.written out.old) (O.written out.new)
+        (formula_text formula.now)) }
+    ensures answer { IfOk result (λ answer. answer ≡ Answer.Done) }
+    ensures no_input { IsOfNoInput result }
+    ensures counted { (f s e : ℕ) → Counts result f f s s (O.failures out.old)
+        (O.failures out.new) e e }
+{
+    match write_formula(formula, out) {
+        Ok(()) => Ok(Answer::Done),
+        Err(_) => Err(Refusal::Failed(Device::Output)),
+    }
+}
+
+/// Writes the formula that a certificate owes for the bad property that is claimed of a circuit, whose file has this
+/// numbering.
+fn write_owed_over<B: Source, O: Sink>(
+    alloc: Global,
+    by: Certificate,
+    circuit: &Circuit,
+    numbering: &Numbering,
+    choice: Option<usize>,
+    second: &mut B,
+    out: &mut O,
+) -> Result<Answer, Refusal>
+    ensures done { (g : Given) (known : Option (List ℕ)) → GivesItsCircuit g known circuit.now
+        → IsGivenNumbering g known circuit.now numbering.now
+        → OnOk result (WritesOwed g by choice known (B.to_come second.old) (O.written out.old)
+        (O.written out.new)) }
+    ensures answer { IfOk result (λ answer. answer ≡ Answer.Done) }
+    ensures refused { (g : Given) (known : Option (List ℕ)) → GivesItsCircuit g known circuit.now
+        → IfErr result (IfInput (IsNotCertifiable by g choice known)) }
+    ensures second { (g : Given) (known : Option (List ℕ)) → GivesItsCircuit g known circuit.now
+        → IsGivenNumbering g known circuit.now numbering.now
+        → IfErr result (IfSecond (IsFaultyCertificate by g choice known (B.to_come second.old))) }
+    ensures unwritten { IfErr result (IfInput (λ _. out.new ≡ out.old)) }
+    ensures unwritten_second { IfErr result (IfSecond (λ _. out.new ≡ out.old)) }
+    ensures counted { (f t e : ℕ) → CountsAll result f f (B.failures second.old)
+        (B.failures second.new) t t (O.failures out.old) (O.failures out.new) e e }
+{
+    let claim = certified_claim(circuit, by, choice)?;
+    let formula = owed(alloc, by, circuit, numbering, claim, second)?;
+    write_owed(&formula, out)
+}
+
+/// Reads what is given, and writes the formula that a certificate owes for the bad property that is claimed of it.
+///
+/// Its buffers stand in a frame of its own: each command enters that of its caller.
+#[inline(never)]
+pub fn write_obligation<A: Source, B: Source, O: Sink, W: Watch>(
+    alloc: Global,
+    given: Given,
+    by: Certificate,
+    choice: Option<usize>,
+    first: &mut A,
+    second: &mut B,
+    out: &mut O,
+    watch: &mut W,
+) -> Result<Answer, Refusal>
+    ensures done { OnOk result (WritesOwed given by choice (A.to_come first.old)
+        (B.to_come second.old) (O.written out.old) (O.written out.new)) }
+    ensures answer { IfOk result (λ answer. answer ≡ Answer.Done) }
+    ensures refused { IfErr result
+        (IfInput (IsNotCertifiable by given choice (A.to_come first.old))) }
+    ensures second { IfErr result
+        (IfSecond (IsFaultyCertificate by given choice (A.to_come first.old)
+        (B.to_come second.old))) }
+    ensures unwritten { IfErr result (IfInput (λ _. out.new ≡ out.old)) }
+    ensures unwritten_second { IfErr result (IfSecond (λ _. out.new ≡ out.old)) }
+    ensures counted { (t e : ℕ) → CountsAll result (A.failures first.old) (A.failures first.new)
+        (B.failures second.old) (B.failures second.new) t t (O.failures out.old)
+        (O.failures out.new) e e }
+{
+    let read = read_given(alloc, given, first, watch)?;
+    write_owed_over(
+        alloc,
+        by,
+        &read.circuit,
+        &read.numbering,
+        choice,
+        second,
+        out,
+    )
+}
+
+/// The line that tells how a certificate of a bad property is judged.
+fn verdict_line(alloc: Global, claim: usize, judgement: &Judgement) -> Result<String, AllocError>
+    ensures { IfOk result (λ line. string_bytes line ≡ verdict_line claim judgement.now) }
+{
+    match judgement {
+        Judgement::Derived { .. } => format!(in alloc; "holds: b{claim}\n"),
+        Judgement::NotImplied { line } => format!(in alloc; "not implied line {line}\n"),
+        Judgement::Malformed { line, why } => {
+            let number = why.number();
+            let name = why.name();
+            format!(in alloc; "malformed line {line}: {number} {name}\n")
+        }
+        Judgement::NotDerived => format!(in alloc; "not derived\n"),
+    }
+}
+
+/// The answer of a judgement: all is done where the proof derives.
+fn answer_of(judgement: &Judgement) -> Answer
+    ensures { IsSoDerived result judgement.now }
+{
+    match judgement {
+        Judgement::Derived { .. } => Answer::Done,
+        _ => Answer::NotAccepted,
+    }
+}
+
+/// Writes the line that tells how a certificate of a bad property is judged, and answers whether the proof derives.
+fn write_verdict<O: Sink>(
+    alloc: Global,
+    claim: usize,
+    judgement: &Judgement,
+    out: &mut O,
+) -> Result<Answer, Refusal>
+    ensures written { OnOk result (Appends (O.written out.old) (O.written out.new)
+        (verdict_line claim judgement.now)) }
+    ensures so { IfOk result (λ answer. IsSoDerived answer judgement.now) }
+    ensures no_input { IsOfNoInput result }
+    ensures counted { (f s e : ℕ) → Counts result f f s s (O.failures out.old)
+        (O.failures out.new) e e }
+{
+    let line = verdict_line(alloc, claim, judgement)?;
+    write_result(out, line.as_bytes())?;
+    Ok(answer_of(judgement))
+}
+
+/// Says which bad property holds, where one does and names are asked for.
+fn tell_what_holds<E: Sink>(
+    named: bool,
+    subject: Subject<'_>,
+    claim: usize,
+    judgement: &Judgement,
+    err: &mut E,
+) -> Result<(), DeviceFault>
+    ensures written { OnOk result (Appends (E.written err.old) (E.written err.new)
+        (where_named named (holds_said judgement.now (bad_said subject.entry claim)))) }
+    ensures quiet { named ≡ false → err.new ≡ err.old }
+    ensures counted { CountsFaults result (E.failures err.old) (E.failures err.new) }
+{
+    match judgement {
+        Judgement::Derived { .. } => tell_bad(named, subject, claim, err),
+        _ => Ok(()),
+    }
+}
+
+/// Writes the line that tells how a certificate of a bad property is judged, with names says which one holds, and answers
+/// whether the proof derives.
+fn tell_verdict<O: Sink, E: Sink>(
+    alloc: Global,
+    named: bool,
+    subject: Subject<'_>,
+    claim: usize,
+    judgement: &Judgement,
+    out: &mut O,
+    err: &mut E,
+) -> Result<Answer, Refusal>
+    ensures written { OnOk result (Appends (O.written out.old) (O.written out.new)
+        (verdict_line claim judgement.now)) }
+    ensures told { OnOk result (Appends (E.written err.old) (E.written err.new)
+        (where_named named (holds_said judgement.now (bad_said subject.entry claim)))) }
+    ensures quiet { named ≡ false → err.new ≡ err.old }
+    ensures so { IfOk result (λ answer. IsSoDerived answer judgement.now) }
+    ensures no_input { IsOfNoInput result }
+    ensures untold { ErrUntold result (err.new ≡ err.old) }
+    ensures counted { (f s : ℕ) → Counts result f f s s (O.failures out.old) (O.failures out.new)
+        (E.failures err.old) (E.failures err.new) }
+{
+    let answer = write_verdict(alloc, claim, judgement, out)?;
+    match tell_what_holds(named, subject, claim, judgement, err) {
+        Ok(()) => Ok(answer),
+        Err(_) => Err(Refusal::Failed(Device::Error)),
+    }
+}
+
+/// Judges a certificate of the bad property that is claimed of a circuit, whose file has this numbering, writes the line of that, and with names says which
+/// one holds.
+fn check_over<B: Source, T: Source, O: Sink, E: Sink>(
+    alloc: Global,
+    named: bool,
+    by: Certificate,
+    subject: Subject<'_>,
+    circuit: &Circuit,
+    numbering: &Numbering,
+    choice: Option<usize>,
+    second: &mut B,
+    third: &mut T,
+    out: &mut O,
+    err: &mut E,
+) -> Result<Answer, Refusal>
+    ensures done { (g : Given) (known : Option (List ℕ))
+        (gives : GivesItsCircuit g known circuit.now)
+        → ((k : ℕ) → bad_said subject.entry k ≡ given_said g known circuit.now gives k)
+        → IsGivenNumbering g known circuit.now numbering.now
+        → IfOk result (CertifiesWith named g by choice known (B.to_come second.old)
+        (T.to_come third.old) (O.written out.old) (O.written out.new) (E.written err.old)
+        (E.written err.new)) }
+    ensures refused { (g : Given) (known : Option (List ℕ)) → GivesItsCircuit g known circuit.now
+        → IfErr result (IfInput (IsNotCertifiable by g choice known)) }
+    ensures second { (g : Given) (known : Option (List ℕ)) → GivesItsCircuit g known circuit.now
+        → IsGivenNumbering g known circuit.now numbering.now
+        → IfErr result (IfSecond (IsFaultyCertificate by g choice known (B.to_come second.old))) }
+    ensures unwritten { IfErr result (IfInput (λ _. out.new ≡ out.old)) }
+    ensures unwritten_second { IfErr result (IfSecond (λ _. out.new ≡ out.old)) }
+    ensures untold { ErrUntold result (err.new ≡ err.old) }
+    ensures quiet { named ≡ false → err.new ≡ err.old }
+    ensures counted { (f : ℕ) → CountsAll result f f (B.failures second.old) (B.failures second.new)
+        (T.failures third.old) (T.failures third.new) (O.failures out.old) (O.failures out.new)
+        (E.failures err.old) (E.failures err.new) }
+{
+    certified_never_rises();
+    blast::laws::bad_properties_rise_alike();
+    let claim = certified_claim(circuit, by, choice)?;
+    let judgement = judged(alloc, by, circuit, numbering, claim, second, third)?;
+    tell_verdict(alloc, named, subject, claim, &judgement, out, err)
+}
+
+/// Reads what is given, judges a certificate of the bad property that is claimed of it, and with names says which one holds.
+pub fn check_proof<A: Source, B: Source, T: Source, O: Sink, E: Sink, W: Watch>(
+    alloc: Global,
+    named: bool,
+    given: Given,
+    by: Certificate,
+    choice: Option<usize>,
+    first: &mut A,
+    second: &mut B,
+    third: &mut T,
+    out: &mut O,
+    err: &mut E,
+    watch: &mut W,
+) -> Result<Answer, Refusal>
+    ensures done { IfOk result (CertifiesWith named given by choice (A.to_come first.old)
+        (B.to_come second.old) (T.to_come third.old) (O.written out.old) (O.written out.new)
+        (E.written err.old) (E.written err.new)) }
+    ensures refused { IfErr result
+        (IfInput (IsNotCertifiable by given choice (A.to_come first.old))) }
+    ensures second { IfErr result
+        (IfSecond (IsFaultyCertificate by given choice (A.to_come first.old)
+        (B.to_come second.old))) }
+    ensures unwritten { IfErr result (IfInput (λ _. out.new ≡ out.old)) }
+    ensures unwritten_second { IfErr result (IfSecond (λ _. out.new ≡ out.old)) }
+    ensures untold { ErrUntold result (err.new ≡ err.old) }
+    ensures quiet { named ≡ false → err.new ≡ err.old }
+    ensures counted { CountsAll result (A.failures first.old) (A.failures first.new)
+        (B.failures second.old) (B.failures second.new) (T.failures third.old)
+        (T.failures third.new) (O.failures out.old) (O.failures out.new) (E.failures err.old)
+        (E.failures err.new) }
+{
+    let read = read_given(alloc, given, first, watch)?;
+    let subject = read.subject();
+    check_over(
+        alloc,
+        named,
+        by,
+        subject,
+        &read.circuit,
+        &read.numbering,
+        choice,
+        second,
+        third,
+        out,
+        err,
+    )
+}

@@ -1,0 +1,124 @@
+//! The commands on circuits.
+
+ghost use Rattle.std.specs.Prelude.{◌≡◌, ℕ, List, Option, IfOk, IfErr, OnOk};
+ghost use Rattle.std.specs.Io.KnownBytes.{Appends};
+ghost use Rattle.aiger.specs.Circuit.{IsCircuit};
+ghost use Rattle.aigertext.specs.Binary.{circuit_text};
+ghost use Rattle.aigertext.specs.Spelling.{IsCircuitText};
+ghost use Rattle.subcommands.specs.Done.{IsJudgedOver, IsJudgedOverByName, Judged, Rewrites};
+ghost use Rattle.subcommands.specs.Refusals.{IsNoCircuit};
+ghost use Rattle.subcommands.specs.Statuses.{Counts, ErrUntold, IfInput, IsOfNoInput};
+
+use crate::answers::Answer;
+use crate::judgements::{write_judgement, write_judgement_by_name};
+use crate::refusals::{Device, Refusal};
+use crate::subjects::Subject;
+use aiger::Circuit;
+use aigertext::{Form, read, write};
+use base::{Sink, Source};
+use reached::laws::judged_claims_are_reached;
+use rises::judge_bits_with_rises;
+use std::alloc::Global;
+use witness::judge_bits;
+
+/// Reads the first file as a circuit of either form.
+pub fn read_circuit<A: Source>(alloc: Global, first: &mut A) -> Result<Circuit, Refusal>
+    ensures read { IfOk result (IsCircuitText (A.to_come first.old)) }
+    ensures refused { IfErr result (IfInput (IsNoCircuit (A.to_come first.old))) }
+    ensures counted { (s o e : ℕ)
+        → Counts result (A.failures first.old) (A.failures first.new) s s o o e e }
+{
+    match read(alloc, first) {
+        Ok(circuit) => Ok(circuit),
+        Err(fault) => Err(Refusal::from(fault)),
+    }
+}
+
+/// Writes a circuit that was read in a form.
+pub fn convert_circuit<O: Sink>(
+    form: Form,
+    circuit: &Circuit,
+    out: &mut O,
+) -> Result<Answer, Refusal>
+    ensures done { (known : Option (List ℕ)) → IsCircuitText known circuit.now
+        → OnOk result (Rewrites known (O.written out.old) (O.written out.new) form) }
+    ensures answer { IfOk result (λ answer. answer ≡ Answer.Done) }
+    ensures no_input { IsOfNoInput result }
+    ensures counted { (f s e : ℕ) → Counts result f f s s (O.failures out.old)
+        (O.failures out.new) e e }
+{
+    // the lists of a circuit are one
+    let _ = circuit.inputs();
+    write_circuit(circuit, form, out)
+}
+
+/// Writes a circuit in a form.
+pub fn write_circuit<O: Sink>(circuit: &Circuit, form: Form, out: &mut O) -> Result<Answer, Refusal>
+    ensures done { OnOk result (Appends (O.written out.old) (O.written out.new)
+        (circuit_text form circuit.now)) }
+    ensures answer { IfOk result (λ answer. answer ≡ Answer.Done) }
+    ensures no_input { IsOfNoInput result }
+    ensures counted { (f s e : ℕ) → Counts result f f s s (O.failures out.old)
+        (O.failures out.new) e e }
+{
+    match write(circuit, form, out) {
+        Ok(()) => Ok(Answer::Done),
+        Err(_) => Err(Refusal::Failed(Device::Output)),
+    }
+}
+
+/// Judges a witness over a circuit.
+pub fn check_circuit<B: Source, O: Sink>(
+    alloc: Global,
+    circuit: &Circuit,
+    second: &mut B,
+    out: &mut O,
+) -> Result<Answer, Refusal>
+    ensures done { (known : Option (List ℕ)) → IsCircuitText known circuit.now
+        → IfOk result (Judged (IsJudgedOver known (B.to_come second.old) (O.written out.old)
+        (O.written out.new))) }
+    ensures no_input { IsOfNoInput result }
+    ensures counted { (f e : ℕ) → Counts result f f (B.failures second.old) (B.failures second.new)
+        (O.failures out.old) (O.failures out.new) e e }
+{
+    // the lists of a circuit are one
+    let _ = circuit.inputs();
+    judged_claims_are_reached();
+    match judge_bits(alloc, circuit, second) {
+        Ok(judgement) => write_judgement(alloc, &judgement, out),
+        Err(fault) => Err(Refusal::from(fault)),
+    }
+}
+
+/// Judges a witness over a circuit, and says what the judgement is about, and of an acceptance in which frames the claims are
+/// reached first.
+pub fn check_circuit_by_name<B: Source, O: Sink, E: Sink>(
+    alloc: Global,
+    circuit: &Circuit,
+    second: &mut B,
+    out: &mut O,
+    err: &mut E,
+) -> Result<Answer, Refusal>
+    ensures done { (known : Option (List ℕ)) → IsCircuitText known circuit.now
+        → IfOk result (Judged (IsJudgedOverByName known (B.to_come second.old) (O.written out.old)
+        (O.written out.new) (E.written err.old) (E.written err.new))) }
+    ensures no_input { IsOfNoInput result }
+    ensures untold { ErrUntold result (err.new ≡ err.old) }
+    ensures counted { (f : ℕ) → Counts result f f (B.failures second.old) (B.failures second.new)
+        (O.failures out.old) (O.failures out.new) (E.failures err.old) (E.failures err.new) }
+{
+    // the lists of a circuit are one
+    let _ = circuit.inputs();
+    judged_claims_are_reached();
+    match judge_bits_with_rises(alloc, circuit, second) {
+        Ok((judgement, firsts)) => write_judgement_by_name(
+            alloc,
+            Subject::Circuit(circuit),
+            &judgement,
+            &firsts,
+            out,
+            err,
+        ),
+        Err(fault) => Err(Refusal::from(fault)),
+    }
+}

@@ -1,0 +1,71 @@
+//! The command that restores witnesses of engine forms.
+
+ghost use Rattle.std.specs.Prelude.{◌≡◌, ℕ, List, Option, IfOk, IfErr};
+ghost use Rattle.engine_form.specs.EngineForm.{IsEngineFormOf};
+ghost use Rattle.invocation.specs.declared.tasks.Given.TheVariants as given_is;
+ghost use Rattle.aigertext.specs.Spelling.{IsCircuitText};
+ghost use Rattle.subcommands.specs.Done.{IsFormRestored, Judged};
+ghost use Rattle.subcommands.specs.Refusals.{IsNotForEngines};
+ghost use Rattle.subcommands.specs.Statuses.{Counts, IfInput, IsOfNoInput, ErrUntold};
+
+use crate::answers::Answer;
+use crate::circuits::read_circuit;
+use crate::refusals::Refusal;
+use crate::restoring::tell_restored;
+use aiger::Circuit;
+use base::{Sink, Source};
+use engine_form::engine_form;
+use restore::restore_form;
+use std::alloc::Global;
+
+/// Restores a witness of the engine form of a circuit to standard output, and tells on standard error how that is
+/// judged.
+///
+/// Its buffers stand in a frame of its own: each command enters that of its caller.
+#[inline(never)]
+pub fn restore_witness<B: Source, O: Sink, E: Sink>(
+    alloc: Global,
+    circuit: &Circuit,
+    choice: Option<usize>,
+    second: &mut B,
+    out: &mut O,
+    err: &mut E,
+) -> Result<Answer, Refusal>
+    ensures done { (known : Option (List ℕ)) → IsCircuitText known circuit.now
+        → IfOk result (Judged (IsFormRestored choice known (B.to_come second.old)
+        (O.written out.old) (O.written out.new) (E.written err.old) (E.written err.new))) }
+    ensures refused { (known : Option (List ℕ)) → IsCircuitText known circuit.now
+        → IfErr result (IfInput (IsNotForEngines given_is.Circuit choice known)) }
+    ensures unwritten { IfErr result (IfInput (λ _. out.new ≡ out.old)) }
+    ensures untold { ErrUntold result (err.new ≡ err.old) }
+    ensures counted { (f : ℕ) → Counts result f f (B.failures second.old) (B.failures second.new)
+        (O.failures out.old) (O.failures out.new) (E.failures err.old) (E.failures err.new) }
+{
+    // the lists of a circuit are one
+    let _ = circuit.inputs();
+    let form = engine_form(alloc, circuit, choice)?;
+    restore_through_form(alloc, circuit, &form, choice, second, out, err)
+}
+
+/// The same over a circuit and its engine form.
+fn restore_through_form<B: Source, O: Sink, E: Sink>(
+    alloc: Global,
+    circuit: &Circuit,
+    form: &Circuit,
+    choice: Option<usize>,
+    second: &mut B,
+    out: &mut O,
+    err: &mut E,
+) -> Result<Answer, Refusal>
+    requires { IsEngineFormOf circuit.now choice form.now }
+    ensures done { (known : Option (List ℕ)) → IsCircuitText known circuit.now
+        → IfOk result (Judged (IsFormRestored choice known (B.to_come second.old)
+        (O.written out.old) (O.written out.new) (E.written err.old) (E.written err.new))) }
+    ensures no_input { IsOfNoInput result }
+    ensures untold { ErrUntold result (err.new ≡ err.old) }
+    ensures counted { (f : ℕ) → Counts result f f (B.failures second.old) (B.failures second.new)
+        (O.failures out.old) (O.failures out.new) (E.failures err.old) (E.failures err.new) }
+{
+    let told = restore_form(alloc, circuit, form, choice, second, out);
+    tell_restored(alloc, told, err)
+}

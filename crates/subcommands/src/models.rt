@@ -1,0 +1,175 @@
+//! The commands on models.
+
+ghost use Rattle.std.specs.Prelude.{◌≡◌, ◌++◌, ℕ, List, Option, IfOk, IfErr, OnOk};
+ghost use Rattle.std.specs.Io.KnownBytes.{Appends};
+ghost use Rattle.std.specs.String.{string_bytes};
+ghost use Rattle.btor2text.specs.Writing.{written};
+ghost use Rattle.blast.specs.Conversion.{Converts};
+ghost use Rattle.btor2text.specs.Spelling.{IsModelOf};
+ghost use Rattle.subcommands.specs.Done.{IsJudged, IsJudgedByName, Judged, ShowsModel, TellsCost, counts_line, cost_lines};
+ghost use Rattle.subcommands.specs.Refusals.{IsNoModel, IsNotJudged, IsNotLowered};
+ghost use Rattle.subcommands.specs.Statuses.{Counts, ErrUntold, IfInput, IsOfNoInput};
+
+use crate::answers::Answer;
+use crate::judgements::{write_judgement, write_judgement_by_name};
+use crate::refusals::{Device, Refusal};
+use crate::subjects::Subject;
+use crate::telling::write_result;
+use aigertext::Form;
+use base::{Sink, Source};
+use blast::{Watch, convert_watched, cost_and_bound};
+use btor2::Model;
+use btor2text::{read, write};
+use reached::laws::judged_claims_are_reached;
+use rises::judge_words_with_rises;
+use std::alloc::{AllocError, Global};
+use witness::judge_words;
+
+/// Reads the first file as a model.
+pub fn read_model<A: Source>(alloc: Global, first: &mut A) -> Result<Model, Refusal>
+    ensures read { IfOk result (IsModelOf (A.to_come first.old)) }
+    ensures refused { IfErr result (IfInput (IsNoModel (A.to_come first.old))) }
+    ensures counted { (s o e : ℕ)
+        → Counts result (A.failures first.old) (A.failures first.new) s s o o e e }
+{
+    match read(alloc, first) {
+        Ok(model) => Ok(model),
+        Err(fault) => Err(Refusal::from(fault)),
+    }
+}
+
+/// Lowers a model.
+pub fn lower_model<A: Source, O: Sink, W: Watch>(
+    alloc: Global,
+    form: Form,
+    first: &mut A,
+    out: &mut O,
+    watch: &mut W,
+) -> Result<Answer, Refusal>
+    ensures done { OnOk result (Converts (A.to_come first.old) form
+        (Appends (O.written out.old) (O.written out.new))) }
+    ensures answer { IfOk result (λ answer. answer ≡ Answer.Done) }
+    ensures refused { IfErr result (IfInput (IsNotLowered (A.to_come first.old))) }
+    ensures unwritten { IfErr result (IfInput (λ _. out.new ≡ out.old)) }
+    ensures counted { (s e : ℕ) → Counts result (A.failures first.old) (A.failures first.new) s s
+        (O.failures out.old) (O.failures out.new) e e }
+{
+    match convert_watched(alloc, first, out, form, watch) {
+        Ok(()) => Ok(Answer::Done),
+        Err(fault) => Err(Refusal::from(fault)),
+    }
+}
+
+/// Judges a witness over a model.
+pub fn check_model<B: Source, O: Sink>(
+    alloc: Global,
+    model: &Model,
+    second: &mut B,
+    out: &mut O,
+) -> Result<Answer, Refusal>
+    ensures done { (known : Option (List ℕ)) → IsModelOf known model.now
+        → IfOk result (Judged (IsJudged known (B.to_come second.old) (O.written out.old)
+        (O.written out.new))) }
+    ensures refused { (known : Option (List ℕ)) → IsModelOf known model.now
+        → IfErr result (IfInput (IsNotJudged known)) }
+    ensures unwritten { IfErr result (IfInput (λ _. out.new ≡ out.old)) }
+    ensures counted { (f e : ℕ) → Counts result f f (B.failures second.old) (B.failures second.new)
+        (O.failures out.old) (O.failures out.new) e e }
+{
+    judged_claims_are_reached();
+    match judge_words(alloc, model, second) {
+        Ok(judgement) => write_judgement(alloc, &judgement, out),
+        Err(fault) => Err(Refusal::from(fault)),
+    }
+}
+
+/// Judges a witness over a model, and says what the judgement is about, and of an acceptance in which frames the claims are
+/// reached first.
+pub fn check_model_by_name<B: Source, O: Sink, E: Sink>(
+    alloc: Global,
+    model: &Model,
+    second: &mut B,
+    out: &mut O,
+    err: &mut E,
+) -> Result<Answer, Refusal>
+    ensures done { (known : Option (List ℕ)) → IsModelOf known model.now
+        → IfOk result (Judged (IsJudgedByName known (B.to_come second.old) (O.written out.old)
+        (O.written out.new) (E.written err.old) (E.written err.new))) }
+    ensures refused { (known : Option (List ℕ)) → IsModelOf known model.now
+        → IfErr result (IfInput (IsNotJudged known)) }
+    ensures unwritten { IfErr result (IfInput (λ _. out.new ≡ out.old)) }
+    ensures untold { ErrUntold result (err.new ≡ err.old) }
+    ensures counted { (f : ℕ) → Counts result f f (B.failures second.old) (B.failures second.new)
+        (O.failures out.old) (O.failures out.new) (E.failures err.old) (E.failures err.new) }
+{
+    judged_claims_are_reached();
+    match judge_words_with_rises(alloc, model, second) {
+        Ok((judgement, firsts)) => write_judgement_by_name(
+            alloc,
+            Subject::Model(model),
+            &judgement,
+            &firsts,
+            out,
+            err,
+        ),
+        Err(fault) => Err(Refusal::from(fault)),
+    }
+}
+
+/// Writes a model in the writer's form and the line of its counts.
+pub fn show<O: Sink>(alloc: Global, model: &Model, out: &mut O) -> Result<Answer, Refusal>
+    ensures done { (known : Option (List ℕ)) → IsModelOf known model.now
+        → OnOk result (ShowsModel known (O.written out.old) (O.written out.new)) }
+    ensures answer { IfOk result (λ answer. answer ≡ Answer.Done) }
+    ensures no_input { IsOfNoInput result }
+    ensures counted { (f s e : ℕ) → Counts result f f s s (O.failures out.old)
+        (O.failures out.new) e e }
+{
+    // a model's items are well-formed
+    let _ = model.items();
+    let line = counts_line(alloc, model)?;
+    match write(model, out) {
+        Ok(()) => {}
+        Err(_) => return Err(Refusal::Failed(Device::Output)),
+    }
+    write_result(out, line.as_bytes())?;
+    Ok(Answer::Done)
+}
+
+/// The line that tells how many items, inputs, states, bad properties and constraints a model has.
+fn counts_line(alloc: Global, model: &Model) -> Result<String, AllocError>
+    ensures { IfOk result (λ line. string_bytes line ≡ counts_line model.now) }
+{
+    let items = model.items().len();
+    let inputs = model.inputs().len();
+    let states = model.states().len();
+    let bads = model.bads().len();
+    let constraints = model.constraints().len();
+    format!(in alloc;
+        "; {items} items, {inputs} inputs, {states} states, {bads} bad, {constraints} constraints\n"
+    )
+}
+
+/// Writes how many gates and variables the lowering of a model has at most.
+pub fn tell_cost<O: Sink>(alloc: Global, model: &Model, out: &mut O) -> Result<Answer, Refusal>
+    ensures done { (known : Option (List ℕ)) → IsModelOf known model.now
+        → OnOk result (TellsCost known (O.written out.old) (O.written out.new)) }
+    ensures answer { IfOk result (λ answer. answer ≡ Answer.Done) }
+    ensures no_input { IsOfNoInput result }
+    ensures counted { (f s e : ℕ) → Counts result f f s s (O.failures out.old)
+        (O.failures out.new) e e }
+{
+    // a model's items are well-formed
+    let _ = model.items();
+    let lines = cost_lines(alloc, model)?;
+    write_result(out, lines.as_bytes())?;
+    Ok(Answer::Done)
+}
+
+/// The lines that tell how many gates and variables the lowering of a model has at most.
+fn cost_lines(alloc: Global, model: &Model) -> Result<String, AllocError>
+    ensures { IfOk result (λ lines. string_bytes lines ≡ cost_lines model.now) }
+{
+    let (gates, variables) = cost_and_bound(model);
+    format!(in alloc; "gates {gates}\nvariables {variables}\n")
+}

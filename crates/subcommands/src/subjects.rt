@@ -1,0 +1,366 @@
+//! What judgements are about, by name.
+
+ghost use Rattle.std.specs.Prelude.{◌≡◌, ◌++◌, ℕ, Bool, false, OnOk, codes, decimal, option_copied, slice_get};
+ghost use Rattle.std.specs.Io.KnownBytes.{Appends};
+ghost use Rattle.base.specs.Device.{CountsFaults};
+ghost use Rattle.btor2.specs.declared.item.Body.{Body};
+ghost use Rattle.btor2.specs.Lists.{places};
+ghost use Rattle.subcommands.specs.Subjects.{bad_item_said, bad_name_said, bad_said, first_said, firsts_said, frame_said, item_line, lifted_said, line_said, name_said, numbered_item, said_by_name, says, says_item, says_name, subject_said, symbol_said, where_named};
+
+use aiger::{Circuit, Section};
+use base::{DeviceFault, Sink, write_all};
+use btor2::{Item, Model, Symbol};
+use itoa::Buffer;
+use rises::FirstRises;
+use witness::Judgement;
+
+/// What a judgement is about.
+#[derive(Clone, Copy)]
+pub enum Subject<'a> {
+    /// A model.
+    Model(&'a Model),
+    /// A circuit.
+    Circuit(&'a Circuit),
+    /// A model, by the circuit that lowers it.
+    Lowered(&'a Model, &'a Circuit),
+}
+
+/// Writes the number of a thing of a kind.
+fn tell_number<E: Sink>(kind: &[u8], number: u64, err: &mut E) -> Result<(), DeviceFault>
+    ensures written { OnOk result (Appends (E.written err.old) (E.written err.new)
+        (kind.now ++ (decimal number ++ codes " is "))) }
+    ensures counted { CountsFaults result (E.failures err.old) (E.failures err.new) }
+{
+    let mut buffer = Buffer::new();
+    write_all(err, kind)?;
+    write_all(err, buffer.format(number).as_bytes())?;
+    write_all(err, b" is ")
+}
+
+/// Writes a symbol, where there is one.
+fn tell_symbol<E: Sink>(symbol: &Option<Symbol>, err: &mut E) -> Result<(), DeviceFault>
+    ensures written { OnOk result (Appends (E.written err.old) (E.written err.new)
+        (symbol_said symbol.now)) }
+    ensures counted { CountsFaults result (E.failures err.old) (E.failures err.new) }
+{
+    match symbol {
+        Some(symbol) => {
+            write_all(err, symbol.bytes())?;
+            write_all(err, b", ")
+        }
+        None => Ok(()),
+    }
+}
+
+/// Writes what names a line of a model.
+fn tell_line<E: Sink>(item: &Item, err: &mut E) -> Result<(), DeviceFault>
+    ensures written { OnOk result (Appends (E.written err.old) (E.written err.new)
+        (line_said item.now ++ codes "\n")) }
+    ensures counted { CountsFaults result (E.failures err.old) (E.failures err.new) }
+{
+    let mut buffer = Buffer::new();
+    tell_symbol(&item.symbol, err)?;
+    write_all(err, b"line ")?;
+    write_all(err, buffer.format(item.id).as_bytes())?;
+    write_all(err, b"\n")
+}
+
+/// Says which line of a model the thing of a kind with a number is.
+fn tell_item<E: Sink>(kind: &[u8], number: u64, item: &Item, err: &mut E) -> Result<(), DeviceFault>
+    ensures written { OnOk result (Appends (E.written err.old) (E.written err.new)
+        (says kind.now number (line_said item.now))) }
+    ensures counted { CountsFaults result (E.failures err.old) (E.failures err.new) }
+{
+    tell_number(kind, number, err)?;
+    tell_line(item, err)
+}
+
+/// The place with a number among some.
+fn place_at(list: &[usize], number: u64) -> Option<usize>
+    ensures { result ≡ slice_get list.now number }
+{
+    list.get(number as usize).copied()
+}
+
+/// The item at a place.
+fn item_at(items: &[Item], place: usize) -> Option<&Item>
+    ensures { option_copied result ≡ slice_get items.now place }
+{
+    items.get(place)
+}
+
+/// Says which line of a model the thing with a number among some is, which stand at these places; nothing where there are not
+/// so many.
+fn tell_item_of<E: Sink>(
+    kind: &[u8],
+    number: u64,
+    model: &Model,
+    list: &[usize],
+    err: &mut E,
+) -> Result<(), DeviceFault>
+    ensures written { OnOk result ((test : Body → Bool) → list.now ≡ places test 0 model.now
+        → Appends (E.written err.old) (E.written err.new)
+        (says_item kind.now number (numbered_item test model.now number))) }
+    ensures counted { CountsFaults result (E.failures err.old) (E.failures err.new) }
+{
+    match place_at(list, number) {
+        Some(place) => match item_at(model.items(), place) {
+            Some(item) => tell_item(kind, number, item, err),
+            None => Ok(()),
+        },
+        None => Ok(()),
+    }
+}
+
+/// Says which name the thing of a kind with a number has in a circuit; nothing where it has none.
+fn tell_name<E: Sink>(
+    kind: &[u8],
+    number: u64,
+    name: Option<&[u8]>,
+    err: &mut E,
+) -> Result<(), DeviceFault>
+    ensures written { OnOk result (Appends (E.written err.old) (E.written err.new)
+        (says_name kind.now number (option_copied name.entry))) }
+    ensures counted { CountsFaults result (E.failures err.old) (E.failures err.new) }
+{
+    match name {
+        Some(name) => {
+            tell_number(kind, number, err)?;
+            write_all(err, name)?;
+            write_all(err, b"\n")
+        }
+        None => Ok(()),
+    }
+}
+
+/// Says which line of a model a bad property is.
+fn tell_bad_item<E: Sink>(model: &Model, number: u64, err: &mut E) -> Result<(), DeviceFault>
+    ensures written { OnOk result (Appends (E.written err.old) (E.written err.new)
+        (bad_item_said model.now number)) }
+    ensures counted { CountsFaults result (E.failures err.old) (E.failures err.new) }
+{
+    tell_item_of(b"b", number, model, model.bads(), err)
+}
+
+/// Says which name a bad property of a circuit has.
+fn tell_bad_name<E: Sink>(circuit: &Circuit, number: u64, err: &mut E) -> Result<(), DeviceFault>
+    ensures written { OnOk result (Appends (E.written err.old) (E.written err.new)
+        (bad_name_said circuit.now number)) }
+    ensures counted { CountsFaults result (E.failures err.old) (E.failures err.new) }
+{
+    let name = circuit.name(Section::Bad, number as usize);
+    tell_name(b"b", number, name, err)
+}
+
+/// Says which line of a model a judgement is about.
+fn tell_item_said<E: Sink>(
+    model: &Model,
+    judgement: &Judgement,
+    err: &mut E,
+) -> Result<(), DeviceFault>
+    ensures written { OnOk result (Appends (E.written err.old) (E.written err.new)
+        (item_line model.now judgement.now)) }
+    ensures counted { CountsFaults result (E.failures err.old) (E.failures err.new) }
+{
+    match judgement {
+        Judgement::NotReached { claim } => tell_bad_item(model, *claim, err),
+        Judgement::Violated { constraint, .. } => {
+            tell_item_of(b"constraint ", *constraint, model, model.constraints(), err)
+        }
+        Judgement::InitDiffers { index } => {
+            tell_item_of(b"state ", *index, model, model.states(), err)
+        }
+        _ => Ok(()),
+    }
+}
+
+/// Says which name in a circuit a judgement is about.
+fn tell_name_said<E: Sink>(
+    circuit: &Circuit,
+    judgement: &Judgement,
+    err: &mut E,
+) -> Result<(), DeviceFault>
+    ensures written { OnOk result (Appends (E.written err.old) (E.written err.new)
+        (name_said circuit.now judgement.now)) }
+    ensures counted { CountsFaults result (E.failures err.old) (E.failures err.new) }
+{
+    match judgement {
+        Judgement::NotReached { claim } => tell_bad_name(circuit, *claim, err),
+        Judgement::Violated { constraint, .. } => tell_name(
+            b"constraint ",
+            *constraint,
+            circuit.name(Section::Constraint, *constraint as usize),
+            err,
+        ),
+        Judgement::InitDiffers { index } => {
+            tell_name(
+                b"latch ",
+                *index,
+                circuit.name(Section::Latch, *index as usize),
+                err,
+            )
+        }
+        _ => Ok(()),
+    }
+}
+
+/// Says what a judgement over the circuit of a model is about.
+fn tell_lifted_said<E: Sink>(
+    model: &Model,
+    circuit: &Circuit,
+    judgement: &Judgement,
+    err: &mut E,
+) -> Result<(), DeviceFault>
+    ensures written { OnOk result (Appends (E.written err.old) (E.written err.new)
+        (lifted_said model.now circuit.now judgement.now)) }
+    ensures counted { CountsFaults result (E.failures err.old) (E.failures err.new) }
+{
+    match judgement {
+        Judgement::InitDiffers { .. } => tell_name_said(circuit, judgement, err),
+        _ => tell_item_said(model, judgement, err),
+    }
+}
+
+/// Says what a judgement is about.
+fn tell_said<E: Sink>(
+    subject: Subject<'_>,
+    judgement: &Judgement,
+    err: &mut E,
+) -> Result<(), DeviceFault>
+    ensures written { OnOk result (Appends (E.written err.old) (E.written err.new)
+        (subject_said subject.entry judgement.now)) }
+    ensures counted { CountsFaults result (E.failures err.old) (E.failures err.new) }
+{
+    match subject {
+        Subject::Model(model) => tell_item_said(model, judgement, err),
+        Subject::Circuit(circuit) => tell_name_said(circuit, judgement, err),
+        Subject::Lowered(model, circuit) => tell_lifted_said(model, circuit, judgement, err),
+    }
+}
+
+/// Says which bad property of a subject has a number.
+fn tell_bad_said<E: Sink>(subject: Subject<'_>, number: u64, err: &mut E) -> Result<(), DeviceFault>
+    ensures written { OnOk result (Appends (E.written err.old) (E.written err.new)
+        (bad_said subject.entry number)) }
+    ensures counted { CountsFaults result (E.failures err.old) (E.failures err.new) }
+{
+    match subject {
+        Subject::Model(model) | Subject::Lowered(model, _) => tell_bad_item(model, number, err),
+        Subject::Circuit(circuit) => tell_bad_name(circuit, number, err),
+    }
+}
+
+/// Writes in which frame something is reached.
+fn tell_frame<E: Sink>(frame: u64, err: &mut E) -> Result<(), DeviceFault>
+    ensures written { OnOk result (Appends (E.written err.old) (E.written err.new)
+        (frame_said frame ++ codes "\n")) }
+    ensures counted { CountsFaults result (E.failures err.old) (E.failures err.new) }
+{
+    let mut buffer = Buffer::new();
+    write_all(err, b"reached in frame ")?;
+    write_all(err, buffer.format(frame).as_bytes())?;
+    write_all(err, b"\n")
+}
+
+/// Says of the bad property with a number in which frame it is reached.
+fn tell_reached<E: Sink>(number: u64, frame: u64, err: &mut E) -> Result<(), DeviceFault>
+    ensures written { OnOk result (Appends (E.written err.old) (E.written err.new)
+        (says (codes "b") number (frame_said frame))) }
+    ensures counted { CountsFaults result (E.failures err.old) (E.failures err.new) }
+{
+    tell_number(b"b", number, err)?;
+    tell_frame(frame, err)
+}
+
+/// Says of a claim that is reached first in a frame that it is, and which bad property it is; nothing where there is no frame.
+fn tell_first<E: Sink>(
+    subject: Subject<'_>,
+    number: u64,
+    first: Option<u64>,
+    err: &mut E,
+) -> Result<(), DeviceFault>
+    ensures written { OnOk result (Appends (E.written err.old) (E.written err.new)
+        (first_said (bad_said subject.entry) number first)) }
+    ensures counted { CountsFaults result (E.failures err.old) (E.failures err.new) }
+{
+    match first {
+        Some(frame) => {
+            tell_reached(number, frame, err)?;
+            tell_bad_said(subject, number, err)
+        }
+        None => Ok(()),
+    }
+}
+
+/// Says in which frames claims are reached first, and which bad properties they are.
+fn tell_firsts<E: Sink>(
+    subject: Subject<'_>,
+    firsts: &FirstRises,
+    err: &mut E,
+) -> Result<(), DeviceFault>
+    ensures written { OnOk result (Appends (E.written err.old) (E.written err.new)
+        (firsts_said (bad_said subject.entry) 0 firsts.now)) }
+    ensures counted { CountsFaults result (E.failures err.old) (E.failures err.new) }
+{
+    for position in 0..firsts.len() {
+        tell_first(subject, position as u64, firsts.frame(position), err)?;
+    }
+    Ok(())
+}
+
+/// Says what a judgement is about, and of an acceptance in which frames the claims are reached first.
+pub fn tell_by_name<E: Sink>(
+    subject: Subject<'_>,
+    judgement: &Judgement,
+    firsts: &FirstRises,
+    err: &mut E,
+) -> Result<(), DeviceFault>
+    ensures written { OnOk result (Appends (E.written err.old) (E.written err.new)
+        (said_by_name (subject_said subject.entry) (bad_said subject.entry) firsts.now
+        judgement.now)) }
+    ensures counted { CountsFaults result (E.failures err.old) (E.failures err.new) }
+{
+    tell_said(subject, judgement, err)?;
+    match judgement {
+        Judgement::Accepted { .. } => tell_firsts(subject, firsts, err),
+        _ => Ok(()),
+    }
+}
+
+/// Says the same, where names are asked for.
+pub fn tell_where_named<E: Sink>(
+    named: bool,
+    subject: Subject<'_>,
+    judgement: &Judgement,
+    firsts: &FirstRises,
+    err: &mut E,
+) -> Result<(), DeviceFault>
+    ensures written { OnOk result (Appends (E.written err.old) (E.written err.new)
+        (where_named named (said_by_name (subject_said subject.entry)
+        (bad_said subject.entry) firsts.now judgement.now))) }
+    ensures quiet { named ≡ false → err.new ≡ err.old }
+    ensures counted { CountsFaults result (E.failures err.old) (E.failures err.new) }
+{
+    if !named {
+        return Ok(());
+    }
+    tell_by_name(subject, judgement, firsts, err)
+}
+
+/// Says which bad property of a subject has a number, where names are asked for.
+pub fn tell_bad<E: Sink>(
+    named: bool,
+    subject: Subject<'_>,
+    number: usize,
+    err: &mut E,
+) -> Result<(), DeviceFault>
+    ensures written { OnOk result (Appends (E.written err.old) (E.written err.new)
+        (where_named named (bad_said subject.entry number))) }
+    ensures quiet { named ≡ false → err.new ≡ err.old }
+    ensures counted { CountsFaults result (E.failures err.old) (E.failures err.new) }
+{
+    if !named {
+        return Ok(());
+    }
+    tell_bad_said(subject, number as u64, err)
+}

@@ -1,0 +1,33 @@
+//! The command that writes the strict text of a witness.
+
+ghost use Rattle.std.specs.Prelude.{◌≡◌, ℕ, IfOk, IfSome, OnOk};
+ghost use Rattle.subcommands.specs.Done.{Tidies};
+ghost use Rattle.subcommands.specs.Statuses.{Counts, IsOfNoInput};
+
+use crate::answers::Answer;
+use crate::refusals::{Device, Refusal};
+use base::{Sink, Source};
+use tidy::{TidyFault, tidy};
+
+/// Writes the strict text of the witness with this number, from 1, in the first file.
+///
+/// Its buffers stand in a frame of its own: each command enters that of its caller.
+#[inline(never)]
+pub fn tidy_witness<A: Source, O: Sink>(
+    pick: u64,
+    first: &mut A,
+    out: &mut O,
+) -> Result<Answer, Refusal>
+    ensures done { OnOk result (Tidies pick (A.to_come first.old) (O.written out.old)
+        (O.written out.new)) }
+    ensures answer { IfOk result (λ answer. answer ≡ Answer.Done) }
+    ensures no_input { IsOfNoInput result }
+    ensures counted { (s e : ℕ) → Counts result (A.failures first.old) (A.failures first.new) s s
+        (O.failures out.old) (O.failures out.new) e e }
+{
+    match tidy(pick, first, out) {
+        Ok(()) => Ok(Answer::Done),
+        Err(TidyFault::Read) => Err(Refusal::Failed(Device::First)),
+        Err(TidyFault::Write) => Err(Refusal::Failed(Device::Output)),
+    }
+}
