@@ -19,12 +19,12 @@ use aiger::Circuit;
 use base::{Sink, VecSink};
 use blast::lower;
 use btor2::Model;
-use drup::{Formula, write_formula};
-use engine_form::EngineFault;
 use certificates::{
     CertificateFault, ClaimFault, InvariantFault, InvariantWhy, ObligationFault, judge_certificate,
     owed_formula,
 };
+use drup::{Formula, write_formula};
+use engine_form::EngineFault;
 use std::alloc::Global;
 
 /// Why a call stops where an invariant's text is not read.

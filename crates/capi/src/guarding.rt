@@ -16,11 +16,11 @@ use aigerlists::Numbering;
 use base::{Sink, VecSink};
 use blast::lower;
 use btor2::Model;
-use witness_circuits::{TestFault, WitnessFault, owed_formula, owed_formula_over_form};
+use certificates::judge_proof;
 use drup::{Formula, Judgement};
 use engine_form::EngineFault;
-use certificates::judge_proof;
 use std::alloc::Global;
+use witness_circuits::{TestFault, WitnessFault, owed_formula, owed_formula_over_form};
 
 /// The circuit that a text gives, and the numbering of its file.
 #[derive(Drop)]

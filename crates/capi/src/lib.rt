@@ -8,12 +8,12 @@ mod certifying;
 mod circuit_certificates;
 mod engine_lifting;
 mod engines;
+mod guarding;
 mod judging;
 mod lifting;
 mod lowering;
 mod names;
 mod reading;
 mod restoring;
-mod guarding;
 
 pub use answers::{Refusal, Verdict};

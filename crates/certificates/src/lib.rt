@@ -4,12 +4,12 @@
 #![tactic(auto)]
 
 mod certificate_fault;
-mod judging;
 mod claim_fault;
 mod claims;
 mod cubes;
 mod expected;
 mod fault;
+mod judging;
 mod kept;
 pub mod laws;
 mod names;
@@ -20,10 +20,10 @@ mod why;
 mod words;
 
 pub use certificate_fault::CertificateFault;
-pub use judging::{judge_certificate, judge_proof};
 pub use claim_fault::ClaimFault;
 pub use claims::owed_formula;
 pub use fault::ObligationFault;
+pub use judging::{judge_certificate, judge_proof};
 pub use kept::Invariant;
 pub use obligations::obligation;
 pub use reader::read_invariant;

@@ -3,8 +3,8 @@ use crate::circuits::{Call, circuit_of, is_spelled};
 use aiger::{Circuit, Reset, Section};
 use aigerlists::Numbering;
 use aigertext::Form;
-use witness_circuits::{TestFault, test_circuit};
 use std::alloc::Global;
+use witness_circuits::{TestFault, test_circuit};
 
 /// A circuit, by its inputs, latches and calls.
 struct Side {

@@ -12,6 +12,8 @@ mod engine_forms;
 #[cfg(test)]
 mod gate_makers;
 #[cfg(test)]
+mod guarding_circuits;
+#[cfg(test)]
 mod kept_rows;
 #[cfg(test)]
 mod models;
@@ -30,5 +32,3 @@ mod sizes;
 mod sources_and_sinks;
 #[cfg(test)]
 mod tidied_witnesses;
-#[cfg(test)]
-mod guarding_circuits;

@@ -4,11 +4,11 @@ use aigerlists::LooseFault;
 use base::{DeviceFault, ReadAllFault};
 use btor2::{PushFault, SymbolFault};
 use btor2text::{ReadFault, Why};
-use witness_circuits::TestFault;
 use engine_form::EngineFault;
 use gates::GateFault;
 use std::alloc::Global;
 use std::fmt::Display;
+use witness_circuits::TestFault;
 
 /// Faults of devices, and what is printed of them.
 const OF_DEVICES: [(DeviceFault, &str); 1] = [(DeviceFault::Failed, "device")];

@@ -17,11 +17,11 @@ use crate::restoring::claim_of;
 use aiger::Circuit;
 use aigerlists::Numbering;
 use base::Source;
-use witness_circuits::TestFault;
-use drup::{Formula, Judgement};
 use certificates::judge_proof;
+use drup::{Formula, Judgement};
 use invocation::Certificate;
 use std::alloc::Global;
+use witness_circuits::TestFault;
 
 /// The bad property of a circuit that a witness circuit is to guard: the chosen one, or the only one.
 fn guarded_claim(circuit: &Circuit, choice: Option<usize>) -> Result<usize, Fault>

@@ -4,8 +4,8 @@ ghost use Rattle.std.specs.Prelude.{◌≡◌, None};
 
 use base::{DeviceFault, Reason, Sink, Source};
 use blast::Watch;
-use itoa::Buffer;
 use invocation::{ModelTask, Task};
+use itoa::Buffer;
 use std::io::{self, Write};
 use std::time::{Clock, Duration};
 

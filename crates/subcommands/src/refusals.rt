@@ -10,14 +10,14 @@ ghost use Rattle.subcommands.specs.Conversions.{of_reading, of_circuit_reading, 
 use aiger::CircuitFault;
 use base::ReadAllFault;
 use blast::{ConvertFault, LowerFault};
-use witness_circuits::{TestFault, WitnessFault};
-use engine_form::EngineFault;
 use certificates::{CertificateFault, ClaimFault, InvariantFault, InvariantWhy, ObligationFault};
+use engine_form::EngineFault;
 use invocation::{REFUSED, WORDS_REFUSED};
 use std::alloc::{AllocError, Global};
-use vectors::LinesFault;
 use vcd::WaveFault;
+use vectors::LinesFault;
 use witness::JudgeFault;
+use witness_circuits::{TestFault, WitnessFault};
 
 /// What is wrong with a file.
 #[derive(Clone, Copy)]

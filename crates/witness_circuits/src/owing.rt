@@ -11,9 +11,9 @@ use aiger::Circuit;
 use aigerlists::Numbering;
 use aigertext::read;
 use base::Source;
+use certificates::{Invariant, ObligationFault, obligation};
 use drup::Formula;
 use engine_form::engine_form;
-use certificates::{Invariant, ObligationFault, obligation};
 use std::alloc::Global;
 
 /// The test of the witness circuit that a text spells.
