@@ -14,7 +14,7 @@ from typing import Dict, Iterator, List, NamedTuple, Tuple
 HERE = pathlib.Path(__file__).resolve().parent
 SOURCE = HERE.parent / "docs" / "REFUSALS.md"
 TARGET = HERE / "hwtool" / "_remedies.py"
-HEAD = "| Number and name | When | What to do |"
+HEAD = "| Refusal | When | Remedy |"
 
 
 class Row(NamedTuple):
@@ -46,7 +46,7 @@ def rows(text: str) -> Iterator[Row]:
 def resolved(row: Row, table: List[Row]) -> str:
     """The remedy of a row in its own words. One that is that of another refusal is looked for in the same part first, there in
     the case that comes of the same, and then behind what is met most."""
-    named = re.match(r"as (\d+)(?: below)?\b", row.remedy)
+    named = re.match(r"as (\d+)\b", row.remedy)
     if not named:
         return row.remedy
     meant = [it for it in table if it.number == int(named[1])]

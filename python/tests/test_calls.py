@@ -75,7 +75,7 @@ class Witnesses(unittest.TestCase):
     def test_malformed(self):
         verdict = hwtool.check_btor(TOGGLER, b"sat\nb0\n#0\n0 0\n0 1\n@0\n.\n")
         self.judged(verdict, "malformed line 5: 115 IndexTwice", kind=Kind.MALFORMED, line=5, why=115, why_name="IndexTwice")
-        self.assertEqual(verdict.remedy, "leave one out where both have the same value; else see which is meant")
+        self.assertEqual(verdict.remedy, "drop one; if they differ, see which is meant")
         # a line without its end, which is met most
         verdict = hwtool.check_aig(TWICE, TWICE_WITNESS[:-1])
         self.judged(verdict, "malformed line 6: 118 Truncated", kind=Kind.MALFORMED, line=6, why=118, why_name="Truncated")
@@ -262,13 +262,13 @@ class Refusals(unittest.TestCase):
             with self.subTest(call.__name__):
                 self.refused(
                     call, b"1 sort bitvec 1\n2 frobnicate 1\n", *rest, line="model: line 2: 23 UnknownOperator", number=23,
-                    name="UnknownOperator", kind="model", unit="line", place=2, remedy="see what wrote the line: FORMATS has all forms",
+                    name="UnknownOperator", kind="model", unit="line", place=2, remedy="use a form that FORMATS lists",
                 )  # fmt: skip
 
     def test_item_of_a_line(self):
         self.refused(
             hwtool.lower, b"1 sort bitvec 65\n", line="model: line 1: 5 WidthOutOfRange", number=5, name="WidthOutOfRange",
-            kind="model", unit="line", place=1, remedy="the sort of a word of more than 64 bits, or of none",
+            kind="model", unit="line", place=1, remedy="a word has more than 64 bits, or none",
         )  # fmt: skip
 
     def test_text_of_circuit(self):

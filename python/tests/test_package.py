@@ -61,11 +61,11 @@ class Remedies(unittest.TestCase):
             (
                 (
                     "Texts of models", "UnknownOperator", "the form is no word of the format",
-                    "see what wrote the line: FORMATS has all forms; in the place of `udivo` put `zero`, since an unsigned division never overflows",
+                    "use a form that FORMATS lists; for `udivo` put `zero`: unsigned division never overflows",
                 ),
             ),
         )
-        self.assertEqual(hwtool.explain(22)[0].remedy, "in Yosys, `memory_map` before `write_btor` makes registers of them")
+        self.assertEqual(hwtool.explain(22)[0].remedy, "in Yosys, `memory_map` before `write_btor`")
         self.assertEqual(hwtool.explain(7000), ())
 
 
