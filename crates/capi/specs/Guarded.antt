@@ -1,5 +1,5 @@
 -- What the exported calls on witness circuits answer, said of the bytes that they are given.
-use Rattle.std.specs.Prelude.{◌≡◌, ◌⊎◌, ℕ, Bool, true, false, List, Option, None, Some}
+use Rattle.std.specs.Prelude.{◌≡◌, ◌⊎◌, ℕ, ◌<◌, ◌≤◌, Bool, true, false, List, length, Option, None, Some}
 use Rattle.btor2.specs.declared.item.Item.{Item}
 use Rattle.btor2.specs.Reachability.{CanRise}
 use Rattle.btor2text.specs.Spelling.{StandsFor}
@@ -106,9 +106,14 @@ witness_stop (witness.Test test.NoMemory) = stop.NoMemory
 witness_stop (witness.Test test.NoSuchBad) = stop.Model (record { number = test_number test.NoSuchBad; place = 0 })
 witness_stop (witness.Test e) = stop.Second (record { number = test_number e; place = 0 })
 
+-- the circuit has no such bad property, which is told first; or a text owes none as a witness circuit of it, and this is why
+pub record OwesNoneOver (n : Option (List ℕ)) (c : Circuit) (k : ℕ) (text : List ℕ) (e : WitnessFault) : Type 0 where
+  pub lacking : length c.bads ≤ k → e ≡ witness.Test test.NoSuchBad
+  pub there : k < length c.bads → HasNoTest n c k (Some text) e
+
 -- a text owes none as a witness circuit of a circuit, or of its engine form, and this is why
 abbrev pub OwesNoneAsWitness : Bool → Option (List ℕ) → Circuit → ℕ → List ℕ → WitnessFault → Type 0
-OwesNoneAsWitness false n c k witness e = HasNoTest n c k (Some witness) e
+OwesNoneAsWitness false n c k witness e = OwesNoneOver n c k witness e
 OwesNoneAsWitness true n c k witness e = HasNoTestOverForm c k (Some witness) e
 
 -- the first text gives a circuit, and this is why a witness circuit owes no formula for a bad property of it

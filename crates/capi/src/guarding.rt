@@ -116,7 +116,8 @@ fn witness_stop(fault: WitnessFault) -> Stop
     }
 }
 
-/// The formula that a witness circuit of a circuit, or of its engine form, owes for a bad property.
+/// The formula that a witness circuit of a circuit, or of its engine form, owes for a bad property. Whether the circuit has
+/// that is looked at first.
 fn owed_over(
     alloc: Global,
     over_form: bool,
@@ -132,8 +133,10 @@ fn owed_over(
     let mut source = witness;
     if over_form {
         owed_formula_over_form(alloc, &given.circuit, bad, &mut source)
-    } else {
+    } else if bad < given.circuit.bads().len() {
         owed_formula(alloc, &given.circuit, &given.numbering, bad, &mut source)
+    } else {
+        Err(WitnessFault::Test(TestFault::NoSuchBad))
     }
 }
 
