@@ -12,7 +12,7 @@ use Rattle.vcd.specs.declared.scope.Shown.{Shown}
 use Rattle.vcd.specs.declared.signals.Signal.{Signal}
 use Rattle.vcd.specs.Names.{code}
 use Rattle.vcd.specs.Signals.{shown_node, signals, signal_width, signal_word}
-use Rattle.vcd.specs.Dumps.{declaration_lines, moment, value, value_line, has_changed, frame_changes, frames_lines, end_lines, begun_text, vcd_text}
+use Rattle.vcd.specs.Dumps.{declaration_lines, moment, value, value_line, has_changed, frame_changes, frames_lines, end_lines, frames_text, vcd_text}
 use Rattle.vcd.proofs.SignalLemmas.{told_at}
 use Rattle.vcd.specs.Stands.{kept_values, with_word, change, changes, told_word, node_place}
 
@@ -31,17 +31,16 @@ frames_append items shown k before (f ∷ fs) gs =
     ap (λ (l : List (List ℕ)). frame_changes items shown k before f ++ l) (frames_append items shown (suc k) (Some f) fs gs ∙ ap (λ (n : ℕ). frames_lines items shown (suc k) (Some f) fs ++ frames_lines items shown n (last_or (Some f) fs) gs) more)
     ∙ sym (append_assoc (frame_changes items shown k before f) (frames_lines items shown (suc k) (Some f) fs) (frames_lines items shown (k + suc (length fs)) (last_or (Some f) fs) gs))
 
--- what a longer trace adds to the dump of its front
+-- what a longer trace adds to its front
 abbrev pub behind_text : Shown → List Item → List Frame → List Frame → List ℕ
 behind_text s items fs gs = text_of_lines (frames_lines items (signals s items) (length fs) (last_or None fs) gs)
 
-pub begun_append : (s : Shown) (title : List ℕ) (items : List Item) (fs gs : List Frame) → begun_text s title items (fs ++ gs) ≡ begun_text s title items fs ++ behind_text s items fs gs
-begun_append s title items fs gs =
+pub frames_more : (s : Shown) (items : List Item) (fs gs : List Frame) → frames_text s items (fs ++ gs) ≡ frames_text s items fs ++ behind_text s items fs gs
+frames_more s items fs gs =
     let front : List (List ℕ) = frames_lines items (signals s items) 0 None fs in
     let rest : List (List ℕ) = frames_lines items (signals s items) (length fs) (last_or None fs) gs in
-    ap (λ (l : List (List ℕ)). text_of_lines (declaration_lines s title items ++ l)) (frames_append items (signals s items) 0 None fs gs ∙ ap (λ (n : ℕ). front ++ frames_lines items (signals s items) n (last_or None fs) gs) (omega arith))
-    ∙ (ap text_of_lines (sym (append_assoc (declaration_lines s title items) front rest))
-    ∙ flat_map-append (λ line. line ++ 10 ∷ []) (declaration_lines s title items ++ front) rest)
+    ap text_of_lines (frames_append items (signals s items) 0 None fs gs ∙ ap (λ (n : ℕ). front ++ frames_lines items (signals s items) n (last_or None fs) gs) (omega arith))
+    ∙ flat_map-append (λ line. line ++ 10 ∷ []) front rest
 
 -- ---- the words of a frame
 
@@ -163,7 +162,7 @@ ends_same (f ∷ fs) (g ∷ gs) e = ap (λ (n : ℕ). moment n ∷ []) e
 pub dumps_agree : (s : Shown) (title : List ℕ) (items : List Item) (fs gs : List Frame) → AgreeAll (signals s items) fs gs → vcd_text s title items fs ≡ vcd_text s title items gs
 unfolding vcd_text
 dumps_agree s title items fs gs agree =
-    ap₂ (λ (l m : List (List ℕ)). text_of_lines (declaration_lines s title items ++ l) ++ text_of_lines m) (frames_same items (signals s items) 0 None None fs gs tt agree) (ends_same fs gs (as_many (signals s items) fs gs agree))
+    ap₂ (λ (l m : List (List ℕ)). text_of_lines (declaration_lines s title items) ++ (text_of_lines l ++ text_of_lines m)) (frames_same items (signals s items) 0 None None fs gs tt agree) (ends_same fs gs (as_many (signals s items) fs gs agree))
 
 -- the same frames agree at signals
 frame_agrees : (items xs : List Item) (f g : Frame) → SameFrame items f g → All (IsThere items) xs → Agree xs f g

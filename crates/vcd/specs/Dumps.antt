@@ -65,9 +65,10 @@ end_lines (f ∷ fs) = moment (length (f ∷ fs)) ∷ []
 
 -- ---- a whole dump
 
--- the dump of these frames, and what stands of it before the moment behind the last frame
-abbrev pub begun_text : Shown → List ℕ → List Item → List Frame → List ℕ
-begun_text s title items fs = text_of_lines (declaration_lines s title items ++ frames_lines items (signals s items) 0 None fs)
+-- what stands of these frames before that
+abbrev pub frames_text : Shown → List Item → List Frame → List ℕ
+frames_text s items fs = text_of_lines (frames_lines items (signals s items) 0 None fs)
 
+-- the dump of these frames
 unfoldable pub vcd_text : Shown → List ℕ → List Item → List Frame → List ℕ
-vcd_text s title items fs = begun_text s title items fs ++ text_of_lines (end_lines fs)
+vcd_text s title items fs = text_of_lines (declaration_lines s title items) ++ (frames_text s items fs ++ text_of_lines (end_lines fs))

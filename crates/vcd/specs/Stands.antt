@@ -1,26 +1,34 @@
--- What a waver holds, and which texts it stands for; pieces of bytes that are put together.
-use Rattle.std.specs.Prelude.{◌≡◌, ℕ, ◌≤◌, Bool, true, not, ◌&&◌, ◌||◌, ◌==◌, List, [], ◌∷◌, ◌++◌, Option, Some, None, Result, MatchResult, IfSome, filter, flat_map, length, map, take, unwrap_or, if◌then◌else◌}
-use Rattle.std.specs.Io.KnownBytes.{Appends}
+-- What a waver holds, and which texts it stands for.
+use Rattle.std.specs.Prelude.{◌≡◌, ℕ, ◌≤◌, Bool, true, not, ◌&&◌, ◌||◌, ◌==◌, List, [], ◌∷◌, ◌++◌, Option, Some, None, Result, Ok, Err, filter, flat_map, length, map, take, unwrap_or, if◌then◌else◌}
+use Rattle.std.specs.Io.KnownBytes.{Consumes}
 use Rattle.std.specs.List.{last_or, list_any}
 use Rattle.std.specs.Str.{bytes_eq}
-use Rattle.std.specs.Borrow.{Bor}
-use Rattle.base.specs.Device.{Sent, AppendsBeginning}
+use Rattle.base.specs.declared.device.DeviceFault.{DeviceFault}
+use Rattle.base.specs.declared.pen.Pen.{Pen}
+use Rattle.base.specs.Device.{HasRisen}
+use Rattle.base.specs.Writing.{WritesText}
 use Rattle.btor2.specs.declared.item.Item.{Item}
 use Rattle.btor2.specs.Items.{position_of}
 use Rattle.btor2.specs.Check.{IsWellFormed}
 use Rattle.btor2.specs.Trace.{Frame}
 use Rattle.witness.specs.WordStands.{WordJudge, StandsForWitness}
 use Rattle.witness.specs.ClosedWords.{IsClosedTrace, said_in, is_behind_frame, word_at}
+use Rattle.vcd.specs.declared.fault.WaveFault.{WaveFault}
+use Rattle.vcd.specs.declared.fault.WaveFault.TheVariants as fault
 use Rattle.vcd.specs.declared.scope.Scope.{Scope}
 use Rattle.vcd.specs.declared.scope.Shown.{Shown}
 use Rattle.vcd.specs.declared.signals.Signal.{Signal}
 use Rattle.vcd.specs.Names.{code, stem_by}
 use Rattle.vcd.specs.Signals.{is_in, scopes, shown_node, signals, signals_before, is_told_apart, signal_width, signal_word}
-use Rattle.vcd.specs.Dumps.{value, begun_text, vcd_text}
+use Rattle.vcd.specs.Dumps.{value, frames_text}
 
--- the bytes of some pieces, one behind the other
-abbrev pub concat_slices : List (Bor (List ℕ)) → List ℕ
-concat_slices parts = flat_map (λ p. p.now) parts
+-- ---- what is put
+
+-- a text was put, of which this is said
+pub record WritesSome {K : Type 0} (written : K → Option (List ℕ)) (failures : K → ℕ) (s t : K) (p q : Pen) (says : List ℕ → Type 0) : Type 0 where
+  pub put : List ℕ
+  pub writes : WritesText written failures s t p q put
+  pub is : says put
 
 -- ---- names
 
@@ -98,27 +106,28 @@ pub record Waver : Type 0 where
   pub judge : WordJudge
   pub signals : List Signal
 
--- it stands for this text over a model, of which it shows these nodes
-pub record Waves (s : Shown) (items : List Item) (w : Waver) (text : List ℕ) : Type 0 where
+-- it stands for this text over a model, of which it shows these nodes, and this was put of the frames
+pub record Waves (s : Shown) (items : List Item) (w : Waver) (text put : List ℕ) : Type 0 where
   pub well_formed : IsWellFormed items
   pub judge : StandsForWitness items w.judge text
   pub signals : (fs : List Frame) → IsClosedTrace items text fs → w.signals ≡ map (kept_values items (last_or None fs)) (signals s items)
+  pub frames : (fs : List Frame) → IsClosedTrace items text fs → put ≡ frames_text s items fs
 
--- of what a sink was given since it had the first bytes: what stands of the dump of a text's frames was put, but for a rest that is kept
-abbrev pub SentDump : Shown → List ℕ → List Item → List ℕ → Option (List ℕ) → Option (List ℕ) → List ℕ → Type 0
-SentDump s title items text start now left = (fs : List Frame) → IsClosedTrace items text fs → Sent start now (begun_text s title items fs) left
+-- a call that takes bytes behind the text puts the changes of the frames that they close
+pub record Takes {K : Type 0} (written : K → Option (List ℕ)) (failures : K → ℕ) (s t : K) (p q : Pen) (before after : Waver) (bytes : List ℕ) : Type 0 where
+  pub put : List ℕ
+  pub writes : WritesText written failures s t p q put
+  pub waves : (shown : Shown) (items : List Item) (text so_far : List ℕ) → Waves shown items before text so_far → Waves shown items after (text ++ bytes) (so_far ++ put)
 
--- A call that takes bytes behind the text puts the changes of the frames that they close; at a fault a beginning of what then stands of the dump was written.
-pub record Takes {T E : Type 0} (r : Result T E) (old new : Option (List ℕ)) (kept_values left : List ℕ) (before after : Waver) (bytes : List ℕ) : Type 0 where
-  pub takes : (s : Shown) (title : List ℕ) (items : List Item) (text : List ℕ) (start : Option (List ℕ)) → Waves s items before text → SentDump s title items text start old kept_values
-      → MatchResult r
-      (λ x. Waves s items after (text ++ bytes) × SentDump s title items (text ++ bytes) start new left)
-      (λ e. (fs : List Frame) → IsClosedTrace items (text ++ bytes) fs → AppendsBeginning start new (begun_text s title items fs))
+-- a front of what a source had to come was taken
+pub record TakesFront {K : Type 0} (written : K → Option (List ℕ)) (failures : K → ℕ) (s t : K) (p q : Pen) (before after : Waver) (source source' : Option (List ℕ)) : Type 0 where
+  pub front : List ℕ
+  pub consumes : Consumes source source' front
+  pub takes : Takes written failures s t p q before after front
 
--- what a waver that stands for nothing does with a whole source, whose bytes are known: it stands for the text, and the dump of its frames was written; at a fault a beginning of that was
-abbrev pub WavesAll : {T E : Type 0} → Result T E → Shown → List ℕ → List Item → Option (List ℕ) → Option (List ℕ) → Option (List ℕ) → Waver → Waver → Type 0
-WavesAll r s title items source old new before after =
-    Waves s items before []
-    → MatchResult r
-    (λ x. IfSome source (Waves s items after) × IfSome source (λ text. (fs : List Frame) → IsClosedTrace items text fs → Appends old new (vcd_text s title items fs)))
-    (λ e. IfSome source (λ text. (fs : List Frame) → IsClosedTrace items text fs → AppendsBeginning old new (vcd_text s title items fs)))
+-- why reading stopped: the sink has failed; or it has not, and the source has, or is at its end
+abbrev pub Stops : Result Unit WaveFault → Result Unit DeviceFault → ℕ → ℕ → Type 0
+Stops (Err fault.Write) (Err e) old new = new ≡ old
+Stops (Err fault.Read) (Ok x) old new = HasRisen old new
+Stops (Ok y) (Ok x) old new = new ≡ old
+Stops _ _ _ _ = ⊥

@@ -1,23 +1,17 @@
 //! The words of a frame that changed.
-ghost use Rattle.std.specs.Prelude.{◌≡◌, ◌≤◌, ◌<◌, ◌==◌, ◌∷◌, ◌++◌, [], List, All, OnOk, length, map, take};
-ghost use Rattle.base.specs.Device.{CountsFaults};
-ghost use Rattle.base.specs.Pieces.{Puts};
+ghost use Rattle.std.specs.Prelude.{◌≡◌, ◌+◌, ◌≤◌, ◌<◌, ◌==◌, ◌∷◌, ◌++◌, [], List, All, length, map};
 ghost use Rattle.base.specs.Word.{bit};
+ghost use Rattle.base.specs.Writing.{WritesText};
 ghost use Rattle.btor2.specs.declared.item.Item.{Item};
 ghost use Rattle.btor2.specs.Trace.{Frame};
 ghost use Rattle.witness.specs.Texts.{digit, binary};
 ghost use Rattle.vcd.specs.Names.{code};
 ghost use Rattle.vcd.specs.Dumps.{moment, value};
-ghost use Rattle.vcd.specs.Stands.{Shows, told_word, change, changes, with_word};
+ghost use Rattle.vcd.specs.Stands.{Shows, WritesSome, told_word, change, changes, with_word};
 
-use crate::names::put_parts;
 use crate::signals::Signal;
-use base::{DeviceFault, Outbox, Sink};
-use itoa::Buffer;
+use base::{Line, Pen, Sink};
 use witness::WordJudge;
-
-/// The most bits of a word.
-const MOST_BITS: usize = 64;
 
 /// The digit of a bit.
 fn digit(bit: bool) -> u8
@@ -27,87 +21,65 @@ fn digit(bit: bool) -> u8
 }
 
 /// Whether a bit of a word is 1, the lowest being bit 0.
-fn bit_at(word: u64, place: usize) -> bool
+fn bit_at(word: u64, place: u64) -> bool
     requires { place < 64 }
     ensures { result ≡ (bit word place == 1) }
 {
     (word >> place) % 2 == 1
 }
 
-/// Writes the digits of a word to the front of a list, the highest first.
-fn write_digits(width: usize, word: u64, digits: &mut [u8])
+/// Puts the digits of a word in front of a line, the highest first.
+fn add_digits(line: &mut Line, width: u64, word: u64)
     requires allowed { width ≤ 64 }
-    requires room { width ≤ length digits.old }
-    ensures digits { take width digits.new ≡ binary width word }
-    ensures as_many { length digits.new ≡ length digits.old }
+    requires room { length line.old + 64 ≤ 512 }
+    ensures digits { line.new ≡ binary width word ++ line.old }
+    ensures many { length line.new ≡ width + length line.old }
 {
     for place in 0..width {
-        digits[place] = digit(bit_at(word, width - place - 1));
+        line.byte(digit(bit_at(word, place)));
     }
+}
+
+/// Makes it the line of a word.
+fn make_value(line: &mut Line, width: u64, id: u64, word: u64)
+    requires { width ≤ 64 }
+    ensures { line.new ≡ value width word ++ (code id ++ 10 ∷ []) }
+{
+    line.clear();
+    line.byte(b'\n');
+    line.number(id);
+    line.byte(b'n');
+    if width == 1 {
+        return add_digits(line, width, word);
+    }
+    line.byte(b' ');
+    add_digits(line, width, word);
+    line.byte(b'b');
 }
 
 /// Puts the moment of a frame.
-pub(crate) fn put_moment<K: Sink>(
-    outbox: &mut Outbox,
-    sink: &mut K,
-    number: u64,
-) -> Result<(), DeviceFault>
-    ensures puts { Puts result (K.written sink.old) (K.written sink.new) outbox.old outbox.new
+pub(crate) fn put_moment<K: Sink>(pen: &mut Pen, sink: &mut K, number: u64)
+    ensures { WritesText K.written K.failures sink.old sink.new pen.old pen.new
         (moment number ++ 10 ∷ []) }
-    ensures failures { CountsFaults result (K.failures sink.old) (K.failures sink.new) }
 {
-    let mut buffer = Buffer::new();
-    put_parts(
-        outbox,
-        sink,
-        &[b"#", buffer.format(number).as_bytes(), b"\n"],
-    )
-}
-
-/// Puts the line of a word.
-fn put_value<K: Sink>(
-    outbox: &mut Outbox,
-    sink: &mut K,
-    signal: &Signal,
-    word: u64,
-) -> Result<(), DeviceFault>
-    requires { signal.now.width ≤ 64 }
-    ensures puts { Puts result (K.written sink.old) (K.written sink.new) outbox.old outbox.new
-        (value signal.now.width word ++ (code signal.now.id ++ 10 ∷ [])) }
-    ensures failures { CountsFaults result (K.failures sink.old) (K.failures sink.new) }
-{
-    let width = signal.width as usize;
-    let mut digits = [0; MOST_BITS];
-    write_digits(width, word, &mut digits);
-    let (digits, _) = digits.split_at(width);
-    let mut buffer = Buffer::new();
-    let id = buffer.format(signal.id).as_bytes();
-    if width == 1 {
-        return put_parts(outbox, sink, &[digits, b"n", id, b"\n"]);
-    }
-    put_parts(outbox, sink, &[b"b", digits, b" ", b"n", id, b"\n"])
+    pen.put(sink, b"#");
+    pen.put_number(sink, number);
+    pen.put(sink, b"\n");
 }
 
 /// Keeps the word of a signal, and puts its line where it is the first or has changed.
-fn put_change<K: Sink>(
-    outbox: &mut Outbox,
-    sink: &mut K,
-    signal: &mut Signal,
-    word: u64,
-    first: bool,
-) -> Result<(), DeviceFault>
+fn put_change<K: Sink>(pen: &mut Pen, sink: &mut K, signal: &mut Signal, word: u64, first: bool)
     requires { signal.old.width ≤ 64 }
     ensures kept { signal.new ≡ record signal.old { word = word } }
-    ensures puts { Puts result (K.written sink.old) (K.written sink.new) outbox.old outbox.new
+    ensures puts { WritesText K.written K.failures sink.old sink.new pen.old pen.new
         (change first signal.old word) }
-    ensures failures { CountsFaults result (K.failures sink.old) (K.failures sink.new) }
 {
     let old = signal.word;
     signal.word = word;
-    if !first && old == word {
-        return Ok(());
+    if first || old != word {
+        make_value(&mut pen.line, signal.width, signal.id, word);
+        pen.put_line(sink);
     }
-    put_value(outbox, sink, signal, word)
 }
 
 /// The word of the node at a place in the frame that was closed last.
@@ -120,47 +92,45 @@ fn word_now(judge: &WordJudge<'_>, node: usize) -> u64
 
 /// Keeps the words of all signals in the frame that was closed last, and puts those that changed; of the first frame all.
 fn put_changes<K: Sink>(
-    outbox: &mut Outbox,
+    pen: &mut Pen,
     sink: &mut K,
     judge: &WordJudge<'_>,
     signals: &mut [Signal],
     first: bool,
-) -> Result<(), DeviceFault>
+)
     requires { All (λ s. s.width ≤ 64) signals.old }
-    ensures puts { (items : List Item) (f : Frame) → Shows judge.now items f
-        → Puts result (K.written sink.old) (K.written sink.new) outbox.old outbox.new
-        (changes first (told_word items f) signals.old) }
-    ensures kept { OnOk result ((items : List Item) (f : Frame) → Shows judge.now items f
-        → signals.new ≡ map (with_word (told_word items f)) signals.old) }
+    ensures puts { WritesSome K.written K.failures sink.old sink.new pen.old pen.new
+        (λ put. (items : List Item) (f : Frame) → Shows judge.now items f
+        → put ≡ changes first (told_word items f) signals.old) }
+    ensures kept { (items : List Item) (f : Frame) → Shows judge.now items f
+        → signals.new ≡ map (with_word (told_word items f)) signals.old }
     ensures allowed { All (λ s. s.width ≤ 64) signals.new }
     ensures many { length signals.new ≡ length signals.old }
-    ensures failures { CountsFaults result (K.failures sink.old) (K.failures sink.new) }
 {
     for at in 0..signals.len() {
         let word = word_now(judge, signals[at].node);
-        put_change(outbox, sink, &mut signals[at], word, first)?;
+        put_change(pen, sink, &mut signals[at], word, first);
     }
-    Ok(())
 }
 
 /// Puts the frame that was closed last, of this number: its moment, and the words that changed.
 pub(crate) fn put_frame<K: Sink>(
-    outbox: &mut Outbox,
+    pen: &mut Pen,
     sink: &mut K,
     judge: &WordJudge<'_>,
     signals: &mut [Signal],
     number: u64,
-) -> Result<(), DeviceFault>
+)
     requires { All (λ s. s.width ≤ 64) signals.old }
-    ensures puts { (items : List Item) (f : Frame) → Shows judge.now items f
-        → Puts result (K.written sink.old) (K.written sink.new) outbox.old outbox.new
-        ((moment number ++ 10 ∷ []) ++ changes (number == 0) (told_word items f) signals.old) }
-    ensures kept { OnOk result ((items : List Item) (f : Frame) → Shows judge.now items f
-        → signals.new ≡ map (with_word (told_word items f)) signals.old) }
+    ensures puts { WritesSome K.written K.failures sink.old sink.new pen.old pen.new
+        (λ put. (items : List Item) (f : Frame) → Shows judge.now items f
+        → put ≡ (moment number ++ 10 ∷ []) ++ changes (number == 0) (told_word items f)
+        signals.old) }
+    ensures kept { (items : List Item) (f : Frame) → Shows judge.now items f
+        → signals.new ≡ map (with_word (told_word items f)) signals.old }
     ensures allowed { All (λ s. s.width ≤ 64) signals.new }
     ensures many { length signals.new ≡ length signals.old }
-    ensures failures { CountsFaults result (K.failures sink.old) (K.failures sink.new) }
 {
-    put_moment(outbox, sink, number)?;
-    put_changes(outbox, sink, judge, signals, number == 0)
+    put_moment(pen, sink, number);
+    put_changes(pen, sink, judge, signals, number == 0);
 }

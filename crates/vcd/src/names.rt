@@ -1,15 +1,12 @@
 //! Names in a dump.
 ghost use Rattle.std.specs.Prelude.{◌≡◌, ◌∷◌, ◌++◌, [], ℕ, not, decimal, if◌then◌else◌};
 ghost use Rattle.std.specs.List.{list_all};
-ghost use Rattle.base.specs.Device.{CountsFaults};
-ghost use Rattle.base.specs.Pieces.{Puts};
-ghost use Rattle.vcd.specs.Stands.{concat_slices};
+ghost use Rattle.base.specs.Writing.{WritesText};
 ghost use Rattle.vcd.specs.Names.{is_letter, is_name_byte, is_plain_name, ends_in_number, escaped, prefix, line_own_name, stem_by, plain_name, with_id, title_byte, title_bytes};
 
 use crate::scope::Scope;
-use base::{DeviceFault, Outbox, Sink};
+use base::{Pen, Sink};
 use btor2::{Item, Symbol};
-use itoa::Buffer;
 
 /// Whether a byte is a letter or `_`.
 fn is_letter(byte: u8) -> bool
@@ -42,46 +39,6 @@ fn is_plain_name(name: &[u8]) -> bool
     }
 }
 
-/// Puts bytes.
-fn put_bytes<K: Sink>(outbox: &mut Outbox, sink: &mut K, bytes: &[u8]) -> Result<(), DeviceFault>
-    ensures puts { Puts result (K.written sink.old) (K.written sink.new) outbox.old outbox.new
-        bytes.now }
-    ensures failures { CountsFaults result (K.failures sink.old) (K.failures sink.new) }
-{
-    outbox.put(sink, bytes)
-}
-
-/// Puts pieces of bytes, one behind the other.
-pub(crate) fn put_parts<K: Sink>(
-    outbox: &mut Outbox,
-    sink: &mut K,
-    parts: &[&[u8]],
-) -> Result<(), DeviceFault>
-    ensures puts { Puts result (K.written sink.old) (K.written sink.new) outbox.old outbox.new
-        (concat_slices parts.now) }
-    ensures failures { CountsFaults result (K.failures sink.old) (K.failures sink.new) }
-{
-    for part in parts {
-        put_bytes(outbox, sink, part)?;
-    }
-    Ok(())
-}
-
-/// Puts bytes and the decimal of a number.
-fn put_number<K: Sink>(
-    outbox: &mut Outbox,
-    sink: &mut K,
-    front: &[u8],
-    number: u64,
-) -> Result<(), DeviceFault>
-    ensures puts { Puts result (K.written sink.old) (K.written sink.new) outbox.old outbox.new
-        (front.now ++ decimal number) }
-    ensures failures { CountsFaults result (K.failures sink.old) (K.failures sink.new) }
-{
-    let mut buffer = Buffer::new();
-    put_parts(outbox, sink, &[front, buffer.format(number).as_bytes()])
-}
-
 /// What stands before the names of a scope.
 fn prefix(scope: Scope) -> &'static [u8]
     ensures { result.now ≡ prefix scope }
@@ -104,40 +61,36 @@ pub(crate) fn own_name(scope: Scope, number: u64, id: u64) -> (&'static [u8], u6
     }
 }
 
-/// Puts what names the line that is a signal of this number of a scope: its symbol, where it has one.
-fn put_stem<K: Sink>(
-    outbox: &mut Outbox,
-    sink: &mut K,
-    scope: Scope,
-    number: u64,
-    item: &Item,
-) -> Result<(), DeviceFault>
-    ensures puts { Puts result (K.written sink.old) (K.written sink.new) outbox.old outbox.new
-        (stem_by scope number item.now.id item.now.symbol) }
-    ensures failures { CountsFaults result (K.failures sink.old) (K.failures sink.new) }
+/// Puts what names a line of a scope that has no symbol.
+fn put_own_name<K: Sink>(pen: &mut Pen, sink: &mut K, scope: Scope, number: u64, id: u64)
+    ensures { WritesText K.written K.failures sink.old sink.new pen.old pen.new
+        (line_own_name scope number id) }
 {
-    if let Some(symbol) = &item.symbol {
-        return put_bytes(outbox, sink, symbol.bytes());
+    let (front, own) = own_name(scope, number, id);
+    pen.put(sink, front);
+    pen.put_number(sink, own);
+}
+
+/// Puts what names the line that is a signal of this number of a scope: its symbol, where it has one.
+fn put_stem<K: Sink>(pen: &mut Pen, sink: &mut K, scope: Scope, number: u64, item: &Item)
+    ensures { WritesText K.written K.failures sink.old sink.new pen.old pen.new
+        (stem_by scope number item.now.id item.now.symbol) }
+{
+    match &item.symbol {
+        Some(symbol) => pen.put(sink, symbol.bytes()),
+        None => put_own_name(pen, sink, scope, number, item.id),
     }
-    let (front, own) = own_name(scope, number, item.id);
-    put_number(outbox, sink, front, own)
 }
 
 /// Puts what tells a signal apart, where it is: the id of its line.
-fn put_id<K: Sink>(
-    outbox: &mut Outbox,
-    sink: &mut K,
-    apart: bool,
-    id: u64,
-) -> Result<(), DeviceFault>
-    ensures puts { Puts result (K.written sink.old) (K.written sink.new) outbox.old outbox.new
+fn put_id<K: Sink>(pen: &mut Pen, sink: &mut K, apart: bool, id: u64)
+    ensures { WritesText K.written K.failures sink.old sink.new pen.old pen.new
         (if apart then 35 ∷ decimal id else []) }
-    ensures failures { CountsFaults result (K.failures sink.old) (K.failures sink.new) }
 {
-    if !apart {
-        return Ok(());
+    if apart {
+        pen.put(sink, b"#");
+        pen.put_number(sink, id);
     }
-    put_number(outbox, sink, b"#", id)
 }
 
 /// Whether the name of a signal of a scope is escaped: plain are symbols that are plain names, and identifier codes.
@@ -156,35 +109,31 @@ fn is_escaped(scope: Scope, id: u64, symbol: &Option<Symbol>, apart: bool) -> bo
 }
 
 /// Puts the `\` of a name that is escaped.
-fn put_escape<K: Sink>(outbox: &mut Outbox, sink: &mut K, escaped: bool) -> Result<(), DeviceFault>
-    ensures puts { Puts result (K.written sink.old) (K.written sink.new) outbox.old outbox.new
+fn put_escape<K: Sink>(pen: &mut Pen, sink: &mut K, escaped: bool)
+    ensures { WritesText K.written K.failures sink.old sink.new pen.old pen.new
         (if escaped then 92 ∷ [] else []) }
-    ensures failures { CountsFaults result (K.failures sink.old) (K.failures sink.new) }
 {
-    if !escaped {
-        return Ok(());
+    if escaped {
+        pen.put(sink, b"\\");
     }
-    put_bytes(outbox, sink, b"\\")
 }
 
 /// Puts the name of the line that is a signal of this number of a scope, which is told apart or is not.
 pub(crate) fn put_name<K: Sink>(
-    outbox: &mut Outbox,
+    pen: &mut Pen,
     sink: &mut K,
     scope: Scope,
     number: u64,
     item: &Item,
     apart: bool,
-) -> Result<(), DeviceFault>
-    ensures puts { Puts result (K.written sink.old) (K.written sink.new) outbox.old outbox.new
+)
+    ensures { WritesText K.written K.failures sink.old sink.new pen.old pen.new
         (escaped (with_id apart item.now.id (plain_name scope number item.now))) }
-    ensures failures { CountsFaults result (K.failures sink.old) (K.failures sink.new) }
 {
-    let escaped = is_escaped(scope, item.id, &item.symbol, apart);
-    put_escape(outbox, sink, escaped)?;
-    put_bytes(outbox, sink, prefix(scope))?;
-    put_stem(outbox, sink, scope, number, item)?;
-    put_id(outbox, sink, apart, item.id)
+    put_escape(pen, sink, is_escaped(scope, item.id, &item.symbol, apart));
+    pen.put(sink, prefix(scope));
+    put_stem(pen, sink, scope, number, item);
+    put_id(pen, sink, apart, item.id);
 }
 
 /// Whether a name ends in `#` and digits, or in `#`.
@@ -210,17 +159,11 @@ fn title_byte(byte: u8) -> u8
 }
 
 /// Puts a title.
-pub(crate) fn put_title<K: Sink>(
-    outbox: &mut Outbox,
-    sink: &mut K,
-    title: &[u8],
-) -> Result<(), DeviceFault>
-    ensures puts { Puts result (K.written sink.old) (K.written sink.new) outbox.old outbox.new
+pub(crate) fn put_title<K: Sink>(pen: &mut Pen, sink: &mut K, title: &[u8])
+    ensures { WritesText K.written K.failures sink.old sink.new pen.old pen.new
         (title_bytes title.now) }
-    ensures failures { CountsFaults result (K.failures sink.old) (K.failures sink.new) }
 {
     for byte in title {
-        put_bytes(outbox, sink, &[title_byte(*byte)])?;
+        pen.put(sink, &[title_byte(*byte)]);
     }
-    Ok(())
 }

@@ -1,24 +1,23 @@
 //! A waver of a witness that comes piece by piece.
 ghost use Rattle.std.specs.Prelude.{◌≡◌, ℕ, List, [], ◌∷◌, ◌++◌, IfErr, IfOk};
-ghost use Rattle.base.specs.Device.{CountsFaults};
 ghost use Rattle.base.specs.Lines.{IsLine, text_of_lines};
-ghost use Rattle.base.specs.Pieces.{Puts};
 ghost use Rattle.btor2.specs.declared.item.Item.{Item};
 ghost use Rattle.btor2.specs.Check.{IsWellFormed};
 ghost use Rattle.btor2.specs.Lists.{first_init_without_next};
 ghost use Rattle.btor2.specs.Trace.{Frame};
 ghost use Rattle.witness.specs.Judgements.{Judges};
 ghost use Rattle.witness.specs.ClosedWords.{IsClosedTrace};
+ghost use Rattle.witness.specs.WordStands.{StandsForWitness};
 ghost use Rattle.vcd.specs.Answers.{AnswersWave, IsEarly};
 ghost use Rattle.vcd.specs.Dumps.{end_lines};
 ghost use Rattle.vcd.specs.declared.scope.Shown.{Shown as ShownSpec};
-ghost use Rattle.vcd.specs.Stands.{Waves, Takes};
+ghost use Rattle.vcd.specs.Stands.{Waves, Takes, WritesSome};
 
 use crate::changes::{put_frame, put_moment};
 use crate::fault::WaveFault;
 use crate::scope::Shown;
 use crate::signals::{Signal, signals};
-use base::{DeviceFault, Outbox, Sink, next_line};
+use base::{Pen, Sink, next_line};
 use btor2::Model;
 use std::alloc::Global;
 use witness::{Judgement, WordJudge};
@@ -47,7 +46,7 @@ impl<'a> Waver<'a> {
     ///
     /// Errors: `NoNext` with the first state in file order that has an init and no next; else `NoMemory`.
     pub(crate) fn new(alloc: Global, model: &'a Model, shown: Shown) -> Result<Waver<'a>, WaveFault>
-        ensures ok { IfOk result (λ w. Waves shown model.now w []) }
+        ensures ok { IfOk result (λ w. Waves shown model.now w [] []) }
         ensures answer { AnswersWave result (first_init_without_next model.now model.now) }
         ensures fault { IfErr result IsEarly }
         ensures well_formed { IsWellFormed model.now }
@@ -67,84 +66,57 @@ impl<'a> Waver<'a> {
 
     /// Takes bytes that end no line.
     fn take_bytes(&mut self, bytes: &[u8])
-        ensures { (s : ShownSpec) (items : List Item) (text : List ℕ) → IsLine bytes.now
-            → Waves s items self.old text → Waves s items self.new (text ++ bytes.now) }
+        ensures { (s : ShownSpec) (items : List Item) (text put : List ℕ) → IsLine bytes.now
+            → Waves s items self.old text put → Waves s items self.new (text ++ bytes.now) put }
     {
         self.judge.feed(bytes);
     }
 
     /// Takes the rest of a line with its end.
-    fn take_line<K: Sink>(
-        &mut self,
-        outbox: &mut Outbox,
-        sink: &mut K,
-        line: &[u8],
-        whole: &[u8],
-    ) -> Result<(), DeviceFault>
+    fn take_line<K: Sink>(&mut self, pen: &mut Pen, sink: &mut K, line: &[u8], whole: &[u8])
         requires is_line { IsLine line.now }
         requires whole { whole.now ≡ line.now ++ 10 ∷ [] }
-        ensures takes { Takes result (K.written sink.old) (K.written sink.new) outbox.old outbox.new
-            self.old self.new (line.now ++ 10 ∷ []) }
-        ensures failures { CountsFaults result (K.failures sink.old) (K.failures sink.new) }
+        ensures { Takes K.written K.failures sink.old sink.new pen.old pen.new self.old self.new
+            (line.now ++ 10 ∷ []) }
     {
         let closed = self.judge.closed_frames();
         self.judge.feed(whole);
-        if self.judge.closed_frames() == closed {
-            return Ok(());
+        if self.judge.closed_frames() != closed {
+            put_frame(pen, sink, &self.judge, self.signals.as_mut_slice(), closed);
         }
-        put_frame(
-            outbox,
-            sink,
-            &self.judge,
-            self.signals.as_mut_slice(),
-            closed,
-        )
     }
 
     /// Takes a piece of the witness behind those before.
-    pub(crate) fn take<K: Sink>(
-        &mut self,
-        outbox: &mut Outbox,
-        sink: &mut K,
-        bytes: &[u8],
-    ) -> Result<(), DeviceFault>
-        ensures takes { Takes result (K.written sink.old) (K.written sink.new) outbox.old outbox.new
-            self.old self.new bytes.now }
-        ensures failures { CountsFaults result (K.failures sink.old) (K.failures sink.new) }
+    pub(crate) fn take<K: Sink>(&mut self, pen: &mut Pen, sink: &mut K, bytes: &[u8])
+        ensures { Takes K.written K.failures sink.old sink.new pen.old pen.new self.old self.new
+            bytes.now }
     {
         let mut rest = bytes;
         while let Some((line, behind)) = next_line(rest) {
             let (whole, _) = rest.split_at(line.len() + 1);
-            self.take_line(outbox, sink, line, whole)?;
+            self.take_line(pen, sink, line, whole);
             rest = behind;
         }
         self.take_bytes(rest);
-        Ok(())
     }
 
     /// Puts the moment behind the last frame, where there is one.
-    pub(crate) fn put_end<K: Sink>(
-        &self,
-        outbox: &mut Outbox,
-        sink: &mut K,
-    ) -> Result<(), DeviceFault>
-        ensures puts { (s : ShownSpec) (items : List Item) (text : List ℕ) (fs : List Frame)
-            → Waves s items self.now text → IsClosedTrace items text fs
-            → Puts result (K.written sink.old) (K.written sink.new) outbox.old outbox.new
-            (text_of_lines (end_lines fs)) }
-        ensures failures { CountsFaults result (K.failures sink.old) (K.failures sink.new) }
+    pub(crate) fn put_end<K: Sink>(&self, pen: &mut Pen, sink: &mut K)
+        ensures { WritesSome K.written K.failures sink.old sink.new pen.old pen.new
+            (λ end. (s : ShownSpec) (items : List Item) (text put : List ℕ) (fs : List Frame)
+            → Waves s items self.now text put → IsClosedTrace items text fs
+            → end ≡ text_of_lines (end_lines fs)) }
     {
         let frames = self.judge.closed_frames();
-        if frames == 0 {
-            return Ok(());
+        if frames != 0 {
+            put_moment(pen, sink, frames);
         }
-        put_moment(outbox, sink, frames)
     }
 
     /// The judgement of the text.
     pub(crate) fn finish(self) -> Judgement
-        ensures { (s : ShownSpec) (items : List Item) (text : List ℕ)
-            → Waves s items self.entry text → Judges items text result }
+        ensures { (items : List Item) (text : List ℕ) → StandsForWitness items self.entry.judge text
+            → Judges items text result }
     {
         self.judge.finish()
     }

@@ -1,26 +1,23 @@
 //! Writing whole sources as dumps.
-ghost use Rattle.std.specs.Prelude.{◌≡◌, ◌++◌, List, ℕ, None, IfErr, IfOk, IfSome, OnErr, OnOk};
+ghost use Rattle.std.specs.Prelude.{◌≡◌, [], List, None, IfErr, IfOk, IfSome, OnErr, OnOk};
 ghost use Rattle.std.specs.Io.KnownBytes.{Appends, IsAtEnd};
-ghost use Rattle.base.specs.Device.{AppendsBeginning, CountsFaults};
-ghost use Rattle.base.specs.Lines.{text_of_lines};
-ghost use Rattle.base.specs.Pieces.{Puts};
-ghost use Rattle.btor2.specs.declared.item.Item.{Item};
+ghost use Rattle.base.specs.Device.{AppendsBeginning};
 ghost use Rattle.btor2.specs.Check.{IsWellFormed};
 ghost use Rattle.btor2.specs.Lists.{first_init_without_next};
 ghost use Rattle.btor2.specs.Trace.{Frame};
 ghost use Rattle.witness.specs.Judgements.{Judges};
 ghost use Rattle.witness.specs.ClosedWords.{IsClosedTrace};
-ghost use Rattle.vcd.specs.declared.scope.Shown.{Shown as ShownSpec};
+ghost use Rattle.witness.specs.WordStands.{StandsForWitness};
 ghost use Rattle.vcd.specs.Answers.{AnswersWave, CountsWave, IsBefore, IsDeviceFault};
-ghost use Rattle.vcd.specs.Dumps.{declaration_lines, end_lines, vcd_text};
-ghost use Rattle.vcd.specs.Stands.{Waves, Takes, WavesAll, marks as all_marks};
+ghost use Rattle.vcd.specs.Dumps.{vcd_text};
+ghost use Rattle.vcd.specs.Stands.{Waves, TakesFront, Stops, marks as all_marks};
 
 use crate::apart::marks;
 use crate::declarations::put_declarations;
 use crate::fault::WaveFault;
 use crate::scope::Shown;
 use crate::waver::Waver;
-use base::{Outbox, Sink, Source};
+use base::{Pen, Sink, Source};
 use btor2::Model;
 use std::alloc::Global;
 use witness::Judgement;
@@ -28,98 +25,29 @@ use witness::Judgement;
 /// How many bytes one call of a source is asked for.
 const CHUNK: usize = 65536;
 
-/// Takes a piece of the witness.
-///
-/// Errors: the sink's own.
-fn take_piece<K: Sink>(
-    waver: &mut Waver<'_>,
-    outbox: &mut Outbox,
-    sink: &mut K,
-    bytes: &[u8],
-) -> Result<(), WaveFault>
-    ensures takes { Takes result (K.written sink.old) (K.written sink.new) outbox.old outbox.new
-        waver.old waver.new bytes.now }
-    ensures fault { IfErr result (λ e. e ≡ WaveFault.Write) }
-    ensures failures { CountsFaults result (K.failures sink.old) (K.failures sink.new) }
-{
-    match waver.take(outbox, sink, bytes) {
-        Ok(()) => Ok(()),
-        Err(_) => Err(WaveFault::Write),
-    }
-}
-
-/// Reads a source to its end, and puts the frames of its text.
+/// Reads a source to its end, and puts the frames of its text, as long as the sink has not failed.
 ///
 /// Errors: the source's own, and the sink's.
 fn take_all<S: Source, K: Sink>(
     waver: &mut Waver<'_>,
-    outbox: &mut Outbox,
+    pen: &mut Pen,
     source: &mut S,
     sink: &mut K,
 ) -> Result<(), WaveFault>
-    ensures takes { IfSome (S.to_come source.old)
-        (Takes result (K.written sink.old) (K.written sink.new) outbox.old outbox.new waver.old
-        waver.new) }
+    ensures takes { TakesFront K.written K.failures sink.old sink.new pen.old pen.new waver.old
+        waver.new (S.to_come source.old) (S.to_come source.new) }
     ensures end { OnOk result (IsAtEnd (S.to_come source.new)) }
-    ensures fault { IfErr result IsDeviceFault }
-    ensures counted { CountsWave result (S.failures source.old) (S.failures source.new)
-        (K.failures sink.old) (K.failures sink.new) }
+    ensures stops { Stops result pen.new.answer (S.failures source.old) (S.failures source.new) }
 {
     let mut chunk = [0u8; CHUNK];
-    loop {
+    while pen.answer.is_ok() {
         match source.read(&mut chunk) {
             Ok(0) => return Ok(()),
-            Ok(count) => take_piece(waver, outbox, sink, &chunk[..count])?,
+            Ok(count) => waver.take(pen, sink, &chunk[..count]),
             Err(_) => return Err(WaveFault::Read),
         }
     }
-}
-
-/// Puts the declarations.
-///
-/// Errors: the sink's own.
-fn begin<K: Sink>(
-    outbox: &mut Outbox,
-    sink: &mut K,
-    model: &Model,
-    shown: Shown,
-    marks: &[bool],
-    title: &[u8],
-) -> Result<(), WaveFault>
-    requires { marks.now ≡ all_marks shown model.now }
-    ensures puts { Puts result (K.written sink.old) (K.written sink.new) outbox.old outbox.new
-        (text_of_lines (declaration_lines shown title.now model.now)) }
-    ensures fault { IfErr result (λ e. e ≡ WaveFault.Write) }
-    ensures failures { CountsFaults result (K.failures sink.old) (K.failures sink.new) }
-{
-    match put_declarations(outbox, sink, model, shown, marks, title) {
-        Ok(()) => Ok(()),
-        Err(_) => Err(WaveFault::Write),
-    }
-}
-
-/// Puts the moment behind the last frame, and writes what the outbox keeps.
-///
-/// Errors: the sink's own.
-fn end<K: Sink>(waver: &Waver<'_>, outbox: &mut Outbox, sink: &mut K) -> Result<(), WaveFault>
-    ensures ok { OnOk result ((s : ShownSpec) (items : List Item) (text : List ℕ) (fs : List Frame)
-        → Waves s items waver.now text → IsClosedTrace items text fs
-        → Appends (K.written sink.old) (K.written sink.new)
-        (outbox.old ++ text_of_lines (end_lines fs))) }
-    ensures err { OnErr result ((s : ShownSpec) (items : List Item) (text : List ℕ)
-        (fs : List Frame) → Waves s items waver.now text → IsClosedTrace items text fs
-        → AppendsBeginning (K.written sink.old) (K.written sink.new)
-        (outbox.old ++ text_of_lines (end_lines fs))) }
-    ensures fault { IfErr result (λ e. e ≡ WaveFault.Write) }
-    ensures failures { CountsFaults result (K.failures sink.old) (K.failures sink.new) }
-{
-    match waver.put_end(outbox, sink) {
-        Ok(()) => match outbox.flush(sink) {
-            Ok(()) => Ok(()),
-            Err(_) => Err(WaveFault::Write),
-        },
-        Err(_) => Err(WaveFault::Write),
-    }
+    Err(WaveFault::Write)
 }
 
 /// Reads a source to its end, and writes the dump of the frames of its text, in which signals with a mark are told apart.
@@ -134,18 +62,31 @@ fn write_dump<S: Source, K: Sink>(
     source: &mut S,
     sink: &mut K,
 ) -> Result<(), WaveFault>
-    requires { marks.now ≡ all_marks shown model.now }
-    ensures writes { WavesAll result shown title.now model.now (S.to_come source.old)
-        (K.written sink.old) (K.written sink.new) waver.old waver.new }
+    requires waves { Waves shown model.now waver.old [] [] }
+    requires marks { marks.now ≡ all_marks shown model.now }
+    ensures stands { OnOk result (IfSome (S.to_come source.old)
+        (StandsForWitness model.now waver.new.judge)) }
+    ensures written { OnOk result (IfSome (S.to_come source.old) (λ text. (fs : List Frame)
+        → IsClosedTrace model.now text fs
+        → Appends (K.written sink.old) (K.written sink.new)
+        (vcd_text shown title.now model.now fs))) }
+    ensures beginning { OnErr result (IfSome (S.to_come source.old) (λ text. (fs : List Frame)
+        → IsClosedTrace model.now text fs
+        → AppendsBeginning (K.written sink.old) (K.written sink.new)
+        (vcd_text shown title.now model.now fs))) }
     ensures end { OnOk result (IsAtEnd (S.to_come source.new)) }
     ensures fault { IfErr result IsDeviceFault }
     ensures counted { CountsWave result (S.failures source.old) (S.failures source.new)
         (K.failures sink.old) (K.failures sink.new) }
 {
-    let mut outbox = Outbox::new();
-    begin(&mut outbox, sink, model, shown, marks, title)?;
-    take_all(waver, &mut outbox, source, sink)?;
-    end(waver, &mut outbox, sink)
+    let mut pen = Pen::new();
+    put_declarations(&mut pen, sink, model, shown, marks, title);
+    take_all(waver, &mut pen, source, sink)?;
+    waver.put_end(&mut pen, sink);
+    match pen.finish(sink) {
+        Ok(()) => Ok(()),
+        Err(_) => Err(WaveFault::Write),
+    }
 }
 
 /// Reads a source to its end, and writes the dump of the frames of its text.
@@ -160,8 +101,17 @@ fn write_told<S: Source, K: Sink>(
     source: &mut S,
     sink: &mut K,
 ) -> Result<(), WaveFault>
-    ensures writes { WavesAll result shown title.now model.now (S.to_come source.old)
-        (K.written sink.old) (K.written sink.new) waver.old waver.new }
+    requires { Waves shown model.now waver.old [] [] }
+    ensures stands { OnOk result (IfSome (S.to_come source.old)
+        (StandsForWitness model.now waver.new.judge)) }
+    ensures written { OnOk result (IfSome (S.to_come source.old) (λ text. (fs : List Frame)
+        → IsClosedTrace model.now text fs
+        → Appends (K.written sink.old) (K.written sink.new)
+        (vcd_text shown title.now model.now fs))) }
+    ensures beginning { IfErr result (λ e. IsDeviceFault e
+        → IfSome (S.to_come source.old) (λ text. (fs : List Frame) → IsClosedTrace model.now text fs
+        → AppendsBeginning (K.written sink.old) (K.written sink.new)
+        (vcd_text shown title.now model.now fs))) }
     ensures fault { AnswersWave result None }
     ensures unread { IsBefore result → source.new ≡ source.old }
     ensures unwritten { IsBefore result → sink.new ≡ sink.old }

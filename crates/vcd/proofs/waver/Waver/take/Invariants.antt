@@ -1,12 +1,9 @@
-use Rattle.std.proofs.Common.{◌≡◌, length}
+use Rattle.std.proofs.Common.{length}
 use Rattle.vcd.proofs.WaverLemmas.{Took}
 use Rattle.vcd.proofs.waver.Waver.take.Given as goal
 
 abbrev pub invariant-loop-line : goal.invariant-loop-line
-invariant-loop-line g l = record {
-  took : Took (g.K.Sink.written l.initial.sink) (g.K.Sink.written l.sink) l.initial.outbox l.outbox l.initial.self l.self l.bytes l.rest;
-  counted : g.K.Sink.failures l.sink ≡ g.K.Sink.failures l.initial.sink;
-}
+invariant-loop-line g l = Took g.K.Sink.written g.K.Sink.failures l.initial.sink l.sink l.initial.pen l.pen l.initial.self l.self l.bytes l.rest
 
 abbrev pub decreases-loop-line : goal.decreases-loop-line
 decreases-loop-line g l = length l.rest
