@@ -1,12 +1,12 @@
--- Lists of bits as valuations, and gates one by one.
-use Rattle.std.proofs.Common.{◌≡◌, ◌≢◌, ℕ, zero, suc, ◌+◌, ◌<◌, ◌≤◌, Bool, false, List, [], ◌∷◌, length, get_or, set, ⊎_elim, sym, ap, ◌∙◌, arith}
+-- Lists of bits as valuations, bits put into them, and gates one by one.
+use Rattle.std.proofs.Common.{◌≡◌, ◌≢◌, ℕ, zero, suc, ◌+◌, ◌<◌, ◌≤◌, Bool, false, List, [], ◌∷◌, ◌++◌, length, length-append, get_or, set, ⊎_elim, refl, sym, ap, ◌∙◌, arith}
 use Rattle.std.proofs.lemmas.Bool.{cases_eq}
-use Rattle.std.proofs.lemmas.List.{length-set, get_or-set_same, get_or-set_other, ext_get_or}
+use Rattle.std.proofs.lemmas.List.{length-set, get_or-set_same, get_or-set_other, ext_get_or, get_or_at, get_or_append_left}
 use Rattle.aiger.specs.declared.circuit.Gate.{Gate}
 use Rattle.base.specs.Literal.{Valuation, variable, IsAnd, valuation_of}
 use Rattle.aiger.specs.Net.{SatisfiesFrom, AreOrderedFrom, bits_from}
 use Rattle.aiger.proofs.NetLemmas.{length-bits_from}
-use Rattle.runs.specs.CircuitHolds.{left_operand, right_operand}
+use Rattle.runs.specs.CircuitHolds.{IsPut, left_operand, right_operand}
 
 -- Bits one after another.
 
@@ -38,6 +38,30 @@ bits_from-set first count bits k place b at inside room =
     get_or-set_other bits place (first + j) b false other
     ∙ sym (get_or-set_other (bits_from first count (valuation_of bits)) k j b false ne ∙ get_or-bits_from first count (valuation_of bits) j within))
     (cases_eq j k))
+
+-- Bits put one after another.
+
+pub put_nothing : (first : ℕ) (bits : List Bool) → IsPut [] first bits bits
+put_nothing first bits = record { put = λ k h. absurd (omega arith); below = λ p h. refl; above = λ p h. refl; as_many = refl }
+
+-- one more
+pub put_more : (given : List Bool) (first place : ℕ) (b : Bool) (old new : List Bool) → place ≡ first + length given → place < length old → IsPut given first old new → IsPut (given ++ b ∷ []) first old (set new place b)
+put_more given first place b old new at room is =
+    let long = length-append given (b ∷ []) in
+    let inside : place < length new = omega (arith, room, is.as_many) in
+    record {
+      put = λ k h.
+          ⊎_elim
+          (λ e. let same : first + k ≡ place = omega arith in ap (λ (p : ℕ). get_or (set new place b) p false) same ∙ get_or-set_same new place b false inside ∙ sym (ap (λ (n : ℕ). get_or (given ++ b ∷ []) n false) e ∙ get_or_at given b [] false (length given) refl))
+          (λ ne.
+          let before : k < length given = omega (arith, h, long, ne) in
+          let other : first + k ≢ place = omega arith in
+          get_or-set_other new place (first + k) b false other ∙ is.put k before ∙ sym (get_or_append_left given (b ∷ []) false k before))
+          (cases_eq k (length given));
+      below = λ p h. let other : p ≢ place = omega arith in get_or-set_other new place p b false other ∙ is.below p h;
+      above = λ p h. let other : p ≢ place = omega (arith, long, h) in get_or-set_other new place p b false other ∙ is.above p (omega (arith, long, h));
+      as_many = length-set new place b ∙ is.as_many;
+    }
 
 -- Gates one by one.
 

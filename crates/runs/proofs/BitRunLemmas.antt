@@ -9,7 +9,7 @@ use Rattle.aiger.specs.Circuit.{Circuit, IsCircuit, net}
 use Rattle.aiger.specs.Trace.{IsCircuitFrame, SameCircuitFrame, next_latch_bits}
 use Rattle.aiger.proofs.TraceLemmas.{literal_value-agree, bits_from-agree, SameFrame-from_bits}
 use Rattle.runs.specs.CircuitRun.{CircuitRun, reset_bit, reset_bits, no_inputs}
-use Rattle.runs.specs.CircuitHolds.{KeepsBits}
+use Rattle.runs.specs.CircuitHolds.{KeepsBits, IsPut}
 use Rattle.runs.proofs.BitPassLemmas.{bits_from-is, bits_from-set}
 
 -- runs with equal parts are equal
@@ -45,7 +45,7 @@ module _ (c : Circuit) (bits next_bits : List Bool) (settled : Bool) (k : KeepsB
       let same : SameCircuitFrame c (valuation_of bits) v = SameFrame-from_bits c (latches_in c bits) (inputs_in c bits) (valuation_of bits) v k.valid own frame in
       literal_value-agree (suc (variables (net c))) (valuation_of bits) v l (λ p low high. same p low (omega arith)) (omega arith)
 
-  -- a bit set for a latch, or for an input
+  -- bits set for latches, or for inputs
   pub record AfterSet (bits' latches' inputs' : List Bool) : Type 0 where
     pub keeps : KeepsBits c bits' next_bits false
     pub latches : latches_in c bits' ≡ latches'
@@ -75,6 +75,32 @@ module _ (c : Circuit) (bits next_bits : List Bool) (settled : Bool) (k : KeepsB
         keeps = set_keeps place b (omega arith);
         latches = latches_agree c bits (set bits place b) (λ p low high. get_or-set_other bits place p b false (omega arith));
         inputs = bits_from-set 1 c.inputs bits j place b (omega arith) inside (omega (arith, k.many));
+      }
+
+  put_keeps : (given : List Bool) (first : ℕ) (bits' : List Bool) → 0 < first → IsPut given first bits bits' → KeepsBits c bits' next_bits false
+  put_keeps given first bits' above put =
+      record {
+        valid = k.valid;
+        many = put.as_many ∙ k.many;
+        many_latches = k.many_latches;
+        constant = put.below 0 above ∙ k.constant;
+        gates = λ e. absurd (cc);
+      }
+
+  pub put_latches_keeps : (given : List Bool) (first : ℕ) (bits' : List Bool) → first ≡ 1 + c.inputs → length given ≡ length c.latches → IsPut given first bits bits' → AfterSet bits' given (inputs_in c bits)
+  put_latches_keeps given first bits' at many put =
+      record {
+        keeps = put_keeps given first bits' (omega arith) put;
+        latches = bits_from-is (suc c.inputs) (length c.latches) (valuation_of bits') given many (λ j within. let same : suc c.inputs + j ≡ first + j = omega arith in ap (valuation_of bits') same ∙ put.put j (omega arith));
+        inputs = inputs_agree c bits bits' (λ p low high. put.below p (omega arith));
+      }
+
+  pub put_inputs_keeps : (given bits' : List Bool) → length given ≡ c.inputs → IsPut given 1 bits bits' → AfterSet bits' (latches_in c bits) given
+  put_inputs_keeps given bits' many put =
+      record {
+        keeps = put_keeps given 1 bits' (omega arith) put;
+        latches = latches_agree c bits bits' (λ p low high. put.above p (omega arith));
+        inputs = bits_from-is 1 c.inputs (valuation_of bits') given many (λ j within. put.put j (omega arith));
       }
 
   -- the gates given their bits
@@ -107,23 +133,23 @@ module _ (c : Circuit) (bits next_bits : List Bool) (settled : Bool) (k : KeepsB
 
   pub advance_keeps : settled ≡ true → (next_bits' put bits' : List Bool) (first : ℕ) → first ≡ 1 + c.inputs
       → ((j : ℕ) (d : Latch) → j < length c.latches → get_or next_bits' j false ≡ literal_value (valuation_of bits) (get_or c.latches j d).next) → length next_bits' ≡ length next_bits
-      → ((j : ℕ) → j < length next_bits' → get_or put (first + j) false ≡ get_or next_bits' j false) → ((p : ℕ) → p < first → get_or put p false ≡ get_or bits p false) → length put ≡ length bits
+      → IsPut next_bits' first bits put
       → ((j : ℕ) → j < c.inputs → get_or bits' (1 + j) false ≡ false) → ((p : ℕ) → c.inputs < p → get_or bits' p false ≡ get_or put p false) → get_or bits' 0 false ≡ get_or put 0 false → length bits' ≡ length put
       → AfterAdvance next_bits' bits'
-  advance_keeps done next_bits' put bits' first at taken as_many puts below many cleared others constant many' =
+  advance_keeps done next_bits' put bits' first at taken as_many is cleared others constant many' =
       record {
         keeps = record {
           valid = k.valid;
-          many = many' ∙ many ∙ k.many;
+          many = many' ∙ is.as_many ∙ k.many;
           many_latches = as_many ∙ k.many_latches;
-          constant = constant ∙ below 0 (omega arith) ∙ k.constant;
+          constant = constant ∙ is.below 0 (omega arith) ∙ k.constant;
           gates = λ e. absurd (cc);
         };
         latches = λ v frame.
             bits_from-is (suc c.inputs) (length c.latches) (valuation_of bits') (next_latch_bits c v) (length-map c.latches (λ (l : Latch). literal_value v l.next)) (λ j within.
             let d : Latch = get_or c.latches j (record { next = 0; reset = Zero }) in
             let same : suc c.inputs + j ≡ first + j = omega arith in
-            others (suc c.inputs + j) (omega arith) ∙ ap (valuation_of put) same ∙ puts j (omega (arith, as_many, k.many_latches)) ∙ taken j d within
+            others (suc c.inputs + j) (omega arith) ∙ ap (valuation_of put) same ∙ is.put j (omega (arith, as_many, k.many_latches)) ∙ taken j d within
             ∙ literal_now done v frame (get_or c.latches j d).next (k.valid.defined.nexts j d within)
             ∙ sym (get_or-map (λ (l : Latch). literal_value v l.next) c.latches j d false within));
         inputs = bits_from-is 1 c.inputs (valuation_of bits') (no_inputs c) (length-replicate c.inputs false) (λ j within. cleared j within ∙ sym (get_or-replicate c.inputs j false false within));
@@ -137,14 +163,14 @@ pub record Starts (c : Circuit) (next_bits bits : List Bool) : Type 0 where
 
 pub starts : (c : Circuit) (blank next_bits bits : List Bool) (first : ℕ) → IsCircuit c → first ≡ 1 + c.inputs → blank ≡ replicate (variables (net c) + 1) false
     → ((j : ℕ) (d : Latch) → j < length c.latches → get_or next_bits j false ≡ reset_bit (get_or c.latches j d).reset) → length next_bits ≡ length c.latches
-    → ((j : ℕ) → j < length next_bits → get_or bits (first + j) false ≡ get_or next_bits j false) → ((p : ℕ) → p < first → get_or bits p false ≡ get_or blank p false) → length bits ≡ length blank → Starts c next_bits bits
-starts c blank next_bits bits first valid at are_false taken as_many puts below many =
+    → IsPut next_bits first blank bits → Starts c next_bits bits
+starts c blank next_bits bits first valid at are_false taken as_many put =
     let are_zero : (p : ℕ) → p < first → get_or bits p false ≡ false =
-    λ p h. below p h ∙ ap (λ (l : List Bool). get_or l p false) are_false ∙ get_or-replicate (variables (net c) + 1) p false false (omega arith) in
+    λ p h. put.below p h ∙ ap (λ (l : List Bool). get_or l p false) are_false ∙ get_or-replicate (variables (net c) + 1) p false false (omega arith) in
     record {
       keeps = record {
         valid = valid;
-        many = many ∙ ap length are_false ∙ length-replicate (variables (net c) + 1) false;
+        many = put.as_many ∙ ap length are_false ∙ length-replicate (variables (net c) + 1) false;
         many_latches = as_many;
         constant = are_zero 0 (omega arith);
         gates = λ e. absurd (cc);
@@ -152,6 +178,6 @@ starts c blank next_bits bits first valid at are_false taken as_many puts below 
       latches = bits_from-is (suc c.inputs) (length c.latches) (valuation_of bits) (reset_bits c.latches) (length-map c.latches (λ (l : Latch). reset_bit l.reset)) (λ j within.
           let d : Latch = get_or c.latches j (record { next = 0; reset = Zero }) in
           let same : suc c.inputs + j ≡ first + j = omega arith in
-          ap (valuation_of bits) same ∙ puts j (omega (arith, as_many)) ∙ taken j d within ∙ sym (get_or-map (λ (l : Latch). reset_bit l.reset) c.latches j d false within));
+          ap (valuation_of bits) same ∙ put.put j (omega (arith, as_many)) ∙ taken j d within ∙ sym (get_or-map (λ (l : Latch). reset_bit l.reset) c.latches j d false within));
       inputs = bits_from-is 1 c.inputs (valuation_of bits) (no_inputs c) (length-replicate c.inputs false) (λ j within. are_zero (1 + j) (omega arith) ∙ sym (get_or-replicate c.inputs j false false within));
     }

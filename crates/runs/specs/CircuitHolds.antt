@@ -1,5 +1,5 @@
 -- What a run of a circuit keeps.
-use Rattle.std.specs.Prelude.{◌≡◌, ℕ, ◌+◌, Bool, true, false, List, length, map, slice_index}
+use Rattle.std.specs.Prelude.{◌≡◌, ℕ, ◌+◌, ◌<◌, ◌≤◌, Bool, true, false, List, length, map, slice_index, slice_index_or}
 use Rattle.base.specs.Literal.{valuation_of}
 use Rattle.aiger.specs.declared.circuit.Gate.{Gate}
 use Rattle.aiger.specs.Net.{variables, Satisfies, net_input_bits, latch_bits}
@@ -24,6 +24,13 @@ circuit_run_of r =
       settled = r.settled;
       steps = r.tally;
     }
+
+-- bits stand at the places from a first one on, and all others are as before
+pub record IsPut (given : List Bool) (first : ℕ) (old new : List Bool) : Type 0 where
+  pub put : (k : ℕ) → k < length given → valuation_of new (first + k) ≡ slice_index_or given k false
+  pub below : (p : ℕ) → p < first → valuation_of new p ≡ valuation_of old p
+  pub above : (p : ℕ) → first + length given ≤ p → valuation_of new p ≡ valuation_of old p
+  pub as_many : length new ≡ length old
 
 -- The bits of 0 and of each variable, and room for each latch's next one; the bits satisfy the gates where the run is settled.
 pub record KeepsBits (c : Circuit) (bits next_bits : List Bool) (settled : Bool) : Type 0 where

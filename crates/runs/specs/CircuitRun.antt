@@ -1,6 +1,6 @@
 -- A run of a circuit ("AIGER 1.9 and Beyond", semantics): the bits that its latches and inputs have now, and what is told of them. That a latch without
 -- an initial value begins with 0 here, and the counting of steps, are this project's own.
-use Rattle.std.specs.Prelude.{ℕ, ◌+◌, Bool, true, false, List, length, map, replicate}
+use Rattle.std.specs.Prelude.{ℕ, ◌+◌, Bool, true, false, ◌==◌, List, length, map, replicate}
 use Rattle.aiger.specs.declared.circuit.Latch.{Latch}
 use Rattle.aiger.specs.declared.circuit.Reset.{Reset}
 use Rattle.aiger.specs.declared.circuit.Reset.TheVariants.{Zero, One, Free}
@@ -45,6 +45,10 @@ circuit_start c =
       settled = false;
       steps = 0;
     }
+
+-- the bits that digits write: 1 for the byte of `1`, and 0 for any other
+abbrev pub written_bits : List ℕ → List Bool
+written_bits digits = map (λ b. b == 49) digits
 
 -- the steps of settling: one for each input and each gate
 abbrev pub settle_steps : Circuit → ℕ

@@ -3,7 +3,8 @@ ghost use Rattle.std.specs.Prelude.{◌≡◌, ℕ, ◌+◌, ◌<◌, ◌≤◌,
 ghost use Rattle.base.specs.Steps.{more_steps};
 ghost use Rattle.base.specs.Literal.{variable, literal_value, valuation_of};
 ghost use Rattle.aiger.specs.Net.{AreOrderedFrom, SatisfiesFrom};
-ghost use Rattle.runs.specs.CircuitRun.{reset_bit};
+ghost use Rattle.runs.specs.CircuitRun.{reset_bit, written_bits};
+ghost use Rattle.runs.specs.CircuitHolds.{IsPut};
 
 use aiger::{Gate, Latch, Reset};
 use base::{AndGates, Tally, gate_all, literal_bit, take_all};
@@ -91,13 +92,19 @@ pub(crate) fn take_first_bits(latches: &[Latch], taken: &mut [bool])
 /// Puts bits at the places from `first` on.
 pub(crate) fn put_bits(taken: &[bool], first: usize, bits: &mut [bool])
     requires { first + length taken.now ≤ length bits.old }
-    ensures put { (k : ℕ) → k < length taken.now → slice_index_or bits.new (first + k) false
-        ≡ slice_index_or taken.now k false }
-    ensures others { (p : ℕ) → p < first → slice_index_or bits.new p false
-        ≡ slice_index_or bits.old p false }
-    ensures as_many { length bits.new ≡ length bits.old }
+    ensures { IsPut taken.now first bits.old bits.new }
 {
     bits[first..first + taken.len()].copy_from_slice(taken);
+}
+
+/// Puts the bits that digits write at the places from `first` on.
+pub(crate) fn put_digits(digits: &[u8], first: usize, bits: &mut [bool])
+    requires { first + length digits.now ≤ length bits.old }
+    ensures { IsPut (written_bits digits.now) first bits.old bits.new }
+{
+    for (k, digit) in digits.iter().enumerate() {
+        bits[first + k] = *digit == b'1';
+    }
 }
 
 /// Puts 0 for each input.

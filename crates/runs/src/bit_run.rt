@@ -5,9 +5,11 @@ ghost use Rattle.base.specs.Literal.{Valuation, literal_value};
 ghost use Rattle.aiger.specs.Net.{IsDefined};
 ghost use Rattle.aiger.specs.Circuit.{net};
 ghost use Rattle.aiger.specs.Trace.{next_latch_bits};
-ghost use Rattle.runs.specs.CircuitRun.{IsFrameNow, circuit_start, no_inputs, settle_steps, circuit_held};
+ghost use Rattle.runs.specs.CircuitRun.{IsFrameNow, circuit_start, no_inputs, settle_steps, circuit_held, written_bits};
 
-use crate::bit_passes::{clear_inputs, put_bits, settle_gates, take_first_bits, take_nexts};
+use crate::bit_passes::{
+    clear_inputs, put_bits, put_digits, settle_gates, take_first_bits, take_nexts,
+};
 use crate::fault::NewFault;
 use aiger::{Circuit, Lit};
 use base::Tally;
@@ -96,6 +98,54 @@ impl<'a> BitRun<'a> {
             ≡ record self.old { inputs = slice_set self.old.inputs k bit; settled = false } }
     {
         self.bits[1 + k] = bit;
+        self.settled = false;
+    }
+
+    /// Gives each latch its bit.
+    ///
+    /// Condition: there are as many bits as latches.
+    pub fn set_states(&mut self, bits: &[bool])
+        requires { length bits.now ≡ length self.old.circuit.latches }
+        ensures { self.new ≡ record self.old { latches = bits.now; settled = false } }
+    {
+        let first = 1 + self.circuit.inputs() as usize;
+        put_bits(bits, first, &mut self.bits);
+        self.settled = false;
+    }
+
+    /// Gives each input its bit.
+    ///
+    /// Condition: there are as many bits as inputs.
+    pub fn set_inputs(&mut self, bits: &[bool])
+        requires { length bits.now ≡ self.old.circuit.inputs }
+        ensures { self.new ≡ record self.old { inputs = bits.now; settled = false } }
+    {
+        put_bits(bits, 1, &mut self.bits);
+        self.settled = false;
+    }
+
+    /// Gives each latch the bit that a digit writes: 1 for the byte of `1`, and 0 for any other.
+    ///
+    /// Condition: there are as many digits as latches.
+    pub fn set_state_digits(&mut self, digits: &[u8])
+        requires { length digits.now ≡ length self.old.circuit.latches }
+        ensures { self.new
+            ≡ record self.old { latches = written_bits digits.now; settled = false } }
+    {
+        let first = 1 + self.circuit.inputs() as usize;
+        put_digits(digits, first, &mut self.bits);
+        self.settled = false;
+    }
+
+    /// Gives each input the bit that a digit writes: 1 for the byte of `1`, and 0 for any other.
+    ///
+    /// Condition: there are as many digits as inputs.
+    pub fn set_input_digits(&mut self, digits: &[u8])
+        requires { length digits.now ≡ self.old.circuit.inputs }
+        ensures { self.new
+            ≡ record self.old { inputs = written_bits digits.now; settled = false } }
+    {
+        put_digits(digits, 1, &mut self.bits);
         self.settled = false;
     }
 

@@ -6,6 +6,7 @@ use Rattle.base.specs.Literal.{Valuation, literal_value, valuation_of}
 use Rattle.aiger.specs.Trace.{next_latch_bits}
 use Rattle.base.specs.Steps.{more_steps}
 use Rattle.runs.specs.CircuitRun.{CircuitRun, IsFrameNow}
+use Rattle.runs.specs.CircuitHolds.{IsPut}
 use Rattle.runs.proofs.BitRunLemmas.{AfterAdvance, latches_in, inputs_in, nexts_inside, advance_keeps, circuit_run_same}
 use Rattle.runs.proofs.bit_run.BitRun.advance.Goals as goal
 use Rattle.runs.proofs.bit_run.BitRun.advance.Goals.{After-clear_inputs}
@@ -41,8 +42,8 @@ after c done =
     ∙ ap (λ (bits : List Bool). literal_value (valuation_of bits) (get_or c.latches.result.now j d).next) c.deref.ensures.value
     ∙ ap (λ (ls : List Latch). literal_value (valuation_of c.self.inside.bits.items) (get_or ls j d).next) c.latches.ensures.items)
     (c.take_nexts.ensures.as_many ∙ ap length c.deref_mut.ensures.value)
-    (subst (λ (l : List Bool). (j : ℕ) → j < length l → get_or c.put_bits.new.bits (1 + c.inputs-inputs.result + j) false ≡ get_or l j false) given c.put_bits.ensures.put)
-    (λ p h. c.put_bits.ensures.others p h ∙ ap (λ (l : List Bool). get_or l p false) c.deref_mut-2.ensures.value) (c.put_bits.ensures.as_many ∙ ap length c.deref_mut-2.ensures.value)
+    (subst (λ (l : List Bool). IsPut c.take_nexts.new.taken (1 + c.inputs-inputs.result) l c.put_bits.new.bits) c.deref_mut-2.ensures.value
+    (subst (λ (l : List Bool). IsPut l (1 + c.inputs-inputs.result) c.deref_mut-2.result.now c.put_bits.new.bits) given c.put_bits.ensures))
     (subst (λ (n : ℕ). (j : ℕ) → j < n → get_or c.clear_inputs.new.bits (1 + j) false ≡ false) count c.clear_inputs.ensures.cleared)
     (λ p h. c.clear_inputs.ensures.others p (subst (λ (n : ℕ). n < p) (sym count) h) ∙ ap (λ (l : List Bool). get_or l p false) between) (c.clear_inputs.ensures.constant ∙ ap (λ (l : List Bool). get_or l 0 false) between)
     (c.clear_inputs.ensures.as_many ∙ ap length between)

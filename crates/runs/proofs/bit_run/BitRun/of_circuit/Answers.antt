@@ -3,6 +3,7 @@ use Rattle.std.proofs.lemmas.List.{with_items_is, length-replicate}
 use Rattle.std.specs.Vec.{with_items}
 use Rattle.aiger.specs.declared.circuit.Latch.{Latch}
 use Rattle.runs.specs.CircuitRun.{reset_bit}
+use Rattle.runs.specs.CircuitHolds.{IsPut}
 use Rattle.runs.proofs.BitRunLemmas.{Starts, latches_in, inputs_in, starts, circuit_run_same}
 use Rattle.runs.proofs.bit_run.BitRun.of_circuit.Goals as goal
 use Rattle.runs.proofs.bit_run.BitRun.of_circuit.Goals.{After-put_bits}
@@ -23,8 +24,8 @@ begun c =
     (c.in_ok-bits.ensures.items_if_clones_equal (λ y same. same) ∙ ap (λ (n : ℕ). replicate (n + 1) false) c.variables.ensures.count)
     (λ j d within. c.take_first_bits.ensures.taken j d (subst (λ (ls : List Latch). j < length ls) (sym c.latches-2.ensures.items) within) ∙ ap (λ (ls : List Latch). reset_bit (get_or ls j d).reset) c.latches-2.ensures.items)
     (c.take_first_bits.ensures.as_many ∙ ap length (c.deref_mut.ensures.value ∙ c.in_ok-next_bits.ensures.items_if_clones_equal (λ y same. same)) ∙ length-replicate (length c.latches.result.now) false ∙ ap length c.latches.ensures.items)
-    (subst (λ (l : List Bool). (j : ℕ) → j < length l → get_or c.put_bits.new.bits (1 + c.inputs.result + j) false ≡ get_or l j false) given c.put_bits.ensures.put)
-    (λ p h. c.put_bits.ensures.others p h ∙ ap (λ (l : List Bool). get_or l p false) blank) (c.put_bits.ensures.as_many ∙ ap length blank)
+    (subst (λ (l : List Bool). IsPut c.take_first_bits.new.taken (1 + c.inputs.result) l c.put_bits.new.bits) blank
+    (subst (λ (l : List Bool). IsPut l (1 + c.inputs.result) c.deref_mut-2.result.now c.put_bits.new.bits) given c.put_bits.ensures))
 
 pub invariant_of-result : goal.invariant_of-result
 invariant_of-result c =
