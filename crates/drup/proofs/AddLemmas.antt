@@ -1,10 +1,10 @@
 -- A clause put behind the others.
-use Rattle.std.proofs.Common.{◌≡◌, ◌≢◌, ℕ, suc, ◌+◌, ◌-◌, ◌*◌, ◌/◌, ◌%◌, ◌<◌, ◌≤◌, true, false, List, [], ◌∷◌, ◌++◌, ◌⊎◌, inl, inr, length, get_or, take, drop, ⊎_elim, refl, sym, ap, ap₂, subst, ◌∙◌, arith, length-append}
+use Rattle.std.proofs.Common.{◌≡◌, ◌≢◌, ℕ, ◌+◌, ◌-◌, ◌*◌, ◌/◌, ◌%◌, ◌<◌, ◌≤◌, true, false, List, [], ◌∷◌, ◌++◌, ◌⊎◌, inl, inr, length, get_or, take, ⊎_elim, refl, sym, ap, subst, ◌∙◌, arith, length-append}
 use Rattle.std.proofs.lemmas.Bool.{cases_eq, cases_lt}
-use Rattle.std.proofs.lemmas.List.{get_or_append_left, drop-append-le, take-append-le, length-drop}
-use Rattle.std.proofs.lemmas.List.Elements.{All-append, All-contains}
+use Rattle.std.proofs.lemmas.List.{get_or_append_left}
+use Rattle.std.proofs.lemmas.List.Elements.{All-append, All-cons, All-nil, All-contains}
 use Rattle.std.proofs.Math.Seq.{get_or-append_seam}
-use Rattle.std.specs.Prelude.{All, Contains, slice_range}
+use Rattle.std.specs.Prelude.{All, Contains}
 use Rattle.drup.specs.Marked.{Marked, set_of, AreMarked, ArePlaced}
 use Rattle.drup.specs.Growth.{Extends, GrowsMarked, GrowsBy, Falsifies, AreSettled}
 use Rattle.drup.proofs.TrailLemmas.{same_order, prefix_take}
@@ -17,53 +17,11 @@ use Rattle.drup.specs.Propagator.{State, KeepsPropagator, Extended}
 use Rattle.drup.specs.Added.{Added, Unchanged}
 use Rattle.drup.proofs.WatchLemmas.{place_of, on_off}
 use Rattle.base.specs.Literal.{negation}
-use Rattle.drup.specs.Flat.{cut, standing, AreStartsAndEnds}
+use Rattle.drup.specs.Flat.{standing}
 use Rattle.drup.specs.Lists.{list_at, IsListed}
 use Rattle.drup.specs.Watched.{clause_at, IsWatched, IsUnit, Stays, AreMet, UnitsMet, IsMet, Chosen, CanWatch}
 use Rattle.base.proofs.LiteralLemmas.{negation-inside, negation-even, negation-odd}
-use Rattle.drup.proofs.PassLemmas.{length-cut, cut_equal, Grows-by}
-
-drop_behind : (xs ys : List ℕ) → drop (length xs) (xs ++ ys) ≡ ys
-drop_behind [] ys = refl
-drop_behind (x ∷ xs) ys = drop_behind xs ys
-
-take_whole : (xs : List ℕ) → take (length xs) xs ≡ xs
-take_whole [] = refl
-take_whole (x ∷ xs) = ap (λ (ys : List ℕ). x ∷ ys) (take_whole xs)
-
-pub range_kept : (xs ys : List ℕ) (a b : ℕ) → a ≤ b → b ≤ length xs → slice_range (xs ++ ys) a b ≡ slice_range xs a b
-range_kept xs ys a b low high = ap (λ (zs : List ℕ). take (b - a) zs) (drop-append-le a xs ys (omega arith)) ∙ take-append-le (b - a) (drop a xs) ys (omega (arith, length-drop a xs))
-
-pub range_last : (xs ys : List ℕ) → slice_range (xs ++ ys) (length xs) (length (xs ++ ys)) ≡ ys
-range_last xs ys = ap (λ (zs : List ℕ). take (length (xs ++ ys) - length xs) zs) (drop_behind xs ys) ∙ (let e : length (xs ++ ys) - length xs ≡ length ys = omega (arith, length-append xs ys) in ap (λ (n : ℕ). take n ys) e ∙ take_whole ys)
-
--- a stretch of the longer list: one that was there, and the last
-pub cut-add : (literals clause starts ends : List ℕ) → AreStartsAndEnds (length literals) starts ends → cut (literals ++ clause) (starts ++ length literals ∷ []) (ends ++ length (literals ++ clause) ∷ []) ≡ cut literals starts ends ++ clause ∷ []
-cut-add literals clause [] [] o = ap (λ (c : List ℕ). c ∷ []) (range_last literals clause)
-cut-add literals clause [] (e ∷ es) o = absurd (omega (arith, o.as_many))
-cut-add literals clause (s ∷ ss) [] o = absurd (omega (arith, o.as_many))
-cut-add literals clause (s ∷ ss) (e ∷ es) o =
-    let first = o.stretch 0 (omega arith) in
-    ap₂ (λ (c : List ℕ) (cs : List (List ℕ)). c ∷ cs) (range_kept literals clause s e first.0 first.1)
-    (cut-add literals clause ss es (record { as_many = omega (arith, o.as_many); stretch = λ k h. o.stretch (suc k) (omega arith) }))
-
-pub AreEnds-add : (size more : ℕ) (starts ends : List ℕ) → AreStartsAndEnds size starts ends → size ≤ more → AreStartsAndEnds more (starts ++ size ∷ []) (ends ++ more ∷ [])
-AreEnds-add size more starts ends o h = record {
-  as_many = omega (arith, o.as_many, length-append starts (size ∷ []), length-append ends (more ∷ []));
-  stretch = λ k below.
-      ⊎_elim
-      (λ (old : k < length ends).
-      let a = get_or_append_left starts (size ∷ []) 0 k (omega (arith, o.as_many)) in
-      let b = get_or_append_left ends (more ∷ []) 0 k old in
-      (omega (arith, a, b, o.stretch k old), omega (arith, b, (o.stretch k old).1)))
-      (λ (late : length ends ≤ k).
-      let is : k ≡ length ends = omega (arith, below, late, length-append ends (more ∷ [])) in
-      let is' : k ≡ length starts = omega (arith, is, o.as_many) in
-      let a : get_or (starts ++ size ∷ []) k 0 ≡ size = ap (λ (i : ℕ). get_or (starts ++ size ∷ []) i 0) is' ∙ get_or-append_seam starts size [] 0 in
-      let b : get_or (ends ++ more ∷ []) k 0 ≡ more = ap (λ (i : ℕ). get_or (ends ++ more ∷ []) i 0) is ∙ get_or-append_seam ends more [] 0 in
-      (omega (arith, a, b, h), omega (arith, b)))
-      (cases_lt k (length ends));
-}
+use Rattle.drup.proofs.PassLemmas.{Grows-by}
 
 -- A clause that was there, and the last.
 
@@ -161,29 +119,25 @@ module _ (clauses : List (List ℕ)) (clause : List ℕ) where
 
 -- The whole formula.
 
-abbrev pub state_of_clauses : List (List ℕ) → Marked → State
-state_of_clauses clauses trail = record { limit = length trail.marks; clauses = standing clauses; followed = trail.marks }
-
-abbrev pub state_from : List ℕ → List ℕ → List ℕ → Marked → State
-state_from literals starts ends trail = state_of_clauses (cut literals starts ends) trail
+abbrev pub state_from : List (List ℕ) → Marked → State
+state_from clauses trail = record { limit = length trail.marks; clauses = standing clauses; followed = trail.marks }
 
 pub undone_is : (root : ℕ) (old between new : Marked) → root ≡ length old.order → Extends old between → new.order ≡ take root between.order → length new.marks ≡ length between.marks → AreMarked old → ArePlaced old → AreMarked new → ArePlaced new → new ≡ old
 undone_is root old between new is x order many marked placed marked' placed' =
     same_order old new (many ∙ x.as_many) (order ∙ ap (λ (n : ℕ). take n between.order) is ∙ prefix_take old between x.longer x.prefix) marked placed marked' placed'
 
 -- The watches moved, and the marks are what they were.
-pub KeepsPropagator-moved : (literals starts ends watched ws watched' : List ℕ) (lists lists' : List (List ℕ)) (trail new : Marked) (clauses : List (List ℕ))
-    → KeepsPropagator literals starts ends watched lists trail → clauses ≡ cut literals starts ends → ws ≡ watched → IsWatched clauses watched' lists' (length trail.marks) → Stays ws watched' trail → new ≡ trail → KeepsPropagator literals starts ends watched' lists' new
-KeepsPropagator-moved literals starts ends watched ws watched' lists lists' trail new clauses k is wis w t same =
-    subst (λ (m : Marked). KeepsPropagator literals starts ends watched' lists' m) (sym same)
+pub KeepsPropagator-moved : (clauses : List (List ℕ)) (watched ws watched' : List ℕ) (lists lists' : List (List ℕ)) (trail new : Marked)
+    → KeepsPropagator clauses watched lists trail → ws ≡ watched → IsWatched clauses watched' lists' (length trail.marks) → Stays ws watched' trail → new ≡ trail → KeepsPropagator clauses watched' lists' new
+KeepsPropagator-moved clauses watched ws watched' lists lists' trail new k wis w t same =
+    subst (λ (m : Marked). KeepsPropagator clauses watched' lists' m) (sym same)
     (record {
       even = k.even;
       inside = k.inside;
-      ordered = k.ordered;
       low = k.low;
       consistent = k.consistent;
-      are_watched = subst (λ (cs : List (List ℕ)). IsWatched cs watched' lists' (length trail.marks)) is w;
-      are_met = AreMet-stays (cut literals starts ends) watched watched' trail (subst (λ (xs : List ℕ). Stays xs watched' trail) wis t) k.are_met;
+      are_watched = w;
+      are_met = AreMet-stays clauses watched watched' trail (subst (λ (xs : List ℕ). Stays xs watched' trail) wis t) k.are_met;
       units_met = k.units_met;
     })
 
@@ -289,85 +243,62 @@ module _ (clauses : List (List ℕ)) (clause : List ℕ) where
 
 -- After a clause is put behind the others.
 
-module _ (literals starts ends watched : List ℕ) (lists : List (List ℕ)) (trail : Marked) (clause : List ℕ) (first second : ℕ) (k : KeepsPropagator literals starts ends watched lists trail)
-    (low : All (λ l. l < length trail.marks) clause) (can : CanWatch clause first second trail) where
-  module _ (literals' starts' ends' watched' : List ℕ) (lists' : List (List ℕ)) (a : Added literals starts ends watched lists clause first second literals' starts' ends' watched' lists') where
-    ends_is : ends' ≡ ends ++ length (literals ++ clause) ∷ []
-    ends_is = a.ends_are ∙ ap (λ (ls : List ℕ). ends ++ length ls ∷ []) a.literals_are
-
-    pub cut_is : cut literals' starts' ends' ≡ cut literals starts ends ++ clause ∷ []
-    cut_is = cut_equal a.literals_are a.starts_are ends_is ∙ cut-add literals clause starts ends k.ordered
-
-    many : length (cut literals starts ends) ≡ length ends
-    many = length-cut literals starts ends k.ordered.as_many
-
-    pub KeepsPropagator-add : KeepsPropagator literals' starts' ends' watched' lists' trail
-    KeepsPropagator-add = record {
+pub KeepsPropagator-add : (clauses : List (List ℕ)) (watched : List ℕ) (lists : List (List ℕ)) (trail : Marked) (clause : List ℕ) (first second : ℕ) → KeepsPropagator clauses watched lists trail → All (λ l. l < length trail.marks) clause → CanWatch clause first second trail
+    → (clauses' : List (List ℕ)) (watched' : List ℕ) (lists' : List (List ℕ)) → Added clauses watched lists clause first second clauses' watched' lists' → KeepsPropagator clauses' watched' lists' trail
+KeepsPropagator-add clauses watched lists trail clause first second k low can clauses' watched' lists' a =
+    let below = λ (l : ℕ) (there : Contains clause l). All-contains (λ l. l < length trail.marks) clause l low there in
+    rw (a.clauses_are, a.watched_are) (record {
       even = k.even;
-      inside = subst (λ (ls : List ℕ). All (λ l. l < length trail.marks) ls) (sym a.literals_are) (All-append (λ l. l < length trail.marks) literals clause k.inside low);
-      ordered = subst (λ (ss : List ℕ). AreStartsAndEnds (length literals') ss ends') (sym a.starts_are) (subst (λ (es : List ℕ). AreStartsAndEnds (length literals') (starts ++ length literals ∷ []) es) (sym a.ends_are) (AreEnds-add (length literals) (length literals') starts ends k.ordered (omega (arith, ap length a.literals_are, length-append literals clause))));
+      inside = All-append (All (λ l. l < length trail.marks)) clauses (clause ∷ []) k.inside (All-cons (All (λ l. l < length trail.marks)) clause [] low (All-nil (All (λ l. l < length trail.marks))));
       low = k.low;
       consistent = k.consistent;
-      are_watched = subst (λ (cs : List (List ℕ)). IsWatched cs watched' lists' (length trail.marks)) (sym cut_is)
-          (subst (λ (ws : List ℕ). IsWatched (cut literals starts ends ++ clause ∷ []) ws lists' (length trail.marks)) (sym a.watched_are)
-          (IsWatched-add (cut literals starts ends) clause watched lists lists' (length trail.marks) first second k.are_watched a.listed
-          (subst (λ (n : ℕ). Contains (list_at lists' first) (2 * n)) (sym many) a.first_listed) (subst (λ (n : ℕ). Contains (list_at lists' second) (2 * n + 1)) (sym many) a.second_listed)
-          can.first_in can.second_in can.only (All-contains (λ l. l < length trail.marks) clause first low can.first_in) (All-contains (λ l. l < length trail.marks) clause second low can.second_in)));
-      are_met = subst (λ (cs : List (List ℕ)). AreMet cs watched' trail) (sym cut_is)
-          (subst (λ (ws : List ℕ). AreMet (cut literals starts ends ++ clause ∷ []) ws trail) (sym a.watched_are)
-          (AreMet-add (cut literals starts ends) clause watched first second trail k.are_watched.two_each can k.are_met));
-      units_met = subst (λ (cs : List (List ℕ)). UnitsMet cs trail) (sym cut_is)
-          (UnitsMet-add (cut literals starts ends) clause watched first second trail k.are_watched.two_each can k.units_met);
-    }
+      are_watched = IsWatched-add clauses clause watched lists lists' (length trail.marks) first second k.are_watched a.listed a.first_listed a.second_listed can.first_in can.second_in can.only (below first can.first_in) (below second can.second_in);
+      are_met = AreMet-add clauses clause watched first second trail k.are_watched.two_each can k.are_met;
+      units_met = UnitsMet-add clauses clause watched first second trail k.are_watched.two_each can k.units_met;
+    })
 
-pub KeepsPropagator-same : (literals starts ends watched : List ℕ) (lists : List (List ℕ)) (trail : Marked) (literals' starts' ends' watched' : List ℕ) (lists' : List (List ℕ)) → KeepsPropagator literals starts ends watched lists trail → Unchanged literals starts ends watched lists literals' starts' ends' watched' lists' → KeepsPropagator literals' starts' ends' watched' lists' trail
-KeepsPropagator-same literals starts ends watched lists trail literals' starts' ends' watched' lists' k u =
+pub KeepsPropagator-same : (clauses : List (List ℕ)) (watched : List ℕ) (lists : List (List ℕ)) (trail : Marked) (clauses' : List (List ℕ)) (watched' : List ℕ) (lists' : List (List ℕ)) → KeepsPropagator clauses watched lists trail → Unchanged clauses watched lists clauses' watched' lists' → KeepsPropagator clauses' watched' lists' trail
+KeepsPropagator-same clauses watched lists trail clauses' watched' lists' k u =
     let w = k.are_watched in
-    subst (λ (ls : List ℕ). KeepsPropagator ls starts' ends' watched' lists' trail) (sym u.literals_are)
-    (subst (λ (ss : List ℕ). KeepsPropagator literals ss ends' watched' lists' trail) (sym u.starts_are)
-    (subst (λ (es : List ℕ). KeepsPropagator literals starts es watched' lists' trail) (sym u.ends_are)
-    (subst (λ (ws : List ℕ). KeepsPropagator literals starts ends ws lists' trail) (sym u.watched_are)
-    (record {
+    rw (u.clauses_are, u.watched_are) (record {
       even = k.even;
       inside = k.inside;
-      ordered = k.ordered;
       low = k.low;
       consistent = k.consistent;
       are_watched = record { two_each = w.two_each; many_lists = u.listed.as_many ∙ w.many_lists; inside = w.inside; listed = λ n h low. u.listed.kept (get_or watched n 0) n (w.listed n h low); live = w.live; differ = w.differ };
       are_met = k.are_met;
       units_met = k.units_met;
-    }))))
+    })
 
-pub at_rest : (literals starts ends watched : List ℕ) (lists : List (List ℕ)) (trail : Marked) → KeepsPropagator literals starts ends watched lists trail → AreSettled (cut literals starts ends) trail
-at_rest literals starts ends watched lists trail k = all_settled (cut literals starts ends) watched lists (length trail.marks) trail k.are_watched k.consistent k.are_met k.units_met
+pub at_rest : (clauses : List (List ℕ)) (watched : List ℕ) (lists : List (List ℕ)) (trail : Marked) → KeepsPropagator clauses watched lists trail → AreSettled clauses trail
+at_rest clauses watched lists trail k = all_settled clauses watched lists (length trail.marks) trail k.are_watched k.consistent k.are_met k.units_met
 
 -- What follows of a new clause is marked, before it is put behind the others.
-pub KeepsPropagator-grown : (literals starts ends watched watched' : List ℕ) (lists lists' : List (List ℕ)) (trail new : Marked) (clauses : List (List ℕ)) (clauses' : List (List ℕ))
-    → KeepsPropagator literals starts ends watched lists trail → clauses ≡ cut literals starts ends → IsWatched clauses watched' lists' (length trail.marks) → GrowsMarked clauses' trail new → AreMet clauses watched' new → KeepsPropagator literals starts ends watched' lists' new
-KeepsPropagator-grown literals starts ends watched watched' lists lists' trail new clauses clauses' k is w g met = record {
+pub KeepsPropagator-grown : (clauses : List (List ℕ)) (watched watched' : List ℕ) (lists lists' : List (List ℕ)) (trail new : Marked) (clauses' : List (List ℕ))
+    → KeepsPropagator clauses watched lists trail → IsWatched clauses watched' lists' (length trail.marks) → GrowsMarked clauses' trail new → AreMet clauses watched' new → KeepsPropagator clauses watched' lists' new
+KeepsPropagator-grown clauses watched watched' lists lists' trail new clauses' k w g met = record {
   even = ap (λ (n : ℕ). n % 2) g.as_many ∙ k.even;
-  inside = subst (λ (n : ℕ). All (λ l. l < n) literals) (sym g.as_many) k.inside;
-  ordered = k.ordered;
+  inside = subst (λ (n : ℕ). All (All (λ l. l < n)) clauses) (sym g.as_many) k.inside;
   low = omega (arith, k.low, g.as_many);
   consistent = g.consistent;
-  are_watched = subst (λ (n : ℕ). IsWatched (cut literals starts ends) watched' lists' n) (sym g.as_many) (subst (λ (cs : List (List ℕ)). IsWatched cs watched' lists' (length trail.marks)) is w);
-  are_met = subst (λ (cs : List (List ℕ)). AreMet cs watched' new) is met;
-  units_met = units_kept (cut literals starts ends) trail new g.kept k.units_met;
+  are_watched = subst (λ (n : ℕ). IsWatched clauses watched' lists' n) (sym g.as_many) w;
+  are_met = met;
+  units_met = units_kept clauses trail new g.kept k.units_met;
 }
 
-pub extended : (literals starts ends literals' starts' ends' watched' : List ℕ) (lists' : List (List ℕ)) (trail new : Marked) (clause : List ℕ) → 0 < length clause → cut literals' starts' ends' ≡ cut literals starts ends ++ clause ∷ [] → GrowsMarked (cut literals starts ends ++ clause ∷ []) trail new → KeepsPropagator literals' starts' ends' watched' lists' new
-    → Extended (state_from literals starts ends trail) clause (state_from literals' starts' ends' new)
-extended literals starts ends literals' starts' ends' watched' lists' trail new clause some is g k =
-    let settled = at_rest literals' starts' ends' watched' lists' new k in
+pub extended : (clauses clauses' : List (List ℕ)) (watched' : List ℕ) (lists' : List (List ℕ)) (trail new : Marked) (clause : List ℕ) → 0 < length clause → clauses' ≡ clauses ++ clause ∷ [] → GrowsMarked (clauses ++ clause ∷ []) trail new → KeepsPropagator clauses' watched' lists' new
+    → Extended (state_from clauses trail) clause (state_from clauses' new)
+extended clauses clauses' watched' lists' trail new clause some is g k =
+    let settled = at_rest clauses' watched' lists' new k in
     record {
       limit = g.as_many;
-      clauses = ap standing is ∙ standing-push (cut literals starts ends) clause some;
+      clauses = ap standing is ∙ standing-push clauses clause some;
       closure = record {
         holds = g.kept;
-        closed = settled_closed (cut literals' starts' ends') new settled;
-        least = λ s closed within. g.follows s (subst (λ (cs : List (List ℕ)). IsClosed cs s) is (closed_places (cut literals' starts' ends') s closed)) within;
+        closed = settled_closed clauses' new settled;
+        least = λ s closed within. g.follows s (subst (λ (cs : List (List ℕ)). IsClosed cs s) is (closed_places clauses' s closed)) within;
       };
-      free = no_conflict (cut literals' starts' ends') new k.consistent settled;
+      free = no_conflict clauses' new k.consistent settled;
     }
 
 pub extends_of : (clauses : List (List ℕ)) (old new : Marked) → GrowsMarked clauses old new → Extends old new

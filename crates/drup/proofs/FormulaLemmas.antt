@@ -5,7 +5,7 @@ use Rattle.std.specs.Prelude.{All, slice_range}
 use Rattle.drup.specs.Flat.{cut}
 use Rattle.drup.specs.Formula.{IsLiteral}
 use Rattle.drup.specs.FormulaKept.{AreEndsInTurn}
-use Rattle.drup.proofs.AddLemmas.{range_kept, range_last}
+use Rattle.drup.proofs.FlatLemmas.{range_kept, range_last}
 
 pub length-cut_in_turn : (literals ends : List ℕ) (start : ℕ) → length (cut literals (start ∷ ends) ends) ≡ length ends
 length-cut_in_turn literals [] start = refl

@@ -6,6 +6,7 @@ pub mod SoundLemmas
 pub mod ListsLemmas
 pub mod WatchLemmas
 pub mod WalkLemmas
+pub mod FlatLemmas
 pub mod AddLemmas
 pub mod FormulaLemmas
 pub mod FormulaTextLemmas

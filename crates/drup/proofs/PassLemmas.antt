@@ -1,15 +1,14 @@
 -- Steps of unit propagation, clause by clause.
-use Rattle.std.proofs.Common.{◌≡◌, ◌≢◌, ℕ, zero, suc, ◌-◌, ◌<◌, true, false, List, [], ◌∷◌, ◌++◌, length, get_or, set, drop, ⊎_elim, refl, sym, ap, subst, ◌∙◌, arith, length-append}
+use Rattle.std.proofs.Common.{◌≡◌, ◌≢◌, ℕ, ◌-◌, ◌<◌, true, false, List, [], ◌∷◌, ◌++◌, length, get_or, set, ⊎_elim, refl, sym, ap, subst, ◌∙◌, arith, length-append}
 use Rattle.std.proofs.lemmas.Bool.{cases_eq}
 use Rattle.std.proofs.lemmas.List.{length-set, get_or-set_same, get_or-set_other, get_or_append_left}
-use Rattle.std.proofs.lemmas.List.Elements.{All-take, All-drop, All-contains}
+use Rattle.std.proofs.lemmas.List.Elements.{All-contains}
 use Rattle.std.proofs.lemmas.Grind.{get_or_default_zero}
-use Rattle.std.specs.Prelude.{slice_range, Contains, All}
+use Rattle.std.specs.Prelude.{Contains, All}
 use Rattle.base.specs.Literal.{negation}
 use Rattle.drup.specs.Propagation.{Literals, OthersNegated, IsClosedUnder}
 use Rattle.drup.specs.Marked.{Marked, set_of, IsConsistent, IsWithin, IsKept}
 use Rattle.drup.specs.Growth.{IsOpen, GrowsBy, GrowsMarked}
-use Rattle.drup.specs.Flat.{cut}
 use Rattle.base.proofs.LiteralLemmas.{negation-negation, negation-other}
 
 -- A literal more.
@@ -74,22 +73,7 @@ takes_literal clause m new l is c opened others inside =
 pub contained_inside : (n : ℕ) (clause : List ℕ) (l : ℕ) → All (λ l. l < n) clause → Contains clause l → l < n
 contained_inside n clause l all there = All-contains (λ l. l < n) clause l all there
 
--- Clauses of a flat list.
-
-pub length-cut : (literals starts ends : List ℕ) → length starts ≡ length ends → length (cut literals starts ends) ≡ length ends
-length-cut literals [] [] e = refl
-length-cut literals [] (b ∷ bs) e = absurd (omega (arith, e))
-length-cut literals (a ∷ xs) [] e = absurd (omega (arith, e))
-length-cut literals (a ∷ xs) (b ∷ bs) e = ap suc (length-cut literals xs bs (omega (arith, e)))
-
-pub cut_at : (literals starts ends : List ℕ) (k : ℕ) → length starts ≡ length ends → k < length ends → get_or (cut literals starts ends) k [] ≡ slice_range literals (get_or starts k 0) (get_or ends k 0)
-cut_at literals [] ends k e h = absurd (omega (arith, e))
-cut_at literals (a ∷ xs) [] k e h = absurd (omega arith)
-cut_at literals (a ∷ xs) (b ∷ bs) zero e h = refl
-cut_at literals (a ∷ xs) (b ∷ bs) (suc k) e h = cut_at literals xs bs k (omega (arith, e)) (omega arith)
-
-pub cut_equal : {l m s t e f : List ℕ} → l ≡ m → s ≡ t → e ≡ f → cut l s e ≡ cut m t f
-cut_equal {l} {m} {s} {t} {e} {f} p q r = ap (λ (x : List ℕ). cut x s e) p ∙ ap (λ (x : List ℕ). cut m x e) q ∙ ap (λ (x : List ℕ). cut m t x) r
+-- Marks that have grown.
 
 pub Grows-begin : (clauses : List (List ℕ)) (m : Marked) → IsConsistent m → GrowsMarked clauses m m
 Grows-begin clauses m c = record { follows = λ s closed within. within; consistent = c; as_many = refl; longer = omega arith; kept = λ l on. on; prefix = λ j h. refl }
@@ -113,8 +97,3 @@ Grows-by clauses k clause old new h is g = record {
   kept = g.kept;
   prefix = g.prefix;
 }
-
-pub clause_inside : (n : ℕ) (literals starts ends : List ℕ) (k : ℕ) → length starts ≡ length ends → k < length ends → All (λ l. l < n) literals → All (λ l. l < n) (get_or (cut literals starts ends) k [])
-clause_inside n literals starts ends k e h all =
-    subst (λ (c : List ℕ). All (λ l. l < n) c) (sym (cut_at literals starts ends k e h))
-    (All-take (λ l. l < n) (get_or ends k 0 - get_or starts k 0) (drop (get_or starts k 0) literals) (All-drop (λ l. l < n) (get_or starts k 0) literals all))

@@ -1,20 +1,12 @@
 -- The clauses that stand, put together anew.
-use Rattle.std.proofs.Common.{◌≡◌, ℕ, ◌+◌, ◌*◌, ◌/◌, ◌%◌, ◌<◌, List, [], ◌∷◌, ◌++◌, length, get_or, take, drop, ◌-◌, sym, ap, subst, ◌∙◌, arith}
+use Rattle.std.proofs.Common.{◌≡◌, ℕ, ◌+◌, ◌*◌, ◌/◌, ◌%◌, ◌<◌, List, [], ◌∷◌, ◌++◌, length, get_or, take, ◌-◌, sym, ap, subst, ◌∙◌, arith}
 use Rattle.std.proofs.lemmas.List.{take_more}
-use Rattle.std.specs.Prelude.{All, Contains}
-use Rattle.std.proofs.lemmas.List.Elements.{All-take, All-drop}
-use Rattle.drup.specs.declared.places.Places.{Places}
+use Rattle.std.specs.Prelude.{Contains}
 use Rattle.base.specs.Literal.{negation}
 use Rattle.drup.specs.Marked.{Marked}
-use Rattle.drup.specs.Propagator.{KeepsPropagator}
-use Rattle.drup.specs.Flat.{cut, standing, AreStartsAndEnds}
-use Rattle.drup.specs.Added.{Added}
-use Rattle.drup.specs.Places.{clause_sum, last_at, AreLinked, IsLinkedBehind}
+use Rattle.drup.specs.Flat.{standing}
 use Rattle.drup.specs.Watched.{clause_at, IsWatched, IsMet, AreMet, UnitsMet, CanWatch}
-use Rattle.drup.proofs.AddLemmas.{KeepsPropagator-add, cut_is}
 use Rattle.base.proofs.LiteralLemmas.{negation-even}
-use Rattle.drup.proofs.PassLemmas.{length-cut, cut_at}
-use Rattle.drup.proofs.PlacesLemmas.{AreLinked-behind}
 use Rattle.drup.proofs.StandingLemmas.{standing-append, standing-push}
 
 -- a clause that stands can watch what it watches
@@ -52,23 +44,3 @@ standing-more clauses k h = sym (standing-append (take k clauses) (get_or clause
 -- a clause without literals stands nowhere, and one with a literal stands
 pub stands_alone : (clause : List ℕ) → 0 < length clause → standing (clause ∷ []) ≡ clause ∷ []
 stands_alone clause some = standing-push [] clause some
-
--- one clause more
-module _ (literals starts ends watched : List ℕ) (lists : List (List ℕ)) (trail : Marked) (clause : List ℕ) (first second : ℕ) (k : KeepsPropagator literals starts ends watched lists trail)
-    (low : All (λ l. l < length trail.marks) clause) (can : CanWatch clause first second trail) (literals' starts' ends' watched' : List ℕ) (lists' : List (List ℕ)) (a : Added literals starts ends watched lists clause first second literals' starts' ends' watched' lists') where
-  pub kept_more : KeepsPropagator literals' starts' ends' watched' lists' trail
-  kept_more = KeepsPropagator-add literals starts ends watched lists trail clause first second k low can literals' starts' ends' watched' lists' a
-
-  pub cut_more : cut literals' starts' ends' ≡ cut literals starts ends ++ clause ∷ []
-  cut_more = cut_is literals starts ends watched lists trail clause first second k low can literals' starts' ends' watched' lists' a
-
-  pub linked_more : (old new : Places) → AreLinked (cut literals starts ends) (last_at old) old.before.items → length ends < 2147483647 → IsLinkedBehind old (clause_sum clause) (length ends) new → AreLinked (cut literals' starts' ends') (last_at new) new.before.items
-  linked_more old new linked few behind =
-      AreLinked-behind (cut literals starts ends) _ clause (length ends) old new (omega (arith, can.first_in.1)) linked (sym (length-cut literals starts ends k.ordered.as_many)) few behind cut_more
-
--- the literals of a clause are below the limit
-pub literals_below : (literals starts ends : List ℕ) (limit k : ℕ) → All (λ l. l < limit) literals → AreStartsAndEnds (length literals) starts ends → k < length (cut literals starts ends) → All (λ l. l < limit) (get_or (cut literals starts ends) k [])
-literals_below literals starts ends limit k all o h =
-    let low : k < length ends = omega (arith, h, length-cut literals starts ends o.as_many) in
-    subst (All (λ l. l < limit)) (sym (cut_at literals starts ends k o.as_many low))
-    (All-take (λ l. l < limit) (get_or ends k 0 - get_or starts k 0) (drop (get_or starts k 0) literals) (All-drop (λ l. l < limit) (get_or starts k 0) literals all))

@@ -1,41 +1,16 @@
--- A clause taken out of the flat list.
-use Rattle.std.proofs.Common.{◌≡◌, ◌≢◌, ℕ, zero, suc, ◌+◌, ◌-◌, ◌*◌, ◌/◌, ◌%◌, ◌<◌, ◌≤◌, List, [], ◌∷◌, length, get_or, set, take, drop, ⊎_elim, refl, sym, ap, subst, ◌∙◌, arith}
+-- A clause taken away.
+use Rattle.std.proofs.Common.{◌≡◌, ◌≢◌, ℕ, ◌+◌, ◌*◌, ◌/◌, ◌%◌, ◌<◌, ◌≤◌, List, [], length, get_or, set, ⊎_elim, refl, sym, ap, subst, ◌∙◌, arith}
 use Rattle.std.proofs.lemmas.Bool.{cases_eq, cases_lt}
 use Rattle.std.proofs.lemmas.List.{get_or_past, get_or-set_same, get_or-set_other, length-set}
-use Rattle.std.specs.Prelude.{Contains, slice_range}
+use Rattle.std.proofs.lemmas.List.Elements.{All-nil, All-set}
+use Rattle.std.specs.Prelude.{All, Contains}
 use Rattle.drup.specs.Marked.{Marked, set_of}
 use Rattle.drup.proofs.TrailLemmas.{is_inside}
 use Rattle.drup.specs.Propagator.{KeepsPropagator}
 use Rattle.base.specs.Literal.{negation}
-use Rattle.drup.specs.Flat.{cut, AreStartsAndEnds}
 use Rattle.drup.specs.Lists.{list_at}
 use Rattle.drup.specs.Watched.{clause_at, IsWatched, IsUnit, AreMet, UnitsMet, IsMet}
 use Rattle.base.proofs.LiteralLemmas.{negation-inside, half-negation, negation-negation}
-
--- a clause taken away: its stretch ends where it starts
-pub cut-delete : (literals starts ends : List ℕ) (k : ℕ) → cut literals starts (set ends k (get_or starts k 0)) ≡ set (cut literals starts ends) k []
-cut-delete literals [] ends k = refl
-cut-delete literals (s ∷ ss) [] k = refl
-cut-delete literals (s ∷ ss) (e ∷ es) zero = ap (λ (c : List ℕ). c ∷ cut literals ss es) (let none : s - s ≡ 0 = omega arith in ap (λ (n : ℕ). take n (drop s literals)) none)
-cut-delete literals (s ∷ ss) (e ∷ es) (suc k) = ap (λ (cs : List (List ℕ)). slice_range literals s e ∷ cs) (cut-delete literals ss es k)
-
-pub AreEnds-delete : (size : ℕ) (starts ends : List ℕ) (k : ℕ) → AreStartsAndEnds size starts ends → AreStartsAndEnds size starts (set ends k (get_or starts k 0))
-AreEnds-delete size starts ends k o =
-    let many = length-set ends k (get_or starts k 0) in
-    record {
-      as_many = o.as_many ∙ sym many;
-      stretch = λ i h.
-          ⊎_elim
-          (λ (e : i ≡ k).
-          let is : get_or (set ends k (get_or starts k 0)) i 0 ≡ get_or starts i 0 = ap (λ (j : ℕ). get_or (set ends k (get_or starts k 0)) j 0) e ∙ get_or-set_same ends k (get_or starts k 0) 0 (omega (arith, many)) ∙ ap (λ (j : ℕ). get_or starts j 0) (sym e) in
-          let old = o.stretch i (omega (arith, many)) in
-          (omega (arith, is), omega (arith, is, old.0, old.1)))
-          (λ (ne : i ≢ k).
-          let is = get_or-set_other ends k i (get_or starts k 0) 0 ne in
-          let old = o.stretch i (omega (arith, many)) in
-          (omega (arith, is, old.0), omega (arith, is, old.1)))
-          (cases_eq i k);
-    }
 
 -- A clause is taken away: its position has none, and its two watches are set to what is no literal. Lists and marks stay.
 
@@ -114,21 +89,15 @@ module _ (clauses : List (List ℕ)) (watched : List ℕ) (lists : List (List �
       (λ (ne : i ≢ k). let is = get_or-set_other clauses k i [] [] ne in subst (λ (c : List ℕ). IsMet c m) (sym is) (met i (omega (arith, h, length-set clauses k [])) (subst IsUnit is one)))
       (cases_eq i k)
 
-pub KeepsPropagator-delete : (literals starts ends watched : List ℕ) (lists : List (List ℕ)) (trail : Marked) (k start : ℕ) → KeepsPropagator literals starts ends watched lists trail → start ≡ get_or starts k 0 → KeepsPropagator literals starts (set ends k start) (set (set watched (2 * k) 4294967295) (2 * k + 1) 4294967295) lists trail
-KeepsPropagator-delete literals starts ends watched lists trail k start f is =
-    let clauses = cut literals starts ends in
-    let same : cut literals starts (set ends k start) ≡ set clauses k [] = ap (λ (s : ℕ). cut literals starts (set ends k s)) is ∙ cut-delete literals starts ends k in
+pub KeepsPropagator-delete : (clauses : List (List ℕ)) (watched : List ℕ) (lists : List (List ℕ)) (trail : Marked) (k : ℕ) → KeepsPropagator clauses watched lists trail → KeepsPropagator (set clauses k []) (set (set watched (2 * k) 4294967295) (2 * k + 1) 4294967295) lists trail
+KeepsPropagator-delete clauses watched lists trail k f =
     let high : length trail.marks ≤ 4294967295 = omega (arith, f.low) in
     record {
       even = f.even;
-      inside = f.inside;
-      ordered = subst (λ (s : ℕ). AreStartsAndEnds (length literals) starts (set ends k s)) (sym is) (AreEnds-delete (length literals) starts ends k f.ordered);
+      inside = All-set (All (λ l. l < length trail.marks)) clauses k [] (All-nil (λ l. l < length trail.marks)) f.inside;
       consistent = f.consistent;
       low = f.low;
-      are_watched = subst (λ (cs : List (List ℕ)). IsWatched cs (set (set watched (2 * k) 4294967295) (2 * k + 1) 4294967295) lists (length trail.marks)) (sym same) (IsWatched-delete clauses watched lists (length trail.marks) k 4294967295 f.are_watched high);
-      are_met = subst (λ (cs : List (List ℕ)). AreMet cs (set (set watched (2 * k) 4294967295) (2 * k + 1) 4294967295) trail) (sym same) (AreMet-delete clauses watched lists (length trail.marks) k 4294967295 f.are_watched high trail refl f.even f.are_met);
-      units_met = subst (λ (cs : List (List ℕ)). UnitsMet cs trail) (sym same) (UnitsMet-delete clauses watched lists (length trail.marks) k 4294967295 f.are_watched high trail f.units_met);
+      are_watched = IsWatched-delete clauses watched lists (length trail.marks) k 4294967295 f.are_watched high;
+      are_met = AreMet-delete clauses watched lists (length trail.marks) k 4294967295 f.are_watched high trail refl f.even f.are_met;
+      units_met = UnitsMet-delete clauses watched lists (length trail.marks) k 4294967295 f.are_watched high trail f.units_met;
     }
-
-pub cut_deleted : (literals starts ends : List ℕ) (k start : ℕ) → start ≡ get_or starts k 0 → cut literals starts (set ends k start) ≡ set (cut literals starts ends) k []
-cut_deleted literals starts ends k start is = ap (λ (s : ℕ). cut literals starts (set ends k s)) is ∙ cut-delete literals starts ends k

@@ -1,4 +1,5 @@
 -- Clauses in one flat list of literals, each with the place of its start and its end. A clause that was taken away is empty there, and stands no longer.
+use Rattle.drup.specs.declared.clauses.Clauses.TheInside.{Inside}
 use Rattle.drup.specs.Without.{times}
 use Rattle.std.specs.Prelude.{◌≢◌, ◌≡◌, ℕ, ◌<◌, ◌≤◌, List, [], ◌∷◌, length, slice_index, slice_range}
 
@@ -18,6 +19,13 @@ standing ((l ∷ ls) ∷ clauses) = (l ∷ ls) ∷ standing clauses
 pub record AreStartsAndEnds (size : ℕ) (starts ends : List ℕ) : Type 0 where
   pub as_many : length starts ≡ length ends
   pub stretch : (k : ℕ) → k < length ends → (slice_index starts k ≤ slice_index ends k) × (slice_index ends k ≤ size)
+
+-- what is seen of clauses that are kept so
+abbrev pub clauses_of : Inside → List (List ℕ)
+clauses_of c = cut c.literals.items c.starts.items c.ends.items
+
+abbrev pub AreClauses : Inside → Type 0
+AreClauses c = AreStartsAndEnds (length c.literals.items) c.starts.items c.ends.items
 
 -- two clauses have one literal at a place, or each of the two there stands as often in one as in the other
 abbrev pub AgreeAt : List ℕ → List ℕ → ℕ → Type 0

@@ -4,7 +4,7 @@ use Rattle.drup.specs.declared.propagator.Propagator.TheInside.{Inside}
 use Rattle.drup.specs.Propagation.{Literals, IsClosure, Conflict, MeetsConflict}
 use Rattle.drup.specs.Marked.{Marked, IsEven, IsConsistent}
 use Rattle.drup.specs.Watched.{IsWatched, AreMet, UnitsMet}
-use Rattle.drup.specs.Flat.{cut, standing, AreStartsAndEnds}
+use Rattle.drup.specs.Flat.{standing}
 use Rattle.drup.specs.Places.{last_at, AreLinked}
 
 -- a literal's bit in a list tells whether it is in the set
@@ -31,21 +31,19 @@ AddedTo old clause new false = Extended old clause new
 
 -- what is seen of a propagator
 abbrev pub state_of : Inside → State
-state_of p = record { limit = length p.trail.marks; clauses = standing (cut p.literals.items p.starts.items p.ends.items); followed = p.trail.marks }
+state_of p = record { limit = length p.trail.marks; clauses = standing p.clauses; followed = p.trail.marks }
 
--- an even limit, literals below it, starts and ends in the list, and all that follows is marked, without a conflict
-pub record KeepsPropagator (literals starts ends watched : List ℕ) (lists : List (List ℕ)) (trail : Marked) : Type 0 where
+-- an even limit, literals below it, and all that follows is marked, without a conflict
+pub record KeepsPropagator (clauses : List (List ℕ)) (watched : List ℕ) (lists : List (List ℕ)) (trail : Marked) : Type 0 where
   pub even : IsEven trail
-  pub inside : All (λ l. l < length trail.marks) literals
-  pub ordered : AreStartsAndEnds (length literals) starts ends
+  pub inside : All (All (λ l. l < length trail.marks)) clauses
   pub consistent : IsConsistent trail
   pub low : length trail.marks < 4294967296
-  pub are_watched : IsWatched (cut literals starts ends) watched lists (length trail.marks)
-  pub are_met : AreMet (cut literals starts ends) watched trail
-  pub units_met : UnitsMet (cut literals starts ends) trail
+  pub are_watched : IsWatched clauses watched lists (length trail.marks)
+  pub are_met : AreMet clauses watched trail
+  pub units_met : UnitsMet clauses trail
 
 -- and the places of the clauses of each sum are kept
 abbrev pub IsPropagator : Inside → Type 0
 IsPropagator p =
-    KeepsPropagator p.literals.items p.starts.items p.ends.items p.watched.items p.lists p.trail
-    × AreLinked (cut p.literals.items p.starts.items p.ends.items) (last_at p.places) p.places.before.items
+    KeepsPropagator p.clauses p.watched.items p.lists p.trail × AreLinked p.clauses (last_at p.places) p.places.before.items

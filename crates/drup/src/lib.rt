@@ -2,6 +2,7 @@
 #![tactic(auto)]
 
 mod alike;
+mod clauses;
 mod fault;
 mod formula;
 mod formula_text;

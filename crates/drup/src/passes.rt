@@ -1,9 +1,8 @@
 //! A clause in the flat list, and what is open of one.
-ghost use Rattle.std.specs.Prelude.{◌≡◌, ◌<◌, ◌≤◌, slice_range, slice_index_or, [], ◌≢◌, All, length, MatchOption};
+ghost use Rattle.std.specs.Prelude.{◌≡◌, ◌<◌, ◌≤◌, slice_range, ◌≢◌, All, length, MatchOption};
 ghost use Rattle.drup.specs.Marked.{IsEven, set_of};
 ghost use Rattle.drup.specs.Propagation.{AllNegated, OthersNegated};
 ghost use Rattle.drup.specs.Growth.{IsOpen};
-ghost use Rattle.drup.specs.Flat.{cut, AreStartsAndEnds};
 
 use crate::literal::negation;
 use crate::trail::Trail;
@@ -45,18 +44,4 @@ pub(crate) fn clause_between(literals: &[u32], start: usize, end: usize) -> &[u3
     ensures { result.now ≡ slice_range literals.now start end }
 {
     &literals[start..end]
-}
-
-/// The clause at a place.
-pub(crate) fn clause_of<'a>(
-    literals: &'a [u32],
-    starts: &[usize],
-    ends: &[usize],
-    k: usize,
-) -> &'a [u32]
-    requires ends { AreStartsAndEnds (length literals.now) starts.now ends.now }
-    requires there { k < length ends.now }
-    ensures { result.now ≡ slice_index_or (cut literals.now starts.now ends.now) k [] }
-{
-    clause_between(literals, starts[k], ends[k])
 }

@@ -1,12 +1,11 @@
 //! The places of clauses by their sums, which do not go by the order of literals.
 ghost use Rattle.std.specs.Prelude.{◌≡◌, ℕ, ◌+◌, ◌<◌, [], ◌==◌, if◌then◌else◌, IfOk, MatchOption, length};
-ghost use Rattle.drup.specs.Flat.{cut, AreStartsAndEnds};
 ghost use Rattle.drup.specs.Without.{NoneAlikeFrom, IsLastAlike};
 ghost use Rattle.drup.specs.Places.{mixed, clause_sum, last_at, HasRoom, IsLink, AreLinked, IsLinkedBehind, IsUnlinked};
 
 use crate::alike::are_alike;
+use crate::clauses::Clauses;
 use crate::fault::ClauseFault;
-use crate::passes::clause_of;
 use indexmap::IndexMap;
 use std::alloc::Global;
 
@@ -129,28 +128,25 @@ impl Places {
 
 /// The place of the last clause that has the same literals as one with a literal, and where the link to it stands.
 pub(crate) fn last_alike(
-    literals: &[u32],
-    starts: &[usize],
-    ends: &[usize],
+    clauses: &Clauses,
     places: &Places,
     sum: u32,
     clause: &[u32],
 ) -> Option<(usize, usize)>
-    requires ends { AreStartsAndEnds (length literals.now) starts.now ends.now }
-    requires linked { AreLinked (cut literals.now starts.now ends.now)
+    requires linked { AreLinked clauses.now
         (last_at places.now) places.now.before.items }
     requires sum { sum ≡ clause_sum clause.now }
     requires some { 0 < length clause.now }
     ensures { MatchOption result
-        (NoneAlikeFrom (cut literals.now starts.now ends.now) clause.now 0)
-        (λ at. IsLastAlike (cut literals.now starts.now ends.now) clause.now at.0
-        × IsLink (cut literals.now starts.now ends.now) (last_at places.now) places.now.before.items
+        (NoneAlikeFrom clauses.now clause.now 0)
+        (λ at. IsLastAlike clauses.now clause.now at.0
+        × IsLink clauses.now (last_at places.now) places.now.before.items
         sum at.0 at.1 × (at.0 < at.1)) }
 {
-    let mut behind = ends.len();
+    let mut behind = clauses.len();
     let mut place = places.last(sum) as usize;
     while place < behind {
-        if are_alike(clause, clause_of(literals, starts, ends, place)) {
+        if are_alike(clause, clauses.clause(place)) {
             return Some((place, behind));
         }
         behind = place;

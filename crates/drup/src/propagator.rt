@@ -1,5 +1,5 @@
 //! Clauses, and what follows from them by unit propagation.
-ghost use Rattle.std.specs.Prelude.{◌≡◌, ◌<◌, ◌≤◌, ◌++◌, ◌∷◌, [], ◌↔◌, All, IsTrue, true, false, IfOk, OnOk, OnErr, MatchResult, Contains, length, slice_index, slice_set, ℕ, ◌*◌, ◌+◌};
+ghost use Rattle.std.specs.Prelude.{◌≡◌, ◌<◌, ◌≤◌, ◌++◌, ◌∷◌, [], ◌↔◌, All, IsTrue, true, false, IfOk, OnOk, OnErr, MatchResult, Contains, length, slice_index, ℕ, ◌*◌, ◌+◌};
 ghost use Rattle.drup.specs.Marked.{IsConsistent, IsEven, set_of};
 ghost use Rattle.drup.specs.Propagation.{Implied};
 ghost use Rattle.drup.specs.Growth.{AssumedOne, Assumed, Extends, GrowsMarked};
@@ -9,9 +9,10 @@ ghost use Rattle.drup.specs.Lists.{list_at, IsListed};
 ghost use Rattle.std.specs.Vec.{vec_len, vec_capacity};
 ghost use Rattle.drup.specs.Without.{IsWithout};
 ghost use Rattle.drup.specs.Added.{Added, Unchanged};
-ghost use Rattle.drup.specs.Flat.{cut, standing, AreStartsAndEnds};
+ghost use Rattle.drup.specs.Flat.{standing};
 ghost use Rattle.drup.specs.Places.{clause_sum, last_at, IsLinkedBehind};
 
+use crate::clauses::Clauses;
 use crate::fault::ClauseFault;
 use crate::lists::Lists;
 use crate::literal::negation;
@@ -63,27 +64,24 @@ fn assume(clause: &[u32], trail: &mut Trail) -> bool
 
 /// Whether unit propagation from the negations of a clause's literals meets a conflict.
 fn meets_conflict(
-    literals: &[u32],
-    starts: &[usize],
-    ends: &[usize],
+    clauses: &Clauses,
     watched: &mut [u32],
     lists: &mut Lists,
     clause: &[u32],
     trail: &mut Trail,
 ) -> Result<bool, ClauseFault>
     requires even { IsEven trail.old }
-    requires inside { All (λ l. l < length trail.old.marks) literals.now }
-    requires ends { AreStartsAndEnds (length literals.now) starts.now ends.now }
+    requires inside { All (All (λ l. l < length trail.old.marks)) clauses.now }
     requires below { All (λ l. l < length trail.old.marks) clause.now }
     requires consistent { IsConsistent trail.old }
-    requires watched { IsWatched (cut literals.now starts.now ends.now) watched.old lists.old
+    requires watched { IsWatched clauses.now watched.old lists.old
         (length trail.old.marks) }
-    requires met { AreMet (cut literals.now starts.now ends.now) watched.old trail.old }
-    requires units { UnitsMet (cut literals.now starts.now ends.now) trail.old }
+    requires met { AreMet clauses.now watched.old trail.old }
+    requires units { UnitsMet clauses.now trail.old }
     ensures exact { IfOk result (λ met. IsTrue met
-        ↔ Implied (standing (cut literals.now starts.now ends.now)) (set_of trail.old) clause.now) }
+        ↔ Implied (standing clauses.now) (set_of trail.old) clause.now) }
     ensures extends { Extends trail.old trail.new }
-    ensures watched { IsWatched (cut literals.now starts.now ends.now) watched.new lists.new
+    ensures watched { IsWatched clauses.now watched.new lists.new
         (length trail.old.marks) }
     ensures stays { Stays watched.old watched.new trail.old }
 {
@@ -91,35 +89,32 @@ fn meets_conflict(
     if assume(clause, trail) {
         return Ok(true);
     }
-    propagate(literals, starts, ends, watched, lists, trail, root)
+    propagate(clauses, watched, lists, trail, root)
 }
 
 /// Marks the literal that a new clause gives, if it gives one, and what follows; the two literals that it is to watch, or
 /// none if a conflict is met.
 fn settle(
-    literals: &[u32],
-    starts: &[usize],
-    ends: &[usize],
+    clauses: &Clauses,
     watched: &mut [u32],
     lists: &mut Lists,
     clause: &[u32],
     trail: &mut Trail,
 ) -> Result<Option<(u32, u32)>, ClauseFault>
     requires even { IsEven trail.old }
-    requires inside { All (λ l. l < length trail.old.marks) literals.now }
-    requires ends { AreStartsAndEnds (length literals.now) starts.now ends.now }
+    requires inside { All (All (λ l. l < length trail.old.marks)) clauses.now }
     requires below { All (λ l. l < length trail.old.marks) clause.now }
     requires consistent { IsConsistent trail.old }
-    requires watched { IsWatched (cut literals.now starts.now ends.now) watched.old lists.old
+    requires watched { IsWatched clauses.now watched.old lists.old
         (length trail.old.marks) }
-    requires met { AreMet (cut literals.now starts.now ends.now) watched.old trail.old }
-    ensures grows { GrowsMarked (cut literals.now starts.now ends.now ++ clause.now ∷ []) trail.old
+    requires met { AreMet clauses.now watched.old trail.old }
+    ensures grows { GrowsMarked (clauses.now ++ clause.now ∷ []) trail.old
         trail.new }
-    ensures watched { IsWatched (cut literals.now starts.now ends.now) watched.new lists.new
+    ensures watched { IsWatched clauses.now watched.new lists.new
         (length trail.old.marks) }
     ensures stays { Stays watched.old watched.new trail.old }
     ensures answer { IfOk result
-        (λ both. Brought (cut literals.now starts.now ends.now) clause.now watched.new trail.new
+        (λ both. Brought clauses.now clause.now watched.new trail.new
         both) }
 {
     let root = trail.len();
@@ -133,7 +128,7 @@ fn settle(
                     return Ok(Some((first, second)));
                 }
                 trail.push(first);
-                match propagate(literals, starts, ends, watched, lists, trail, root) {
+                match propagate(clauses, watched, lists, trail, root) {
                     Err(error) => Err(error),
                     Ok(true) => Ok(None),
                     Ok(false) => Ok(Some((first, second))),
@@ -187,9 +182,7 @@ fn push_in_room(numbers: &mut Vec<u32>, number: u32)
 
 /// Puts a clause behind the others.
 pub(crate) fn put(
-    literals: &mut Vec<u32>,
-    starts: &mut Vec<usize>,
-    ends: &mut Vec<usize>,
+    clauses: &mut Clauses,
     watched: &mut Vec<u32>,
     lists: &mut Lists,
     places: &mut Places,
@@ -199,43 +192,28 @@ pub(crate) fn put(
 ) -> Result<(), ClauseFault>
     requires first { first < length lists.old }
     requires second { second < length lists.old }
-    ensures few { IfOk result (λ _. length ends.old.items < 2147483647) }
+    ensures few { IfOk result (λ _. length clauses.old < 2147483647) }
     ensures linked { OnOk result (IsLinkedBehind places.old (clause_sum clause.now)
-        (length ends.old.items) places.new) }
+        (length clauses.old) places.new) }
     ensures last { OnErr result ((s : ℕ) → last_at places.new s ≡ last_at places.old s) }
     ensures before { OnErr result (places.new.before.items ≡ places.old.before.items) }
     ensures ok { IfOk result
-        (λ _. Added literals.old.items starts.old.items ends.old.items watched.old.items lists.old
-        clause.now first second literals.new.items starts.new.items ends.new.items watched.new.items
-        lists.new) }
-    ensures err { OnErr result (Unchanged literals.old.items starts.old.items ends.old.items
-        watched.old.items lists.old literals.new.items starts.new.items ends.new.items
+        (λ _. Added clauses.old watched.old.items lists.old clause.now first second clauses.new
+        watched.new.items lists.new) }
+    ensures err { OnErr result (Unchanged clauses.old watched.old.items lists.old clauses.new
         watched.new.items lists.new) }
 {
-    let clauses = ends.len();
-    if clauses >= MOST_CLAUSES {
+    let count = clauses.len();
+    if count >= MOST_CLAUSES {
         return Err(ClauseFault::NoMemory);
     }
-    let watch = 2 * clauses as u32;
-    starts.reserve(1)?;
-    ends.reserve(1)?;
     watched.reserve(2)?;
-    literals.reserve(clause.len())?;
     places.make_room()?;
-    list_watches(lists, first, second, watch)?;
-    let start = literals.len();
-    literals.extend_from_slice(clause)?;
-    match starts.push(start) {
-        Ok(_) => {}
-        Err(_) => unreachable!(),
-    }
-    match ends.push(literals.len()) {
-        Ok(_) => {}
-        Err(_) => unreachable!(),
-    }
+    list_watches(lists, first, second, 2 * count as u32)?;
+    clauses.push(clause)?;
     push_in_room(watched, first);
     push_in_room(watched, second);
-    places.link(clause_sum(clause), clauses as u32);
+    places.link(clause_sum(clause), count as u32);
     Ok(())
 }
 
@@ -246,10 +224,7 @@ pub(crate) fn put(
 /// came, and which literals followed.
 #[derive(Drop)]
 pub struct Propagator {
-    // the literals of all clauses, one clause after the other, and where each clause starts and ends
-    literals: Vec<u32>,
-    starts: Vec<usize>,
-    ends: Vec<usize>,
+    clauses: Clauses,
     // two literals of each clause, and for each literal the watches of it
     watched: Vec<u32>,
     lists: Lists,
@@ -285,9 +260,7 @@ impl Propagator {
     {
         let root = self.trail.len();
         let met = meets_conflict(
-            &self.literals,
-            &self.starts,
-            &self.ends,
+            &self.clauses,
             &mut self.watched,
             &mut self.lists,
             clause,
@@ -309,9 +282,7 @@ impl Propagator {
         let lists = Lists::new(alloc, limit)?;
         let trail = Trail::new(alloc, limit)?;
         Ok(Propagator {
-            literals: Vec::new(alloc),
-            starts: Vec::new(alloc),
-            ends: Vec::new(alloc),
+            clauses: Clauses::new(alloc),
             watched: Vec::new(alloc),
             lists,
             places: Places::new(alloc),
@@ -332,9 +303,7 @@ impl Propagator {
     {
         let root = self.trail.len();
         match settle(
-            &self.literals,
-            &self.starts,
-            &self.ends,
+            &self.clauses,
             &mut self.watched,
             &mut self.lists,
             clause,
@@ -349,9 +318,7 @@ impl Propagator {
                 Ok(true)
             }
             Ok(Some((first, second))) => match put(
-                &mut self.literals,
-                &mut self.starts,
-                &mut self.ends,
+                &mut self.clauses,
                 &mut self.watched,
                 &mut self.lists,
                 &mut self.places,
@@ -383,26 +350,22 @@ impl Propagator {
     fn sweep(&mut self)
         ensures { self.new ≡ self.old }
     {
-        if self.dead <= self.literals.len() / 2 {
+        if self.dead <= self.clauses.held() / 2 {
             return;
         }
         self.dead = 0;
         match without_dead(
             self.alloc,
-            &self.literals,
-            &self.starts,
-            &self.ends,
+            &self.clauses,
             &self.watched,
             &self.lists,
             &self.trail,
         ) {
-            Ok(clauses) => {
-                self.literals = clauses.literals;
-                self.starts = clauses.starts;
-                self.ends = clauses.ends;
-                self.watched = clauses.watched;
-                self.lists = clauses.lists;
-                self.places = clauses.places;
+            Ok(swept) => {
+                self.clauses = swept.clauses;
+                self.watched = swept.watched;
+                self.lists = swept.lists;
+                self.places = swept.places;
             }
             Err(_) => {}
         }
@@ -414,23 +377,16 @@ impl Propagator {
         ensures followed { (self.new.followed ≡ self.old.followed)
             × (self.new.limit ≡ self.old.limit) }
     {
-        let count = self.ends.len();
+        let count = self.clauses.len();
         if clause.is_empty() {
             return;
         }
         let sum = clause_sum(clause);
-        match last_alike(
-            &self.literals,
-            &self.starts,
-            &self.ends,
-            &self.places,
-            sum,
-            clause,
-        ) {
+        match last_alike(&self.clauses, &self.places, sum, clause) {
             None => {}
             Some((place, behind)) => {
                 self.places.unlink(count, sum, place, behind);
-                self.ends[place] = self.starts[place];
+                self.clauses.take_away(place);
                 self.dead = self.dead.saturating_add(clause.len());
                 self.watched[2 * place] = NO_LITERAL;
                 self.watched[2 * place + 1] = NO_LITERAL;

@@ -1,14 +1,14 @@
 //! The clauses that stand, put together anew without those that were taken away.
 ghost use Rattle.std.specs.Prelude.{◌≡◌, ℕ, ◌<◌, ◌++◌, ◌∷◌, [], List, All, IfOk, length};
-ghost use Rattle.drup.specs.Flat.{cut, standing};
+ghost use Rattle.drup.specs.Flat.{standing};
 ghost use Rattle.drup.specs.Marked.{Marked};
 ghost use Rattle.drup.specs.Propagator.{KeepsPropagator};
 ghost use Rattle.drup.specs.Swept.{IsSweptOf};
 ghost use Rattle.drup.specs.Watched.{CanWatch};
 
+use crate::clauses::Clauses;
 use crate::fault::ClauseFault;
 use crate::lists::Lists;
-use crate::passes::clause_of;
 use crate::places::Places;
 use crate::propagator::put;
 use crate::trail::Trail;
@@ -17,9 +17,7 @@ use std::alloc::Global;
 /// Clauses with what they watch and where those of each sum stand.
 #[derive(Drop)]
 pub(crate) struct Swept {
-    pub(crate) literals: Vec<u32>,
-    pub(crate) starts: Vec<usize>,
-    pub(crate) ends: Vec<usize>,
+    pub(crate) clauses: Clauses,
     pub(crate) watched: Vec<u32>,
     pub(crate) lists: Lists,
     pub(crate) places: Places,
@@ -28,15 +26,13 @@ pub(crate) struct Swept {
 impl Swept {
     /// No clauses.
     fn new(alloc: Global, limit: usize) -> Result<Swept, ClauseFault>
-        ensures { IfOk result (λ s. (literals starts ends watched : List ℕ) (lists : List (List ℕ))
-            (trail : Marked) → KeepsPropagator literals starts ends watched lists trail
+        ensures { IfOk result (λ s. (clauses lists : List (List ℕ)) (watched : List ℕ)
+            (trail : Marked) → KeepsPropagator clauses watched lists trail
             → limit ≡ length trail.marks → IsSweptOf s [] trail) }
     {
         let lists = Lists::new(alloc, limit)?;
         Ok(Swept {
-            literals: Vec::new(alloc),
-            starts: Vec::new(alloc),
-            ends: Vec::new(alloc),
+            clauses: Clauses::new(alloc),
             watched: Vec::new(alloc),
             lists,
             places: Places::new(alloc),
@@ -57,9 +53,7 @@ impl Swept {
             return Ok(());
         }
         match put(
-            &mut self.literals,
-            &mut self.starts,
-            &mut self.ends,
+            &mut self.clauses,
             &mut self.watched,
             &mut self.lists,
             &mut self.places,
@@ -76,22 +70,18 @@ impl Swept {
 /// The clauses that stand, in their order, with the literals that they watch.
 pub(crate) fn without_dead(
     alloc: Global,
-    literals: &[u32],
-    starts: &[usize],
-    ends: &[usize],
+    clauses: &Clauses,
     watched: &[u32],
     lists: &Lists,
     trail: &Trail,
 ) -> Result<Swept, ClauseFault>
-    requires { KeepsPropagator literals.now starts.now ends.now watched.now lists.now trail.now }
-    ensures { IfOk result
-        (λ s. IsSweptOf s (standing (cut literals.now starts.now ends.now)) trail.now) }
+    requires { KeepsPropagator clauses.now watched.now lists.now trail.now }
+    ensures { IfOk result (λ s. IsSweptOf s (standing clauses.now) trail.now) }
 {
     let _ = trail.len();
-    let mut clauses = Swept::new(alloc, lists.limit())?;
-    for k in 0..ends.len() {
-        let clause = clause_of(literals, starts, ends, k);
-        clauses.take(clause, watched[2 * k], watched[2 * k + 1])?;
+    let mut swept = Swept::new(alloc, lists.limit())?;
+    for k in 0..clauses.len() {
+        swept.take(clauses.clause(k), watched[2 * k], watched[2 * k + 1])?;
     }
-    Ok(clauses)
+    Ok(swept)
 }

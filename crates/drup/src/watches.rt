@@ -1,17 +1,17 @@
 //! Unit propagation by two watched literals: a clause is looked at only when a literal that it watches is negated. Watch
 //! 2k and watch 2k + 1 are those of clause k.
-ghost use Rattle.std.specs.Prelude.{◌≡◌, true, ◌≢◌, ◌+◌, ◌-◌, ◌<◌, ◌≤◌, All, length, Contains, IfOk, MatchResult, MatchOption, slice_index, slice_index_or, []};
+ghost use Rattle.std.specs.Prelude.{◌≡◌, true, ◌≢◌, ◌+◌, ◌-◌, ◌<◌, ◌≤◌, All, length, Contains, IfOk, MatchResult, slice_index};
 ghost use Rattle.base.specs.Literal.{negation};
 ghost use Rattle.drup.specs.Marked.{IsConsistent, IsEven, set_of};
 ghost use Rattle.drup.specs.Growth.{GrowsMarked};
-ghost use Rattle.drup.specs.Flat.{cut, AreStartsAndEnds};
 ghost use Rattle.drup.specs.Lists.{list_at};
 ghost use Rattle.drup.specs.Watched.{Watches, Visited, Entered, WalkedTo, Propagated, Processed, Stays, IsWatched, Moved};
 
+use crate::clauses::Clauses;
 use crate::fault::ClauseFault;
 use crate::lists::Lists;
 use crate::literal::negation;
-use crate::passes::{clause_of, open_other};
+use crate::passes::open_other;
 use crate::trail::Trail;
 
 /// What is done with a watch of a clause.
@@ -87,9 +87,7 @@ fn move_watch(
 
 /// Looks at the clause at a place of a list; the next place to look at, or none if the clause is falsified.
 fn enter(
-    literals: &[u32],
-    starts: &[usize],
-    ends: &[usize],
+    clauses: &Clauses,
     watched: &mut [u32],
     lists: &mut Lists,
     negated: u32,
@@ -97,21 +95,20 @@ fn enter(
     trail: &mut Trail,
 ) -> Result<Option<usize>, ClauseFault>
     requires even { IsEven trail.old }
-    requires inside { All (λ l. l < length trail.old.marks) literals.now }
-    requires ends { AreStartsAndEnds (length literals.now) starts.now ends.now }
+    requires inside { All (All (λ l. l < length trail.old.marks)) clauses.now }
     requires consistent { IsConsistent trail.old }
-    requires watched { IsWatched (cut literals.now starts.now ends.now) watched.old lists.old
+    requires watched { IsWatched clauses.now watched.old lists.old
         (length trail.old.marks) }
     requires negated { negated < length trail.old.marks }
     requires off { set_of trail.old (negation negated) ≡ true }
     requires there { place < length (list_at lists.old negated) }
     requires short { place < usize.MAX }
-    ensures watched { IsWatched (cut literals.now starts.now ends.now) watched.new lists.new
+    ensures watched { IsWatched clauses.now watched.new lists.new
         (length trail.old.marks) }
     ensures stays { Stays watched.old watched.new trail.old }
-    ensures grows { GrowsMarked (cut literals.now starts.now ends.now) trail.old trail.new }
+    ensures grows { GrowsMarked clauses.now trail.old trail.new }
     ensures answer { IfOk result
-        (λ next. Entered (cut literals.now starts.now ends.now) negated place watched.old lists.old
+        (λ next. Entered clauses.now negated place watched.old lists.old
         trail.old watched.new lists.new trail.new next) }
 {
     let _ = trail.len();
@@ -121,11 +118,7 @@ fn enter(
         return Ok(Some(place));
     }
     let other = watched[negation(watch) as usize];
-    match look(
-        clause_of(literals, starts, ends, (watch / 2) as usize),
-        other,
-        trail,
-    ) {
+    match look(clauses.clause((watch / 2) as usize), other, trail) {
         Visit::Conflict => Ok(None),
         Visit::Keep => Ok(Some(place + 1)),
         Visit::Move(literal) => match move_watch(watched, lists, negated, place, literal) {
@@ -137,35 +130,30 @@ fn enter(
 
 /// Looks at all clauses that watch a negated literal; whether one is falsified.
 fn walk(
-    literals: &[u32],
-    starts: &[usize],
-    ends: &[usize],
+    clauses: &Clauses,
     watched: &mut [u32],
     lists: &mut Lists,
     negated: u32,
     trail: &mut Trail,
 ) -> Result<bool, ClauseFault>
     requires even { IsEven trail.old }
-    requires inside { All (λ l. l < length trail.old.marks) literals.now }
-    requires ends { AreStartsAndEnds (length literals.now) starts.now ends.now }
+    requires inside { All (All (λ l. l < length trail.old.marks)) clauses.now }
     requires consistent { IsConsistent trail.old }
-    requires watched { IsWatched (cut literals.now starts.now ends.now) watched.old lists.old
+    requires watched { IsWatched clauses.now watched.old lists.old
         (length trail.old.marks) }
     requires negated { negated < length trail.old.marks }
     requires off { set_of trail.old (negation negated) ≡ true }
-    ensures watched { IsWatched (cut literals.now starts.now ends.now) watched.new lists.new
+    ensures watched { IsWatched clauses.now watched.new lists.new
         (length trail.old.marks) }
     ensures stays { Stays watched.old watched.new trail.old }
-    ensures grows { GrowsMarked (cut literals.now starts.now ends.now) trail.old trail.new }
+    ensures grows { GrowsMarked clauses.now trail.old trail.new }
     ensures answer { IfOk result
-        (λ met. WalkedTo (cut literals.now starts.now ends.now) negated watched.old trail.old
+        (λ met. WalkedTo clauses.now negated watched.old trail.old
         watched.new trail.new met) }
 {
     let mut place = 0;
     while place < lists.len_of(negated) {
-        match enter(
-            literals, starts, ends, watched, lists, negated, place, trail,
-        ) {
+        match enter(clauses, watched, lists, negated, place, trail) {
             Err(error) => return Err(error),
             Ok(None) => return Ok(true),
             Ok(Some(next)) => place = next,
@@ -176,33 +164,30 @@ fn walk(
 
 /// Looks at all clauses that watch the negation of a literal from a place of the trail on; whether one is falsified.
 pub(crate) fn propagate(
-    literals: &[u32],
-    starts: &[usize],
-    ends: &[usize],
+    clauses: &Clauses,
     watched: &mut [u32],
     lists: &mut Lists,
     trail: &mut Trail,
     from: usize,
 ) -> Result<bool, ClauseFault>
-    requires begun { Processed (cut literals.now starts.now ends.now) watched.old trail.old from }
+    requires begun { Processed clauses.now watched.old trail.old from }
     requires within { from ≤ length trail.old.order }
     requires even { IsEven trail.old }
-    requires inside { All (λ l. l < length trail.old.marks) literals.now }
-    requires ends { AreStartsAndEnds (length literals.now) starts.now ends.now }
+    requires inside { All (All (λ l. l < length trail.old.marks)) clauses.now }
     requires consistent { IsConsistent trail.old }
-    requires watched { IsWatched (cut literals.now starts.now ends.now) watched.old lists.old
+    requires watched { IsWatched clauses.now watched.old lists.old
         (length trail.old.marks) }
-    ensures watched { IsWatched (cut literals.now starts.now ends.now) watched.new lists.new
+    ensures watched { IsWatched clauses.now watched.new lists.new
         (length trail.old.marks) }
     ensures stays { Stays watched.old watched.new trail.old }
-    ensures grows { GrowsMarked (cut literals.now starts.now ends.now) trail.old trail.new }
+    ensures grows { GrowsMarked clauses.now trail.old trail.new }
     ensures answer { IfOk result
-        (λ met. Propagated (cut literals.now starts.now ends.now) watched.new trail.new met) }
+        (λ met. Propagated clauses.now watched.new trail.new met) }
 {
     let mut head = from;
     while head < trail.len() {
         let negated = negation(trail.at(head));
-        match walk(literals, starts, ends, watched, lists, negated, trail) {
+        match walk(clauses, watched, lists, negated, trail) {
             Err(error) => return Err(error),
             Ok(true) => return Ok(true),
             Ok(false) => head += 1,

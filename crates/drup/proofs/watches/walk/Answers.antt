@@ -1,5 +1,4 @@
 use Rattle.std.proofs.Common.{ℕ, subst, arith}
-use Rattle.drup.specs.Flat.{cut}
 use Rattle.drup.specs.Watched.{IsWatched}
 use Rattle.drup.proofs.PassLemmas.{Grows-more}
 use Rattle.drup.proofs.WalkLemmas.{Walking-begin, Walking-more, Walking-end, Stays-more}
@@ -17,7 +16,7 @@ returns-in-Ok-None-clause-grows c = Grows-more _ _ _ _ c.loop-place.invariant.gr
 pub loop-place-preserved : goal.loop-place-preserved
 loop-place-preserved c =
     let many = c.loop-place.invariant.grows.as_many in
-    let w = subst (λ (n : ℕ). IsWatched (cut c.args.literals.now c.args.starts.now c.args.ends.now) c.enter.new.watched c.enter.new.lists n) many c.enter.ensures.watched in
+    let w = subst (λ (n : ℕ). IsWatched c.args.clauses.now c.enter.new.watched c.enter.new.lists n) many c.enter.ensures.watched in
     let e = rw c.in-Ok-Some.field-0-is at c.in-Ok-Some.ensures in
     Walking-more _ _ _ _ _ _ _ _ _ _ _ _ _ c.loop-place.invariant w c.enter.ensures.grows e.answer c.enter.ensures.stays
 

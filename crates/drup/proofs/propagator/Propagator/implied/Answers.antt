@@ -3,9 +3,7 @@ use Rattle.std.proofs.lemmas.List.{with_items_is}
 use Rattle.std.specs.Prelude.{IsTrue, IfOk, ◌↔◌}
 use Rattle.drup.specs.Propagator.{State, KeepsPropagator, in_list}
 use Rattle.drup.specs.Propagation.{Implied}
-use Rattle.drup.specs.Watched.{AreMet, UnitsMet}
-use Rattle.drup.specs.Flat.{cut, standing}
-use Rattle.drup.proofs.PassLemmas.{cut_equal}
+use Rattle.drup.specs.Watched.{AreMet}
 use Rattle.drup.proofs.AddLemmas.{state_from, undone_is, KeepsPropagator-moved}
 use Rattle.drup.proofs.propagator.Propagator.implied.Goals as goal
 
@@ -14,9 +12,9 @@ invariant_of-self c =
     let x = c.meets_conflict-met.ensures.extends in
     let same : c.undo.new.self ≡ c.self.inside.trail = undone_is c.len-root.result c.self.inside.trail c.meets_conflict-met.new.trail c.undo.new.self c.len-root.ensures.count x c.undo.ensures.order c.undo.ensures.as_many c.len-root.ensures.marked c.len-root.ensures.placed c.undo.ensures.marked c.undo.ensures.placed in
     let moved = with_items_is c.self.inside.watched c.meets_conflict-met.new.watched (omega (arith, c.meets_conflict-met.ensures.stays.as_many, ap length c.deref_mut.ensures.value)) in (
-      subst (λ (ws : List ℕ). KeepsPropagator c.self.inside.literals.items c.self.inside.starts.items c.self.inside.ends.items ws c.meets_conflict-met.new.lists c.undo.new.self) (sym moved)
-          (KeepsPropagator-moved c.self.inside.literals.items c.self.inside.starts.items c.self.inside.ends.items c.self.inside.watched.items c.deref_mut.result.now c.meets_conflict-met.new.watched c.self.inside.lists c.meets_conflict-met.new.lists c.self.inside.trail c.undo.new.self _
-          c.self.invariant.0 (cut_equal c.deref.ensures.value c.deref-2.ensures.value c.deref-3.ensures.value) c.deref_mut.ensures.value c.meets_conflict-met.ensures.watched c.meets_conflict-met.ensures.stays same),
+      subst (λ (ws : List ℕ). KeepsPropagator c.self.inside.clauses ws c.meets_conflict-met.new.lists c.undo.new.self) (sym moved)
+          (KeepsPropagator-moved c.self.inside.clauses c.self.inside.watched.items c.deref_mut.result.now c.meets_conflict-met.new.watched c.self.inside.lists c.meets_conflict-met.new.lists c.self.inside.trail c.undo.new.self
+          c.self.invariant.0 c.deref_mut.ensures.value c.meets_conflict-met.ensures.watched c.meets_conflict-met.ensures.stays same),
       c.self.invariant.1,
     )
 
@@ -24,17 +22,11 @@ pub returns-clause-same : goal.returns-clause-same
 returns-clause-same c =
     let x = c.meets_conflict-met.ensures.extends in
     let same : c.undo.new.self ≡ c.self.inside.trail = undone_is c.len-root.result c.self.inside.trail c.meets_conflict-met.new.trail c.undo.new.self c.len-root.ensures.count x c.undo.ensures.order c.undo.ensures.as_many c.len-root.ensures.marked c.len-root.ensures.placed c.undo.ensures.marked c.undo.ensures.placed in
-    ap (state_from c.self.inside.literals.items c.self.inside.starts.items c.self.inside.ends.items) same ∙ c.self.view_is
+    ap (state_from c.self.inside.clauses) same ∙ c.self.view_is
 
 pub returns-clause-exact : goal.returns-clause-exact
 returns-clause-exact c =
-    subst (λ (f : State). IfOk c.meets_conflict-met.result (λ met. IsTrue met ↔ Implied f.clauses (in_list f.followed) c.args.clause.now)) c.self.view_is
-    (subst (λ (cs : List (List ℕ)). IfOk c.meets_conflict-met.result (λ met. IsTrue met ↔ Implied (standing cs) (in_list c.self.inside.trail.marks) c.args.clause.now)) (cut_equal c.deref.ensures.value c.deref-2.ensures.value c.deref-3.ensures.value) c.meets_conflict-met.ensures.exact)
+    subst (λ (f : State). IfOk c.meets_conflict-met.result (λ met. IsTrue met ↔ Implied f.clauses (in_list f.followed) c.args.clause.now)) c.self.view_is c.meets_conflict-met.ensures.exact
 
 pub meets_conflict-met-requires-clause-met : goal.meets_conflict-met-requires-clause-met
-meets_conflict-met-requires-clause-met c =
-    subst (λ (cs : List (List ℕ)). AreMet cs c.deref_mut.result.now c.self.inside.trail) (sym (cut_equal c.deref.ensures.value c.deref-2.ensures.value c.deref-3.ensures.value))
-    (subst (λ (ws : List ℕ). AreMet (cut c.self.inside.literals.items c.self.inside.starts.items c.self.inside.ends.items) ws c.self.inside.trail) (sym c.deref_mut.ensures.value) c.self.invariant.0.are_met)
-
-pub meets_conflict-met-requires-clause-units : goal.meets_conflict-met-requires-clause-units
-meets_conflict-met-requires-clause-units c = subst (λ (cs : List (List ℕ)). UnitsMet cs c.self.inside.trail) (sym (cut_equal c.deref.ensures.value c.deref-2.ensures.value c.deref-3.ensures.value)) c.self.invariant.0.units_met
+meets_conflict-met-requires-clause-met c = subst (λ (ws : List ℕ). AreMet c.self.inside.clauses ws c.self.inside.trail) (sym c.deref_mut.ensures.value) c.self.invariant.0.are_met

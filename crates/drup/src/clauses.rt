@@ -1,0 +1,88 @@
+//! Clauses in one flat list of literals.
+ghost use Rattle.std.specs.Prelude.{◌≡◌, ◌<◌, ◌++◌, ◌∷◌, [], IfOk, OnErr, length, slice_index_or, slice_set};
+
+use crate::fault::ClauseFault;
+use crate::passes::clause_between;
+use std::alloc::Global;
+
+/// Clauses by their places, which they keep: one that is taken away is left without literals.
+#[derive(Drop)]
+pub struct Clauses {
+    // the literals of all clauses, one clause after the other, and where each clause starts and ends
+    literals: Vec<u32>,
+    starts: Vec<usize>,
+    ends: Vec<usize>,
+}
+
+impl std::marker::Model for Clauses {
+    ghost use Rattle.std.specs.Prelude.{List, ℕ};
+    ghost use Rattle.drup.specs.Flat.{clauses_of, AreClauses};
+
+    ghost Value = { List (List ℕ) };
+
+    ghost view = { clauses_of };
+
+    ghost invariant = { AreClauses };
+}
+
+impl Clauses {
+    /// No clauses.
+    pub fn new(alloc: Global) -> Clauses
+        ensures { result ≡ [] }
+    {
+        Clauses {
+            literals: Vec::new(alloc),
+            starts: Vec::new(alloc),
+            ends: Vec::new(alloc),
+        }
+    }
+
+    /// How many there are, with those that were taken away.
+    pub fn len(&self) -> usize
+        ensures { result ≡ length self.now }
+    {
+        self.ends.len()
+    }
+
+    /// How many literals are held, with those of clauses that were taken away.
+    pub fn held(&self) -> usize {
+        self.literals.len()
+    }
+
+    /// The clause at a place.
+    #[inline]
+    pub fn clause(&self, k: usize) -> &[u32]
+        requires { k < length self.now }
+        ensures { result.now ≡ slice_index_or self.now k [] }
+    {
+        clause_between(&self.literals, self.starts[k], self.ends[k])
+    }
+
+    /// Puts a clause behind the others.
+    pub fn push(&mut self, clause: &[u32]) -> Result<(), ClauseFault>
+        ensures ok { IfOk result (λ _. self.new ≡ self.old ++ clause.now ∷ []) }
+        ensures err { OnErr result (self.new ≡ self.old) }
+    {
+        self.starts.reserve(1)?;
+        self.ends.reserve(1)?;
+        let start = self.literals.len();
+        self.literals.extend_from_slice(clause)?;
+        match self.starts.push(start) {
+            Ok(_) => {}
+            Err(_) => unreachable!(),
+        }
+        match self.ends.push(self.literals.len()) {
+            Ok(_) => {}
+            Err(_) => unreachable!(),
+        }
+        Ok(())
+    }
+
+    /// Takes the clause at a place away.
+    pub fn take_away(&mut self, k: usize)
+        requires { k < length self.old }
+        ensures { self.new ≡ slice_set self.old k [] }
+    {
+        self.ends[k] = self.starts[k];
+    }
+}
