@@ -43,7 +43,7 @@ GHOST_IMPORT = re.compile(r"\bghost\s+use\s+([\w.]+?)(?:\.\{([^}]*)\}|\s+as\s+(\
 HEAD = re.compile(r"^(?:(?:abbrev|unfoldable|opaque) pub|pub (?:record|data|abbrev|enum)) ([^\s:]+)", re.M)
 STEPS = "◌>>=◌"
 # the words that are carried: what a judge stands for, or what a noter notes, and the values of judges, which nothing else speaks of
-CARRIED = {("witness", "WordStands", "StandsForWitness"), ("witness", "BitStands", "StandsForBits"), ("rises", "Notes", "NotesBits"), ("drup", "ProofJudges", "StandsForText")}
+CARRIED = {("witness", "WordStands", "StandsForWitness"), ("witness", "BitStands", "StandsForBits"), ("witness", "BitStands", "StandsForBitLines"), ("rises", "Notes", "NotesBits"), ("drup", "ProofJudges", "StandsForText")}
 CARRIED_VALUES = {("witness", "WordStands", "WordJudge"), ("witness", "BitStands", "BitJudge"), ("drup", "ProofJudges", "ProofJudge")}
 
 
@@ -150,7 +150,7 @@ def is_carried(word, clause):
     clause = " ".join(clause.split())
     term = r"(?:[\w.]+|\[\]|\((?:[^()]|\([^()]*\))*\))"
     over = r"%s(?: %s)?" % (term, term)
-    made = re.compile(r"\(λ (\w+)\. %s %s \1 \[\]\)" % (word, over))
+    made = re.compile(r"\(λ (\w+)\. %s %s \1 \[\]\)|\b%s %s result \[\]" % (word, over, word, over))
     premise = re.compile(r"\b%s %s self(?:\.(?:old|now|entry))? %s →" % (word, over, term))
     kept = re.compile(r"\b%s %s self\.new %s" % (word, over, term))
     rest = made.sub("", clause)

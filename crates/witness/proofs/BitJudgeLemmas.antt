@@ -1,29 +1,33 @@
 -- What a judge of witnesses of a circuit holds, line by line, and what it judges of a text.
-use Rattle.std.proofs.Common.{◌≡◌, ℕ, ◌+◌, ◌<◌, ◌≤◌, ◌^◌, Bool, true, false, ◌||◌, List, [], ◌∷◌, Result, IfOk, Ok, Err, codes, length, length-append, refl, sym, ap, subst, ◌∙◌, arith, cond, Option, Some, None, map}
+use Rattle.std.proofs.Common.{◌≡◌, ℕ, ◌+◌, ◌<◌, ◌≤◌, ◌^◌, ◌==◌, Bool, true, false, ◌||◌, List, [], ◌∷◌, Result, IfOk, Ok, Err, codes, length, length-append, refl, sym, ap, subst, ◌∙◌, arith, cond, Option, Some, None, map}
 use Rattle.std.specs.Str.{bytes_eq}
-use Rattle.std.proofs.lemmas.Bool.{false_from_ne_true}
+use Rattle.std.proofs.lemmas.Bool.{false_from_ne_true, ne_eqb}
 use Rattle.base.specs.Lines.{whole_lines}
 use Rattle.std.proofs.lemmas.Result.{IfOk-at_ok}
-use Rattle.aiger.specs.Circuit.{Circuit}
+use Rattle.aiger.specs.Circuit.{Circuit, IsCircuit}
 use Rattle.witness.specs.declared.why.Why.{Why}
-use Rattle.witness.specs.Readings.{Reading, lines_read, so_far}
-use Rattle.witness.specs.Stands.{IsOfLines}
-use Rattle.witness.specs.BitAdmits.{claim_at, bits_at, BitPlace, AtHeader, AtClaim, AtInitial, AtFirst, AtLater, AtDone, BitRead, no_line_read, after_frame, bit_admit_at, bit_admit, bit_reader, is_done, bit_witness_of}
-use Rattle.witness.specs.BitStands.{is_header, BitJudge, bit_judging, StandsForBits, bit_place_of, PlaysAt}
-use Rattle.witness.proofs.ReadingLemmas.{by_test, Goes, On, Until, goes, holds_behind}
+use Rattle.witness.specs.Readings.{Reading, lines_read, reading, so_far, is_nothing}
+use Rattle.witness.specs.BitAdmits.{claim_at, bits_at, BitPlace, AtHeader, AtClaim, AtInitial, AtFirst, AtLater, AtDone, BitRead, no_line_read, after_frame, bit_admit_at, bit_admit, bit_reader, is_done, bit_witness_of, read_bit_text}
+use Rattle.witness.specs.declared.bit_lines.BitLines.{BitLines}
+use Rattle.witness.specs.declared.bit_play.BitPlay.{BitPlay}
+use Rattle.witness.specs.BitStands.{is_header, IsOfBitLines, read_of, bit_judging, PlaysAt, PlaysSaid, TellsUnplayed}
+use Rattle.witness.specs.Reached.{bits_said_in}
+use Rattle.witness.proofs.ReadingLemmas.{by_test, Goes, On, Until, goes, holds_behind, text_was_read}
 use Rattle.witness.proofs.StandsLemmas.{awaits, none_awaited, ClaimsMore}
 use Rattle.std.proofs.Math.Bool.{or-false}
 use Rattle.base.specs.Literal.{Valuation}
 use Rattle.aiger.specs.Trace.{IsCircuitTrace}
-use Rattle.aiger.proofs.TraceLemmas.{trace_length}
+use Rattle.aiger.proofs.TraceLemmas.{trace_length, trace_exists}
 use Rattle.witness.specs.declared.judgement.Judgement.{Judgement}
 use Rattle.witness.specs.BitTexts.{BitWitness}
 use Rattle.aiger.specs.Reachability.{circuit_shows}
-use Rattle.witness.specs.BitJudgements.{first_reset_differing, JudgesBits}
-use Rattle.witness.specs.BitPlays.{BitPlay, PlaysBits, TracedBits}
-use Rattle.witness.specs.Judgements.{first_of, verdict}
+use Rattle.witness.specs.BitJudgements.{first_reset_differing, makes_no_bit_claim, JudgesBits, BitJudges}
+use Rattle.witness.specs.BitPlays.{PlaysBits, TracedBits}
+use Rattle.witness.specs.Judgements.{Violation, first_of, verdict, unplayed}
 use Rattle.witness.proofs.StepWords.{after_claim, after_initial}
-use Rattle.witness.proofs.BitReadLemmas.{done}
+use Rattle.witness.proofs.BitReadLemmas.{done, bit_read_says}
+use Rattle.witness.proofs.BitOneJudgement.{same_bit_judgement}
+use Rattle.witness.proofs.JudgedLemmas.{read_judged, judged_says}
 use Rattle.witness.proofs.ShownLemmas.{bits_verdict}
 
 -- what an admitted line changes
@@ -69,8 +73,8 @@ in_frames c lines = holds_behind (bit_reader c) InFrames line_more (so_far 0 (bi
         let before = h.0 in
         (omega (arith, grown, before), λ e. absurd (cc (moves.other, e)))
 
-pub few_frames : (c : Circuit) (lines : List (List ℕ)) (line : List ℕ) (j : BitJudge) → IsOfLines (bit_judging c) j lines line → j.admitted < 2 ^ 62 → length (lines_read (bit_reader c) lines).read.frames < 2 ^ 62
-few_frames c lines line j is few =
+pub few_frames : (c : Circuit) (lines : List (List ℕ)) (b : BitLines) → IsOfBitLines c b lines → b.admitted < 2 ^ 62 → length (read_of c lines).frames < 2 ^ 62
+few_frames c lines b is few =
     let count = (in_frames c lines).0 in
     omega (arith, count, few, is.admitted)
 
@@ -102,16 +106,35 @@ module _ (c : Circuit) (w : BitWitness) (p : BitPlay) (vs : List Valuation) (wit
 abbrev pub Says : Circuit → BitRead → Judgement → Type 0
 Says c r = JudgesBits c (bit_witness_of r)
 
-pub ended_at : (c : Circuit) (text : List ℕ) (j old : BitJudge) → j ≡ old → StandsForBits c old text → j.refused ≡ None → is_done (bit_place_of j.reader.place) ≡ is_done (lines_read (bit_reader c) (whole_lines text)).read.place
-ended_at c text j old same was none = let stands = subst (λ (k : BitJudge). StandsForBits c k text) (sym same) was in ap is_done (stands.lines.reads none).place
-
 -- what is judged of a whole witness
-pub whole_witness : (c : Circuit) (text : List ℕ) (j old : BitJudge) → j ≡ old → (o : Option ℕ) → StandsForBits c old text → j.refused ≡ None → o ≡ cond j.reader.play.rose None (Some j.reader.claim)
-    → is_done (lines_read (bit_reader c) (whole_lines text)).read.place ≡ true
-    → Says c (lines_read (bit_reader c) (whole_lines text)).read (first_of j.reader.play.differs j.reader.play.breach o j.reader.play.frames)
-whole_witness c text j old same o was none unreached at_end vs t =
-    let stands = subst (λ (k : BitJudge). StandsForBits c k text) (sym same) was in
-    let r : BitRead = (lines_read (bit_reader c) (whole_lines text)).read in
-    let reads = stands.lines.reads none in
-    let plays : PlaysAt c r j.reader.play AtDone = subst (PlaysAt c r j.reader.play) (done r.place at_end) reads.play in
-    judged_whole c (bit_witness_of r) j.reader.play vs plays.1 plays.0 t o (unreached ∙ ap (λ (i : ℕ). cond j.reader.play.rose None (Some i)) reads.claim)
+whole_witness : (c : Circuit) (r : BitRead) (p : BitPlay) (claim : ℕ) → is_done r.place ≡ true → PlaysSaid c r p → claim ≡ r.claim → Says c r (first_of p.differs p.breach (cond p.rose None (Some claim)) p.frames)
+whole_witness c r p claim at_end played same vs t =
+    let plays : PlaysAt c r p AtDone = subst (PlaysAt c r p) (done r.place at_end) played in
+    judged_whole c (bit_witness_of r) p vs plays.1 plays.0 t (cond p.rose None (Some claim)) (ap (λ (i : ℕ). cond p.rose None (Some i)) same)
+
+pub whole_judged : (c : Circuit) (text : List ℕ) (p : BitPlay) (claim : ℕ) → TellsUnplayed c text None → PlaysSaid c (read_of c (whole_lines text)) p → claim ≡ (read_of c (whole_lines text)).claim
+    → BitJudges c text (first_of p.differs p.breach (cond p.rose None (Some claim)) p.frames)
+unfolding reading
+whole_judged c text p claim told plays same =
+    let r : BitRead = read_of c (whole_lines text) in
+    read_judged (Says c) (makes_no_bit_claim (whole_lines text)) (read_bit_text c text) (Ok r) _ told.0 told.1 (whole_witness c r p claim (text_was_read (bit_reader c) text r told.1).done plays same)
+
+-- what is judged of it needs a run
+played_verdict : (differs : Option ℕ) (breach : Option Violation) (unreached : Option ℕ) (frames : ℕ) → unplayed (first_of differs breach unreached frames) ≡ None
+played_verdict (Some k) breach unreached frames = refl
+played_verdict None (Some v) unreached frames = refl
+played_verdict None None (Some i) frames = refl
+played_verdict None None None frames = refl
+
+pub nothing_counted : (bytes : List ℕ) → (length bytes == 0) ≡ is_nothing bytes
+nothing_counted [] = refl
+nothing_counted (b ∷ bytes) = ne_eqb (length (b ∷ bytes)) 0 (λ e. absurd (omega (arith, e)))
+
+pub told_unplayed : (c : Circuit) (text : List ℕ) (o : Option Judgement) (j : Judgement) → IsCircuit c → TellsUnplayed c text o → BitJudges c text j → o ≡ unplayed j
+told_unplayed c text (Some k) j circuit told judged = sym told.1 ∙ ap unplayed (same_bit_judgement c text k j circuit told.0 judged)
+told_unplayed c text None j circuit told judged =
+    let w : BitWitness = bit_witness_of (bits_said_in c text) in
+    let valid = (bit_read_says c text (bits_said_in c text) circuit told.1).valid in
+    let trace = trace_exists c w.initial w.frames circuit valid.initial valid.frames in
+    let is = judged_says (Says c) (makes_no_bit_claim (whole_lines text)) (read_bit_text c text) (bits_said_in c text) j told.0 told.1 judged trace.0 trace.1 in
+    sym (ap unplayed is ∙ played_verdict (first_reset_differing 0 c.latches w.initial) _ _ _)

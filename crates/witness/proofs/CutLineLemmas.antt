@@ -1,5 +1,5 @@
 -- What is kept of a line with more bytes, and a line of a witness of a circuit that is judged as its first bytes are.
-use Rattle.std.proofs.Common.{◌≡◌, ℕ, zero, suc, ◌+◌, ◌-◌, ◌<◌, ◌≤◌, ◌^◌, ◌==◌, nat_le, Bool, true, false, ◌&&◌, ◌||◌, get_or, if◌then◌else◌, List, [], ◌∷◌, ◌++◌, Option, Some, None, Result, Err, length, take, drop, codes, length-append, refl, sym, ap, ap₂, subst, ◌∙◌, inl, inr, arith}
+use Rattle.std.proofs.Common.{◌≡◌, ℕ, zero, suc, ◌+◌, ◌-◌, ◌<◌, ◌≤◌, ◌^◌, ◌==◌, nat_le, Bool, true, false, ◌&&◌, ◌||◌, get_or, if◌then◌else◌, List, [], ◌∷◌, ◌++◌, Option, Some, None, Result, Ok, Err, map, length, take, drop, codes, length-append, refl, sym, ap, ap₂, subst, ◌∙◌, inl, inr, arith}
 use Rattle.std.specs.List.{list_all}
 use Rattle.std.specs.Str.{bytes_eq}
 use Rattle.std.proofs.lemmas.Bool.{cases_Bool, cases_lt, eq-eqb, ne_eqb, le-ltb}
@@ -15,10 +15,11 @@ use Rattle.witness.specs.Readings.{is_nothing}
 use Rattle.witness.specs.Admits.{Claim, is_value_byte}
 use Rattle.witness.specs.BitAdmits.{judged_claim, claim_at, bits_at, BitPlace, AtHeader, AtClaim, AtInitial, AtFirst, AtLater, AtDone, BitRead, bit_admit_at, bit_admit}
 use Rattle.witness.specs.CutLines.{CutLine, cut_of, no_byte, AreFront}
-use Rattle.witness.specs.BitScans.{behind_first, is_bit}
+use Rattle.witness.specs.BitScans.{behind_first, is_bit, is_one_bit}
 use Rattle.witness.specs.BitStands.{line_room}
 use Rattle.witness.proofs.StepWords.{claim_with}
-use Rattle.witness.proofs.WordValueLemmas.{some_x}
+use Rattle.base.proofs.DecimalLemmas.{none_of}
+use Rattle.witness.proofs.WordValueLemmas.{some_x, known_not_x, known_are_values}
 use Rattle.witness.proofs.KeptLineLemmas.{nothing_front, word_kept, word_alike, short_index}
 
 -- ---- more bytes
@@ -191,17 +192,21 @@ module _ (bads : ℕ) (small : bads < 2 ^ 64) where
 
 -- ---- other lines
 
-other_count : (count : ℕ) (line : List ℕ) → (length line ≡ count → ⊥) → bits_at count line ≡ Err why.BadValue
+pub other_count : (count : ℕ) (line : List ℕ) → (length line ≡ count → ⊥) → bits_at count line ≡ Err why.BadValue
 other_count count line ne = rw (ne_eqb (length line) count ne) refl
 
-pub no_bits : (count : ℕ) (line : List ℕ) → length line ≡ count → ((length line == count) && list_all is_bit line) ≡ false → bits_at count line ≡ Err (if list_all is_value_byte line then why.Undetermined else why.BadValue)
+pub no_bits : (count : ℕ) (line : List ℕ) → length line ≡ count → list_all is_bit line ≡ false → bits_at count line ≡ Err (if list_all is_value_byte line then why.Undetermined else why.BadValue)
 no_bits count line many none =
     let long = eq-eqb (length line) count many in
-    let unknown : list_all is_bit line ≡ false = rw long at none in
     elim (cases_Bool (list_all is_value_byte line)) [
-      | inl values ↦ rw (long, values, some_x line values unknown) refl
+      | inl values ↦ rw (long, values, some_x line values none) refl
       | inr other ↦ rw (long, other) refl
     ]
+
+pub all_bits : (count : ℕ) (line : List ℕ) → length line ≡ count → list_all is_bit line ≡ true → bits_at count line ≡ Ok (map is_one_bit line)
+all_bits count line many all =
+    let long = eq-eqb (length line) count many in
+    rw (long, known_are_values line all, none_of is_bit 120 line known_not_x all) refl
 
 bits_front : (count n : ℕ) (line : List ℕ) → count < n → bits_at count (take n line) ≡ bits_at count line
 bits_front count n line below =

@@ -21,11 +21,12 @@ use Rattle.witness.specs.Judgements.{frame_words, initial_words, given_words}
 use Rattle.witness.specs.ClosedWords.{IsClosedTrace}
 use Rattle.witness.specs.WordPlays.{TracedBy, frames_alone}
 use Rattle.witness.specs.WordStands.{WordReader, WordJudge, StandsForWitness}
-use Rattle.witness.specs.BitAdmits.{BitPlace, AtHeader, AtClaim, AtInitial, BitRead, bit_reader}
-use Rattle.witness.specs.BitPlays.{BitPlay, bit_rises}
+use Rattle.witness.specs.BitAdmits.{BitPlace, AtHeader, AtClaim, AtInitial, BitRead}
+use Rattle.witness.specs.declared.bit_play.BitPlay.{BitPlay}
+use Rattle.witness.specs.BitPlays.{play_start, bit_rises, bit_frame_steps, bit_steps_of}
+use Rattle.witness.proofs.BitPlayLemmas.{no_steps}
 use Rattle.witness.proofs.ShownLemmas.{never_shown, none_past, bit_rises_shown}
-use Rattle.witness.specs.declared.bit_reader.BitReader.{BitReader}
-use Rattle.witness.specs.BitStands.{ReadsBits, PlaysAt, TellsBits, BitJudge, StandsForBits}
+use Rattle.witness.specs.BitStands.{PlaysAt, PlaysSaid, read_of, BitJudge, StandsForBits}
 use Rattle.witness.specs.Reached.{word_reached, IsClosedBitTrace, bit_reached}
 use Rattle.witness.proofs.FrameLemmas.{bad_names, length-nodes}
 
@@ -87,8 +88,30 @@ rose_at c p r AtClaim plays vs t = none_rose c r p.rose vs plays.1 (ap (λ (x : 
 rose_at c p r AtInitial plays vs t = none_rose c r p.rose vs plays.1 (ap (λ (x : BitPlay). x.rose) plays.0) t
 rose_at c p r _ plays vs t = (plays.0.traced vs t).rose
 
-pub tells_of : (c : Circuit) (q : BitReader) (r : BitRead) → ReadsBits c q r → TellsBits c q r
-tells_of c q r reads = record { circuit = reads.counts.circuit; frames = reads.counts.frames; steps = reads.counts.steps; claim = reads.claim; rose = rose_at c q.play r r.place reads.play }
+-- the circuit, the frames that are closed, the steps that they took, and whether the claim rose in them
+pub record TellsBits (c : Circuit) (r : BitRead) (p : BitPlay) : Type 0 where
+  pub circuit : p.run.circuit ≡ c
+  pub frames : p.frames ≡ length r.frames
+  pub steps : p.run.steps ≡ bit_steps_of c (length r.frames)
+  pub rose : (vs : List Valuation) → IsBitTrace c r.initial r.frames vs → p.rose ≡ bit_rises c r.claim vs
+
+pub tells_of : (c : Circuit) (r : BitRead) (p : BitPlay) → PlaysSaid c r p → TellsBits c r p
+tells_of c r p plays = by r.place plays
+  where
+    begun : (at : BitPlace) → PlaysAt c r p at → p ≡ play_start c → r.frames ≡ [] → TellsBits c r p
+    begun at plays is none =
+        record {
+          circuit = ap (λ (x : BitPlay). x.run.circuit) is;
+          frames = ap (λ (x : BitPlay). x.frames) is ∙ ap length (sym none);
+          steps = ap (λ (x : BitPlay). x.run.steps) is ∙ no_steps (bit_frame_steps c) ∙ ap (λ (frames : List (List Bool)). bit_steps_of c (length frames)) (sym none);
+          rose = rose_at c p r at plays;
+        }
+
+    by : (at : BitPlace) → PlaysAt c r p at → TellsBits c r p
+    by AtHeader plays = begun AtHeader plays plays.0 plays.1
+    by AtClaim plays = begun AtClaim plays plays.0 plays.1
+    by AtInitial plays = begun AtInitial plays plays.0 plays.1
+    by _ plays = record { circuit = plays.0.run; frames = plays.0.count; steps = plays.0.steps; rose = λ vs t. (plays.0.traced vs t).rose }
 
 -- of the position itself
 at_claim : (P : ℕ → Bool) (i k : ℕ) → (nat_eq i k && P i) ≡ (nat_eq i k && P k)
@@ -99,9 +122,11 @@ at_claim P i k =
     ]
 
 pub bit_reached_is : (c : Circuit) (text : List ℕ) (j : BitJudge) (vs : List Valuation) (k : ℕ) (b : Bool) → StandsForBits c j text → IsClosedBitTrace c text vs
-    → b ≡ (nat_eq j.reader.claim k && j.reader.play.rose) → b ≡ bit_reached c text vs k
+    → b ≡ (nat_eq j.lines.reader.claim k && j.play.rose) → b ≡ bit_reached c text vs k
 unfolding reading
 bit_reached_is c text j vs k b stands trace is =
-    let r : BitRead = (lines_read (bit_reader c) (whole_lines text)).read in
-    let tells = stands.lines.counts in
-    is ∙ (ap₂ (λ (i : ℕ) (x : Bool). nat_eq i k && x) tells.claim (tells.rose vs trace ∙ bit_rises_shown c r.claim vs) ∙ at_claim (λ i. rises_in_some i (map (circuit_shows c) vs)) r.claim k)
+    let r : BitRead = read_of c (whole_lines text) in
+    let tells = tells_of c r j.play stands.played.play in
+    is
+    ∙ (ap₂ (λ (i : ℕ) (x : Bool). nat_eq i k && x) stands.played.lines.counts.claim (tells.rose vs trace ∙ bit_rises_shown c r.claim vs)
+    ∙ at_claim (λ i. rises_in_some i (map (circuit_shows c) vs)) r.claim k)

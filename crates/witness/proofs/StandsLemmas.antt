@@ -55,6 +55,10 @@ module _ {R Q L : Type 0} (g : Judging R Q L) (claims_more : ClaimsMore g) (line
   one_more : lines_read g.reader (lines ++ line ∷ []) ≡ next_line g.reader now line
   one_more = lines_append g.reader (so_far 0 g.reader.nothing) lines (line ∷ [])
 
+  -- what is read then
+  one_read : (next : Reading R) → next_line g.reader now line ≡ next → (lines_read g.reader (lines ++ line ∷ [])).read ≡ next.read
+  one_read next is = ap (λ (x : Reading R). x.read) (one_more ∙ is)
+
   refused_then : (q : Q) (w : Why) (no_claim : Bool) → next_line g.reader now line ≡ record now { refused = Some w } → no_claim ≡ g.makes_no_claim (lines ++ line ∷ []) → g.Counts q now.read
       → IsOfLines g (record j { reader = q; refused = Some w; no_claim = no_claim }) (lines ++ line ∷ []) []
   refused_then q w no_claim next claims counts =
@@ -81,6 +85,10 @@ module _ {R Q L : Type 0} (g : Judging R Q L) (claims_more : ClaimsMore g) (line
         reads = λ none. absurd (cc (none, refused));
       }
 
+  pub stays_read : (w : Why) → j.refused ≡ Some w → (lines_read g.reader (lines ++ line ∷ [])).read ≡ now.read
+  unfolding next_line
+  stays_read w refused = let was : now.refused ≡ Some w = sym is.refused ∙ refused in one_read now (rw was refl)
+
   module _ (none : j.refused ≡ None) where
     not_refused : now.refused ≡ None
     not_refused = sym is.refused ∙ none
@@ -90,6 +98,12 @@ module _ {R Q L : Type 0} (g : Judging R Q L) (claims_more : ClaimsMore g) (line
     too_many many =
         let full : nat_le most_lines now.admitted ≡ true = ap (nat_le most_lines) (sym is.admitted) ∙ le-leb most_lines j.admitted many in
         refused_then j.reader why.TooLong j.no_claim (rw (not_refused, full) refl) (claim_stays (rw (not_refused, full) refl)) is.counts
+
+    pub too_many_read : most_lines ≤ j.admitted → (lines_read g.reader (lines ++ line ∷ [])).read ≡ now.read
+    unfolding next_line
+    too_many_read many =
+        let full : nat_le most_lines now.admitted ≡ true = ap (nat_le most_lines) (sym is.admitted) ∙ le-leb most_lines j.admitted many in
+        one_read (record now { refused = Some why.TooLong }) (rw (not_refused, full) refl)
 
     module _ (few : j.admitted < most_lines) where
       room : nat_le most_lines now.admitted ≡ false
@@ -102,6 +116,14 @@ module _ {R Q L : Type 0} (g : Judging R Q L) (claims_more : ClaimsMore g) (line
           → IsOfLines g (record j { reader = q; refused = Some w; no_claim = no_claim }) (lines ++ line ∷ []) []
       unfolding next_line
       not_admitted q w no_claim status counts refuses same claims = refused_then q w no_claim (rw (not_refused, room, refuses) refl) (claim_now no_claim status same claims) counts
+
+      pub not_admitted_read : (w : Why) → g.reader.admit now.read line ≡ Err w → (lines_read g.reader (lines ++ line ∷ [])).read ≡ now.read
+      unfolding next_line
+      not_admitted_read w refuses = one_read (record now { refused = Some w }) (rw (not_refused, room, refuses) refl)
+
+      pub admitted_read : (next : R) → g.reader.admit now.read line ≡ Ok next → (lines_read g.reader (lines ++ line ∷ [])).read ≡ next
+      unfolding next_line
+      admitted_read next admits = one_read (so_far (now.admitted + 1) next) (rw (not_refused, room, admits) refl)
 
       pub line_admitted : (q : Q) (next : R) (no_claim status : Bool) → g.reader.admit now.read line ≡ Ok next → g.Reads q next [] → g.Counts q next → status ≡ g.awaits_status now.read → no_claim ≡ (j.no_claim || (status && g.says_none line))
           → IsOfLines g (record j { reader = q; admitted = j.admitted + 1; no_claim = no_claim }) (lines ++ line ∷ []) []
@@ -145,10 +167,7 @@ module _ {R Q L : Type 0} (g : Judging R Q L) where
 -- ---- the end of a text
 
 -- by what is judged of what it says
-module _ {R Q L : Type 0} (g : Judging R Q L) (Says : R → Judgement → Type 0) (text : List ℕ) (j old : Judge Q L) (same : j ≡ old) (was : StandsForLines g old text) where
-  stands : StandsForLines g j text
-  stands = subst (λ (k : Judge Q L). StandsForLines g k text) (sym same) was
-
+module _ {R Q L : Type 0} (g : Judging R Q L) (Says : R → Judgement → Type 0) (text part : List ℕ) (j : Judge Q L) (is : IsOfLines g j (whole_lines text) part) where
   abbrev all : Reading R
   all = lines_read g.reader (whole_lines text)
 
@@ -158,27 +177,31 @@ module _ {R Q L : Type 0} (g : Judging R Q L) (Says : R → Judgement → Type 0
   -- by the whole lines
   by_lines : (o : Option Why) (read : Result R Fault) (result : Judgement) → j.no_claim ≡ false → j.refused ≡ o → read_or_fault g.reader.ended all (unfinished text) o ≡ read → JudgesAs Says false read result → Judged result
   unfolding reading
-  by_lines o read result claims refused is =
-      read_judged Says (g.makes_no_claim (whole_lines text)) (text_read g.reader text) read result (sym stands.lines.no_claim ∙ claims)
-      (ap (read_or_fault g.reader.ended all (unfinished text)) (sym stands.lines.refused ∙ refused) ∙ is)
+  by_lines o read result claims refused said =
+      read_judged Says (g.makes_no_claim (whole_lines text)) (text_read g.reader text) read result (sym is.no_claim ∙ claims)
+      (ap (read_or_fault g.reader.ended all (unfinished text)) (sym is.refused ∙ refused) ∙ said)
 
   number : (n : ℕ) → n ≡ min (j.admitted + 1) (2 ^ 64 - 1) → n ≡ all.admitted + 1
-  number n e = omega (arith, e, few_read g.reader (whole_lines text) (goes g.reader 0 g.reader.nothing (whole_lines text) (omega arith)), stands.lines.admitted)
+  number n e = omega (arith, e, few_read g.reader (whole_lines text) (goes g.reader 0 g.reader.nothing (whole_lines text) (omega arith)), is.admitted)
 
   pub refused_line : (w : Why) (n : ℕ) → j.no_claim ≡ false → j.refused ≡ Some w → n ≡ min (j.admitted + 1) (2 ^ 64 - 1) → Judged (judgement.Malformed n w)
-  refused_line w n claims refused is =
-      by_lines (Some w) (Err (record { line = n; why = w })) (judgement.Malformed n w) claims refused (ap (λ (m : ℕ). Err (record { line = m; why = w })) (sym (number n is))) refl
+  refused_line w n claims refused count =
+      by_lines (Some w) (Err (record { line = n; why = w })) (judgement.Malformed n w) claims refused (ap (λ (m : ℕ). Err (record { line = m; why = w })) (sym (number n count))) refl
 
   same_refusal : (ended empty : Bool) → ended ≡ g.reader.ended all.read → empty ≡ is_nothing (unfinished text) → last_refusal ended j.admitted empty ≡ last_refusal (g.reader.ended all.read) all.admitted (is_nothing (unfinished text))
-  same_refusal ended empty end none = rw (end, none, stands.lines.admitted) refl
+  same_refusal ended empty end none = rw (end, none, is.admitted) refl
 
   pub refused_last : (w : Why) (n : ℕ) (ended empty : Bool) → j.no_claim ≡ false → j.refused ≡ None → ended ≡ g.reader.ended all.read → empty ≡ is_nothing (unfinished text) → last_refusal ended j.admitted empty ≡ Some w
       → n ≡ min (j.admitted + 1) (2 ^ 64 - 1) → Judged (judgement.Malformed n w)
-  refused_last w n ended empty claims none end rest last is =
+  refused_last w n ended empty claims none end rest last count =
       by_lines None (Err (record { line = n; why = w })) (judgement.Malformed n w) claims none
-      (ap (refused_for all) (sym (same_refusal ended empty end rest) ∙ last) ∙ ap (λ (m : ℕ). Err (record { line = m; why = w })) (sym (number n is))) refl
+      (ap (refused_for all) (sym (same_refusal ended empty end rest) ∙ last) ∙ ap (λ (m : ℕ). Err (record { line = m; why = w })) (sym (number n count))) refl
 
   pub whole_text : (ended empty : Bool) (result : Judgement) → j.no_claim ≡ false → j.refused ≡ None → ended ≡ g.reader.ended all.read → empty ≡ is_nothing (unfinished text) → last_refusal ended j.admitted empty ≡ None
       → (g.reader.ended all.read ≡ true → Says all.read result) → Judged result
   whole_text ended empty result claims none end rest last says =
       by_lines None (Ok all.read) result claims none (ap (refused_for all) (sym (same_refusal ended empty end rest) ∙ last)) (says (sym end ∙ (whole_is ended j.admitted empty last).0))
+
+  pub whole_read : (ended empty : Bool) → j.refused ≡ None → ended ≡ g.reader.ended all.read → empty ≡ is_nothing (unfinished text) → last_refusal ended j.admitted empty ≡ None → text_read g.reader text ≡ Ok (reading g.reader text).read
+  unfolding reading
+  whole_read ended empty none end rest last = ap (read_or_fault g.reader.ended all (unfinished text)) (sym is.refused ∙ none) ∙ ap (refused_for all) (sym (same_refusal ended empty end rest) ∙ last)

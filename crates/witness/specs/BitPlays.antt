@@ -1,28 +1,18 @@
 -- The frames of a witness of a circuit, played one after the other while its lines are read: what is kept of them, and which lines it is of.
-use Rattle.std.specs.Prelude.{◌≡◌, ℕ, ◌+◌, ◌*◌, Bool, true, false, not, List, [], ◌∷◌, Option, Some, None, length, slice_index, slice_set}
+use Rattle.std.specs.Prelude.{◌≡◌, ℕ, ◌+◌, ◌*◌, Bool, false, not, List, [], ◌∷◌, Option, None, length, slice_index}
 use Rattle.std.specs.List.{list_any, position_from}
 use Rattle.base.specs.Literal.{Valuation, literal_value}
 use Rattle.aiger.specs.Circuit.{Circuit}
 use Rattle.aiger.specs.Trace.{IsCircuitTrace, next_latch_bits}
 use Rattle.runs.specs.Run.{more_steps}
-use Rattle.runs.specs.CircuitRun.{CircuitRun, circuit_start, settle_steps}
-use Rattle.witness.specs.Judgements.{Violation}
+use Rattle.runs.specs.CircuitRun.{circuit_start, settle_steps}
+use Rattle.witness.specs.declared.bit_play.BitPlay.{BitPlay}
 use Rattle.witness.specs.BitJudgements.{first_reset_differing}
 use Rattle.witness.specs.Fits.{breach_from}
 
--- a run of the circuit; the first latch whose initial bit is not that of its reset; how many frames are closed, the first constraint that did not hold in them,
--- and whether the claimed bad property rose
-pub record BitPlay : Type 0 where
-  pub circuit : Circuit
-  pub run : CircuitRun
-  pub differs : Option ℕ
-  pub frames : ℕ
-  pub breach : Option Violation
-  pub rose : Bool
-
 -- nothing is read
 abbrev pub play_start : Circuit → BitPlay
-play_start c = record { circuit = c; run = circuit_start c; differs = None; frames = 0; breach = None; rose = false }
+play_start c = record { run = circuit_start c; differs = None; frames = 0; breach = None; rose = false }
 
 -- the steps of one frame, and of so many
 abbrev pub bit_frame_steps : Circuit → ℕ
@@ -52,23 +42,8 @@ pub record TracedBits (c : Circuit) (claim : ℕ) (initial : List Bool) (p : Bit
 
 -- these frames are closed
 pub record PlaysBits (c : Circuit) (claim : ℕ) (initial : List Bool) (frames : List (List Bool)) (p : BitPlay) : Type 0 where
-  pub circuit : p.circuit ≡ c
   pub run : p.run.circuit ≡ c
   pub differs : p.differs ≡ first_reset_differing 0 c.latches initial
-  pub many : length p.run.inputs ≡ c.inputs
   pub count : p.frames ≡ length frames
   pub steps : p.run.steps ≡ bit_steps_of c (length frames)
   pub traced : (vs : List Valuation) → IsCircuitTrace c initial frames vs → TracedBits c claim initial p vs
-
--- with the initial bit of a latch that is there
-abbrev pub differing : Option ℕ → ℕ → Bool → Option ℕ
-differing None k true = Some k
-differing None k false = None
-differing (Some i) k b = Some i
-
-abbrev pub latch_given : BitPlay → ℕ → Bool → Bool → BitPlay
-latch_given p k b differs = record p { run = record p.run { latches = slice_set p.run.latches k b; settled = false }; differs = differing p.differs k differs }
-
--- with the bit of an input that is there
-abbrev pub bit_given : BitPlay → ℕ → Bool → BitPlay
-bit_given p k bit = record p { run = record p.run { inputs = slice_set p.run.inputs k bit; settled = false } }

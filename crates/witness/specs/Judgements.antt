@@ -111,6 +111,12 @@ first_of None None None frames = judgement.Accepted frames
 abbrev pub verdict : Option ℕ → List ℕ → ℕ → List Shown → Judgement
 verdict different claims bads shown = first_of different (violation_from 0 shown) (unreached_from claims shown 0 bads) (length shown)
 
+-- a judgement that needs no run: that there is no claim, or no witness
+abbrev pub unplayed : Judgement → Option Judgement
+unplayed judgement.NoClaim = Some judgement.NoClaim
+unplayed (judgement.Malformed line why) = Some (judgement.Malformed line why)
+unplayed _ = None
+
 -- the first line that is no comment is whole, among the lines that may be there, and says that there is no counterexample, or that none is known
 abbrev pub makes_no_claim : ℕ → List (List ℕ) → Bool
 makes_no_claim n [] = false

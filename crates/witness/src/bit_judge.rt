@@ -4,18 +4,18 @@ ghost use Rattle.base.specs.Lines.{IsLine};
 ghost use Rattle.base.specs.Literal.{Valuation};
 ghost use Rattle.aiger.specs.Circuit.{Circuit, IsCircuit};
 ghost use Rattle.runs.specs.CircuitRun.{circuit_held};
-ghost use Rattle.witness.specs.BitAdmits.{admitted_lines, closed_frames, is_done};
+ghost use Rattle.witness.specs.BitAdmits.{admitted_lines, closed_frames};
 ghost use Rattle.witness.specs.BitJudgements.{BitJudges};
 ghost use Rattle.witness.specs.Accepted.{BitAcceptsExactly};
 ghost use Rattle.witness.specs.BitPlays.{bit_steps_of};
 ghost use Rattle.witness.specs.Reached.{IsClosedBitTrace, bit_reached};
-ghost use Rattle.witness.specs.BitStands.{StandsForBits, bit_place_of, line_room};
+ghost use Rattle.witness.specs.CutLines.{AreFront};
+ghost use Rattle.witness.specs.BitStands.{StandsForBits, IsPlayed, line_room};
 
 use crate::bit_lines::BitLines;
-use crate::bit_reader::{BitPlace, BitReader};
+use crate::bit_play::BitPlay;
 use crate::cut_line::CutLine;
 use crate::judgement::Judgement;
-use crate::verdicts::last_refusal;
 use aiger::Circuit;
 use base::next_line;
 use runs::NewFault;
@@ -33,16 +33,21 @@ const MOST_CLAIMED: usize = 21;
 #[derive(Drop)]
 pub struct BitJudge<'a> {
     lines: BitLines<'a>,
+    // the frames that they give
+    play: BitPlay<'a>,
     // what is kept of the line that has not ended
     line: CutLine,
 }
 
 impl<'a> Model for BitJudge<'a> {
-    ghost use Rattle.witness.specs.BitStands.{BitJudge as BitJudgeValue, judge_of};
+    ghost use Rattle.std.specs.Prelude.{◌≡◌};
+    ghost use Rattle.witness.specs.BitStands.{BitJudge as BitJudgeValue};
 
     ghost Value = { BitJudgeValue };
 
-    ghost view = { λ j. judge_of j.lines j.line };
+    ghost view = { λ j. record { lines = j.lines; play = j.play; line = j.line } };
+
+    ghost invariant = { λ j. j.play.run.circuit ≡ j.lines.reader.circuit.now };
 }
 
 /// Room for the bytes of a line that may be admitted, and for one more.
@@ -57,11 +62,17 @@ fn line_room(circuit: &Circuit) -> usize
         + 1
 }
 
-/// Whether the last line of a witness is admitted.
-fn has_ended(place: BitPlace) -> bool
-    ensures { result ≡ is_done (bit_place_of place) }
+/// Takes a line behind others, and plays what it gives. Of a longer line as many bytes are enough as there is room for, and
+/// whether all others are digits.
+fn take(lines: &mut BitLines<'_>, play: &mut BitPlay<'_>, line: &[u8], digits: bool)
+    requires { play.old.run.circuit ≡ lines.old.reader.circuit.now }
+    ensures played { (c : Circuit) (before : List (List ℕ)) (whole : List ℕ)
+        → IsPlayed c lines.old play.old before → AreFront (line_room c) line.now digits whole
+        → IsPlayed c lines.new play.new (before ++ whole ∷ []) }
+    ensures same { play.new.run.circuit ≡ lines.new.reader.circuit.now }
 {
-    matches!(place, BitPlace::Done)
+    let given = lines.take(line, digits);
+    play.take(lines.circuit(), given, line, lines.claim());
 }
 
 impl<'a> BitJudge<'a> {
@@ -76,9 +87,10 @@ impl<'a> BitJudge<'a> {
             Ok(line) => line,
             Err(AllocError) => return Err(NewFault::NoMemory),
         };
-        let reader = BitReader::new(alloc, circuit)?;
+        let play = BitPlay::new(alloc, circuit)?;
         Ok(BitJudge {
-            lines: BitLines::new(reader),
+            lines: BitLines::new(circuit),
+            play,
             line,
         })
     }
@@ -90,11 +102,12 @@ impl<'a> BitJudge<'a> {
             → StandsForBits c self.new (text ++ (line.now ++ 10 ∷ [])) }
     {
         if self.line.is_empty() {
-            self.lines.take(line, true);
+            take(&mut self.lines, &mut self.play, line, true);
             return;
         }
         self.line.extend(line);
-        self.lines.take(self.line.bytes(), self.line.digits());
+        let (bytes, digits) = (self.line.bytes(), self.line.digits());
+        take(&mut self.lines, &mut self.play, bytes, digits);
         self.line.clear();
     }
 
@@ -117,21 +130,10 @@ impl<'a> BitJudge<'a> {
         ensures { (c : Circuit) (text : List ℕ) → StandsForBits c self.now text
             → BitJudges c text result }
     {
-        if self.lines.no_claim {
-            return Judgement::NoClaim;
+        match self.lines.unplayed(self.line.is_empty()) {
+            Some(judgement) => judgement,
+            None => self.play.judgement(self.lines.claim()),
         }
-        let line = self.lines.admitted.saturating_add(1);
-        if let Some(why) = self.lines.refused {
-            return Judgement::Malformed { line, why };
-        }
-        let ended = has_ended(self.lines.reader.place());
-        if let Some(why) = last_refusal(ended, self.lines.admitted, self.line.is_empty()) {
-            return Judgement::Malformed { line, why };
-        }
-        self.lines
-            .reader
-            .play()
-            .judgement(self.lines.reader.unreached())
     }
 
     /// The judgement of the text: of every one that the judge stands for.
@@ -150,7 +152,7 @@ impl<'a> BitJudge<'a> {
         ensures { (c : Circuit) (text : List ℕ) → StandsForBits c self.now text
             → result ≡ circuit_held c }
     {
-        self.lines.reader.play().held()
+        self.play.held()
     }
 
     /// The steps that the run has taken: for each closed frame one for each input, each gate and each latch. The count
@@ -160,7 +162,7 @@ impl<'a> BitJudge<'a> {
         ensures { (c : Circuit) (text : List ℕ) → StandsForBits c self.now text
             → result ≡ bit_steps_of c (closed_frames c text) }
     {
-        self.lines.reader.play().steps()
+        self.play.steps()
     }
 
     /// How many frames are closed: those whose lines have ended before the first faulty line.
@@ -169,7 +171,7 @@ impl<'a> BitJudge<'a> {
         ensures { (c : Circuit) (text : List ℕ) → StandsForBits c self.now text
             → result ≡ closed_frames c text }
     {
-        self.lines.reader.play().frames()
+        self.play.frames()
     }
 
     /// Whether the bad property at a position, counted from 0, is the claim, and was 1 in a closed frame; none is beyond the
@@ -179,7 +181,7 @@ impl<'a> BitJudge<'a> {
             → StandsForBits c self.now text → IsClosedBitTrace c text vs
             → result ≡ bit_reached c text vs position }
     {
-        self.lines.reader.reaches(position)
+        (self.lines.claim() == position as u64) & self.play.rose()
     }
 
     /// How many whole lines stand before the first faulty line.
@@ -188,7 +190,6 @@ impl<'a> BitJudge<'a> {
         ensures { (c : Circuit) (text : List ℕ) → StandsForBits c self.now text
             → result ≡ admitted_lines c text }
     {
-        let lines = self.lines.admitted;
-        lines
+        self.lines.admitted
     }
 }

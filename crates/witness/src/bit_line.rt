@@ -1,8 +1,8 @@
 //! A whole line of a witness of a circuit.
-ghost use Rattle.std.specs.Prelude.{◌≡◌, ℕ, ◌==◌, ◌&&◌, ◌<◌, List, Some, None, Ok, Err, false, true, length, if◌then◌else◌};
+ghost use Rattle.std.specs.Prelude.{◌≡◌, ◌==◌, ℕ, ◌<◌, List, MatchOption, Some, None, Ok, Err, false, true, length, map, if◌then◌else◌};
 ghost use Rattle.std.specs.List.{list_all};
 ghost use Rattle.witness.specs.BitAdmits.{judged_claim, claim_at, bits_at};
-ghost use Rattle.witness.specs.BitScans.{is_bit};
+ghost use Rattle.witness.specs.BitScans.{is_bit, is_one_bit};
 ghost use Rattle.witness.specs.CutLines.{AreFront};
 
 use crate::why::Why;
@@ -16,30 +16,29 @@ fn is_bit(byte: u8) -> bool
     byte == b'0' || byte == b'1'
 }
 
-/// Whether all bytes are `0` or `1`.
+/// Whether all bytes are `0` or `1`. All are looked at, so that many are at once.
 fn are_all_bits(line: &[u8]) -> bool
     ensures { result ≡ list_all is_bit line.now }
 {
-    line.iter().all(|byte| is_bit(*byte))
-}
-
-/// Whether a line is so many bits.
-pub(crate) fn are_bits(line: &[u8], count: u64) -> bool
-    ensures { result ≡ ((length line.now == count) && list_all is_bit line.now) }
-{
-    line.len() as u64 == count && are_all_bits(line)
-}
-
-/// Why a line is not so many bits.
-pub(crate) fn why_no_bits(line: &[u8], count: u64) -> Why
-    ensures { ((length line.now == count) && list_all is_bit line.now) ≡ false
-        → bits_at count line.now ≡ Err result }
-{
-    if line.len() as u64 == count {
-        refusal(line)
-    } else {
-        Why::BadValue
+    let mut all = true;
+    for byte in line {
+        all &= is_bit(*byte);
     }
+    all
+}
+
+/// Why a line is not so many bits, if it is not.
+pub(crate) fn no_bits(line: &[u8], count: u64) -> Option<Why>
+    ensures { MatchOption result ((length line.now ≡ count)
+        × (bits_at count line.now ≡ Ok (map is_one_bit line.now))) (λ why. bits_at count line.now ≡ Err why) }
+{
+    if line.len() as u64 != count {
+        return Some(Why::BadValue);
+    }
+    if are_all_bits(line) {
+        return None;
+    }
+    Some(refusal(line))
 }
 
 /// The bad property that a claim by a byte and a number is of, of so many, or why it is of none.

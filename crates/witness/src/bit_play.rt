@@ -1,25 +1,24 @@
 //! The frames of a witness of a circuit, played while its lines are read.
-ghost use Rattle.std.specs.Prelude.{◌≡◌, ℕ, ◌<◌, ◌^◌, true, Bool, List, [], ◌∷◌, ◌++◌, MatchResult, length, map, slice_index, slice_index_or};
-ghost use Rattle.aiger.specs.declared.circuit.Latch.{Latch};
+ghost use Rattle.std.specs.Prelude.{◌≡◌, ℕ, ◌<◌, ◌^◌, Bool, List, [], ◌∷◌, ◌++◌, None, Some, MatchResult, length, map, true, slice_index, if◌then◌else◌};
 ghost use Rattle.base.specs.Literal.{Valuation, literal_value};
-ghost use Rattle.aiger.specs.Circuit.{Circuit};
 ghost use Rattle.runs.specs.CircuitRun.{IsFrameNow, circuit_held};
 ghost use Rattle.witness.specs.BitScans.{is_one_bit};
+ghost use Rattle.witness.specs.BitAdmits.{BitRead};
 ghost use Rattle.witness.specs.Judgements.{first_of};
-ghost use Rattle.witness.specs.BitJudgements.{differs_from_reset};
-ghost use Rattle.witness.specs.BitPlays.{first_bit_violated, PlaysBits, play_start, differing, latch_given, bit_given};
+ghost use Rattle.witness.specs.BitJudgements.{differs_from_reset, first_reset_differing};
+ghost use Rattle.witness.specs.BitPlays.{first_bit_violated, PlaysBits, play_start};
+ghost use Rattle.witness.specs.BitStands.{Gives, HasBits, PlaysSaid};
 
+use crate::bit_reader::BitGiven;
 use crate::judgement::Judgement;
 use crate::verdicts::{Breach, judgement_of, note_breach};
-use aiger::{Circuit, Reset};
+use aiger::{Circuit, Latch, Reset};
 use runs::{BitRun, NewFault};
 use std::alloc::Global;
-use std::marker::Model;
 
 /// The frames of a witness of a circuit that are closed, and the bits of the next.
 #[derive(Drop)]
 pub(crate) struct BitPlay<'a> {
-    circuit: &'a Circuit,
     run: BitRun<'a>,
     // the first latch whose initial bit is not that of its reset
     differs: Option<u64>,
@@ -28,17 +27,6 @@ pub(crate) struct BitPlay<'a> {
     breach: Option<Breach>,
     // the claimed bad property rose in a closed frame
     rose: bool,
-}
-
-impl<'a> Model for BitPlay<'a> {
-    ghost use Rattle.std.specs.Prelude.{◌≡◌};
-    ghost use Rattle.witness.specs.BitPlays.{BitPlay as BitPlayValue};
-
-    ghost Value = { BitPlayValue };
-
-    ghost view = { λ p. record { circuit = p.circuit.now; run = p.run; differs = p.differs; frames = p.frames; breach = p.breach; rose = p.rose } };
-
-    ghost invariant = { λ p. p.run.circuit ≡ p.circuit.now };
 }
 
 /// Whether a bit is not that of a reset.
@@ -52,14 +40,17 @@ fn differs_from_reset(reset: Reset, bit: bool) -> bool
     }
 }
 
-/// A latch that was found, or else the one of this number where it differs.
-fn differing(found: Option<u64>, k: u64, differs: bool) -> Option<u64>
-    ensures { result ≡ differing found k differs }
+/// The first latch whose reset is not the bit that a digit writes.
+fn first_differing(latches: &[Latch], digits: &[u8]) -> Option<u64>
+    requires { length digits.now ≡ length latches.now }
+    ensures { result ≡ first_reset_differing 0 latches.now (map is_one_bit digits.now) }
 {
-    match found {
-        Some(first) => Some(first),
-        None => { if differs { Some(k) } else { None } }
+    for (k, latch) in latches.iter().enumerate() {
+        if differs_from_reset(latch.reset, digits[k] == b'1') {
+            return Some(k as u64);
+        }
     }
+    None
 }
 
 /// The first constraint of a circuit that does not hold in the frame of a settled run of it.
@@ -97,32 +88,12 @@ impl<'a> BitPlay<'a> {
     {
         let run = BitRun::new(alloc, circuit)?;
         Ok(BitPlay {
-            circuit,
             run,
             differs: None,
             frames: 0,
             breach: None,
             rose: false,
         })
-    }
-
-    /// How many bad properties, latches and inputs there are.
-    pub(crate) fn bads(&self) -> u64
-        ensures { result ≡ length self.now.circuit.bads }
-    {
-        self.circuit.bads().len() as u64
-    }
-
-    pub(crate) fn latches(&self) -> u64
-        ensures { result ≡ length self.now.circuit.latches }
-    {
-        self.circuit.latches().len() as u64
-    }
-
-    pub(crate) fn inputs(&self) -> u64
-        ensures { result ≡ self.now.circuit.inputs }
-    {
-        u64::from(self.circuit.inputs())
     }
 
     /// The closed frames.
@@ -134,7 +105,7 @@ impl<'a> BitPlay<'a> {
 
     /// How many bits the run holds, and the steps that it has taken.
     pub(crate) fn held(&self) -> u64
-        ensures { result ≡ circuit_held self.now.circuit }
+        ensures { result ≡ circuit_held self.now.run.circuit }
     {
         self.run.held()
     }
@@ -145,73 +116,64 @@ impl<'a> BitPlay<'a> {
         self.run.steps()
     }
 
-    /// Gives a latch that is there its initial bit.
-    fn set_latch(&mut self, k: usize, bit: bool)
-        requires { k < length self.old.circuit.latches }
-        ensures { (d : Latch) → self.new ≡ latch_given self.old k bit
-            (differs_from_reset (slice_index_or self.old.circuit.latches k d).reset bit) }
-    {
-        self.run.set_state(k, bit);
-        let differs = differs_from_reset(self.circuit.latches()[k].reset, bit);
-        self.differs = differing(self.differs, k as u64, differs);
-    }
-
     /// Gives the latches the bits of a line, before any frame.
     ///
     /// Condition: the line has as many bytes as there are latches.
-    pub(crate) fn take_initial_line(&mut self, line: &[u8])
-        requires { length line.now ≡ length self.old.circuit.latches }
-        ensures { (c : Circuit) (claim : ℕ) → self.old ≡ play_start c
-            → PlaysBits c claim (map is_one_bit line.now) [] self.new }
+    fn begin(&mut self, circuit: &Circuit, line: &[u8])
+        requires same { self.old.run.circuit ≡ circuit.now }
+        requires bits { length line.now ≡ length circuit.now.latches }
+        ensures begun { (claim : ℕ) → self.old ≡ play_start circuit.now
+            → PlaysBits circuit.now claim (map is_one_bit line.now) [] self.new }
+        ensures same { self.new.run.circuit ≡ circuit.now }
     {
-        for (k, byte) in line.iter().enumerate() {
-            self.set_latch(k, *byte == b'1');
-        }
+        self.run.set_state_digits(line);
+        self.differs = first_differing(circuit.latches(), line);
     }
 
-    /// Gives an input that is there its bit.
-    fn set_input(&mut self, k: usize, bit: bool)
-        requires { k < self.old.circuit.inputs }
-        ensures { self.new ≡ bit_given self.old k bit }
-    {
-        self.run.set_input(k, bit);
-    }
-
-    /// Gives the inputs the bits of a line.
+    /// Closes the frame in which the inputs have the bits of a line: settles it, looks at its constraints and at the claimed
+    /// bad property, and moves on.
     ///
     /// Condition: the line has as many bytes as there are inputs.
-    pub(crate) fn take_input_line(&mut self, line: &[u8])
-        requires { length line.now ≡ self.old.circuit.inputs }
-        ensures { (c : Circuit) (claim : ℕ) (initial : List Bool) (frames : List (List Bool))
-            → PlaysBits c claim initial frames self.old → PlaysBits c claim initial frames self.new
-            × (self.new.run.inputs ≡ map is_one_bit line.now) }
-    {
-        for (k, byte) in line.iter().enumerate() {
-            self.set_input(k, *byte == b'1');
-        }
-    }
-
-    /// Closes the frame of the bits that the inputs have: settles it, looks at its constraints and at the claimed bad
-    /// property, and moves on.
-    pub(crate) fn close(&mut self, claim: u64)
-        ensures { (c : Circuit) (initial : List Bool) (frames : List (List Bool))
-            → PlaysBits c claim initial frames self.old → claim < length c.bads
+    fn close(&mut self, circuit: &Circuit, line: &[u8], claim: u64)
+        requires same { self.old.run.circuit ≡ circuit.now }
+        requires bits { length line.now ≡ circuit.now.inputs }
+        ensures closed { (initial : List Bool) (frames : List (List Bool))
+            → PlaysBits circuit.now claim initial frames self.old → claim < length circuit.now.bads
             → length frames < 2 ^ 62
-            → PlaysBits c claim initial (frames ++ self.old.run.inputs ∷ []) self.new }
+            → PlaysBits circuit.now claim initial (frames ++ map is_one_bit line.now ∷ []) self.new }
+        ensures same { self.new.run.circuit ≡ circuit.now }
     {
+        self.run.set_input_digits(line);
         self.run.settle();
-        let violated = first_violated(self.circuit, &self.run);
-        let rises = rises(self.circuit, &self.run, claim);
+        let violated = first_violated(circuit, &self.run);
+        let rises = rises(circuit, &self.run, claim);
         note_breach(&mut self.breach, self.frames, violated);
         self.rose |= rises;
         self.run.advance();
         self.frames = self.frames.saturating_add(1);
     }
 
-    /// What is judged of the closed frames where they are all, by the claim where it is not reached.
-    pub(crate) fn judgement(&self, unreached: Option<u64>) -> Judgement
-        ensures { result ≡ first_of self.now.differs self.now.breach unreached self.now.frames }
+    /// Plays what a line gives.
+    pub(crate) fn take(&mut self, circuit: &Circuit, given: BitGiven, line: &[u8], claim: u64)
+        requires same { self.old.run.circuit ≡ circuit.now }
+        requires bits { HasBits circuit.now line.now given }
+        ensures played { (r next : BitRead) → Gives circuit.now r next line.now given
+            → claim ≡ next.claim → PlaysSaid circuit.now r self.old → PlaysSaid circuit.now next self.new }
+        ensures same { self.new.run.circuit ≡ circuit.now }
     {
+        match given {
+            BitGiven::Nothing => {}
+            BitGiven::Initial => self.begin(circuit, line),
+            BitGiven::Frame => self.close(circuit, line, claim),
+        }
+    }
+
+    /// What is judged of the closed frames where they are all, by a claim.
+    pub(crate) fn judgement(&self, claim: u64) -> Judgement
+        ensures { result ≡ first_of self.now.differs self.now.breach
+            (if self.now.rose then None else Some claim) self.now.frames }
+    {
+        let unreached = if self.rose { None } else { Some(claim) };
         judgement_of(self.differs, self.breach, unreached, self.frames)
     }
 

@@ -1,7 +1,10 @@
-use Rattle.std.proofs.Common.{◌∙◌}
+use Rattle.std.proofs.Common.{refl, ◌∙◌}
 use Rattle.witness.specs.BitStands.{StandsForBits}
-use Rattle.witness.proofs.FeedLemmas.{fed_more}
+use Rattle.witness.proofs.FeedLemmas.{fed_nothing, fed_more}
 use Rattle.witness.proofs.judging.feed_bits.Goals as goal
+
+pub loop-count-init : goal.loop-count-init
+loop-count-init g c = record { fed = fed_nothing StandsForBits _ _; counted = refl }
 
 pub loop-count-preserved : goal.loop-count-preserved
 loop-count-preserved g c =

@@ -1,7 +1,8 @@
 use Rattle.std.proofs.Common.{◌++◌, List, ℕ, append_assoc, subst, sym, ap, ◌∙◌}
 use Rattle.base.specs.Lines.{unfinished}
-use Rattle.witness.specs.BitStands.{BitJudge, bit_judging, StandsForBits, line_room}
-use Rattle.witness.proofs.StandsLemmas.{part_more}
+use Rattle.witness.specs.CutLines.{cut_of}
+use Rattle.witness.specs.BitStands.{BitJudge, IsPlayed, StandsForBits, line_room}
+use Rattle.witness.proofs.TextEndLemmas.{whole_lines-part, unfinished-part}
 use Rattle.witness.proofs.bit_judge.BitJudge.feed.Goals as goal
 
 pub returns : goal.returns
@@ -11,4 +12,7 @@ returns c circuit text stands =
     let rest : List ℕ = c.loop-line.rest.now in
     let now = subst (λ (j : BitJudge). StandsForBits circuit j all) (sym c.self.view_is) was.1.1 in
     subst (StandsForBits circuit _) (append_assoc text was.0 rest ∙ ap (λ (l : List ℕ). text ++ l) (sym was.1.0))
-    (part_more (bit_judging circuit) all rest _ c.self.inside.lines.reader c.extend.new.self c.in_default.ensures now (c.extend.ensures (line_room circuit) (unfinished all) now.line) now.lines.counts now.lines.reads)
+    (record {
+      played = subst (IsPlayed circuit c.self.inside.lines c.self.inside.play) (sym (whole_lines-part all rest c.in_default.ensures)) now.played;
+      line = c.extend.ensures (line_room circuit) (unfinished all) now.line ∙ ap (cut_of (line_room circuit)) (sym (unfinished-part all rest c.in_default.ensures));
+    })

@@ -1,12 +1,11 @@
-use Rattle.std.proofs.Common.{◌≡◌, ℕ, true, List, [], ◌∷◌, ◌++◌, take, drop, subst, sym, ap, ◌∙◌, arith}
+use Rattle.std.proofs.Common.{◌≡◌, ℕ, true, List, [], ◌++◌, take, drop, subst, sym, ap, ◌∙◌, arith}
 use Rattle.base.specs.Lines.{whole_lines, unfinished}
 use Rattle.base.specs.Decimals.{are_digits}
 use Rattle.base.proofs.DecimalLemmas.{nothing}
 use Rattle.witness.specs.CutLines.{CutLine, cut_of, no_byte, AreFront}
 use Rattle.witness.specs.Readings.{is_nothing}
-use Rattle.witness.specs.BitStands.{BitJudge, bit_judging, judge_of, line_room, StandsForBits}
+use Rattle.witness.specs.BitStands.{BitJudge, IsPlayed, line_room, StandsForBits}
 use Rattle.witness.proofs.TextEndLemmas.{whole_lines-line_end, unfinished-line_end}
-use Rattle.witness.proofs.StandsLemmas.{line_ended, with_bytes}
 use Rattle.witness.proofs.CutLineLemmas.{cut_front, cut_nothing, nothing_cut, whole_front}
 use Rattle.witness.proofs.bit_judge.BitJudge.take_line.Goals as goal
 
@@ -17,9 +16,10 @@ returns-then-is_empty c circuit text is stands =
     let room : ℕ = line_room circuit in
     let empty : unfinished text ≡ [] = nothing (unfinished text) (sym (nothing_cut room (unfinished text) (omega arith)) ∙ (ap (λ (k : CutLine). is_nothing k.bytes) (sym now.line) ∙ (sym c.is_empty.ensures ∙ c.if-is_empty.true))) in
     let front : AreFront room line true (unfinished text ++ line) = subst (λ (l : List ℕ). AreFront room line true (l ++ line)) (sym empty) (whole_front room line) in
-    line_ended (bit_judging circuit) (text ++ (line ++ 10 ∷ [])) (whole_lines text ++ (unfinished text ++ line) ∷ []) (judge_of c.take.new.self c.self.inside.line) (whole_lines-line_end text line is) (unfinished-line_end text line)
-    (c.take.ensures circuit c.self.inside.line (whole_lines text) (unfinished text) (unfinished text ++ line) now.lines front)
-    (now.line ∙ ap (cut_of room) empty)
+    record {
+      played = subst (IsPlayed circuit c.take.new.lines c.take.new.play) (sym (whole_lines-line_end text line is)) (c.take.ensures.played circuit (whole_lines text) (unfinished text ++ line) now.played front);
+      line = now.line ∙ ap (cut_of room) (empty ∙ sym (unfinished-line_end text line));
+    }
 
 pub returns : goal.returns
 returns c circuit text is stands =
@@ -28,9 +28,10 @@ returns c circuit text is stands =
     let room : ℕ = line_room circuit in
     let whole : List ℕ = unfinished text ++ line in
     let kept : c.extend.new.self ≡ cut_of room whole = c.extend.ensures room (unfinished text) now.line in
-    let bytes : c.bytes.result.now ≡ take room whole = c.bytes.ensures ∙ ap (λ (k : CutLine). k.bytes) kept in
-    let digits : c.digits.result ≡ are_digits (drop room whole) = c.digits.ensures ∙ ap (λ (k : CutLine). k.digits) kept in
-    let front : AreFront room c.bytes.result.now c.digits.result whole = rw (bytes, digits) (cut_front room whole) in
-    line_ended (bit_judging circuit) (text ++ (line ++ 10 ∷ [])) (whole_lines text ++ whole ∷ []) (judge_of c.take-2.new.self c.clear.new.self) (whole_lines-line_end text line is) (unfinished-line_end text line)
-    (c.take-2.ensures circuit c.clear.new.self (whole_lines text) (unfinished text) whole (with_bytes (bit_judging circuit) (whole_lines text) (unfinished text) (unfinished text) _ c.self.inside.lines.reader c.clear.new.self now.lines now.lines.counts now.lines.reads) front)
-    (c.clear.ensures ∙ (ap (λ (k : CutLine). no_byte k.room) kept ∙ cut_nothing room))
+    let bytes : c.bytes-bytes.result.now ≡ take room whole = c.bytes-bytes.ensures ∙ ap (λ (k : CutLine). k.bytes) kept in
+    let digits : c.digits-digits.result ≡ are_digits (drop room whole) = c.digits-digits.ensures ∙ ap (λ (k : CutLine). k.digits) kept in
+    let front : AreFront room c.bytes-bytes.result.now c.digits-digits.result whole = rw (bytes, digits) (cut_front room whole) in
+    record {
+      played = subst (IsPlayed circuit c.take-2.new.lines c.take-2.new.play) (sym (whole_lines-line_end text line is)) (c.take-2.ensures.played circuit (whole_lines text) whole now.played front);
+      line = c.clear.ensures ∙ (ap (λ (k : CutLine). no_byte k.room) kept ∙ cut_nothing room) ∙ ap (cut_of room) (sym (unfinished-line_end text line));
+    }
