@@ -17,7 +17,7 @@ use Rattle.witness.specs.BitStands.{PlaysAt, is_frame}
 use Rattle.witness.specs.BitPlays.{first_bit_violated, bit_frame_steps, bit_steps_of, state_behind, play_start, TracedBits, PlaysBits, bit_rises}
 use Rattle.witness.specs.Fits.{breach_from}
 use Rattle.witness.specs.BitJudgements.{differs_from_reset, first_reset_differing}
-use Rattle.witness.specs.BitScans.{is_one_bit}
+use Rattle.witness.specs.Admits.{is_one_bit}
 use Rattle.std.proofs.Math.Bool.{or-false}
 use Rattle.witness.proofs.JudgedLemmas.{breach_more}
 

@@ -10,7 +10,7 @@ use Rattle.witness.specs.declared.bit_reader.BitGiven.{BitGiven}
 use Rattle.witness.specs.declared.bit_reader.BitGiven.TheVariants as given
 use Rattle.witness.specs.declared.bit_reader.BitReader.{BitReader}
 use Rattle.witness.specs.BitAdmits.{bits_at, AtClaim, AtInitial, AtFirst, AtLater, AtDone, BitRead, claim_at, after_frame, bit_admit}
-use Rattle.witness.specs.BitScans.{is_one_bit}
+use Rattle.witness.specs.Admits.{is_one_bit}
 use Rattle.witness.specs.BitStands.{bit_place_of, PlaysAt, ReadsBits, Gives, GivesBitLine, GivesFrame, is_frame, line_room}
 use Rattle.witness.specs.CutLines.{AreFront}
 use Rattle.witness.proofs.BitReadLemmas.{claim_is_line}

@@ -12,10 +12,10 @@ use Rattle.aiger.specs.Circuit.{Circuit}
 use Rattle.witness.specs.declared.why.Why.{Why}
 use Rattle.witness.specs.declared.why.Why.TheVariants as why
 use Rattle.witness.specs.Readings.{is_nothing}
-use Rattle.witness.specs.Admits.{Claim, is_value_byte}
+use Rattle.witness.specs.Admits.{Claim, is_value_byte, is_bit, is_one_bit}
 use Rattle.witness.specs.BitAdmits.{judged_claim, claim_at, bits_at, BitPlace, AtHeader, AtClaim, AtInitial, AtFirst, AtLater, AtDone, BitRead, bit_admit_at, bit_admit}
 use Rattle.witness.specs.CutLines.{CutLine, cut_of, no_byte, AreFront}
-use Rattle.witness.specs.BitScans.{behind_first, is_bit, is_one_bit}
+use Rattle.witness.specs.ClaimScans.{behind_first}
 use Rattle.witness.specs.BitStands.{line_room}
 use Rattle.witness.proofs.StepWords.{claim_with}
 use Rattle.base.proofs.DecimalLemmas.{none_of}

@@ -10,7 +10,7 @@ use lib.Bits.{bit_and}
 use Rattle.std.proofs.lemmas.Bool.{cases_Bool, and_parts, and_from, eqb-true, eq-eqb, false_from_ne_true, cases_lt}
 use Rattle.std.proofs.lemmas.Nat.{and_block, xor_block, xor_of_8}
 use Rattle.base.specs.Word.{bit_number}
-use Rattle.witness.specs.BitScans.{is_bit, is_one_bit}
+use Rattle.witness.specs.Admits.{is_bit, is_one_bit}
 use Rattle.witness.specs.WordValues.{IsValueOf, digits_word}
 use Rattle.witness.proofs.WordValueLemmas.{known_nothing, known_more, bit_most}
 

@@ -17,7 +17,7 @@ pub mod OneJudgement
 pub mod BitReadLemmas
 pub mod BitOneJudgement
 pub mod BitWorkedLemmas
-pub mod BitScanLemmas
+pub mod ClaimScanLemmas
 pub mod BitPlayLemmas
 pub mod BitReaderLemmas
 pub mod StandsLemmas
@@ -28,7 +28,7 @@ pub mod WordValueLemmas
 pub mod EightDigitLemmas
 pub mod WordFieldLemmas
 pub mod PlainLineLemmas
-pub mod ClaimScanLemmas
+pub mod WordClaimLemmas
 pub mod WordLineLemmas
 pub mod WordPlayLemmas
 pub mod KeptLineLemmas

@@ -16,7 +16,7 @@ use Rattle.btor2.specs.Symbols.{is_symbol, is_printed}
 use Rattle.btor2.proofs.SymbolLemmas.{symbol_printed}
 use Rattle.witness.specs.Texts.{digit, binary, symbol_part}
 use Rattle.witness.specs.Fits.{is_set}
-use Rattle.witness.specs.BitScans.{is_bit}
+use Rattle.witness.specs.Admits.{is_bit}
 use Rattle.witness.specs.WordValues.{IsValueOf}
 use Rattle.witness.specs.PlainLines.{NoNumber, BeginsName, IsFirstOther, NoName, BeginsWord, BeginsAssignment}
 use Rattle.witness.proofs.PieceLemmas.{IsBinary, value_is_binary}

@@ -4,7 +4,7 @@ use Rattle.std.specs.Str.{bytes_eq}
 use Rattle.std.proofs.lemmas.Bool.{cases_Bool, and_parts, eqb-true, eqb-false, eq-eqb, false_from_ne_true}
 use Rattle.base.specs.Decimals.{is_decimal, number_of}
 use Rattle.base.proofs.DecimalLemmas.{number_is_decimal, number_of-decimal}
-use Rattle.witness.specs.BitScans.{behind_first}
+use Rattle.witness.specs.ClaimScans.{behind_first}
 use Rattle.std.proofs.lemmas.Slice.Eq.{bytes_eq-Decides}
 
 -- no number stands behind no byte

@@ -8,8 +8,7 @@ use Rattle.std.proofs.lemmas.List.Folds.{list_all-append}
 use Rattle.base.specs.Word.{word, bit_number}
 use Rattle.base.proofs.DecimalLemmas.{none_of}
 use Rattle.witness.specs.declared.why.Why.TheVariants as why
-use Rattle.witness.specs.Admits.{is_value_byte, value_of}
-use Rattle.witness.specs.BitScans.{is_bit, is_one_bit}
+use Rattle.witness.specs.Admits.{is_value_byte, value_of, is_bit, is_one_bit}
 use Rattle.witness.specs.WordValues.{IsValueOf}
 
 -- ---- the word of such bytes

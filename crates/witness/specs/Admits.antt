@@ -56,6 +56,15 @@ claims_at bads line = judged_claims bads (claims_of (between_spaces line))
 
 -- ---- an assignment
 
+-- the bit of a byte
+abbrev pub is_one_bit : ℕ → Bool
+is_one_bit b = b == 49
+
+-- whether a byte is a bit's
+abbrev pub is_bit : ℕ → Bool
+is_bit b = (b == 48) || (b == 49)
+
+-- whether it is one of a value's, of which bits may be undetermined
 abbrev pub is_value_byte : ℕ → Bool
 is_value_byte b = (b == 48) || ((b == 49) || (b == 120))
 

@@ -18,7 +18,7 @@ use Rattle.witness.specs.Stands.{Judge, Judging, IsOfLines}
 use Rattle.witness.specs.BitAdmits.{BitPlace, AtHeader, AtClaim, AtInitial, AtFirst, AtLater, AtDone, BitRead, bit_admit, bits_at, bit_reader, read_bit_text}
 use Rattle.witness.specs.BitPlays.{play_start, PlaysBits}
 use Rattle.witness.specs.BitJudgements.{makes_no_bit_claim, BitJudges}
-use Rattle.witness.specs.BitScans.{is_one_bit}
+use Rattle.witness.specs.Admits.{is_one_bit}
 use Rattle.witness.specs.Reached.{bits_said_in}
 use Rattle.witness.specs.CutLines.{CutLine, cut_of}
 

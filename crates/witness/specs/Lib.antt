@@ -11,7 +11,7 @@ pub mod BitTexts
 pub mod BitAdmits
 pub mod BitJudgements
 pub mod Accepted
-pub mod BitScans
+pub mod ClaimScans
 pub mod BitPlays
 pub mod Stands
 pub mod BitStands

@@ -5,7 +5,7 @@ use Rattle.base.specs.Lines.{HasNone}
 use Rattle.witness.specs.declared.word_claims.ClaimScan.{ClaimScan}
 use Rattle.witness.specs.Texts.{are_distinct}
 use Rattle.witness.specs.Admits.{Claim, claims_of, between_spaces}
-use Rattle.witness.specs.BitScans.{Scans}
+use Rattle.witness.specs.ClaimScans.{Scans}
 use Rattle.witness.specs.Fits.{AreClaimed}
 
 -- claims with one more behind them, where all are claims

@@ -4,8 +4,7 @@ use Rattle.std.specs.List.{list_all}
 use Rattle.base.specs.Word.{word, bit_number}
 use Rattle.btor2.specs.Symbols.{is_symbol}
 use Rattle.witness.specs.declared.why.Why.{Why}
-use Rattle.witness.specs.Admits.{value_of, cut_at_space}
-use Rattle.witness.specs.BitScans.{is_bit, is_one_bit}
+use Rattle.witness.specs.Admits.{value_of, cut_at_space, is_bit, is_one_bit}
 use Rattle.base.specs.Decimals.{number_of}
 use Rattle.btor2.specs.declared.item.Item.{Item}
 use Rattle.btor2.specs.Lists.{width_at}

@@ -2,7 +2,7 @@
 ghost use Rattle.std.specs.Prelude.{◌≡◌, ◌==◌, ℕ, ◌<◌, List, MatchOption, Some, None, Ok, Err, false, true, length, map, if◌then◌else◌};
 ghost use Rattle.std.specs.List.{list_all};
 ghost use Rattle.witness.specs.BitAdmits.{judged_claim, claim_at, bits_at};
-ghost use Rattle.witness.specs.BitScans.{is_bit, is_one_bit};
+ghost use Rattle.witness.specs.Admits.{is_bit, is_one_bit};
 ghost use Rattle.witness.specs.CutLines.{AreFront};
 
 use crate::why::Why;

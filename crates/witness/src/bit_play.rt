@@ -2,7 +2,7 @@
 ghost use Rattle.std.specs.Prelude.{◌≡◌, ℕ, ◌<◌, ◌^◌, Bool, List, [], ◌∷◌, ◌++◌, None, Some, MatchResult, length, map, true, slice_index, if◌then◌else◌};
 ghost use Rattle.base.specs.Literal.{Valuation, literal_value};
 ghost use Rattle.runs.specs.CircuitRun.{IsFrameNow, circuit_held};
-ghost use Rattle.witness.specs.BitScans.{is_one_bit};
+ghost use Rattle.witness.specs.Admits.{is_one_bit};
 ghost use Rattle.witness.specs.BitAdmits.{BitRead};
 ghost use Rattle.witness.specs.Judgements.{first_of};
 ghost use Rattle.witness.specs.BitJudgements.{differs_from_reset, first_reset_differing};

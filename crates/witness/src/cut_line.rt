@@ -4,7 +4,7 @@ ghost use Rattle.base.specs.Decimals.{are_digits};
 ghost use Rattle.witness.specs.Readings.{is_nothing};
 ghost use Rattle.witness.specs.CutLines.{cut_of, no_byte};
 
-use crate::bit_scan::is_digit;
+use crate::claim_scan::is_digit;
 use std::alloc::{AllocError, Global};
 use std::marker::Model;
 

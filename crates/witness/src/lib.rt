@@ -7,7 +7,7 @@ mod bit_line;
 mod bit_lines;
 mod bit_play;
 mod bit_reader;
-mod bit_scan;
+mod claim_scan;
 mod cut_line;
 mod fault;
 mod given;

@@ -4,7 +4,7 @@ ghost use Rattle.std.specs.List.{list_all};
 ghost use Rattle.btor2.specs.Symbols.{is_printed, is_symbol};
 ghost use Rattle.witness.specs.PlainLines.{NoNumber, NoFrameLine, BeginsName, IsFirstOther, NoName, BeginsWord, NoWord, BeginsAssignment, NoAssignment};
 
-use crate::bit_scan::is_digit;
+use crate::claim_scan::is_digit;
 use crate::given::Given;
 use crate::word_value::known_word;
 use base::{Counter, Width};

@@ -2,10 +2,10 @@
 ghost use Rattle.std.specs.Prelude.{◌≡◌, ℕ, ◌&&◌, ◌<◌, nat_lt, not, true, List, [], ◌∷◌, ◌++◌, Bool, Option, MatchResult, Ok, Err, length, slice_set};
 ghost use Rattle.witness.specs.Admits.{Claim, claims_at, claim_of};
 ghost use Rattle.witness.specs.Fits.{is_set, NoneIsSet, AreClaimed};
-ghost use Rattle.witness.specs.BitScans.{Scans};
+ghost use Rattle.witness.specs.ClaimScans.{Scans};
 ghost use Rattle.witness.specs.WordClaims.{and_claim, AreTold, AreClaims};
 
-use crate::bit_scan::Scan;
+use crate::claim_scan::Scan;
 use crate::why::Why;
 
 /// What the bytes of a line of claims say, of which more may follow.

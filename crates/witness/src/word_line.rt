@@ -4,7 +4,7 @@ ghost use Rattle.std.specs.Str.{bytes_eq};
 ghost use Rattle.witness.specs.Texts.{is_comment};
 ghost use Rattle.base.specs.Decimals.{number_of};
 ghost use Rattle.witness.specs.Admits.{begins_part};
-ghost use Rattle.witness.specs.BitScans.{behind_first};
+ghost use Rattle.witness.specs.ClaimScans.{behind_first};
 
 use base::decimal;
 

@@ -3,13 +3,18 @@ ghost use Rattle.std.specs.Prelude.{◌≡◌, ◌-◌, ◌<◌, ◌≤◌, ◌^
 ghost use Rattle.std.specs.List.{list_all};
 ghost use Rattle.base.specs.Word.{bit_number};
 ghost use Rattle.witness.specs.declared.why.Why.TheVariants as why;
-ghost use Rattle.witness.specs.Admits.{is_value_byte, value_of};
-ghost use Rattle.witness.specs.BitScans.{is_bit, is_one_bit};
+ghost use Rattle.witness.specs.Admits.{is_bit, is_one_bit, is_value_byte, value_of};
 ghost use Rattle.witness.specs.WordValues.{IsAsValueRead, IsValueOf, digits_word};
 
-use crate::bit_scan::is_value_byte;
 use crate::why::Why;
 use base::Width;
+
+/// Whether a byte is `0`, `1` or `x`.
+fn is_value_byte(byte: u8) -> bool
+    ensures { result ≡ is_value_byte byte }
+{
+    byte == b'0' || byte == b'1' || byte == b'x'
+}
 
 /// Whether each byte is `0`, `1` or `x`.
 fn are_value_bytes(bytes: &[u8]) -> bool

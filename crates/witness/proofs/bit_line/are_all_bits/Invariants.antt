@@ -1,6 +1,6 @@
 use Rattle.std.proofs.Common.{◌≡◌, take}
 use Rattle.std.specs.List.{list_all}
-use Rattle.witness.specs.BitScans.{is_bit}
+use Rattle.witness.specs.Admits.{is_bit}
 use Rattle.witness.proofs.bit_line.are_all_bits.Given as goal
 
 abbrev pub invariant-loop-byte : goal.invariant-loop-byte

@@ -1,5 +1,5 @@
 use Rattle.std.proofs.Common.{◌≡◌, drop, map}
-use Rattle.witness.specs.BitScans.{is_one_bit}
+use Rattle.witness.specs.Admits.{is_one_bit}
 use Rattle.witness.specs.BitJudgements.{first_reset_differing}
 use Rattle.witness.proofs.bit_play.first_differing.Given as goal
 

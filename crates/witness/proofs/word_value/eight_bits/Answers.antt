@@ -2,7 +2,7 @@ use Rattle.std.proofs.Common.{◌≡◌, ℕ, ◌*◌, ◌/◌, ◌%◌, ◌^◌
 use Rattle.std.specs.List.{list_all}
 use Rattle.std.specs.Int.RustNames.{bit_xor}
 use lib.Bits.{bit_and}
-use Rattle.witness.specs.BitScans.{is_bit}
+use Rattle.witness.specs.Admits.{is_bit}
 use Rattle.witness.specs.WordValues.{digits_word}
 use Rattle.witness.proofs.EightDigitLemmas.{AreTested, are_tested, are_bytes}
 use Rattle.witness.proofs.word_value.eight_bits.Goals as goal

@@ -6,7 +6,7 @@ use Rattle.aiger.specs.Trace.{next_latch_bits}
 use Rattle.runs.specs.Run.{more_steps}
 use Rattle.runs.specs.CircuitRun.{CircuitRun, IsFrameNow, no_inputs, settle_steps}
 use Rattle.witness.specs.declared.bit_play.BitPlay.{BitPlay}
-use Rattle.witness.specs.BitScans.{is_one_bit}
+use Rattle.witness.specs.Admits.{is_one_bit}
 use Rattle.witness.specs.Judgements.{violated_at}
 use Rattle.witness.specs.BitPlays.{first_bit_violated}
 use Rattle.witness.proofs.BitPlayLemmas.{Closes, plays_given, plays_more}

@@ -1,6 +1,6 @@
 use Rattle.std.proofs.Common.{◌≡◌, ◌∷◌, ◌++◌, [], ℕ, ◌<◌, Bool, List, map, length, sym, subst, ap, ◌∙◌}
 use Rattle.aiger.specs.Circuit.{Circuit}
-use Rattle.witness.specs.BitScans.{is_one_bit}
+use Rattle.witness.specs.Admits.{is_one_bit}
 use Rattle.witness.specs.BitAdmits.{BitRead}
 use Rattle.witness.specs.BitPlays.{PlaysBits}
 use Rattle.witness.specs.BitStands.{PlaysAt, PlaysSaid, Gives}

@@ -6,7 +6,7 @@ use Rattle.witness.specs.declared.why.Why.TheVariants as why
 use Rattle.witness.specs.declared.bit_reader.BitPlace.TheVariants as code
 use Rattle.witness.specs.declared.bit_reader.BitGiven.TheVariants as given
 use Rattle.witness.specs.BitAdmits.{claim_at, bits_at}
-use Rattle.witness.specs.BitScans.{is_one_bit}
+use Rattle.witness.specs.Admits.{is_one_bit}
 use Rattle.witness.specs.BitStands.{line_room}
 use Rattle.witness.proofs.BitReaderLemmas.{gives_whole, header_refused, header_admitted, claim_refused, claim_admitted, initial_refused, initial_admitted, end_refused, end_admitted, trailing_refused, frame_gives}
 use Rattle.witness.proofs.bit_reader.BitReader.admit.Goals as goal

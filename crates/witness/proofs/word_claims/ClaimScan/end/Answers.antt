@@ -1,6 +1,6 @@
 use Rattle.std.proofs.Common.{refl, ◌∙◌}
 use Rattle.witness.specs.Admits.{claims_of}
-use Rattle.witness.proofs.ClaimScanLemmas.{claims_end}
+use Rattle.witness.proofs.WordClaimLemmas.{claims_end}
 use Rattle.witness.proofs.word_claims.ClaimScan.end.Goals as goal
 
 pub returns-then-all-clause-line : goal.returns-then-all-clause-line

@@ -1,8 +1,8 @@
 use Rattle.std.proofs.Common.{Bool, ◌&&◌, length, sym, ap, ◌∙◌}
 use Rattle.witness.specs.Admits.{claim_of}
 use Rattle.witness.specs.declared.word_claims.ClaimScan.{ClaimScan}
-use Rattle.witness.proofs.BitScanLemmas.{no_claim, one_claim}
-use Rattle.witness.proofs.ClaimScanLemmas.{told_more, told_nothing}
+use Rattle.witness.proofs.ClaimScanLemmas.{no_claim, one_claim}
+use Rattle.witness.proofs.WordClaimLemmas.{told_more, told_nothing}
 use Rattle.witness.proofs.word_claims.ClaimScan.end_piece.Goals as goal
 use Rattle.witness.proofs.word_claims.ClaimScan.end_piece.Goals.{in-Some, in-None}
 

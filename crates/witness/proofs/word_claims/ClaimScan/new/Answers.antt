@@ -1,5 +1,5 @@
 use Rattle.std.proofs.Common.{refl}
-use Rattle.witness.proofs.ClaimScanLemmas.{claims_nothing}
+use Rattle.witness.proofs.WordClaimLemmas.{claims_nothing}
 use Rattle.witness.proofs.word_claims.ClaimScan.new.Goals as goal
 
 pub returns : goal.returns

@@ -1,7 +1,7 @@
 use Rattle.std.proofs.Common.{ℕ, subst, sym, ◌++◌, ◌∷◌, []}
 use Rattle.witness.specs.Admits.{claims_of}
 use Rattle.witness.specs.WordClaims.{AreClaims}
-use Rattle.witness.proofs.ClaimScanLemmas.{claims_byte, claims_space}
+use Rattle.witness.proofs.WordClaimLemmas.{claims_byte, claims_space}
 use Rattle.witness.proofs.word_claims.ClaimScan.push.Goals as goal
 
 pub returns-then-byte-eq32-clause-line : goal.returns-then-byte-eq32-clause-line

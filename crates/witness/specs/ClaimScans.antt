@@ -1,20 +1,12 @@
 -- What is kept of the bytes of a claim of which more may follow.
 use Rattle.std.specs.Prelude.{◌≡◌, ℕ, ◌+◌, ◌-◌, ◌^◌, min, Bool, true, not, ◌&&◌, ◌||◌, ◌==◌, nat_lt, List, [], ◌∷◌, length, slice_index_or, Option, Some, None, if◌then◌else◌}
 use Rattle.base.specs.Decimals.{is_digit, are_digits, capped_value, number_more}
-use Rattle.witness.specs.declared.bit_scan.Scan.{Scan}
+use Rattle.witness.specs.declared.claim_scan.Scan.{Scan}
 
 -- the bytes behind the first
 abbrev pub behind_first : List ℕ → List ℕ
 behind_first [] = []
 behind_first (b ∷ bs) = bs
-
--- the bit of a byte
-abbrev pub is_one_bit : ℕ → Bool
-is_one_bit b = b == 49
-
--- whether a byte is a bit's
-abbrev pub is_bit : ℕ → Bool
-is_bit b = (b == 48) || (b == 49)
 
 -- what is kept is that of these bytes
 pub record Scans (s : Scan) (line : List ℕ) : Type 0 where

@@ -1,8 +1,7 @@
 //! A claim, byte by byte.
 ghost use Rattle.std.specs.Prelude.{◌≡◌, ℕ, List, [], ◌∷◌, ◌++◌};
 ghost use Rattle.base.specs.Decimals.{is_digit, number_more};
-ghost use Rattle.witness.specs.Admits.{is_value_byte};
-ghost use Rattle.witness.specs.BitScans.{Scans, scan_more, has_decimal, claimed};
+ghost use Rattle.witness.specs.ClaimScans.{Scans, scan_more, has_decimal, claimed};
 
 /// What the bytes of a claim say, of which more may follow.
 #[derive(Clone, Copy)]
@@ -24,13 +23,6 @@ pub(crate) fn is_digit(byte: u8) -> bool
     ensures { result ≡ is_digit byte }
 {
     b'0' <= byte && byte <= b'9'
-}
-
-/// Whether a byte is `0`, `1` or `x`.
-pub(crate) fn is_value_byte(byte: u8) -> bool
-    ensures { result ≡ is_value_byte byte }
-{
-    byte == b'0' || byte == b'1' || byte == b'x'
 }
 
 /// The number with a digit more, at most 2^64 - 1; the same number where the byte is no digit.
