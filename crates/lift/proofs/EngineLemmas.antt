@@ -1,32 +1,39 @@
 -- What is lifted of counterexamples over engine forms.
-use Rattle.std.proofs.Common.{◌≡◌, ◌≤◌, ℕ, Bool, true, false, List, [], length, subst, Option, Some, None, Result, Ok, Err, IfSome, OnOk}
+use Rattle.std.proofs.Common.{◌≡◌, ◌≤◌, ℕ, zero, suc, ◌-◌, ◌^◌, min, Bool, true, false, List, [], ◌∷◌, ◌++◌, length, map, take, replicate, set, refl, sym, ap, ap₂, subst, ◌∙◌, Option, Some, None, option_map, Ok, Err, IfSome, arith, inl, inr, if◌then◌else◌}
 use Rattle.std.specs.Io.KnownBytes.{Appends}
-use Rattle.base.specs.Lines.{whole_lines}
+use Rattle.std.proofs.Math.Seq.{take_all}
+use Rattle.std.proofs.lemmas.Bool.{cases_lt, lt-ltb, le-ltb}
+use Rattle.std.proofs.lemmas.List.Concat.{flat_map-append}
+use Rattle.base.specs.Device.{AppendsBeginning}
+use Rattle.base.specs.Lines.{text_of_lines, whole_lines}
 use Rattle.btor2.specs.declared.item.Item.{Item}
 use Rattle.aiger.specs.Circuit.{Circuit}
+use Rattle.aiger.specs.Reachability.{circuit_shows}
+use Rattle.engine_form.specs.EngineForm.{input_count}
 use Rattle.witness.specs.declared.judgement.Judgement.{Judgement}
 use Rattle.witness.specs.declared.judgement.Judgement.TheVariants as judgement
 use Rattle.witness.specs.Texts.{most_lines}
 use Rattle.witness.specs.Judgements.{Judges}
+use Rattle.witness.specs.BitAdmits.{admitted_lines}
 use Rattle.witness.specs.BitTexts.{BitWitness, BitSays}
 use Rattle.witness.specs.BitJudgements.{BitJudges}
+use Rattle.witness.specs.Reached.{bits_said_in}
 use Rattle.witness.proofs.FeedLemmas.{if_some_then}
-use Rattle.engine_form.specs.EngineForm.{input_count}
-use Rattle.rises.specs.FirstRises.{AreBitFirstRises}
+use Rattle.rises.specs.FirstRises.{first_rise, bit_first_rises, AreBitFirstRises}
+use Rattle.rises.proofs.RiseLemmas.{one_claim, no_claim}
 use Rattle.restore.specs.declared.fault.RestoreFault.{RestoreFault}
-use Rattle.restore.specs.Accepted.{FindsAgain}
-use Rattle.restore.specs.Answers.{WritesAllBut, WritesOwedLines, WritesAll}
+use Rattle.restore.specs.declared.told.Restored.{Restored}
+use Rattle.restore.specs.Accepted.{FindsAgain, IsFirstRise}
+use Rattle.restore.specs.Answers.{lines_put, IsRestored, IsRestoredBut, form_lines_put, IsRestoredForm}
 use Rattle.restore.specs.Faults.{is_of_text}
-use Rattle.restore.specs.FormWitness.{form_restored_text, FormJudges, TakesRestored}
-use Rattle.restore.specs.Pieces.{Restorer, Owed, owed}
+use Rattle.restore.specs.FormWitness.{form_restored_text, FormJudges}
+use Rattle.restore.specs.Putting.{put_lines}
 use Rattle.restore.specs.Reading.{read_found}
 use Rattle.restore.specs.Restored.{restored_text}
-use Rattle.restore.specs.Taking.{IsPutInPieces}
-use Rattle.lift.specs.EngineLifting.{engine_lifted_text, FindsInModel, form_lifted_text, KeepsFormVerdict, FindsWitnessInModel, Over, LiftsOver, lifted_over, BeginsToRestore, LiftsRestored, LiftsForm}
-use Rattle.lift.specs.Lifted.{lifted_with}
-use Rattle.lift.specs.Stands.{Lifter, LiftsWith}
+use Rattle.lift.specs.EngineLifting.{engine_lifted_text, FindsInModel, form_lifted_text, KeepsFormVerdict, FindsWitnessInModel, noted_first, LiftsRestored, LiftsForm}
+use Rattle.lift.specs.Lifted.{piece, lifted_lines, lifted_with}
+use Rattle.lift.specs.Placed.{put_piece_for}
 use Rattle.lift.specs.Verdicts.{KeepsVerdictIn}
-use Rattle.lift.proofs.TakingLemmas.{lifted_in_pieces}
 
 -- lifting keeps the verdict, with names or without
 abbrev pub Keeps : List Item → Circuit → Bool → Type 0
@@ -43,100 +50,119 @@ found_in_model items c text written n w lines says keeps one =
     let same : one.0 ≡ judgement.Accepted n = keeps.verdict w one.0 says lines one.1 in
     subst (Judges items written) same one.1
 
--- ---- what a lifter took of a text that was restored
+-- ---- what is put for lines is what they are lifted to
 
--- what the text is lifted to, and its fault
-abbrev lifted_owed : Bool → List Item → Circuit → ℕ → List ℕ → Owed
-lifted_owed named items c k text = record { bytes = engine_lifted_text named items c k text; fault = (read_found (input_count c) text).fault }
+none_taken : (n : ℕ) → let none : List (List ℕ) = [] in take n none ≡ none
+none_taken zero = refl
+none_taken (suc n) = refl
 
-abbrev restored_owed : Circuit → ℕ → List ℕ → Owed
-restored_owed c k text = record { bytes = restored_text c k text; fault = (read_found (input_count c) text).fault }
+lines_lifted : (named : Bool) (items : List Item) (n : ℕ) (lines : List (List ℕ)) → put_lines (put_piece_for (record { items = items; named = named })) n lines ≡ text_of_lines (lifted_lines named items n (take (most_lines - n) lines))
+lines_lifted named items n [] = ap (λ (ls : List (List ℕ)). text_of_lines (lifted_lines named items n ls)) (sym (none_taken (most_lines - n)))
+lines_lifted named items n (line ∷ lines) =
+    elim (cases_lt n most_lines) [
+      | inl room ↦
+          let same : min n (2 ^ 64 - 1) ≡ n = omega (arith, room) in
+          let some : most_lines - n ≡ suc (most_lines - suc n) = omega (arith, room) in
+          let put : put_piece_for (record { items = items; named = named }) (min n (2 ^ 64 - 1)) line ≡ text_of_lines (piece named items n line) =
+          ap (λ (m : ℕ). put_piece_for (record { items = items; named = named }) m line) same ∙ ap (λ (b : Bool). if b then text_of_lines (piece named items n line) else []) (lt-ltb n most_lines room) in
+          ap₂ (λ (x y : List ℕ). x ++ y) put (lines_lifted named items (suc n) lines)
+          ∙ sym (flat_map-append (λ line. line ++ 10 ∷ []) (piece named items n line) (lifted_lines named items (suc n) (take (most_lines - suc n) lines)))
+          ∙ ap (λ (m : ℕ). text_of_lines (lifted_lines named items n (take m (line ∷ lines)))) (sym some)
+      | inr above ↦
+          let none : most_lines - n ≡ 0 = omega (arith, above) in
+          let later : most_lines - suc n ≡ 0 = omega (arith, above) in
+          let put : put_piece_for (record { items = items; named = named }) (min n (2 ^ 64 - 1)) line ≡ [] =
+          ap (λ (b : Bool). if b then text_of_lines (piece named items (min n (2 ^ 64 - 1)) line) else []) (le-ltb (min n (2 ^ 64 - 1)) most_lines (omega (arith, above))) in
+          ap₂ (λ (x y : List ℕ). x ++ y) put (lines_lifted named items (suc n) lines ∙ ap (λ (m : ℕ). text_of_lines (lifted_lines named items (suc n) (take m lines))) later)
+          ∙ ap (λ (m : ℕ). text_of_lines (lifted_lines named items n (take m (line ∷ lines)))) (sym none)
+    ]
 
-abbrev TakesOver : Result (Unit {0}) RestoreFault → Bool → List Item → Circuit → ℕ → Lifter → Option (List ℕ) → Option (List ℕ) → List ℕ → Type 0
-TakesOver r named items c k after old new text = WritesOwedLines r (lifted_owed named items c k text) old new × OnOk r (LiftsWith named items c after (restored_text c k text))
+as_many : (n : ℕ) (lines : List (List ℕ)) → take (min (length lines) n) lines ≡ take n lines
+as_many n lines = elim (cases_lt n (length lines)) [
+  | inl more ↦ let e : min (length lines) n ≡ n = omega (arith, more) in ap (λ (m : ℕ). take m lines) e
+  | inr few ↦ let e : min (length lines) n ≡ length lines = omega (arith, few) in ap (λ (m : ℕ). take m lines) e ∙ take_all (length lines) lines (omega arith) ∙ sym (take_all n lines (omega (arith, few)))
+]
 
-abbrev WritesOver : Result (Unit {0}) RestoreFault → Restorer → Lifter → Lifter → Option (List ℕ) → Option (List ℕ) → List ℕ → Type 0
-WritesOver r first before after old new text = (o : Over) → IsPutInPieces lifted_over → LiftsOver o before [] → WritesAll LiftsOver lifted_over r (owed first text) o after old new
+-- of a text of which as many lines are admitted as may be
+pub put_lifted : (named : Bool) (items : List Item) (c : Circuit) (text : List ℕ) (lines : List (List ℕ)) → whole_lines text ≡ lines → admitted_lines c text ≡ min (length lines) most_lines
+    → put_lines (put_piece_for (record { items = items; named = named })) 0 lines ≡ lifted_with named items c text
+unfolding lifted_with
+put_lifted named items c text lines whole admitted =
+    lines_lifted named items 0 lines ∙ ap (λ (ls : List (List ℕ)). text_of_lines (lifted_lines named items 0 ls)) (sym (as_many most_lines lines) ∙ ap₂ (λ (n : ℕ) (ls : List (List ℕ)). take n ls) (sym admitted) (sym whole))
 
--- what a lifter answers of what it has taken: how that is judged, and first rises where words are lifted with names
-abbrev Finishes : Lifter → Judgement → Type 0
-Finishes after j = (named : Bool) (items : List Item) (c : Circuit) (text : List ℕ) → LiftsWith named items c after text → BitJudges c text j
+-- ---- first rises
 
-abbrev Notes : Lifter → List (Option ℕ) → Type 0
-Notes after firsts = (named : Bool) (items : List Item) (c : Circuit) (text : List ℕ) → LiftsWith named items c after text → named ≡ true → AreBitFirstRises c text firsts
+rises_of : (c : Circuit) (text : List ℕ) (first : Option (ℕ × ℕ)) → IsFirstRise c text first → AreBitFirstRises c text (noted_first (replicate (length c.bads) None) first)
+rises_of c text first h vs closed = by (first_rise (map (circuit_shows c) vs) (bits_said_in c text).claim) refl
+  where
+    by : (o : Option ℕ) → first_rise (map (circuit_shows c) vs) (bits_said_in c text).claim ≡ o → noted_first (replicate (length c.bads) None) first ≡ bit_first_rises c text vs
+    by None none =
+        ap (noted_first (replicate (length c.bads) None)) (h vs closed ∙ ap (option_map (λ frame. ((bits_said_in c text).claim, frame))) none)
+        ∙ no_claim (bits_said_in c text).claim (map (circuit_shows c) vs) (length c.bads) none
+    by (Some n) some =
+        ap (noted_first (replicate (length c.bads) None)) (h vs closed ∙ ap (option_map (λ frame. ((bits_said_in c text).claim, frame))) some)
+        ∙ ap (set (replicate (length c.bads) None) (bits_said_in c text).claim) (sym some)
+        ∙ one_claim (bits_said_in c text).claim (map (circuit_shows c) vs) (length c.bads)
 
-module _ (source : Option (List ℕ)) (named : Bool) (items : List Item) (c : Circuit) (k : ℕ) (first : Restorer) (before after : Lifter) (old new : Option (List ℕ)) (is : BeginsToRestore c k first) (lifts : LiftsWith named items c before []) where
-  taken : (r : Result (Unit {0}) RestoreFault) → IfSome source (WritesOver r first before after old new) → IfSome source (TakesOver r named items c k after old new)
-  taken r writes =
-      if_some_then source (WritesOver r first before after old new) (TakesOver r named items c k after old new)
-      (λ text w. subst (λ (more : Owed). WritesAll LiftsOver lifted_over r more (record { named = named; items = items; circuit = c }) after old new) (is text) (w (record { named = named; items = items; circuit = c }) lifted_in_pieces lifts)) writes
+-- ---- a counterexample
 
-  -- of all of it
-  pub lifts_all : (u : Unit {0}) (j : Judgement) (firsts : List (Option ℕ)) → IfSome source (WritesOver (Ok u) first before after old new) → Finishes after j → Notes after firsts → Keeps items c named
-      → ((text : List ℕ) → BitJudges c (restored_text c k text) j → FindsAgain c k text j) → ((text : List ℕ) → FindsInModel named items c k text) → LiftsRestored (Ok (j, firsts)) named items c k source old new
-  lifts_all u j firsts writes finish notes keeps finds in_model =
-      let all = taken (Ok u) writes in
-      let judged : IfSome source (λ text. BitJudges c (restored_text c k text) j) = if_some_then source (TakesOver (Ok u) named items c k after old new) (λ text. BitJudges c (restored_text c k text) j) (λ text t. finish named items c (restored_text c k text) t.1) all in
-      record {
-        judged = judged;
-        rises = λ on. if_some_then source (TakesOver (Ok u) named items c k after old new) (λ text. AreBitFirstRises c (restored_text c k text) firsts) (λ text t. notes named items c (restored_text c k text) t.1 on) all;
-        right = if_some_then source (TakesOver (Ok u) named items c k after old new) (λ text. (read_found (input_count c) text).fault ≡ None) (λ text t. t.0.0) all;
-        kept = if_some_then source (λ text. BitJudges c (restored_text c k text) j) (λ text. KeepsVerdictIn items c (restored_text c k text) (engine_lifted_text named items c k text) j) (λ text h. keeps (restored_text c k text) j h) judged;
-        written = if_some_then source (TakesOver (Ok u) named items c k after old new) (λ text. Appends old new (engine_lifted_text named items c k text)) (λ text t. t.0.1) all;
-        found = if_some_then source (λ text. BitJudges c (restored_text c k text) j) (λ text. FindsAgain c k text j) finds judged;
-        in_model = if_some_then source (λ text. BitJudges c (restored_text c k text) j) (FindsInModel named items c k) (λ text h. in_model text) judged;
-        faulty = tt;
-        before = tt;
-        beginning = tt;
-      }
+module _ (source : Option (List ℕ)) (named : Bool) (items : List Item) (c : Circuit) (k : ℕ) (old new : Option (List ℕ)) (lifted : (text : List ℕ) → lines_put (put_piece_for (record { items = items; named = named })) c k text ≡ engine_lifted_text named items c k text) where
+  abbrev Told : Restored → List ℕ → Type 0
+  Told told text = IsRestored (put_piece_for (record { items = items; named = named })) c k old new text told
 
-  -- of a text with a fault
-  pub lifts_not : (e : RestoreFault) → IfSome source (WritesOver (Err e) first before after old new) → LiftsRestored (Err e) named items c k source old new
-  lifts_not e writes =
-      record {
-        judged = tt;
-        rises = λ on. tt;
-        right = tt;
-        kept = tt;
-        written = tt;
-        found = tt;
-        in_model = tt;
-        faulty = λ kind. if_some_then source (λ text. WritesAllBut true e (lifted_owed named items c k text) old new) (λ text. (read_found (input_count c) text).fault ≡ Some e) (λ text t. t.0) (but true kind);
-        before = λ kind. if_some_then source (λ text. WritesAllBut true e (lifted_owed named items c k text) old new) (λ text. Appends old new (engine_lifted_text named items c k text)) (λ text t. t.1) (but true kind);
-        beginning = λ kind. but false kind;
-      }
+  -- all of it
+  pub lifts_all : (told : Restored) (firsts : List (Option ℕ)) → IfSome source (Told told) → (named ≡ true → firsts ≡ noted_first (replicate (length c.bads) None) told.first) → Keeps items c named
+      → ((text : List ℕ) → BitJudges c (restored_text c k text) told.judgement → FindsAgain c k text told.judgement) → ((text : List ℕ) → FindsInModel named items c k text) → LiftsRestored (Ok (told.judgement, firsts)) named items c k source old new
+  lifts_all told firsts all notes keeps finds in_model = record {
+    judged = if_some_then source (Told told) (λ text. BitJudges c (restored_text c k text) told.judgement) (λ text t. t.judged) all;
+    rises = λ on. if_some_then source (Told told) (λ text. AreBitFirstRises c (restored_text c k text) firsts) (λ text t. subst (AreBitFirstRises c (restored_text c k text)) (sym (notes on)) (rises_of c (restored_text c k text) told.first t.first)) all;
+    right = if_some_then source (Told told) (λ text. (read_found (input_count c) text).fault ≡ None) (λ text t. t.right) all;
+    kept = if_some_then source (Told told) (λ text. KeepsVerdictIn items c (restored_text c k text) (engine_lifted_text named items c k text) told.judgement) (λ text t. keeps (restored_text c k text) told.judgement t.judged) all;
+    written = if_some_then source (Told told) (λ text. Appends old new (engine_lifted_text named items c k text)) (λ text t. subst (Appends old new) (lifted text) t.written) all;
+    found = if_some_then source (Told told) (λ text. FindsAgain c k text told.judgement) (λ text t. finds text t.judged) all;
+    in_model = if_some_then source (Told told) (FindsInModel named items c k) (λ text t. in_model text) all;
+    faulty = tt;
+    before = tt;
+    beginning = tt;
+  }
+
+  -- of one with a fault
+  pub lifts_not : (e : RestoreFault) → IfSome source (λ text. IsRestoredBut (is_of_text e.why) e (put_piece_for (record { items = items; named = named })) c k old new text) → LiftsRestored (Err e) named items c k source old new
+  lifts_not e all = record {
+    judged = tt;
+    rises = λ on. tt;
+    right = tt;
+    kept = tt;
+    written = tt;
+    found = tt;
+    in_model = tt;
+    faulty = λ of. if_some_then source (But true) (λ text. (read_found (input_count c) text).fault ≡ Some e) (λ text t. t.0) (but true of);
+    before = λ of. if_some_then source (But true) (λ text. Appends old new (engine_lifted_text named items c k text)) (λ text t. subst (Appends old new) (lifted text) t.1) (but true of);
+    beginning = λ apart. if_some_then source (But false) (λ text. AppendsBeginning old new (engine_lifted_text named items c k text)) (λ text t. subst (AppendsBeginning old new) (lifted text) t) (but false apart);
+  }
     where
-      but : (b : Bool) → is_of_text e.why ≡ b → IfSome source (λ text. WritesAllBut b e (lifted_owed named items c k text) old new)
-      but b kind =
-          if_some_then source (TakesOver (Err e) named items c k after old new) (λ text. WritesAllBut b e (lifted_owed named items c k text) old new)
-          (λ text t. subst (λ (x : Bool). WritesAllBut x e (lifted_owed named items c k text) old new) kind t.0) (taken (Err e) writes)
+      But : Bool → List ℕ → Type 0
+      But b text = IsRestoredBut b e (put_piece_for (record { items = items; named = named })) c k old new text
 
--- ---- what it took of a witness of the engine form
+      but : (b : Bool) → is_of_text e.why ≡ b → IfSome source (But b)
+      but b is = subst (λ (x : Bool). IfSome source (But x)) is all
 
-abbrev TakesFormOver : Result Judgement RestoreFault → Circuit → Option ℕ → Circuit → Lifter → Lifter → Option (List ℕ) → Option (List ℕ) → Option (List ℕ) → Type 0
-TakesFormOver r c choice d before after source old new =
-    (o : Over) → IsPutInPieces lifted_over → LiftsOver o before [] → IfSome source (TakesRestored LiftsOver lifted_over r c choice d o after old new)
+-- ---- a witness of the engine form
 
-module _ (source : Option (List ℕ)) (named : Bool) (items : List Item) (c : Circuit) (choice : Option ℕ) (d : Circuit) (before after : Lifter) (old new : Option (List ℕ)) (lifts : LiftsWith named items c before []) where
-  abbrev FormTaken : Result Judgement RestoreFault → List ℕ → Type 0
-  FormTaken r text = TakesRestored LiftsOver lifted_over r c choice d (record { named = named; items = items; circuit = c }) after old new text
+module _ (source : Option (List ℕ)) (named : Bool) (items : List Item) (c : Circuit) (choice : Option ℕ) (d : Circuit) (old new : Option (List ℕ)) (lifted : (text : List ℕ) → form_lines_put (put_piece_for (record { items = items; named = named })) c choice d text ≡ form_lifted_text named items c choice d text) where
+  abbrev FormTold : Restored → List ℕ → Type 0
+  FormTold told text = IsRestoredForm (put_piece_for (record { items = items; named = named })) c choice d old new text told
 
-  form_taken : (r : Result Judgement RestoreFault) → TakesFormOver r c choice d before after source old new → IfSome source (FormTaken r)
-  form_taken r takes = takes (record { named = named; items = items; circuit = c }) lifted_in_pieces lifts
+  pub form_lifts : (told : Restored) (firsts : List (Option ℕ)) → IfSome source (FormTold told) → (named ≡ true → firsts ≡ noted_first (replicate (length c.bads) None) told.first) → Keeps items c named
+      → ((text : List ℕ) → FindsWitnessInModel named items c choice d text) → LiftsForm (Ok (told.judgement, firsts)) named items c choice d source old new
+  form_lifts told firsts all notes keeps finds = record {
+    judged = if_some_then source (FormTold told) (λ text. FormJudges c choice d text told.judgement) (λ text t. t.judged) all;
+    rises = λ on. if_some_then source (FormTold told) (λ text. AreBitFirstRises c (form_restored_text c choice d text) firsts) (λ text t. subst (AreBitFirstRises c (form_restored_text c choice d text)) (sym (notes on)) (rises_of c (form_restored_text c choice d text) told.first t.first)) all;
+    kept = if_some_then source (FormTold told) (λ text. KeepsFormVerdict named items c choice d text told.judgement) (λ text t h. keeps (form_restored_text c choice d text) told.judgement h) all;
+    written = if_some_then source (FormTold told) (λ text. Appends old new (form_lifted_text named items c choice d text)) (λ text t. subst (Appends old new) (lifted text) t.written) all;
+    found = if_some_then source (FormTold told) (FindsWitnessInModel named items c choice d) (λ text t. finds text) all;
+    beginning = tt;
+  }
 
-  pub form_lifts : (over lifted j : Judgement) (firsts : List (Option ℕ)) → TakesFormOver (Ok over) c choice d before after source old new → Finishes after lifted → Notes after firsts
-      → ((text : List ℕ) → BitJudges d text over → BitJudges c (form_restored_text c choice d text) lifted → FormJudges c choice d text j) → Keeps items c named
-      → ((text : List ℕ) → FindsWitnessInModel named items c choice d text) → LiftsForm (Ok (j, firsts)) named items c choice d source old new
-  form_lifts over lifted j firsts takes finish notes told keeps finds =
-      let all = form_taken (Ok over) takes in
-      record {
-        judged = if_some_then source (FormTaken (Ok over)) (λ text. FormJudges c choice d text j) (λ text t. told text t.0 (finish named items c (form_restored_text c choice d text) t.1.0)) all;
-        rises = λ on. if_some_then source (FormTaken (Ok over)) (λ text. AreBitFirstRises c (form_restored_text c choice d text) firsts) (λ text t. notes named items c (form_restored_text c choice d text) t.1.0 on) all;
-        kept = if_some_then source (FormTaken (Ok over)) (λ text. KeepsFormVerdict named items c choice d text j) (λ text t h. keeps (form_restored_text c choice d text) j h) all;
-        written = if_some_then source (FormTaken (Ok over)) (λ text. Appends old new (form_lifted_text named items c choice d text)) (λ text t. t.1.1) all;
-        found = if_some_then source (FormTaken (Ok over)) (FindsWitnessInModel named items c choice d) (λ text t. finds text) all;
-        beginning = tt;
-      }
-
-  pub form_fails : (e : RestoreFault) → TakesFormOver (Err e) c choice d before after source old new → LiftsForm (Err e) named items c choice d source old new
-  form_fails e takes = record { judged = tt; rises = λ on. tt; kept = tt; written = tt; found = tt; beginning = form_taken (Err e) takes }
+  pub form_fails : (e : RestoreFault) → IfSome source (λ text. AppendsBeginning old new (form_lines_put (put_piece_for (record { items = items; named = named })) c choice d text)) → LiftsForm (Err e) named items c choice d source old new
+  form_fails e all = record { judged = tt; rises = λ on. tt; kept = tt; written = tt; found = tt; beginning = if_some_then source (λ text. AppendsBeginning old new (form_lines_put (put_piece_for (record { items = items; named = named })) c choice d text)) (λ text. AppendsBeginning old new (form_lifted_text named items c choice d text)) (λ text t. subst (AppendsBeginning old new) (lifted text) t) all }

@@ -15,4 +15,3 @@ pub mod SameLemmas
 pub mod KeepLemmas
 pub mod NamelessLemmas
 mod EngineLemmas
-mod TakingLemmas

@@ -1,11 +1,11 @@
 -- What a lifter puts for the bytes that it takes.
-use Rattle.std.proofs.Common.{◌≡◌, ℕ, ◌+◌, ◌<◌, ◌^◌, ◌==◌, Bool, true, false, not, List, [], ◌∷◌, ◌++◌, Option, Result, Ok, Err, MatchResult, length, take, refl, sym, ap, ap₂, subst, ◌∙◌, append_assoc, append-nil, arith, inl, inr}
+use Rattle.std.proofs.Common.{◌≡◌, ℕ, ◌+◌, ◌<◌, ◌^◌, ◌==◌, Bool, true, false, not, List, [], ◌∷◌, ◌++◌, Option, length, take, refl, sym, ap, ap₂, subst, ◌∙◌, append_assoc, append-nil, arith, inl, inr}
 use Rattle.std.proofs.lemmas.Bool.{ne_eqb, eq-eqb}
 use Rattle.std.proofs.lemmas.List.Concat.{flat_map-append}
-use Rattle.base.specs.Device.{Sent, AppendsBeginning}
+use Rattle.base.specs.declared.pen.Pen.{Pen}
 use Rattle.base.specs.Lines.{IsLine, text_of_lines, whole_lines, unfinished}
-use Rattle.base.specs.Pieces.{Puts}
-use Rattle.base.proofs.DeviceLemmas.{sent_on, sent_then_beginning, beginning_longer}
+use Rattle.base.specs.Writing.{WritesText}
+use Rattle.base.proofs.PenLemmas.{writes_then}
 use Rattle.btor2.specs.declared.item.Item.{Item}
 use Rattle.aiger.specs.Circuit.{Circuit, IsCircuit}
 use Rattle.witness.specs.Readings.{lines_read, reading}
@@ -14,8 +14,9 @@ use Rattle.witness.proofs.TextEndLemmas.{whole_lines-part, unfinished-part, whol
 use Rattle.rises.specs.Notes.{NotesBits}
 use Rattle.lift.specs.Lifted.{piece, lifted_with}
 use Rattle.witness.specs.CutLines.{CutLine, cut_of}
-use Rattle.lift.specs.Stands.{HasRoom, Lifter, LiftsWith, admitted_piece}
-use Rattle.lift.proofs.LineLemmas.{lifted_of, line_more, lifted_by_lines, lifted_begins}
+use Rattle.lift.specs.Placed.{Pieces}
+use Rattle.lift.specs.Stands.{HasRoom, Lifter, LiftsWith, HasLifted, TakesText, admitted_piece}
+use Rattle.lift.proofs.LineLemmas.{lifted_of, line_more, lifted_by_lines}
 use Rattle.lift.proofs.AdmitLemmas.{is_admitted, kept_is_piece}
 
 -- ---- bytes that end no line
@@ -24,14 +25,13 @@ pub same_lifted : (named : Bool) (items : List Item) (c : Circuit) (text bytes :
 same_lifted named items c text bytes is =
     lifted_by_lines named items c (text ++ bytes) ∙ ap (λ (ls : List (List ℕ)). text_of_lines (lifted_of named items c ls)) (whole_lines-part text bytes is) ∙ sym (lifted_by_lines named items c text)
 
-pub lifts_bytes : (named : Bool) (items : List Item) (c : Circuit) (text bytes : List ℕ) (before after : Lifter) → IsLine bytes → LiftsWith named items c before text → after.items ≡ before.items → after.named ≡ before.named
+pub lifts_bytes : (named : Bool) (items : List Item) (c : Circuit) (text bytes : List ℕ) (before after : Lifter) → IsLine bytes → LiftsWith named items c before text → after.pieces ≡ before.pieces
     → NotesBits named c after.noter (text ++ bytes) → after.kept ≡ cut_of before.kept.room (unfinished text ++ bytes) → LiftsWith named items c after (text ++ bytes)
-lifts_bytes named items c text bytes before after is h same same_names notes keeps =
+lifts_bytes named items c text bytes before after is h same notes keeps =
     let room : after.kept.room ≡ before.kept.room = ap (λ (k : CutLine). k.room) keeps in
     record {
       circuit = h.circuit;
-      model = same ∙ h.model;
-      naming = same_names ∙ h.naming;
+      pieces = same ∙ h.pieces;
       notes = notes;
       kept = keeps ∙ ap₂ cut_of (sym room) (sym (unfinished-part text bytes is));
       room = subst (HasRoom c) (sym room) h.room;
@@ -58,8 +58,7 @@ admitted_end c text = admitted_by_lines c (text ++ 10 ∷ []) ∙ ap (λ (ls : L
 -- what is kept is of this line, over the model and the circuit
 record Holds (named : Bool) (items : List Item) (c : Circuit) (l : Lifter) (line : List ℕ) : Type 0 where
   circuit : IsCircuit c
-  model : l.items ≡ items
-  naming : l.named ≡ named
+  pieces : l.pieces ≡ record { items = items; named = named }
   kept : l.kept.bytes ≡ take l.kept.room line
   room : HasRoom c l.kept.room
 
@@ -82,118 +81,88 @@ lifted_end named items c text l h =
           ap (piece named items (length (whole_lines text))) h.kept
           ∙ kept_is_piece named items c (length (whole_lines text)) l.kept.room (unfinished text) (few_bads c h.circuit) (is_admitted c (whole_lines text) _ (unfinished text) (few_bads c h.circuit) a.step.going a.step.reads) h.room in
           let put : admitted_piece (not (new == old)) l old ≡ piece named items (length (whole_lines text)) (unfinished text) =
-          ap (λ (b : Bool). admitted_piece (not b) l old) other ∙ ap (λ (b : Bool). piece b l.items old l.kept.bytes) h.naming ∙ ap₂ (λ (xs : List Item) (n : ℕ). piece named xs n l.kept.bytes) h.model number ∙ is in
+          ap (λ (b : Bool). admitted_piece (not b) l old) other ∙ ap₂ (λ (p : Pieces) (n : ℕ). piece p.named p.items n l.kept.bytes) h.pieces number ∙ is in
           lifted_end_by_lines named items c text ∙ ap text_of_lines a.lifted
           ∙ flat_map-append (λ line. line ++ 10 ∷ []) (lifted_of named items c (whole_lines text)) (piece named items (length (whole_lines text)) (unfinished text))
           ∙ ap₂ (λ (x y : List ℕ). x ++ y) (sym (lifted_by_lines named items c text)) (ap text_of_lines (sym put))
     ]
 
-put_takes : {T E : Type 0} (r : Result T E) (named : Bool) (items : List Item) (c : Circuit) (after : Lifter) (text whole more : List ℕ) (start old new : Option (List ℕ)) (kept left : List ℕ)
-    → Sent start old (lifted_with named items c text) kept → lifted_with named items c text ++ more ≡ lifted_with named items c whole → Puts r old new kept left more → LiftsWith named items c after whole
-    → MatchResult r (λ x. LiftsWith named items c after whole × Sent start new (lifted_with named items c whole) left) (λ e. AppendsBeginning start new (lifted_with named items c whole))
-put_takes (Ok x) named items c after text whole more start old new kept left sent same put lifts =
-    (lifts, subst (λ (t : List ℕ). Sent start new t left) same (sent_on start old new (lifted_with named items c text) kept more left sent put))
-put_takes (Err x) named items c after text whole more start old new kept left sent same put lifts =
-    subst (AppendsBeginning start new) same (sent_then_beginning start old new (lifted_with named items c text) kept more sent put)
-
-module _ {T E : Type 0} (r : Result T E) (named : Bool) (items : List Item) (c : Circuit) (text line : List ℕ) (start old new : Option (List ℕ)) (kept left : List ℕ) (before mid after : Lifter) (number now : ℕ) where
+module _ {K : Type 0} (written : K → Option (List ℕ)) (failures : K → ℕ) (s t : K) (pen now_pen : Pen) (text line : List ℕ) (before mid after : Lifter) (number now : ℕ) where
   abbrev whole : List ℕ
   whole = text ++ (line ++ 10 ∷ [])
 
   abbrev put : List ℕ
   put = text_of_lines (admitted_piece (not (now == number)) mid number)
 
-  held_line : IsLine line → LiftsWith named items c before text → mid.items ≡ before.items → mid.named ≡ before.named → mid.kept ≡ cut_of before.kept.room (unfinished text ++ line) → Holds named items c mid (unfinished (text ++ line))
-  held_line is h same same_names keeps =
-      let room : mid.kept.room ≡ before.kept.room = ap (λ (k : CutLine). k.room) keeps in
-      record {
-        circuit = h.circuit;
-        model = same ∙ h.model;
-        naming = same_names ∙ h.naming;
-        kept = ap (λ (k : CutLine). k.bytes) keeps ∙ ap₂ (λ (n : ℕ) (l : List ℕ). take n l) (sym room) (sym (unfinished-part text line is));
-        room = subst (HasRoom c) (sym room) h.room;
-      }
+  module _ (named : Bool) (items : List Item) (c : Circuit) where
+    held_line : IsLine line → LiftsWith named items c before text → mid.pieces ≡ before.pieces → mid.kept ≡ cut_of before.kept.room (unfinished text ++ line) → Holds named items c mid (unfinished (text ++ line))
+    held_line is h same keeps =
+        let room : mid.kept.room ≡ before.kept.room = ap (λ (k : CutLine). k.room) keeps in
+        record {
+          circuit = h.circuit;
+          pieces = same ∙ h.pieces;
+          kept = ap (λ (k : CutLine). k.bytes) keeps ∙ ap₂ (λ (n : ℕ) (l : List ℕ). take n l) (sym room) (sym (unfinished-part text line is));
+          room = subst (HasRoom c) (sym room) h.room;
+        }
 
-  -- the piece is what the line adds to the lifted text
-  adds_piece : IsLine line → Holds named items c mid (unfinished (text ++ line)) → number ≡ admitted_lines c text → now ≡ admitted_lines c whole → lifted_with named items c text ++ put ≡ lifted_with named items c whole
-  adds_piece is h n m =
-      let joined : (text ++ line) ++ 10 ∷ [] ≡ whole = append_assoc text line (10 ∷ []) in
-      let before_end : number ≡ admitted_lines c (text ++ line) = n ∙ same_admitted c text line is in
-      let behind_end : now ≡ admitted_lines c ((text ++ line) ++ 10 ∷ []) = m ∙ ap (admitted_lines c) (sym joined) in
-      ap (λ (l : List ℕ). l ++ put) (sym (same_lifted named items c text line is))
-      ∙ (ap₂ (λ (a b : ℕ). lifted_with named items c (text ++ line) ++ text_of_lines (admitted_piece (not (a == b)) mid b)) behind_end before_end
-      ∙ (sym (lifted_end named items c (text ++ line) mid h) ∙ ap (lifted_with named items c) joined))
+    -- the piece is what the line adds to the lifted text
+    adds_piece : IsLine line → Holds named items c mid (unfinished (text ++ line)) → number ≡ admitted_lines c text → now ≡ admitted_lines c whole → lifted_with named items c text ++ put ≡ lifted_with named items c whole
+    adds_piece is h n m =
+        let joined : (text ++ line) ++ 10 ∷ [] ≡ whole = append_assoc text line (10 ∷ []) in
+        let before_end : number ≡ admitted_lines c (text ++ line) = n ∙ same_admitted c text line is in
+        let behind_end : now ≡ admitted_lines c ((text ++ line) ++ 10 ∷ []) = m ∙ ap (admitted_lines c) (sym joined) in
+        ap (λ (l : List ℕ). l ++ put) (sym (same_lifted named items c text line is))
+        ∙ (ap₂ (λ (a b : ℕ). lifted_with named items c (text ++ line) ++ text_of_lines (admitted_piece (not (a == b)) mid b)) behind_end before_end
+        ∙ (sym (lifted_end named items c (text ++ line) mid h) ∙ ap (lifted_with named items c) joined))
 
-  -- a line with its end
-  pub line_takes : IsLine line → LiftsWith named items c before text → Sent start old (lifted_with named items c text) kept → mid.items ≡ before.items → mid.named ≡ before.named → mid.kept ≡ cut_of before.kept.room (unfinished text ++ line)
-      → number ≡ admitted_lines c text → now ≡ admitted_lines c whole → Puts r old new kept left put → after.items ≡ before.items → after.named ≡ before.named → NotesBits named c after.noter whole → after.kept ≡ cut_of before.kept.room []
-      → MatchResult r (λ x. LiftsWith named items c after whole × Sent start new (lifted_with named items c whole) left) (λ e. AppendsBeginning start new (lifted_with named items c whole))
-  line_takes is h sent same same_names keeps n m puts items_same names_same notes nothing =
-      let room : after.kept.room ≡ before.kept.room = ap (λ (k : CutLine). k.room) nothing in
-      let lifts : LiftsWith named items c after whole = record {
-        circuit = h.circuit;
-        model = items_same ∙ h.model;
-        naming = names_same ∙ h.naming;
-        notes = notes;
-        kept = nothing ∙ ap₂ cut_of (sym room) (sym (unfinished-line_end text line));
-        room = subst (HasRoom c) (sym room) h.room;
-      } in
-      put_takes r named items c after text whole put start old new kept left sent (adds_piece is (held_line is h same same_names keeps) n m) puts lifts
+    -- a line with its end
+    pub line_takes : (start : K) (from : Pen) → IsLine line → HasLifted written failures start s from pen named items c before text → mid.pieces ≡ before.pieces → mid.kept ≡ cut_of before.kept.room (unfinished text ++ line)
+        → number ≡ admitted_lines c text → now ≡ admitted_lines c whole → WritesText written failures s t pen now_pen put → after.pieces ≡ before.pieces → NotesBits named c after.noter whole → after.kept ≡ cut_of before.kept.room []
+        → HasLifted written failures start t from now_pen named items c after whole
+    line_takes start from is h same keeps n m puts pieces_same notes nothing =
+        let room : after.kept.room ≡ before.kept.room = ap (λ (k : CutLine). k.room) nothing in
+        record {
+          lifts = record {
+            circuit = h.lifts.circuit;
+            pieces = pieces_same ∙ h.lifts.pieces;
+            notes = notes;
+            kept = nothing ∙ ap₂ cut_of (sym room) (sym (unfinished-line_end text line));
+            room = subst (HasRoom c) (sym room) h.lifts.room;
+          };
+          writes = subst (WritesText written failures start t from now_pen) (adds_piece is (held_line is h.lifts same keeps) n m) (writes_then h.writes puts);
+        }
 
 -- ---- a piece of the witness
 
 -- a front of some bytes was taken, and this rest is left
-pub record Took (old now : Option (List ℕ)) (kept left : List ℕ) (before after : Lifter) (bytes rest : List ℕ) : Type 0 where
+pub record Took {K : Type 0} (written : K → Option (List ℕ)) (failures : K → ℕ) (s t : K) (pen now : Pen) (before after : Lifter) (bytes rest : List ℕ) : Type 0 where
   pub done : List ℕ
   pub all : done ++ rest ≡ bytes
-  pub takes : (named : Bool) (items : List Item) (c : Circuit) (text : List ℕ) (start : Option (List ℕ)) → LiftsWith named items c before text → Sent start old (lifted_with named items c text) kept
-      → LiftsWith named items c after (text ++ done) × Sent start now (lifted_with named items c (text ++ done)) left
+  pub takes : TakesText written failures s t pen now before after done
 
-pub took_none : (old : Option (List ℕ)) (kept : List ℕ) (l : Lifter) (bytes : List ℕ) → Took old old kept kept l l bytes bytes
-took_none old kept l bytes = record {
-  done = [];
-  all = refl;
-  takes = λ named items c text start h s. subst (λ (t : List ℕ). LiftsWith named items c l t × Sent start old (lifted_with named items c t) kept) (sym (append-nil text)) (h, s);
-}
+module _ {K : Type 0} {written : K → Option (List ℕ)} {failures : K → ℕ} where
+  pub took_none : {s : K} {pen : Pen} {l : Lifter} {bytes : List ℕ} → Took written failures s s pen pen l l bytes bytes
+  took_none {s} {pen} {l} = record {
+    done = [];
+    all = refl;
+    takes = λ start from named items c text h. subst (HasLifted written failures start s from pen named items c l) (sym (append-nil text)) h;
+  }
 
-abbrev TakesBytes : Lifter → Lifter → List ℕ → Type 0
-TakesBytes before after bytes = (named : Bool) (items : List Item) (c : Circuit) (text : List ℕ) → IsLine bytes → LiftsWith named items c before text → LiftsWith named items c after (text ++ bytes)
+  pub took_line : {s t u : K} {pen mid now : Pen} {before l after : Lifter} {bytes rest behind : List ℕ} (line : List ℕ) → Took written failures s t pen mid before l bytes rest → rest ≡ line ++ 10 ∷ behind → TakesText written failures t u mid now l after (line ++ 10 ∷ [])
+      → Took written failures s u pen now before after bytes behind
+  took_line {s} {t} {u} {pen} {mid} {now} {before} {l} {after} {bytes} {rest} {behind} line so cut takes = record {
+    done = so.done ++ (line ++ 10 ∷ []);
+    all = append_assoc so.done (line ++ 10 ∷ []) behind ∙ ap (λ (l : List ℕ). so.done ++ l) (append_assoc line (10 ∷ []) behind ∙ sym cut) ∙ so.all;
+    takes = λ start from named items c text h.
+        subst (HasLifted written failures start u from now named items c after) (append_assoc text so.done (line ++ 10 ∷ [])) (takes start from named items c (text ++ so.done) (so.takes start from named items c text h));
+  }
 
-took_bytes : (named : Bool) (items : List Item) (c : Circuit) (text : List ℕ) (start now : Option (List ℕ)) (left : List ℕ) (mid next : Lifter) (line : List ℕ) → IsLine line → TakesBytes mid next line
-    → LiftsWith named items c mid text × Sent start now (lifted_with named items c text) left → LiftsWith named items c next (text ++ line) × Sent start now (lifted_with named items c (text ++ line)) left
-took_bytes named items c text start now left mid next line is takes h =
-    (takes named items c text is h.0, subst (λ (t : List ℕ). Sent start now t left) (sym (same_lifted named items c text line is)) h.1)
-
-pub took_line : (old mid new : Option (List ℕ)) (kept mid_kept left : List ℕ) (before l1 after : Lifter) (bytes rest line behind : List ℕ)
-    → Took old mid kept mid_kept before l1 bytes rest → rest ≡ line ++ 10 ∷ behind
-    → ((named : Bool) (items : List Item) (c : Circuit) (text : List ℕ) (start : Option (List ℕ)) → LiftsWith named items c l1 text → Sent start mid (lifted_with named items c text) mid_kept
-    → LiftsWith named items c after (text ++ (line ++ 10 ∷ [])) × Sent start new (lifted_with named items c (text ++ (line ++ 10 ∷ []))) left)
-    → Took old new kept left before after bytes behind
-took_line old mid new kept mid_kept left before l1 after bytes rest line behind t cut takes = record {
-  done = t.done ++ (line ++ 10 ∷ []);
-  all = append_assoc t.done (line ++ 10 ∷ []) behind ∙ ap (λ (l : List ℕ). t.done ++ l) (append_assoc line (10 ∷ []) behind ∙ sym cut) ∙ t.all;
-  takes = λ named items c text start h s.
-      let one = t.takes named items c text start h s in
-      subst (λ (x : List ℕ). LiftsWith named items c after x × Sent start new (lifted_with named items c x) left) (append_assoc text t.done (line ++ 10 ∷ [])) (takes named items c (text ++ t.done) start one.0 one.1);
-}
-
-pub line_fails : (old mid new : Option (List ℕ)) (kept mid_kept : List ℕ) (before l1 : Lifter) (bytes rest line behind : List ℕ)
-    → Took old mid kept mid_kept before l1 bytes rest → rest ≡ line ++ 10 ∷ behind
-    → ((named : Bool) (items : List Item) (c : Circuit) (text : List ℕ) (start : Option (List ℕ)) → LiftsWith named items c l1 text → Sent start mid (lifted_with named items c text) mid_kept → AppendsBeginning start new (lifted_with named items c (text ++ (line ++ 10 ∷ []))))
-    → (named : Bool) (items : List Item) (c : Circuit) (text : List ℕ) (start : Option (List ℕ)) → LiftsWith named items c before text → Sent start old (lifted_with named items c text) kept → AppendsBeginning start new (lifted_with named items c (text ++ bytes))
-line_fails old mid new kept mid_kept before l1 bytes rest line behind t cut fails named items c text start h s =
-    let one = t.takes named items c text start h s in
-    let front : List ℕ = text ++ (t.done ++ (line ++ 10 ∷ [])) in
-    let begun : AppendsBeginning start new (lifted_with named items c front) = subst (λ (x : List ℕ). AppendsBeginning start new (lifted_with named items c x)) (append_assoc text t.done (line ++ 10 ∷ [])) (fails named items c (text ++ t.done) start one.0 one.1) in
-    let all : front ++ behind ≡ text ++ bytes =
-    append_assoc text (t.done ++ (line ++ 10 ∷ [])) behind
-    ∙ ap (λ (l : List ℕ). text ++ l) (append_assoc t.done (line ++ 10 ∷ []) behind ∙ ap (λ (l : List ℕ). t.done ++ l) (append_assoc line (10 ∷ []) behind ∙ sym cut) ∙ t.all) in
-    let more = lifted_begins named items c front behind in
-    subst (AppendsBeginning start new) (more.1 ∙ ap (lifted_with named items c) all) (beginning_longer start new (lifted_with named items c front) more.0 begun)
-
-pub took_all : (old now : Option (List ℕ)) (kept left : List ℕ) (before l1 after : Lifter) (bytes rest : List ℕ)
-    → Took old now kept left before l1 bytes rest → IsLine rest → TakesBytes l1 after rest
-    → (named : Bool) (items : List Item) (c : Circuit) (text : List ℕ) (start : Option (List ℕ)) → LiftsWith named items c before text → Sent start old (lifted_with named items c text) kept → LiftsWith named items c after (text ++ bytes) × Sent start now (lifted_with named items c (text ++ bytes)) left
-took_all old now kept left before l1 after bytes rest t is takes named items c text start h s =
-    let one = took_bytes named items c (text ++ t.done) start now left l1 after rest is takes (t.takes named items c text start h s) in
-    subst (λ (x : List ℕ). LiftsWith named items c after x × Sent start now (lifted_with named items c x) left) (append_assoc text t.done rest ∙ ap (λ (l : List ℕ). text ++ l) t.all) one
+  pub took_all : {s t : K} {pen now : Pen} {before l after : Lifter} {bytes rest : List ℕ} → Took written failures s t pen now before l bytes rest → IsLine rest
+      → ((named : Bool) (items : List Item) (c : Circuit) (text : List ℕ) → IsLine rest → LiftsWith named items c l text → LiftsWith named items c after (text ++ rest)) → TakesText written failures s t pen now before after bytes
+  took_all {s} {t} {pen} {now} {before} {l} {after} {bytes} {rest} so is takes start from named items c text h =
+      let one = so.takes start from named items c text h in
+      subst (HasLifted written failures start t from now named items c after) (append_assoc text so.done rest ∙ ap (λ (l : List ℕ). text ++ l) so.all)
+      (record {
+        lifts = takes named items c (text ++ so.done) is one.lifts;
+        writes = subst (WritesText written failures start t from now) (sym (same_lifted named items c (text ++ so.done) rest is)) one.writes;
+      })

@@ -1,15 +1,22 @@
 -- A whole source is lifted.
-use Rattle.std.proofs.Common.{◌≡◌, ℕ, Bool, List, [], ◌++◌, Option, Some, None, Result, Ok, Err, IfSome, refl, sym, ap, subst, take, OnOk, OnErr, MatchResult, ◌∙◌, append_assoc, append-nil}
+use Rattle.std.proofs.Common.{◌≡◌, ℕ, Bool, List, [], ◌++◌, Option, Some, None, Result, Ok, Err, IfSome, refl, sym, ap, subst, take, OnOk, OnErr, IfErr, IsErr, MatchResult, ◌∙◌, append_assoc, append-nil}
 use Rattle.std.specs.Io.KnownBytes.{Consumes, IsAtEnd, Appends}
-use Rattle.std.proofs.KnownBytes.{Appends-trans, Appends-nil, Consumes-nil, Consumes-trans, Consumes-whole}
-use Rattle.base.specs.Device.{Sent, AppendsBeginning}
+use Rattle.std.proofs.KnownBytes.{Consumes-nil, Consumes-trans, Consumes-whole}
+use Rattle.base.specs.declared.pen.Pen.{Pen}
+use Rattle.base.specs.Device.{AppendsBeginning}
 use Rattle.base.proofs.DeviceLemmas.{beginning_longer}
-use Rattle.base.proofs.PieceLemmas.{rest_fails}
+use Rattle.base.specs.Writing.{WritesText, IsWritten}
+use Rattle.base.proofs.PenLemmas.{writes_none}
 use Rattle.btor2.specs.declared.item.Item.{Item}
 use Rattle.aiger.specs.Circuit.{Circuit}
 use Rattle.witness.specs.Readings.{reading}
+use Rattle.base.specs.declared.device.DeviceFault.{DeviceFault}
+use Rattle.restore.proofs.PenLemmas.{begins, on_ok, on_err, ok_counts, err_counts}
+use Rattle.lift.specs.declared.fault.LiftFault.{LiftFault}
+use Rattle.lift.specs.declared.fault.LiftFault.TheVariants as fault
+use Rattle.lift.specs.Answers.{CountsLift}
 use Rattle.lift.specs.Lifted.{lifted_with}
-use Rattle.lift.specs.Stands.{Lifter, LiftsWith, TakesSourceLine}
+use Rattle.lift.specs.Stands.{Lifter, LiftsWith, HasLifted, TakesText, TakesSource}
 use Rattle.lift.proofs.LineLemmas.{lifted_begins}
 
 -- ---- what a source gives
@@ -19,73 +26,41 @@ part_given None now front P a h = tt
 part_given (Some xs) None front P a h = absurd a
 part_given (Some xs) (Some ys) front P a h = subst P (sym a) (h ys)
 
--- ---- what is put for it
-
-abbrev TakesFront : Option (List ℕ) → Option (List ℕ) → List ℕ → List ℕ → Lifter → Lifter → List ℕ → Type 0
-TakesFront old now kept left before after front =
-    (named : Bool) (items : List Item) (c : Circuit) (text : List ℕ) (start : Option (List ℕ)) → LiftsWith named items c before text → Sent start old (lifted_with named items c text) kept
-    → LiftsWith named items c after (text ++ front) × Sent start now (lifted_with named items c (text ++ front)) left
-
-pub record Given (source source' old now : Option (List ℕ)) (kept left : List ℕ) (before after : Lifter) : Type 0 where
+-- a front of it was taken
+pub record Given {K : Type 0} (written : K → Option (List ℕ)) (failures : K → ℕ) (source source' : Option (List ℕ)) (s t : K) (pen now : Pen) (before after : Lifter) : Type 0 where
   pub front : List ℕ
   pub consumes : Consumes source source' front
-  pub takes : TakesFront old now kept left before after front
+  pub takes : TakesText written failures s t pen now before after front
 
-pub given_nothing : (source old : Option (List ℕ)) (kept : List ℕ) (l : Lifter) → Given source source old old kept kept l l
-given_nothing source old kept l = record {
-  front = [];
-  consumes = Consumes-nil source;
-  takes = λ named items c text start h s. subst (λ (t : List ℕ). LiftsWith named items c l t × Sent start old (lifted_with named items c t) kept) (sym (append-nil text)) (h, s);
-}
+module _ {K : Type 0} {written : K → Option (List ℕ)} {failures : K → ℕ} where
+  pub given_nothing : {source : Option (List ℕ)} {s : K} {pen : Pen} {l : Lifter} → Given written failures source source s s pen pen l l
+  given_nothing {source} {s} {pen} {l} = record {
+    front = [];
+    consumes = Consumes-nil source;
+    takes = λ start from named items c text h. subst (HasLifted written failures start s from pen named items c l) (sym (append-nil text)) h;
+  }
 
-pub given_more : (source source' source'' old mid now : Option (List ℕ)) (kept mid_kept left : List ℕ) (before l after : Lifter) (more : List ℕ)
-    → Given source source' old mid kept mid_kept before l → Consumes source' source'' more → TakesFront mid now mid_kept left l after more → Given source source'' old now kept left before after
-given_more source source' source'' old mid now kept mid_kept left before l after more g consumes takes = record {
-  front = g.front ++ more;
-  consumes = Consumes-trans source source' source'' g.front more g.consumes consumes;
-  takes = λ named items c text start h s.
-      let one = g.takes named items c text start h s in
-      subst (λ (t : List ℕ). LiftsWith named items c after t × Sent start now (lifted_with named items c t) left) (append_assoc text g.front more) (takes named items c (text ++ g.front) start one.0 one.1);
-}
+  pub given_more : {source source' source'' : Option (List ℕ)} {s t u : K} {pen mid now : Pen} {before l after : Lifter} {more : List ℕ} → Given written failures source source' s t pen mid before l → Consumes source' source'' more → TakesText written failures t u mid now l after more
+      → Given written failures source source'' s u pen now before after
+  given_more {source} {source'} {source''} {s} {t} {u} {pen} {mid} {now} {before} {l} {after} {more} g consumes takes = record {
+    front = g.front ++ more;
+    consumes = Consumes-trans source source' source'' g.front more g.consumes consumes;
+    takes = λ start from named items c text h. subst (HasLifted written failures start u from now named items c after) (append_assoc text g.front more) (takes start from named items c (text ++ g.front) (g.takes start from named items c text h));
+  }
 
--- the whole source was given
-pub all_taken : (T E : Type 0) (x : T) (source source' source'' old now : Option (List ℕ)) (kept left : List ℕ) (before after : Lifter) (n : ℕ) (buf : List ℕ) → Given source source' old now kept left before after
-    → Consumes source' source'' (take n buf) → n ≡ 0 → IsAtEnd source'' → IfSome source (TakesSourceLine {T = T} {E = E} (Ok x) old now kept left before after)
-all_taken T E x source source' source'' old now kept left before after n buf g consumes none end =
-    let nothing : Consumes source' source'' [] = subst (λ (k : ℕ). Consumes source' source'' (take k buf)) none consumes in
-    let all : Consumes source source'' g.front = subst (Consumes source source'') (append-nil g.front) (Consumes-trans source source' source'' g.front [] g.consumes nothing) in
-    Consumes-whole source source'' g.front (TakesSourceLine {T = T} {E = E} (Ok x) old now kept left before after) all end (record { takes = λ {named} items c text start h s. g.takes named items c text start h s })
+  -- the whole source was given
+  pub all_taken : (T E : Type 0) (x : T) (source source' source'' : Option (List ℕ)) (s t : K) (pen now : Pen) (before after : Lifter) (n : ℕ) (buf : List ℕ) → Given written failures source source' s t pen now before after
+      → Consumes source' source'' (take n buf) → n ≡ 0 → IsAtEnd source'' → IfSome source (TakesSource {T = T} {E = E} (Ok x) written failures s t pen now before after)
+  all_taken T E x source source' source'' s t pen now before after n buf g consumes none end =
+      let nothing : Consumes source' source'' [] = subst (λ (k : ℕ). Consumes source' source'' (take k buf)) none consumes in
+      let all : Consumes source source'' g.front = subst (Consumes source source'') (append-nil g.front) (Consumes-trans source source' source'' g.front [] g.consumes nothing) in
+      Consumes-whole source source'' g.front (TakesSource {T = T} {E = E} (Ok x) written failures s t pen now before after) all end (λ start from named items c h. g.takes start from named items c [] h)
 
-begun_longer : (named : Bool) (items : List Item) (c : Circuit) (text front rest : List ℕ) (start now : Option (List ℕ)) → AppendsBeginning start now (lifted_with named items c (text ++ front)) → AppendsBeginning start now (lifted_with named items c (text ++ (front ++ rest)))
-begun_longer named items c text front rest start now h =
-    let more = lifted_begins named items c (text ++ front) rest in
-    subst (AppendsBeginning start now) (more.1 ∙ ap (lifted_with named items c) (append_assoc text front rest)) (beginning_longer start now (lifted_with named items c (text ++ front)) more.0 h)
-
--- the source failed
-pub read_failed : (T E : Type 0) (e : E) (source source' old now : Option (List ℕ)) (kept left : List ℕ) (before after : Lifter) → Given source source' old now kept left before after
-    → IfSome source (TakesSourceLine {T = T} {E = E} (Err e) old now kept left before after)
-read_failed T E e source source' old now kept left before after g =
-    part_given source source' g.front (TakesSourceLine {T = T} {E = E} (Err e) old now kept left before after) g.consumes
-    (λ rest. record {
-      takes = λ {named} items c text start h s.
-          let one = (g.takes named items c text start h s).1 in
-          begun_longer named items c text g.front rest start now (one.front, (left, one.whole), one.appends);
-    })
-
--- the sink failed
-pub write_failed : (T E : Type 0) (e : E) (source source' source'' old mid now : Option (List ℕ)) (kept mid_kept left : List ℕ) (before l after : Lifter) (more : List ℕ)
-    → Given source source' old mid kept mid_kept before l → Consumes source' source'' more
-    → ((named : Bool) (items : List Item) (c : Circuit) (text : List ℕ) (start : Option (List ℕ)) → LiftsWith named items c l text → Sent start mid (lifted_with named items c text) mid_kept → AppendsBeginning start now (lifted_with named items c (text ++ more)))
-    → IfSome source (TakesSourceLine {T = T} {E = E} (Err e) old now kept left before after)
-write_failed T E e source source' source'' old mid now kept mid_kept left before l after more g consumes fails =
-    part_given source source'' (g.front ++ more) (TakesSourceLine {T = T} {E = E} (Err e) old now kept left before after) (Consumes-trans source source' source'' g.front more g.consumes consumes)
-    (λ rest. record {
-      takes = λ {named} items c text start h s.
-          let one = g.takes named items c text start h s in
-          let failed : AppendsBeginning start now (lifted_with named items c (text ++ (g.front ++ more))) =
-          subst (λ (t : List ℕ). AppendsBeginning start now (lifted_with named items c t)) (append_assoc text g.front more) (fails named items c (text ++ g.front) start one.0 one.1) in
-          begun_longer named items c text (g.front ++ more) rest start now failed;
-    })
+  -- a device failed
+  pub front_taken : (T E : Type 0) (e : E) (source source' : Option (List ℕ)) (s t : K) (pen now : Pen) (before after : Lifter) → Given written failures source source' s t pen now before after
+      → IfSome source (TakesSource {T = T} {E = E} (Err e) written failures s t pen now before after)
+  front_taken T E e source source' s t pen now before after g =
+      part_given source source' g.front (TakesSource {T = T} {E = E} (Err e) written failures s t pen now before after) g.consumes (λ rest start from named items c h. (g.front, ((rest, refl), g.takes start from named items c [] h)))
 
 -- ---- what is written at the end
 
@@ -93,24 +68,30 @@ pub nothing_yet : (named : Bool) (items : List Item) (c : Circuit) → lifted_wi
 unfolding lifted_with reading
 nothing_yet named items c = refl
 
-sent_nothing : (named : Bool) (items : List Item) (c : Circuit) (old : Option (List ℕ)) → Sent old old (lifted_with named items c []) []
-sent_nothing named items c old = record { front = []; whole = sym (nothing_yet named items c); appends = Appends-nil old }
+module _ {K : Type 0} (written : K → Option (List ℕ)) (failures : K → ℕ) (named : Bool) (items : List Item) (c : Circuit) (s : K) (pen : Pen) (before : Lifter) (kept : pen.outbox ≡ []) (well : pen.answer ≡ Ok tt) (lifts : LiftsWith named items c before []) where
+  begun : HasLifted written failures s s pen pen named items c before []
+  begun = record { lifts = lifts; writes = subst (WritesText written failures s s pen pen) (sym (nothing_yet named items c)) writes_none }
 
-written_end : {T E : Type 0} (r : Result T E) (named : Bool) (items : List Item) (c : Circuit) (old mid new : Option (List ℕ)) (left text : List ℕ) (after : Lifter) → LiftsWith named items c after text → Sent old mid (lifted_with named items c text) left
-    → OnOk r (Appends mid new left) → OnErr r (AppendsBeginning mid new left) → MatchResult r (λ x. LiftsWith named items c after text × Appends old new (lifted_with named items c text)) (λ e. AppendsBeginning old new (lifted_with named items c text))
-written_end (Ok x) named items c old mid new left text after h s ok err =
-    (h, subst (Appends old new) s.whole (Appends-trans old mid new s.front left s.appends ok))
-written_end (Err e) named items c old mid new left text after h s ok err = rest_fails old mid new (lifted_with named items c text) left s err
+  pub through_end : {T E S : Type 0} (F : Type 0) (x : S) (r : Result T E) (source : Option (List ℕ)) (t u : K) (now : Pen) (after : Lifter) → IfSome source (TakesSource {T = S} {E = F} (Ok x) written failures s t pen now before after)
+      → ((text : List ℕ) → WritesText written failures s t pen now text → OnOk r (Appends (written s) (written u) text) × OnErr r (AppendsBeginning (written s) (written u) text))
+      → IfSome source (λ text. MatchResult r (λ x. LiftsWith named items c after text × Appends (written s) (written u) (lifted_with named items c text)) (λ e. AppendsBeginning (written s) (written u) (lifted_with named items c text)))
+  through_end F x r None t u now after takes ends = tt
+  through_end F x (Ok y) (Some text) t u now after takes ends = let h = takes s pen named items c begun in (h.lifts, (ends (lifted_with named items c text) h.writes).0)
+  through_end F x (Err e) (Some text) t u now after takes ends = let h = takes s pen named items c begun in (ends (lifted_with named items c text) h.writes).1
 
-pub through_end : (T E S F : Type 0) (x : S) (r : Result T E) (named : Bool) (items : List Item) (c : Circuit) (source old mid new : Option (List ℕ)) (left : List ℕ) (before after : Lifter) → LiftsWith named items c before []
-    → IfSome source (TakesSourceLine {T = S} {E = F} (Ok x) old mid [] left before after) → OnOk r (Appends mid new left) → OnErr r (AppendsBeginning mid new left)
-    → IfSome source (λ text. MatchResult r (λ x. LiftsWith named items c after text × Appends old new (lifted_with named items c text)) (λ e. AppendsBeginning old new (lifted_with named items c text)))
-through_end T E S F x r named items c None old mid new left before after h t ok err = tt
-through_end T E S F x r named items c (Some text) old mid new left before after h t ok err =
-    let one = t.takes items c [] old h (sent_nothing named items c old) in
-    written_end r named items c old mid new left text after one.0 one.1 ok err
+  pub through_fault : (S : Type 0) {F : Type 0} (e : F) (source : Option (List ℕ)) (t : K) (now : Pen) (after : Lifter) → IfSome source (TakesSource {T = S} {E = F} (Err e) written failures s t pen now before after) → IfSome source (λ text. AppendsBeginning (written s) (written t) (lifted_with named items c text))
+  through_fault S e None t now after takes = tt
+  through_fault S e (Some text) t now after takes =
+      let h = takes s pen named items c begun in
+      let more = lifted_begins named items c h.0 h.1.0.0 in
+      subst (AppendsBeginning (written s) (written t)) (more.1 ∙ ap (lifted_with named items c) h.1.0.1) (beginning_longer (written s) (written t) (lifted_with named items c h.0) more.0 (begins well h.1.1.writes kept))
 
-pub through_fault : (S F : Type 0) (e : F) (named : Bool) (items : List Item) (c : Circuit) (source old new : Option (List ℕ)) (left : List ℕ) (before after : Lifter) → LiftsWith named items c before []
-    → IfSome source (TakesSourceLine {T = S} {E = F} (Err e) old new [] left before after) → IfSome source (λ text. AppendsBeginning old new (lifted_with named items c text))
-through_fault S F e named items c None old new left before after h t = tt
-through_fault S F e named items c (Some text) old new left before after h t = t.takes items c [] old h (sent_nothing named items c old)
+-- what the call that ends the writing answers
+pub written_ends : (r : Result (Unit {0}) LiftFault) (f : Result (Unit {0}) DeviceFault) (old new : Option (List ℕ)) (a b : ℕ) (text : List ℕ) → OnOk r (f ≡ Ok tt) → IfErr r (λ e. IsErr f × (e ≡ fault.Write)) → IsWritten f old new a b text
+    → OnOk r (Appends old new text) × OnErr r (AppendsBeginning old new text)
+written_ends (Ok x) f old new a b text ok err w = (on_ok ok w.ok, tt)
+written_ends (Err e) f old new a b text ok err w = (tt, on_err f err.0 w.err)
+
+pub written_counts : (r : Result (Unit {0}) LiftFault) (f : Result (Unit {0}) DeviceFault) (old new : Option (List ℕ)) (read read' a b : ℕ) (text : List ℕ) → OnOk r (f ≡ Ok tt) → IfErr r (λ e. IsErr f × (e ≡ fault.Write)) → read' ≡ read → IsWritten f old new a b text → CountsLift r read read' a b
+written_counts (Ok x) f old new read read' a b text ok err same w = (same, ok_counts a b ok w.failures)
+written_counts (Err e) f old new read read' a b text ok err same w = subst (λ (e : LiftFault). CountsLift {J = Unit {0}} (Err e) read read' a b) (sym err.1) (same, err_counts f a b err.0 w.failures)

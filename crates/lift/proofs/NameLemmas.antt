@@ -1,6 +1,6 @@
 -- Which symbol in a frame is a symbol, and the names that are put.
-use Rattle.std.proofs.Common.{◌≡◌, ℕ, ◌+◌, ◌<◌, ◌≤◌, ◌^◌, ◌==◌, nat_le, Bool, true, not, ◌&&◌, Some, None, List, [], ◌∷◌, ◌++◌, length, length-append, decimal, refl, sym, ap, ◌∙◌, arith}
-use Rattle.std.specs.Prelude.{if◌then◌else◌}
+use Rattle.std.proofs.Common.{◌≡◌, ℕ, ◌+◌, ◌<◌, ◌≤◌, ◌^◌, ◌==◌, nat_le, Bool, true, false, not, ◌&&◌, Some, None, List, [], ◌∷◌, ◌++◌, length, length-append, decimal, refl, sym, ap, ◌∙◌, arith}
+use Rattle.std.specs.Prelude.{if◌then◌else◌, option_and_then}
 use Rattle.std.specs.List.{list_all}
 use Rattle.std.proofs.lemmas.Bool.{and_from, and_parts, leb-true, le-leb}
 use Rattle.std.proofs.lemmas.List.Folds.{list_all-append}
@@ -9,7 +9,8 @@ use Rattle.btor2.specs.Symbols.{is_printed, is_symbol}
 use Rattle.btor2.proofs.SymbolLemmas.{long_is_no_symbol}
 use Rattle.base.proofs.DecimalLemmas.{decimal_digits}
 use Rattle.witness.specs.Texts.{symbol_part}
-use Rattle.lift.specs.Lifted.{at_frame, name_in_frame}
+use Rattle.btor2.specs.declared.item.Item.{Item}
+use Rattle.lift.specs.Lifted.{at_frame, name_in_frame, names}
 
 -- ---- digits are printed
 
@@ -52,3 +53,8 @@ pub name_is_long : (symbol digits : List ℕ) (k : ℕ) → digits ≡ decimal k
 name_is_long symbol digits k e long =
     let many : 255 < length (at_frame symbol k) = omega (arith, long, ap length e, length-append symbol (64 ∷ decimal k)) in
     ap (λ (b : Bool). symbol_part (if b then Some (at_frame symbol k) else None)) (long_is_no_symbol (at_frame symbol k) many)
+
+-- an item without a symbol has no name
+pub no_name : (named : Bool) (k : ℕ) (x : Item) → x.symbol ≡ None → names named k x ≡ None
+no_name false k x none = refl
+no_name true k x none = ap (option_and_then (name_in_frame k)) none

@@ -3,7 +3,7 @@ use Rattle.std.proofs.Common.{◌≡◌, ℕ, zero, suc, ◌+◌, ◌-◌, ◌<�
 use Rattle.std.specs.List.{list_any}
 use Rattle.std.specs.Fmt.{digits}
 use Rattle.std.proofs.Math.Seq.{take_all}
-use Rattle.std.proofs.lemmas.Bool.{or_from, or_right}
+use Rattle.std.proofs.lemmas.Bool.{or_from, or_right, lt-ltb, le-ltb}
 use Rattle.std.specs.Str.{bytes_eq}
 use Rattle.std.proofs.Math.ListN.{get_or-map}
 use Rattle.std.proofs.lemmas.List.{reverse-append, take_more_set, length-map, take-map, drop-map}
@@ -19,10 +19,10 @@ use Rattle.btor2.specs.declared.leaves.Leaves.TheVariants as leaves
 use Rattle.btor2.specs.Leaves.{list_of, is_leaf_at, leaf_width}
 use Rattle.btor2.specs.Check.{IsWellFormed}
 use Rattle.blast.specs.Cost.{input_width}
-use Rattle.witness.specs.Texts.{digit, symbol_part, shape_of, has_free}
+use Rattle.witness.specs.Texts.{digit, most_lines, symbol_part, shape_of, has_free}
 use Rattle.witness.proofs.ShapeLemmas.{free_at_places}
 use Rattle.lift.specs.Lifted.{names, word_line, bits_of_line, initial_piece, free_piece, frame_piece, piece}
-use Rattle.lift.specs.Placed.{taken_line, placed_lines, leaf_lines}
+use Rattle.lift.specs.Placed.{taken_line, placed_lines, leaf_lines, Pieces, put_piece_for}
 use Rattle.lift.proofs.LeafLemmas.{lifted_input_lines, inputs_placed, carried_placed, free_placed}
 
 -- the digits of a word, of which the highest is left
@@ -184,3 +184,11 @@ free_found items k d lt h = sym (free_by_places items ∙ any_found (is_free_at 
 
 pub none_free : (items : List Item) (k : ℕ) → length (places is_state 0 items) ≤ k → list_any (is_free_at items) (take k (places is_state 0 items)) ≡ false → false ≡ has_free (shape_of items)
 none_free items k le h = sym (free_by_places items ∙ ap (list_any (is_free_at items)) (sym (take_all k (places is_state 0 items) le)) ∙ h)
+
+-- ---- the piece of a line, where so many may be admitted
+
+pub put_known : (p : Pieces) (n : ℕ) (line : List ℕ) → n < most_lines → put_piece_for p n line ≡ text_of_lines (piece p.named p.items n line)
+put_known p n line few = ap (λ (b : Bool). if b then text_of_lines (piece p.named p.items n line) else []) (lt-ltb n most_lines few)
+
+pub put_past : (p : Pieces) (n : ℕ) (line : List ℕ) → most_lines ≤ n → put_piece_for p n line ≡ []
+put_past p n line many = ap (λ (b : Bool). if b then text_of_lines (piece p.named p.items n line) else []) (le-ltb n most_lines many)

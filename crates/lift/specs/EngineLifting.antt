@@ -1,5 +1,5 @@
 -- What a counterexample over the engine form of a circuit is over the model that the circuit was made of (how the one becomes the other is this project's): what its text is restored to, lifted.
-use Rattle.std.specs.Prelude.{◌≡◌, ℕ, ◌+◌, ◌≤◌, Bool, true, false, List, length, replicate, Option, Some, None, Result, IfErr, IfOk, IfSome, OnErr, OnOk}
+use Rattle.std.specs.Prelude.{◌≡◌, ℕ, ◌+◌, ◌≤◌, Bool, true, false, List, length, replicate, slice_set, Option, Some, None, Result, IfErr, IfOk, IfSome, OnErr, OnOk}
 use Rattle.std.specs.Io.KnownBytes.{Appends}
 use Rattle.base.specs.Device.{AppendsBeginning}
 use Rattle.base.specs.Lines.{whole_lines}
@@ -19,11 +19,9 @@ use Rattle.restore.specs.Accepted.{FindsAgain}
 use Rattle.restore.specs.Counterexample.{HasProperty, place_in, first_bad}
 use Rattle.restore.specs.Faults.{is_of_text}
 use Rattle.restore.specs.FormWitness.{form_restored_text, FormJudges, IsFoundAgain}
-use Rattle.restore.specs.Pieces.{Restorer, owed}
 use Rattle.restore.specs.Reading.{whole, read_found}
 use Rattle.restore.specs.Restored.{restored_text}
 use Rattle.lift.specs.Lifted.{lifted_with}
-use Rattle.lift.specs.Stands.{Lifter, LiftsWith}
 use Rattle.lift.specs.Verdicts.{KeepsVerdictIn}
 
 -- the lifted text, with names or without, of what the text of a counterexample is restored to, with this claim
@@ -58,25 +56,12 @@ pub record IsFoundInModel (named : Bool) (items : List Item) (c : Circuit) (choi
 abbrev pub FindsWitnessInModel : Bool → List Item → Circuit → Option ℕ → Circuit → List ℕ → Type 0
 FindsWitnessInModel named items c choice d text = (frames : ℕ) → BitJudges d text (judgement.Accepted frames) → IsFoundInModel named items c choice d text
 
--- ---- what a lifter takes a text over
-
--- names or none, the model, and a circuit that was made of it
-pub record Over : Type 0 where
-  pub named : Bool
-  pub items : List Item
-  pub circuit : Circuit
-
-abbrev pub LiftsOver : Over → Lifter → List ℕ → Type 0
-LiftsOver o l text = LiftsWith o.named o.items o.circuit l text
-
-abbrev pub lifted_over : Over → List ℕ → List ℕ
-lifted_over o text = lifted_with o.named o.items o.circuit text
-
 -- ---- what is told of a source
 
--- a restorer at the begin of a text, with this claim
-abbrev pub BeginsToRestore : Circuit → ℕ → Restorer → Type 0
-BeginsToRestore c k r = (text : List ℕ) → owed r text ≡ record { bytes = restored_text c k text; fault = (read_found (input_count c) text).fault }
+-- first rises, with that of one claim noted
+abbrev pub noted_first : List (Option ℕ) → Option (ℕ × ℕ) → List (Option ℕ)
+noted_first firsts None = firsts
+noted_first firsts (Some first) = slice_set firsts first.0 (Some first.1)
 
 -- what is told of the text of a counterexample, of which these bytes are known: a judgement, and first rises where words are lifted with names; and what was written of it
 pub record LiftsRestored (r : Result (Judgement × List (Option ℕ)) RestoreFault) (named : Bool) (items : List Item) (c : Circuit) (k : ℕ) (source old new : Option (List ℕ)) : Type 0 where

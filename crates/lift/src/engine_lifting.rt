@@ -1,9 +1,7 @@
 //! Lifting counterexamples over the engine forms of circuits.
-ghost use Rattle.std.specs.Prelude.{◌≡◌, ◌<◌, ℕ, Bool, List, [], None, Some, true, false, length, IfErr, IfOk, IfSome, OnOk};
+ghost use Rattle.std.specs.Prelude.{◌≡◌, ◌<◌, None, Some, true, false, length, replicate, IfErr, IfOk, IfSome, OnOk};
 ghost use Rattle.std.specs.Io.KnownBytes.{Appends, IsAtEnd};
 ghost use Rattle.base.specs.Device.{AppendsBeginning};
-ghost use Rattle.btor2.specs.declared.item.Item.{Item};
-ghost use Rattle.aiger.specs.Circuit.{Circuit};
 ghost use Rattle.blast.specs.Lowering.{Lowers};
 ghost use Rattle.engine_form.specs.EngineForm.{input_count};
 ghost use Rattle.witness.specs.BitJudgements.{BitJudges};
@@ -11,38 +9,50 @@ ghost use Rattle.rises.specs.FirstRises.{AreBitFirstRises};
 ghost use Rattle.restore.specs.Accepted.{FindsAgain};
 ghost use Rattle.restore.specs.Answers.{CountsRestore};
 ghost use Rattle.restore.specs.Faults.{is_of_text};
-ghost use Rattle.restore.specs.Pieces.{is_written};
 ghost use Rattle.restore.specs.Reading.{read_found};
 ghost use Rattle.restore.specs.Restored.{restored_text};
-ghost use Rattle.lift.specs.EngineLifting.{engine_lifted_text, FindsInModel, BeginsToRestore, LiftsRestored};
-ghost use Rattle.lift.specs.Stands.{LiftsWith};
+ghost use Rattle.lift.specs.EngineLifting.{engine_lifted_text, FindsInModel, noted_first, LiftsRestored};
 ghost use Rattle.lift.specs.Verdicts.{KeepsVerdictIn};
 
 use crate::engine_laws::found_over_the_form_is_found_in_the_model;
 use crate::laws::{lifting_keeps_the_verdict, names_keep_the_verdict};
-use crate::lifter::Lifter;
+use crate::pieces::Pieces;
 use aiger::Circuit;
 use base::{Sink, Source};
 use btor2::Model;
-use restore::{RestoreFault, Restorer, take_restored};
+use restore::{RestoreFault, restore_with};
 use rises::FirstRises;
 use std::alloc::Global;
 use witness::Judgement;
 
-/// Lifts what a restorer makes of a source, and answers how that is judged over the circuit, and with names its first rises.
+/// First rises, with the first frame of one bad property where there is one.
+pub(crate) fn with_first(firsts: FirstRises, first: Option<(usize, u64)>) -> FirstRises
+    ensures { result ≡ noted_first firsts first }
+{
+    let mut firsts = firsts;
+    if let Some((position, frame)) = first {
+        firsts.set(position, frame);
+    }
+    firsts
+}
+
+/// Lifts what the text of a counterexample is restored to, and answers how that is judged over the circuit, and with names its
+/// first rises.
 fn lift_pieces<S: Source, K: Sink>(
-    restorer: &mut Restorer<'_>,
-    lifter: Lifter<'_>,
+    alloc: Global,
+    circuit: &Circuit,
+    claim: usize,
+    pieces: &Pieces<'_>,
+    firsts: FirstRises,
     source: &mut S,
     sink: &mut K,
 ) -> Result<(Judgement, FirstRises), RestoreFault>
-    requires unread { restorer.old.reader.rest ≡ [] }
-    requires begins { is_written restorer.old.stage ≡ false }
-    ensures lifts { (named : Bool) (items : List Item) (c : Circuit) (k : ℕ) → Lowers items c
-        → k < length c.bads → BeginsToRestore c k restorer.old
-        → LiftsWith named items c lifter.entry []
-        → LiftsRestored result named items c k (S.to_come source.old) (K.written sink.old)
-        (K.written sink.new) }
+    requires lowers { Lowers pieces.now.items circuit.now }
+    requires claim { claim < length circuit.now.bads }
+    requires none { pieces.now.named ≡ true
+        → firsts ≡ replicate (length circuit.now.bads) None }
+    ensures lifts { LiftsRestored result pieces.now.named pieces.now.items circuit.now claim
+        (S.to_come source.old) (K.written sink.old) (K.written sink.new) }
     ensures apart { IfErr result (λ e. is_of_text e.why ≡ false → e.line ≡ 0) }
     ensures end { OnOk result (IsAtEnd (S.to_come source.new)) }
     ensures read_on { IfErr result (λ e. is_of_text e.why ≡ true → IsAtEnd (S.to_come source.new)) }
@@ -53,10 +63,12 @@ fn lift_pieces<S: Source, K: Sink>(
     lifting_keeps_the_verdict();
     names_keep_the_verdict();
     restore::laws::restored_text_is_accepted();
+    restore::laws::restored_lines_are_admitted();
     witness::bit_laws::exactly_one_bit_judgement();
-    let mut lifter = lifter;
-    take_restored(restorer, &mut lifter, source, sink)?;
-    Ok(lifter.finish())
+    match restore_with(alloc, circuit, claim, pieces, source, sink) {
+        Ok(told) => Ok((told.judgement, with_first(firsts, told.first))),
+        Err(fault) => Err(fault),
+    }
 }
 
 /// Lifts as `lift_restored` does, and answers with the judgement the first frame in which the claimed bad property is 1, where
@@ -116,16 +128,16 @@ pub fn lift_restored_with_rises<S: Source, K: Sink>(
     ensures counted { CountsRestore result (S.failures source.old) (S.failures source.new)
         (K.failures sink.old) (K.failures sink.new) }
 {
-    let mut restorer = Restorer::new(alloc, circuit, claim)?;
-    let lifter = Lifter::new(alloc, model, circuit, named)?;
-    lift_pieces(&mut restorer, lifter, source, sink)
+    let firsts = FirstRises::of_circuit(alloc, circuit, named)?;
+    let pieces = Pieces::new(model, named);
+    lift_pieces(alloc, circuit, claim, &pieces, firsts, source, sink)
 }
 
 /// Reads the text of a counterexample over the engine form of a circuit to its end, and writes what it is lifted to: the
 /// witness of the model that says the same, up to and with the first frame in which the claimed property rises, or of all
 /// frames where it does not; with names or without, as `lift_named` and `lift` write it. The answer is the judgement over the
 /// circuit of what the text is restored to. Of the text one line is held, and what one call of the source gives; beside it
-/// two runs of the circuit, three lines, and what one call of the sink takes.
+/// one run of the circuit, two lines, and what one call of the sink takes.
 ///
 /// Conditions: the circuit is a lowering of the model, and has the claimed property.
 ///

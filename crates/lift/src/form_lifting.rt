@@ -1,8 +1,7 @@
 //! Lifting witnesses of the engine forms of circuits.
-ghost use Rattle.std.specs.Prelude.{◌≡◌, Bool, List, [], true, false, IfErr, IfOk, IfSome, OnErr, OnOk};
+ghost use Rattle.std.specs.Prelude.{◌≡◌, None, length, replicate, true, false, IfErr, IfOk, IfSome, OnErr, OnOk};
 ghost use Rattle.std.specs.Io.KnownBytes.{Appends, IsAtEnd};
 ghost use Rattle.base.specs.Device.{AppendsBeginning};
-ghost use Rattle.btor2.specs.declared.item.Item.{Item};
 ghost use Rattle.blast.specs.Lowering.{Lowers};
 ghost use Rattle.engine_form.specs.EngineForm.{IsEngineFormOf};
 ghost use Rattle.rises.specs.FirstRises.{AreBitFirstRises};
@@ -10,35 +9,37 @@ ghost use Rattle.restore.specs.Answers.{CountsRestore};
 ghost use Rattle.restore.specs.Faults.{is_of_text};
 ghost use Rattle.restore.specs.FormWitness.{form_restored_text, FormJudges};
 ghost use Rattle.lift.specs.EngineLifting.{form_lifted_text, FindsWitnessInModel, KeepsFormVerdict, LiftsForm};
-ghost use Rattle.lift.specs.Stands.{LiftsWith};
 
 use crate::engine_laws::accepted_over_the_form_is_found_in_the_model;
+use crate::engine_lifting::with_first;
 use crate::laws::{lifting_keeps_the_verdict, names_keep_the_verdict};
-use crate::lifter::Lifter;
+use crate::pieces::Pieces;
 use aiger::Circuit;
 use base::{Sink, Source};
 use btor2::Model;
-use restore::{RestoreFault, take_form, told_of};
+use restore::{RestoreFault, restore_form_with};
 use rises::FirstRises;
 use std::alloc::Global;
 use witness::Judgement;
 
-/// Lifts a witness of the engine form of a circuit by a lifter, and answers how it is judged, and with names the first rises of
-/// what it is restored to.
+/// Lifts what a witness of the engine form of a circuit is restored to, and answers how it is judged, and with names the first
+/// rises of what it is restored to.
 fn lift_witness<S: Source, K: Sink>(
     alloc: Global,
     circuit: &Circuit,
     form: &Circuit,
     choice: Option<usize>,
-    lifter: Lifter<'_>,
+    pieces: &Pieces<'_>,
+    firsts: FirstRises,
     source: &mut S,
     sink: &mut K,
 ) -> Result<(Judgement, FirstRises), RestoreFault>
-    requires { IsEngineFormOf circuit.now choice form.now }
-    ensures lifts { (named : Bool) (items : List Item) → Lowers items circuit.now
-        → LiftsWith named items circuit.now lifter.entry []
-        → LiftsForm result named items circuit.now choice form.now (S.to_come source.old)
-        (K.written sink.old) (K.written sink.new) }
+    requires lowers { Lowers pieces.now.items circuit.now }
+    requires is_form { IsEngineFormOf circuit.now choice form.now }
+    requires none { pieces.now.named ≡ true
+        → firsts ≡ replicate (length circuit.now.bads) None }
+    ensures lifts { LiftsForm result pieces.now.named pieces.now.items circuit.now choice form.now
+        (S.to_come source.old) (K.written sink.old) (K.written sink.new) }
     ensures apart { IfErr result (λ e. is_of_text e.why ≡ false × (e.line ≡ 0)) }
     ensures end { OnOk result (IsAtEnd (S.to_come source.new)) }
     ensures counted { CountsRestore result (S.failures source.old) (S.failures source.new)
@@ -47,10 +48,11 @@ fn lift_witness<S: Source, K: Sink>(
     accepted_over_the_form_is_found_in_the_model();
     lifting_keeps_the_verdict();
     names_keep_the_verdict();
-    let mut lifter = lifter;
-    let over = take_form(alloc, circuit, form, choice, &mut lifter, source, sink)?;
-    let (restored, firsts) = lifter.finish();
-    Ok((told_of(over, restored), firsts))
+    restore::form_laws::restored_lines_are_admitted();
+    match restore_form_with(alloc, circuit, form, choice, pieces, source, sink) {
+        Ok(told) => Ok((told.judgement, with_first(firsts, told.first))),
+        Err(fault) => Err(fault),
+    }
 }
 
 /// Lifts as `lift_form` does, and answers with the judgement the first frame in which the claimed bad property is 1, where
@@ -98,8 +100,9 @@ pub fn lift_form_with_rises<S: Source, K: Sink>(
     ensures counted { CountsRestore result (S.failures source.old) (S.failures source.new)
         (K.failures sink.old) (K.failures sink.new) }
 {
-    let lifter = Lifter::new(alloc, model, circuit, named)?;
-    lift_witness(alloc, circuit, form, choice, lifter, source, sink)
+    let firsts = FirstRises::of_circuit(alloc, circuit, named)?;
+    let pieces = Pieces::new(model, named);
+    lift_witness(alloc, circuit, form, choice, &pieces, firsts, source, sink)
 }
 
 /// Reads a witness of the engine form of a circuit to its end, with all bad properties or the chosen one, and writes what it
@@ -107,7 +110,7 @@ pub fn lift_form_with_rises<S: Source, K: Sink>(
 /// frame in which this rises, or of all frames where it does not; with names or without, as `lift_named` and `lift` write it.
 /// The answer is that it makes no claim, or its first faulty line, before which what the lines give was written; else the
 /// judgement over the circuit of what it is restored to. Of the text one line is held, and what one call of the source gives;
-/// beside it a run of the form, two of the circuit, three lines, and what one call of the sink takes.
+/// beside it one run of the circuit, two lines, and what one call of the sink takes.
 ///
 /// Conditions: the circuit is a lowering of the model, and the form is its engine form.
 ///

@@ -9,7 +9,6 @@ pub mod laws;
 mod lifter;
 mod lifting;
 mod pieces;
-mod taking;
 
 pub use engine_lifting::{lift_restored, lift_restored_with_rises};
 pub use fault::LiftFault;

@@ -1,18 +1,16 @@
 //! A lifter of a witness that comes piece by piece.
 ghost use Rattle.std.specs.Prelude.{◌≡◌, ℕ, Bool, true, List, [], ◌∷◌, ◌++◌, IfOk};
-ghost use Rattle.base.specs.Device.{CountsFaults};
 ghost use Rattle.base.specs.Lines.{IsLine, text_of_lines};
-ghost use Rattle.base.specs.Pieces.{Puts};
+ghost use Rattle.base.specs.Writing.{WritesText};
 ghost use Rattle.btor2.specs.declared.item.Item.{Item};
 ghost use Rattle.aiger.specs.Circuit.{Circuit};
 ghost use Rattle.witness.specs.BitJudgements.{BitJudges};
-ghost use Rattle.witness.specs.Texts.{shape_of, has_free};
 ghost use Rattle.rises.specs.FirstRises.{AreBitFirstRises};
-ghost use Rattle.lift.specs.Stands.{HasRoom, LiftsWith, TakesSourceLine, admitted_piece};
+ghost use Rattle.lift.specs.Stands.{HasRoom, LiftsWith, TakesText, admitted_piece};
 
-use crate::pieces::{has_free, put_piece};
+use crate::pieces::Pieces;
 use aiger::Circuit;
-use base::{DeviceFault, Outbox, Sink, next_line};
+use base::{Pen, Sink, next_line};
 use rises::{BitNoter, FirstRises};
 use std::alloc::{AllocError, Global};
 use std::marker::Model;
@@ -23,11 +21,8 @@ use witness::{CutLine, Judgement};
 /// one frame for each bad property.
 #[derive(Drop)]
 pub(crate) struct Lifter<'a> {
-    model: &'a btor2::Model,
-    // words are lifted with names
-    named: bool,
-    // the model has a free state
-    some_free: bool,
+    // puts the pieces of lines
+    pieces: Pieces<'a>,
     // judges the text, and with names notes when the claim is first reached
     noter: BitNoter<'a>,
     // what is kept of the line that has not ended
@@ -35,15 +30,11 @@ pub(crate) struct Lifter<'a> {
 }
 
 impl<'a> Model for Lifter<'a> {
-    ghost use Rattle.std.specs.Prelude.{◌≡◌};
-    ghost use Rattle.witness.specs.Texts.{shape_of, has_free};
     ghost use Rattle.lift.specs.Stands.{Lifter as LifterValue};
 
     ghost Value = { LifterValue };
 
-    ghost view = { λ l. record { items = l.model.now; named = l.named; some_free = l.some_free; noter = l.noter; kept = l.kept } };
-
-    ghost invariant = { λ l. l.some_free ≡ has_free (shape_of l.model.now) };
+    ghost view = { λ l. record { pieces = l.pieces; noter = l.noter; kept = l.kept } };
 }
 
 /// The most bytes of a claim.
@@ -75,9 +66,7 @@ impl<'a> Lifter<'a> {
         let kept = CutLine::new(alloc, line_room(circuit))?;
         match BitNoter::new(alloc, circuit, named) {
             Ok(noter) => Ok(Lifter {
-                model,
-                named,
-                some_free: has_free(model),
+                pieces: Pieces::new(model, named),
                 noter,
                 kept,
             }),
@@ -86,29 +75,12 @@ impl<'a> Lifter<'a> {
     }
 
     /// Puts the piece of the line that is kept, where it is admitted behind so many others.
-    fn put_admitted<K: Sink>(
-        &self,
-        outbox: &mut Outbox,
-        sink: &mut K,
-        admitted: bool,
-        number: u64,
-    ) -> Result<(), DeviceFault>
-        ensures puts { Puts result (K.written sink.old) (K.written sink.new) outbox.old outbox.new
+    fn put_admitted<K: Sink>(&self, pen: &mut Pen, sink: &mut K, admitted: bool, number: u64)
+        ensures { WritesText K.written K.failures sink.old sink.new pen.old pen.new
             (text_of_lines (admitted_piece admitted self.now number)) }
-        ensures failures { CountsFaults result (K.failures sink.old) (K.failures sink.new) }
     {
         if admitted {
-            put_piece(
-                outbox,
-                sink,
-                self.model,
-                self.named,
-                self.some_free,
-                number,
-                self.kept.bytes(),
-            )
-        } else {
-            Ok(())
+            self.pieces.put(pen, sink, number, self.kept.bytes());
         }
     }
 
@@ -123,44 +95,34 @@ impl<'a> Lifter<'a> {
     }
 
     /// Takes the rest of a line, and its end.
-    fn take_line<K: Sink>(
-        &mut self,
-        outbox: &mut Outbox,
-        sink: &mut K,
-        line: &[u8],
-    ) -> Result<(), DeviceFault>
+    fn take_line<K: Sink>(&mut self, pen: &mut Pen, sink: &mut K, line: &[u8])
         requires { IsLine line.now }
-        ensures takes { TakesSourceLine result (K.written sink.old)
-            (K.written sink.new) outbox.old outbox.new self.old self.new (line.now ++ 10 ∷ []) }
-        ensures failures { CountsFaults result (K.failures sink.old) (K.failures sink.new) }
+        ensures takes { TakesText K.written K.failures sink.old sink.new pen.old pen.new self.old
+            self.new (line.now ++ 10 ∷ []) }
+        ensures writes { (text : List ℕ) × WritesText K.written K.failures sink.old sink.new pen.old
+            pen.new text }
     {
         self.kept.extend(line);
         let number = self.noter.admitted_lines();
         self.noter.take_line(line);
         let admitted = self.noter.admitted_lines() != number;
-        let put = self.put_admitted(outbox, sink, admitted, number);
+        self.put_admitted(pen, sink, admitted, number);
         self.kept.clear();
-        put
     }
 
     /// Takes a piece of the witness behind those before.
-    pub(crate) fn take<K: Sink>(
-        &mut self,
-        outbox: &mut Outbox,
-        sink: &mut K,
-        bytes: &[u8],
-    ) -> Result<(), DeviceFault>
-        ensures takes { TakesSourceLine result (K.written sink.old)
-            (K.written sink.new) outbox.old outbox.new self.old self.new bytes.now }
-        ensures failures { CountsFaults result (K.failures sink.old) (K.failures sink.new) }
+    pub(crate) fn take<K: Sink>(&mut self, pen: &mut Pen, sink: &mut K, bytes: &[u8])
+        ensures takes { TakesText K.written K.failures sink.old sink.new pen.old pen.new self.old
+            self.new bytes.now }
+        ensures writes { (text : List ℕ) × WritesText K.written K.failures sink.old sink.new pen.old
+            pen.new text }
     {
         let mut rest = bytes;
         while let Some((line, behind)) = next_line(rest) {
-            self.take_line(outbox, sink, line)?;
+            self.take_line(pen, sink, line);
             rest = behind;
         }
         self.take_bytes(rest);
-        Ok(())
     }
 
     /// The judgement of the text, and with names its first rises.

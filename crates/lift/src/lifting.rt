@@ -1,21 +1,22 @@
 //! Lifting whole sources.
-ghost use Rattle.std.specs.Prelude.{◌≡◌, true, IfErr, IfOk, IfSome, IsErrOf, OnErr, OnOk};
+ghost use Rattle.std.specs.Prelude.{◌≡◌, ℕ, List, Ok, true, IfErr, IfOk, IfSome, IsErr, IsErrOf, OnErr, OnOk};
 ghost use Rattle.std.specs.Io.KnownBytes.{Appends, IsAtEnd};
-ghost use Rattle.base.specs.Device.{AppendsBeginning, CountsFaults};
+ghost use Rattle.base.specs.Device.{AppendsBeginning};
+ghost use Rattle.base.specs.Writing.{WritesText};
 ghost use Rattle.blast.specs.Lowering.{Lowers};
 ghost use Rattle.witness.specs.BitJudgements.{BitJudges};
 ghost use Rattle.witness.specs.Accepted.{BitAcceptsExactly};
 ghost use Rattle.rises.specs.FirstRises.{AreBitFirstRises};
 ghost use Rattle.lift.specs.Answers.{CountsLift};
 ghost use Rattle.lift.specs.Lifted.{lifted_text, lifted_with, named_text};
-ghost use Rattle.lift.specs.Stands.{TakesSourceLine, LiftsAll};
+ghost use Rattle.lift.specs.Stands.{TakesSource, LiftsAll};
 ghost use Rattle.lift.specs.Verdicts.{KeepsVerdict, KeepsVerdictIn};
 
 use crate::fault::LiftFault;
 use crate::laws::{lifting_keeps_the_verdict, names_keep_the_verdict};
 use crate::lifter::Lifter;
 use aiger::Circuit;
-use base::{Outbox, Sink, Source};
+use base::{DeviceFault, Pen, Sink, Source};
 use btor2::Model;
 use rises::FirstRises;
 use std::alloc::Global;
@@ -24,21 +25,14 @@ use witness::Judgement;
 /// How many bytes one call of a source is asked for.
 const CHUNK: usize = 65536;
 
-/// Takes a piece of the witness.
+/// The answer of a sink.
 ///
-/// Errors: the sink's own.
-fn take_piece<K: Sink>(
-    lifter: &mut Lifter<'_>,
-    outbox: &mut Outbox,
-    sink: &mut K,
-    bytes: &[u8],
-) -> Result<(), LiftFault>
-    ensures takes { TakesSourceLine result (K.written sink.old)
-        (K.written sink.new) outbox.old outbox.new lifter.old lifter.new bytes.now }
-    ensures fault { IfErr result (λ e. e ≡ LiftFault.Write) }
-    ensures failures { CountsFaults result (K.failures sink.old) (K.failures sink.new) }
+/// Error: where it failed.
+fn written(answer: Result<(), DeviceFault>) -> Result<(), LiftFault>
+    ensures ok { OnOk result (answer ≡ Ok tt) }
+    ensures err { IfErr result (λ e. IsErr answer × (e ≡ LiftFault.Write)) }
 {
-    match lifter.take(outbox, sink, bytes) {
+    match answer {
         Ok(()) => Ok(()),
         Err(_) => Err(LiftFault::Write),
     }
@@ -49,15 +43,18 @@ fn take_piece<K: Sink>(
 /// Errors: the source's own, and the sink's.
 fn lift_all<S: Source, K: Sink>(
     lifter: &mut Lifter<'_>,
-    outbox: &mut Outbox,
+    pen: &mut Pen,
     source: &mut S,
     sink: &mut K,
 ) -> Result<(), LiftFault>
+    requires well { pen.old.answer ≡ Ok tt }
     ensures takes { IfSome (S.to_come source.old)
-        (TakesSourceLine result (K.written sink.old) (K.written sink.new) outbox.old outbox.new
-        lifter.old lifter.new) }
+        (TakesSource result K.written K.failures sink.old sink.new pen.old pen.new lifter.old
+        lifter.new) }
     ensures end { OnOk result (IsAtEnd (S.to_come source.new)) }
     ensures fault { IfErr result (λ e. e ≡ LiftFault.NoMemory → ⊥) }
+    ensures writes { (text : List ℕ) × WritesText K.written K.failures sink.old sink.new pen.old pen.new
+        text }
     ensures counted { CountsLift result (S.failures source.old) (S.failures source.new)
         (K.failures sink.old) (K.failures sink.new) }
 {
@@ -65,25 +62,12 @@ fn lift_all<S: Source, K: Sink>(
     loop {
         match source.read(&mut chunk) {
             Ok(0) => return Ok(()),
-            Ok(count) => take_piece(lifter, outbox, sink, &chunk[..count])?,
+            Ok(count) => {
+                lifter.take(pen, sink, &chunk[..count]);
+                written(pen.answer)?;
+            }
             Err(_) => return Err(LiftFault::Read),
         }
-    }
-}
-
-/// Writes what the outbox keeps.
-///
-/// Errors: the sink's own.
-fn write_rest<K: Sink>(outbox: &mut Outbox, sink: &mut K) -> Result<(), LiftFault>
-    ensures ok { OnOk result (Appends (K.written sink.old) (K.written sink.new) outbox.old) }
-    ensures err { OnErr result (AppendsBeginning (K.written sink.old)
-        (K.written sink.new) outbox.old) }
-    ensures fault { IfErr result (λ e. e ≡ LiftFault.Write) }
-    ensures failures { CountsFaults result (K.failures sink.old) (K.failures sink.new) }
-{
-    match outbox.flush(sink) {
-        Ok(()) => Ok(()),
-        Err(_) => Err(LiftFault::Write),
     }
 }
 
@@ -102,9 +86,9 @@ fn lift_through<S: Source, K: Sink>(
     ensures counted { CountsLift result (S.failures source.old) (S.failures source.new)
         (K.failures sink.old) (K.failures sink.new) }
 {
-    let mut outbox = Outbox::new();
-    match lift_all(lifter, &mut outbox, source, sink) {
-        Ok(()) => write_rest(&mut outbox, sink),
+    let mut pen = Pen::new();
+    match lift_all(lifter, &mut pen, source, sink) {
+        Ok(()) => written(pen.finish(sink)),
         Err(fault) => Err(fault),
     }
 }

@@ -1,9 +1,8 @@
 //! The pieces that lines of a witness are lifted to.
 ghost use Rattle.std.specs.Prelude.{◌≡◌, true, false, ◌++◌, ◌∷◌, [], ◌+◌, ◌-◌, ◌<◌, ◌≤◌, Some, decimal, length, map, reverse, if◌then◌else◌, slice_get, slice_index, take, drop};
 ghost use Rattle.std.specs.Str.{bytes_eq};
-ghost use Rattle.base.specs.Device.{CountsFaults};
-ghost use Rattle.base.specs.Pieces.{Puts};
 ghost use Rattle.base.specs.Lines.{text_of_lines};
+ghost use Rattle.base.specs.Writing.{WritesText};
 ghost use Rattle.btor2.specs.Lists.{places};
 ghost use Rattle.btor2.specs.Leaves.{list_of};
 ghost use Rattle.btor2.specs.Symbols.{is_symbol};
@@ -12,53 +11,29 @@ ghost use Rattle.witness.specs.Texts.{digit, symbol_part, shape_of, has_free};
 ghost use Rattle.lift.specs.Lifted.{bits_of_line, name_in_frame, names, word_line, initial_piece, free_piece, frame_piece, piece};
 ghost use Rattle.lift.specs.Placed.{leaf_lines, taken_line};
 
-use base::{DeviceFault, Outbox, Sink};
+use base::{Pen, Sink};
 use btor2::{Item, Leaves, Model};
 use itoa::Buffer;
-
-/// Puts bytes.
-fn put_bytes<K: Sink>(outbox: &mut Outbox, sink: &mut K, bytes: &[u8]) -> Result<(), DeviceFault>
-    ensures puts { Puts result (K.written sink.old) (K.written sink.new) outbox.old outbox.new
-        (bytes.now) }
-    ensures failures { CountsFaults result (K.failures sink.old) (K.failures sink.new) }
-{
-    outbox.put(sink, bytes)
-}
+use restore::Writer;
+use std::marker;
 
 /// Puts a line.
-fn put_line<K: Sink>(outbox: &mut Outbox, sink: &mut K, line: &[u8]) -> Result<(), DeviceFault>
-    ensures puts { Puts result (K.written sink.old) (K.written sink.new) outbox.old outbox.new
+fn put_line<K: Sink>(pen: &mut Pen, sink: &mut K, line: &[u8])
+    ensures { WritesText K.written K.failures sink.old sink.new pen.old pen.new
         (text_of_lines (line.now ∷ [])) }
-    ensures failures { CountsFaults result (K.failures sink.old) (K.failures sink.new) }
 {
-    put_bytes(outbox, sink, line)?;
-    put_bytes(outbox, sink, b"\n")
-}
-
-/// Puts a number.
-fn put_number<K: Sink>(outbox: &mut Outbox, sink: &mut K, number: u64) -> Result<(), DeviceFault>
-    ensures puts { Puts result (K.written sink.old) (K.written sink.new) outbox.old outbox.new
-        (decimal number) }
-    ensures failures { CountsFaults result (K.failures sink.old) (K.failures sink.new) }
-{
-    let mut buffer = Buffer::new();
-    put_bytes(outbox, sink, buffer.format(number).as_bytes())
+    pen.put(sink, line);
+    pen.put(sink, b"\n");
 }
 
 /// Puts a byte, a number and the end of a line.
-fn put_mark<K: Sink>(
-    outbox: &mut Outbox,
-    sink: &mut K,
-    mark: &[u8],
-    number: u64,
-) -> Result<(), DeviceFault>
-    ensures puts { Puts result (K.written sink.old) (K.written sink.new) outbox.old outbox.new
+fn put_mark<K: Sink>(pen: &mut Pen, sink: &mut K, mark: &[u8], number: u64)
+    ensures { WritesText K.written K.failures sink.old sink.new pen.old pen.new
         (mark.now ++ (decimal number ++ 10 ∷ [])) }
-    ensures failures { CountsFaults result (K.failures sink.old) (K.failures sink.new) }
 {
-    put_bytes(outbox, sink, mark)?;
-    put_number(outbox, sink, number)?;
-    put_bytes(outbox, sink, b"\n")
+    pen.put(sink, mark);
+    pen.put_number(sink, number);
+    pen.put(sink, b"\n");
 }
 
 /// The most bits of a word.
@@ -84,105 +59,81 @@ fn write_digits(bits: &[u8], digits: &mut [u8])
 }
 
 /// Puts the digits of a word, the highest first.
-fn put_digits<K: Sink>(outbox: &mut Outbox, sink: &mut K, bits: &[u8]) -> Result<(), DeviceFault>
+fn put_digits<K: Sink>(pen: &mut Pen, sink: &mut K, bits: &[u8])
     requires { length bits.now ≤ 64 }
-    ensures puts { Puts result (K.written sink.old) (K.written sink.new) outbox.old outbox.new
+    ensures { WritesText K.written K.failures sink.old sink.new pen.old pen.new
         (map digit (reverse (bits_of_line bits.now))) }
-    ensures failures { CountsFaults result (K.failures sink.old) (K.failures sink.new) }
 {
     let mut digits = [0; MOST_BITS];
     write_digits(bits, &mut digits);
     let (word, _) = digits.split_at(bits.len());
-    put_bytes(outbox, sink, word)
+    pen.put(sink, word);
 }
 
 /// The most bytes of a symbol.
 const MOST_BYTES: usize = 255;
 
 /// Puts a space, a symbol, `@` and the digits of a frame's number.
-fn put_symbol_part<K: Sink>(
-    outbox: &mut Outbox,
-    sink: &mut K,
-    symbol: &[u8],
-    digits: &[u8],
-) -> Result<(), DeviceFault>
-    ensures puts { Puts result (K.written sink.old) (K.written sink.new) outbox.old outbox.new
+fn put_symbol_part<K: Sink>(pen: &mut Pen, sink: &mut K, symbol: &[u8], digits: &[u8])
+    ensures { WritesText K.written K.failures sink.old sink.new pen.old pen.new
         ((32 ∷ []) ++ (symbol.now ++ ((64 ∷ []) ++ digits.now))) }
-    ensures failures { CountsFaults result (K.failures sink.old) (K.failures sink.new) }
 {
-    put_bytes(outbox, sink, b" ")?;
-    put_bytes(outbox, sink, symbol)?;
-    put_bytes(outbox, sink, b"@")?;
-    put_bytes(outbox, sink, digits)
+    pen.put(sink, b" ");
+    pen.put(sink, symbol);
+    pen.put(sink, b"@");
+    pen.put(sink, digits);
 }
 
 /// Puts the name of a symbol in a frame behind a word, where that is a symbol.
-fn put_name_in_frame<K: Sink>(
-    outbox: &mut Outbox,
-    sink: &mut K,
-    symbol: &[u8],
-    frame: u64,
-) -> Result<(), DeviceFault>
+fn put_name_in_frame<K: Sink>(pen: &mut Pen, sink: &mut K, symbol: &[u8], frame: u64)
     requires { is_symbol symbol.now ≡ true }
-    ensures puts { Puts result (K.written sink.old) (K.written sink.new) outbox.old outbox.new
+    ensures { WritesText K.written K.failures sink.old sink.new pen.old pen.new
         (symbol_part (name_in_frame frame symbol.now)) }
-    ensures failures { CountsFaults result (K.failures sink.old) (K.failures sink.new) }
 {
     let mut buffer = Buffer::new();
     let digits = buffer.format(frame).as_bytes();
     if symbol.len() + digits.len() < MOST_BYTES {
-        put_symbol_part(outbox, sink, symbol, digits)
-    } else {
-        Ok(())
+        put_symbol_part(pen, sink, symbol, digits);
     }
 }
 
 /// Puts the name of an item in a frame behind a word, where names are asked for and it has one.
-fn put_name<K: Sink>(
-    outbox: &mut Outbox,
-    sink: &mut K,
-    named: bool,
-    frame: u64,
-    item: &Item,
-) -> Result<(), DeviceFault>
-    ensures puts { Puts result (K.written sink.old) (K.written sink.new) outbox.old outbox.new
+fn put_name<K: Sink>(pen: &mut Pen, sink: &mut K, named: bool, frame: u64, item: &Item)
+    ensures { WritesText K.written K.failures sink.old sink.new pen.old pen.new
         (symbol_part (names named frame item.now)) }
-    ensures failures { CountsFaults result (K.failures sink.old) (K.failures sink.new) }
 {
     if !named {
-        return Ok(());
+        return;
     }
-    match &item.symbol {
-        Some(symbol) => put_name_in_frame(outbox, sink, symbol.bytes(), frame),
-        None => Ok(()),
+    if let Some(symbol) = &item.symbol {
+        put_name_in_frame(pen, sink, symbol.bytes(), frame);
     }
 }
 
 /// Puts the line that gives a leaf its word in a frame.
 fn put_word<K: Sink>(
-    outbox: &mut Outbox,
+    pen: &mut Pen,
     sink: &mut K,
     named: bool,
     frame: u64,
     index: usize,
     item: &Item,
     bits: &[u8],
-) -> Result<(), DeviceFault>
+)
     requires { length bits.now ≤ 64 }
-    ensures puts { Puts result (K.written sink.old) (K.written sink.new) outbox.old outbox.new
+    ensures { WritesText K.written K.failures sink.old sink.new pen.old pen.new
         (word_line index (bits_of_line bits.now) (names named frame item.now) ++ 10 ∷ []) }
-    ensures failures { CountsFaults result (K.failures sink.old) (K.failures sink.new) }
 {
-    put_number(outbox, sink, index as u64)?;
-    put_bytes(outbox, sink, b" ")?;
-    put_digits(outbox, sink, bits)?;
-    put_name(outbox, sink, named, frame, item)?;
-    put_bytes(outbox, sink, b"\n")
+    pen.put_number(sink, index as u64);
+    pen.put(sink, b" ");
+    put_digits(pen, sink, bits);
+    put_name(pen, sink, named, frame, item);
+    pen.put(sink, b"\n");
 }
 
 /// Puts the line of a leaf in a frame, where it takes bits.
 fn put_leaf<K: Sink>(
-    outbox: &mut Outbox,
+    pen: &mut Pen,
     sink: &mut K,
     named: bool,
     frame: u64,
@@ -190,16 +141,13 @@ fn put_leaf<K: Sink>(
     index: usize,
     item: &Item,
     bits: &[u8],
-) -> Result<(), DeviceFault>
+)
     requires { length bits.now ≤ 64 }
-    ensures puts { Puts result (K.written sink.old) (K.written sink.new) outbox.old outbox.new
+    ensures { WritesText K.written K.failures sink.old sink.new pen.old pen.new
         (taken_line takes index (bits_of_line bits.now) (names named frame item.now)) }
-    ensures failures { CountsFaults result (K.failures sink.old) (K.failures sink.new) }
 {
     if takes {
-        put_word(outbox, sink, named, frame, index, item, bits)
-    } else {
-        Ok(())
+        put_word(pen, sink, named, frame, index, item, bits);
     }
 }
 
@@ -231,24 +179,23 @@ fn leaf_item(model: &Model, leaves: Leaves, index: usize) -> &Item
 
 /// Puts the lines of the leaves of a kind in a frame, each of which takes its bits behind those before it.
 fn put_leaves<K: Sink>(
-    outbox: &mut Outbox,
+    pen: &mut Pen,
     sink: &mut K,
     model: &Model,
     named: bool,
     frame: u64,
     leaves: Leaves,
     bits: &[u8],
-) -> Result<(), DeviceFault>
-    ensures puts { Puts result (K.written sink.old) (K.written sink.new) outbox.old outbox.new
+)
+    ensures { WritesText K.written K.failures sink.old sink.new pen.old pen.new
         (leaf_lines leaves model.now (names named frame) (bits_of_line bits.now)) }
-    ensures failures { CountsFaults result (K.failures sink.old) (K.failures sink.new) }
 {
     let mut rest = bits;
     for index in 0..leaves.places(model).len() {
         let (word, behind) = cut(rest, leaves.width(model, index) as usize);
         let item = leaf_item(model, leaves, index);
         put_leaf(
-            outbox,
+            pen,
             sink,
             named,
             frame,
@@ -256,15 +203,14 @@ fn put_leaves<K: Sink>(
             index,
             item,
             word,
-        )?;
+        );
         rest = behind;
     }
-    Ok(())
 }
 
 /// Puts the line that opens a part of a frame, a byte and the frame's number, and behind it the lines of the leaves of a kind.
 fn put_part<K: Sink>(
-    outbox: &mut Outbox,
+    pen: &mut Pen,
     sink: &mut K,
     model: &Model,
     named: bool,
@@ -272,14 +218,13 @@ fn put_part<K: Sink>(
     frame: u64,
     leaves: Leaves,
     bits: &[u8],
-) -> Result<(), DeviceFault>
-    ensures puts { Puts result (K.written sink.old) (K.written sink.new) outbox.old outbox.new
+)
+    ensures { WritesText K.written K.failures sink.old sink.new pen.old pen.new
         ((mark.now ++ (decimal frame ++ 10 ∷ [])) ++ leaf_lines leaves model.now (names named frame)
         (bits_of_line bits.now)) }
-    ensures failures { CountsFaults result (K.failures sink.old) (K.failures sink.new) }
 {
-    put_mark(outbox, sink, mark, frame)?;
-    put_leaves(outbox, sink, model, named, frame, leaves, bits)
+    put_mark(pen, sink, mark, frame);
+    put_leaves(pen, sink, model, named, frame, leaves, bits);
 }
 
 /// The bits of a frame behind those of the inputs.
@@ -303,42 +248,34 @@ pub(crate) fn has_free(model: &Model) -> bool
 }
 
 /// Puts the piece of the initial bits.
-fn put_initial<K: Sink>(
-    outbox: &mut Outbox,
-    sink: &mut K,
-    model: &Model,
-    named: bool,
-    bits: &[u8],
-) -> Result<(), DeviceFault>
-    ensures puts { Puts result (K.written sink.old) (K.written sink.new) outbox.old outbox.new
+fn put_initial<K: Sink>(pen: &mut Pen, sink: &mut K, model: &Model, named: bool, bits: &[u8])
+    ensures { WritesText K.written K.failures sink.old sink.new pen.old pen.new
         (text_of_lines (initial_piece named model.now (bits_of_line bits.now))) }
-    ensures failures { CountsFaults result (K.failures sink.old) (K.failures sink.new) }
 {
     let _items = model.items();
-    put_part(outbox, sink, model, named, b"#", 0, Leaves::Carried, bits)
+    put_part(pen, sink, model, named, b"#", 0, Leaves::Carried, bits);
 }
 
 /// Puts the words of the free states in a frame, whose bits stand behind those of the inputs: those of the first frame stand
 /// behind the initial words, and those of a later one behind a line of their own.
 fn put_free<K: Sink>(
-    outbox: &mut Outbox,
+    pen: &mut Pen,
     sink: &mut K,
     model: &Model,
     named: bool,
     some_free: bool,
     frame: u64,
     bits: &[u8],
-) -> Result<(), DeviceFault>
+)
     requires { some_free ≡ has_free (shape_of model.now) }
-    ensures puts { Puts result (K.written sink.old) (K.written sink.new) outbox.old outbox.new
+    ensures { WritesText K.written K.failures sink.old sink.new pen.old pen.new
         (text_of_lines (free_piece named model.now frame
         (drop (input_width model.now) (bits_of_line bits.now)))) }
-    ensures failures { CountsFaults result (K.failures sink.old) (K.failures sink.new) }
 {
     let _items = model.items();
     if frame == 0 {
-        return put_leaves(
-            outbox,
+        put_leaves(
+            pen,
             sink,
             model,
             named,
@@ -346,12 +283,13 @@ fn put_free<K: Sink>(
             Leaves::Free,
             behind_inputs(model, bits),
         );
+        return;
     }
     if !some_free {
-        return Ok(());
+        return;
     }
     put_part(
-        outbox,
+        pen,
         sink,
         model,
         named,
@@ -364,31 +302,21 @@ fn put_free<K: Sink>(
 
 /// Puts the piece of the bits of a frame.
 fn put_frame<K: Sink>(
-    outbox: &mut Outbox,
+    pen: &mut Pen,
     sink: &mut K,
     model: &Model,
     named: bool,
     some_free: bool,
     frame: u64,
     bits: &[u8],
-) -> Result<(), DeviceFault>
+)
     requires { some_free ≡ has_free (shape_of model.now) }
-    ensures puts { Puts result (K.written sink.old) (K.written sink.new) outbox.old outbox.new
+    ensures { WritesText K.written K.failures sink.old sink.new pen.old pen.new
         (text_of_lines (frame_piece named model.now frame (bits_of_line bits.now))) }
-    ensures failures { CountsFaults result (K.failures sink.old) (K.failures sink.new) }
 {
     let _items = model.items();
-    put_free(outbox, sink, model, named, some_free, frame, bits)?;
-    put_part(
-        outbox,
-        sink,
-        model,
-        named,
-        b"@",
-        frame,
-        Leaves::Inputs,
-        bits,
-    )
+    put_free(pen, sink, model, named, some_free, frame, bits);
+    put_part(pen, sink, model, named, b"@", frame, Leaves::Inputs, bits)
 }
 
 /// Whether a line is a word.
@@ -400,49 +328,116 @@ fn is_word(line: &[u8], word: &[u8]) -> bool
 
 /// Puts the piece of a line in the place of a frame, which may be the end.
 fn put_frame_or_end<K: Sink>(
-    outbox: &mut Outbox,
+    pen: &mut Pen,
     sink: &mut K,
     model: &Model,
     named: bool,
     some_free: bool,
     frame: u64,
     line: &[u8],
-) -> Result<(), DeviceFault>
+)
     requires { some_free ≡ has_free (shape_of model.now) }
-    ensures puts { Puts result (K.written sink.old) (K.written sink.new) outbox.old outbox.new
+    ensures { WritesText K.written K.failures sink.old sink.new pen.old pen.new
         (text_of_lines (piece named model.now (frame + 3) line.now)) }
-    ensures failures { CountsFaults result (K.failures sink.old) (K.failures sink.new) }
 {
     if is_word(line, b".") {
-        put_line(outbox, sink, line)
+        put_line(pen, sink, line);
     } else {
-        put_frame(outbox, sink, model, named, some_free, frame, line)
+        put_frame(pen, sink, model, named, some_free, frame, line);
+    }
+}
+
+/// The most lines of a witness.
+const MOST_LINES: u64 = 1 << 62;
+
+/// What writes the piece that each line is lifted to, over a model, with names or without.
+#[derive(Drop)]
+pub(crate) struct Pieces<'a> {
+    model: &'a Model,
+    // words are lifted with names
+    named: bool,
+    // the model has a free state
+    some_free: bool,
+}
+
+impl<'a> marker::Model for Pieces<'a> {
+    ghost use Rattle.std.specs.Prelude.{◌≡◌};
+    ghost use Rattle.witness.specs.Texts.{shape_of, has_free};
+    ghost use Rattle.lift.specs.Placed.{Pieces as PiecesValue};
+
+    ghost Value = { PiecesValue };
+
+    ghost view = { λ p. record { items = p.model.now; named = p.named } };
+
+    ghost invariant = { λ p. p.some_free ≡ has_free (shape_of p.model.now) };
+}
+
+impl<'a> Pieces<'a> {
+    /// Over this model, with names or without.
+    pub(crate) fn new(model: &'a Model, named: bool) -> Pieces<'a>
+        ensures { result ≡ record { items = model.now; named = named } }
+    {
+        Pieces {
+            model,
+            named,
+            some_free: has_free(model),
+        }
+    }
+
+    /// Puts the piece of a line that is admitted behind so many others.
+    pub(crate) fn put<K: Sink>(&self, pen: &mut Pen, sink: &mut K, number: u64, line: &[u8])
+        ensures { WritesText K.written K.failures sink.old sink.new pen.old pen.new
+            (text_of_lines (piece self.now.named self.now.items number line.now)) }
+    {
+        put_piece(
+            pen,
+            sink,
+            self.model,
+            self.named,
+            self.some_free,
+            number,
+            line,
+        );
+    }
+}
+
+impl<'a> Writer for Pieces<'a> {
+    ghost use Rattle.lift.specs.Placed.{put_piece_for};
+
+    ghost put_for = { put_piece_for };
+
+    fn put_line<K: Sink>(&self, pen: &mut Pen, sink: &mut K, number: u64, line: &[u8]) {
+        if number < MOST_LINES {
+            self.put(pen, sink, number, line);
+        }
     }
 }
 
 /// Puts the piece of a line that is admitted behind so many others.
-pub(crate) fn put_piece<K: Sink>(
-    outbox: &mut Outbox,
+fn put_piece<K: Sink>(
+    pen: &mut Pen,
     sink: &mut K,
     model: &Model,
     named: bool,
     some_free: bool,
     number: u64,
     line: &[u8],
-) -> Result<(), DeviceFault>
+)
     requires { some_free ≡ has_free (shape_of model.now) }
-    ensures puts { Puts result (K.written sink.old) (K.written sink.new) outbox.old outbox.new
+    ensures { WritesText K.written K.failures sink.old sink.new pen.old pen.new
         (text_of_lines (piece named model.now number line.now)) }
-    ensures failures { CountsFaults result (K.failures sink.old) (K.failures sink.new) }
 {
     if number == 0 {
-        return put_line(outbox, sink, b"sat");
+        put_line(pen, sink, b"sat");
+        return;
     }
     if number == 1 {
-        return put_line(outbox, sink, line);
+        put_line(pen, sink, line);
+        return;
     }
     if number == 2 {
-        return put_initial(outbox, sink, model, named, line);
+        put_initial(pen, sink, model, named, line);
+        return;
     }
-    put_frame_or_end(outbox, sink, model, named, some_free, number - 3, line)
+    put_frame_or_end(pen, sink, model, named, some_free, number - 3, line);
 }

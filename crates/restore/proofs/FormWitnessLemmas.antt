@@ -1,5 +1,5 @@
 -- What is accepted over an engine form is found again in what it is restored to.
-use Rattle.std.proofs.Common.{◌≡◌, ◌≢◌, ℕ, zero, suc, ◌+◌, ◌<◌, ◌≤◌, Bool, true, false, cond, List, [], ◌∷◌, ◌++◌, length, map, take, replicate, get_or, All, Option, None, Some, IfSome, Result, Ok, Err, refl, sym, ap, subst, ◌∙◌, append_assoc, inl, inr, arith}
+use Rattle.std.proofs.Common.{◌≡◌, ◌≢◌, ℕ, zero, suc, ◌+◌, ◌<◌, ◌≤◌, min, Bool, true, false, cond, List, [], ◌∷◌, ◌++◌, length, map, take, replicate, get_or, All, Option, None, Some, unwrap_or, IfSome, Result, Ok, Err, refl, sym, ap, ap₂, subst, ◌∙◌, append_assoc, inl, inr, arith}
 use Rattle.std.specs.List.{list_any, position_from}
 use Rattle.std.proofs.lemmas.Bool.{cases_Bool}
 use Rattle.std.proofs.lemmas.Bool.Decides.{nat_tests}
@@ -13,6 +13,7 @@ use Rattle.aiger.specs.declared.circuit.Reset.TheVariants as reset
 use Rattle.base.specs.Literal.{Valuation, literal_value}
 use Rattle.aiger.specs.Circuit.{Circuit, IsCircuit}
 use Rattle.aiger.specs.Trace.{IsCircuitTrace}
+use Rattle.aiger.proofs.TraceLemmas.{trace_inputs}
 use Rattle.engine_form.specs.EngineForm.{begins, input_count, chosen, has_chosen, GoTogether, IsEngineFormOf}
 use Rattle.witness.specs.declared.judgement.Judgement.{Judgement}
 use Rattle.witness.specs.declared.judgement.Judgement.TheVariants as judgement
@@ -21,7 +22,10 @@ use Rattle.witness.specs.Judgements.{Violation, first_of, JudgesAs, violation_fr
 use Rattle.witness.specs.Texts.{most_lines}
 use Rattle.witness.specs.Readings.{Reading, Fault, refused_for, read_or_fault, last_refusal, is_nothing, reading}
 use Rattle.witness.specs.BitTexts.{BitWitness, bit_line, bit_witness_lines, BitSays}
-use Rattle.witness.specs.BitAdmits.{BitRead, bit_reader, is_done, read_bit_text, bit_witness_of}
+use Rattle.witness.specs.BitAdmits.{BitRead, bit_reader, admitted_lines, is_done, read_bit_text, bit_witness_of}
+use Rattle.witness.specs.BitStands.{BitJudge, StandsForBits}
+use Rattle.witness.specs.Reached.{bits_said_in}
+use Rattle.witness.proofs.GrowthLemmas.{bit_trace_exists}
 use Rattle.witness.specs.Fits.{breach_from}
 use Rattle.witness.specs.BitPlays.{first_bit_violated, bit_rises}
 use Rattle.witness.specs.BitJudgements.{first_reset_differing, makes_no_bit_claim, JudgesBits, BitJudges}
@@ -29,12 +33,19 @@ use Rattle.witness.proofs.JudgedLemmas.{accepted_reads}
 use Rattle.witness.proofs.ShownLemmas.{bits_verdict}
 use Rattle.restore.specs.Counterexample.{HasProperty, place_in, first_bad}
 use Rattle.restore.specs.Restored.{opening, written_frames, restored_witness}
-use Rattle.restore.specs.Judged.{JudgesFrames}
-use Rattle.restore.specs.FormSteps.{JudgesRead}
-use Rattle.restore.specs.FormWitness.{property_of, restored_frame_lines, last_line, read_restored, form_restored_text, told_of, FormJudges, IsFoundAgain}
+use Rattle.restore.specs.declared.told.Restored.{Restored}
+use Rattle.restore.specs.Accepted.{IsFirstRise}
+use Rattle.restore.specs.Answers.{form_lines_put, RestoresForm}
+use Rattle.restore.specs.Putting.{as_it_is}
+use Rattle.restore.proofs.TakenLemmas.{put_as_they_are}
+use Rattle.restore.specs.FormSteps.{TellsRead, ReadsForm}
+use Rattle.restore.specs.Plays.{Play, play_judgement, play_told, taken}
+use Rattle.restore.specs.FormWitness.{property_of, restored_frame_lines, last_line, read_restored_lines, read_restored, form_restored_text, unplayed, FormJudges, IsFoundAgain}
 use Rattle.witness.proofs.BitReadLemmas.{many_lines}
 use Rattle.restore.proofs.RiseLemmas.{says_of, accepted_of}
-use Rattle.restore.proofs.JudgedFrameLemmas.{frames_judged}
+use Rattle.restore.proofs.FormBeginLemmas.{done_has_frames, claim_read}
+use Rattle.restore.proofs.LinesReadLemmas.{whole, text_goes, nothing_admitted}
+use Rattle.restore.proofs.ToldLemmas.{nothing_rises, judged_whole, first_told}
 use Rattle.restore.proofs.RestoredLemmas as frames
 
 -- ---- what an accepted text reads as
@@ -171,46 +182,124 @@ found_again c choice d text m said traces form accepted =
 
 -- ---- what is told
 
-verdict_told : (different : Option ℕ) (claims : List ℕ) (bads : ℕ) (shown : List Shown) (restored : Judgement) → told_of (verdict different claims bads shown) restored ≡ restored
-verdict_told different claims bads shown restored = by different (violation_from 0 shown) (unreached_from claims shown 0 bads)
+verdict_unplayed : (different : Option ℕ) (claims : List ℕ) (bads : ℕ) (shown : List Shown) → unplayed (verdict different claims bads shown) ≡ None
+verdict_unplayed different claims bads shown = by different (violation_from 0 shown) (unreached_from claims shown 0 bads)
   where
-    by : (o : Option ℕ) (breach : Option Violation) (unreached : Option ℕ) → told_of (first_of o breach unreached (length shown)) restored ≡ restored
+    by : (o : Option ℕ) (breach : Option Violation) (unreached : Option ℕ) → unplayed (first_of o breach unreached (length shown)) ≡ None
     by (Some k) breach unreached = refl
     by None (Some v) unreached = refl
     by None None (Some i) = refl
     by None None None = refl
 
-judged_by : (P Q : BitRead → Judgement → Type 0) (none : Bool) (read : Result BitRead Fault) (over restored : Judgement) → ((r : BitRead) → read ≡ Ok r → P r over → told_of over restored ≡ restored) → ((r : BitRead) → read ≡ Ok r → Q r restored) → JudgesAs P none read over → JudgesAs Q none read (told_of over restored)
-judged_by P Q true read over restored kind is h = ap (λ (j : Judgement). told_of j restored) h
-judged_by P Q false (Err e) over restored kind is h = ap (λ (j : Judgement). told_of j restored) h
-judged_by P Q false (Ok r) over restored kind is h = subst (Q r) (sym (kind r refl h)) (is r refl)
+judged_by : (P Q : BitRead → Judgement → Type 0) (none : Bool) (read : Result BitRead Fault) (over restored : Judgement) → ((r : BitRead) → read ≡ Ok r → P r over → unplayed over ≡ None) → ((r : BitRead) → read ≡ Ok r → Q r restored) → JudgesAs P none read over
+    → JudgesAs Q none read (unwrap_or (unplayed over) restored)
+judged_by P Q true read over restored kind is h = ap (λ (j : Judgement). unwrap_or (unplayed j) restored) h
+judged_by P Q false (Err e) over restored kind is h = ap (λ (j : Judgement). unwrap_or (unplayed j) restored) h
+judged_by P Q false (Ok r) over restored kind is h = subst (Q r) (sym (ap (λ (o : Option Judgement). unwrap_or o restored) (kind r refl h))) (is r refl)
 
 abbrev pub Said : Type 0
 Said = (c : Circuit) (text : List ℕ) (r : BitRead) → IsCircuit c → read_bit_text c text ≡ Ok r → BitSays c text (bit_witness_of r)
 
-pub form_judged : (c : Circuit) (choice : Option ℕ) (d : Circuit) (text : List ℕ) (over restored : Judgement) → Said → HasTraces → IsCircuit d → BitJudges d text over → ((r : BitRead) → read_bit_text d text ≡ Ok r → BitJudges c (form_restored_text c choice d text) restored) → FormJudges c choice d text (told_of over restored)
+form_judged : (c : Circuit) (choice : Option ℕ) (d : Circuit) (text : List ℕ) (over restored : Judgement) → Said → HasTraces → IsCircuit d → BitJudges d text over → ((r : BitRead) → read_bit_text d text ≡ Ok r → BitJudges c (form_restored_text c choice d text) restored)
+    → FormJudges c choice d text (unwrap_or (unplayed over) restored)
 form_judged c choice d text over restored said traces valid judged again =
     judged_by (λ (r : BitRead). JudgesBits d (bit_witness_of r)) (λ (r : BitRead). BitJudges c (form_restored_text c choice d text)) (makes_no_bit_claim (whole_lines text)) (read_bit_text d text) over restored
     (λ r is h.
     let says = said d text r valid is in
     let trace = traces d r.initial r.frames valid says.valid.initial says.valid.frames in
-    ap (λ (j : Judgement). told_of j restored) (h trace.0 trace.1) ∙ verdict_told (first_reset_differing 0 d.latches r.initial) (r.claim ∷ []) (length d.bads) (map (circuit_shows d) trace.0) restored)
+    ap unplayed (h trace.0 trace.1) ∙ verdict_unplayed (first_reset_differing 0 d.latches r.initial) (r.claim ∷ []) (length d.bads) (map (circuit_shows d) trace.0))
     again judged
 
--- what is judged of the frames that were read is judged of what the text is restored to
-pub restored_judged : (c : Circuit) (choice : Option ℕ) (d : Circuit) (text : List ℕ) (j : Judgement) → Said → HasTraces → IsEngineFormOf c choice d → JudgesRead c choice d j text → (r : BitRead) → read_bit_text d text ≡ Ok r
-    → BitJudges c (form_restored_text c choice d text) j
-restored_judged c choice d text j said traces form judges r is =
-    let whole = read_of_ok d text r is in
-    let h : JudgesFrames c (property_of choice r.claim) r.frames j = subst (λ (x : BitRead). JudgesFrames c (property_of choice x.claim) x.frames j) whole.0 (judges (ap (λ (x : BitRead). is_done x.place) whole.0 ∙ whole.1)) in
-    let says = said d text r form.circuit is in
-    let wide : All (λ bits. length bits ≡ input_count c) r.frames = subst (λ (n : ℕ). All (λ bits. length bits ≡ n) r.frames) form.inputs says.valid.frames in
-    subst (BitJudges c (form_restored_text c choice d text)) (sym h.is)
-    (frames_judged c (property_of choice r.claim) h.first.play h.first.risen (form_restored_text c choice d text) r.frames h.circuit h.claim form.original (claims_below c choice d r.claim traces form says.valid.claim) says.valid.some_frame wide
-    (restored_as c choice d text r is says.valid.some_frame))
+-- the lines that a text is restored to
+pub text_of_read : (c : Circuit) (choice : Option ℕ) (d : Circuit) (text : List ℕ) → form_restored_text c choice d text ≡ text_of_lines (read_restored_lines c choice (bits_said_in d text))
+unfolding form_restored_text
+text_of_read c choice d text = refl
 
-pub told_judged : (source : Option (List ℕ)) (c : Circuit) (choice : Option ℕ) (d : Circuit) (over restored : Judgement) → Said → HasTraces → IsEngineFormOf c choice d → IfSome source (λ text. BitJudges d text over) → IfSome source (JudgesRead c choice d restored)
-    → IfSome source (λ text. FormJudges c choice d text (told_of over restored))
-told_judged None c choice d over restored said traces form judged judges = tt
-told_judged (Some text) c choice d over restored said traces form judged judges =
-    form_judged c choice d text over restored said traces form.circuit judged (restored_judged c choice d text restored said traces form judges)
+pub as_they_are : (c : Circuit) (choice : Option ℕ) (d : Circuit) (text : List ℕ) → form_lines_put as_it_is c choice d text ≡ form_restored_text c choice d text
+as_they_are c choice d text = put_as_they_are 0 (read_restored_lines c choice (bits_said_in d text)) ∙ sym (text_of_read c choice d text)
+
+-- each frame that is read has as many bits as the form has inputs
+pub wide_read : (c : Circuit) (choice : Option ℕ) (d : Circuit) (text : List ℕ) → IsEngineFormOf c choice d → All (λ bits. length bits ≡ input_count c) (bits_said_in d text).frames
+wide_read c choice d text form =
+    let t = bit_trace_exists d text form.circuit in
+    subst (λ (n : ℕ). All (λ bits. length bits ≡ n) (bits_said_in d text).frames) form.inputs (trace_inputs d (bits_said_in d text).initial (bits_said_in d text).frames t.0 t.1)
+
+-- of what is told of the frames that were read, the judgement where all lines of a witness were, and the first rise
+module _ (c : Circuit) (choice : Option ℕ) (d : Circuit) (text : List ℕ) (told : Restored) (form : IsEngineFormOf c choice d) (tells : TellsRead c (property_of choice (bits_said_in d text).claim) (bits_said_in d text).frames told) where
+  abbrev r : BitRead
+  r = bits_said_in d text
+
+  abbrev k : ℕ
+  k = property_of choice r.claim
+
+  judged_read : is_done r.place ≡ true → BitJudges c (form_restored_text c choice d text) told.judgement
+  judged_read done = by r.frames refl tells
+    where
+      by : (frames : List (List Bool)) → r.frames ≡ frames → TellsRead c k frames told → BitJudges c (form_restored_text c choice d text) told.judgement
+      by [] is tells = absurd (done_has_frames d text form.circuit done is)
+      by (bits ∷ more) is tells =
+          let spelled : form_restored_text c choice d text ≡ text_of_lines (restored_frame_lines c k (bits ∷ more) ++ last_line true) =
+          text_of_read c choice d text ∙ ap₂ (λ (fs : List (List Bool)) (b : Bool). text_of_lines (restored_frame_lines c k fs ++ last_line b)) is done in
+          subst (BitJudges c (form_restored_text c choice d text)) (sym (ap (λ (t : Restored). t.judgement) tells.1.1.1 ∙ ap (λ (p : Play). play_judgement (taken p (bits ∷ more))) tells.1.0))
+          (judged_whole c k tells.0.state tells.0.begins bits more form.original tells.1.1.0 (subst (All (λ bits. length bits ≡ input_count c)) is (wide_read c choice d text form)) (form_restored_text c choice d text) spelled)
+
+  first_read : IsFirstRise c (form_restored_text c choice d text) told.first
+  first_read = by r.frames refl tells (is_done r.place) refl
+    where
+      by : (frames : List (List Bool)) → r.frames ≡ frames → TellsRead c k frames told → (b : Bool) → is_done r.place ≡ b → IsFirstRise c (form_restored_text c choice d text) told.first
+      by [] is tells true at = absurd (done_has_frames d text form.circuit at is)
+      by [] is tells false at = subst (λ (t : List ℕ). IsFirstRise c t told.first) (sym (text_of_read c choice d text ∙ ap₂ (λ (fs : List (List Bool)) (b : Bool). text_of_lines (restored_frame_lines c k fs ++ last_line b)) is at)) (subst (IsFirstRise c []) (sym tells) (nothing_rises c))
+      by (bits ∷ more) is tells b at =
+          let spelled : form_restored_text c choice d text ≡ text_of_lines (restored_frame_lines c k (bits ∷ more) ++ last_line b) =
+          text_of_read c choice d text ∙ ap₂ (λ (fs : List (List Bool)) (b : Bool). text_of_lines (restored_frame_lines c k fs ++ last_line b)) is at in
+          subst (IsFirstRise c (form_restored_text c choice d text)) (sym (ap (λ (t : Restored). t.first) tells.1.1.1 ∙ ap (λ (p : Play). (play_told (taken p (bits ∷ more))).first) tells.1.0))
+          (first_told c k tells.0.state tells.0.begins bits more form.original tells.1.1.0 (subst (All (λ bits. length bits ≡ input_count c)) is (wide_read c choice d text form)) b (form_restored_text c choice d text) spelled)
+
+-- ---- all together
+
+-- what is judged over the form, which its lines alone say or not
+abbrev pub SaysOver : Circuit → BitJudge → List ℕ → Option Judgement → Type 0
+SaysOver d judge rest over = (text : List ℕ) (j : Judgement) → IsCircuit d → StandsForBits d judge text → BitJudges d (text ++ rest) j → over ≡ unplayed j
+
+pub form_told : (put : ℕ → List ℕ → List ℕ) (c : Circuit) (choice : Option ℕ) (d : Circuit) (judge : BitJudge) (rest : List ℕ) (source old new : Option (List ℕ)) (told : Restored) (over : Option Judgement) → Said → HasTraces → ((c : Circuit) (text : List ℕ) → IsCircuit c → (j : Judgement) × BitJudges c text j)
+    → IsEngineFormOf c choice d → IfSome source (ReadsForm (Ok told) put c choice d judge rest old new) → SaysOver d judge rest over
+    → IfSome source (RestoresForm (Ok (record told { judgement = unwrap_or over told.judgement })) put c choice d old new)
+form_told put c choice d judge rest None old new told over said traces judgements form reads says = tt
+form_told put c choice d judge rest (Some text) old new told over said traces judgements form reads says =
+    let front : List ℕ = reads.0 in
+    let tells = reads.1.1.1.0 in
+    let j = judgements d text form.circuit in
+    let is : over ≡ unplayed j.0 = says front j.0 form.circuit reads.1.1.0 (subst (λ (t : List ℕ). BitJudges d t j.0) (sym reads.1.0) j.1) in
+    record {
+      judged = subst (λ (o : Option Judgement). FormJudges c choice d text (unwrap_or o told.judgement)) (sym is)
+          (form_judged c choice d text j.0 told.judgement said traces form.circuit j.1
+          (λ r read. judged_read c choice d text told form tells (ap (λ (x : BitRead). is_done x.place) (read_of_ok d text r read).0 ∙ (read_of_ok d text r read).1)));
+      first = first_read c choice d text told form tells;
+      written = reads.1.1.1.1;
+    }
+
+-- ---- how what is restored is read
+
+pub form_admitted : (c : Circuit) (choice : Option ℕ) (d : Circuit) (text : List ℕ) → HasTraces → IsEngineFormOf c choice d
+    → (whole_lines (form_restored_text c choice d text) ≡ read_restored_lines c choice (bits_said_in d text)) × (admitted_lines c (form_restored_text c choice d text) ≡ min (length (read_restored_lines c choice (bits_said_in d text))) most_lines)
+form_admitted c choice d text traces form = by r.frames refl (is_done r.place) refl
+  where
+    r : BitRead
+    r = bits_said_in d text
+
+    by : (frames : List (List Bool)) → r.frames ≡ frames → (b : Bool) → is_done r.place ≡ b
+        → (whole_lines (form_restored_text c choice d text) ≡ read_restored_lines c choice r) × (admitted_lines c (form_restored_text c choice d text) ≡ min (length (read_restored_lines c choice r)) most_lines)
+    by [] none true done = absurd (done_has_frames d text form.circuit done none)
+    by [] none false going =
+        let lines : read_restored_lines c choice r ≡ [] = ap₂ (λ (fs : List (List Bool)) (b : Bool). restored_frame_lines c (property_of choice r.claim) fs ++ last_line b) none going in
+        let spelled : form_restored_text c choice d text ≡ [] = text_of_read c choice d text ∙ ap text_of_lines lines in
+        (ap whole_lines spelled ∙ sym lines, ap (admitted_lines c) spelled ∙ nothing_admitted c ∙ ap (λ (ls : List (List ℕ)). min (length ls) most_lines) (sym lines))
+    by (bits ∷ more) some b at =
+        let k : ℕ = property_of choice r.claim in
+        let lines : read_restored_lines c choice r ≡ restored_frame_lines c k (bits ∷ more) ++ last_line b = ap₂ (λ (fs : List (List Bool)) (b : Bool). restored_frame_lines c k fs ++ last_line b) some at in
+        let spelled : form_restored_text c choice d text ≡ text_of_lines (restored_frame_lines c k (bits ∷ more) ++ last_line b) = text_of_read c choice d text ∙ ap text_of_lines lines in
+        let below : k < length c.bads = claims_below c choice d r.claim traces form (claim_read d text form.circuit (λ e. let n : [] ≡ bits ∷ more = sym e ∙ some in absurd cc)) in
+        let wide = subst (λ (fs : List (List Bool)). All (λ bits. length bits ≡ input_count c) fs) some (wide_read c choice d text form) in (
+          whole c k bits more b form.original below wide (form_restored_text c choice d text) spelled ∙ sym lines,
+          (text_goes c k bits more b form.original below wide (form_restored_text c choice d text) spelled).admitted ∙ ap (λ (ls : List (List ℕ)). min (length ls) most_lines) (sym lines),
+        )

@@ -1,24 +1,20 @@
 pub mod BitPlaceLemmas
 mod FormBeginLemmas
-mod FormEndLemmas
-mod FormGivenLemmas
+mod FormClaimLemmas
 mod FormHeadLemmas
-mod FormMoreLemmas
-mod FormOwingLemmas
 mod FormTakeLemmas
-pub mod FormLineLemmas
 mod FormWitnessLemmas
+pub mod FormLineLemmas
 mod FrameOf
-mod HandingLemmas
-mod JudgedFrameLemmas
-mod JudgedStepLemmas
+mod LinesReadLemmas
 mod MarkLemmas
-mod PieceStepLemmas
+pub mod PenLemmas
 mod PlayLemmas
+mod PlayedLemmas
 mod ReadingLemmas
 mod RestoredLemmas
-mod RestorerLemmas
+mod RestoringLemmas
 mod RiseLemmas
 mod StepLemmas
-mod TakingLemmas
-mod TooLongLemmas
+mod TakenLemmas
+mod ToldLemmas

@@ -13,7 +13,7 @@ use Rattle.restore.specs.declared.fault.RestoreFault.{RestoreFault}
 use Rattle.restore.specs.declared.fault.RestoreWhy.{RestoreWhy}
 use Rattle.restore.specs.declared.fault.RestoreWhy.TheVariants.{NoFrame, NoBit, WrongLength}
 use Rattle.restore.specs.Counterexample.{IsEndOfLine, IsEndOfFrames, lines_joined, SaysFrames}
-use Rattle.restore.specs.Reading.{before_mark, initial_why, frame_why, line_bits, Found, whole, faulty, read_before, unless_wrong, read_frames, read_found_lines, read_found}
+use Rattle.restore.specs.Reading.{before_mark, initial_why, frame_why, line_bits, Found, whole, faulty, read_before, unless_wrong, read_frames, read_some, read_found_lines, read_found}
 
 -- ---- lines of bits
 
@@ -255,3 +255,28 @@ read width text given h = by (all_lines (before_mark text)) refl h
     by [] is h = absurd (not_whole [] given (record { line = 1; why = NoFrame }) h)
     by (line ∷ []) is h = absurd (no_frame (initial_why line) h)
     by (line ∷ next ∷ more) is h = by_why line next more (initial_why line) is refl h
+
+-- ---- each frame that is found has as many bits
+
+wide_frames : (width n : ℕ) (lines : List (List ℕ)) → All (λ bits. length bits ≡ width) (read_frames width n lines).frames
+wide_frames width n [] = All-nil (λ bits. length bits ≡ width)
+wide_frames width n (line ∷ lines) = by (frame_why width line) refl (wide_frames width (line_after n) lines)
+  where
+    by : (why : Option RestoreWhy) → frame_why width line ≡ why → All (λ bits. length bits ≡ width) (read_frames width (line_after n) lines).frames → All (λ bits. length bits ≡ width) (unless_wrong n why (read_before (line_bits line) (read_frames width (line_after n) lines))).frames
+    by None is wide = All-cons (λ bits. length bits ≡ width) (line_bits line) (read_frames width (line_after n) lines).frames (frame_back width line is).1 wide
+    by (Some w) is wide = All-nil (λ bits. length bits ≡ width)
+
+pub wide_found : (width : ℕ) (text : List ℕ) → All (λ bits. length bits ≡ width) (read_found width text).frames
+wide_found width text = by (all_lines (before_mark text))
+  where
+    some : (lines : List (List ℕ)) → All (λ bits. length bits ≡ width) (read_some width lines).frames
+    some [] = All-nil (λ bits. length bits ≡ width)
+    some (line ∷ lines) = wide_frames width 2 (line ∷ lines)
+
+    behind : (why : Option RestoreWhy) (lines : List (List ℕ)) → All (λ bits. length bits ≡ width) (unless_wrong 1 why (read_some width lines)).frames
+    behind None lines = some lines
+    behind (Some w) lines = All-nil (λ bits. length bits ≡ width)
+
+    by : (lines : List (List ℕ)) → All (λ bits. length bits ≡ width) (read_found_lines width lines).frames
+    by [] = All-nil (λ bits. length bits ≡ width)
+    by (line ∷ lines) = behind (initial_why line) lines

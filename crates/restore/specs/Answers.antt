@@ -1,12 +1,21 @@
 -- What a restoring answers: the judgement of what was written, or why there is none.
-use Rattle.std.specs.Prelude.{◌≡◌, ℕ, Bool, true, false, List, Option, None, Some, Result, Ok, Err, OnOk}
+use Rattle.std.specs.Prelude.{◌≡◌, ℕ, Bool, true, false, List, Option, None, Some, Result, Ok, Err}
 use Rattle.std.specs.Io.KnownBytes.{Appends}
-use Rattle.base.specs.Device.{HasRisen, Sent, AppendsBeginning}
+use Rattle.base.specs.Device.{HasRisen, AppendsBeginning}
+use Rattle.aiger.specs.Circuit.{Circuit}
+use Rattle.engine_form.specs.EngineForm.{input_count}
+use Rattle.witness.specs.BitJudgements.{BitJudges}
+use Rattle.witness.specs.Reached.{bits_said_in}
 use Rattle.restore.specs.declared.fault.RestoreFault.{RestoreFault}
 use Rattle.restore.specs.declared.fault.RestoreWhy.{RestoreWhy}
 use Rattle.restore.specs.declared.fault.RestoreWhy.TheVariants as why
+use Rattle.restore.specs.declared.told.Restored.{Restored}
+use Rattle.restore.specs.Accepted.{IsFirstRise}
 use Rattle.restore.specs.Faults.{is_of_text}
-use Rattle.restore.specs.Pieces.{Owed}
+use Rattle.restore.specs.FormWitness.{read_restored_lines, form_restored_text, FormJudges}
+use Rattle.restore.specs.Putting.{put_lines}
+use Rattle.restore.specs.Reading.{read_found}
+use Rattle.restore.specs.Restored.{restored_lines, restored_text}
 
 -- the source failed once where that is told, the sink where that is, and else neither
 abbrev pub CountsRestoreWhy : RestoreWhy → ℕ → ℕ → ℕ → ℕ → Type 0
@@ -18,31 +27,39 @@ abbrev pub CountsRestore : {J : Type 0} → Result J RestoreFault → ℕ → �
 CountsRestore (Ok j) read read' written written' = (read' ≡ read) × (written' ≡ written)
 CountsRestore (Err e) read read' written written' = CountsRestoreWhy e.why read read' written written'
 
--- what is put of what is owed: all of it, where nothing is wrong with the text or a fault of it is told; else a beginning of it. Some of what was put is kept
-abbrev pub PutsAllBut : Bool → RestoreFault → Owed → Option (List ℕ) → Option (List ℕ) → List ℕ → Type 0
-PutsAllBut true e more old new kept = (more.fault ≡ Some e) × Sent old new more.bytes kept
-PutsAllBut false e more old new kept = AppendsBeginning old new more.bytes
+-- ---- a counterexample
 
-abbrev pub PutsOwed : Result (Unit {0}) RestoreFault → Owed → Option (List ℕ) → Option (List ℕ) → List ℕ → Type 0
-PutsOwed (Ok u) more old new kept = (more.fault ≡ None) × Sent old new more.bytes kept
-PutsOwed (Err e) more old new kept = PutsAllBut (is_of_text e.why) e more old new kept
+-- what is put for all lines that a text is restored to
+abbrev pub lines_put : (ℕ → List ℕ → List ℕ) → Circuit → ℕ → List ℕ → List ℕ
+lines_put put c k text = put_lines put 0 (restored_lines c k (read_found (input_count c) text))
 
--- and what is written of it in the end
-abbrev pub WritesAllBut : Bool → RestoreFault → Owed → Option (List ℕ) → Option (List ℕ) → Type 0
-WritesAllBut true e more old new = (more.fault ≡ Some e) × Appends old new more.bytes
-WritesAllBut false e more old new = AppendsBeginning old new more.bytes
+-- what is told of a text with which nothing is wrong, and of what it is restored to, for which all was written
+pub record IsRestored (put : ℕ → List ℕ → List ℕ) (c : Circuit) (k : ℕ) (old new : Option (List ℕ)) (text : List ℕ) (told : Restored) : Type 0 where
+  pub judged : BitJudges c (restored_text c k text) told.judgement
+  pub first : IsFirstRise c (restored_text c k text) told.first
+  pub right : (read_found (input_count c) text).fault ≡ None
+  pub written : Appends old new (lines_put put c k text)
 
-abbrev pub WritesOwedLines : Result (Unit {0}) RestoreFault → Owed → Option (List ℕ) → Option (List ℕ) → Type 0
-WritesOwedLines (Ok u) more old new = (more.fault ≡ None) × Appends old new more.bytes
-WritesOwedLines (Err e) more old new = WritesAllBut (is_of_text e.why) e more old new
+-- a fault of a text is its own, and what is put for what the lines before it give was written; at any other a beginning was
+abbrev pub IsRestoredBut : Bool → RestoreFault → (ℕ → List ℕ → List ℕ) → Circuit → ℕ → Option (List ℕ) → Option (List ℕ) → List ℕ → Type 0
+IsRestoredBut true e put c k old new text = ((read_found (input_count c) text).fault ≡ Some e) × Appends old new (lines_put put c k text)
+IsRestoredBut false e put c k old new text = AppendsBeginning old new (lines_put put c k text)
 
--- what is owed, with what is put for its bytes
-abbrev pub put_of : (List ℕ → List ℕ) → Owed → Owed
-put_of put owed = record { bytes = put owed.bytes; fault = owed.fault }
+abbrev pub Restores : Result Restored RestoreFault → (ℕ → List ℕ → List ℕ) → Circuit → ℕ → Option (List ℕ) → Option (List ℕ) → List ℕ → Type 0
+Restores (Ok told) put c k old new text = IsRestored put c k old new text told
+Restores (Err e) put c k old new text = IsRestoredBut (is_of_text e.why) e put c k old new text
 
--- what is owed is taken, where nothing is wrong with the text, and put or written is what is put for it
-abbrev pub TakesAllOwed : {O V : Type 0} → (O → V → List ℕ → Type 0) → (O → List ℕ → List ℕ) → Result (Unit {0}) RestoreFault → Owed → O → V → Option (List ℕ) → Option (List ℕ) → List ℕ → Type 0
-TakesAllOwed stands put_for r more o taker old new kept = PutsOwed r (put_of (put_for o) more) old new kept × OnOk r (stands o taker more.bytes)
+-- ---- a witness of an engine form
 
-abbrev pub WritesAll : {O V : Type 0} → (O → V → List ℕ → Type 0) → (O → List ℕ → List ℕ) → Result (Unit {0}) RestoreFault → Owed → O → V → Option (List ℕ) → Option (List ℕ) → Type 0
-WritesAll stands put_for r more o taker old new = WritesOwedLines r (put_of (put_for o) more) old new × OnOk r (stands o taker more.bytes)
+abbrev pub form_lines_put : (ℕ → List ℕ → List ℕ) → Circuit → Option ℕ → Circuit → List ℕ → List ℕ
+form_lines_put put c choice d text = put_lines put 0 (read_restored_lines c choice (bits_said_in d text))
+
+pub record IsRestoredForm (put : ℕ → List ℕ → List ℕ) (c : Circuit) (choice : Option ℕ) (d : Circuit) (old new : Option (List ℕ)) (text : List ℕ) (told : Restored) : Type 0 where
+  pub judged : FormJudges c choice d text told.judgement
+  pub first : IsFirstRise c (form_restored_text c choice d text) told.first
+  pub written : Appends old new (form_lines_put put c choice d text)
+
+-- at a fault a beginning was written
+abbrev pub RestoresForm : Result Restored RestoreFault → (ℕ → List ℕ → List ℕ) → Circuit → Option ℕ → Circuit → Option (List ℕ) → Option (List ℕ) → List ℕ → Type 0
+RestoresForm (Ok told) put c choice d old new text = IsRestoredForm put c choice d old new text told
+RestoresForm (Err e) put c choice d old new text = AppendsBeginning old new (form_lines_put put c choice d text)

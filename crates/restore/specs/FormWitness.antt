@@ -1,7 +1,5 @@
 -- What a witness of the engine form of a circuit, as the AIGER format has them, is restored to ("AIGER 1.9 and Beyond", its witnesses; where the frames end is this project's): the witness of the circuit that its frames say.
 use Rattle.std.specs.Prelude.{◌≡◌, ℕ, ◌+◌, Bool, true, false, List, [], ◌∷◌, ◌++◌, Option, None, Some, Result, Ok, Err, codes, length, map, replicate}
-use Rattle.std.specs.Io.KnownBytes.{Appends}
-use Rattle.base.specs.Device.{AppendsBeginning}
 use Rattle.base.specs.Lines.{text_of_lines, whole_lines}
 use Rattle.base.specs.Literal.{Valuation}
 use Rattle.aiger.specs.Circuit.{Circuit}
@@ -13,7 +11,6 @@ use Rattle.witness.specs.Readings.{reading}
 use Rattle.witness.specs.BitTexts.{BitWitness, BitSays, bit_line}
 use Rattle.witness.specs.BitAdmits.{BitRead, bit_reader, is_done, read_bit_text}
 use Rattle.witness.specs.BitJudgements.{makes_no_bit_claim, BitJudges}
-use Rattle.restore.specs.declared.fault.RestoreFault.{RestoreFault}
 use Rattle.restore.specs.Counterexample.{first_bad}
 use Rattle.restore.specs.Restored.{opening, written_frames, restored_witness}
 
@@ -31,9 +28,12 @@ abbrev pub last_line : Bool → List (List ℕ)
 last_line true = codes "." ∷ []
 last_line false = []
 
--- what admitted lines are restored to, by what they say
+-- what admitted lines are restored to, by what they say: lines, and their text
+abbrev pub read_restored_lines : Circuit → Option ℕ → BitRead → List (List ℕ)
+read_restored_lines c choice r = restored_frame_lines c (property_of choice r.claim) r.frames ++ last_line (is_done r.place)
+
 abbrev pub read_restored : Circuit → Option ℕ → BitRead → List ℕ
-read_restored c choice r = text_of_lines (restored_frame_lines c (property_of choice r.claim) r.frames ++ last_line (is_done r.place))
+read_restored c choice r = text_of_lines (read_restored_lines c choice r)
 
 -- what a text is restored to, a witness of the form with all bad properties or the chosen one: what its lines before the faulty one are, or all. Where it makes no claim no line is admitted, and it is restored to nothing
 unfoldable pub form_restored_text : Circuit → Option ℕ → Circuit → List ℕ → List ℕ
@@ -58,15 +58,8 @@ pub record IsFoundAgain (c : Circuit) (choice : Option ℕ) (d : Circuit) (text 
 abbrev pub FindsWitnessAgain : Circuit → Option ℕ → Circuit → List ℕ → Type 0
 FindsWitnessAgain c choice d text = (frames : ℕ) → BitJudges d text (judgement.Accepted frames) → IsFoundAgain c choice d text
 
--- ---- what is told
-
--- what is told, by what is judged of the text over the form, and of what it is restored to over the circuit
-abbrev pub told_of : Judgement → Judgement → Judgement
-told_of judgement.NoClaim restored = judgement.NoClaim
-told_of (judgement.Malformed line w) restored = judgement.Malformed line w
-told_of _ restored = restored
-
--- What is told of a text that something takes by what it is restored to: the judgement over the form, where it has taken all of that, and what is put for it was written; at a fault a beginning of this was.
-abbrev pub TakesRestored : {O V : Type 0} → (O → V → List ℕ → Type 0) → (O → List ℕ → List ℕ) → Result Judgement RestoreFault → Circuit → Option ℕ → Circuit → O → V → Option (List ℕ) → Option (List ℕ) → List ℕ → Type 0
-TakesRestored stands put_for (Ok j) c choice d o taker old new text = BitJudges d text j × (stands o taker (form_restored_text c choice d text) × Appends old new (put_for o (form_restored_text c choice d text)))
-TakesRestored stands put_for (Err e) c choice d o taker old new text = AppendsBeginning old new (put_for o (form_restored_text c choice d text))
+-- what the lines of a witness alone say of it: that it makes no claim, or which line is faulty
+abbrev pub unplayed : Judgement → Option Judgement
+unplayed judgement.NoClaim = Some judgement.NoClaim
+unplayed (judgement.Malformed line w) = Some (judgement.Malformed line w)
+unplayed _ = None

@@ -5,12 +5,10 @@ pub mod Faults
 pub mod FormSteps
 pub mod FormWitness
 pub mod Frames
-pub mod Holds
-pub mod Judged
 pub mod Marks
-pub mod Pieces
+pub mod Plays
+pub mod Putting
 pub mod Reading
 pub mod Restored
 pub mod Steps
-pub mod Taking
 pub mod Worked

@@ -1,5 +1,5 @@
 //! Lines of bits, and the bits that latches begin with.
-ghost use Rattle.std.specs.Prelude.{◌≡◌, ◌+◌, ◌++◌, ◌∷◌, [], length, drop};
+ghost use Rattle.std.specs.Prelude.{◌≡◌, length, drop};
 ghost use Rattle.witness.specs.Texts.{digit};
 ghost use Rattle.witness.specs.BitTexts.{bit_line};
 ghost use Rattle.engine_form.specs.EngineForm.{taken_bits, first_bit, first_bits};
@@ -13,15 +13,14 @@ fn digit(bit: bool) -> u8
     if bit { b'1' } else { b'0' }
 }
 
-/// Writes the line of some bits with its end.
+/// Writes the line of some bits without its end.
 pub(crate) fn write_line(bits: &[bool], line: &mut [u8])
-    requires { length line.old ≡ length bits.now + 1 }
-    ensures { line.new ≡ bit_line bits.now ++ 10 ∷ [] }
+    requires { length line.old ≡ length bits.now }
+    ensures { line.new ≡ bit_line bits.now }
 {
     for place in 0..bits.len() {
         line[place] = digit(bits[place]);
     }
-    line[bits.len()] = b'\n';
 }
 
 /// How a latch begins, by its reset or by the first of some bits, and the bits that are left.

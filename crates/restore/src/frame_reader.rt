@@ -4,7 +4,6 @@ ghost use Rattle.std.specs.Io.KnownBytes.{prepend_known, IsAtEnd};
 ghost use Rattle.base.specs.Device.{HasRisen};
 ghost use Rattle.restore.specs.declared.fault.RestoreWhy.TheVariants as why;
 ghost use Rattle.restore.specs.declared.place.Place.TheVariants.{Start, Ended};
-ghost use Rattle.restore.specs.Reading.{line_bits};
 ghost use Rattle.restore.specs.Steps.{FramesReader, may_follow, frames_to_come, given_by, AgreeAsGiven, IsUnread, StepsOn, TellsNoFrame, FailsByText, frames_left};
 
 use crate::fault::RestoreFault;
@@ -52,14 +51,6 @@ impl FrameReader {
         ensures { result.now ≡ self.now.frame }
     {
         self.progress.bits()
-    }
-
-    /// Has the bits of a line as its frame, which was found elsewhere.
-    pub(crate) fn set_frame(&mut self, line: &[u8])
-        requires { length line.now ≡ length self.old.frame }
-        ensures { self.new ≡ record self.old { frame = line_bits line.now } }
-    {
-        self.progress.write(line);
     }
 
     /// Goes on to the next frame, and answers whether there is one. Where there is none, the source was read to its end,

@@ -1,17 +1,19 @@
 //! Laws of the texts of counterexamples over an engine form, and worked rows: functions that do nothing, whose contracts are
 //! the laws.
-ghost use Rattle.std.specs.Prelude.{◌≡◌, ◌≢◌, ◌<◌, ◌≤◌, ◌+◌, ℕ, ◌==◌, Option, List, [], ◌∷◌, Bool, true, false, Some, All, codes, length, replicate};
+ghost use Rattle.std.specs.Prelude.{◌≡◌, ◌≢◌, ◌<◌, ◌≤◌, ◌+◌, min, ℕ, ◌==◌, Option, List, [], ◌∷◌, Bool, true, false, Some, All, codes, length, replicate};
+ghost use Rattle.base.specs.Lines.{whole_lines};
 ghost use Rattle.base.specs.Literal.{Valuation};
-ghost use Rattle.aiger.specs.Circuit.{Circuit};
+ghost use Rattle.aiger.specs.Circuit.{Circuit, IsCircuit};
 ghost use Rattle.aiger.specs.Trace.{IsCircuitTrace};
 ghost use Rattle.engine_form.specs.EngineForm.{input_count, IsEngineFormOf};
 ghost use Rattle.engine_form.specs.Worked.{keeper, keeper_form, negated_toggler, either};
 ghost use Rattle.witness.specs.declared.judgement.Judgement.TheVariants as judgement;
 ghost use Rattle.witness.specs.Texts.{most_lines};
+ghost use Rattle.witness.specs.BitAdmits.{admitted_lines};
 ghost use Rattle.witness.specs.BitTexts.{IsBitWitness, BitSays};
 ghost use Rattle.witness.specs.BitJudgements.{JudgesBits, BitJudges};
 ghost use Rattle.restore.specs.Frames.{frame_of};
-ghost use Rattle.restore.specs.Restored.{rises_in, up_to_rise, restored_witness, restored_text};
+ghost use Rattle.restore.specs.Restored.{rises_in, up_to_rise, restored_witness, restored_lines, restored_text};
 ghost use Rattle.restore.specs.Worked.{watched, both_inputs, always_bad};
 ghost use Rattle.restore.specs.Counterexample.{SaysFrames, restored, ends_bad, HasProperty, place_in, first_bad};
 ghost use Rattle.restore.specs.Reading.{whole, faulty, read_found};
@@ -67,6 +69,17 @@ pub fn restored_text_is_accepted()
         → IsCircuitTrace d (replicate (length d.latches) false) given ws
         → first_bad d (place_in choice k) ws ≡ Some n
         → BitJudges c (restored_text c k text) (judgement.Accepted (n + 1)) }
+{}
+
+/// A law: how what a text is restored to is read over the circuit. Its lines are those of the frames that are written, and all
+/// are admitted, or as many as a witness may have.
+pub fn restored_lines_are_admitted()
+    ensures lines { (c : Circuit) (k : ℕ) (text : List ℕ) → IsCircuit c → k < length c.bads
+        → whole_lines (restored_text c k text)
+        ≡ restored_lines c k (read_found (input_count c) text) }
+    ensures admitted { (c : Circuit) (k : ℕ) (text : List ℕ) → IsCircuit c → k < length c.bads
+        → admitted_lines c (restored_text c k text)
+        ≡ min (length (restored_lines c k (read_found (input_count c) text))) most_lines }
 {}
 
 /// Worked rows: texts over forms of one, two and four inputs, and what they read as.

@@ -5,6 +5,7 @@
 mod digits;
 mod fault;
 pub mod form_laws;
+mod form_claim;
 mod form_restoring;
 mod frame_reader;
 pub mod laws;
@@ -14,13 +15,13 @@ mod play;
 mod progress;
 mod restorer;
 mod restoring;
-mod stage;
-mod taker;
+mod told;
 mod width;
+mod writer;
 
 pub use fault::{RestoreFault, RestoreWhy};
-pub use form_restoring::{restore_form, take_form, told_of};
+pub use form_restoring::{restore_form, restore_form_with};
 pub use frame_reader::FrameReader;
-pub use restorer::Restorer;
-pub use restoring::{restore, take_restored};
-pub use taker::Taker;
+pub use restoring::{restore, restore_with};
+pub use told::Restored;
+pub use writer::Writer;

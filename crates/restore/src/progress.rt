@@ -40,7 +40,7 @@ fn are_bits(line: &[u8]) -> bool
 }
 
 /// Writes the bits of a line.
-fn write_bits(line: &[u8], bits: &mut [bool])
+pub(crate) fn write_bits(line: &[u8], bits: &mut [bool])
     requires { length line.now ≡ length bits.old }
     ensures { bits.new ≡ line_bits line.now }
 {
@@ -95,15 +95,6 @@ impl Progress {
         ensures { result.now ≡ self.now.bits.items }
     {
         self.bits.as_slice()
-    }
-
-    /// Writes the bits of a line in place of those of the frame that was found last.
-    pub(crate) fn write(&mut self, line: &[u8])
-        requires { length line.now ≡ length self.old.bits.items }
-        ensures bits { self.new.bits.items ≡ line_bits line.now }
-        ensures place { self.new.place ≡ self.old.place }
-    {
-        write_bits(line, self.bits.as_mut_slice());
     }
 
     /// Where the reading is.

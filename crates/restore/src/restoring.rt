@@ -1,154 +1,161 @@
-//! Restoring whole sources.
-ghost use Rattle.std.specs.Prelude.{◌≡◌, ◌<◌, ℕ, List, [], Option, None, Some, Err, true, false, length, IfErr, IfOk, IfSome, IsOk, OnErr, OnOk, ◌⊎◌};
+//! Restoring counterexamples over engine forms.
+ghost use Rattle.std.specs.Prelude.{◌≡◌, ◌<◌, ℕ, List, [], None, Some, Ok, Err, true, false, length, IfErr, IfOk, IfSome, IsErr, IsOk, OnOk, ◌⊎◌};
 ghost use Rattle.std.specs.Io.KnownBytes.{Appends, IsAtEnd};
-ghost use Rattle.base.specs.Device.{AppendsBeginning, CountsFaults};
+ghost use Rattle.base.specs.Device.{AppendsBeginning};
+ghost use Rattle.base.specs.declared.pen.Pen.{Pen as PenValue};
+ghost use Rattle.base.specs.Writing.{WritesText};
+ghost use Rattle.aiger.specs.Circuit.{Circuit, IsCircuit};
 ghost use Rattle.engine_form.specs.EngineForm.{input_count};
 ghost use Rattle.witness.specs.BitJudgements.{BitJudges};
 ghost use Rattle.witness.specs.Accepted.{BitAcceptsExactly};
 ghost use Rattle.restore.specs.declared.fault.RestoreWhy.TheVariants as why;
 ghost use Rattle.restore.specs.Accepted.{FindsAgain};
-ghost use Rattle.restore.specs.Answers.{CountsRestore, PutsOwed, WritesOwedLines, TakesAllOwed, WritesAll};
+ghost use Rattle.restore.specs.Answers.{CountsRestore, Restores};
 ghost use Rattle.restore.specs.Faults.{is_of_text};
-ghost use Rattle.restore.specs.Judged.{judged, judgement_held};
-ghost use Rattle.restore.specs.Pieces.{Owed, owed, is_written};
+ghost use Rattle.restore.specs.Plays.{Play as PlayValue, IsFresh};
+ghost use Rattle.restore.specs.Putting.{HasTaken, TakesAll};
 ghost use Rattle.restore.specs.Reading.{read_found};
 ghost use Rattle.restore.specs.Restored.{restored_text};
-ghost use Rattle.restore.specs.Taking.{TakesPiece, IsPutInPieces};
+ghost use Rattle.restore.specs.Steps.{frames_to_come};
 
 use crate::fault::{RestoreFault, RestoreWhy};
+use crate::frame_reader::FrameReader;
 use crate::laws::restored_text_is_accepted;
 use crate::restorer::Restorer;
-use crate::taker::{AsItIs, Taker};
+use crate::told::Restored;
+use crate::width::input_count;
+use crate::writer::{AsItIs, Writer};
 use aiger::Circuit;
-use base::{Outbox, Sink, Source};
+use base::{DeviceFault, Pen, Sink, Source};
 use std::alloc::Global;
 use witness::Judgement;
 
-/// Hands a piece on.
+/// The answer of a sink.
 ///
-/// Error: the sink's own.
-pub(crate) fn hand_on<T: Taker, K: Sink>(
-    taker: &mut T,
-    outbox: &mut Outbox,
-    sink: &mut K,
-    piece: &[u8],
-) -> Result<(), RestoreFault>
-    ensures takes { TakesPiece T.stands T.put_for result (K.written sink.old)
-        (K.written sink.new) outbox.old outbox.new taker.old taker.new piece.now }
-    ensures fault { IfErr result (λ e. e ≡ record { line = 0; why = why.Write }) }
-    ensures counted { CountsFaults result (K.failures sink.old) (K.failures sink.new) }
+/// Error: where it failed.
+pub(crate) fn written(answer: Result<(), DeviceFault>) -> Result<(), RestoreFault>
+    ensures ok { OnOk result (answer ≡ Ok tt) }
+    ensures err { IfErr result (λ e. IsErr answer × (e ≡ record { line = 0; why = why.Write })) }
 {
-    match taker.take_piece(outbox, sink, piece) {
+    match answer {
         Ok(()) => Ok(()),
         Err(_) => Err(RestoreFault::apart(RestoreWhy::Write)),
     }
 }
 
-/// Hands on each piece of what a source is restored to.
+/// Takes all frames of a source, and puts their lines.
 ///
 /// Errors: the source's own, the sink's, and the text's.
-fn hand_on_all<S: Source, T: Taker, K: Sink>(
+fn take_frames<S: Source, W: Writer, K: Sink>(
+    reader: &mut FrameReader,
     restorer: &mut Restorer<'_>,
-    taker: &mut T,
-    outbox: &mut Outbox,
+    writer: &W,
+    pen: &mut Pen,
     source: &mut S,
     sink: &mut K,
 ) -> Result<(), RestoreFault>
-    requires unread { restorer.old.reader.rest ≡ [] }
-    requires unsent { outbox.old ≡ [] }
-    requires begins { is_written restorer.old.stage ≡ false }
-    ensures takes { IfSome (S.to_come source.old) (λ text. (o : T.Over) → IsPutInPieces T.put_for
-        → T.stands o taker.old [] → TakesAllOwed T.stands T.put_for result
-        (owed restorer.old text) o taker.new (K.written sink.old) (K.written sink.new) outbox.new) }
-    ensures judges { OnOk result (IfSome (S.to_come source.old)
-        (λ text. judged restorer.old text ≡ judgement_held restorer.new)) }
+    requires unread { reader.old.rest ≡ [] }
+    requires width { length reader.old.frame ≡ input_count restorer.old.circuit }
+    requires well { pen.old.answer ≡ Ok tt }
+    ensures takes { IfSome (S.to_come source.old) (λ text. (start : K) (from : PenValue)
+        (first : PlayValue)
+        → HasTaken (W.put_for writer.now) K.written K.failures start sink.old from pen.old first []
+        restorer.old
+        → TakesAll result (W.put_for writer.now) K.written K.failures start sink.new from pen.new
+        first restorer.new (frames_to_come reader.old text)) }
     ensures end { OnOk result (IsAtEnd (S.to_come source.new)) }
     ensures read_on { IfErr result (λ e. is_of_text e.why ≡ true → IsAtEnd (S.to_come source.new)) }
     ensures line { IfErr result (λ e. is_of_text e.why ≡ false → e.line ≡ 0) }
+    ensures writes { (text : List ℕ) × WritesText K.written K.failures sink.old sink.new pen.old pen.new
+        text }
     ensures counted { CountsRestore result (S.failures source.old) (S.failures source.new)
         (K.failures sink.old) (K.failures sink.new) }
 {
-    while restorer.advance(source)? {
-        hand_on(taker, outbox, sink, restorer.piece())?;
+    while reader.advance(source)? {
+        restorer.take_frame(writer, pen, sink, reader.frame());
+        written(pen.answer)?;
     }
     Ok(())
 }
 
-/// Writes what the outbox keeps.
-///
-/// Error: the sink's own.
-fn write_rest<K: Sink>(outbox: &mut Outbox, sink: &mut K) -> Result<(), RestoreFault>
-    ensures ok { OnOk result (Appends (K.written sink.old) (K.written sink.new) outbox.old) }
-    ensures err { OnErr result (AppendsBeginning (K.written sink.old)
-        (K.written sink.new) outbox.old) }
-    ensures fault { IfErr result (λ e. e ≡ record { line = 0; why = why.Write }) }
-    ensures counted { CountsFaults result (K.failures sink.old) (K.failures sink.new) }
-{
-    match outbox.flush(sink) {
-        Ok(()) => Ok(()),
-        Err(_) => Err(RestoreFault::apart(RestoreWhy::Write)),
-    }
-}
-
-/// Writes what the outbox keeps, where all was put, and then tells what was told of that.
+/// Puts the line behind the frames of a text with which nothing is wrong, and writes what the pen keeps, where all frames were
+/// taken.
 ///
 /// Error: that which was told, or the sink's own.
-pub(crate) fn end<K: Sink>(
+fn end<W: Writer, K: Sink>(
     told: Result<(), RestoreFault>,
-    outbox: &mut Outbox,
+    restorer: &Restorer<'_>,
+    writer: &W,
+    pen: &mut Pen,
     sink: &mut K,
-) -> Result<(), RestoreFault>
-    ensures writes { (more : Owed) (start : Option (List ℕ))
-        → PutsOwed told more start (K.written sink.old) outbox.old
-        → WritesOwedLines result more start (K.written sink.new) }
+) -> Result<Restored, RestoreFault>
+    ensures ends { (start : K) (from : PenValue) (first : PlayValue) (c : Circuit) (k : ℕ)
+        (text : List ℕ) → from.outbox ≡ [] → from.answer ≡ Ok tt → IsCircuit c
+        → k < length c.bads → IsFresh c k first
+        → TakesAll told (W.put_for writer.now) K.written K.failures start sink.old from pen.old first
+        restorer.now (read_found (input_count c) text)
+        → Restores result (W.put_for writer.now) c k (K.written start) (K.written sink.new) text }
     ensures same { IfErr result (λ e. (told ≡ Err e) ⊎ (e ≡ record { line = 0; why = why.Write })) }
     ensures right { OnOk result (IsOk told) }
-    ensures counted { (old new before : ℕ) → CountsRestore told old new before (K.failures sink.old)
-        → CountsRestore result old new before (K.failures sink.new) }
+    ensures counted { (start : K) (from : PenValue) (text : List ℕ) (old new : ℕ)
+        → from.outbox ≡ [] → from.answer ≡ Ok tt
+        → WritesText K.written K.failures start sink.old from pen.old text
+        → CountsRestore told old new (K.failures start) (K.failures sink.old)
+        → CountsRestore result old new (K.failures start) (K.failures sink.new) }
 {
     match told {
-        Ok(()) => write_rest(outbox, sink),
+        Ok(()) => {
+            restorer.put_end(writer, pen, sink);
+            written(pen.finish(sink))?;
+            Ok(restorer.told())
+        }
         Err(fault) => {
             if fault.why.is_of_text() {
-                write_rest(outbox, sink)?;
+                written(pen.finish(sink))?;
             }
             Err(fault)
         }
     }
 }
 
-/// Reads the text of a counterexample to its end, hands what it is restored to on to what takes it, and writes what that puts
-/// for it.
+/// Restores as `restore` does, and writes what a writer writes for each line in place of it. The answer has beside the
+/// judgement the claimed property with the first frame in which it is 1.
 ///
-/// Condition: the restorer is at the begin of the text.
+/// Condition: the circuit has the claimed property.
 ///
-/// Errors: the text's first faulty line, once the source was read to its end and what is put for what the lines before it
-/// give was written. With line 0: `Device` where the source failed in this call, `Write` where the sink did, and `NoMemory`
-/// where a growth was refused; a beginning of what is put for all was written then.
-pub fn take_restored<S: Source, T: Taker, K: Sink>(
-    restorer: &mut Restorer<'_>,
-    taker: &mut T,
+/// Errors: those of `restore`.
+pub fn restore_with<S: Source, W: Writer, K: Sink>(
+    alloc: Global,
+    circuit: &Circuit,
+    claim: usize,
+    writer: &W,
     source: &mut S,
     sink: &mut K,
-) -> Result<(), RestoreFault>
-    requires unread { restorer.old.reader.rest ≡ [] }
-    requires begins { is_written restorer.old.stage ≡ false }
-    ensures writes { IfSome (S.to_come source.old) (λ text. (o : T.Over) → IsPutInPieces T.put_for
-        → T.stands o taker.old [] → WritesAll T.stands T.put_for result
-        (owed restorer.old text) o taker.new (K.written sink.old) (K.written sink.new)) }
-    // and the restorer's judgement is that of the whole, where nothing is wrong with the text
-    ensures judges { OnOk result (IfSome (S.to_come source.old)
-        (λ text. judged restorer.old text ≡ judgement_held restorer.new)) }
+) -> Result<Restored, RestoreFault>
+    requires { claim < length circuit.now.bads }
+    ensures restores { IfSome (S.to_come source.old)
+        (Restores result (W.put_for writer.now) circuit.now claim (K.written sink.old)
+        (K.written sink.new)) }
+    ensures apart { IfErr result (λ e. is_of_text e.why ≡ false → e.line ≡ 0) }
     ensures end { OnOk result (IsAtEnd (S.to_come source.new)) }
     ensures read_on { IfErr result (λ e. is_of_text e.why ≡ true → IsAtEnd (S.to_come source.new)) }
-    ensures line { IfErr result (λ e. is_of_text e.why ≡ false → e.line ≡ 0) }
     // the source failed once where that is told, the sink where that is, and else neither
     ensures counted { CountsRestore result (S.failures source.old) (S.failures source.new)
         (K.failures sink.old) (K.failures sink.new) }
 {
-    let mut outbox = Outbox::new();
-    let told = hand_on_all(restorer, taker, &mut outbox, source, sink);
-    end(told, &mut outbox, sink)
+    let _inputs = circuit.inputs();
+    let mut reader = FrameReader::new(alloc, input_count(circuit))?;
+    let mut restorer = Restorer::new(alloc, circuit, claim)?;
+    let mut pen = Pen::new();
+    let told = take_frames(
+        &mut reader,
+        &mut restorer,
+        writer,
+        &mut pen,
+        source,
+        sink,
+    );
+    end(told, &restorer, writer, &mut pen, sink)
 }
 
 /// Reads the text of a counterexample over the engine form of a circuit to its end, and writes what it is restored to: the
@@ -207,9 +214,8 @@ pub fn restore<S: Source, K: Sink>(
     witness::bit_laws::exactly_one_bit_judgement();
     witness::bit_laws::accepted_exactly();
     let _inputs = circuit.inputs();
-    let mut restorer = Restorer::new(alloc, circuit, claim)?;
-    match take_restored(&mut restorer, &mut AsItIs, source, sink) {
-        Ok(()) => Ok(restorer.judgement()),
+    match restore_with(alloc, circuit, claim, &AsItIs, source, sink) {
+        Ok(told) => Ok(told.judgement),
         Err(fault) => Err(fault),
     }
 }

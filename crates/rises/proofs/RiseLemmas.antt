@@ -1,7 +1,7 @@
 -- First rises, position by position, and those of one frame more.
-use Rattle.std.proofs.Common.{◌≡◌, ℕ, zero, suc, ◌+◌, ◌<◌, ◌≤◌, Bool, true, false, cond, ◌&&◌, ◌||◌, List, [], ◌∷◌, ◌++◌, Option, Some, None, option_map, map, length, slice_get, set, replicate, inl, inr, refl, sym, ap, ap₂, ◌∙◌, arith}
+use Rattle.std.proofs.Common.{◌≡◌, ℕ, zero, suc, ◌+◌, ◌<◌, ◌≤◌, nat_eq, Bool, true, false, cond, ◌&&◌, ◌||◌, List, [], ◌∷◌, ◌++◌, Option, Some, None, option_map, map, length, slice_get, set, replicate, inl, inr, refl, sym, ap, ap₂, ◌∙◌, arith}
 use Rattle.std.specs.List.{list_any, position_from}
-use Rattle.std.proofs.lemmas.Bool.{cases_lt}
+use Rattle.std.proofs.lemmas.Bool.{cases_lt, ne_eqb, eq-eqb}
 use Rattle.std.proofs.lemmas.Option.{slice_get_past}
 use Rattle.base.specs.Shown.{Shown, is_bad_in, rises_in_some}
 use Rattle.witness.proofs.GrowthLemmas.{Alike}
@@ -119,3 +119,38 @@ module _ (claimed : ℕ → Bool) (shown : List Shown) (s : Shown) (n : ℕ) whe
                 ∙ (ap Some (ap₂ (λ (b : Bool) (m : ℕ). noted b m (at claimed shown k)) (reaches k) number ∙ more_at k) ∙ sym (rises_there claimed all n k h))
             | inr h ↦ from k None (rises_past claimed shown n k h) ∙ sym (rises_past claimed all n k h)
           ]
+
+-- ---- one claim
+
+none_claimed : (claim : ℕ) (shown : List Shown) (i n : ℕ) → claim < i → replicate n None ≡ first_rises_from (λ k. nat_eq claim k) shown i n
+none_claimed claim shown i zero h = refl
+none_claimed claim shown i (suc n) h =
+    let other : nat_eq claim i ≡ false = ne_eqb claim i (λ e. omega (arith, h, e)) in
+    ap₂ (λ (o : Option ℕ) (l : List (Option ℕ)). o ∷ l) (sym (ap (λ (b : Bool). cond b (first_rise shown i) None) other)) (none_claimed claim shown (suc i) n (omega (arith, h)))
+
+set_at : (shown : List Shown) (i j n : ℕ) → set (replicate n None) j (first_rise shown (i + j)) ≡ first_rises_from (λ k. nat_eq (i + j) k) shown i n
+set_at shown i j zero = refl
+set_at shown i zero (suc n) =
+    let here : i + 0 ≡ i = omega arith in
+    let own : nat_eq (i + 0) i ≡ true = eq-eqb (i + 0) i here in
+    ap₂ (λ (o : Option ℕ) (l : List (Option ℕ)). o ∷ l) (ap (first_rise shown) here ∙ sym (ap (λ (b : Bool). cond b (first_rise shown i) None) own)) (none_claimed (i + 0) shown (suc i) n (omega arith))
+set_at shown i (suc j) (suc n) =
+    let other : nat_eq (i + suc j) i ≡ false = ne_eqb (i + suc j) i (λ e. omega (arith, e)) in
+    let same : i + suc j ≡ suc i + j = omega arith in
+    ap₂ (λ (o : Option ℕ) (l : List (Option ℕ)). o ∷ l) (sym (ap (λ (b : Bool). cond b (first_rise shown i) None) other))
+    (ap (λ (m : ℕ). set (replicate n None) j (first_rise shown m)) same ∙ set_at shown (suc i) j n ∙ ap (λ (m : ℕ). first_rises_from (λ k. nat_eq m k) shown (suc i) n) (sym same))
+
+-- where one bad property is claimed, its first rise is that of all
+pub one_claim : (claim : ℕ) (shown : List Shown) (n : ℕ) → set (replicate n None) claim (first_rise shown claim) ≡ first_rises_from (λ k. nat_eq claim k) shown 0 n
+one_claim claim shown n =
+    let same : 0 + claim ≡ claim = omega arith in
+    ap (λ (m : ℕ). set (replicate n None) claim (first_rise shown m)) (sym same) ∙ set_at shown 0 claim n ∙ ap (λ (m : ℕ). first_rises_from (λ k. nat_eq m k) shown 0 n) same
+
+-- and where it rises nowhere, none does
+pub no_claim : (claim : ℕ) (shown : List Shown) (n : ℕ) → first_rise shown claim ≡ None → replicate n None ≡ first_rises_from (λ k. nat_eq claim k) shown 0 n
+no_claim claim shown n none = sym (set_none n claim) ∙ ap (set (replicate n None) claim) (sym none) ∙ one_claim claim shown n
+  where
+    set_none : (n j : ℕ) → let no : Option ℕ = None in set (replicate n no) j no ≡ replicate n no
+    set_none zero j = refl
+    set_none (suc n) zero = refl
+    set_none (suc n) (suc j) = ap (λ (l : List (Option ℕ)). None ∷ l) (set_none n j)

@@ -37,13 +37,6 @@ fn note(judge: &BitJudge<'_>, firsts: &mut FirstRises, frame: u64)
     }
 }
 
-/// Of how many bad properties notes are taken: of all of a circuit, or of none.
-fn noted_count(circuit: &Circuit, noted: bool) -> usize
-    ensures { result ≡ if noted then length circuit.now.bads else 0 }
-{
-    if noted { circuit.bads().len() } else { 0 }
-}
-
 impl<'a> BitNoter<'a> {
     /// Of the empty text, with notes or without.
     ///
@@ -53,7 +46,7 @@ impl<'a> BitNoter<'a> {
             (λ fault. fault ≡ NewFault.NoMemory) }
     {
         let judge = BitJudge::new(alloc, circuit)?;
-        match FirstRises::new(alloc, noted_count(circuit, noted)) {
+        match FirstRises::of_circuit(alloc, circuit, noted) {
             Ok(firsts) => Ok(BitNoter { judge, firsts }),
             Err(_) => Err(NewFault::NoMemory),
         }

@@ -1,7 +1,8 @@
 //! The frames in which claims are first reached.
-ghost use Rattle.std.specs.Prelude.{◌≡◌, ◌<◌, None, IfOk, option_and_then, length, replicate, slice_get, slice_index_or, slice_set};
+ghost use Rattle.std.specs.Prelude.{◌≡◌, ◌<◌, None, Some, IfOk, if◌then◌else◌, option_and_then, length, replicate, slice_get, slice_index_or, slice_set};
 ghost use Rattle.rises.specs.Notes.{noted};
 
+use aiger::Circuit;
 use std::alloc::{AllocError, Global};
 
 /// For each bad property of a model or of a circuit, in file order, the first frame in which it is 1, counted from 0, where
@@ -38,6 +39,29 @@ impl FirstRises {
     {
         let frames = vec![in alloc; None; count]?;
         Ok(FirstRises { frames })
+    }
+
+    /// Of the bad properties of a circuit, of which none is noted yet, where notes are asked for; else of none.
+    ///
+    /// Error: a growth was refused.
+    pub fn of_circuit(
+        alloc: Global,
+        circuit: &Circuit,
+        asked: bool,
+    ) -> Result<FirstRises, AllocError>
+        ensures { IfOk result (λ r. r ≡ replicate (if asked then length circuit.now.bads else 0) None) }
+    {
+        let count = if asked { circuit.bads().len() } else { 0 };
+        FirstRises::new(alloc, count)
+    }
+
+    /// Notes the first frame of a bad property that is there, in place of what was noted before.
+    pub fn set(&mut self, position: usize, frame: u64)
+        ensures { self.new ≡ slice_set self.old position (Some frame) }
+    {
+        if position < self.frames.len() {
+            self.frames[position] = Some(frame);
+        }
     }
 
     /// How many bad properties there are.

@@ -4,24 +4,21 @@
 ghost use Rattle.std.specs.Prelude.{◌≡◌, ◌<◌, length, [], false, None};
 ghost use Rattle.blast.specs.Lowering.{Lowers};
 ghost use Rattle.engine_form.specs.EngineForm.{IsEngineFormOf};
-ghost use Rattle.restore.specs.Pieces.{is_written};
 
-use crate::made::{expect_none, over_circuit, over_model};
+use crate::made::{expect_none, over_model};
 use crate::texts::{Part, Word, push_part, text_before, text_of};
 use aiger::Circuit;
 use base::{Chop, FailAt, Sink, VecSink};
 use blast::lower;
 use btor2::Model;
 use engine_form::engine_form;
-use library_tests::samples::Comparing;
 use lift::{lift_form, lift_restored};
 use restore::{
-    FrameReader, RestoreFault, RestoreWhy, Restorer, restore, restore_form, take_form,
-    take_restored, told_of,
+    FrameReader, RestoreFault, RestoreWhy, restore, restore_form,
 };
 use std::alloc::{AllocError, Global};
 use std::test::Fail;
-use witness::{BitJudge, Judgement, Why, judge_bits, judge_words};
+use witness::{Judgement, Why, judge_bits, judge_words};
 
 /// Three sorts, a word of ones, and the beginning of a number's line.
 const SORTS: &str = "1 sort bitvec 1\n2 sort bitvec 14\n3 sort bitvec 64\n4 ones 3\n5 constd 2 ";
@@ -403,13 +400,8 @@ fn sources_that_fail(rt: HostRuntime) -> Result<(), Fail> {
     expect_restored(rt.alloc(), &NARROW, 0, &FAILURES)
 }
 
-/// A latch without an initial value that keeps its bit, and is bad where that is 1.
-const KEEPER: &str = "aag 1 0 1 0 0 1\n2 2 2\n2\n";
-
-/// The text of a counterexample over its engine form, and the witness that it is of the circuit.
+/// The text of a counterexample with two frames of one bit.
 const FOUND: &[u8] = b"00\n1\n0\n# DONE\n";
-
-const RESTORED: &[u8] = b"1\nb0\n1\n\n.\n";
 
 /// Whether a reader gives its frames.
 fn gives_frames(reader: &mut FrameReader) -> bool {
@@ -430,134 +422,7 @@ fn are_frames_read(alloc: Global) -> bool {
     }
 }
 
-/// The pieces of that.
-const RESTORED_PIECES: [&str; 4] = ["1\nb0\n", "1\n", "\n", ".\n"];
-
-/// Whether a restorer gives its pieces.
-fn gives_pieces(restorer: &mut Restorer<'_>) -> bool {
-    let mut source = FOUND;
-    let mut are_given = true;
-    for piece in &RESTORED_PIECES {
-        are_given &= restorer.advance(&mut source) == Ok(true);
-        are_given &= restorer.piece() == piece.as_bytes();
-    }
-    are_given & (restorer.advance(&mut source) == Ok(false))
-}
-
-/// Whether its pieces are made.
-fn are_pieces_made(alloc: Global, circuit: &Circuit) -> bool
-    requires { 0 < length circuit.now.bads }
-{
-    match Restorer::new(alloc, circuit, 0) {
-        Ok(mut restorer) => gives_pieces(&mut restorer),
-        Err(_) => false,
-    }
-}
-
-/// Whether a judge takes the pieces of a restorer.
-fn takes_pieces(restorer: &mut Restorer<'_>, mut judge: BitJudge<'_>) -> bool
-    requires unread { restorer.old.reader.rest ≡ [] }
-    requires begins { is_written restorer.old.stage ≡ false }
-{
-    let mut sink = Comparing::new(RESTORED);
-    let told = take_restored(restorer, &mut judge, &mut FOUND, &mut sink);
-    let is_written = (told == Ok(())) & sink.is_whole();
-    is_written & (judge.finish() == Judgement::Accepted { frames: 1 })
-}
-
-/// Whether a judge that is made does.
-fn is_taker_made(alloc: Global, circuit: &Circuit, restorer: &mut Restorer<'_>) -> bool
-    requires unread { restorer.old.reader.rest ≡ [] }
-    requires begins { is_written restorer.old.stage ≡ false }
-{
-    match BitJudge::new(alloc, circuit) {
-        Ok(judge) => takes_pieces(restorer, judge),
-        Err(_) => false,
-    }
-}
-
-/// Whether a judge takes its pieces.
-fn are_pieces_taken(alloc: Global, circuit: &Circuit) -> bool
-    requires { 0 < length circuit.now.bads }
-{
-    match Restorer::new(alloc, circuit, 0) {
-        Ok(mut restorer) => is_taker_made(alloc, circuit, &mut restorer),
-        Err(_) => false,
-    }
-}
-
-/// Whether a witness is accepted over the form with two frames, and over the circuit with one.
-fn is_restored(over: Result<Judgement, RestoreFault>, restored: Judgement) -> bool {
-    match over {
-        Ok(over) => {
-            over == Judgement::Accepted { frames: 2 }
-                && told_of(over, restored) == Judgement::Accepted { frames: 1 }
-        }
-        Err(_) => false,
-    }
-}
-
-/// Whether a judge takes what the witness of the form is restored to, with what is told of that.
-fn is_witness_taken_by(
-    alloc: Global,
-    circuit: &Circuit,
-    form: &Circuit,
-    mut judge: BitJudge<'_>,
-) -> bool
-    requires { IsEngineFormOf circuit.now None form.now }
-{
-    let mut source = b"1\nb0\n00\n1\n0\n.\n".as_slice();
-    let mut sink = Comparing::new(RESTORED);
-    let over = take_form(
-        alloc,
-        circuit,
-        form,
-        None,
-        &mut judge,
-        &mut source,
-        &mut sink,
-    );
-    sink.is_whole() & is_restored(over, judge.finish())
-}
-
-/// Whether a judge that is made does.
-fn is_taken_over(alloc: Global, circuit: &Circuit, form: &Circuit) -> bool
-    requires { IsEngineFormOf circuit.now None form.now }
-{
-    match BitJudge::new(alloc, circuit) {
-        Ok(judge) => is_witness_taken_by(alloc, circuit, form, judge),
-        Err(_) => false,
-    }
-}
-
-/// The same over the engine form of the circuit.
-fn is_witness_taken(alloc: Global, circuit: &Circuit) -> bool {
-    match engine_form(alloc, circuit, None) {
-        Ok(form) => is_taken_over(alloc, circuit, &form),
-        Err(_) => false,
-    }
-}
-
-/// Whether frames are read; and whether pieces are made and taken, and what the witness is restored to.
-fn are_taken(alloc: Global, circuit: &Circuit) -> (bool, bool, bool, bool) {
-    if circuit.bads().is_empty() {
-        return (false, false, false, false);
-    }
-    (
-        are_frames_read(alloc),
-        are_pieces_made(alloc, circuit),
-        are_pieces_taken(alloc, circuit),
-        is_witness_taken(alloc, circuit),
-    )
-}
-
 #[test]
-fn frames_pieces_and_takers(rt: HostRuntime) -> Result<(), Fail> {
-    let alloc = rt.alloc();
-    let are = over_circuit(
-        alloc,
-        KEEPER.as_bytes(),
-        |circuit| are_taken(alloc, circuit),
-    )?;
-    expect_none((are != (true, true, true, true)).then_some(are))
+fn frames(rt: HostRuntime) -> Result<(), Fail> {
+    expect_none((!are_frames_read(rt.alloc())).then_some(()))
 }

@@ -1,32 +1,26 @@
-use Rattle.std.proofs.Common.{rules, ◌≡◌, ℕ, List, Ok, Err}
+use Rattle.std.proofs.Common.{ℕ, List, subst}
 use Rattle.std.specs.Io.KnownBytes.{Appends}
-use Rattle.witness.specs.BitJudgements.{BitJudges}
+use Rattle.base.specs.Device.{AppendsBeginning}
 use Rattle.witness.proofs.FeedLemmas.{if_some_then}
-use Rattle.restore.specs.FormWitness.{form_restored_text, TakesRestored}
-use Rattle.restore.proofs.FormEndLemmas.{nothing_written}
-use Rattle.restore.proofs.FormWitnessLemmas.{told_judged}
-use Rattle.restore.proofs.TakingLemmas.{as_they_are}
+use Rattle.restore.specs.Answers.{form_lines_put, IsRestoredForm}
+use Rattle.restore.specs.FormWitness.{form_restored_text, FormJudges}
+use Rattle.restore.specs.Putting.{as_it_is}
+use Rattle.restore.proofs.FormWitnessLemmas.{as_they_are}
 use Rattle.restore.proofs.form_restoring.restore_form.Goals as goal
 
+pub returns-in-Ok-clause-judged : goal.returns-in-Ok-clause-judged
+returns-in-Ok-clause-judged g c =
+    if_some_then (g.S.Source.to_come c.args.source.now) (λ (text : List ℕ). IsRestoredForm as_it_is c.args.circuit.now c.args.choice c.args.form.now (g.K.Sink.written c.args.sink.now) (g.K.Sink.written c.restore_form_with.new.sink) text c.in-Ok.told)
+    (λ (text : List ℕ). FormJudges c.args.circuit.now c.args.choice c.args.form.now text c.in-Ok.told.judgement) (λ text t. t.judged) c.in-Ok.ensures.restores
+
+pub returns-in-Ok-clause-written : goal.returns-in-Ok-clause-written
+returns-in-Ok-clause-written g c =
+    if_some_then (g.S.Source.to_come c.args.source.now) (λ (text : List ℕ). IsRestoredForm as_it_is c.args.circuit.now c.args.choice c.args.form.now (g.K.Sink.written c.args.sink.now) (g.K.Sink.written c.restore_form_with.new.sink) text c.in-Ok.told)
+    (λ (text : List ℕ). Appends (g.K.Sink.written c.args.sink.now) (g.K.Sink.written c.restore_form_with.new.sink) (form_restored_text c.args.circuit.now c.args.choice c.args.form.now text))
+    (λ text t. subst (Appends (g.K.Sink.written c.args.sink.now) (g.K.Sink.written c.restore_form_with.new.sink)) (as_they_are c.args.circuit.now c.args.choice c.args.form.now text) t.written) c.in-Ok.ensures.restores
+
 pub returns-in-Err-clause-beginning : goal.returns-in-Err-clause-beginning
-returns-in-Err-clause-beginning g c = nothing_written _ _ (form_restored_text c.args.circuit.now c.args.choice c.args.form.now)
-
-pub returns-clause-judged : goal.returns-clause-judged
-returns-clause-judged g c =
-    let judged = if_some_then (g.S.Source.to_come c.args.source.now)
-    (TakesRestored {O = Unit {0}} (λ o taker t. Unit {0}) (λ o t. t) (Ok c.finish.result) c.args.circuit.now c.args.choice c.args.form.now tt c.take_all.new.taker (g.K.Sink.written c.args.sink.now) (g.K.Sink.written c.take_all.new.sink))
-    (λ (text : List ℕ). BitJudges c.args.form.now text c.finish.result) (λ text t. t.0) (c.in_ok-restored.ensures.takes c.finish.result tt as_they_are (c.finish.ensures.judged c.args.form.now) tt) in
-    rw c.over_or_restored.ensures
-    (told_judged (g.S.Source.to_come c.args.source.now) c.args.circuit.now c.args.choice c.args.form.now c.finish.result c.in_ok-restored.restored c.bit_texts_read.ensures.said c.exactly_one_trace.ensures.exists c.requires judged (c.in_ok-restored.ensures.restored tt as_they_are tt))
-
-pub returns-clause-written : goal.returns-clause-written
-returns-clause-written g c =
-    if_some_then (g.S.Source.to_come c.args.source.now)
-    (TakesRestored {O = Unit {0}} (λ o taker t. Unit {0}) (λ o t. t) (Ok c.finish.result) c.args.circuit.now c.args.choice c.args.form.now tt c.take_all.new.taker (g.K.Sink.written c.args.sink.now) (g.K.Sink.written c.take_all.new.sink))
-    (λ (text : List ℕ). Appends (g.K.Sink.written c.args.sink.now) (g.K.Sink.written c.take_all.new.sink) (form_restored_text c.args.circuit.now c.args.choice c.args.form.now text)) (λ text t. t.1.1)
-    (c.in_ok-restored.ensures.takes c.finish.result tt as_they_are (c.finish.ensures.judged c.args.form.now) tt)
-
-pub returns-in_err-restored-clause-beginning : goal.returns-in_err-restored-clause-beginning
-returns-in_err-restored-clause-beginning g c =
-    let same : c.from_residual.result ≡ Err c.in_err-restored.field-0.0 = search rules in
-    rw same (c.in_err-restored.ensures.beginning tt as_they_are tt)
+returns-in-Err-clause-beginning g c =
+    if_some_then (g.S.Source.to_come c.args.source.now) (λ (text : List ℕ). AppendsBeginning (g.K.Sink.written c.args.sink.now) (g.K.Sink.written c.restore_form_with.new.sink) (form_lines_put as_it_is c.args.circuit.now c.args.choice c.args.form.now text))
+    (λ (text : List ℕ). AppendsBeginning (g.K.Sink.written c.args.sink.now) (g.K.Sink.written c.restore_form_with.new.sink) (form_restored_text c.args.circuit.now c.args.choice c.args.form.now text))
+    (λ text t. subst (AppendsBeginning (g.K.Sink.written c.args.sink.now) (g.K.Sink.written c.restore_form_with.new.sink)) (as_they_are c.args.circuit.now c.args.choice c.args.form.now text) t) c.in-Err.ensures.restores

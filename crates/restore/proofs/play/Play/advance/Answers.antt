@@ -1,4 +1,4 @@
-use Rattle.std.proofs.Common.{◌≡◌, ℕ, Bool, false, ◌&&◌, List, Option, None, is_none, is_some, length, get_or, sym, ap, ap₂, ◌∙◌}
+use Rattle.std.proofs.Common.{◌≡◌, ℕ, Bool, false, not, ◌&&◌, List, Option, None, is_none, is_some, length, get_or, refl, sym, ap, ap₂, subst, ◌∙◌}
 use Rattle.std.specs.Option.{option_or}
 use Rattle.std.proofs.lemmas.List.{length-map, length-replicate}
 use Rattle.aiger.specs.declared.circuit.Latch.{Latch}
@@ -10,9 +10,9 @@ use Rattle.runs.specs.CircuitRun.{CircuitRun, no_inputs, settle_steps}
 use Rattle.witness.specs.Judgements.{Violation, violated_at}
 use Rattle.witness.specs.BitPlays.{first_bit_violated}
 use Rattle.restore.specs.Frames.{frame_of}
-use Rattle.restore.specs.Pieces.{Play as PlayValue, played, rises_with}
-use Rattle.restore.proofs.JudgedFrameLemmas.{met_more}
-use Rattle.restore.proofs.PlayLemmas.{by_other, settled_circuit, settled_now}
+use Rattle.restore.specs.Plays.{Play as PlayValue, are_too_many, played}
+use Rattle.restore.proofs.PlayedLemmas.{met_more}
+use Rattle.restore.proofs.PlayLemmas.{by_other, settled_circuit, settled_now, is_played}
 use Rattle.restore.proofs.play.Play.advance.Goals as goal
 
 pub invariant_of-self : goal.invariant_of-self
@@ -34,8 +34,8 @@ invariant_of-self c =
       claim = inv.claim;
     }
 
-pub returns-clause-rises : goal.returns-clause-rises
-returns-clause-rises c =
+pub returns : goal.returns
+returns c =
     let k : Circuit = c.self.inside.circuit.now in
     let inv = c.self.invariant in
     let steps : ℕ = more_steps (settle_steps c.give_inputs.new.run.circuit) c.give_inputs.new.run.steps in
@@ -45,22 +45,8 @@ returns-clause-rises c =
     let v : Valuation = frame_of k c.self.inside.run.latches c.args.inputs.now in
     let breach : c.note_breach.new.found ≡ option_or c.self.inside.breach (violated_at c.self.inside.frames (first_bit_violated k v) None) =
     c.note_breach.ensures ∙ ap (λ (o : Option ℕ). option_or c.self.inside.breach (violated_at c.self.inside.frames o None)) (c.first_violated-violated.ensures v now) in
-    ap₂ (λ (a b : Bool). a && b) (c.bad-bad.ensures v now ∙ ap (λ (m : Circuit). literal_value v (get_or m.bads c.self.inside.claim 0)) circuit)
-    (by_other c.is_none.result (is_some c.note_breach.new.found) c.is_none.ensures ∙ ap is_none breach ∙ met_more k c.self.inside.frames c.self.inside.breach v)
-    ∙ ap (λ (p : PlayValue). rises_with p c.args.inputs.now) c.self.view_is
-
-pub returns-clause-played : goal.returns-clause-played
-returns-clause-played c =
-    let k : Circuit = c.self.inside.circuit.now in
-    let inv = c.self.invariant in
-    let steps : ℕ = more_steps (settle_steps c.give_inputs.new.run.circuit) c.give_inputs.new.run.steps in
-    let many : length c.args.inputs.now ≡ k.inputs = c.requires ∙ ap (λ (p : PlayValue). p.circuit.inputs) (sym c.self.view_is) in
-    let now = settled_now k c.self.inside.run c.give_inputs.new.run steps c.args.inputs.now inv.valid inv.circuit inv.latches many c.give_inputs.ensures.circuit c.give_inputs.ensures.latches c.give_inputs.ensures.inputs c.settle.new.self c.settle.ensures in
-    let circuit : c.settle.new.self.circuit ≡ k = settled_circuit k c.self.inside.run c.give_inputs.new.run steps inv.circuit c.give_inputs.ensures.circuit c.settle.new.self c.settle.ensures in
-    let v : Valuation = frame_of k c.self.inside.run.latches c.args.inputs.now in
-    let breach : c.note_breach.new.found ≡ option_or c.self.inside.breach (violated_at c.self.inside.frames (first_bit_violated k v) None) =
-    c.note_breach.ensures ∙ ap (λ (o : Option ℕ). option_or c.self.inside.breach (violated_at c.self.inside.frames o None)) (c.first_violated-violated.ensures v now) in
-    let now_is : List Bool → ℕ → Option Violation → PlayValue = λ state frames breach. record { circuit = k; claim = c.self.inside.claim; state = state; frames = frames; breach = breach; begins = c.self.inside.begins.items } in
-    ap₂ (λ (state : List Bool) (breach : Option Violation). now_is state c.saturating_add-self-inside.result breach) (c.advance.ensures.latches v now ∙ ap (λ (m : Circuit). next_latch_bits m v) circuit) breach
-    ∙ ap (λ (n : ℕ). now_is (next_latch_bits k v) n (option_or c.self.inside.breach (violated_at c.self.inside.frames (first_bit_violated k v) None))) c.saturating_add-self-inside.ensures
+    let bad = c.bad-is_bad.ensures v now ∙ ap (λ (m : Circuit). literal_value v (get_or m.bads c.self.inside.claim 0)) circuit in
+    let met = by_other c.is_none.result (is_some c.note_breach.new.found) c.is_none.ensures ∙ ap is_none breach ∙ met_more k c.self.inside.frames c.self.inside.breach v in
+    is_played k c.self.inside.claim c.self.inside.run.latches c.args.inputs.now c.self.inside.frames c.self.inside.breach c.self.inside.begins.items c.self.inside.first c.self.inside.risen
+    (c.advance.ensures.latches v now ∙ ap (λ (m : Circuit). next_latch_bits m v) circuit) c.saturating_add-self-inside.ensures breach c.first_with-self-inside.ensures bad c.are_too_many.ensures met
     ∙ ap (λ (p : PlayValue). played p c.args.inputs.now) c.self.view_is
