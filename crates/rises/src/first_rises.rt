@@ -49,7 +49,8 @@ impl FirstRises {
         circuit: &Circuit,
         asked: bool,
     ) -> Result<FirstRises, AllocError>
-        ensures { IfOk result (λ r. r ≡ replicate (if asked then length circuit.now.bads else 0) None) }
+        ensures { IfOk result (λ r. r ≡ replicate (if asked then length circuit.now.bads else 0)
+            None) }
     {
         let count = if asked { circuit.bads().len() } else { 0 };
         FirstRises::new(alloc, count)
