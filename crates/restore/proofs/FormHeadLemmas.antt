@@ -5,9 +5,9 @@ use Rattle.base.specs.Lines.{IsLine}
 use Rattle.aiger.specs.Circuit.{Circuit, IsCircuit}
 use Rattle.witness.specs.Texts.{claim}
 use Rattle.witness.specs.BitAdmits.{BitRead, admitted_lines, is_done}
-use Rattle.witness.specs.BitStands.{BitJudge, StandsForBits}
-use Rattle.witness.proofs.TextEndLemmas.{unfinished-line_end}
-use Rattle.restore.specs.FormSteps.{read_of, FormAt, IsHead, IsClaimed}
+use Rattle.witness.specs.declared.bit_lines.BitLines.{BitLines}
+use Rattle.witness.specs.BitStands.{StandsForBitLines}
+use Rattle.restore.specs.FormSteps.{read_of, IsHead, IsClaimed}
 use Rattle.restore.proofs.FormLineLemmas.{Same, More, read_more, claim_line, status_line}
 
 few_bads : (d : Circuit) → IsCircuit d → length d.bads < 2 ^ 64
@@ -30,15 +30,12 @@ added d text line is (inl s) =
     absurd (cc (is, same))
 added d text line is (inr m) = m
 
-module _ (d : Circuit) (judge judge' : BitJudge) (text line : List ℕ) (valid : IsCircuit d) (is_line : IsLine line) (head : IsHead d judge text) (stands : StandsForBits d judge' (text ++ (line ++ 10 ∷ []))) where
+module _ (d : Circuit) (judge judge' : BitLines) (text line : List ℕ) (valid : IsCircuit d) (is_line : IsLine line) (head : IsHead d judge text) (stands : StandsForBitLines d judge' (text ++ (line ++ 10 ∷ []))) where
   abbrev more : List ℕ
   more = text ++ (line ++ 10 ∷ [])
 
   cases : Same d text more ⊎ More d text line more
-  cases = read_more d text line head.at.whole is_line
-
-  at : FormAt d judge' more
-  at = record { stands = stands; whole = unfinished-line_end text line }
+  cases = read_more d text line head.at.1 is_line
 
   pub head_claims : (result : ℕ) → IsAdmitted d text line true → admitted_lines d text ≡ 1 → ((i : ℕ) → i < 2 ^ 64 → line ≡ claim i → result ≡ i) → IsClaimed d judge' more result
   head_claims result is one by =
@@ -49,7 +46,7 @@ module _ (d : Circuit) (judge judge' : BitJudge) (text line : List ℕ) (valid :
       let same : result ≡ c.index = by c.index (omega (arith, below, few)) c.spelled in
       let count = m.count in
       record {
-        at = at;
+        at = stands;
         many = omega (arith, count, one);
         claim = ap (λ (r : BitRead). r.claim) c.says ∙ sym same;
         no_frame = ap (λ (r : BitRead). r.frames) c.says ∙ head.no_frame;
@@ -59,7 +56,7 @@ module _ (d : Circuit) (judge judge' : BitJudge) (text line : List ℕ) (valid :
 
   same_head : Same d text more → IsHead d judge' more
   same_head s = record {
-    at = at;
+    at = stands;
     few = let c = s.count in let f = head.few in omega (arith, c, f);
     no_frame = ap (λ (r : BitRead). r.frames) s.read ∙ head.no_frame;
     not_done = ap (λ (r : BitRead). is_done r.place) s.read ∙ head.not_done;
@@ -79,7 +76,7 @@ module _ (d : Circuit) (judge judge' : BitJudge) (text line : List ℕ) (valid :
           let next = status_line d (read_of d text) (read_of d more) line (admitted_lines d text) (read_of d text).place none m.placed m.reads in
           let count = m.count in
           record {
-            at = at;
+            at = stands;
             few = omega (arith, count, none);
             no_frame = ap (λ (r : BitRead). r.frames) next ∙ head.no_frame;
             not_done = ap (λ (r : BitRead). is_done r.place) next;

@@ -12,12 +12,12 @@ use Rattle.base.proofs.PenLemmas.{writes_then, writes_none}
 use Rattle.aiger.specs.Circuit.{Circuit}
 use Rattle.engine_form.specs.EngineForm.{IsEngineFormOf, input_count}
 use Rattle.witness.specs.BitAdmits.{BitPlace, BitRead, admitted_lines, is_done}
-use Rattle.witness.specs.BitStands.{BitJudge, StandsForBits}
-use Rattle.witness.proofs.TextEndLemmas.{unfinished-line_end}
+use Rattle.witness.specs.declared.bit_lines.BitLines.{BitLines}
+use Rattle.witness.specs.BitStands.{StandsForBitLines}
 use Rattle.restore.specs.declared.fault.RestoreFault.{RestoreFault}
 use Rattle.restore.specs.declared.told.Restored.{Restored}
 use Rattle.restore.specs.Answers.{CountsRestore, form_lines_put}
-use Rattle.restore.specs.FormSteps.{read_of, FormAt, IsClaimed, read_put, FormHolds, ReadsClaim, TellsRead, ReadsForm}
+use Rattle.restore.specs.FormSteps.{read_of, IsClaimed, read_put, FormHolds, ReadsClaim, TellsRead, ReadsForm}
 use Rattle.restore.specs.FormWitness.{property_of, restored_frame_lines, last_line, read_restored_lines}
 use Rattle.restore.specs.Plays.{Play, IsFresh, play_told, taken}
 use Rattle.restore.specs.Putting.{put_lines, frames_put, end_put, HasTaken}
@@ -32,8 +32,8 @@ use Rattle.restore.proofs.ToldLemmas.{end_lines}
 
 -- ---- one line
 
-module _ {K : Type 0} (put : ℕ → List ℕ → List ℕ) (written : K → Option (List ℕ)) (failures : K → ℕ) (start s : K) (from pen : Pen) (d : Circuit) (judge judge' : BitJudge) (first p : Play) (j : ℕ) (text line : List ℕ) (is_line : IsLine line) (h : FormHolds put written failures start s from pen d judge first p j text)
-    (stands : StandsForBits d judge' (text ++ (line ++ 10 ∷ []))) where
+module _ {K : Type 0} (put : ℕ → List ℕ → List ℕ) (written : K → Option (List ℕ)) (failures : K → ℕ) (start s : K) (from pen : Pen) (d : Circuit) (judge judge' : BitLines) (first p : Play) (j : ℕ) (text line : List ℕ) (is_line : IsLine line) (h : FormHolds put written failures start s from pen d judge first p j text)
+    (stands : StandsForBitLines d judge' (text ++ (line ++ 10 ∷ []))) where
   abbrev more : List ℕ
   more = text ++ (line ++ 10 ∷ [])
 
@@ -41,10 +41,7 @@ module _ {K : Type 0} (put : ℕ → List ℕ → List ℕ) (written : K → Opt
   r = read_of d text
 
   cases : Same d text more ⊎ More d text line more
-  cases = read_more d text line h.at.whole is_line
-
-  at : FormAt d judge' more
-  at = record { stands = stands; whole = unfinished-line_end text line }
+  cases = read_more d text line h.at.1 is_line
 
   abbrev Holds : K → Pen → Play → Type 0
   Holds t q p' = FormHolds put written failures start t from q d judge' first p' j more
@@ -56,7 +53,7 @@ module _ {K : Type 0} (put : ℕ → List ℕ → List ℕ) (written : K → Opt
       let count = s'.count in
       let many = h.many in
       record {
-        at = at;
+        at = stands;
         many = omega (arith, count, many);
         claim = ap (λ (x : BitRead). x.claim) s'.read ∙ h.claim;
         play = h.play ∙ ap (λ (x : BitRead). taken first x.frames) (sym s'.read);
@@ -72,7 +69,7 @@ module _ {K : Type 0} (put : ℕ → List ℕ → List ℕ) (written : K → Opt
       let m = added d text line is cases in
       let i = initial_line d r (read_of d more) line (admitted_lines d text) r.place two m.placed m.reads in
       record {
-        at = at;
+        at = stands;
         many = longer m;
         claim = ap (λ (x : BitRead). x.claim) i.1.0 ∙ h.claim;
         play = h.play ∙ ap (λ (x : BitRead). taken first x.frames) (sym i.1.0);
@@ -92,7 +89,7 @@ module _ {K : Type 0} (put : ℕ → List ℕ → List ℕ) (written : K → Opt
       let m = added d text line is cases in
       let e = end_line d r (read_of d more) line (admitted_lines d text) r.place (many_of other) end m.placed m.reads in
       record {
-        at = at;
+        at = stands;
         many = longer m;
         claim = ap (λ (x : BitRead). x.claim) e.0 ∙ h.claim;
         play = h.play ∙ ap (λ (x : BitRead). taken first x.frames) (sym e.0);
@@ -111,7 +108,7 @@ module _ {K : Type 0} (put : ℕ → List ℕ → List ℕ) (written : K → Opt
       let f = frame_line d r (read_of d more) line (admitted_lines d text) r.place (many_of other) end m.placed m.reads in
       let now = takes f.0.many r.frames (record { play = h.play; writes = subst (WritesText written failures start s from pen) (going_put f.1) h.writes }) in
       record {
-        at = at;
+        at = stands;
         many = longer m;
         claim = ap (λ (x : BitRead). x.claim) f.0.says ∙ h.claim;
         play = now.play ∙ ap (λ (x : BitRead). taken first x.frames) (sym f.0.says);
@@ -120,17 +117,17 @@ module _ {K : Type 0} (put : ℕ → List ℕ → List ℕ) (written : K → Opt
 
 -- ---- lines of a source
 
-abbrev pub FormGiven : {K : Type 0} → (ℕ → List ℕ → List ℕ) → (K → Option (List ℕ)) → (K → ℕ) → ℕ → Option (List ℕ) → Option (List ℕ) → K → K → Pen → Pen → BitJudge → BitJudge → Play → Play → Type 0
+abbrev pub FormGiven : {K : Type 0} → (ℕ → List ℕ → List ℕ) → (K → Option (List ℕ)) → (K → ℕ) → ℕ → Option (List ℕ) → Option (List ℕ) → K → K → Pen → Pen → BitLines → BitLines → Play → Play → Type 0
 FormGiven {K} put written failures width known now s t pen q judge judge' p p' =
     (start : K) (from : Pen) (d : Circuit) (first : Play) (j : ℕ) (whole : Option (List ℕ)) (front : List ℕ) → d.inputs ≡ width → Consumes whole known front → FormHolds put written failures start s from pen d judge first p j front
     → (longer : List ℕ) × (Consumes whole now longer × FormHolds put written failures start t from q d judge' first p' j longer)
 
 module _ {K : Type 0} (put : ℕ → List ℕ → List ℕ) (written : K → Option (List ℕ)) (failures : K → ℕ) (width : ℕ) where
-  pub form_nothing : (known : Option (List ℕ)) (s : K) (pen : Pen) (judge : BitJudge) (p : Play) → FormGiven put written failures width known known s s pen pen judge judge p p
+  pub form_nothing : (known : Option (List ℕ)) (s : K) (pen : Pen) (judge : BitLines) (p : Play) → FormGiven put written failures width known known s s pen pen judge judge p p
   form_nothing known s pen judge p start from d first j whole front wide consumes h = (front, (consumes, h))
 
-  module _ (known now after : Option (List ℕ)) (s t : K) (pen q : Pen) (j1 j2 : BitJudge) (p1 p2 : Play) (g : FormGiven put written failures width known now s t pen q j1 j2 p1 p2) where
-    pub form_more : (u : K) (q' : Pen) (j3 : BitJudge) (p3 : Play) (line : List ℕ) → Consumes now after (line ++ 10 ∷ [])
+  module _ (known now after : Option (List ℕ)) (s t : K) (pen q : Pen) (j1 j2 : BitLines) (p1 p2 : Play) (g : FormGiven put written failures width known now s t pen q j1 j2 p1 p2) where
+    pub form_more : (u : K) (q' : Pen) (j3 : BitLines) (p3 : Play) (line : List ℕ) → Consumes now after (line ++ 10 ∷ [])
         → ((start : K) (from : Pen) (d : Circuit) (first : Play) (j : ℕ) (text : List ℕ) → d.inputs ≡ width → FormHolds put written failures start t from q d j2 first p2 j text → FormHolds put written failures start u from q' d j3 first p3 j (text ++ (line ++ 10 ∷ [])))
         → FormGiven put written failures width known after s u pen q' j1 j3 p1 p3
     form_more u q' j3 p3 line moved takes start from d first j whole front wide consumes h =
@@ -155,7 +152,7 @@ part_given None now front P a h = tt
 part_given (Some xs) None front P a h = absurd a
 part_given (Some xs) (Some ys) front P a h = subst P (sym a) (h ys)
 
-module _ {K : Type 0} (put : ℕ → List ℕ → List ℕ) (written : K → Option (List ℕ)) (failures : K → ℕ) (start s : K) (from pen : Pen) (c : Circuit) (choice : Option ℕ) (d : Circuit) (judge : BitJudge) (first p : Play) (j k : ℕ) (text : List ℕ) (kept : from.outbox ≡ []) (well : from.answer ≡ Ok tt) (form : IsEngineFormOf c choice d)
+module _ {K : Type 0} (put : ℕ → List ℕ → List ℕ) (written : K → Option (List ℕ)) (failures : K → ℕ) (start s : K) (from pen : Pen) (c : Circuit) (choice : Option ℕ) (d : Circuit) (judge : BitLines) (first p : Play) (j k : ℕ) (text : List ℕ) (kept : from.outbox ≡ []) (well : from.answer ≡ Ok tt) (form : IsEngineFormOf c choice d)
     (is_fresh : IsFresh c k first) (below : k < length c.bads) (is : property_of choice j ≡ k) (h : FormHolds put written failures start s from pen d judge first p j text) where
   abbrev read : BitRead
   read = read_of d text
@@ -194,7 +191,7 @@ module _ {K : Type 0} (put : ℕ → List ℕ → List ℕ) (written : K → Opt
       let same = same_read d text rest line in
       Consumes-whole whole known (text ++ rest) (ReadsForm (Ok (play_told p)) put c choice d judge rest (written start) (written t)) (prepended whole known text rest consumes) end (
         text,
-        (refl, (h.at.stands, (
+        (refl, (h.at, (
           subst (λ (x : BitRead). TellsRead c (property_of choice x.claim) x.frames (play_told p)) (sym same) tells,
           subst (Appends (written start) (written t)) (lines_read ∙ ap (λ (x : BitRead). put_lines put 0 (read_restored_lines c choice x)) (sym same)) appends,
         ))),
@@ -210,7 +207,7 @@ module _ {K : Type 0} (put : ℕ → List ℕ → List ℕ) (written : K → Opt
       (beginning_longer (written start) new (put_lines put 0 (read_restored_lines c choice read)) (put_lines put (0 + length (read_restored_lines c choice read)) lines.0) (subst (AppendsBeginning (written start) new) lines_read begun)))
 
 -- right behind the claim
-pub form_claimed : {K : Type 0} {put : ℕ → List ℕ → List ℕ} {written : K → Option (List ℕ)} {failures : K → ℕ} {s : K} {pen : Pen} {d : Circuit} {judge : BitJudge} {first : Play} {j : ℕ} {front : List ℕ} → IsClaimed d judge front j → FormHolds put written failures s s pen pen d judge first first j front
+pub form_claimed : {K : Type 0} {put : ℕ → List ℕ → List ℕ} {written : K → Option (List ℕ)} {failures : K → ℕ} {s : K} {pen : Pen} {d : Circuit} {judge : BitLines} {first : Play} {j : ℕ} {front : List ℕ} → IsClaimed d judge front j → FormHolds put written failures s s pen pen d judge first first j front
 form_claimed {put = put} {written = written} {failures = failures} {s = s} {pen = pen} {d = d} {judge = judge} {first = first} {j = j} {front = front} h =
     let many = h.many in
     record {
@@ -226,7 +223,7 @@ pub counted_behind : {J : Type 0} (r : Result J RestoreFault) (old mid new put p
 counted_behind r old mid new put put' same counted = subst (λ (n : ℕ). CountsRestore r n new put put') same counted
 
 -- no claim was made, so that nothing is restored
-pub none_claimed : (put : ℕ → List ℕ → List ℕ) (c : Circuit) (choice : Option ℕ) (d : Circuit) (judge : BitJudge) (rest : List ℕ) (source known old : Option (List ℕ)) (told : Restored) → told.first ≡ None → ReadsClaim (Ok None) d source (prepend_known rest known) judge → IsAtEnd known → IsLine rest
+pub none_claimed : (put : ℕ → List ℕ → List ℕ) (c : Circuit) (choice : Option ℕ) (d : Circuit) (judge : BitLines) (rest : List ℕ) (source known old : Option (List ℕ)) (told : Restored) → told.first ≡ None → ReadsClaim (Ok None) d source (prepend_known rest known) judge → IsAtEnd known → IsLine rest
     → IfSome source (ReadsForm (Ok told) put c choice d judge rest old old)
 none_claimed put c choice d judge rest source known old told none reads end line =
     let front : List ℕ = reads.0 in
@@ -237,7 +234,7 @@ none_claimed put c choice d judge rest source known old told none reads end line
     ∙ ap₂ (λ (fs : List (List Bool)) (b : Bool). put_lines put 0 (restored_frame_lines c (property_of choice (read_of d front).claim) fs ++ last_line b)) head.no_frame head.not_done in
     Consumes-whole source known (front ++ rest) (ReadsForm (Ok told) put c choice d judge rest old old) (prepended source known front rest reads.1.0) end (
       front,
-      (refl, (head.at.stands, (
+      (refl, (head.at, (
         subst (λ (fs : List (List Bool)). TellsRead c (property_of choice (read_of d (front ++ rest)).claim) fs told) (sym (ap (λ (x : BitRead). x.frames) same ∙ head.no_frame)) none,
         subst (Appends old old) (sym nothing) (Appends-nil old),
       ))),

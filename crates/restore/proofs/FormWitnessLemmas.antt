@@ -18,12 +18,13 @@ use Rattle.engine_form.specs.EngineForm.{begins, input_count, chosen, has_chosen
 use Rattle.witness.specs.declared.judgement.Judgement.{Judgement}
 use Rattle.witness.specs.declared.judgement.Judgement.TheVariants as judgement
 use Rattle.witness.specs.declared.why.Why.{Why}
-use Rattle.witness.specs.Judgements.{Violation, first_of, JudgesAs, violation_from, unreached_from, verdict}
+use Rattle.witness.specs.Judgements.{Violation, first_of, unplayed, JudgesAs, violation_from, unreached_from, verdict}
 use Rattle.witness.specs.Texts.{most_lines}
 use Rattle.witness.specs.Readings.{Reading, Fault, refused_for, read_or_fault, last_refusal, is_nothing, reading}
 use Rattle.witness.specs.BitTexts.{BitWitness, bit_line, bit_witness_lines, BitSays}
 use Rattle.witness.specs.BitAdmits.{BitRead, bit_reader, admitted_lines, is_done, read_bit_text, bit_witness_of}
-use Rattle.witness.specs.BitStands.{BitJudge, StandsForBits}
+use Rattle.witness.specs.declared.bit_lines.BitLines.{BitLines}
+use Rattle.witness.specs.BitStands.{StandsForBitLines}
 use Rattle.witness.specs.Reached.{bits_said_in}
 use Rattle.witness.proofs.GrowthLemmas.{bit_trace_exists}
 use Rattle.witness.specs.Fits.{breach_from}
@@ -40,7 +41,7 @@ use Rattle.restore.specs.Putting.{as_it_is}
 use Rattle.restore.proofs.TakenLemmas.{put_as_they_are}
 use Rattle.restore.specs.FormSteps.{TellsRead, ReadsForm}
 use Rattle.restore.specs.Plays.{Play, play_judgement, play_told, taken}
-use Rattle.restore.specs.FormWitness.{property_of, restored_frame_lines, last_line, read_restored_lines, read_restored, form_restored_text, unplayed, FormJudges, IsFoundAgain}
+use Rattle.restore.specs.FormWitness.{property_of, restored_frame_lines, last_line, read_restored_lines, read_restored, form_restored_text, FormJudges, IsFoundAgain}
 use Rattle.witness.proofs.BitReadLemmas.{many_lines}
 use Rattle.restore.proofs.RiseLemmas.{says_of, accepted_of}
 use Rattle.restore.proofs.FormBeginLemmas.{done_has_frames, claim_read}
@@ -258,10 +259,10 @@ module _ (c : Circuit) (choice : Option ℕ) (d : Circuit) (text : List ℕ) (to
 -- ---- all together
 
 -- what is judged over the form, which its lines alone say or not
-abbrev pub SaysOver : Circuit → BitJudge → List ℕ → Option Judgement → Type 0
-SaysOver d judge rest over = (text : List ℕ) (j : Judgement) → IsCircuit d → StandsForBits d judge text → BitJudges d (text ++ rest) j → over ≡ unplayed j
+abbrev pub SaysOver : Circuit → BitLines → List ℕ → Option Judgement → Type 0
+SaysOver d judge rest over = (text : List ℕ) (j : Judgement) → IsCircuit d → StandsForBitLines d judge text → BitJudges d (text ++ rest) j → over ≡ unplayed j
 
-pub form_told : (put : ℕ → List ℕ → List ℕ) (c : Circuit) (choice : Option ℕ) (d : Circuit) (judge : BitJudge) (rest : List ℕ) (source old new : Option (List ℕ)) (told : Restored) (over : Option Judgement) → Said → HasTraces → ((c : Circuit) (text : List ℕ) → IsCircuit c → (j : Judgement) × BitJudges c text j)
+pub form_told : (put : ℕ → List ℕ → List ℕ) (c : Circuit) (choice : Option ℕ) (d : Circuit) (judge : BitLines) (rest : List ℕ) (source old new : Option (List ℕ)) (told : Restored) (over : Option Judgement) → Said → HasTraces → ((c : Circuit) (text : List ℕ) → IsCircuit c → (j : Judgement) × BitJudges c text j)
     → IsEngineFormOf c choice d → IfSome source (ReadsForm (Ok told) put c choice d judge rest old new) → SaysOver d judge rest over
     → IfSome source (RestoresForm (Ok (record told { judgement = unwrap_or over told.judgement })) put c choice d old new)
 form_told put c choice d judge rest None old new told over said traces judgements form reads says = tt

@@ -57,9 +57,3 @@ pub record IsFoundAgain (c : Circuit) (choice : Option ℕ) (d : Circuit) (text 
 -- so it is of each text that is accepted over the form
 abbrev pub FindsWitnessAgain : Circuit → Option ℕ → Circuit → List ℕ → Type 0
 FindsWitnessAgain c choice d text = (frames : ℕ) → BitJudges d text (judgement.Accepted frames) → IsFoundAgain c choice d text
-
--- what the lines of a witness alone say of it: that it makes no claim, or which line is faulty
-abbrev pub unplayed : Judgement → Option Judgement
-unplayed judgement.NoClaim = Some judgement.NoClaim
-unplayed (judgement.Malformed line w) = Some (judgement.Malformed line w)
-unplayed _ = None

@@ -5,7 +5,7 @@ ghost use Rattle.base.specs.Lines.{IsLine};
 ghost use Rattle.aiger.specs.Circuit.{Circuit, IsCircuit};
 ghost use Rattle.witness.specs.Texts.{claim};
 ghost use Rattle.witness.specs.BitAdmits.{admitted_lines};
-ghost use Rattle.witness.specs.BitStands.{StandsForBits};
+ghost use Rattle.witness.specs.BitStands.{StandsForBitLines};
 ghost use Rattle.restore.specs.Answers.{CountsRestore};
 ghost use Rattle.restore.specs.Faults.{is_of_text};
 ghost use Rattle.restore.specs.FormSteps.{IsHead, IsHeadOrClaimed, ReadsClaim};
@@ -13,14 +13,14 @@ ghost use Rattle.restore.specs.FormSteps.{IsHead, IsHeadOrClaimed, ReadsClaim};
 use crate::fault::RestoreFault;
 use crate::marks::unread;
 use base::{LineReader, Source, decimal};
-use witness::BitJudge;
+use witness::BitLines;
 
 /// Feeds a judge with a whole line, and answers whether it is admitted.
-pub(crate) fn admits(judge: &mut BitJudge<'_>, line: &[u8]) -> bool
+pub(crate) fn admits(judge: &mut BitLines<'_>, line: &[u8]) -> bool
     requires { IsLine line.now }
-    ensures judged { (d : Circuit) (text : List ℕ) → StandsForBits d judge.old text
-        → StandsForBits d judge.new (text ++ (line.now ++ 10 ∷ [])) }
-    ensures admitted { (d : Circuit) (text : List ℕ) → StandsForBits d judge.old text
+    ensures judged { (d : Circuit) (text : List ℕ) → StandsForBitLines d judge.old text
+        → StandsForBitLines d judge.new (text ++ (line.now ++ 10 ∷ [])) }
+    ensures admitted { (d : Circuit) (text : List ℕ) → StandsForBitLines d judge.old text
         → result ≡ not (admitted_lines d (text ++ (line.now ++ 10 ∷ [])) == admitted_lines d text) }
 {
     let number = judge.admitted_lines();
@@ -43,7 +43,7 @@ fn claim_of(line: &[u8]) -> usize
 }
 
 /// Takes a line before the frames, and answers what it claims, where it is admitted as that of the claim.
-fn take_head_line(judge: &mut BitJudge<'_>, line: &[u8]) -> Option<usize>
+fn take_head_line(judge: &mut BitLines<'_>, line: &[u8]) -> Option<usize>
     requires { IsLine line.now }
     ensures { (d : Circuit) (text : List ℕ) → IsCircuit d → IsHead d judge.old text
         → IsHeadOrClaimed d judge.new (text ++ (line.now ++ 10 ∷ [])) result }
@@ -64,11 +64,11 @@ fn take_head_line(judge: &mut BitJudge<'_>, line: &[u8]) -> Option<usize>
 /// Errors: `Device` where the source failed, and `NoMemory` where a growth was refused.
 pub(crate) fn read_claim<S: Source>(
     lines: &mut LineReader,
-    judge: &mut BitJudge<'_>,
+    judge: &mut BitLines<'_>,
     source: &mut S,
 ) -> Result<Option<usize>, RestoreFault>
     requires { lines.old.rest ≡ [] }
-    ensures reads { (d : Circuit) → IsCircuit d → StandsForBits d judge.old []
+    ensures reads { (d : Circuit) → IsCircuit d → StandsForBitLines d judge.old []
         → ReadsClaim result d (S.to_come source.old)
         (prepend_known lines.new.rest (S.to_come source.new)) judge.new }
     ensures end { IfOk result (λ claim. claim ≡ None → IsAtEnd (S.to_come source.new)) }

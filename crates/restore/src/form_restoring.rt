@@ -9,17 +9,16 @@ ghost use Rattle.base.specs.Writing.{WritesText};
 ghost use Rattle.aiger.specs.Circuit.{Circuit, IsCircuit};
 ghost use Rattle.engine_form.specs.EngineForm.{IsEngineFormOf, input_count};
 ghost use Rattle.witness.specs.declared.judgement.Judgement.{Judgement};
-ghost use Rattle.witness.specs.BitJudgements.{BitJudges};
-ghost use Rattle.witness.specs.BitStands.{StandsForBits};
+ghost use Rattle.witness.specs.BitStands.{StandsForBitLines};
 ghost use Rattle.restore.specs.Answers.{CountsRestore, RestoresForm};
 ghost use Rattle.restore.specs.Faults.{is_of_text};
 ghost use Rattle.restore.specs.FormSteps.{FormHolds, IsClaimed, ReadsForm};
-ghost use Rattle.restore.specs.FormWitness.{property_of, form_restored_text, FormJudges, FindsWitnessAgain, unplayed};
+ghost use Rattle.restore.specs.FormWitness.{property_of, form_restored_text, FormJudges, FindsWitnessAgain};
 ghost use Rattle.restore.specs.Plays.{Play as PlayValue};
 ghost use Rattle.restore.specs.Putting.{HasTaken};
 ghost use Rattle.restore.specs.Reading.{line_bits};
 
-use crate::fault::{RestoreFault, RestoreWhy};
+use crate::fault::RestoreFault;
 use crate::form_claim::{admits, read_claim};
 use crate::form_laws::accepted_over_the_form_is_found_again;
 use crate::marks::unread;
@@ -32,7 +31,7 @@ use crate::writer::{AsItIs, Writer};
 use aiger::Circuit;
 use base::{LineReader, Pen, Sink, Source};
 use std::alloc::Global;
-use witness::{BitJudge, Judgement, Why};
+use witness::{BitLines, Judgement, Why};
 
 /// Whether two lines are one.
 fn same_line(one: &[u8], other: &[u8]) -> bool
@@ -73,7 +72,7 @@ fn take_frame<W: Writer, K: Sink>(
 fn take_later_line<W: Writer, K: Sink>(
     restorer: &mut Restorer<'_>,
     bits: &mut [bool],
-    judge: &mut BitJudge<'_>,
+    judge: &mut BitLines<'_>,
     writer: &W,
     pen: &mut Pen,
     sink: &mut K,
@@ -113,7 +112,7 @@ fn take_lines<S: Source, W: Writer, K: Sink>(
     lines: &mut LineReader,
     restorer: &mut Restorer<'_>,
     bits: &mut [bool],
-    judge: &mut BitJudge<'_>,
+    judge: &mut BitLines<'_>,
     writer: &W,
     pen: &mut Pen,
     source: &mut S,
@@ -168,7 +167,7 @@ fn take_frames<S: Source, W: Writer, K: Sink>(
     circuit: &Circuit,
     claim: usize,
     lines: &mut LineReader,
-    judge: &mut BitJudge<'_>,
+    judge: &mut BitLines<'_>,
     writer: &W,
     source: &mut S,
     sink: &mut K,
@@ -211,13 +210,13 @@ fn take_all<S: Source, W: Writer, K: Sink>(
     form: &Circuit,
     choice: Option<usize>,
     lines: &mut LineReader,
-    judge: &mut BitJudge<'_>,
+    judge: &mut BitLines<'_>,
     writer: &W,
     source: &mut S,
     sink: &mut K,
 ) -> Result<Restored, RestoreFault>
     requires is_form { IsEngineFormOf circuit.now choice form.now }
-    requires begins { StandsForBits form.now judge.old [] }
+    requires begins { StandsForBitLines form.now judge.old [] }
     requires unread { lines.old.rest ≡ [] }
     ensures reads { IfSome (S.to_come source.old) (ReadsForm result (W.put_for writer.now)
         circuit.now choice form.now judge.new lines.new.rest (K.written sink.old)
@@ -252,23 +251,6 @@ fn take_all<S: Source, W: Writer, K: Sink>(
             },
             first: None,
         }),
-    }
-}
-
-/// What the lines of a witness alone say of it, of which the judge has taken the whole ones, and these bytes are behind them:
-/// that it makes no claim, or which line is faulty.
-fn over_lines(judge: BitJudge<'_>, rest: &[u8]) -> Option<Judgement>
-    ensures { (d : Circuit) (text : List ℕ) (j : Judgement) → IsCircuit d
-        → StandsForBits d judge.entry text → BitJudges d (text ++ rest.now) j
-        → result ≡ unplayed j }
-{
-    witness::bit_laws::exactly_one_bit_judgement();
-    let mut judge = judge;
-    judge.feed(rest);
-    match judge.finish() {
-        Judgement::NoClaim => Some(Judgement::NoClaim),
-        Judgement::Malformed { line, why } => Some(Judgement::Malformed { line, why }),
-        _ => None,
     }
 }
 
@@ -312,23 +294,19 @@ pub fn restore_form_with<S: Source, W: Writer, K: Sink>(
     aiger::laws::exactly_one_trace();
     witness::bit_laws::bit_texts_read();
     witness::bit_laws::exactly_one_bit_judgement();
-    let mut judge = match BitJudge::new(alloc, form) {
-        Ok(judge) => judge,
-        Err(_) => return Err(RestoreFault::apart(RestoreWhy::NoMemory)),
-    };
+    let mut judge = BitLines::new(form);
     let mut lines = LineReader::new(alloc);
     let restored = take_all(
         alloc, circuit, form, choice, &mut lines, &mut judge, writer, source, sink,
     )?;
-    Ok(told_of(over_lines(judge, lines.rest()), restored))
+    Ok(told_of(judge.finish(lines.rest()), restored))
 }
 
 /// Reads a witness of the engine form of a circuit to its end, with all bad properties or the chosen one, and writes what it
 /// is restored to: the witness of the circuit with the property that it claims, up to and with the first frame in which this
 /// rises, or of all frames where it does not. The answer is that it makes no claim, or its first faulty line, before which
 /// what the lines give was written; else the judgement over the circuit of what is written. Of the text one line is held,
-/// and what one call of the source gives; beside it a run of the form, one of the circuit, two lines, and what one call of
-/// the sink takes.
+/// and what one call of the source gives; beside it a run of the circuit, two lines, and what one call of the sink takes.
 ///
 /// Condition: it is the engine form.
 ///

@@ -45,32 +45,6 @@ impl<'c> Model for Play<'c> {
     ghost invariant = { λ p. HoldsPlay p.circuit.now p.run p.claim (length p.begins.items) };
 }
 
-/// Gives each latch of a run its bit.
-fn give_states(run: &mut BitRun<'_>, bits: &[bool])
-    requires many { length bits.now ≡ length run.old.circuit.latches }
-    requires states { length run.old.latches ≡ length run.old.circuit.latches }
-    ensures latches { run.new.latches ≡ bits.now }
-    ensures inputs { run.new.inputs ≡ run.old.inputs }
-    ensures circuit { run.new.circuit ≡ run.old.circuit }
-{
-    for k in 0..bits.len() {
-        run.set_state(k, bits[k]);
-    }
-}
-
-/// Gives each input of a run its bit.
-fn give_inputs(run: &mut BitRun<'_>, bits: &[bool])
-    requires many { length bits.now ≡ run.old.circuit.inputs }
-    requires inputs { length run.old.inputs ≡ run.old.circuit.inputs }
-    ensures inputs { run.new.inputs ≡ bits.now }
-    ensures latches { run.new.latches ≡ run.old.latches }
-    ensures circuit { run.new.circuit ≡ run.old.circuit }
-{
-    for k in 0..bits.len() {
-        run.set_input(k, bits[k]);
-    }
-}
-
 /// Whether so many frames are too many for a witness, with the lines before them and behind.
 fn are_too_many(frames: u64) -> bool
     ensures { result ≡ are_too_many frames }
@@ -166,7 +140,7 @@ impl<'c> Play<'c> {
     {
         let (_, given) = frame.split_at(self.circuit.inputs() as usize);
         write_first_bits(self.circuit.latches(), given, self.begins.as_mut_slice());
-        give_states(&mut self.run, self.begins.as_slice());
+        self.run.set_states(self.begins.as_slice());
     }
 
     /// Plays the frame of these inputs.
@@ -174,7 +148,7 @@ impl<'c> Play<'c> {
         requires { length inputs.now ≡ self.old.circuit.inputs }
         ensures { self.new ≡ played self.old inputs.now }
     {
-        give_inputs(&mut self.run, inputs);
+        self.run.set_inputs(inputs);
         self.run.settle();
         let violated = first_violated(self.circuit, &self.run);
         let is_bad = self.run.bad(self.claim);

@@ -19,10 +19,10 @@ pub invariant_of-self : goal.invariant_of-self
 invariant_of-self c =
     let k : Circuit = c.self.inside.circuit.now in
     let inv = c.self.invariant in
-    let steps : ℕ = more_steps (settle_steps c.give_inputs.new.run.circuit) c.give_inputs.new.run.steps in
+    let steps : ℕ = more_steps (settle_steps c.set_inputs.new.self.circuit) c.set_inputs.new.self.steps in
     let many : length c.args.inputs.now ≡ k.inputs = c.requires ∙ ap (λ (p : PlayValue). p.circuit.inputs) (sym c.self.view_is) in
-    let now = settled_now k c.self.inside.run c.give_inputs.new.run steps c.args.inputs.now inv.valid inv.circuit inv.latches many c.give_inputs.ensures.circuit c.give_inputs.ensures.latches c.give_inputs.ensures.inputs c.settle.new.self c.settle.ensures in
-    let circuit : c.settle.new.self.circuit ≡ k = settled_circuit k c.self.inside.run c.give_inputs.new.run steps inv.circuit c.give_inputs.ensures.circuit c.settle.new.self c.settle.ensures in
+    let now = settled_now k c.self.inside.run c.set_inputs.new.self steps c.args.inputs.now inv.valid inv.circuit inv.latches many c.set_inputs.ensures c.settle.new.self c.settle.ensures in
+    let circuit : c.settle.new.self.circuit ≡ k = settled_circuit k c.self.inside.run c.set_inputs.new.self steps c.args.inputs.now inv.circuit c.set_inputs.ensures c.settle.new.self c.settle.ensures in
     let v : Valuation = frame_of k c.self.inside.run.latches c.args.inputs.now in
     record {
       valid = inv.valid;
@@ -38,10 +38,10 @@ pub returns : goal.returns
 returns c =
     let k : Circuit = c.self.inside.circuit.now in
     let inv = c.self.invariant in
-    let steps : ℕ = more_steps (settle_steps c.give_inputs.new.run.circuit) c.give_inputs.new.run.steps in
+    let steps : ℕ = more_steps (settle_steps c.set_inputs.new.self.circuit) c.set_inputs.new.self.steps in
     let many : length c.args.inputs.now ≡ k.inputs = c.requires ∙ ap (λ (p : PlayValue). p.circuit.inputs) (sym c.self.view_is) in
-    let now = settled_now k c.self.inside.run c.give_inputs.new.run steps c.args.inputs.now inv.valid inv.circuit inv.latches many c.give_inputs.ensures.circuit c.give_inputs.ensures.latches c.give_inputs.ensures.inputs c.settle.new.self c.settle.ensures in
-    let circuit : c.settle.new.self.circuit ≡ k = settled_circuit k c.self.inside.run c.give_inputs.new.run steps inv.circuit c.give_inputs.ensures.circuit c.settle.new.self c.settle.ensures in
+    let now = settled_now k c.self.inside.run c.set_inputs.new.self steps c.args.inputs.now inv.valid inv.circuit inv.latches many c.set_inputs.ensures c.settle.new.self c.settle.ensures in
+    let circuit : c.settle.new.self.circuit ≡ k = settled_circuit k c.self.inside.run c.set_inputs.new.self steps c.args.inputs.now inv.circuit c.set_inputs.ensures c.settle.new.self c.settle.ensures in
     let v : Valuation = frame_of k c.self.inside.run.latches c.args.inputs.now in
     let breach : c.note_breach.new.found ≡ option_or c.self.inside.breach (violated_at c.self.inside.frames (first_bit_violated k v) None) =
     c.note_breach.ensures ∙ ap (λ (o : Option ℕ). option_or c.self.inside.breach (violated_at c.self.inside.frames o None)) (c.first_violated-violated.ensures v now) in
