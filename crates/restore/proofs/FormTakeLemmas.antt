@@ -1,5 +1,5 @@
 -- Lines of a witness of an engine form are taken, and what is put for what they are restored to is written.
-use Rattle.std.proofs.Common.{◌≡◌, ℕ, ◌+◌, ◌<◌, ◌≤◌, ◌==◌, Bool, true, false, List, [], ◌∷◌, ◌++◌, codes, length, map, All, Option, Some, None, Result, Ok, Err, IfSome, refl, sym, ap, ap₂, subst, ◌∙◌, append_assoc, append-nil, arith, ◌⊎◌}
+use Rattle.std.proofs.Common.{◌≡◌, ℕ, ◌+◌, ◌<◌, ◌≤◌, Bool, true, false, List, [], ◌∷◌, ◌++◌, codes, length, All, Option, Some, None, Result, Ok, Err, IfSome, refl, sym, ap, ap₂, subst, ◌∙◌, append_assoc, append-nil, arith, ◌⊎◌}
 use Rattle.std.specs.Str.{bytes_eq}
 use Rattle.std.specs.Io.KnownBytes.{Appends, prepend_known, Consumes, Keeps, IsAtEnd}
 use Rattle.std.proofs.KnownBytes.{Appends-nil, Consumes-trans, Consumes-kept, Consumes-whole}
@@ -26,7 +26,6 @@ use Rattle.restore.proofs.FormBeginLemmas.{done_has_frames, restored_begins}
 use Rattle.restore.proofs.FormHeadLemmas.{IsAdmitted, passed, added}
 use Rattle.restore.proofs.FormLineLemmas.{Same, More, read_more, same_read, initial_line, end_line, frame_line}
 use Rattle.restore.proofs.FormWitnessLemmas.{wide_read}
-use Rattle.restore.proofs.PenLemmas.{begins}
 use Rattle.restore.proofs.TakenLemmas.{put_more}
 use Rattle.restore.proofs.ToldLemmas.{end_lines}
 
@@ -191,10 +190,16 @@ module _ {K : Type 0} (put : ℕ → List ℕ → List ℕ) (written : K → Opt
       let same = same_read d text rest line in
       Consumes-whole whole known (text ++ rest) (ReadsForm (Ok (play_told p)) put c choice d judge rest (written start) (written t)) (prepended whole known text rest consumes) end (
         text,
-        (refl, (h.at, (
-          subst (λ (x : BitRead). TellsRead c (property_of choice x.claim) x.frames (play_told p)) (sym same) tells,
-          subst (Appends (written start) (written t)) (lines_read ∙ ap (λ (x : BitRead). put_lines put 0 (read_restored_lines c choice x)) (sym same)) appends,
-        ))),
+        (
+          refl,
+          (
+            h.at,
+            (
+              subst (λ (x : BitRead). TellsRead c (property_of choice x.claim) x.frames (play_told p)) (sym same) tells,
+              subst (Appends (written start) (written t)) (lines_read ∙ ap (λ (x : BitRead). put_lines put 0 (read_restored_lines c choice x)) (sym same)) appends,
+            ),
+          ),
+        ),
       )
 
   -- at a fault
@@ -234,8 +239,14 @@ none_claimed put c choice d judge rest source known old told none reads end line
     ∙ ap₂ (λ (fs : List (List Bool)) (b : Bool). put_lines put 0 (restored_frame_lines c (property_of choice (read_of d front).claim) fs ++ last_line b)) head.no_frame head.not_done in
     Consumes-whole source known (front ++ rest) (ReadsForm (Ok told) put c choice d judge rest old old) (prepended source known front rest reads.1.0) end (
       front,
-      (refl, (head.at, (
-        subst (λ (fs : List (List Bool)). TellsRead c (property_of choice (read_of d (front ++ rest)).claim) fs told) (sym (ap (λ (x : BitRead). x.frames) same ∙ head.no_frame)) none,
-        subst (Appends old old) (sym nothing) (Appends-nil old),
-      ))),
+      (
+        refl,
+        (
+          head.at,
+          (
+            subst (λ (fs : List (List Bool)). TellsRead c (property_of choice (read_of d (front ++ rest)).claim) fs told) (sym (ap (λ (x : BitRead). x.frames) same ∙ head.no_frame)) none,
+            subst (Appends old old) (sym nothing) (Appends-nil old),
+          ),
+        ),
+      ),
     )

@@ -1,8 +1,7 @@
 -- How the lines that frames are restored to are read over the circuit: all are admitted, or as many as a witness may have.
-use Rattle.std.proofs.Common.{◌≡◌, ℕ, zero, suc, ◌+◌, ◌-◌, ◌<◌, ◌≤◌, min, Bool, true, false, List, [], ◌∷◌, ◌++◌, Option, None, Some, Ok, Err, codes, length, length-append, map, take, All, refl, sym, ap, ap₂, subst, ◌∙◌, arith, append_assoc, append-nil, inl, inr}
+use Rattle.std.proofs.Common.{◌≡◌, ℕ, zero, suc, ◌+◌, ◌-◌, ◌<◌, ◌≤◌, min, Bool, true, false, List, [], ◌∷◌, ◌++◌, Option, Some, Ok, Err, codes, length, map, take, All, refl, sym, ap, subst, ◌∙◌, arith, append_assoc, append-nil, inl, inr}
 use Rattle.std.specs.List.{AllByRecursion}
 use Rattle.std.proofs.lemmas.Bool.{cases_lt, le-leb}
-use Rattle.std.proofs.lemmas.List.{length-map, take_all}
 use Rattle.std.proofs.lemmas.List.Elements.{recursion_from_All}
 use Rattle.base.specs.Lines.{text_of_lines, whole_lines, unfinished}
 use Rattle.base.proofs.LineLemmas.{EachLine, lines_of_text}
@@ -13,7 +12,7 @@ use Rattle.witness.specs.declared.judgement.Judgement.TheVariants as judgement
 use Rattle.witness.specs.declared.why.Why.{Why}
 use Rattle.witness.specs.declared.why.Why.TheVariants as why
 use Rattle.witness.specs.Texts.{claim, most_lines}
-use Rattle.witness.specs.Readings.{Reader, Reading, so_far, next_line, lines_behind, lines_read, reading, read_or_fault, refused_for}
+use Rattle.witness.specs.Readings.{Reading, so_far, next_line, lines_behind, lines_read, reading, read_or_fault}
 use Rattle.witness.specs.BitTexts.{bit_line}
 use Rattle.witness.specs.BitAdmits.{BitRead, admitted_lines, AtClaim, AtInitial, AtFirst, AtLater, AtDone, no_line_read, is_done, bit_admit, bit_reader, read_bit_text, bit_witness_of}
 use Rattle.witness.specs.BitJudgements.{makes_no_bit_claim, JudgesBits, BitJudges}
@@ -62,9 +61,10 @@ last_goes : (c : Circuit) (i : ℕ) (initial : List Bool) (before frames : List 
 last_goes c i initial before frames n false few same = record { admitted = omega (arith, few); claim = refl; initial_bits = refl; frames_are = same; too_long = λ h. absurd (omega (arith, few, h)) }
 last_goes c i initial before frames n true few same = elim (cases_lt n most_lines) [
   | inl room ↦ one_more c n (n + 1) i (bits_read AtLater i initial before) (bits_read AtDone i initial before) initial frames (codes ".") [] room (end_admitted c i initial before)
-        (record { admitted = omega (arith, room); claim = refl; initial_bits = refl; frames_are = same; too_long = λ h. absurd (omega (arith, room, h)) })
+      (record { admitted = omega (arith, room); claim = refl; initial_bits = refl; frames_are = same; too_long = λ h. absurd (omega (arith, room, h)) })
   | inr above ↦ full_goes c n i initial before (codes ".") [] frames (omega (arith, few, above)) same
 ]
+
 frames_go : (c : Circuit) (i : ℕ) (initial : List Bool) (before more : List (List Bool)) (n : ℕ) (b : Bool) → n ≤ most_lines → AllByRecursion (λ bits. length bits ≡ c.inputs) more
     → Goes (lines_behind (bit_reader c) (so_far n (bits_read AtLater i initial before)) (map bit_line more ++ last_line b)) (n + length (map bit_line more ++ last_line b)) i initial (before ++ take (most_lines - n) more)
 frames_go c i initial before [] n b few wide = last_goes c i initial before (before ++ take (most_lines - n) []) n b few (sym (append-nil before) ∙ ap (λ (l : List (List Bool)). before ++ l) (sym (none_taken (most_lines - n))))

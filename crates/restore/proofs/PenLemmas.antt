@@ -45,4 +45,3 @@ module _ {K : Type 0} {written : K → Option (List ℕ)} {failures : K → ℕ}
       by : (a : Result (Unit {0}) DeviceFault) → PutsOn (Ok tt) a (written s) (written t) (failures s) (failures t) [] q.outbox text → AppendsBeginning (written s) (written t) text
       by (Ok x) h = (h.0.front, (q.outbox, h.0.whole), h.0.appends)
       by (Err e) h = h.0
-

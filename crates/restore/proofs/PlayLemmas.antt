@@ -9,7 +9,7 @@ use Rattle.witness.specs.Judgements.{Violation, violated_at}
 use Rattle.witness.specs.BitPlays.{first_bit_violated}
 use Rattle.runs.specs.CircuitRun.{CircuitRun, IsFrameNow}
 use Rattle.restore.specs.Frames.{frame_of}
-use Rattle.restore.specs.Plays.{Play, are_too_many, played}
+use Rattle.restore.specs.Plays.{are_too_many, played}
 use Rattle.restore.proofs.FrameOf.{frame_is}
 
 -- a run that was given its inputs and is settled

@@ -1,5 +1,5 @@
 -- What a circuit holds behind frames of its engine form that it took one after the other.
-use Rattle.std.proofs.Common.{◌≡◌, ℕ, zero, suc, ◌+◌, ◌-◌, ◌^◌, ◌<◌, ◌≤◌, ◌==◌, min, Bool, true, false, cond, not, ◌&&◌, ◌||◌, if◌then◌else◌, List, [], ◌∷◌, ◌++◌, length, map, take, get_or, All, Option, None, Some, is_none, refl, sym, ap, ap₂, subst, ◌∙◌, arith, append-nil}
+use Rattle.std.proofs.Common.{◌≡◌, ℕ, zero, suc, ◌+◌, ◌-◌, ◌^◌, ◌<◌, ◌≤◌, ◌==◌, min, Bool, true, false, cond, not, ◌&&◌, ◌||◌, if◌then◌else◌, List, [], ◌∷◌, ◌++◌, length, take, get_or, Option, None, Some, is_none, refl, sym, ap, subst, ◌∙◌, arith}
 use Rattle.std.specs.List.{list_all, position_from}
 use Rattle.std.specs.Option.{option_or}
 use Rattle.std.proofs.lemmas.Bool.{and_parts, leb-true, leb-false, ne_eqb}
@@ -11,8 +11,8 @@ use Rattle.witness.specs.Judgements.{Violation, violated_at}
 use Rattle.witness.specs.Fits.{breach_from}
 use Rattle.witness.specs.BitPlays.{first_bit_violated, bit_rises}
 use Rattle.restore.specs.Frames.{frame_of, trace_from}
-use Rattle.restore.specs.Restored.{rises_in, own_inputs, cut_inputs}
-use Rattle.restore.specs.Plays.{Play, met, is_bad_in, are_too_many, own_frame, begun, played, took, taken}
+use Rattle.restore.specs.Restored.{own_inputs, cut_inputs}
+use Rattle.restore.specs.Plays.{Play, met, are_too_many, own_frame, begun, played, took, taken}
 
 -- ---- constraints
 

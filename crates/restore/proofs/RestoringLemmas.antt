@@ -1,12 +1,10 @@
 -- A counterexample is read to its end, and what it is restored to is put and written.
-use Rattle.std.proofs.Common.{◌≡◌, ◌≢◌, ℕ, ◌+◌, ◌-◌, ◌^◌, ◌<◌, min, Bool, true, false, List, [], ◌∷◌, ◌++◌, codes, length, length-append, map, All, Option, None, Some, is_none, Result, Ok, Err, IfSome, IfErr, OnOk, IsOk, MatchResult, ◌⊎◌, inl, inr, refl, sym, ap, ap₂, subst, ◌∙◌, append_assoc, append-nil, arith}
+use Rattle.std.proofs.Common.{◌≡◌, ◌≢◌, ℕ, ◌+◌, ◌-◌, ◌<◌, min, Bool, true, false, List, [], ◌∷◌, ◌++◌, length, map, All, Option, None, Some, is_none, Result, Ok, Err, IfSome, IfErr, OnOk, IsOk, ◌⊎◌, inl, inr, refl, sym, ap, ap₂, subst, ◌∙◌, append_assoc, append-nil}
 use Rattle.std.specs.Io.KnownBytes.{Appends, prepend_known}
 use Rattle.std.proofs.KnownBytes.{Appends-nil}
-use Rattle.std.proofs.lemmas.List.{length-map}
 use Rattle.base.specs.declared.pen.Pen.{Pen}
 use Rattle.base.specs.Device.{HasRisen, AppendsBeginning}
 use Rattle.base.specs.Lines.{text_of_lines, all_lines, whole_lines}
-use Rattle.base.specs.Writing.{WritesText}
 use Rattle.base.proofs.DeviceLemmas.{beginning_longer}
 use Rattle.aiger.specs.Circuit.{Circuit, IsCircuit}
 use Rattle.engine_form.specs.EngineForm.{input_count}
@@ -20,11 +18,11 @@ use Rattle.restore.specs.declared.fault.RestoreWhy.TheVariants as why
 use Rattle.restore.specs.declared.place.Place.{Place}
 use Rattle.restore.specs.declared.place.Place.TheVariants as place
 use Rattle.restore.specs.Accepted.{IsFirstRise}
-use Rattle.restore.specs.Answers.{CountsRestoreWhy, CountsRestore, lines_put, IsRestored, IsRestoredBut, Restores}
+use Rattle.restore.specs.Answers.{CountsRestoreWhy, lines_put, IsRestored, IsRestoredBut, Restores}
 use Rattle.restore.specs.Faults.{is_of_text}
 use Rattle.restore.specs.FormWitness.{restored_frame_lines, last_line}
 use Rattle.restore.specs.Plays.{Play, IsFresh, fresh, play_judgement, play_told, taken}
-use Rattle.restore.specs.Putting.{put_lines, as_it_is, lines_before, frames_put, end_put, HasTaken, TakesAllBut, TakesAll}
+use Rattle.restore.specs.Putting.{put_lines, as_it_is, frames_put, end_put, HasTaken, TakesAllBut, TakesAll}
 use Rattle.restore.specs.Reading.{before_mark, Found, whole, faulty, read_before, read_found}
 use Rattle.restore.specs.Restored.{opening, written_frames, closing, restored_lines, restored_text}
 use Rattle.restore.specs.Steps.{FramesReader, read_at, frames_to_come, AgreeAsGiven, IsUnread, IsTextFault, GivesFound, LosesNothing, StepsOn}

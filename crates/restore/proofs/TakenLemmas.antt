@@ -1,16 +1,14 @@
 -- What is put for frames that a circuit takes is what is put for the lines that they are restored to.
-use Rattle.std.proofs.Common.{◌≡◌, ℕ, zero, suc, ◌+◌, ◌-◌, ◌^◌, ◌<◌, ◌≤◌, ◌==◌, min, Bool, true, false, ◌&&◌, if◌then◌else◌, List, [], ◌∷◌, ◌++◌, codes, length, length-append, map, take, All, refl, sym, ap, ap₂, subst, ◌∙◌, arith, append_assoc, append-nil, Option}
-use Rattle.std.proofs.lemmas.List.{length-map}
+use Rattle.std.proofs.Common.{◌≡◌, ℕ, suc, ◌+◌, ◌-◌, ◌^◌, ◌==◌, min, Bool, true, false, if◌then◌else◌, List, [], ◌∷◌, ◌++◌, length, map, refl, sym, ap, ap₂, subst, ◌∙◌, arith, append_assoc, append-nil, Option}
 use Rattle.base.specs.Lines.{text_of_lines}
 use Rattle.base.specs.declared.pen.Pen.{Pen}
 use Rattle.base.specs.Writing.{WritesText}
 use Rattle.base.proofs.PenLemmas.{writes_then, writes_none}
 use Rattle.aiger.specs.Circuit.{Circuit}
-use Rattle.engine_form.specs.EngineForm.{all_hold}
 use Rattle.witness.specs.BitTexts.{bit_line}
 use Rattle.restore.specs.Frames.{frame_of}
 use Rattle.restore.specs.FormWitness.{restored_frame_lines}
-use Rattle.restore.specs.Restored.{rises_in, own_inputs, cut_inputs, written_frames}
+use Rattle.restore.specs.Restored.{own_inputs, cut_inputs, written_frames}
 use Rattle.restore.specs.Plays.{Play, fresh, met, own_frame, begun, played, took, taken}
 use Rattle.restore.specs.Putting.{put_lines, as_it_is, lines_of_beginning, lines_before, frame_put, frames_put, HasTaken}
 use Rattle.restore.proofs.PlayedLemmas.{met_more, took_first, took_later, took_risen, taken_more, later_frames}

@@ -1,12 +1,11 @@
 -- What is told behind frames that a circuit took is what is judged of what they are restored to, and its first rise.
-use Rattle.std.proofs.Common.{◌≡◌, ℕ, zero, suc, ◌+◌, ◌-◌, ◌^◌, ◌<◌, ◌≤◌, min, Bool, true, false, cond, if◌then◌else◌, List, [], ◌∷◌, ◌++◌, codes, length, length-append, map, take, get_or, All, Option, None, Some, option_map, refl, sym, ap, ap₂, subst, ◌∙◌, arith, append_assoc, append-nil}
+use Rattle.std.proofs.Common.{◌≡◌, ℕ, zero, suc, ◌+◌, ◌-◌, ◌^◌, ◌<◌, min, Bool, true, false, cond, if◌then◌else◌, List, [], ◌∷◌, ◌++◌, codes, length, length-append, map, take, get_or, All, Option, None, Some, option_map, refl, sym, ap, ap₂, subst, ◌∙◌, arith, append_assoc, append-nil}
 use Rattle.std.specs.List.{position_from}
-use Rattle.std.specs.Option.{option_or}
 use Rattle.std.proofs.lemmas.Bool.{leb-true, leb-false}
 use Rattle.std.proofs.lemmas.List.{length-map}
-use Rattle.base.specs.Lines.{text_of_lines, whole_lines}
+use Rattle.base.specs.Lines.{text_of_lines}
 use Rattle.base.specs.Literal.{Valuation, literal_value}
-use Rattle.base.specs.Shown.{Shown, is_bad_in}
+use Rattle.base.specs.Shown.{is_bad_in}
 use Rattle.aiger.specs.Circuit.{Circuit, IsCircuit}
 use Rattle.aiger.specs.Reachability.{circuit_shows}
 use Rattle.aiger.specs.Trace.{IsCircuitTrace}
@@ -21,20 +20,20 @@ use Rattle.witness.specs.Readings.{reading}
 use Rattle.witness.specs.BitTexts.{bit_witness_lines, IsBitWitness, BitSays, bit_line}
 use Rattle.witness.specs.BitPlays.{first_bit_violated, bit_rises}
 use Rattle.witness.specs.BitJudgements.{first_reset_differing, BitJudges}
-use Rattle.witness.specs.Reached.{bits_said_in, IsClosedBitTrace}
+use Rattle.witness.specs.Reached.{bits_said_in}
 use Rattle.witness.proofs.AcceptLemmas.{judged_bits}
 use Rattle.witness.proofs.BitOneJudgement.{shown_same}
 use Rattle.witness.proofs.BitReadLemmas.{many_lines}
 use Rattle.witness.proofs.ShownLemmas.{bits_verdict}
 use Rattle.restore.specs.Accepted.{IsFirstRise}
-use Rattle.restore.specs.Frames.{frame_of, trace_from}
+use Rattle.restore.specs.Frames.{trace_from}
 use Rattle.restore.specs.FormWitness.{restored_frame_lines, last_line}
-use Rattle.restore.specs.Restored.{opening, own_inputs, cut_inputs, written_frames, restored_witness}
+use Rattle.restore.specs.Restored.{opening, own_inputs, written_frames, restored_witness}
 use Rattle.restore.specs.Plays.{Play, IsFresh, fresh, begun, played, own_frame, are_too_many, play_judgement, play_told, taken}
 use Rattle.restore.specs.Putting.{put_lines, lines_before, frames_put, end_put}
 use Rattle.restore.proofs.FrameOf.{trace_is}
 use Rattle.restore.proofs.LinesReadLemmas.{text_goes, too_long_judged}
-use Rattle.restore.proofs.PlayedLemmas.{Behind, behind, one_more, later_frames, room}
+use Rattle.restore.proofs.PlayedLemmas.{Behind, behind, one_more, later_frames}
 use Rattle.restore.proofs.TakenLemmas.{put_more, all_put}
 use Rattle.restore.proofs.RestoredLemmas.{begins_length, begins_as_reset}
 use Rattle.restore.proofs.RiseLemmas.{is_witness}

@@ -1,5 +1,5 @@
 -- What a witness of the engine form of a circuit, as the AIGER format has them, is restored to ("AIGER 1.9 and Beyond", its witnesses; where the frames end is this project's): the witness of the circuit that its frames say.
-use Rattle.std.specs.Prelude.{◌≡◌, ℕ, ◌+◌, Bool, true, false, List, [], ◌∷◌, ◌++◌, Option, None, Some, Result, Ok, Err, codes, length, map, replicate}
+use Rattle.std.specs.Prelude.{◌≡◌, ℕ, ◌+◌, Bool, true, false, List, [], ◌∷◌, ◌++◌, Option, None, Some, codes, length, map, replicate}
 use Rattle.base.specs.Lines.{text_of_lines, whole_lines}
 use Rattle.base.specs.Literal.{Valuation}
 use Rattle.aiger.specs.Circuit.{Circuit}

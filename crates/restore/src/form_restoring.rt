@@ -6,7 +6,7 @@ ghost use Rattle.base.specs.declared.pen.Pen.{Pen as PenValue};
 ghost use Rattle.base.specs.Device.{AppendsBeginning};
 ghost use Rattle.base.specs.Lines.{IsLine};
 ghost use Rattle.base.specs.Writing.{WritesText};
-ghost use Rattle.aiger.specs.Circuit.{Circuit, IsCircuit};
+ghost use Rattle.aiger.specs.Circuit.{Circuit};
 ghost use Rattle.engine_form.specs.EngineForm.{IsEngineFormOf, input_count};
 ghost use Rattle.witness.specs.declared.judgement.Judgement.{Judgement};
 ghost use Rattle.witness.specs.BitStands.{StandsForBitLines};

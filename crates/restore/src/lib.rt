@@ -4,8 +4,8 @@
 
 mod digits;
 mod fault;
-pub mod form_laws;
 mod form_claim;
+pub mod form_laws;
 mod form_restoring;
 mod frame_reader;
 pub mod laws;

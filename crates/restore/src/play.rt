@@ -58,13 +58,7 @@ fn first_with(first: Option<u64>, is_bad: bool, frame: u64) -> Option<u64>
 {
     match first {
         Some(earlier) => Some(earlier),
-        None => {
-            if is_bad {
-                Some(frame)
-            } else {
-                None
-            }
-        }
+        None => { if is_bad { Some(frame) } else { None } }
     }
 }
 

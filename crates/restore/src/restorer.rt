@@ -82,13 +82,7 @@ impl<'c> Restorer<'c> {
     }
 
     /// Begins with a frame, and puts the lines before it.
-    fn begin<W: Writer, K: Sink>(
-        &mut self,
-        writer: &W,
-        pen: &mut Pen,
-        sink: &mut K,
-        bits: &[bool],
-    )
+    fn begin<W: Writer, K: Sink>(&mut self, writer: &W, pen: &mut Pen, sink: &mut K, bits: &[bool])
         requires { length bits.now ≡ input_count self.old.circuit }
         ensures begins { self.new ≡ begun self.old bits.now }
         ensures writes { WritesText K.written K.failures sink.old sink.new pen.old pen.new
@@ -106,13 +100,7 @@ impl<'c> Restorer<'c> {
     }
 
     /// Plays a frame, and puts its line.
-    fn play<W: Writer, K: Sink>(
-        &mut self,
-        writer: &W,
-        pen: &mut Pen,
-        sink: &mut K,
-        bits: &[bool],
-    )
+    fn play<W: Writer, K: Sink>(&mut self, writer: &W, pen: &mut Pen, sink: &mut K, bits: &[bool])
         requires { length bits.now ≡ input_count self.old.circuit }
         ensures plays { self.new ≡ played self.old (own_frame self.old bits.now) }
         ensures writes { WritesText K.written K.failures sink.old sink.new pen.old pen.new

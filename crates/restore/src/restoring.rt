@@ -147,14 +147,7 @@ pub fn restore_with<S: Source, W: Writer, K: Sink>(
     let mut reader = FrameReader::new(alloc, input_count(circuit))?;
     let mut restorer = Restorer::new(alloc, circuit, claim)?;
     let mut pen = Pen::new();
-    let told = take_frames(
-        &mut reader,
-        &mut restorer,
-        writer,
-        &mut pen,
-        source,
-        sink,
-    );
+    let told = take_frames(&mut reader, &mut restorer, writer, &mut pen, source, sink);
     end(told, &restorer, writer, &mut pen, sink)
 }
 

@@ -1,4 +1,4 @@
-use Rattle.std.proofs.Common.{rules, ◌≡◌, ℕ, List, ◌++◌, Ok, Err, sym, ap, subst, ◌∙◌}
+use Rattle.std.proofs.Common.{rules, ◌≡◌, ℕ, List, ◌++◌, Err, sym, subst}
 use Rattle.witness.specs.BitJudgements.{BitJudges}
 use Rattle.restore.proofs.FormWitnessLemmas.{form_told}
 use Rattle.restore.proofs.form_restoring.restore_form_with.Goals as goal

@@ -1,4 +1,4 @@
-use Rattle.std.proofs.Common.{◌≡◌, ◌<◌, ℕ, Option, length, refl, sym, subst, ◌∙◌}
+use Rattle.std.proofs.Common.{◌<◌, ℕ, Option, length, refl, sym, subst}
 use Rattle.std.specs.Io.KnownBytes.{prepend_known}
 use Rattle.restore.specs.FormSteps.{ReadsClaim}
 use Rattle.std.proofs.Common.{Ok}

@@ -1,4 +1,4 @@
-use Rattle.std.proofs.Common.{rules, ◌≡◌, ℕ, List, Err, length, refl, sym, ap, ◌∙◌, arith}
+use Rattle.std.proofs.Common.{rules, ◌≡◌, Err, length, arith}
 use Rattle.std.specs.Io.KnownBytes.{prepend_known}
 use Rattle.restore.specs.declared.fault.RestoreWhy.TheVariants as why
 use Rattle.restore.specs.Answers.{form_lines_put}

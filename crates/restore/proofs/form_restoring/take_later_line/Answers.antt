@@ -1,4 +1,4 @@
-use Rattle.std.proofs.Common.{refl, sym, ◌∙◌, arith}
+use Rattle.std.proofs.Common.{sym, ◌∙◌, arith}
 use Rattle.restore.proofs.FormTakeLemmas.{goes_same, goes_initial, goes_end, goes_frame}
 use Rattle.restore.proofs.form_restoring.take_later_line.Goals as goal
 

@@ -1,4 +1,4 @@
-use Rattle.std.proofs.Common.{rules, ◌≡◌, ℕ, Bool, List, [], ◌∷◌, ◌++◌, Ok, Err, length, refl, sym, ap, subst, ◌∙◌}
+use Rattle.std.proofs.Common.{rules, ℕ, Bool, List, [], ◌∷◌, ◌++◌, Ok, length, refl, sym, subst, ◌∙◌}
 use Rattle.std.specs.Io.KnownBytes.{prepend_known, Consumes}
 use Rattle.base.specs.Held.{Advances}
 use Rattle.base.proofs.PenLemmas.{writes_none, writes_then}

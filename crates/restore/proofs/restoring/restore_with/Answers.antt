@@ -1,4 +1,4 @@
-use Rattle.std.proofs.Common.{rules, ◌≡◌, ◌<◌, List, [], ℕ, false, Err, refl, sym, subst, ◌∙◌}
+use Rattle.std.proofs.Common.{rules, ◌≡◌, List, [], ℕ, false, Err, refl, subst}
 use Rattle.engine_form.specs.EngineForm.{input_count}
 use Rattle.witness.proofs.FeedLemmas.{if_some_then}
 use Rattle.restore.specs.declared.fault.RestoreFault.{RestoreFault}
@@ -7,7 +7,7 @@ use Rattle.restore.specs.Answers.{lines_put, Restores}
 use Rattle.restore.specs.Faults.{is_of_text}
 use Rattle.restore.specs.Plays.{Play}
 use Rattle.restore.specs.Putting.{HasTaken, TakesAll}
-use Rattle.restore.specs.Reading.{Found, read_found}
+use Rattle.restore.specs.Reading.{Found}
 use Rattle.restore.specs.Steps.{frames_to_come}
 use Rattle.base.specs.declared.pen.Pen.{Pen}
 use Rattle.restore.proofs.TakenLemmas.{nothing_taken}

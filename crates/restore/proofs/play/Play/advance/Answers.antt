@@ -1,4 +1,4 @@
-use Rattle.std.proofs.Common.{◌≡◌, ℕ, Bool, false, not, ◌&&◌, List, Option, None, is_none, is_some, length, get_or, refl, sym, ap, ap₂, subst, ◌∙◌}
+use Rattle.std.proofs.Common.{◌≡◌, ℕ, false, Option, None, is_none, is_some, length, get_or, sym, ap, ◌∙◌}
 use Rattle.std.specs.Option.{option_or}
 use Rattle.std.proofs.lemmas.List.{length-map, length-replicate}
 use Rattle.aiger.specs.declared.circuit.Latch.{Latch}
@@ -7,7 +7,7 @@ use Rattle.aiger.specs.Circuit.{Circuit}
 use Rattle.aiger.specs.Trace.{next_latch_bits}
 use Rattle.runs.specs.Run.{more_steps}
 use Rattle.runs.specs.CircuitRun.{CircuitRun, no_inputs, settle_steps}
-use Rattle.witness.specs.Judgements.{Violation, violated_at}
+use Rattle.witness.specs.Judgements.{violated_at}
 use Rattle.witness.specs.BitPlays.{first_bit_violated}
 use Rattle.restore.specs.Frames.{frame_of}
 use Rattle.restore.specs.Plays.{Play as PlayValue, are_too_many, played}

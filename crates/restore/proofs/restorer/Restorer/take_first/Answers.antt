@@ -1,5 +1,5 @@
 use Rattle.base.proofs.PenLemmas.{writes_then}
-use Rattle.std.proofs.Common.{◌≡◌, ℕ, List, Bool, ap, subst, ◌∙◌}
+use Rattle.std.proofs.Common.{subst}
 use Rattle.base.specs.Writing.{WritesText}
 use Rattle.witness.specs.BitTexts.{bit_line}
 use Rattle.restore.specs.Plays.{Play, own_frame}

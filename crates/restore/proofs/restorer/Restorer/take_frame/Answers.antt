@@ -1,4 +1,4 @@
-use Rattle.std.proofs.Common.{◌≡◌, ℕ, ◌==◌, Bool, List, [], ap, sym, ◌∙◌}
+use Rattle.std.proofs.Common.{◌==◌, [], ap, sym, ◌∙◌}
 use Rattle.base.proofs.PenLemmas.{writes_none}
 use Rattle.restore.specs.Plays.{Play}
 use Rattle.restore.proofs.TakenLemmas.{takes_risen, takes_first, takes_later}
