@@ -13,9 +13,7 @@ use blast::lower;
 use btor2::Model;
 use engine_form::engine_form;
 use lift::{lift_form, lift_restored};
-use restore::{
-    FrameReader, RestoreFault, RestoreWhy, restore, restore_form,
-};
+use restore::{FrameReader, RestoreFault, RestoreWhy, restore, restore_form};
 use std::alloc::{AllocError, Global};
 use std::test::Fail;
 use witness::{Judgement, Why, judge_bits, judge_words};
