@@ -2,6 +2,7 @@ pub mod BitLemmas
 mod CounterLemmas
 pub mod DeviceLemmas
 pub mod PieceLemmas
+pub mod TakingLemmas
 pub mod PenLemmas
 pub mod DivisionLemmas
 pub mod ShiftLemmas
@@ -18,6 +19,7 @@ pub mod CutLemmas
 pub mod LineLemmas
 pub mod HeldLemmas
 pub mod DecimalLemmas
+pub mod NumeralLemmas
 pub mod StepLemmas
 pub mod RowLemmas
 pub mod LiteralLemmas

@@ -1,9 +1,8 @@
 -- Lemmas on texts that are put into an outbox piece by piece.
-use Rattle.std.proofs.Common.{◌≡◌, ℕ, List, [], ◌++◌, Option, Result, Ok, Err, refl, sym, ap, subst, ◌∙◌, append_assoc, append-nil}
+use Rattle.std.proofs.Common.{◌≡◌, ℕ, List, [], ◌++◌, Option, refl, sym, ap, subst, ◌∙◌, append_assoc, append-nil}
 use Rattle.std.proofs.KnownBytes.{Appends-nil, Appends-trans}
 use Rattle.base.specs.Device.{AppendsBeginning, Sent}
-use Rattle.base.proofs.DeviceLemmas.{sent_on, sent_then_beginning, beginning_longer}
-use Rattle.base.specs.Pieces.{Puts}
+use Rattle.base.proofs.DeviceLemmas.{sent_on}
 
 -- of a whole text a front was put behind what was kept, and this rest of it is still to be put
 pub record Put (old new : Option (List ℕ)) (kept left whole rest : List ℕ) : Type 0 where
@@ -35,16 +34,6 @@ pub put_all : (old new : Option (List ℕ)) (kept left whole rest : List ℕ) �
 put_all old new kept left whole rest p e =
     subst (λ l. Sent old new (kept ++ l) left) (sym (append-nil p.done) ∙ ap (λ l. p.done ++ l) (sym e) ∙ p.all) p.sent
 
--- a piece more failed
-pub put_fails : (old mid new : Option (List ℕ)) (kept mid_kept whole rest piece more : List ℕ)
-    → Put old mid kept mid_kept whole rest → AppendsBeginning mid new (mid_kept ++ piece) → rest ≡ piece ++ more → AppendsBeginning old new (kept ++ whole)
-put_fails old mid new kept mid_kept whole rest piece more p s e =
-    let text : ((kept ++ p.done) ++ piece) ++ more ≡ kept ++ whole =
-    append_assoc (kept ++ p.done) piece more ∙ append_assoc kept p.done (piece ++ more)
-    ∙ ap (λ l. kept ++ (p.done ++ l)) (sym e) ∙ ap (λ l. kept ++ l) p.all in
-    subst (AppendsBeginning old new) text
-    (beginning_longer old new _ more (sent_then_beginning old mid new (kept ++ p.done) mid_kept piece p.sent s))
-
 -- what is kept of it failed to go out
 pub rest_fails : (old mid new : Option (List ℕ)) (text rest : List ℕ) → Sent old mid text rest → AppendsBeginning mid new rest → AppendsBeginning old new text
 rest_fails old mid new text rest s b = (
@@ -52,11 +41,3 @@ rest_fails old mid new text rest s b = (
   (b.1.0, append_assoc s.front b.0 b.1.0 ∙ ap (λ l. s.front ++ l) b.1.1 ∙ s.whole),
   Appends-trans old mid new s.front b.0 s.appends b.2,
 )
-
--- the last piece, whatever its answer
-pub puts_last : {T E : Type 0} (r : Result T E) (old mid new : Option (List ℕ)) (kept mid_kept left whole rest : List ℕ)
-    → Put old mid kept mid_kept whole rest → Puts r mid new mid_kept left rest → Puts r old new kept left whole
-puts_last (Ok x) old mid new kept mid_kept left whole rest p s =
-    put_all old new kept left whole [] (put_more old mid new kept mid_kept left whole rest rest [] p s (sym (append-nil rest))) refl
-puts_last (Err x) old mid new kept mid_kept left whole rest p s =
-    put_fails old mid new kept mid_kept whole rest rest [] p s (sym (append-nil rest))

@@ -8,9 +8,11 @@ pub mod Device
 pub mod Lines
 pub mod Held
 pub mod Decimals
+pub mod Numerals
 pub mod Pieces
 pub mod Writing
 pub mod Reasons
+pub mod Taking
 pub mod Trials
 pub mod Rows
 pub mod Shown

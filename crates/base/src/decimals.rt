@@ -1,9 +1,16 @@
 //! Numbers as decimals.
 ghost use Rattle.std.specs.Prelude.{◌≡◌, ◌+◌, ◌-◌, ◌*◌, ◌^◌, ◌≤◌, min};
-ghost use Rattle.base.specs.Decimals.{begins_decimal, digits_number, number_of};
+ghost use Rattle.base.specs.Decimals.{is_digit, begins_decimal, digits_number, number_of};
 
 /// The greatest number that has room for one more digit, whatever that is.
 const ROOM: u64 = u64::MAX / 10 - 1;
+
+/// Whether a byte is a digit.
+pub fn is_digit(byte: u8) -> bool
+    ensures { result ≡ is_digit byte }
+{
+    b'0' <= byte && byte <= b'9'
+}
 
 /// A number with a digit more, at most 2^64 - 1.
 fn with_digit(value: u64, digit: u64) -> u64

@@ -134,9 +134,10 @@ impl Outbox {
 
 /// Copies bytes into a buffer, from a place on.
 #[inline(always)]
-fn copy_at(buffer: &mut [u8], at: usize, bytes: &[u8])
+pub fn copy_at(buffer: &mut [u8], at: usize, bytes: &[u8])
     requires { at + length bytes.now ≤ length buffer.old }
-    ensures { take (at + length bytes.now) buffer.new ≡ take at buffer.old ++ bytes.now }
+    ensures front { take (at + length bytes.now) buffer.new ≡ take at buffer.old ++ bytes.now }
+    ensures as_many { length buffer.new ≡ length buffer.old }
 {
     let end = at + bytes.len();
     buffer[at..end].copy_from_slice(bytes);

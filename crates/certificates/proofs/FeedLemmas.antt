@@ -32,6 +32,3 @@ fed_more old mid now before j after more fed consumes stands =
       consumes = consumes_more old mid now fed.front more fed.consumes consumes;
       stands = λ f h. stands f fed.front (fed.stands f h);
     }
-
-pub fed_all : (old now : Option (List ℕ)) (before after : ProofJudge) → Fed old now before after → IsAtEnd now → FedAll old before after
-fed_all old now before after fed end = record { text = fed.front; is_text = all_given old now fed.front fed.consumes end; stands = fed.stands }

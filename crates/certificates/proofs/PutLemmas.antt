@@ -42,14 +42,6 @@ leaves_less old mid new all rest front behind e l adds =
       literals = subst (λ (n : ℕ). AreOver n behind) (sym adds.variables) (over_behind mid.variables front behind (subst (AreOver mid.variables) e l.literals));
     }
 
-pub leaves_none : (old new : Formula) (all rest : List (List ℕ)) → rest ≡ [] → Leaves old new all rest → AddsClauses old new all
-leaves_none old new all rest e l =
-    record { variables = l.variables; clauses = sym (append-nil new.clauses) ∙ (ap (λ (cs : List (List ℕ)). new.clauses ++ cs) (sym e) ∙ l.clauses) }
-
--- the last of those that are left
-pub leaves_last : (old mid new : Formula) (all rest : List (List ℕ)) → Leaves old mid all rest → AddsClauses mid new rest → AddsClauses old new all
-leaves_last old mid new all rest l adds = record { variables = adds.variables ∙ l.variables; clauses = adds.clauses ∙ l.clauses }
-
 -- ---- the clauses of a gate
 
 pub gate_first : (n truth v x : ℕ) (g : Gate) → AreOver n (gate_clauses truth v g) → x ≡ over truth g.rhs0 → All (IsLiteral n) ((2 * v + 1) ∷ x ∷ [])
@@ -180,14 +172,6 @@ literals_at first k count h =
 
 pub no_literals : (first k count : ℕ) → count ≤ k → literals_from (first + k) (count - k) ≡ []
 no_literals first k count h = let none : count - k ≡ 0 = omega arith in ap (literals_from (first + k)) none
-
-pub outside_at : (d : Circuit) (k : ℕ) (cube : List ℕ) (x i r : ℕ) → i ≡ d.inputs → k < length cube → r ≡ negation (2 * i + get_or cube k x) → outside_clause d (drop k cube) ≡ r ∷ outside_clause d (drop (k + 1) cube)
-outside_at d k cube x i r is h e =
-    ap (outside_clause d) (drop_more cube k x h)
-    ∙ ap (λ (y : ℕ). y ∷ outside_clause d (drop (k + 1) cube)) (sym (e ∙ ap (λ (j : ℕ). negation (2 * j + get_or cube k x)) is))
-
-pub outside_end : (d : Circuit) (k : ℕ) (cube : List ℕ) → length cube ≤ k → outside_clause d (drop k cube) ≡ []
-outside_end d k cube h = ap (outside_clause d) (drop_end cube k h)
 
 -- the last clause, as the variables from that of the bad property on
 pub fails_is : (d : Circuit) (count rise n : ℕ) → rise ≡ rise_variable d → n ≡ count + 1 → literals_from rise n ≡ fails_clause d count

@@ -103,10 +103,6 @@ agree_gives None b l m old mid answer x y = tt
 agree_gives (Some s) None l m old mid answer x y = absurd x
 agree_gives (Some s) (Some t) l m old mid answer x y = x ∙ y
 
-pub agree_same : (a : Option (List ℕ)) (n : ℕ) (l : Lines) → AgreeAsLines n l a n l (prepend_known [] a)
-agree_same None n l = tt
-agree_same (Some s) n l = refl
-
 -- ---- a line of a source
 
 whole_is : (w : Bool) (old new : Held) (before after : Option (List ℕ)) → w ≡ true → Advances (Ok w) old new before after → IsLine new.line × Consumes (prepend_known old.rest before) (prepend_known new.rest after) (new.line ++ 10 ∷ [])

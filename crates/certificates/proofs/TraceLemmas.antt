@@ -26,9 +26,6 @@ zero_at zero k = refl
 zero_at (suc n) zero = refl
 zero_at (suc n) (suc k) = zero_at n k
 
-asked_even : (l : ℕ) → l % 2 ≡ 0 → (l % 2 == 0) ≡ true
-asked_even l e = grind (arith, nat_tests)
-
 asked_odd : (l : ℕ) → l % 2 ≢ 0 → (l % 2 == 0) ≡ false
 asked_odd l e = grind (arith, nat_tests)
 

@@ -56,44 +56,6 @@ sole-blank front behind none =
 zero_first : (b c : ℕ) (more : List ℕ) → (b == 48) ≡ true → without_zeros (b ∷ c ∷ more) ≡ without_zeros (c ∷ more)
 zero_first b c more on = ap (λ (x : Bool). if x then without_zeros (c ∷ more) else b ∷ c ∷ more) on
 
-below_true : (m n : ℕ) → nat_lt m n ≡ true → m < n
-below_true m n e = grind (arith, nat_tests)
-
-below_is : (m n : ℕ) → m < n → nat_lt m n ≡ true
-below_is m n h = grind (arith, nat_tests)
-
--- a zero in front is passed over
-pub zeros_more : (digits : List ℕ) (at : ℕ) → has_zero digits at ≡ true → without_zeros (drop (at + 1) digits) ≡ without_zeros (drop at digits)
-zeros_more digits at h =
-    let parts = and_parts (nat_lt (at + 1) (length digits)) (get_or digits at 0 == 48) h in
-    let inside : at + 1 < length digits = below_true (at + 1) (length digits) parts.0 in
-    let here : drop at digits ≡ get_or digits at 0 ∷ drop (at + 1) digits = drop_more digits at 0 (omega arith) in
-    let next : drop (at + 1) digits ≡ get_or digits (at + 1) 0 ∷ drop (at + 1 + 1) digits = drop_more digits (at + 1) 0 inside in
-    sym
-    (ap without_zeros (here ∙ ap (λ (ys : List ℕ). get_or digits at 0 ∷ ys) next)
-    ∙ (zero_first (get_or digits at 0) (get_or digits (at + 1) 0) (drop (at + 1 + 1) digits) parts.1 ∙ ap without_zeros (sym next)))
-
-pub zeros_inside : (digits : List ℕ) (at : ℕ) → has_zero digits at ≡ true → at + 1 < length digits
-zeros_inside digits at h = below_true (at + 1) (length digits) (and_parts (nat_lt (at + 1) (length digits)) (get_or digits at 0 == 48) h).0
-
--- and where there is none, all stays
-pub zeros_end : (digits : List ℕ) (at : ℕ) → has_zero digits at ≡ false → without_zeros (drop at digits) ≡ drop at digits
-zeros_end digits at h =
-    ⊎_elim
-    (λ (inside : at + 1 < length digits).
-    let here : drop at digits ≡ get_or digits at 0 ∷ drop (at + 1) digits = drop_more digits at 0 (omega arith) in
-    let next : drop (at + 1) digits ≡ get_or digits (at + 1) 0 ∷ drop (at + 1 + 1) digits = drop_more digits (at + 1) 0 inside in
-    let two : drop at digits ≡ get_or digits at 0 ∷ get_or digits (at + 1) 0 ∷ drop (at + 1 + 1) digits = here ∙ ap (λ (ys : List ℕ). get_or digits at 0 ∷ ys) next in
-    let off : (get_or digits at 0 == 48) ≡ false = ap (λ (b : Bool). b && get_or digits at 0 == 48) (sym (below_is (at + 1) (length digits) inside)) ∙ h in
-    ap without_zeros two ∙ (ap (λ (x : Bool). if x then without_zeros (get_or digits (at + 1) 0 ∷ drop (at + 1 + 1) digits) else get_or digits at 0 ∷ get_or digits (at + 1) 0 ∷ drop (at + 1 + 1) digits) off ∙ sym two))
-    (λ (out : length digits ≤ at + 1). short (drop at digits) (omega (arith, length-drop at digits, out)))
-    (cases_lt (at + 1) (length digits))
-  where
-    short : (ds : List ℕ) → length ds ≤ 1 → without_zeros ds ≡ ds
-    short [] h = refl
-    short (d ∷ []) h = refl
-    short (d ∷ e ∷ ds) h = absurd (omega arith)
-
 -- ---- names
 
 set_mark : (marks : List Bool) (k j : ℕ) → k < length marks → get_or (set marks k true) j false ≡ ((j == k) || get_or marks j false)
@@ -131,14 +93,7 @@ marked latches marks named k m h =
     swap false true = refl
     swap false false = refl
 
-pub no_marks : (latches : ℕ) → Marks latches (replicate latches false) []
-no_marks latches = record { many = length-replicate latches false; says = λ k h. get_or-replicate latches k false false h }
-
 -- ---- cubes
-
-pub cube_at : (named parts : List ℕ) (k x y : ℕ) → k < length named → k < length parts
-    → cube_of (drop k named) (drop k parts) ≡ part_of (get_or named k x) (get_or parts k y) ++ cube_of (drop (k + 1) named) (drop (k + 1) parts)
-cube_at named parts k x y h g = ap₂ cube_of (drop_more named k x h) (drop_more parts k y g)
 
 pub cube_end : (named parts : List ℕ) (k : ℕ) → min (length named) (length parts) ≤ k → cube_of (drop k named) (drop k parts) ≡ []
 cube_end named parts k h =

@@ -18,7 +18,6 @@ pub mod TakenLemmas
 pub mod JudgementLemmas
 pub mod WorkedJudgements
 pub mod StepJudgeLemmas
-pub mod NumeralLemmas
 pub mod WordLemmas
 pub mod StepReaderLemmas
 pub mod TextLemmas

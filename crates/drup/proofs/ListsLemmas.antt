@@ -43,15 +43,6 @@ stays xs place j h k ne =
     (j, λ up. up, omega (arith, length-swap_remove xs place h), read_removed xs place j h (omega arith) ∙ get_or-set_other xs place j (get_or xs (length xs - 1) 0) 0 ne))
     (cases_eq j (length xs - 1))
 
-pub was_there : (xs : List ℕ) (place j : ℕ) → place < length xs → j < length (swap_remove xs place 0) → (i : ℕ) × (i < length xs) × (get_or (swap_remove xs place 0) j 0 ≡ get_or xs i 0)
-was_there xs place j h k =
-    let short : length (swap_remove xs place 0) + 1 ≡ length xs = length-swap_remove xs place h in
-    ⊎_elim
-    (λ (e : j ≡ place).
-    (length xs - 1, omega arith, read_removed xs place j h (omega arith) ∙ ap (λ (i : ℕ). get_or (set xs place (get_or xs (length xs - 1) 0)) i 0) e ∙ get_or-set_same xs place (get_or xs (length xs - 1) 0) 0 h))
-    (λ (ne : j ≢ place). (j, omega arith, read_removed xs place j h (omega arith) ∙ get_or-set_other xs place j (get_or xs (length xs - 1) 0) 0 ne))
-    (cases_eq j place)
-
 pub removed_default : (xs : List ℕ) (place d : ℕ) → place < length xs → swap_remove xs place d ≡ swap_remove xs place 0
 removed_default xs place d h =
     let inside : length xs - 1 < length xs = omega arith in
@@ -62,19 +53,3 @@ empty_push f [] v h e zero = e
 empty_push f [] v h e (suc j) = refl
 empty_push f (x ∷ xs) v h e zero = h 0
 empty_push f (x ∷ xs) v h e (suc j) = empty_push f xs v (λ (i : ℕ). h (suc i)) e j
-
-pub IsListed-push : (lists : List (List ℕ)) (l n : ℕ) → l < length lists → IsListed lists (set lists l (list_at lists l ++ n ∷ []))
-IsListed-push lists l n h = record {
-  kept = λ k m there.
-      ⊎_elim
-      (λ (e : k ≡ l).
-      subst (λ (xs : List ℕ). Contains xs m) (sym (ap (list_at (set lists l (list_at lists l ++ n ∷ []))) e ∙ get_or-set_same lists l (list_at lists l ++ n ∷ []) [] h))
-      (Contains-append_left (list_at lists l) (n ∷ []) m (subst (λ (i : ℕ). Contains (list_at lists i) m) e there)))
-      (λ (ne : k ≢ l). subst (λ (xs : List ℕ). Contains xs m) (sym (get_or-set_other lists l k (list_at lists l ++ n ∷ []) [] ne)) there)
-      (cases_eq k l);
-  as_many = length-set lists l (list_at lists l ++ n ∷ []);
-}
-
-pub pushed_there : (lists new : List (List ℕ)) (l n : ℕ) → l < length lists → new ≡ set lists l (list_at lists l ++ n ∷ []) → Contains (list_at new l) n
-pushed_there lists new l n h is =
-    subst (λ (xs : List ℕ). Contains xs n) (sym (ap (λ (ls : List (List ℕ)). list_at ls l) is ∙ get_or-set_same lists l (list_at lists l ++ n ∷ []) [] h)) (Contains-push (list_at lists l) n)

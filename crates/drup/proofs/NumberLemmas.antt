@@ -49,9 +49,6 @@ pub spells_behind : (n : Number) (bytes : List ℕ) (b unit value : ℕ) → Spe
     → SpellsNumber (record { unit = unit; value = value }) (bytes ++ b ∷ [])
 spells_behind n bytes b unit value s by is = record { unit = omega (arith, by, s.unit, more_unit bytes b); value = is }
 
-pub spells_nothing : SpellsNumber (record { unit = 1; value = 0 }) []
-spells_nothing = record { unit = refl; value = refl }
-
 -- ---- the end of a step
 
 no_bytes : (xs : List ℕ) (b : ℕ) → bytes_eq (xs ++ b ∷ []) [] ≡ false

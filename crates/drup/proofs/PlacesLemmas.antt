@@ -263,14 +263,6 @@ module _ (clauses : List (List ℕ)) (clause : List ℕ) (some : 0 < length clau
             (cases_lt q (length clauses)));
       }
 
-pub AreLinked-none : (last : ℕ → ℕ) (before : List ℕ) → ((t : ℕ) → last t ≡ 4294967295) → before ≡ [] → AreLinked [] last before
-AreLinked-none last before lasts is = record {
-  as_many = ap length is;
-  few = omega arith;
-  lasts = λ t. record { there = inl (lasts t); last = λ j low has. absurd (omega (arith, low)) };
-  befores = λ q some. absurd (omega (arith, some));
-}
-
 -- nothing was changed, and a clause was put behind the others
 pub AreLinked-same : (clauses clauses' : List (List ℕ)) (last last' : ℕ → ℕ) (before before' : List ℕ) → AreLinked clauses last before → clauses' ≡ clauses → ((t : ℕ) → last' t ≡ last t) → before' ≡ before → AreLinked clauses' last' before'
 AreLinked-same clauses clauses' last last' before before' linked same lasts is =

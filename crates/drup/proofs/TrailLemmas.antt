@@ -103,12 +103,6 @@ placed_in marks literals count o l on =
     let room : count ≤ length literals = omega (arith, o.as_many, o.counted, count_by-le-length (λ b. b) marks) in
     (old.0, omega (arith, old.1, length-take-le count literals room), get_or-take count literals old.0 0 old.1 ∙ old.2)
 
-pub marked_in : (marks : List Bool) (literals : List ℕ) (count : ℕ) → AreMarkedFirst marks literals count → AreMarked (marked_at marks (take count literals))
-marked_in marks literals count o j h =
-    let room : count ≤ length literals = omega (arith, o.as_many, o.counted, count_by-le-length (λ b. b) marks) in
-    let below : j < count = omega (arith, length-take-le count literals room) in
-    ap (λ (l : ℕ). get_or marks l false) (get_or-take count literals j 0 below) ∙ o.marked j below
-
 -- Trails with the same order are the same.
 
 pub on_by_order : (old new : Marked) → new.order ≡ old.order → AreMarked old → ArePlaced new → IsKept new old

@@ -91,9 +91,6 @@ pub record Propagating (clauses : List (List ℕ)) (limit head0 : ℕ) (watched0
   pub stays : Stays watched0 watched old
   pub from : head0 ≤ head
 
-pub Propagating-begin : (clauses : List (List ℕ)) (limit head : ℕ) (watched : List ℕ) (lists : List (List ℕ)) (m : Marked) → IsWatched clauses watched lists limit → IsConsistent m → Processed clauses watched m head → head ≤ length m.order → Propagating clauses limit head watched m watched lists m head
-Propagating-begin clauses limit head watched lists m w c p h = record { is_watched = w; grows = Grows-begin clauses m c; processed = p; within = h; stays = Stays-begin watched m; from = omega arith }
-
 pub Propagating-more : (clauses : List (List ℕ)) (limit head0 : ℕ) (watched0 : List ℕ) (old : Marked) (watched : List ℕ) (lists : List (List ℕ)) (now : Marked) (head negated : ℕ) (watched' : List ℕ) (lists' : List (List ℕ)) (new : Marked)
     → Propagating clauses limit head0 watched0 old watched lists now head → head < length now.order → negated ≡ negation (get_or now.order head 0) → IsWatched clauses watched' lists' limit → GrowsMarked clauses now new → Walked clauses negated watched now watched' new → Stays watched watched' now → Propagating clauses limit head0 watched0 old watched' lists' new (head + 1)
 Propagating-more clauses limit head0 watched0 old watched lists now head negated watched' lists' new p h at w g walked t = record {

@@ -67,21 +67,6 @@ is_dropped lists lists' negated place h is =
       as_many = length-set lists negated (swap_remove (list_at lists negated) place 0);
     })
 
-pub is_moved : (watched watched' : List ℕ) (lists between lists' : List (List ℕ)) (negated place literal watch : ℕ) → negated < length lists → literal < length lists → literal ≢ negated → watch ≡ get_or (list_at lists negated) place 0
-    → between ≡ set lists literal (list_at lists literal ++ watch ∷ []) → lists' ≡ set between negated (swap_remove (list_at between negated) place 0) → watched' ≡ set watched watch literal → Moved watched lists negated place literal watched' lists'
-is_moved watched watched' lists between lists' negated place literal watch h k ne w is is' wis =
-    let other : negated ≢ literal = λ e. ne (sym e) in
-    let same : (l : ℕ) → l ≢ literal → list_at between l ≡ list_at lists l = λ l nl. ap (λ (ls : List (List ℕ)). list_at ls l) is ∙ get_or-set_other lists literal l (list_at lists literal ++ watch ∷ []) [] nl in
-    let room : negated < length between = omega (arith, ap length is, length-set lists literal (list_at lists literal ++ watch ∷ [])) in
-    let d = is_dropped between lists' negated place room is' in
-    record {
-      watch = wis ∙ ap (λ (n : ℕ). set watched n literal) w;
-      left = d.left ∙ ap (λ (xs : List ℕ). swap_remove xs place 0) (same negated other);
-      came = d.others literal ne ∙ ap (λ (ls : List (List ℕ)). list_at ls literal) is ∙ get_or-set_same lists literal (list_at lists literal ++ watch ∷ []) [] k ∙ ap (λ (n : ℕ). list_at lists literal ++ n ∷ []) w;
-      others = λ l nn nl. d.others l nn ∙ same l nl;
-      as_many = d.as_many ∙ ap length is ∙ length-set lists literal (list_at lists literal ++ watch ∷ []);
-    }
-
 -- What stands in a list still does, but for the number taken out.
 pub still_stands : (xs ys : List ℕ) (place n : ℕ) → ys ≡ swap_remove xs place 0 → place < length xs → get_or xs place 0 ≢ n → Contains xs n → Contains ys n
 still_stands xs ys place n is h ne c =

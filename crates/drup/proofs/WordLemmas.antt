@@ -5,11 +5,10 @@ use Rattle.std.proofs.lemmas.Bool.{eqb-true}
 use Rattle.base.specs.Decimals.{is_nothing, is_decimal, number_of}
 use Rattle.base.proofs.DecimalLemmas.{nothing}
 use Rattle.drup.specs.declared.word.Word.{Word}
-use Rattle.drup.specs.declared.numeral.Numeral.{Numeral}
-use Rattle.drup.specs.Numerals.{CountsDigits, numeral_more}
+use Rattle.base.specs.declared.numeral.Numeral.{Numeral}
+use Rattle.base.specs.Numerals.{CountsDigits}
 use Rattle.drup.specs.Proofs.{ends, deletes, variable_numbered, literal_said, token_of}
 use Rattle.drup.specs.Words.{SpellsWord, with_minus, sign_of, IsFirstByte}
-use Rattle.drup.proofs.NumeralLemmas.{counts_more}
 
 and-false : (b : Bool) → (b && false) ≡ false
 and-false true = refl
@@ -47,13 +46,13 @@ not_delete [] b some = absurd (cc)
 not_delete (x ∷ []) b some = sym (and-false (x == 100))
 not_delete (x ∷ y ∷ ys) b some = sym (and-false (x == 100))
 
-more_behind : (w : Word) (bytes : List ℕ) (b : ℕ) → is_nothing bytes ≡ false → SpellsWord w bytes → SpellsWord (record { negative = w.negative; deletes = false; numeral = numeral_more w.numeral b }) (bytes ++ b ∷ [])
-more_behind w bytes b some s =
+pub spells_more : (w : Word) (bytes : List ℕ) (b : ℕ) (n : Numeral) → is_nothing bytes ≡ false → ((behind : List ℕ) → CountsDigits w.numeral behind → CountsDigits n (behind ++ b ∷ [])) → SpellsWord w bytes → SpellsWord (record { negative = w.negative; deletes = false; numeral = n }) (bytes ++ b ∷ [])
+spells_more w bytes b n some more s =
     record {
       behind = s.behind ++ b ∷ [];
       is = ap (λ (t : List ℕ). t ++ b ∷ []) s.is ∙ over w.negative s.behind;
       first = first_more w.negative s.behind s.first (subst (λ (t : List ℕ). is_nothing t ≡ false) s.is some);
-      numeral = counts_more w.numeral s.behind b s.numeral;
+      numeral = more s.behind s.numeral;
       deletes = not_delete bytes b some;
     }
   where
@@ -66,19 +65,16 @@ more_behind w bytes b some s =
     first_more false [] f some = absurd (cc)
     first_more false (x ∷ xs) f some = f
 
-pub spells_more : (w : Word) (bytes : List ℕ) (b : ℕ) (n : Numeral) → is_nothing bytes ≡ false → n ≡ numeral_more w.numeral b → SpellsWord w bytes → SpellsWord (record { negative = w.negative; deletes = false; numeral = n }) (bytes ++ b ∷ [])
-spells_more w bytes b n some is s = subst (λ (m : Numeral). SpellsWord (record { negative = w.negative; deletes = false; numeral = m }) (bytes ++ b ∷ [])) (sym is) (more_behind w bytes b some s)
-
 pub spells_minus : (w : Word) (bytes : List ℕ) (b : ℕ) → is_nothing bytes ≡ true → (b == 45) ≡ true → SpellsWord w bytes → SpellsWord (record { negative = true; deletes = false; numeral = w.numeral }) (bytes ++ b ∷ [])
 spells_minus w bytes b none is s =
     let no : bytes ≡ [] = nothing bytes none in
     let minus : b ≡ 45 = eqb-true b 45 is in
     rw (no, minus) (record { behind = []; is = refl; first = tt; numeral = nothing_kept w bytes s no; deletes = refl })
 
-pub spells_first : (w : Word) (bytes : List ℕ) (b : ℕ) (n : Numeral) → is_nothing bytes ≡ true → (b == 45) ≡ false → n ≡ numeral_more w.numeral b → SpellsWord w bytes → SpellsWord (record { negative = false; deletes = b == 100; numeral = n }) (bytes ++ b ∷ [])
-spells_first w bytes b n none is_not e s =
+pub spells_first : (w : Word) (bytes : List ℕ) (b : ℕ) (n : Numeral) → is_nothing bytes ≡ true → (b == 45) ≡ false → ((behind : List ℕ) → CountsDigits w.numeral behind → CountsDigits n (behind ++ b ∷ [])) → SpellsWord w bytes → SpellsWord (record { negative = false; deletes = b == 100; numeral = n }) (bytes ++ b ∷ [])
+spells_first w bytes b n none is_not more s =
     let no : bytes ≡ [] = nothing bytes none in
-    rw (no, e) (record { behind = b ∷ []; is = refl; first = is_not; numeral = counts_more w.numeral [] b (nothing_kept w bytes s no); deletes = sym (and-true (b == 100)) })
+    rw no (record { behind = b ∷ []; is = refl; first = is_not; numeral = more [] (nothing_kept w bytes s no); deletes = sym (and-true (b == 100)) })
 
 -- ---- what it says
 

@@ -20,7 +20,6 @@ pub mod Swept
 pub mod Worked
 pub mod Places
 pub mod StepJudges
-pub mod Numerals
 pub mod Words
 pub mod StepReaders
 pub mod TextJudges

@@ -5,7 +5,7 @@ use Rattle.drup.specs.declared.word.Token.{Token as CodeToken}
 use Rattle.drup.specs.declared.word.Token.TheVariants as code
 use Rattle.drup.specs.declared.word.Word.{Word}
 use Rattle.drup.specs.Proofs.{Token, ends, deletes, literal, faulty}
-use Rattle.drup.specs.Numerals.{CountsDigits}
+use Rattle.base.specs.Numerals.{CountsDigits}
 
 -- what a word says, as the code has it
 abbrev pub token_said : CodeToken → Token

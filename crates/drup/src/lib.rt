@@ -11,7 +11,6 @@ pub mod laws;
 mod lists;
 mod literal;
 mod number;
-mod numeral;
 mod passes;
 mod places;
 mod proof_judge;

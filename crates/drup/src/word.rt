@@ -5,8 +5,8 @@ ghost use Rattle.base.specs.Decimals.{is_nothing};
 ghost use Rattle.drup.specs.Proofs.{variable_numbered, token_of};
 ghost use Rattle.drup.specs.Words.{SpellsWord, sign_of, token_said, IsBelow};
 
-use crate::numeral::Numeral;
 use crate::why::Why;
+use base::Numeral;
 
 /// What a word says.
 #[derive(Clone, Copy)]

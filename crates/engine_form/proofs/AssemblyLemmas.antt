@@ -100,10 +100,6 @@ net_of_bare n form is = ap net is ∙ ap (λ (k : ℕ). record n { latches = k }
 pub bare_by_net : (n : Net) (form : Circuit) → form ≡ gates_only n → form ≡ gates_only (net form)
 bare_by_net n form is = is ∙ ap gates_only (sym (net_of_bare n form is))
 
-pub bare_latches : (c : Circuit) (choice : Option ℕ) (form : Circuit) (table : List ℕ) (met : ℕ) (bads : List ℕ) → form ≡ gates_only (net form) → FormMade c choice (net form) table met bads
-    → form.latches ≡ replicate (latch_count c) fresh_latch
-bare_latches c choice form table met bads bare made = ap (λ (x : Circuit). x.latches) bare ∙ ap (λ (k : ℕ). replicate k fresh_latch) made.latches
-
 -- a circuit with a latch set where that is wanted
 with_if : (b : Bool) (c : Circuit) (k : ℕ) (latch : Latch) → (if b then with_latch c k latch else c) ≡ record c { latches = if b then slice_set c.latches k latch else c.latches }
 with_if true c k latch = refl

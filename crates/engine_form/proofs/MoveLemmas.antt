@@ -63,19 +63,6 @@ name_fits c s k name inside free good =
 
 -- ---- where they go
 
--- the position is there
-pub new_there : (c d : Circuit) (s : Section) (k : ℕ) → record d { names = [] } ≡ unnamed c → k < section_count s c → new_position c s k < section_count (new_section s) d
-new_there c d s k is inside = subst (λ (n : ℕ). new_position c s k < n) (sym (same (new_section s) d ∙ ap (section_count (new_section s)) is)) (fits s inside)
-  where
-    same : (t : Section) (x : Circuit) → section_count t x ≡ section_count t (record x { names = [] })
-    same Input x = refl
-    same Latch x = refl
-    same Output x = refl
-    same Bad x = refl
-    same Constraint x = refl
-    same Justice x = refl
-    same Fair x = refl
-
     fits : (s : Section) → k < section_count s c → new_position c s k < section_count (new_section s) (unnamed c)
     fits Input h = h
     fits Latch h = h
@@ -123,16 +110,6 @@ itself_before r p =
     by true a b = refl
     by false a b = rw (a, b) refl
 
-itself_not : (r p : ℕ) → (nat_lt r r || (nat_eq r r && nat_lt p p)) ≡ false
-itself_not r p =
-    let a : nat_lt r r ≡ false = grind (arith, nat_tests) in
-    let b : nat_lt p p ≡ false = grind (arith, nat_tests) in
-    rw (a, b) (by (nat_eq r r))
-  where
-    by : (x : Bool) → (false || (x && false)) ≡ false
-    by true = refl
-    by false = refl
-
 others_before : (r p n k : ℕ) → (n ≡ r → k ≡ p → ⊥) → (nat_lt n r || (nat_eq n r && nat_lt k (p + 1))) ≡ (nat_lt n r || (nat_eq n r && nat_lt k p))
 others_before r p n k apart = ap (λ (b : Bool). nat_lt n r || b) (by (nat_eq n r) refl)
   where
@@ -143,30 +120,6 @@ others_before r p n k apart = ap (λ (b : Bool). nat_lt n r || b) (by (nat_eq n 
         grind (arith, nat_tests)
     by false e = refl
 
-next_section : (r p n k : ℕ) → (n ≡ r → k < p) → (nat_lt n (r + 1) || (nat_eq n (r + 1) && nat_lt k 0)) ≡ (nat_lt n r || (nat_eq n r && nat_lt k p))
-next_section r p n k all =
-    let none : nat_lt k 0 ≡ false = grind (arith, nat_tests) in
-    rw none (by (nat_eq n r) refl (nat_eq n (r + 1)))
-  where
-    by : (x : Bool) → nat_eq n r ≡ x → (y : Bool) → (nat_lt n (r + 1) || (y && false)) ≡ (nat_lt n r || (x && nat_lt k p))
-    by true e y =
-        let same : n ≡ r = grind (arith, nat_tests) in
-        let a : nat_lt k p ≡ true = (let h = all same in grind (arith, nat_tests)) in
-        let b : nat_lt n (r + 1) ≡ true = grind (arith, nat_tests) in
-        rw (a, b) (sym (or_true (nat_lt n r)))
-      where
-        or_true : (b : Bool) → (b || true) ≡ true
-        or_true true = refl
-        or_true false = refl
-    by false e y =
-        let other : n ≢ r = grind (arith, nat_tests) in
-        let same : nat_lt n (r + 1) ≡ nat_lt n r = grind (arith, nat_tests) in
-        rw same (ap (λ (b : Bool). nat_lt n r || b) (none_of y))
-      where
-        none_of : (b : Bool) → (b && false) ≡ false
-        none_of true = refl
-        none_of false = refl
-
 none_before : (n k : ℕ) → (nat_lt n 0 || (nat_eq n 0 && nat_lt k 0)) ≡ false
 none_before n k =
     let a : nat_lt n 0 ≡ false = grind (arith, nat_tests) in
@@ -176,14 +129,6 @@ none_before n k =
     by : (x : Bool) → (false || (x && false)) ≡ false
     by true = refl
     by false = refl
-
--- at first none has
-pub none_moved : (c d : Circuit) → d ≡ unnamed c → NamesMoved c d 0 0
-none_moved c d is s k inside = ap (λ (x : Circuit). name_of x (new_section s) (new_position c s k)) is ∙ ap (λ (b : Bool). if b then name_of c s k else None) (sym (none_before (rank s) k))
-
--- a place where no name has gone is free
-pub still_free : (c d : Circuit) (s : Section) (k : ℕ) → NamesMoved c d (rank s) k → k < section_count s c → name_of d (new_section s) (new_position c s k) ≡ None
-still_free c d s k moved inside = moved s k inside ∙ ap (λ (b : Bool). if b then name_of c s k else None) (itself_not (rank s) k)
 
 -- one more is looked at: its name, where it has one, has gone
 step : (c old new : Circuit) (t : Section) (p : ℕ) → NamesMoved c old (rank t) p → name_of new (new_section t) (new_position c t p) ≡ name_of c t p
@@ -220,18 +165,6 @@ name_moved c old new t p name there moved at is =
     (λ s k inside apart.
     ap (λ (x : Circuit). name_of x (new_section s) (new_position c s k)) is
     ∙ other_place old (new_section s) (new_section t) (new_position c s k) (new_position c t p) name (places_differ c s t k p inside there apart))
-
-pub no_name_moved : (c d : Circuit) (t : Section) (p : ℕ) → p < section_count t c → NamesMoved c d (rank t) p → name_of c t p ≡ None → NamesMoved c d (rank t) (p + 1)
-no_name_moved c d t p there moved none =
-    step c d d t p moved (still_free c d t p moved there ∙ sym none) (λ s k inside apart. refl)
-
--- all of a section have
-pub section_moved : (c d : Circuit) (t : Section) (p : ℕ) → section_count t c ≤ p → NamesMoved c d (rank t) p → NamesMoved c d (rank t + 1) 0
-section_moved c d t p all moved s k inside =
-    moved s k inside ∙ ap (λ (b : Bool). if b then name_of c s k else None) (sym (next_section (rank t) p (rank s) k (λ same. within (section_from_rank s t same))))
-  where
-    within : s ≡ t → k < p
-    within same = let e = ap (λ (x : Section). section_count x c) same in omega arith
 
 -- what has all lists and all names is the circuit
 pub all_moved : (c d : Circuit) → IsCircuit c → IsCircuit d → record d { names = [] } ≡ unnamed c → NamesMoved c d 7 0 → HasOutputsAsBads c d

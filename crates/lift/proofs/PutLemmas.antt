@@ -170,10 +170,6 @@ any_of_map f (p ∷ ps) = ap (λ (b : Bool). f p || b) (any_of_map f ps)
 free_by_places : (items : List Item) → has_free (shape_of items) ≡ list_any (is_free_at items) (places is_state 0 items)
 free_by_places items = ap (list_any (λ (b : Bool). b)) (sym (free_at_places items)) ∙ any_of_map (is_free_at items) (places is_state 0 items)
 
-pub any_step : (f : ℕ → Bool) (ps : List ℕ) (k d : ℕ) → k < length ps → f (get_or ps k d) ≡ false → list_any f (take k ps) ≡ false → list_any f (take (k + 1) ps) ≡ false
-any_step f ps k d lt not h =
-    ap (list_any f) (take_at_read ps k d lt).1 ∙ list_any-append f (take k ps) (get_or ps k d ∷ []) ∙ or_from (list_any f (take k ps)) (list_any f (get_or ps k d ∷ [])) h (or_from (f (get_or ps k d)) false not refl)
-
 any_found : (f : ℕ → Bool) (ps : List ℕ) (k d : ℕ) → k < length ps → f (get_or ps k d) ≡ true → list_any f ps ≡ true
 any_found f [] k d lt h = absurd (omega (arith, lt))
 any_found f (p ∷ ps) zero d lt h = rw h refl

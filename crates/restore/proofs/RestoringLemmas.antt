@@ -55,9 +55,6 @@ pub told_line : {A B : Type 0} (e : RestoreFault) → (IsUnread e × A) ⊎ (IsT
 told_line e (inl h) apart = (unread_kind e h.0).1
 told_line e (inr h) apart = absurd (let is = text_kind e h.0 in cc)
 
-pub not_devices : (w : RestoreWhy) → is_of_text w ≡ true → (w ≢ why.Device) × (w ≢ why.NoMemory)
-not_devices w is = (λ d. let e : true ≡ false = sym is ∙ ap is_of_text d in absurd (cc), λ d. let e : true ≡ false = sym is ∙ ap is_of_text d in absurd (cc))
-
 -- ---- what is counted
 
 counts_why : (w : RestoreWhy) (read read' written : ℕ) → w ≢ why.Write → (w ≡ why.Device → HasRisen read read') → (w ≢ why.Device → read' ≡ read) → CountsRestoreWhy w read read' written written
@@ -73,24 +70,6 @@ pub counts_told : {A B : Type 0} (e : RestoreFault) (read read' written : ℕ) �
 counts_told e read read' written (inl (inl is, h)) risen same = counts_why e.why read read' written (λ w. let d : why.Device ≡ why.Write = sym (ap (λ (f : RestoreFault). f.why) is) ∙ w in absurd (cc)) risen same
 counts_told e read read' written (inl (inr is, h)) risen same = counts_why e.why read read' written (λ w. let d : why.NoMemory ≡ why.Write = sym (ap (λ (f : RestoreFault). f.why) is) ∙ w in absurd (cc)) risen same
 counts_told e read read' written (inr h) risen same = counts_why e.why read read' written h.0.1.1 risen same
-
-pub counts_text : (w : RestoreWhy) (read read' written written' : ℕ) → is_of_text w ≡ true → read' ≡ read → written' ≡ written → CountsRestoreWhy w read read' written written'
-counts_text why.NoFrame read read' written written' of same put = (same, put)
-counts_text why.InitialOne read read' written written' of same put = (same, put)
-counts_text why.NoBit read read' written written' of same put = (same, put)
-counts_text why.WrongLength read read' written written' of same put = (same, put)
-counts_text why.NoMemory read read' written written' of same put = absurd cc
-counts_text why.Device read read' written written' of same put = absurd cc
-counts_text why.Write read read' written written' of same put = absurd cc
-
-pub text_counts : (w : RestoreWhy) (read read' written written' : ℕ) → is_of_text w ≡ true → CountsRestoreWhy w read read' written written' → (read' ≡ read) × (written' ≡ written)
-text_counts why.NoFrame read read' written written' of h = h
-text_counts why.InitialOne read read' written written' of h = h
-text_counts why.NoBit read read' written written' of h = h
-text_counts why.WrongLength read read' written written' of h = h
-text_counts why.NoMemory read read' written written' of h = absurd cc
-text_counts why.Device read read' written written' of h = absurd cc
-text_counts why.Write read read' written written' of h = absurd cc
 
 -- ---- frames that are found
 

@@ -101,9 +101,6 @@ gap_said k p said.One xs = said_step k p said.One 32 xs
 gap_said k p said.Dot xs = said_step k p said.Dot 32 xs
 gap_said k p said.Other xs = said_step k p said.Other 32 xs
 
-more_asked : (k : ℕ) (p : Place) (b : ℕ) (xs : List ℕ) → behind_words (standing k p) (63 ∷ xs) ≡ behind_words (standing k p) (63 ∷ b ∷ xs)
-more_asked k p b xs = sym (said_step k p said.Other b xs)
-
 -- the line with a byte more has words that are as good
 abbrev Keeps : ℕ → Place → Line → ℕ → List ℕ → Type 0
 Keeps k p l b bs = behind_words (standing k p) (words_left l (b ∷ bs)) ≡ behind_words (standing k (place_more p l b)) (words_left (line_more p l b) bs)

@@ -17,7 +17,3 @@ bytes_written-append t (x ∷ xs) ys =
 pub shown-append : (k : ℕ) (xs ys : List ℕ) → shown k (xs ++ ys) ≡ shown k xs ++ shown k ys
 shown-append zero xs ys = refl
 shown-append (suc n) xs ys = refl
-
-pub shown-nothing : (k : ℕ) → shown k [] ≡ []
-shown-nothing zero = refl
-shown-nothing (suc n) = refl

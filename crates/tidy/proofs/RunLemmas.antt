@@ -110,9 +110,6 @@ kept_run t s w gap bytes e other none is all =
     subst (λ (l : Line). IsTidying (at t.skip t.place l) bytes) (sym (e ∙ ap (λ (o : Said). line.Kept o w gap) other ∙ ap (λ (g : Bool). line.Kept said.Other w g) none))
     (kept_at t.skip t.place w bytes is all)
 
-pub no_run : (t : Tidier) → IsTidying t []
-no_run t = nothing_at t.skip t.place t.line
-
 -- a front of a line is one
 pub front_is_line : (n : ℕ) (bytes : List ℕ) → IsLine bytes → IsLine (take n bytes)
 front_is_line zero bytes is = refl

@@ -43,10 +43,6 @@ taken_more old mid new kept mid_kept left before u after whole rest piece more t
       (sent_on old mid new (kept ++ bytes_written before t.front) mid_kept (bytes_written u piece) left t.sent sent);
 }
 
-pub all_behind : (old new : Option (List ℕ)) (kept left : List ℕ) (before after : Tidier) (whole rest : List ℕ) → Taken old new kept left before after whole rest → rest ≡ [] → after ≡ behind_bytes before whole
-all_behind old new kept left before after whole rest t e =
-    t.behind ∙ ap (behind_bytes before) (sym (append-nil t.front) ∙ ap (λ (l : List ℕ). t.front ++ l) (sym e) ∙ t.all)
-
 pub all_sent : (old new : Option (List ℕ)) (kept left : List ℕ) (before after : Tidier) (whole rest : List ℕ) → Taken old new kept left before after whole rest → rest ≡ [] → Sent old new (kept ++ bytes_written before whole) left
 all_sent old new kept left before after whole rest t e =
     subst (λ (l : List ℕ). Sent old new (kept ++ bytes_written before l) left) (sym (append-nil t.front) ∙ ap (λ (l : List ℕ). t.front ++ l) (sym e) ∙ t.all) t.sent

@@ -76,9 +76,6 @@ in_word_blank p w b bs h = ap (in_pieces p w) (pieces_blank b bs h)
 pub in_word_byte : (p : Place) (w : Word) (b : ℕ) (bs : List ℕ) → is_gap b ≡ false → in_word p w (b ∷ bs) ≡ changed p w b ∷ in_word p w bs
 in_word_byte p w b bs h = ap (in_pieces p w) (pieces_byte b bs h) ∙ next_of p w b (word_pieces bs)
 
-pub in_gap_blank : (p : Place) (w : Word) (b : ℕ) (bs : List ℕ) → is_gap b ≡ true → in_gap p w (b ∷ bs) ≡ in_gap p w bs
-in_gap_blank p w b bs h = ap (spaced p w) (words_blank b bs h)
-
 pub in_gap_byte : (p : Place) (w : Word) (b : ℕ) (bs : List ℕ) → is_gap b ≡ false → in_gap p w (b ∷ bs) ≡ 32 ∷ changed p (later w) b ∷ in_word p (later w) bs
 in_gap_byte p w b bs h = ap (λ (ps : List (List ℕ)). spaced p w (some_words ps)) (pieces_byte b bs h) ∙ behind_gap p w b (word_pieces bs)
 

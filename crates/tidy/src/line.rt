@@ -1,6 +1,5 @@
 //! A line of the text of a witness, byte by byte.
 ghost use Rattle.std.specs.Prelude.{◌≡◌, ◌==◌, ◌||◌, true, false};
-ghost use Rattle.base.specs.Decimals.{is_digit};
 ghost use Rattle.tidy.specs.Words.{is_gap};
 ghost use Rattle.tidy.specs.Tidied.{zero_x};
 ghost use Rattle.tidy.specs.Steps.{said_first, said_more, later, takes_x, changed, first_line, first_place, first_kept, first_in_front, line_more, place_more};
@@ -8,6 +7,7 @@ ghost use Rattle.tidy.specs.declared.place.Place.TheVariants as place;
 ghost use Rattle.tidy.specs.declared.line.Line.TheVariants as line;
 
 use crate::place::Place;
+use base::is_digit;
 
 /// All words of a line so far, where they may be those of a status line or of an end.
 #[derive(Clone, Copy)]
@@ -55,13 +55,6 @@ pub(crate) fn is_blank(byte: u8) -> bool
     ensures { result ≡ is_gap byte }
 {
     byte == b' ' || byte == b'\t' || byte == b'\r'
-}
-
-/// Whether a byte is a digit.
-pub(crate) fn is_digit(byte: u8) -> bool
-    ensures { result ≡ is_digit byte }
-{
-    b'0' <= byte && byte <= b'9'
 }
 
 /// The first byte of a line's words.

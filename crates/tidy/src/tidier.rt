@@ -13,8 +13,7 @@ ghost use Rattle.tidy.specs.Tidied.{at_front, is_in_front, behind_status, place_
 ghost use Rattle.tidy.specs.Steps.{spelled_line, first_line, first_bytes, bytes_more, keeps_empty, is_kept, is_gone, is_hidden, is_plain, held_bytes, end_bytes, new_line, at_line, behind_tidied, behind_byte, byte_written, behind_bytes, bytes_written, last_written, IsTidying, emitted_bytes};
 
 use crate::line::{
-    Line, Said, Word, changed, first_line, is_blank, is_digit, later, line_more, place_more,
-    takes_x,
+    Line, Said, Word, changed, first_line, is_blank, later, line_more, place_more, takes_x,
 };
 use crate::place::Place;
 use base::{DeviceFault, Outbox, Sink, next_line};

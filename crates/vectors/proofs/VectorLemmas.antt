@@ -26,9 +26,6 @@ push_written [] (w ∷ ws) line v all one = absurd all
 push_written (l ∷ ls) [] line v all one = absurd all
 push_written (l ∷ ls) (w ∷ ws) line v all one = (all.0, push_written ls ws line v all.1 one)
 
-none_read : (text : List ℕ) → ReadSoFar text text []
-none_read text = record { lines = []; is = refl; written = tt }
-
 one_read : (text rest line after : List ℕ) (vectors more : List Vector) (v : Vector) → ReadSoFar text rest vectors → rest ≡ line ++ 10 ∷ after → Writes line v → more ≡ vectors ++ v ∷ [] → ReadSoFar text after more
 one_read text rest line after vectors more v r e w m =
     rw m (record { lines = r.lines ++ line ∷ []; is = r.is ∙ (ap (λ (t : List ℕ). text_of_lines r.lines ++ t) e ∙ sym (push_line r.lines line after)); written = push_written r.lines vectors line v r.written w })
@@ -42,9 +39,6 @@ pub record NumberedSoFar (text rest : List ℕ) (read : List NumberedVector) : T
   pub vectors : List Vector
   pub so_far : ReadSoFar text rest vectors
   pub numbers : read ≡ numbered 1 vectors
-
-pub none_numbered : (text : List ℕ) → NumberedSoFar text text []
-none_numbered text = record { vectors = []; so_far = none_read text; numbers = refl }
 
 pub one_numbered : (text rest line after : List ℕ) (read more : List NumberedVector) (v : Vector) → NumberedSoFar text rest read → rest ≡ line ++ 10 ∷ after → Writes line v → more ≡ read ++ record { line = length read + 1; vector = v } ∷ [] → NumberedSoFar text after more
 one_numbered text rest line after read more v r e w m =

@@ -23,13 +23,6 @@ use Rattle.witness.proofs.JudgedLemmas.{breach_more}
 
 -- ---- initial bits
 
--- a latch more
-pub differing_rest : (k : ℕ) (latches : List Latch) (digits : List ℕ) (d : Latch) → k < length latches → length digits ≡ length latches
-    → first_reset_differing k (drop k latches) (map is_one_bit (drop k digits)) ≡ cond (differs_from_reset (get_or latches k d).reset (is_one_bit (get_or digits k 0))) (Some k) (first_reset_differing (suc k) (drop (suc k) latches) (map is_one_bit (drop (suc k) digits)))
-differing_rest k latches digits d within many =
-    let inside : k < length digits = omega (arith, within, many) in
-    rw (drop-cons latches k d within, drop-cons digits k 0 inside) refl
-
 traced_start : (c : Circuit) (claim : ℕ) (initial : List Bool) (p : BitPlay) (vs : List Valuation) → p.run.latches ≡ initial → p.breach ≡ None → p.rose ≡ false → IsCircuitTrace c initial [] vs → TracedBits c claim initial p vs
 traced_start c claim initial p [] latches breach rose t = record { latches = latches; breach = breach; rose = rose }
 traced_start c claim initial p (v ∷ vs) latches breach rose t = absurd t

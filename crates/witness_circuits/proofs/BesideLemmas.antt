@@ -41,9 +41,6 @@ below_one : (c : Circuit) (n : Net) (table : List ℕ) → StandFor c n table �
 below_one c n table s None h = tt
 below_one c n table s (Some l) h = let e = s.many in omega arith
 
-pub shared_below : (c : Circuit) (n : Net) (table : List ℕ) (ms : List (Option ℕ)) → StandFor c n table → All (IsSharedIn (net c)) ms → All (IsSharedBelow (length table)) ms
-shared_below c n table ms s all = All-weaker (IsSharedIn (net c)) (IsSharedBelow (length table)) (below_one c n table s) ms all
-
 -- both frames
 pub beside_made : (c w : Circuit) (m : Mapping) (inputs latches own_inputs own_latches : List ℕ) (old mid new : Net) (table own : List ℕ) → IsCopied c inputs latches old mid table
     → IsCopied w (beside_literals table m.inputs own_inputs) (beside_literals table m.latches own_latches) mid new own → AreBeside c w m inputs latches own_inputs own_latches old new table own

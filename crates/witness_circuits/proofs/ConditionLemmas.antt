@@ -21,10 +21,6 @@ use Rattle.witness_circuits.specs.Made.{own_initial, values, fails_by, StandFor}
 pub StandFor-grown : (c : Circuit) (old new : Net) (most : ℕ) (table : List ℕ) → Grows old new most → StandFor c old table → StandFor c new table
 StandFor-grown c old new most table grows s = record { zero_is = s.zero_is; many = s.many; defined = All-defined-grown old new most grows table s.defined }
 
--- literals of a circuit are of variables that they stand for
-pub inside_table : (c : Circuit) (n : Net) (table ls : List ℕ) → StandFor c n table → All (IsDefined (net c)) ls → All (λ l. variable l < length table) ls
-inside_table c n table ls s all = All-weaker (IsDefined (net c)) (λ l. variable l < length table) (λ l d. let e = s.many in omega arith) ls all
-
 all_read : (table : List ℕ) (v : Valuation) (ls : List ℕ) → get_or table 0 0 ≡ 0 → list_all (λ l. literal_value v (literal_in table l)) ls ≡ list_all (literal_value (read table v)) ls
 all_read table v [] z = refl
 all_read table v (l ∷ ls) z = ap₂ ◌&&◌ (value-literal_of table v l z) (all_read table v ls z)

@@ -93,16 +93,6 @@ pub record AreFourFrames (c w : Circuit) (m : Mapping) (g : TestParts Bool) (v n
   pub beside_now : IsCircuitFrame w (beside v m.latches g.own_latches) (beside v m.inputs g.own_inputs) x
   pub beside_next : IsCircuitFrame w (beside n m.latches (next_latch_bits w x)) (beside n m.inputs g.next_own) y
 
--- gates and a literal over them: in each valuation that satisfies the gates four others are frames, and the literal says that a condition fails of them
-pub record IsMade (c : Circuit) (k : ℕ) (w : Circuit) (m : Mapping) (n : Net) (l : ℕ) : Type 0 where
-  pub now : Valuation → Valuation
-  pub next : Valuation → Valuation
-  pub beside_now : Valuation → Valuation
-  pub beside_next : Valuation → Valuation
-  pub defined : IsDefined n l
-  pub frames : (z : Valuation) (g : TestParts Bool) → Satisfies n z → AreAsMany c w g → net_input_bits n z ≡ all_parts g → AreFourFrames c w m g (now z) (next z) (beside_now z) (beside_next z)
-  pub rises : (z : Valuation) → Satisfies n z → literal_value z l ≡ condition_fails c k w m (now z) (next z) (beside_now z) (beside_next z)
-
 -- ---- literals
 
 -- what literals are in a valuation

@@ -1,12 +1,14 @@
 //! A decimal, byte by byte.
-ghost use Rattle.std.specs.Prelude.{◌≡◌, List, ℕ, [], codes};
+ghost use Rattle.std.specs.Prelude.{◌≡◌, List, ℕ, [], ◌∷◌, ◌++◌, codes};
 ghost use Rattle.std.specs.Str.{bytes_eq};
-ghost use Rattle.base.specs.Decimals.{is_digit, is_nothing, number_of, number_more};
-ghost use Rattle.drup.specs.Numerals.{CountsDigits, numeral_more, is_numeral};
+ghost use Rattle.base.specs.Decimals.{is_nothing, number_of, number_more};
+ghost use Rattle.base.specs.Numerals.{CountsDigits, numeral_more, is_numeral};
+
+use crate::decimals::is_digit;
 
 /// What bytes say as a decimal, of which more may follow.
 #[derive(Clone, Copy)]
-pub(crate) struct Numeral {
+pub struct Numeral {
     // how many bytes, at most 2^64 - 1
     count: u64,
     // the first byte is `0`
@@ -15,13 +17,6 @@ pub(crate) struct Numeral {
     digits: bool,
     // the number that they write then, at most 2^64 - 1
     number: u64,
-}
-
-/// Whether a byte is a digit.
-fn is_digit(byte: u8) -> bool
-    ensures { result ≡ is_digit byte }
-{
-    b'0' <= byte && byte <= b'9'
 }
 
 /// The number with a digit more, at most 2^64 - 1; the same number where the byte is no digit.
@@ -39,7 +34,7 @@ fn number_more(number: u64, byte: u8) -> u64
 
 impl Numeral {
     /// No byte yet.
-    pub(crate) fn new() -> Numeral
+    pub fn new() -> Numeral
         ensures { CountsDigits result [] }
     {
         Numeral {
@@ -50,8 +45,8 @@ impl Numeral {
         }
     }
 
-    /// The same with a byte behind it.
-    pub(crate) fn with(self, byte: u8) -> Numeral
+    /// What is kept with a byte more.
+    fn more(self, byte: u8) -> Numeral
         ensures { result ≡ numeral_more self byte }
     {
         Numeral {
@@ -66,15 +61,23 @@ impl Numeral {
         }
     }
 
+    /// The same with a byte behind it.
+    pub fn with(self, byte: u8) -> Numeral
+        ensures { (bytes : List ℕ) → CountsDigits self bytes
+            → CountsDigits result (bytes ++ byte ∷ []) }
+    {
+        self.more(byte)
+    }
+
     /// Whether there is no byte.
-    pub(crate) fn is_empty(self) -> bool
+    pub fn is_empty(self) -> bool
         ensures { (bytes : List ℕ) → CountsDigits self bytes → result ≡ is_nothing bytes }
     {
         self.count == 0
     }
 
     /// Whether the only byte is `0`.
-    pub(crate) fn is_zero(self) -> bool
+    pub fn is_zero(self) -> bool
         ensures { (bytes : List ℕ) → CountsDigits self bytes → result ≡ bytes_eq bytes (codes "0") }
     {
         self.count == 1 && self.zero
@@ -88,7 +91,7 @@ impl Numeral {
     }
 
     /// The number that the bytes write, at most 2^64 - 1, where they are a decimal.
-    pub(crate) fn number(self) -> Option<u64>
+    pub fn number(self) -> Option<u64>
         ensures { (bytes : List ℕ) → CountsDigits self bytes → result ≡ number_of bytes }
     {
         if self.is_numeral() {

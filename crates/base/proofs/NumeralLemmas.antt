@@ -6,8 +6,8 @@ use Rattle.std.proofs.lemmas.List.Folds.{list_all-append}
 use Rattle.std.proofs.Math.Seq.{take-append_seam, take-length}
 use Rattle.base.specs.Decimals.{is_digit, are_digits, is_decimal, capped_value, number_of, number_more}
 use Rattle.base.proofs.DecimalLemmas.{digit_range, capped_value-nil, capped_value_more}
-use Rattle.drup.specs.declared.numeral.Numeral.{Numeral}
-use Rattle.drup.specs.Numerals.{CountsDigits, numeral_more, is_numeral}
+use Rattle.base.specs.declared.numeral.Numeral.{Numeral}
+use Rattle.base.specs.Numerals.{CountsDigits, numeral_more, is_numeral}
 
 -- a number with a digit more
 value_more : (digits : List ℕ) (b n : ℕ) → are_digits (digits ++ b ∷ []) ≡ true → n ≡ capped_value digits → number_more n b ≡ capped_value (digits ++ b ∷ [])

@@ -1,7 +1,7 @@
 -- What is kept of the bytes of a decimal of which more may follow.
 use Rattle.std.specs.Prelude.{◌≡◌, ℕ, ◌+◌, ◌-◌, ◌^◌, min, Bool, true, not, ◌&&◌, ◌||◌, ◌==◌, nat_lt, List, length, slice_index_or, if◌then◌else◌}
 use Rattle.base.specs.Decimals.{is_digit, are_digits, capped_value, number_more}
-use Rattle.drup.specs.declared.numeral.Numeral.{Numeral}
+use Rattle.base.specs.declared.numeral.Numeral.{Numeral}
 
 -- what is kept is that of these bytes
 pub record CountsDigits (n : Numeral) (bytes : List ℕ) : Type 0 where

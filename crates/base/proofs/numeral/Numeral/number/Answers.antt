@@ -1,6 +1,6 @@
 use Rattle.std.proofs.Common.{sym, ◌∙◌}
-use Rattle.drup.proofs.NumeralLemmas.{number_there, no_number}
-use Rattle.drup.proofs.numeral.Numeral.number.Goals as goal
+use Rattle.base.proofs.NumeralLemmas.{number_there, no_number}
+use Rattle.base.proofs.numeral.Numeral.number.Goals as goal
 
 pub returns-then-is_numeral : goal.returns-then-is_numeral
 returns-then-is_numeral c bytes h = number_there c.args.self bytes h (sym c.is_numeral.ensures ∙ c.if-is_numeral.true)
