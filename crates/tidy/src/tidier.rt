@@ -16,7 +16,7 @@ use crate::line::{
     Line, Said, Word, changed, first_line, is_blank, later, line_more, place_more, takes_x,
 };
 use crate::place::Place;
-use base::{DeviceFault, Outbox, Sink, next_line};
+use base::{DeviceFault, Outbox, Sink, is_digit, next_line};
 
 /// What is written for a byte.
 #[derive(Clone, Copy)]
