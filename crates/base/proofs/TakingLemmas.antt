@@ -1,7 +1,7 @@
 -- What was taken of a source, piece by piece.
-use Rattle.std.proofs.Common.{◌≡◌, ℕ, List, [], ◌++◌, Option, Some, None, IfSome, sym, subst, ap, ◌∙◌, append_assoc, append-nil}
+use Rattle.std.proofs.Common.{ℕ, List, [], ◌++◌, Option, IfSome, sym, subst, append_assoc, append-nil}
 use Rattle.std.specs.Io.KnownBytes.{Consumes, IsAtEnd}
-use Rattle.std.proofs.KnownBytes.{Consumes-nil, Consumes-trans}
+use Rattle.std.proofs.KnownBytes.{Consumes-nil, Consumes-trans, Consumes-whole}
 use Rattle.base.specs.Taking.{TakesFront}
 
 pub front_nothing : {V O T : Type 0} (Stands : V → O → T → List ℕ → Type 0) (source : Option (List ℕ)) (o : O) (t : T) → TakesFront Stands source source o o t t
@@ -16,17 +16,8 @@ front_more {Stands = Stands} {old = old} {mid = mid} {now = now} {o'' = o''} {af
       takes = λ v text h. subst (Stands v o'' after) (append_assoc text taken.front piece) (takes v (text ++ taken.front) (taken.takes v text h));
     }
 
--- at the end nothing is left of the source's bytes
-front_is_whole : (old now : Option (List ℕ)) (front : List ℕ) → Consumes old now front → IsAtEnd now → IfSome old (λ all. front ≡ all)
-front_is_whole None now front c end = tt
-front_is_whole (Some xs) None front c end = absurd c
-front_is_whole (Some xs) (Some ys) front c end = sym (c ∙ (ap (λ (l : List ℕ). front ++ l) end ∙ append-nil front))
-
-if_some_then : (o : Option (List ℕ)) (P Q : List ℕ → Type 0) → ((x : List ℕ) → P x → Q x) → IfSome o P → IfSome o Q
-if_some_then None P Q f h = tt
-if_some_then (Some x) P Q f h = f x h
-
+-- at the end of a source that is its whole text
 pub whole_taken : {V O T : Type 0} {Stands : V → O → T → List ℕ → Type 0} {old now : Option (List ℕ)} {o o' : O} {before after : T} → TakesFront Stands old now o o' before after → IsAtEnd now
     → (v : V) (text : List ℕ) → Stands v o before text → IfSome old (λ all. Stands v o' after (text ++ all))
 whole_taken {Stands = Stands} {old = old} {now = now} {o' = o'} {after = after} taken end v text h =
-    if_some_then old (λ all. taken.front ≡ all) (λ all. Stands v o' after (text ++ all)) (λ all is. subst (λ all. Stands v o' after (text ++ all)) is (taken.takes v text h)) (front_is_whole old now taken.front taken.consumes end)
+    Consumes-whole old now taken.front (λ all. Stands v o' after (text ++ all)) taken.consumes end (taken.takes v text h)

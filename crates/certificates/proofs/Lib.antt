@@ -1,6 +1,5 @@
 mod BitLemmas
 mod ClauseLemmas
-mod FeedLemmas
 mod FormulaLemmas
 mod ObligationLemmas
 mod PutLemmas

@@ -1,6 +1,5 @@
 pub mod Certificates
 pub mod Faults
-pub mod Feeding
 pub mod Invariants
 pub mod Made
 pub mod Obligation

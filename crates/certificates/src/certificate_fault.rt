@@ -3,7 +3,6 @@ ghost use Rattle.std.specs.Prelude.{◌≡◌};
 ghost use Rattle.certificates.specs.Faults.{certificate_number, certificate_name, certificate_line};
 
 use crate::claim_fault::ClaimFault;
-use base::DeviceFault;
 use drup::ClauseFault;
 use std::fmt;
 use thiserror::Error;
@@ -77,15 +76,5 @@ impl From<ClauseFault> for CertificateFault {
 
     fn from(fault: ClauseFault) -> CertificateFault {
         CertificateFault::Judge(fault)
-    }
-}
-
-impl From<DeviceFault> for CertificateFault {
-    ghost use Rattle.certificates.specs.declared.certificate_fault.CertificateFault.TheVariants.{Device};
-
-    ghost from_gives = { λ _ fault. fault ≡ Device };
-
-    fn from(_: DeviceFault) -> CertificateFault {
-        CertificateFault::Device
     }
 }

@@ -1,41 +1,18 @@
 //! Judging certificates of bad properties of circuits.
 ghost use Rattle.std.specs.Prelude.{◌≡◌, ℕ, [], IfErr, IfOk, OnOk};
 ghost use Rattle.std.specs.Io.KnownBytes.{IsAtEnd};
-ghost use Rattle.base.specs.Device.{CountsFaults};
 ghost use Rattle.aiger.specs.Reachability.{CanRiseInCircuit};
 ghost use Rattle.drup.specs.declared.judgement.Judgement.TheVariants as judgement;
 ghost use Rattle.drup.specs.ProofJudges.{StandsForText};
 ghost use Rattle.certificates.specs.Certificates.{CountsCertificate, IsCertified, IsJudgedProof, IsNotCertified, IsOfProof, WithoutFormOf, WithoutFormula};
-ghost use Rattle.certificates.specs.Feeding.{FedAll};
 
 use crate::certificate_fault::CertificateFault;
 use crate::claims::owed_formula;
 use crate::laws::certified_property_never_rises;
 use aiger::Circuit;
-use base::{DeviceFault, Source};
+use base::{Source, take_source};
 use drup::{ClauseFault, Formula, Judgement, ProofJudge};
 use std::alloc::Global;
-
-/// How many bytes one call of a source is asked for.
-const CHUNK: usize = 65536;
-
-/// Reads a source to its end and feeds a judge with all that it gives.
-///
-/// Error: the source's own, once.
-fn feed_all<P: Source>(judge: &mut ProofJudge, proof: &mut P) -> Result<(), DeviceFault>
-    ensures fed { OnOk result (FedAll (P.to_come proof.old) judge.old judge.new) }
-    ensures end { OnOk result (IsAtEnd (P.to_come proof.new)) }
-    ensures counted { CountsFaults result (P.failures proof.old) (P.failures proof.new) }
-{
-    let mut chunk = [0u8; CHUNK];
-    loop {
-        match proof.read(&mut chunk) {
-            Ok(0) => return Ok(()),
-            Ok(count) => judge.feed(&chunk[..count]),
-            Err(fault) => return Err(fault),
-        }
-    }
-}
 
 /// A judge of proofs over a formula, which it has taken over: the formula itself is not held beside it.
 fn judge_of(alloc: Global, formula: Formula) -> Result<ProofJudge, ClauseFault>
@@ -60,8 +37,10 @@ pub fn judge_proof<P: Source>(
         (P.failures proof.new) }
 {
     let mut judge = judge_of(alloc, formula)?;
-    feed_all(&mut judge, proof)?;
-    Ok(judge.finish()?)
+    match take_source(&mut judge, &mut (), proof) {
+        Ok(()) => Ok(judge.finish()?),
+        Err(_) => Err(CertificateFault::Device),
+    }
 }
 
 /// Judges a certificate of the bad property of a circuit at a position, from 0: reads the text of an invariant and that of a

@@ -13,6 +13,7 @@ use crate::number::Number;
 use crate::text_judge::{TextJudge, is_too_many};
 use crate::why::Why;
 use crate::word::Token;
+use base::Taker;
 use std::alloc::Global;
 
 /// In which form a text is, and where the next byte stands in the binary form.
@@ -337,5 +338,25 @@ impl ProofJudge {
     {
         let mut judge = self;
         judge.judgement()
+    }
+}
+
+impl Taker<()> for ProofJudge {
+    ghost use Rattle.std.specs.Prelude.{false};
+    ghost use Rattle.drup.specs.Formula.{Formula as FormulaValue};
+    ghost use Rattle.drup.specs.ProofJudges.{StandsForText};
+
+    ghost Over = { FormulaValue };
+
+    ghost stands = { λ f output judge text. StandsForText f judge text };
+
+    ghost is_done = { λ judge. false };
+
+    fn take(&mut self, _output: &mut (), piece: &[u8]) {
+        self.feed(piece);
+    }
+
+    fn is_done(&self) -> bool {
+        false
     }
 }

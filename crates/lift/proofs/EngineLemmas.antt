@@ -18,7 +18,7 @@ use Rattle.witness.specs.BitAdmits.{admitted_lines}
 use Rattle.witness.specs.BitTexts.{BitWitness, BitSays}
 use Rattle.witness.specs.BitJudgements.{BitJudges}
 use Rattle.witness.specs.Reached.{bits_said_in}
-use Rattle.witness.proofs.FeedLemmas.{if_some_then}
+use Rattle.std.proofs.lemmas.Option.{IfSome_then}
 use Rattle.rises.specs.FirstRises.{first_rise, bit_first_rises, AreBitFirstRises}
 use Rattle.rises.proofs.RiseLemmas.{one_claim, no_claim}
 use Rattle.restore.specs.declared.fault.RestoreFault.{RestoreFault}
@@ -114,13 +114,13 @@ module _ (source : Option (List ℕ)) (named : Bool) (items : List Item) (c : Ci
   pub lifts_all : (told : Restored) (firsts : List (Option ℕ)) → IfSome source (Told told) → (named ≡ true → firsts ≡ noted_first (replicate (length c.bads) None) told.first) → Keeps items c named
       → ((text : List ℕ) → BitJudges c (restored_text c k text) told.judgement → FindsAgain c k text told.judgement) → ((text : List ℕ) → FindsInModel named items c k text) → LiftsRestored (Ok (told.judgement, firsts)) named items c k source old new
   lifts_all told firsts all notes keeps finds in_model = record {
-    judged = if_some_then source (Told told) (λ text. BitJudges c (restored_text c k text) told.judgement) (λ text t. t.judged) all;
-    rises = λ on. if_some_then source (Told told) (λ text. AreBitFirstRises c (restored_text c k text) firsts) (λ text t. subst (AreBitFirstRises c (restored_text c k text)) (sym (notes on)) (rises_of c (restored_text c k text) told.first t.first)) all;
-    right = if_some_then source (Told told) (λ text. (read_found (input_count c) text).fault ≡ None) (λ text t. t.right) all;
-    kept = if_some_then source (Told told) (λ text. KeepsVerdictIn items c (restored_text c k text) (engine_lifted_text named items c k text) told.judgement) (λ text t. keeps (restored_text c k text) told.judgement t.judged) all;
-    written = if_some_then source (Told told) (λ text. Appends old new (engine_lifted_text named items c k text)) (λ text t. subst (Appends old new) (lifted text) t.written) all;
-    found = if_some_then source (Told told) (λ text. FindsAgain c k text told.judgement) (λ text t. finds text t.judged) all;
-    in_model = if_some_then source (Told told) (FindsInModel named items c k) (λ text t. in_model text) all;
+    judged = IfSome_then source {P = Told told} {Q = λ text. BitJudges c (restored_text c k text) told.judgement} all (λ text t. t.judged);
+    rises = λ on. IfSome_then source {P = Told told} {Q = λ text. AreBitFirstRises c (restored_text c k text) firsts} all (λ text t. subst (AreBitFirstRises c (restored_text c k text)) (sym (notes on)) (rises_of c (restored_text c k text) told.first t.first));
+    right = IfSome_then source {P = Told told} {Q = λ text. (read_found (input_count c) text).fault ≡ None} all (λ text t. t.right);
+    kept = IfSome_then source {P = Told told} {Q = λ text. KeepsVerdictIn items c (restored_text c k text) (engine_lifted_text named items c k text) told.judgement} all (λ text t. keeps (restored_text c k text) told.judgement t.judged);
+    written = IfSome_then source {P = Told told} {Q = λ text. Appends old new (engine_lifted_text named items c k text)} all (λ text t. subst (Appends old new) (lifted text) t.written);
+    found = IfSome_then source {P = Told told} {Q = λ text. FindsAgain c k text told.judgement} all (λ text t. finds text t.judged);
+    in_model = IfSome_then source {P = Told told} {Q = FindsInModel named items c k} all (λ text t. in_model text);
     faulty = tt;
     before = tt;
     beginning = tt;
@@ -136,9 +136,9 @@ module _ (source : Option (List ℕ)) (named : Bool) (items : List Item) (c : Ci
     written = tt;
     found = tt;
     in_model = tt;
-    faulty = λ of. if_some_then source (But true) (λ text. (read_found (input_count c) text).fault ≡ Some e) (λ text t. t.0) (but true of);
-    before = λ of. if_some_then source (But true) (λ text. Appends old new (engine_lifted_text named items c k text)) (λ text t. subst (Appends old new) (lifted text) t.1) (but true of);
-    beginning = λ apart. if_some_then source (But false) (λ text. AppendsBeginning old new (engine_lifted_text named items c k text)) (λ text t. subst (AppendsBeginning old new) (lifted text) t) (but false apart);
+    faulty = λ of. IfSome_then source {P = But true} {Q = λ text. (read_found (input_count c) text).fault ≡ Some e} (but true of) (λ text t. t.0);
+    before = λ of. IfSome_then source {P = But true} {Q = λ text. Appends old new (engine_lifted_text named items c k text)} (but true of) (λ text t. subst (Appends old new) (lifted text) t.1);
+    beginning = λ apart. IfSome_then source {P = But false} {Q = λ text. AppendsBeginning old new (engine_lifted_text named items c k text)} (but false apart) (λ text t. subst (AppendsBeginning old new) (lifted text) t);
   }
     where
       But : Bool → List ℕ → Type 0
@@ -156,13 +156,13 @@ module _ (source : Option (List ℕ)) (named : Bool) (items : List Item) (c : Ci
   pub form_lifts : (told : Restored) (firsts : List (Option ℕ)) → IfSome source (FormTold told) → (named ≡ true → firsts ≡ noted_first (replicate (length c.bads) None) told.first) → Keeps items c named
       → ((text : List ℕ) → FindsWitnessInModel named items c choice d text) → LiftsForm (Ok (told.judgement, firsts)) named items c choice d source old new
   form_lifts told firsts all notes keeps finds = record {
-    judged = if_some_then source (FormTold told) (λ text. FormJudges c choice d text told.judgement) (λ text t. t.judged) all;
-    rises = λ on. if_some_then source (FormTold told) (λ text. AreBitFirstRises c (form_restored_text c choice d text) firsts) (λ text t. subst (AreBitFirstRises c (form_restored_text c choice d text)) (sym (notes on)) (rises_of c (form_restored_text c choice d text) told.first t.first)) all;
-    kept = if_some_then source (FormTold told) (λ text. KeepsFormVerdict named items c choice d text told.judgement) (λ text t h. keeps (form_restored_text c choice d text) told.judgement h) all;
-    written = if_some_then source (FormTold told) (λ text. Appends old new (form_lifted_text named items c choice d text)) (λ text t. subst (Appends old new) (lifted text) t.written) all;
-    found = if_some_then source (FormTold told) (FindsWitnessInModel named items c choice d) (λ text t. finds text) all;
+    judged = IfSome_then source {P = FormTold told} {Q = λ text. FormJudges c choice d text told.judgement} all (λ text t. t.judged);
+    rises = λ on. IfSome_then source {P = FormTold told} {Q = λ text. AreBitFirstRises c (form_restored_text c choice d text) firsts} all (λ text t. subst (AreBitFirstRises c (form_restored_text c choice d text)) (sym (notes on)) (rises_of c (form_restored_text c choice d text) told.first t.first));
+    kept = IfSome_then source {P = FormTold told} {Q = λ text. KeepsFormVerdict named items c choice d text told.judgement} all (λ text t h. keeps (form_restored_text c choice d text) told.judgement h);
+    written = IfSome_then source {P = FormTold told} {Q = λ text. Appends old new (form_lifted_text named items c choice d text)} all (λ text t. subst (Appends old new) (lifted text) t.written);
+    found = IfSome_then source {P = FormTold told} {Q = FindsWitnessInModel named items c choice d} all (λ text t. finds text);
     beginning = tt;
   }
 
   pub form_fails : (e : RestoreFault) → IfSome source (λ text. AppendsBeginning old new (form_lines_put (put_piece_for (record { items = items; named = named })) c choice d text)) → LiftsForm (Err e) named items c choice d source old new
-  form_fails e all = record { judged = tt; rises = λ on. tt; kept = tt; written = tt; found = tt; beginning = if_some_then source (λ text. AppendsBeginning old new (form_lines_put (put_piece_for (record { items = items; named = named })) c choice d text)) (λ text. AppendsBeginning old new (form_lifted_text named items c choice d text)) (λ text t. subst (AppendsBeginning old new) (lifted text) t) all }
+  form_fails e all = record { judged = tt; rises = λ on. tt; kept = tt; written = tt; found = tt; beginning = IfSome_then source {P = λ text. AppendsBeginning old new (form_lines_put (put_piece_for (record { items = items; named = named })) c choice d text)} {Q = λ text. AppendsBeginning old new (form_lifted_text named items c choice d text)} all (λ text t. subst (AppendsBeginning old new) (lifted text) t) }

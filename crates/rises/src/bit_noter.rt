@@ -12,7 +12,7 @@ ghost use Rattle.rises.specs.Notes.{IsNoted, NotesBits};
 
 use crate::first_rises::FirstRises;
 use aiger::Circuit;
-use base::next_line;
+use base::{Taker, next_line};
 use runs::NewFault;
 use std::alloc::Global;
 use witness::{BitJudge, Judgement};
@@ -104,5 +104,25 @@ impl<'a> BitNoter<'a> {
     {
         let BitNoter { judge, firsts } = self;
         (judge.finish(), firsts)
+    }
+}
+
+impl<'a> Taker<()> for BitNoter<'a> {
+    ghost use Rattle.std.specs.Prelude.{Bool, false};
+    ghost use Rattle.aiger.specs.Circuit.{Circuit};
+    ghost use Rattle.rises.specs.Notes.{NotesBits};
+
+    ghost Over = { Bool × Circuit };
+
+    ghost stands = { λ over output noter text. NotesBits over.0 over.1 noter text };
+
+    ghost is_done = { λ noter. false };
+
+    fn take(&mut self, _output: &mut (), piece: &[u8]) {
+        self.feed(piece);
+    }
+
+    fn is_done(&self) -> bool {
+        false
     }
 }

@@ -18,32 +18,11 @@ use crate::bit_noter::BitNoter;
 use crate::first_rises::FirstRises;
 use crate::word_noter::WordNoter;
 use aiger::Circuit;
-use base::{DeviceFault, Source};
+use base::{Source, take_source};
 use btor2::Model;
 use runs::NewFault;
 use std::alloc::Global;
 use witness::{JudgeFault, Judgement};
-
-/// How many bytes one call of a source is asked for.
-const CHUNK: usize = 65536;
-
-/// Reads a source to its end and feeds a noter with all that it gives.
-///
-/// Error: the source's own, once.
-fn feed_words<S: Source>(noter: &mut WordNoter<'_>, source: &mut S) -> Result<(), DeviceFault>
-    ensures fed { OnOk result ((items : List Item) (text : List ℕ) → NotesWords items noter.old text
-        → IfSome (S.to_come source.old) (λ all. NotesWords items noter.new (text ++ all))) }
-    ensures end { OnOk result (IsAtEnd (S.to_come source.new)) }
-    ensures counted { CountsFaults result (S.failures source.old) (S.failures source.new) }
-{
-    let mut chunk = [0u8; CHUNK];
-    loop {
-        match source.read(&mut chunk)? {
-            0 => return Ok(()),
-            count => noter.feed(&chunk[..count]),
-        }
-    }
-}
 
 /// Reads a source to its end, judges its text as a witness over a model, as `witness::judge_words` does, and answers with
 /// the judgement the first frame in which each claimed bad property is 1 among the frames that are closed before the faulty
@@ -79,27 +58,9 @@ pub fn judge_words_with_rises<S: Source>(
         Err(NewFault::NoNext(id)) => return Err(JudgeFault::NoNext(id)),
         Err(NewFault::NoMemory) => return Err(JudgeFault::NoMemory),
     };
-    match feed_words(&mut noter, source) {
+    match take_source(&mut noter, &mut (), source) {
         Ok(()) => Ok(noter.finish()),
-        Err(DeviceFault::Failed) => Err(JudgeFault::Device),
-    }
-}
-
-/// Reads a source to its end and feeds a noter with all that it gives.
-///
-/// Error: the source's own, once.
-fn feed_bits<S: Source>(noter: &mut BitNoter<'_>, source: &mut S) -> Result<(), DeviceFault>
-    ensures fed { OnOk result ((c : Circuit) (text : List ℕ) → NotesBits true c noter.old text
-        → IfSome (S.to_come source.old) (λ all. NotesBits true c noter.new (text ++ all))) }
-    ensures end { OnOk result (IsAtEnd (S.to_come source.new)) }
-    ensures counted { CountsFaults result (S.failures source.old) (S.failures source.new) }
-{
-    let mut chunk = [0u8; CHUNK];
-    loop {
-        match source.read(&mut chunk)? {
-            0 => return Ok(()),
-            count => noter.feed(&chunk[..count]),
-        }
+        Err(_) => Err(JudgeFault::Device),
     }
 }
 
@@ -131,8 +92,8 @@ pub fn judge_bits_with_rises<S: Source>(
         Ok(noter) => noter,
         Err(_) => return Err(JudgeFault::NoMemory),
     };
-    match feed_bits(&mut noter, source) {
+    match take_source(&mut noter, &mut (), source) {
         Ok(()) => Ok(noter.finish()),
-        Err(DeviceFault::Failed) => Err(JudgeFault::Device),
+        Err(_) => Err(JudgeFault::Device),
     }
 }

@@ -13,7 +13,7 @@ ghost use Rattle.rises.specs.FirstRises.{word_first_rises};
 ghost use Rattle.rises.specs.Notes.{EndsLine, IsNoted, NotesWords};
 
 use crate::first_rises::FirstRises;
-use base::next_line;
+use base::{Taker, next_line};
 use btor2::Model;
 use runs::NewFault;
 use std::alloc::Global;
@@ -99,5 +99,25 @@ impl<'a> WordNoter<'a> {
     {
         let WordNoter { judge, firsts } = self;
         (judge.finish(), firsts)
+    }
+}
+
+impl<'a> Taker<()> for WordNoter<'a> {
+    ghost use Rattle.std.specs.Prelude.{List, false};
+    ghost use Rattle.btor2.specs.declared.item.Item.{Item};
+    ghost use Rattle.rises.specs.Notes.{NotesWords};
+
+    ghost Over = { List Item };
+
+    ghost stands = { λ items output noter text. NotesWords items noter text };
+
+    ghost is_done = { λ noter. false };
+
+    fn take(&mut self, _output: &mut (), piece: &[u8]) {
+        self.feed(piece);
+    }
+
+    fn is_done(&self) -> bool {
+        false
     }
 }

@@ -13,7 +13,7 @@ use Rattle.base.proofs.PenLemmas.{writes_then}
 use Rattle.btor2.specs.declared.item.Item.{Item}
 use Rattle.btor2.specs.Trace.{Frame}
 use Rattle.witness.specs.ClosedWords.{IsClosedTrace}
-use Rattle.witness.proofs.FeedLemmas.{if_some_then}
+use Rattle.std.proofs.lemmas.Option.{IfSome_then}
 use Rattle.vcd.specs.declared.scope.Shown.{Shown}
 use Rattle.vcd.specs.Dumps.{declaration_lines, end_lines, vcd_text}
 use Rattle.vcd.specs.Stands.{Waver, Waves, Takes, TakesFront, Stops}
@@ -82,9 +82,7 @@ pub whole_dump : {K : Type 0} {written : K → Option (List ℕ)} {failures : K 
 unfolding vcd_text
 whole_dump {after} {source} shown title items end says h g at_end is said =
     let declared : List ℕ = text_of_lines (declaration_lines shown title items) in
-    if_some_then source (λ text. Waves shown items after text g.takes.put) (λ text. (fs : List Frame) → IsClosedTrace items text fs → says (vcd_text shown title items fs))
-    (λ text waves fs trace. subst says (append_assoc declared g.takes.put end ∙ ap₂ (λ (l m : List ℕ). declared ++ (l ++ m)) (waves.frames fs trace) (is shown items text g.takes.put fs waves trace)) said)
-    (ended shown items h g at_end)
+    IfSome_then source {P = λ text. Waves shown items after text g.takes.put} {Q = λ text. (fs : List Frame) → IsClosedTrace items text fs → says (vcd_text shown title items fs)} (ended shown items h g at_end) (λ text waves fs trace. subst says (append_assoc declared g.takes.put end ∙ ap₂ (λ (l m : List ℕ). declared ++ (l ++ m)) (waves.frames fs trace) (is shown items text g.takes.put fs waves trace)) said)
 
 -- the source has not failed
 pub stop_well : (x : Unit) (a : Result Unit DeviceFault) (old new : ℕ) → Stops (Ok x) a old new → new ≡ old

@@ -1,9 +1,7 @@
 -- Frames of a witness of a circuit, closed one after the other.
-use Rattle.std.proofs.Common.{◌≡◌, ℕ, suc, ◌+◌, ◌*◌, ◌<◌, ◌-◌, ◌^◌, min, Bool, true, false, cond, ◌||◌, List, [], ◌∷◌, ◌++◌, Option, Some, None, map, length, drop, get_or, length-append, refl, sym, ap, ap₂, subst, ◌∙◌, arith}
+use Rattle.std.proofs.Common.{◌≡◌, ℕ, suc, ◌+◌, ◌*◌, ◌<◌, ◌-◌, ◌^◌, min, Bool, true, false, ◌||◌, List, [], ◌∷◌, ◌++◌, Option, None, length, get_or, length-append, refl, sym, ap, ap₂, subst, ◌∙◌, arith}
 use Rattle.std.specs.Option.{option_or}
 use Rattle.std.proofs.lemmas.List.Folds.{list_any-append}
-use Rattle.std.proofs.Math.Seq.{drop-cons}
-use Rattle.aiger.specs.declared.circuit.Latch.{Latch}
 use Rattle.base.specs.Literal.{Valuation, literal_value}
 use Rattle.aiger.specs.Circuit.{Circuit}
 use Rattle.aiger.specs.Trace.{IsCircuitFrame, IsCircuitTrace, next_latch_bits}
@@ -16,8 +14,7 @@ use Rattle.witness.specs.BitAdmits.{BitPlace, AtFirst, AtLater, BitRead}
 use Rattle.witness.specs.BitStands.{PlaysAt, is_frame}
 use Rattle.witness.specs.BitPlays.{first_bit_violated, bit_frame_steps, bit_steps_of, state_behind, play_start, TracedBits, PlaysBits, bit_rises}
 use Rattle.witness.specs.Fits.{breach_from}
-use Rattle.witness.specs.BitJudgements.{differs_from_reset, first_reset_differing}
-use Rattle.witness.specs.Admits.{is_one_bit}
+use Rattle.witness.specs.BitJudgements.{first_reset_differing}
 use Rattle.std.proofs.Math.Bool.{or-false}
 use Rattle.witness.proofs.JudgedLemmas.{breach_more}
 

@@ -23,7 +23,6 @@ pub mod BitReaderLemmas
 pub mod StandsLemmas
 pub mod StepWords
 pub mod BitJudgeLemmas
-pub mod FeedLemmas
 pub mod WordValueLemmas
 pub mod EightDigitLemmas
 pub mod WordFieldLemmas

@@ -23,5 +23,6 @@ pub mod ClosedWords
 pub mod Reached
 pub mod WordPlays
 pub mod WordStands
+pub mod WordJudging
 pub mod PlainLines
 pub mod Beginnings

@@ -17,7 +17,7 @@ use crate::bit_play::BitPlay;
 use crate::cut_line::CutLine;
 use crate::judgement::Judgement;
 use aiger::Circuit;
-use base::next_line;
+use base::{Taker, next_line};
 use runs::NewFault;
 use std::alloc::{AllocError, Global};
 use std::marker::Model;
@@ -191,5 +191,25 @@ impl<'a> BitJudge<'a> {
             → result ≡ admitted_lines c text }
     {
         self.lines.admitted
+    }
+}
+
+impl<'a> Taker<()> for BitJudge<'a> {
+    ghost use Rattle.std.specs.Prelude.{false};
+    ghost use Rattle.aiger.specs.Circuit.{Circuit};
+    ghost use Rattle.witness.specs.BitStands.{StandsForBits};
+
+    ghost Over = { Circuit };
+
+    ghost stands = { λ c output judge text. StandsForBits c judge text };
+
+    ghost is_done = { λ judge. false };
+
+    fn take(&mut self, _output: &mut (), piece: &[u8]) {
+        self.feed(piece);
+    }
+
+    fn is_done(&self) -> bool {
+        false
     }
 }

@@ -4,7 +4,7 @@ ghost use Rattle.base.specs.Decimals.{are_digits};
 ghost use Rattle.witness.specs.Readings.{is_nothing};
 ghost use Rattle.witness.specs.CutLines.{cut_of, no_byte};
 
-use crate::claim_scan::is_digit;
+use base::{copy_at, is_digit};
 use std::alloc::{AllocError, Global};
 use std::marker::Model;
 
@@ -45,16 +45,6 @@ fn are_digits(bytes: &[u8]) -> bool
     ensures { result ≡ are_digits bytes.now }
 {
     bytes.iter().all(|byte| is_digit(*byte))
-}
-
-/// Copies bytes into a buffer, from a place on.
-pub(crate) fn copy_at(buffer: &mut [u8], at: usize, bytes: &[u8])
-    requires { at + length bytes.now ≤ length buffer.old }
-    ensures front { take (at + length bytes.now) buffer.new ≡ take at buffer.old ++ bytes.now }
-    ensures as_many { length buffer.new ≡ length buffer.old }
-{
-    let end = at + bytes.len();
-    buffer[at..end].copy_from_slice(bytes);
 }
 
 impl CutLine {
@@ -113,8 +103,10 @@ impl CutLine {
 
     /// Takes bytes behind the others.
     pub fn extend(&mut self, bytes: &[u8])
-        ensures { (room : ℕ) (line : List ℕ) → self.old ≡ cut_of room line
+        ensures cut { (room : ℕ) (line : List ℕ) → self.old ≡ cut_of room line
             → self.new ≡ cut_of room (line ++ bytes.now) }
+        ensures bytes { self.new.bytes ≡ take self.old.room (self.old.bytes ++ bytes.now) }
+        ensures room { self.new.room ≡ self.old.room }
     {
         let (front, behind) = parted(bytes, self.buffer.len() - self.used);
         self.keep(front);

@@ -18,33 +18,10 @@ use crate::fault::JudgeFault;
 use crate::judgement::Judgement;
 use crate::word_judge::WordJudge;
 use aiger::Circuit;
-use base::{DeviceFault, Source};
+use base::{Source, take_source};
 use btor2::Model;
 use runs::NewFault;
 use std::alloc::Global;
-
-/// How many bytes one call of a source is asked for.
-const CHUNK: usize = 65536;
-
-/// Reads a source to its end and feeds a judge with all that it gives.
-///
-/// Error: the source's own, once.
-fn feed_words<S: Source>(judge: &mut WordJudge<'_>, source: &mut S) -> Result<(), DeviceFault>
-    ensures fed { OnOk result ((items : List Item) (text : List ℕ)
-        → StandsForWitness items judge.old text
-        → IfSome (S.to_come source.old) (λ all. StandsForWitness items judge.new (text ++ all))) }
-    ensures end { OnOk result (IsAtEnd (S.to_come source.new)) }
-    ensures counted { CountsFaults result (S.failures source.old) (S.failures source.new) }
-{
-    let mut chunk = [0u8; CHUNK];
-    loop {
-        match source.read(&mut chunk) {
-            Ok(0) => return Ok(()),
-            Ok(count) => judge.feed(&chunk[..count]),
-            Err(fault) => return Err(fault),
-        }
-    }
-}
 
 /// Reads a source to its end and judges its text as a witness over a model. Of the text only what one call gives is held at
 /// a time, and beside it what the judge holds.
@@ -78,28 +55,9 @@ pub fn judge_words<S: Source>(
         Err(NewFault::NoNext(id)) => return Err(JudgeFault::NoNext(id)),
         Err(NewFault::NoMemory) => return Err(JudgeFault::NoMemory),
     };
-    match feed_words(&mut judge, source) {
+    match take_source(&mut judge, &mut (), source) {
         Ok(()) => Ok(judge.finish()),
-        Err(DeviceFault::Failed) => Err(JudgeFault::Device),
-    }
-}
-
-/// Reads a source to its end and feeds a judge with all that it gives.
-///
-/// Error: the source's own, once.
-fn feed_bits<S: Source>(judge: &mut BitJudge<'_>, source: &mut S) -> Result<(), DeviceFault>
-    ensures fed { OnOk result ((c : Circuit) (text : List ℕ) → StandsForBits c judge.old text
-        → IfSome (S.to_come source.old) (λ all. StandsForBits c judge.new (text ++ all))) }
-    ensures end { OnOk result (IsAtEnd (S.to_come source.new)) }
-    ensures counted { CountsFaults result (S.failures source.old) (S.failures source.new) }
-{
-    let mut chunk = [0u8; CHUNK];
-    loop {
-        match source.read(&mut chunk) {
-            Ok(0) => return Ok(()),
-            Ok(count) => judge.feed(&chunk[..count]),
-            Err(fault) => return Err(fault),
-        }
+        Err(_) => Err(JudgeFault::Device),
     }
 }
 
@@ -132,8 +90,8 @@ pub fn judge_bits<S: Source>(
         Ok(judge) => judge,
         Err(_) => return Err(JudgeFault::NoMemory),
     };
-    match feed_bits(&mut judge, source) {
+    match take_source(&mut judge, &mut (), source) {
         Ok(()) => Ok(judge.finish()),
-        Err(DeviceFault::Failed) => Err(JudgeFault::Device),
+        Err(_) => Err(JudgeFault::Device),
     }
 }

@@ -4,10 +4,9 @@ ghost use Rattle.std.specs.List.{list_all};
 ghost use Rattle.btor2.specs.Symbols.{is_printed, is_symbol};
 ghost use Rattle.witness.specs.PlainLines.{NoNumber, NoFrameLine, BeginsName, IsFirstOther, NoName, BeginsWord, NoWord, BeginsAssignment, NoAssignment};
 
-use crate::claim_scan::is_digit;
 use crate::given::Given;
 use crate::word_value::known_word;
-use base::{Counter, Width};
+use base::{Counter, Width, is_digit};
 use btor2::printed_front;
 
 /// The most digits of a number that has room in 64 bits, whatever they are.

@@ -20,17 +20,16 @@ ghost use Rattle.witness.specs.declared.word_reader.Place.TheVariants as place;
 ghost use Rattle.witness.specs.Stands.{IsOfLines};
 ghost use Rattle.witness.specs.WordStands.{StandsForWitness, JudgesLine, JudgesLines, NoPlainLine, is_alone, is_status, place_of, word_judging};
 
+use crate::cut_line::CutLine;
 use crate::judgement::Judgement;
-use crate::kept_line::KeptLine;
 use crate::verdicts::{are_most, last_refusal};
 use crate::why::Why;
-use crate::word_line::is_word;
-use crate::word_reader::{Place, WordReader, is_alone};
-use base::next_line;
+use crate::word_lines::{WordLines, has_ended};
+use crate::word_reader::{WordReader, is_alone};
+use base::{Taker, next_line};
 use btor2::Model;
 use runs::NewFault;
-use std::alloc::Global;
-use std::mem;
+use std::alloc::{AllocError, Global};
 
 /// A judge of witnesses over a model, which it borrows: it is fed a text piece by piece, and keeps none of it. Beside the
 /// values of one run of the model it holds two flags for each bad property, a flag and a width for each state and each
@@ -39,39 +38,26 @@ use std::mem;
 /// Clauses see what it holds; which texts it stands for is a relation to that.
 #[derive(Drop)]
 pub struct WordJudge<'a> {
-    reader: WordReader<'a>,
+    lines: WordLines<'a>,
     // the first bytes of the line that has not ended
-    line: KeptLine,
-    // how many whole lines are admitted
-    admitted: u64,
-    // why the whole line behind them was refused
-    refused: Option<Why>,
-    // the status says that there is no claim
-    no_claim: bool,
+    line: CutLine,
 }
 
 impl<'a> std::marker::Model for WordJudge<'a> {
+    ghost use Rattle.std.specs.Prelude.{◌≡◌};
     ghost use Rattle.witness.specs.WordStands.{WordJudge as WordJudgeValue};
+    ghost use Rattle.witness.specs.WordJudging.{judge_with};
 
     ghost Value = { WordJudgeValue };
 
-    ghost view = { λ j. record { reader = j.reader; line = j.line; admitted = j.admitted; refused = j.refused; no_claim = j.no_claim } };
+    ghost view = { λ j. judge_with j.lines j.line.bytes };
+
+    ghost invariant = { λ j. j.line.room ≡ 342 };
 }
 
-/// Whether a line says that there is no claim, where it may be the status.
-fn says_no_claim(place: Place, line: &[u8]) -> bool
-    ensures { result ≡ (is_status (place_of place)
-        && (bytes_eq line.now (codes "unsat") || bytes_eq line.now (codes "unknown"))) }
-{
-    matches!(place, Place::Status) && (is_word(line, b"unsat") || is_word(line, b"unknown"))
-}
-
-/// Whether the last line of a witness is admitted.
-fn has_ended(place: Place) -> bool
-    ensures { result ≡ is_at_end (place_of place) }
-{
-    matches!(place, Place::End)
-}
+/// Of a line of a witness over a model 342 bytes are enough: but for comments and the line of claims, one that is longer is
+/// refused, and its first 342 bytes for the same why.
+const ENOUGH: usize = 342;
 
 impl<'a> WordJudge<'a> {
     /// A judge of witnesses over a model, which stands for the empty text.
@@ -82,32 +68,17 @@ impl<'a> WordJudge<'a> {
         ensures answer { AnswersNew result (first_init_without_next model.now model.now) }
     {
         let reader = WordReader::new(alloc, model)?;
-        Ok(WordJudge {
+        let line = match CutLine::new(alloc, ENOUGH) {
+            Ok(line) => line,
+            Err(AllocError) => return Err(NewFault::NoMemory),
+        };
+        let lines = WordLines {
             reader,
-            line: KeptLine::new(),
             admitted: 0,
             refused: None,
             no_claim: false,
-        })
-    }
-
-    /// A line has ended behind the whole lines, none of which was refused. Of its bytes the first 342 are enough.
-    fn judge_line(&mut self, line: &[u8])
-        ensures lines { (items : List Item) (lines : List (List ℕ)) (bytes : List ℕ)
-            → IsOfLines (word_judging items) self.old lines bytes → AreAlike line.now bytes
-            → self.old.refused ≡ None → IsOfLines (word_judging items) self.new
-            (lines ++ bytes ∷ []) [] }
-        ensures line { self.new.line ≡ self.old.line }
-    {
-        if are_most(self.admitted) {
-            self.refused = Some(Why::TooLong);
-            return;
-        }
-        self.no_claim |= says_no_claim(self.reader.place(), line);
-        match self.reader.admit(line) {
-            Ok(()) => self.admitted += 1,
-            Err(why) => self.refused = Some(why),
-        }
+        };
+        Ok(WordJudge { lines, line })
     }
 
     /// Takes bytes of a line that does not end with them.
@@ -118,8 +89,8 @@ impl<'a> WordJudge<'a> {
         ensures refused { self.new.refused ≡ self.old.refused }
     {
         self.line.extend(bytes);
-        if self.refused.is_none() {
-            self.reader.take(bytes);
+        if self.lines.refused.is_none() {
+            self.lines.reader.take(bytes);
         }
     }
 
@@ -130,8 +101,8 @@ impl<'a> WordJudge<'a> {
             → StandsForWitness items self.new (text ++ (bytes.now ++ 10 ∷ [])) }
     {
         self.take_part(bytes);
-        let line = mem::replace(&mut self.line, KeptLine::new());
-        self.judge_line(line.bytes());
+        self.lines.judge(self.line.bytes());
+        self.line.clear();
     }
 
     /// Whether a line that begins is judged by its bytes alone.
@@ -140,7 +111,7 @@ impl<'a> WordJudge<'a> {
         ensures begins { (items : List Item) (text : List ℕ) → StandsForWitness items self.now text
             → result ≡ true → unfinished text ≡ [] }
     {
-        is_alone(self.reader.place()) & self.line.is_empty()
+        is_alone(self.lines.reader.place()) & self.line.is_empty()
     }
 
     /// Takes the rest of a line and its end.
@@ -149,12 +120,12 @@ impl<'a> WordJudge<'a> {
             → StandsForWitness items self.old text
             → StandsForWitness items self.new (text ++ (bytes.now ++ 10 ∷ [])) }
     {
-        if self.refused.is_some() {
+        if self.lines.refused.is_some() {
             self.line.clear();
             return;
         }
         if self.takes_whole_lines() {
-            self.judge_line(bytes);
+            self.lines.judge(bytes);
             return;
         }
         self.take_rest(bytes);
@@ -172,11 +143,11 @@ impl<'a> WordJudge<'a> {
         ensures unrefused { self.new.refused ≡ None }
         ensures begins { self.new.line ≡ [] }
     {
-        if are_most(self.admitted) {
+        if are_most(self.lines.admitted) {
             return None;
         }
-        let rest = self.reader.take_line(text)?;
-        self.admitted += 1;
+        let rest = self.lines.reader.take_line(text)?;
+        self.lines.admitted += 1;
         Some(rest)
     }
 
@@ -188,7 +159,7 @@ impl<'a> WordJudge<'a> {
             → self.new.reader.place ≡ place.Frame
             → NoPlainLine self.new.reader result.now }
     {
-        if self.refused.is_some() || !self.line.is_empty() {
+        if self.lines.refused.is_some() || !self.line.is_empty() {
             return text;
         }
         let mut rest = text;
@@ -228,18 +199,21 @@ impl<'a> WordJudge<'a> {
         ensures { (items : List Item) (text : List ℕ) → StandsForWitness items self.now text
             → Judges items text result }
     {
-        if self.no_claim {
+        if self.lines.no_claim {
             return Judgement::NoClaim;
         }
-        let line = self.admitted.saturating_add(1);
-        if let Some(why) = self.refused {
+        let line = self.lines.admitted.saturating_add(1);
+        if let Some(why) = self.lines.refused {
             return Judgement::Malformed { line, why };
         }
-        let ended = has_ended(self.reader.place());
-        if let Some(why) = last_refusal(ended, self.admitted, self.line.is_empty()) {
+        let ended = has_ended(self.lines.reader.place());
+        if let Some(why) = last_refusal(ended, self.lines.admitted, self.line.is_empty()) {
             return Judgement::Malformed { line, why };
         }
-        self.reader.play().judgement(self.reader.unreached())
+        self.lines
+            .reader
+            .play()
+            .judgement(self.lines.reader.unreached())
     }
 
     /// The judgement of the text: of every one that the judge stands for.
@@ -258,7 +232,7 @@ impl<'a> WordJudge<'a> {
         ensures { (items : List Item) (text : List ℕ) → StandsForWitness items self.now text
             → result ≡ node_count items + state_count items }
     {
-        self.reader.play().held()
+        self.lines.reader.play().held()
     }
 
     /// The steps that the run has taken: for each closed frame one for each node with a value and one for each state, those
@@ -268,7 +242,7 @@ impl<'a> WordJudge<'a> {
         ensures { (items : List Item) (text : List ℕ) → StandsForWitness items self.now text
             → result ≡ steps_of items (closed_word_frames (shape_of items) text) }
     {
-        self.reader.play().steps()
+        self.lines.reader.play().steps()
     }
 
     /// How many frames are closed: those whose closing lines, the next `@<k>` or `#<k>` or the last line, have ended before
@@ -278,7 +252,7 @@ impl<'a> WordJudge<'a> {
         ensures { (items : List Item) (text : List ℕ) → StandsForWitness items self.now text
             → result ≡ closed_word_frames (shape_of items) text }
     {
-        self.reader.play().frames()
+        self.lines.reader.play().frames()
     }
 
     /// The word of a node in the frame that was closed last, by its position in the model's items. There is one at a node
@@ -288,7 +262,7 @@ impl<'a> WordJudge<'a> {
             → StandsForWitness items self.now text → IsClosedTrace items text fs
             → result ≡ last_word items text fs node }
     {
-        self.reader.play().closed_word(node)
+        self.lines.reader.play().closed_word(node)
     }
 
     /// Whether the bad property at a position, counted from 0 in file order, is claimed, and was 1 in a closed frame; none is
@@ -298,7 +272,7 @@ impl<'a> WordJudge<'a> {
             → StandsForWitness items self.now text → IsClosedTrace items text fs
             → result ≡ word_reached items text fs position }
     {
-        self.reader.reaches(position)
+        self.lines.reader.reaches(position)
     }
 
     /// How many whole lines stand before the first faulty line.
@@ -307,6 +281,26 @@ impl<'a> WordJudge<'a> {
         ensures { (items : List Item) (text : List ℕ) → StandsForWitness items self.now text
             → result ≡ admitted_word_lines (shape_of items) text }
     {
-        self.admitted
+        self.lines.admitted
+    }
+}
+
+impl<'a> Taker<()> for WordJudge<'a> {
+    ghost use Rattle.std.specs.Prelude.{List, false};
+    ghost use Rattle.btor2.specs.declared.item.Item.{Item};
+    ghost use Rattle.witness.specs.WordStands.{StandsForWitness};
+
+    ghost Over = { List Item };
+
+    ghost stands = { λ items output judge text. StandsForWitness items judge text };
+
+    ghost is_done = { λ judge. false };
+
+    fn take(&mut self, _output: &mut (), piece: &[u8]) {
+        self.feed(piece);
+    }
+
+    fn is_done(&self) -> bool {
+        false
     }
 }

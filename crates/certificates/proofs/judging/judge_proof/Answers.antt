@@ -1,7 +1,13 @@
+use Rattle.std.proofs.Common.{◌≡◌, List, ℕ, [], refl}
+use Rattle.std.proofs.KnownBytes.{Consumes-whole}
 use Rattle.certificates.proofs.judging.judge_proof.Goals as goal
 
-pub returns-clause-judged : goal.returns-clause-judged
-returns-clause-judged g c =
-    let fed = c.in_ok-feed_all.ensures.fed in
+pub returns-in-Ok-clause-judged : goal.returns-in-Ok-clause-judged
+returns-in-Ok-clause-judged g c =
     let f = c.args.formula in
-    record { text = fed.text; is_text = fed.is_text; judged = c.in_ok-finish.ensures f fed.text (fed.stands f c.in_ok-judge.ensures) }
+    let taken = c.take_source.ensures.front in
+    record {
+      text = taken.front;
+      is_text = Consumes-whole _ _ taken.front (λ all. all ≡ taken.front) taken.consumes c.in-Ok.ensures.end refl;
+      judged = c.in_ok-finish.ensures f taken.front (taken.takes f [] c.in_ok-judge.ensures);
+    }

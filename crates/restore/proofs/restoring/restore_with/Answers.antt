@@ -1,6 +1,6 @@
 use Rattle.std.proofs.Common.{rules, ◌≡◌, List, [], ℕ, false, Err, refl, subst}
 use Rattle.engine_form.specs.EngineForm.{input_count}
-use Rattle.witness.proofs.FeedLemmas.{if_some_then}
+use Rattle.std.proofs.lemmas.Option.{IfSome_then}
 use Rattle.restore.specs.declared.fault.RestoreFault.{RestoreFault}
 use Rattle.restore.specs.declared.fault.RestoreWhy.TheVariants as why
 use Rattle.restore.specs.Answers.{lines_put, Restores}
@@ -26,15 +26,11 @@ returns-in_err-restorer-clause-restores g c =
 
 pub returns-clause-restores : goal.returns-clause-restores
 returns-clause-restores g c =
-    if_some_then (g.S.Source.to_come c.args.source.now)
-    (λ (text : List ℕ). (start : g.row.K.Denot) (from : Pen) (first : Play) → HasTaken (g.W.Writer.put_for c.args.writer.now) g.K.Sink.written g.K.Sink.failures start c.args.sink.now from c.new-pen.result first [] c.in_ok-restorer.restorer
-    → TakesAll c.take_frames-told.result (g.W.Writer.put_for c.args.writer.now) g.K.Sink.written g.K.Sink.failures start c.take_frames-told.new.sink from c.take_frames-told.new.pen first c.take_frames-told.new.restorer (frames_to_come c.in_ok-reader.reader text))
-    (Restores c.end.result (g.W.Writer.put_for c.args.writer.now) c.args.circuit.now c.args.claim (g.K.Sink.written c.args.sink.now) (g.K.Sink.written c.end.new.sink))
-    (λ text t.
+    IfSome_then (g.S.Source.to_come c.args.source.now) {P = λ (text : List ℕ). (start : g.row.K.Denot) (from : Pen) (first : Play) → HasTaken (g.W.Writer.put_for c.args.writer.now) g.K.Sink.written g.K.Sink.failures start c.args.sink.now from c.new-pen.result first [] c.in_ok-restorer.restorer
+    → TakesAll c.take_frames-told.result (g.W.Writer.put_for c.args.writer.now) g.K.Sink.written g.K.Sink.failures start c.take_frames-told.new.sink from c.take_frames-told.new.pen first c.take_frames-told.new.restorer (frames_to_come c.in_ok-reader.reader text)} {Q = Restores c.end.result (g.W.Writer.put_for c.args.writer.now) c.args.circuit.now c.args.claim (g.K.Sink.written c.args.sink.now) (g.K.Sink.written c.end.new.sink)} c.take_frames-told.ensures.takes (λ text t.
     c.end.ensures.ends c.args.sink.now c.new-pen.result c.in_ok-restorer.restorer c.args.circuit.now c.args.claim text c.new-pen.ensures.kept c.new-pen.ensures.well c.inputs-inputs.ensures.valid c.requires c.in_ok-restorer.ensures
     (subst (λ (found : Found). TakesAll c.take_frames-told.result (g.W.Writer.put_for c.args.writer.now) g.K.Sink.written g.K.Sink.failures c.args.sink.now c.take_frames-told.new.sink c.new-pen.result c.take_frames-told.new.pen c.in_ok-restorer.restorer c.take_frames-told.new.restorer found)
     (reads_at_start c.args.circuit.now c.in_ok-reader.reader _ text c.in_ok-reader.ensures.0 c.input_count.ensures.count c.in_ok-reader.ensures.1.0) (t c.args.sink.now c.new-pen.result c.in_ok-restorer.restorer nothing_taken)))
-    c.take_frames-told.ensures.takes
 
 pub returns-clause-counted : goal.returns-clause-counted
 returns-clause-counted g c =

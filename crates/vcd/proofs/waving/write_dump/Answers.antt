@@ -2,7 +2,7 @@ use Rattle.std.proofs.lemmas.Result.{err_from_is_err_and}
 use Rattle.std.specs.Io.KnownBytes.{Appends}
 use Rattle.base.specs.Device.{AppendsBeginning}
 use Rattle.base.proofs.PenLemmas.{writes_then}
-use Rattle.witness.proofs.FeedLemmas.{if_some_then}
+use Rattle.std.proofs.lemmas.Option.{IfSome_then}
 use Rattle.witness.specs.WordStands.{StandsForWitness}
 use Rattle.vcd.proofs.WavingLemmas.{begun, ended, whole_dump, stop_well}
 use Rattle.vcd.proofs.waving.write_dump.Goals as goal
@@ -14,7 +14,7 @@ returns-in_err-take_all-clause-beginning g c =
 
 pub returns-in-Ok-clause-stands : goal.returns-in-Ok-clause-stands
 returns-in-Ok-clause-stands g c =
-    if_some_then _ _ (StandsForWitness c.args.model.now c.take_all.new.waver.judge) (λ text waves. waves.judge) (ended c.args.shown c.args.model.now c.requires.waves c.in_ok-take_all.ensures.takes c.in_ok-take_all.ensures.end)
+    IfSome_then _  {Q = StandsForWitness c.args.model.now c.take_all.new.waver.judge} (ended c.args.shown c.args.model.now c.requires.waves c.in_ok-take_all.ensures.takes c.in_ok-take_all.ensures.end) (λ text waves. waves.judge)
 
 pub returns-in-Ok-clause-written : goal.returns-in-Ok-clause-written
 returns-in-Ok-clause-written g c =

@@ -14,5 +14,5 @@ returns c circuit text stands =
     subst (StandsForBits circuit _) (append_assoc text was.0 rest ∙ ap (λ (l : List ℕ). text ++ l) (sym was.1.0))
     (record {
       played = subst (IsPlayed circuit c.self.inside.lines c.self.inside.play) (sym (whole_lines-part all rest c.in_default.ensures)) now.played;
-      line = c.extend.ensures (line_room circuit) (unfinished all) now.line ∙ ap (cut_of (line_room circuit)) (sym (unfinished-part all rest c.in_default.ensures));
+      line = c.extend.ensures.cut (line_room circuit) (unfinished all) now.line ∙ ap (cut_of (line_room circuit)) (sym (unfinished-part all rest c.in_default.ensures));
     })

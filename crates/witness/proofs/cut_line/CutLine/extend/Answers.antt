@@ -1,11 +1,12 @@
-use Rattle.std.proofs.Common.{◌≡◌, ℕ, Bool, ◌&&◌, ◌++◌, ◌-◌, length, take, drop, sym, ap, ap₂, ◌∙◌, arith}
+use Rattle.std.proofs.Common.{◌≡◌, ℕ, List, Bool, ◌&&◌, ◌++◌, ◌-◌, length, take, drop, sym, ap, ap₂, ◌∙◌, arith}
 use Rattle.std.proofs.lemmas.List.{length-take-le}
 use Rattle.witness.specs.CutLines.{CutLine}
 use Rattle.witness.proofs.CutLineLemmas.{cut_more}
+use Rattle.witness.proofs.KeptLineLemmas.{front_room}
 use Rattle.witness.proofs.cut_line.CutLine.extend.Goals as goal
 
-pub returns : goal.returns
-returns c room line is =
+pub returns-clause-cut : goal.returns-clause-cut
+returns-clause-cut c room line is =
     let old : CutLine = c.args.self.now in
     let whole : c.len.result ≡ old.room = omega (arith, c.len.ensures, ap (λ (k : CutLine). k.room) c.self.view_is) in
     let used : c.self.inside.used ≡ length old.bytes = sym (ap (λ (k : CutLine). length k.bytes) (sym c.self.view_is) ∙ length-take-le c.self.inside.used c.self.inside.buffer.items c.self.invariant) in
@@ -13,3 +14,12 @@ returns c room line is =
     ap (λ (k : CutLine). record k { digits = k.digits && c.are_digits.result }) (c.self-2.view_is ∙ c.keep.ensures)
     ∙ (ap (λ (b : Bool). record { room = old.room; bytes = old.bytes ++ c.parted.result.0.now; digits = old.digits && b }) c.are_digits.ensures
     ∙ cut_more old room line c.args.bytes.now c.parted.result.0.now c.parted.result.1.now is (c.parted.ensures.front ∙ ap (λ (n : ℕ). take n c.args.bytes.now) left) (c.parted.ensures.behind ∙ ap (λ (n : ℕ). drop n c.args.bytes.now) left))
+
+pub returns-clause-bytes : goal.returns-clause-bytes
+returns-clause-bytes c =
+    let old : CutLine = c.args.self.now in
+    let whole : c.len.result ≡ old.room = omega (arith, c.len.ensures, ap (λ (k : CutLine). k.room) c.self.view_is) in
+    let used : c.self.inside.used ≡ length old.bytes = sym (ap (λ (k : CutLine). length k.bytes) (sym c.self.view_is) ∙ length-take-le c.self.inside.used c.self.inside.buffer.items c.self.invariant) in
+    ap (λ (k : CutLine). k.bytes) (c.self-2.view_is ∙ c.keep.ensures)
+    ∙ (ap (λ (l : List ℕ). old.bytes ++ l) c.parted.ensures.front
+    ∙ front_room old.room (c.len.result - c.self.inside.used) old.bytes c.args.bytes.now (omega (arith, whole, used, c.self.invariant, c.len.ensures)))

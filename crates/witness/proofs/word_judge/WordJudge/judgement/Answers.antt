@@ -28,7 +28,7 @@ returns-in-Some-last_refusal c items text stands =
 
 pub returns : goal.returns
 returns c items text stands =
-    let play : WordPlay = c.self.inside.reader.play in
+    let play : WordPlay = c.self.inside.lines.reader.play in
     let is : c.judgement.result ≡ first_of play.differs play.breach c.unreached.result play.frames =
     c.judgement.ensures ∙ rw c.play.ensures refl in
     subst (Judges items text) (sym is)

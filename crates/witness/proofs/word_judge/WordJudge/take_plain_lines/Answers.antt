@@ -11,8 +11,8 @@ returns-then-is_some-clause-lines c = no_lines c.args.self.now c.args.text.now
 pub loop-behind-init : goal.loop-behind-init
 loop-behind-init c = (
   no_lines c.args.self.now c.args.text.now,
-  ap (λ (j : WordJudge). j.refused) (sym c.self.view_is) ∙ no_refusal c.self.inside.refused (sym c.if-is_some.ensures),
-  ap (λ (j : WordJudge). j.line) (sym c.self.view_is) ∙ nothing c.self.inside.line (sym c.is_empty.ensures ∙ c.if-not-is_empty.false),
+  ap (λ (j : WordJudge). j.refused) (sym c.self.view_is) ∙ no_refusal c.self.inside.lines.refused (sym c.if-is_some.ensures),
+  ap (λ (j : WordJudge). j.line) (sym c.self.view_is) ∙ nothing c.self.inside.line.bytes (sym c.is_empty.ensures ∙ c.if-not-is_empty.false),
 )
 
 pub loop-behind-preserved : goal.loop-behind-preserved
