@@ -5,10 +5,9 @@ ghost use Rattle.aiger.specs.Circuit.{count_refusal};
 
 use crate::fault::CircuitFault;
 use crate::justice::push_justice;
-use crate::lists::CircuitLists;
+use crate::lists::{CircuitLists, Properties};
 use crate::literal::Lit;
 use crate::names::{NameKeeper, is_good_name};
-use base::Rows;
 use std::alloc::Global;
 use std::marker::Model;
 
@@ -101,15 +100,7 @@ impl Section {
 /// Of the errors that a call names, the first that applies is answered, and the circuit is then unchanged.
 #[derive(Drop)]
 pub struct Circuit {
-    inputs: u32,
-    latches: Vec<Latch>,
-    gates: Vec<Gate>,
-    outputs: Vec<Lit>,
-    bads: Vec<Lit>,
-    constraints: Vec<Lit>,
-    justice: Rows<Lit>,
-    fair: Vec<Lit>,
-    names: NameKeeper,
+    lists: CircuitLists,
 }
 
 /// The greatest variable, the greatest count of a section, and of the literals of all justice
@@ -149,17 +140,14 @@ impl Circuit {
             reset: Reset::Zero,
         };
         let fresh_latches = vec![in alloc; fresh; latches as usize]?;
-        Ok(Circuit {
+        let lists = CircuitLists {
             inputs,
             latches: fresh_latches,
             gates: Vec::new(alloc),
-            outputs: Vec::new(alloc),
-            bads: Vec::new(alloc),
-            constraints: Vec::new(alloc),
-            justice: Rows::new(alloc),
-            fair: Vec::new(alloc),
+            properties: Properties::new(alloc),
             names: NameKeeper::new(alloc),
-        })
+        };
+        Ok(Circuit { lists })
     }
 
     /// The circuit that has these lists and names, which are those of a circuit. It takes no memory.
@@ -167,17 +155,7 @@ impl Circuit {
         requires { IsCircuit (circuit_from lists) }
         ensures { result ≡ circuit_from lists }
     {
-        Circuit {
-            inputs: lists.inputs,
-            latches: lists.latches,
-            gates: lists.gates,
-            outputs: lists.outputs,
-            bads: lists.bads,
-            constraints: lists.constraints,
-            justice: lists.justice,
-            fair: lists.fair,
-            names: lists.names,
-        }
+        Circuit { lists }
     }
 
     /// Adds an AND gate of two literals, the greater one first, and answers its literal.
@@ -200,7 +178,7 @@ impl Circuit {
         if greatest >= GREATEST_COUNT {
             return Err(CircuitFault::TooBig);
         }
-        match self.gates.push(Gate { rhs0, rhs1 }) {
+        match self.lists.gates.push(Gate { rhs0, rhs1 }) {
             Ok(()) => Ok(Lit::new(2 * (greatest + 1))),
             Err(_) => Err(CircuitFault::NoMemory),
         }
@@ -219,7 +197,7 @@ impl Circuit {
         if !self.is_defined(next) {
             return Err(CircuitFault::LiteralOutOfRange);
         }
-        self.latches[k] = Latch { next, reset };
+        self.lists.latches[k] = Latch { next, reset };
         Ok(())
     }
 
@@ -236,7 +214,7 @@ impl Circuit {
         if !self.is_defined(lit) {
             return Err(CircuitFault::LiteralOutOfRange);
         }
-        push_counted(&mut self.outputs, lit)
+        push_counted(&mut self.lists.properties.outputs, lit)
     }
 
     /// Adds a bad property, the literal that is true where it holds.
@@ -251,7 +229,7 @@ impl Circuit {
         if !self.is_defined(lit) {
             return Err(CircuitFault::LiteralOutOfRange);
         }
-        push_counted(&mut self.bads, lit)
+        push_counted(&mut self.lists.properties.bads, lit)
     }
 
     /// Adds a constraint, a literal that is to be true in every frame.
@@ -267,7 +245,7 @@ impl Circuit {
         if !self.is_defined(lit) {
             return Err(CircuitFault::LiteralOutOfRange);
         }
-        push_counted(&mut self.constraints, lit)
+        push_counted(&mut self.lists.properties.constraints, lit)
     }
 
     /// Adds a justice property: literals each of which is to be true again and again. There may be none.
@@ -282,7 +260,7 @@ impl Circuit {
         if !self.are_defined(lits) {
             return Err(CircuitFault::LiteralOutOfRange);
         }
-        push_justice(&mut self.justice, lits)
+        push_justice(&mut self.lists.properties.justice, lits)
     }
 
     /// Adds a fairness constraint, a literal that is to be true again and again.
@@ -297,7 +275,7 @@ impl Circuit {
         if !self.is_defined(lit) {
             return Err(CircuitFault::LiteralOutOfRange);
         }
-        push_counted(&mut self.fair, lit)
+        push_counted(&mut self.lists.properties.fair, lit)
     }
 
     /// Gives a name to a position of a section: 1 to 300 bytes, each from 32 to 126.
@@ -317,13 +295,13 @@ impl Circuit {
         if position >= self.count(section) {
             return Err(CircuitFault::NoSuchPosition);
         }
-        if self.names.name(section, position).is_some() {
+        if self.lists.names.name(section, position).is_some() {
             return Err(CircuitFault::NameTaken);
         }
         if !is_good_name(name) {
             return Err(CircuitFault::BadName);
         }
-        self.names.give(section, position, name)
+        self.lists.names.give(section, position, name)
     }
 
     /// How many variables there are, and so the greatest one: inputs, latches and gates.
@@ -331,7 +309,7 @@ impl Circuit {
         ensures count { result ≡ variables (net self.now) }
         ensures valid { IsCircuit self.now }
     {
-        self.inputs + self.latches.len() as u32 + self.gates.len() as u32
+        self.lists.inputs + self.lists.latches.len() as u32 + self.lists.gates.len() as u32
     }
 
     /// Whether a literal is of a variable that is there, or false or true.
@@ -354,7 +332,7 @@ impl Circuit {
         ensures count { result ≡ self.now.inputs }
         ensures valid { IsCircuit self.now }
     {
-        self.inputs
+        self.lists.inputs
     }
 
     /// The latches: their next literals, and how they begin.
@@ -362,7 +340,7 @@ impl Circuit {
         ensures items { result.now ≡ self.now.latches }
         ensures valid { IsCircuit self.now }
     {
-        &self.latches
+        &self.lists.latches
     }
 
     /// The gates: their operands.
@@ -370,7 +348,7 @@ impl Circuit {
         ensures items { result.now ≡ self.now.gates }
         ensures valid { IsCircuit self.now }
     {
-        &self.gates
+        &self.lists.gates
     }
 
     /// The outputs.
@@ -378,7 +356,7 @@ impl Circuit {
         ensures items { result.now ≡ self.now.outputs }
         ensures valid { IsCircuit self.now }
     {
-        &self.outputs
+        &self.lists.properties.outputs
     }
 
     /// The bad properties.
@@ -386,7 +364,7 @@ impl Circuit {
         ensures items { result.now ≡ self.now.bads }
         ensures valid { IsCircuit self.now }
     {
-        &self.bads
+        &self.lists.properties.bads
     }
 
     /// The constraints.
@@ -394,7 +372,7 @@ impl Circuit {
         ensures items { result.now ≡ self.now.constraints }
         ensures valid { IsCircuit self.now }
     {
-        &self.constraints
+        &self.lists.properties.constraints
     }
 
     /// How many justice properties there are.
@@ -402,7 +380,7 @@ impl Circuit {
         ensures count { result ≡ length self.now.justice }
         ensures valid { IsCircuit self.now }
     {
-        self.justice.len()
+        self.lists.properties.justice.len()
     }
 
     /// The literals of a justice property.
@@ -411,7 +389,7 @@ impl Circuit {
         ensures items { slice_get self.now.justice i ≡ Some result.now }
         ensures valid { IsCircuit self.now }
     {
-        self.justice.row(i)
+        self.lists.properties.justice.row(i)
     }
 
     /// The fairness constraints.
@@ -419,7 +397,7 @@ impl Circuit {
         ensures items { result.now ≡ self.now.fair }
         ensures valid { IsCircuit self.now }
     {
-        &self.fair
+        &self.lists.properties.fair
     }
 
     /// How many positions a section has.
@@ -428,13 +406,13 @@ impl Circuit {
         ensures valid { IsCircuit self.now }
     {
         match section {
-            Section::Input => self.inputs as usize,
-            Section::Latch => self.latches.len(),
-            Section::Output => self.outputs.len(),
-            Section::Bad => self.bads.len(),
-            Section::Constraint => self.constraints.len(),
-            Section::Justice => self.justice.len(),
-            Section::Fair => self.fair.len(),
+            Section::Input => self.lists.inputs as usize,
+            Section::Latch => self.lists.latches.len(),
+            Section::Output => self.lists.properties.outputs.len(),
+            Section::Bad => self.lists.properties.bads.len(),
+            Section::Constraint => self.lists.properties.constraints.len(),
+            Section::Justice => self.lists.properties.justice.len(),
+            Section::Fair => self.lists.properties.fair.len(),
         }
     }
 
@@ -443,7 +421,7 @@ impl Circuit {
         ensures name { option_copied result ≡ name_of self.now section position }
         ensures valid { IsCircuit self.now }
     {
-        self.names.name(section, position)
+        self.lists.names.name(section, position)
     }
 }
 

@@ -13,6 +13,6 @@ mod names;
 pub use circuit::{Circuit, GREATEST_COUNT, Gate, Latch, Reset, Section, push_counted};
 pub use fault::CircuitFault;
 pub use justice::push_justice;
-pub use lists::CircuitLists;
+pub use lists::{CircuitLists, Properties};
 pub use literal::Lit;
 pub use names::{LONGEST_NAME, NameKeeper, is_good_name};
