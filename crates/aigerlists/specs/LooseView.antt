@@ -10,11 +10,11 @@ loose_of l =
       inputs = l.inputs.items;
       latches = l.latches.items;
       gates = l.gates.items;
-      outputs = l.outputs.items;
-      bads = l.bads.items;
-      constraints = l.constraints.items;
-      justice = l.justice;
-      fair = l.fair.items;
+      outputs = l.properties.outputs.items;
+      bads = l.properties.bads.items;
+      constraints = l.properties.constraints.items;
+      justice = l.properties.justice;
+      fair = l.properties.fair.items;
       names = l.names;
     }
 

@@ -10,8 +10,8 @@ ghost use Rattle.aigerlists.specs.Loose.{is_defining, is_small};
 
 use crate::definitions::Definitions;
 use aiger::{
-    CircuitFault, GREATEST_COUNT, Lit, NameKeeper, Reset, Section, is_good_name, push_counted,
-    push_justice,
+    CircuitFault, GREATEST_COUNT, Lit, NameKeeper, Properties, Reset, Section, is_good_name,
+    push_counted, push_justice,
 };
 use base::Rows;
 use std::alloc::Global;
@@ -53,11 +53,7 @@ pub struct Loose {
     inputs: Vec<Lit>,
     latches: Vec<LatchLine>,
     gates: Vec<GateLine>,
-    outputs: Vec<Lit>,
-    bads: Vec<Lit>,
-    constraints: Vec<Lit>,
-    justice: Rows<Lit>,
-    fair: Vec<Lit>,
+    properties: Properties,
     names: NameKeeper,
     // the variables that the inputs, latches and gates define
     defined: Definitions,
@@ -86,11 +82,7 @@ impl Loose {
             inputs: Vec::new(alloc),
             latches: Vec::new(alloc),
             gates: Vec::new(alloc),
-            outputs: Vec::new(alloc),
-            bads: Vec::new(alloc),
-            constraints: Vec::new(alloc),
-            justice: Rows::new(alloc),
-            fair: Vec::new(alloc),
+            properties: Properties::new(alloc),
             names: NameKeeper::new(alloc),
             defined: Definitions::new(alloc),
         }
@@ -169,7 +161,7 @@ impl Loose {
         if !is_within(lit) {
             return Err(CircuitFault::TooBig);
         }
-        push_counted(&mut self.outputs, lit)
+        push_counted(&mut self.properties.outputs, lit)
     }
 
     /// Adds a bad property. Its variable need not be defined yet.
@@ -184,7 +176,7 @@ impl Loose {
         if !is_within(lit) {
             return Err(CircuitFault::TooBig);
         }
-        push_counted(&mut self.bads, lit)
+        push_counted(&mut self.properties.bads, lit)
     }
 
     /// Adds a constraint, a literal that is to be true in every frame. Its variable need not be defined yet.
@@ -198,7 +190,7 @@ impl Loose {
         if !is_within(lit) {
             return Err(CircuitFault::TooBig);
         }
-        push_counted(&mut self.constraints, lit)
+        push_counted(&mut self.properties.constraints, lit)
     }
 
     /// Adds a justice property: literals each of which is to be true again and again. There may be
@@ -214,7 +206,7 @@ impl Loose {
         if !are_within(lits) {
             return Err(CircuitFault::TooBig);
         }
-        push_justice(&mut self.justice, lits)
+        push_justice(&mut self.properties.justice, lits)
     }
 
     /// Adds a fairness constraint, a literal that is to be true again and again. Its variable need not be defined yet.
@@ -229,7 +221,7 @@ impl Loose {
         if !is_within(lit) {
             return Err(CircuitFault::TooBig);
         }
-        push_counted(&mut self.fair, lit)
+        push_counted(&mut self.properties.fair, lit)
     }
 
     /// Gives a name to a position of a section: 1 to 300 bytes, each from 32 to 126.
@@ -304,11 +296,11 @@ impl Loose {
         match section {
             Section::Input => self.inputs.len(),
             Section::Latch => self.latches.len(),
-            Section::Output => self.outputs.len(),
-            Section::Bad => self.bads.len(),
-            Section::Constraint => self.constraints.len(),
-            Section::Justice => self.justice.len(),
-            Section::Fair => self.fair.len(),
+            Section::Output => self.properties.outputs.len(),
+            Section::Bad => self.properties.bads.len(),
+            Section::Constraint => self.properties.constraints.len(),
+            Section::Justice => self.properties.justice.len(),
+            Section::Fair => self.properties.fair.len(),
         }
     }
 
@@ -341,7 +333,7 @@ impl Loose {
         ensures items { result.now ≡ self.now.outputs }
         ensures valid { IsLoose self.now }
     {
-        &self.outputs
+        &self.properties.outputs
     }
 
     /// The bad properties.
@@ -349,7 +341,7 @@ impl Loose {
         ensures items { result.now ≡ self.now.bads }
         ensures valid { IsLoose self.now }
     {
-        &self.bads
+        &self.properties.bads
     }
 
     /// The constraints.
@@ -357,7 +349,7 @@ impl Loose {
         ensures items { result.now ≡ self.now.constraints }
         ensures valid { IsLoose self.now }
     {
-        &self.constraints
+        &self.properties.constraints
     }
 
     /// How many justice properties there are.
@@ -365,7 +357,7 @@ impl Loose {
         ensures count { result ≡ length self.now.justice }
         ensures valid { IsLoose self.now }
     {
-        self.justice.len()
+        self.properties.justice.len()
     }
 
     /// The literals of a justice property.
@@ -374,7 +366,7 @@ impl Loose {
         ensures items { slice_get self.now.justice i ≡ Some result.now }
         ensures valid { IsLoose self.now }
     {
-        self.justice.row(i)
+        self.properties.justice.row(i)
     }
 
     /// The literals of all justice properties, one after another.
@@ -382,14 +374,14 @@ impl Loose {
         ensures items { result.now ≡ concat self.now.justice }
         ensures valid { IsLoose self.now }
     {
-        self.justice.values()
+        self.properties.justice.values()
     }
 
     /// The justice properties as they are kept.
     pub(crate) fn justice_list(&self) -> &Rows<Lit>
         ensures { result.now ≡ self.now.justice }
     {
-        &self.justice
+        &self.properties.justice
     }
 
     /// The names as they are kept.
@@ -404,7 +396,7 @@ impl Loose {
         ensures items { result.now ≡ self.now.fair }
         ensures valid { IsLoose self.now }
     {
-        &self.fair
+        &self.properties.fair
     }
 
     /// The name of a position of a section, if there is such a position and it has a name.

@@ -8,7 +8,7 @@ ghost use Rattle.aigerlists.specs.Numbering.{IsOnce, UseNumbered, line_in, gate_
 
 use crate::loose::{GateLine, LatchLine, Loose};
 use crate::numbers::Numbers;
-use aiger::{Circuit, CircuitLists, Gate, Latch, Lit};
+use aiger::{Circuit, CircuitLists, Gate, Latch, Lit, Properties};
 use std::alloc::{AllocError, Global};
 
 /// The circuit of the lists of a file by the numbers of their variables, with these gates. The error is want of memory.
@@ -45,15 +45,18 @@ fn new_lists(
     let justice = lines.justice_list().with_values(alloc, literals)?;
     let fair = numbers.literals(alloc, lines.fair())?;
     let names = lines.name_keeper().copy()?;
-    Ok(CircuitLists {
-        inputs: lines.inputs().len() as u32,
-        latches,
-        gates,
+    let properties = Properties {
         outputs,
         bads,
         constraints,
         justice,
         fair,
+    };
+    Ok(CircuitLists {
+        inputs: lines.inputs().len() as u32,
+        latches,
+        gates,
+        properties,
         names,
     })
 }
