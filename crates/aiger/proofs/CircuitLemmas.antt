@@ -1,9 +1,7 @@
 -- What keeps a circuit a circuit.
-use Rattle.std.proofs.Common.{◌≡◌, ℕ, ◌+◌, ◌<◌, ◌≤◌, Bool, true, false, List, [], ◌∷◌, ◌++◌, length, All, None, Some, nat_lt, Result, Ok, Err, OnOk, OnErr, refl, ap, sym, ◌∙◌, subst, arith, if◌then◌else◌, length-append, nat_le}
+use Rattle.std.proofs.Common.{◌≡◌, ℕ, ◌+◌, ◌<◌, ◌≤◌, Bool, true, false, List, [], ◌∷◌, ◌++◌, All, Result, Ok, Err, OnOk, OnErr, refl, sym, subst, arith, if◌then◌else◌, length-append, nat_le}
 use Rattle.std.proofs.lemmas.Bool.Decides.{nat_tests}
-use Rattle.std.proofs.lemmas.List.Elements.{All-weaker, All-push, All-cons, All-nil}
-use Rattle.std.proofs.lemmas.List.Sums.{sum_by-append, sum_by-cons}
-use Rattle.std.specs.List.{sum_by}
+use Rattle.std.proofs.lemmas.List.Elements.{All-weaker}
 use Rattle.std.specs.List.Sorted.{IsStrictlySortedBy}
 use Rattle.std.specs.Map.{keys_of}
 use Rattle.aiger.specs.declared.circuit.Gate.{Gate}
@@ -14,9 +12,7 @@ use Rattle.aiger.specs.declared.fault.CircuitFault.{CircuitFault}
 use Rattle.aiger.specs.Limits.{greatest_count}
 use Rattle.base.specs.Literal.{variable}
 use Rattle.aiger.specs.Net.{Net, variables, IsDefined, AreOrdered}
-use Rattle.aiger.specs.Circuit.{Circuit, IsCircuit, AllLiterals, HasDefined, HasFew, HasNames, IsNamed, NamePlace, NameMap, place_cmp, rank, with_name_in, section_count, are_defined, net, IsName, count_refusal, size_refusal}
-use Rattle.aiger.specs.Refusal.{RefusesBy}
-use Rattle.aiger.specs.declared.fault.CircuitFault.TheVariants.{TooBig}
+use Rattle.aiger.specs.Circuit.{Circuit, IsCircuit, AllLiterals, HasDefined, HasFew, HasNames, IsNamed, NamePlace, NameMap, place_cmp, rank, with_name_in, section_count, net, IsName}
 use Rattle.aiger.proofs.NetLemmas.{AreOrdered-push, IsDefined-append}
 use Rattle.aiger.proofs.NameLemmas.{exact_places, All-insert_entry}
 
@@ -25,31 +21,6 @@ pub defined_from_test : (c d : Circuit) (l : ℕ) → c ≡ d → true ≡ nat_l
 defined_from_test c d l e t =
     let here : IsDefined (net d) l = grind (arith, nat_tests) in
     subst (λ (x : Circuit). IsDefined (net x) l) (sym e) here
-
--- literals that the test finds defined
-pub all_defined_from_test : (n : Net) (ls : List ℕ) → are_defined n ls ≡ true → All (IsDefined n) ls
-all_defined_from_test n [] t = All-nil (IsDefined n)
-all_defined_from_test n (l ∷ ls) t =
-    let h : nat_le (variable l) (variables n) ≡ true = grind (arith, nat_tests) in
-    let r : are_defined n ls ≡ true = grind (arith, nat_tests) in
-    All-cons (IsDefined n) l ls (grind (arith, nat_tests)) (all_defined_from_test n ls r)
-
--- what refuses nothing tells that there is room
-pub room_from_count : (count : ℕ) → count_refusal count ≡ None → count < greatest_count
-room_from_count count e = by (nat_le greatest_count count) refl e
-  where
-    by : (b : Bool) → nat_le greatest_count count ≡ b → (if b then Some TooBig else None) ≡ None → count < greatest_count
-    by true t e = absurd (cc)
-    by false t e = grind (arith, nat_tests)
-
-pub room_from_size : (lists : List (List ℕ)) (size : ℕ) → size_refusal lists size ≡ None → (length lists < greatest_count) × (sum_by length lists + size ≤ greatest_count)
-room_from_size lists size e = by (nat_le greatest_count (length lists)) refl (nat_lt greatest_count (sum_by length lists + size)) refl e
-  where
-    by : (b : Bool) → nat_le greatest_count (length lists) ≡ b → (d : Bool) → nat_lt greatest_count (sum_by length lists + size) ≡ d
-        → (if b then Some TooBig else (if d then Some TooBig else None)) ≡ None → (length lists < greatest_count) × (sum_by length lists + size ≤ greatest_count)
-    by true t d u e = absurd (cc)
-    by false t true u e = absurd (cc)
-    by false t false u e = (grind (arith, nat_tests), grind (arith, nat_tests))
 
 -- each section of one circuit has at most as many positions as of another
 abbrev IsWithin : Circuit → Circuit → Type 0
@@ -91,73 +62,6 @@ pub record AreKept (P : ℕ → Type 0) (c : Circuit) : Type 0 where
   pub few : HasFew c
   pub literals : AllLiterals P c
   pub names : HasNames c
-
--- a list with a literal more or as it was is within the limit, the same holds of its literals, and it has each position that it had
-record IsKeptBy (P : ℕ → Type 0) (xs ls : List ℕ) : Type 0 where
-  few : length ls ≤ greatest_count
-  all : All P ls
-  longer : length xs ≤ length ls
-
-kept_by : (P : ℕ → Type 0) (xs : List ℕ) (l : ℕ) (ls : List ℕ) (r : Result (Unit {0}) CircuitFault) → length xs ≤ greatest_count → All P xs → P l → OnOk r (ls ≡ xs ++ l ∷ []) → RefusesBy r (count_refusal (length xs)) → OnErr r (ls ≡ xs) → IsKeptBy P xs ls
-kept_by P xs l ls (Ok x) few all holds ok refused err =
-    let room : length xs < greatest_count = room_from_count (length xs) refused in
-    subst (IsKeptBy P xs) (sym ok) (record { few = omega (arith, length-append xs (l ∷ [])); all = All-push P xs l all holds; longer = omega (arith, length-append xs (l ∷ [])) })
-kept_by P xs l ls (Err x) few all holds ok refused err = subst (IsKeptBy P xs) (sym err) (record { few = few; all = all; longer = omega arith })
-
-module _ (P : ℕ → Type 0) (c : Circuit) (l : ℕ) (ls : List ℕ) (r : Result (Unit {0}) CircuitFault) (kept : AreKept P c) (holds : P l) where
-  -- with an output more or as it was
-  pub kept_output : OnOk r (ls ≡ c.outputs ++ l ∷ []) → RefusesBy r (count_refusal (length c.outputs)) → OnErr r (ls ≡ c.outputs) → AreKept P (record c { outputs = ls })
-  kept_output ok refused err =
-      let n = kept_by P c.outputs l ls r kept.few.outputs kept.literals.outputs holds ok refused err in
-      record {
-        few = record { outputs = n.few; bads = kept.few.bads; constraints = kept.few.constraints; justice = kept.few.justice; justice_literals = kept.few.justice_literals; fair = kept.few.fair };
-        literals = record { nexts = kept.literals.nexts; outputs = n.all; bads = kept.literals.bads; constraints = kept.literals.constraints; justice = kept.literals.justice; fair = kept.literals.fair };
-        names = names_kept c (record c { outputs = ls }) kept.names refl (elim [ section.Input ↦ omega arith | section.Latch ↦ omega arith | section.Output ↦ n.longer | section.Bad ↦ omega arith | section.Constraint ↦ omega arith | section.Justice ↦ omega arith | section.Fair ↦ omega arith ]);
-      }
-
-  -- with a bad property more or as it was
-  pub kept_bad : OnOk r (ls ≡ c.bads ++ l ∷ []) → RefusesBy r (count_refusal (length c.bads)) → OnErr r (ls ≡ c.bads) → AreKept P (record c { bads = ls })
-  kept_bad ok refused err =
-      let n = kept_by P c.bads l ls r kept.few.bads kept.literals.bads holds ok refused err in
-      record {
-        few = record { outputs = kept.few.outputs; bads = n.few; constraints = kept.few.constraints; justice = kept.few.justice; justice_literals = kept.few.justice_literals; fair = kept.few.fair };
-        literals = record { nexts = kept.literals.nexts; outputs = kept.literals.outputs; bads = n.all; constraints = kept.literals.constraints; justice = kept.literals.justice; fair = kept.literals.fair };
-        names = names_kept c (record c { bads = ls }) kept.names refl (elim [ section.Input ↦ omega arith | section.Latch ↦ omega arith | section.Output ↦ omega arith | section.Bad ↦ n.longer | section.Constraint ↦ omega arith | section.Justice ↦ omega arith | section.Fair ↦ omega arith ]);
-      }
-
-  -- with a constraint more or as it was
-  pub kept_constraint : OnOk r (ls ≡ c.constraints ++ l ∷ []) → RefusesBy r (count_refusal (length c.constraints)) → OnErr r (ls ≡ c.constraints) → AreKept P (record c { constraints = ls })
-  kept_constraint ok refused err =
-      let n = kept_by P c.constraints l ls r kept.few.constraints kept.literals.constraints holds ok refused err in
-      record {
-        few = record { outputs = kept.few.outputs; bads = kept.few.bads; constraints = n.few; justice = kept.few.justice; justice_literals = kept.few.justice_literals; fair = kept.few.fair };
-        literals = record { nexts = kept.literals.nexts; outputs = kept.literals.outputs; bads = kept.literals.bads; constraints = n.all; justice = kept.literals.justice; fair = kept.literals.fair };
-        names = names_kept c (record c { constraints = ls }) kept.names refl (elim [ section.Input ↦ omega arith | section.Latch ↦ omega arith | section.Output ↦ omega arith | section.Bad ↦ omega arith | section.Constraint ↦ n.longer | section.Justice ↦ omega arith | section.Fair ↦ omega arith ]);
-      }
-
-  -- with a fairness constraint more or as it was
-  pub kept_fair : OnOk r (ls ≡ c.fair ++ l ∷ []) → RefusesBy r (count_refusal (length c.fair)) → OnErr r (ls ≡ c.fair) → AreKept P (record c { fair = ls })
-  kept_fair ok refused err =
-      let n = kept_by P c.fair l ls r kept.few.fair kept.literals.fair holds ok refused err in
-      record {
-        few = record { outputs = kept.few.outputs; bads = kept.few.bads; constraints = kept.few.constraints; justice = kept.few.justice; justice_literals = kept.few.justice_literals; fair = n.few };
-        literals = record { nexts = kept.literals.nexts; outputs = kept.literals.outputs; bads = kept.literals.bads; constraints = kept.literals.constraints; justice = kept.literals.justice; fair = n.all };
-        names = names_kept c (record c { fair = ls }) kept.names refl (elim [ section.Input ↦ omega arith | section.Latch ↦ omega arith | section.Output ↦ omega arith | section.Bad ↦ omega arith | section.Constraint ↦ omega arith | section.Justice ↦ omega arith | section.Fair ↦ n.longer ]);
-      }
-
--- with a justice property more or as it was
-pub kept_justice : (P : ℕ → Type 0) (c : Circuit) (ls : List ℕ) (justice : List (List ℕ)) (r : Result (Unit {0}) CircuitFault) → AreKept P c → All P ls → OnOk r (justice ≡ c.justice ++ ls ∷ []) → RefusesBy r (size_refusal c.justice (length ls)) → OnErr r (justice ≡ c.justice) → AreKept P (record c { justice = justice })
-kept_justice P c ls justice (Ok x) kept holds ok refused err =
-    let room : (length c.justice < greatest_count) × (sum_by length c.justice + length ls ≤ greatest_count) = room_from_size c.justice (length ls) refused in
-    let more : List (List ℕ) = c.justice ++ ls ∷ [] in
-    let total : sum_by length more ≡ sum_by length c.justice + length ls = sum_by-append length c.justice (ls ∷ []) ∙ ap (λ (n : ℕ). sum_by length c.justice + n) (sum_by-cons length ls [] ∙ omega arith) in
-    subst (λ (lists : List (List ℕ)). AreKept P (record c { justice = lists })) (sym ok)
-    (record {
-      few = record { outputs = kept.few.outputs; bads = kept.few.bads; constraints = kept.few.constraints; justice = omega (arith, length-append c.justice (ls ∷ []), room.0); justice_literals = omega (arith, total, room.1); fair = kept.few.fair };
-      literals = record { nexts = kept.literals.nexts; outputs = kept.literals.outputs; bads = kept.literals.bads; constraints = kept.literals.constraints; justice = All-push (All P) c.justice ls kept.literals.justice holds; fair = kept.literals.fair };
-      names = names_kept c (record c { justice = more }) kept.names refl (elim [ section.Input ↦ omega arith | section.Latch ↦ omega arith | section.Output ↦ omega arith | section.Bad ↦ omega arith | section.Constraint ↦ omega arith | section.Justice ↦ omega (arith, length-append c.justice (ls ∷ [])) | section.Fair ↦ omega arith ]);
-    })
-kept_justice P c ls justice (Err x) kept holds ok refused err = subst (λ (lists : List (List ℕ)). AreKept P (record c { justice = lists })) (sym err) kept
 
 -- with a name more or as it was
 pub kept_name : (P : ℕ → Type 0) (c : Circuit) (s : Section) (k : ℕ) (name : List ℕ) (names : NameMap) (r : Result (Unit {0}) CircuitFault) → OnOk r (names ≡ with_name_in c.names s k name) → AreKept P c → k < section_count s c → IsName name

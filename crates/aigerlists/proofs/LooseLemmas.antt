@@ -2,10 +2,10 @@
 use Rattle.std.proofs.Common.{◌≡◌, ℕ, ◌+◌, ◌%◌, ◌<◌, ◌≤◌, Bool, true, false, not, ◌&&◌, ◌||◌, ◌==◌, List, [], ◌∷◌, ◌++◌, map, length, All, nat_eq, nat_le, Result, Ok, Err, OnOk, OnErr, cond, refl, ap, sym, ◌∙◌, subst, arith, if◌then◌else◌, length-append, append_assoc, append-nil}
 use Rattle.std.proofs.lemmas.Bool.Decides.{nat_tests}
 use Rattle.std.proofs.lemmas.List.{map-append, length-map}
-use Rattle.std.proofs.lemmas.List.Elements.{All-push, All-nil, All-cons}
+use Rattle.std.proofs.lemmas.List.Elements.{All-push}
 use Rattle.std.proofs.lemmas.List.Folds.{list_any-append}
 use Rattle.std.proofs.lemmas.List.Sums.{sum_by-append, sum_by-cons}
-use Rattle.std.specs.List.{list_any, list_all, count_by}
+use Rattle.std.specs.List.{list_any, count_by}
 use Rattle.aigerlists.specs.declared.loose.GateLine.{GateLine}
 use Rattle.aigerlists.specs.declared.loose.LatchLine.{LatchLine}
 use Rattle.aiger.specs.declared.circuit.Latch.{Latch}
@@ -47,14 +47,6 @@ IsLoose-lines l inputs latches gates valid definitions few many_inputs many_latc
       names = names_kept (sections_of l) (sections_of (record l { inputs = inputs; latches = latches; gates = gates })) valid.names refl
           (elim [ section.Input ↦ many_inputs | section.Latch ↦ omega (arith, length-map l.latches latch_of, length-map latches latch_of, many_latches) | section.Output ↦ omega arith | section.Bad ↦ omega arith | section.Constraint ↦ omega arith | section.Justice ↦ omega arith | section.Fair ↦ omega arith ]);
     }
-
--- literals that the test finds within the limit
-pub all_small_from_test : (lits : List ℕ) → list_all is_small lits ≡ true → All IsSmall lits
-all_small_from_test [] t = All-nil IsSmall
-all_small_from_test (l ∷ ls) t =
-    let h : is_small l ≡ true = grind (arith, nat_tests) in
-    let r : list_all is_small ls ≡ true = grind (arith, nat_tests) in
-    All-cons IsSmall l ls (grind (arith, nat_tests)) (all_small_from_test ls r)
 
 -- one number more somewhere in a list
 record HasOneMore (old new : List ℕ) (x : ℕ) : Type 0 where
