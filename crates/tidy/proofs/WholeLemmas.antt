@@ -1,19 +1,23 @@
 -- A tidier writes the tidied text.
-use Rattle.std.proofs.Common.{◌≡◌, ℕ, Bool, true, false, ◌==◌, List, [], ◌∷◌, ◌++◌, Option, Some, None, Result, Ok, Err, IfSome, OnOk, OnErr, refl, sym, ap, ap₂, subst, ◌∙◌, append_assoc}
-use Rattle.std.specs.Io.KnownBytes.{Appends}
-use Rattle.std.proofs.KnownBytes.{Appends-trans}
+use Rattle.std.proofs.Common.{◌≡◌, ℕ, Bool, true, false, is_err, ◌==◌, List, [], ◌∷◌, ◌++◌, Option, Some, None, Result, Ok, Err, IfSome, refl, sym, ap, ap₂, subst, ◌∙◌, append_assoc, append-nil}
+use Rattle.std.specs.Io.KnownBytes.{Consumes}
 use Rattle.std.proofs.lemmas.Bool.{or_parts}
-use Rattle.base.specs.Device.{Sent, AppendsBeginning}
+use Rattle.base.specs.declared.device.DeviceFault.{DeviceFault}
+use Rattle.base.specs.declared.pen.Pen.{Pen}
+use Rattle.base.specs.Device.{AppendsBeginning, CountsFaults, HasRisen}
 use Rattle.base.specs.Lines.{IsLine, text_of_lines, whole_lines, unfinished}
-use Rattle.base.proofs.DeviceLemmas.{beginning_longer, sent_then_beginning}
+use Rattle.base.specs.Pieces.{Puts}
+use Rattle.base.specs.Writing.{WritesText}
+use Rattle.base.proofs.DeviceLemmas.{beginning_longer}
 use Rattle.base.proofs.LineLemmas.{EachLine, lines_are_lines, unfinished_is_line, parts_of_text}
+use Rattle.base.proofs.PenLemmas.{writes_none, writes_then}
 use Rattle.tidy.specs.declared.place.Place.{Place}
 use Rattle.tidy.specs.declared.line.Line.{Line}
 use Rattle.tidy.specs.declared.tidier.Tidier.{Tidier}
+use Rattle.tidy.specs.declared.tidying.Tidying.{Tidying}
 use Rattle.tidy.specs.Tidied.{Stand, at_front, behind_words, behind, closed_by, shown, tidy_line, tidied_lines, tidied}
-use Rattle.tidy.specs.Steps.{spelled_line, line_more, place_more, bytes_more, new_line, at_line, stand_of, behind_byte, byte_written, behind_bytes, bytes_written, last_written, TakesAll}
+use Rattle.tidy.specs.Steps.{spelled_line, end_bytes, line_more, place_more, bytes_more, new_line, at_line, stand_of, behind_byte, byte_written, behind_bytes, bytes_written, last_written, Takes, tidying_front}
 use Rattle.tidy.proofs.ByteLemmas.{behind_bytes-append, bytes_written-append, shown-append}
-use Rattle.tidy.proofs.TakenLemmas.{written_end}
 use Rattle.tidy.proofs.StepLemmas.{left_of, end_of, close, step, closed, new_left}
 use Rattle.tidy.proofs.BehindLemmas.{standing, words_left, fits, keeps, fits_more, new_fits, nothing_left, new_words}
 
@@ -21,6 +25,10 @@ abbrev at : ℕ → Place → Line → Tidier
 at k p l = record { skip = k; place = p; line = l }
 
 -- ---- a line
+
+-- its end
+written_end : (t : Tidier) → bytes_written t (10 ∷ []) ≡ shown t.skip (end_bytes t.place t.line)
+written_end t = append-nil (shown t.skip (end_bytes t.place t.line))
 
 byte_behind : (k : ℕ) (p : Place) (l : Line) (b : ℕ) → (b == 10) ≡ false → behind_byte (at k p l) b ≡ at k (place_more p l b) (line_more p l b)
 byte_behind k p l b h = rw h refl
@@ -101,37 +109,46 @@ text_written pick text =
 
 -- ---- a source
 
-begun : (pick : ℕ) (old new : Option (List ℕ)) (t : Tidier) (text : List ℕ) → t ≡ at_line (at_front pick) → AppendsBeginning old new (bytes_written t text) → AppendsBeginning old new (tidied pick text)
-begun pick old new t text is h =
-    subst (AppendsBeginning old new) (ap (all_written text) is ∙ text_written pick text) (beginning_longer old new (bytes_written t text) (last_written (behind_bytes t text)) h)
+-- nothing is taken
+pub nothing_taken : {K : Type 0} (written : K → Option (List ℕ)) (failures : K → ℕ) (s : K) (pick : ℕ) (t : Tidying) → t.tidier ≡ at_line (at_front pick) → t.pen.outbox ≡ [] → t.pen.answer ≡ Ok tt → Takes written failures s s (tidying_front pick) t []
+nothing_taken written failures s pick t is kept well = record { behind = is; writes = record { puts = rw (kept, well) (writes_none {written = written} {failures = failures} {s = s} {p = (tidying_front pick).pen}).puts } }
 
-pub all_fails : (T E : Type 0) (e : E) (pick : ℕ) (source old new : Option (List ℕ)) (kept left : List ℕ) (before after : Tidier) → before ≡ at_line (at_front pick) → kept ≡ []
-    → IfSome source (TakesAll {T = T} {E = E} (Err e) old new kept left before after) → IfSome source (λ text. AppendsBeginning old new (tidied pick text))
-all_fails T E e pick None old new kept left before after is none h = tt
-all_fails T E e pick (Some text) old new kept left before after is none h =
-    begun pick old new before text is (subst (λ (l : List ℕ). AppendsBeginning old new (l ++ bytes_written before text)) none h.takes)
+-- with what was held back, all of the tidied text is put
+pub all_put : {K : Type 0} {written : K → Option (List ℕ)} {failures : K → ℕ} {start s t : K} (pick : ℕ) {a : Tidying} {q : Pen} {text : List ℕ} → Takes written failures start s (tidying_front pick) a text → WritesText written failures s t a.pen q (last_written a.tidier)
+    → WritesText written failures start t (tidying_front pick).pen q (tidied pick text)
+all_put {written} {failures} {start} {t = t} pick {q = q} {text} takes last =
+    subst (WritesText written failures start t (tidying_front pick).pen q)
+    (ap (λ (u : Tidier). bytes_written (at_line (at_front pick)) text ++ last_written u) takes.behind ∙ text_written pick text)
+    (writes_then takes.writes last)
 
--- the last bytes
-last_bytes : (pick : ℕ) (before after : Tidier) (text : List ℕ) → before ≡ at_line (at_front pick) → after ≡ behind_bytes before text → bytes_written before text ++ last_written after ≡ tidied pick text
-last_bytes pick before after text is behind =
-    ap (λ (u : Tidier). bytes_written before text ++ last_written u) behind ∙ ap (all_written text) is ∙ text_written pick text
+-- a beginning of it was written when a front of the text was taken
+begins_by : (r : Result Unit DeviceFault) (old new : Option (List ℕ)) (left text : List ℕ) → Puts r old new [] left text → AppendsBeginning old new text
+begins_by (Ok x) old new left text sent = (sent.front, (left, sent.whole), sent.appends)
+begins_by (Err e) old new left text begun = begun
 
-pub all_ends : {T E : Type 0} (r : Result T E) (S F : Type 0) (x : S) (pick : ℕ) (source old mid new : Option (List ℕ)) (kept left : List ℕ) (before after : Tidier) → before ≡ at_line (at_front pick) → kept ≡ []
-    → IfSome source (TakesAll {T = S} {E = F} (Ok x) old mid kept left before after) → OnOk r (Appends mid new (left ++ last_written after))
-    → OnOk r (IfSome source (λ text. Appends old new (tidied pick text)))
-all_ends (Err e) S F x pick source old mid new kept left before after is none h ok = tt
-all_ends (Ok y) S F x pick None old mid new kept left before after is none h ok = tt
-all_ends (Ok y) S F x pick (Some text) old mid new kept left before after is none h ok =
-    let sent : Sent old mid (bytes_written before text) left = subst (λ (l : List ℕ). Sent old mid (l ++ bytes_written before text) left) none h.takes.1 in
-    subst (Appends old new)
-    (sym (append_assoc sent.front left (last_written after)) ∙ ap (λ (l : List ℕ). l ++ last_written after) sent.whole ∙ last_bytes pick before after text is h.takes.0)
-    (Appends-trans old mid new sent.front (left ++ last_written after) sent.appends ok)
+part_given : (old now : Option (List ℕ)) (front : List ℕ) (P : List ℕ → Type 0) → Consumes old now front → ((rest : List ℕ) → P (front ++ rest)) → IfSome old P
+part_given None now front P a h = tt
+part_given (Some xs) None front P a h = absurd a
+part_given (Some xs) (Some ys) front P a h = subst P (sym a) (h ys)
 
-pub end_fails : {T E : Type 0} (r : Result T E) (S F : Type 0) (x : S) (pick : ℕ) (source old mid new : Option (List ℕ)) (kept left : List ℕ) (before after : Tidier) → before ≡ at_line (at_front pick) → kept ≡ []
-    → IfSome source (TakesAll {T = S} {E = F} (Ok x) old mid kept left before after) → OnErr r (AppendsBeginning mid new (left ++ last_written after))
-    → OnErr r (IfSome source (λ text. AppendsBeginning old new (tidied pick text)))
-end_fails (Ok y) S F x pick source old mid new kept left before after is none h err = tt
-end_fails (Err e) S F x pick None old mid new kept left before after is none h err = tt
-end_fails (Err e) S F x pick (Some text) old mid new kept left before after is none h err =
-    let sent : Sent old mid (bytes_written before text) left = subst (λ (l : List ℕ). Sent old mid (l ++ bytes_written before text) left) none h.takes.1 in
-    subst (AppendsBeginning old new) (last_bytes pick before after text is h.takes.0) (sent_then_beginning old mid new (bytes_written before text) left (last_written after) sent err)
+pub front_put : {K : Type 0} {written : K → Option (List ℕ)} {failures : K → ℕ} {start s : K} (pick : ℕ) (source source' : Option (List ℕ)) {a : Tidying} {front : List ℕ} → Consumes source source' front → Takes written failures start s (tidying_front pick) a front
+    → IfSome source (λ text. AppendsBeginning (written start) (written s) (tidied pick text))
+front_put {written} {start = start} {s} pick source source' {a} {front} consumes takes =
+    part_given source source' front (λ text. AppendsBeginning (written start) (written s) (tidied pick text)) consumes (λ rest.
+    subst (AppendsBeginning (written start) (written s)) (sym (written_on (at_line (at_front pick)) front rest) ∙ text_written pick (front ++ rest))
+    (beginning_longer (written start) (written s) (bytes_written (at_line (at_front pick)) front) _ (begins_by a.pen.answer (written start) (written s) a.pen.outbox _ takes.writes.puts.0)))
+
+-- how often the sink has failed
+well_by : (r : Result Unit DeviceFault) (before after : ℕ) → CountsFaults r before after → is_err r ≡ false → after ≡ before
+well_by (Ok x) before after h well = h
+well_by (Err e) before after h well = absurd cc
+
+pub sink_well : {K : Type 0} {written : K → Option (List ℕ)} {failures : K → ℕ} {start s : K} (pick : ℕ) {a : Tidying} {text : List ℕ} → Takes written failures start s (tidying_front pick) a text → is_err a.pen.answer ≡ false → failures s ≡ failures start
+sink_well {failures} {start = start} {s} pick {a} takes well = well_by a.pen.answer (failures start) (failures s) takes.writes.puts.1 well
+
+failed_by : (r : Result Unit DeviceFault) (before after : ℕ) → CountsFaults r before after → is_err r ≡ true → HasRisen before after
+failed_by (Ok x) before after h failed = absurd cc
+failed_by (Err e) before after h failed = h
+
+pub sink_failed : {K : Type 0} {written : K → Option (List ℕ)} {failures : K → ℕ} {start s : K} (pick : ℕ) {a : Tidying} {text : List ℕ} → Takes written failures start s (tidying_front pick) a text → is_err a.pen.answer ≡ true → HasRisen (failures start) (failures s)
+sink_failed {failures} {start = start} {s} pick {a} takes failed = failed_by a.pen.answer (failures start) (failures s) takes.writes.puts.1 failed

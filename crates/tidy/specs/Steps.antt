@@ -1,7 +1,7 @@
 -- What a tidier holds, and what it writes byte by byte.
-use Rattle.std.specs.Prelude.{Option, Result, MatchResult, ◌≡◌, not, ◌||◌, ◌&&◌, ℕ, Bool, true, false, ◌==◌, List, [], ◌∷◌, ◌++◌, codes, if◌then◌else◌}
+use Rattle.std.specs.Prelude.{Option, Ok, ◌≡◌, not, ◌||◌, ◌&&◌, ℕ, Bool, true, false, ◌==◌, List, [], ◌∷◌, ◌++◌, codes, if◌then◌else◌}
 use Rattle.base.specs.Decimals.{is_digit}
-use Rattle.base.specs.Device.{Sent, AppendsBeginning}
+use Rattle.base.specs.Writing.{WritesText}
 use Rattle.tidy.specs.declared.place.Place.{Place}
 use Rattle.tidy.specs.declared.place.Place.TheVariants as place
 use Rattle.tidy.specs.declared.line.Said.{Said}
@@ -11,10 +11,11 @@ use Rattle.tidy.specs.declared.line.Word.TheVariants as word
 use Rattle.tidy.specs.declared.line.Line.{Line}
 use Rattle.tidy.specs.declared.line.Line.TheVariants as line
 use Rattle.tidy.specs.declared.tidier.Tidier.{Tidier}
+use Rattle.tidy.specs.declared.tidying.Tidying.{Tidying}
 use Rattle.tidy.specs.declared.tidier.Emitted.{Emitted}
 use Rattle.tidy.specs.declared.tidier.Emitted.TheVariants as emitted
 use Rattle.tidy.specs.Words.{is_gap}
-use Rattle.tidy.specs.Tidied.{Stand, behind_words, zero_x, shown}
+use Rattle.tidy.specs.Tidied.{Stand, at_front, behind_words, zero_x, shown}
 
 -- ---- what words say
 
@@ -187,8 +188,11 @@ pub record IsTidying (t : Tidier) (bytes : List ℕ) : Type 0 where
 abbrev pub is_plain : Bool → ℕ → Bool
 is_plain takes b = not (is_gap b) && not (takes && (b == 120))
 
--- what a tidier does with all bytes of a source: it puts what is written for them, but for a rest that is kept; at a fault a beginning of
--- that has gone out
-pub record TakesAll {T E : Type 0} (r : Result T E) (old new : Option (List ℕ)) (kept left : List ℕ) (before after : Tidier) (text : List ℕ) : Type 0 where
-  pub takes : MatchResult r (λ x. (after ≡ behind_bytes before text) × Sent old new (kept ++ bytes_written before text) left)
-      (λ e. AppendsBeginning old new (kept ++ bytes_written before text))
+-- a call that takes bytes puts what is written for them
+pub record Takes {K : Type 0} (written : K → Option (List ℕ)) (failures : K → ℕ) (s t : K) (before after : Tidying) (bytes : List ℕ) : Type 0 where
+  pub behind : after.tidier ≡ behind_bytes before.tidier bytes
+  pub writes : WritesText written failures s t before.pen after.pen (bytes_written before.tidier bytes)
+
+-- in front of the whole text, of which this witness is wanted, with nothing put
+abbrev pub tidying_front : ℕ → Tidying
+tidying_front pick = record { tidier = at_line (at_front pick); pen = record { outbox = []; line = []; answer = Ok tt } }

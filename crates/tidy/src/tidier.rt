@@ -1,22 +1,19 @@
 //! A tidier of a text that comes piece by piece.
-ghost use Rattle.std.specs.Prelude.{◌≡◌, ◌&&◌, ◌==◌, ◌<◌, ◌≤◌, [], ◌∷◌, ◌++◌, take, length, IfOk, OnOk, OnErr, codes, true, false, if◌then◌else◌};
+ghost use Rattle.std.specs.Prelude.{◌≡◌, ◌&&◌, ◌==◌, ◌≤◌, take, length, codes, true, false, if◌then◌else◌};
 ghost use Rattle.std.specs.List.{list_all};
 ghost use Rattle.std.specs.Str.{bytes_eq};
-ghost use Rattle.std.specs.Io.KnownBytes.{Appends};
-ghost use Rattle.base.specs.Device.{CountsFaults, AppendsBeginning, Sent};
 ghost use Rattle.base.specs.Lines.{IsLine};
-ghost use Rattle.base.specs.Pieces.{Puts};
+ghost use Rattle.base.specs.Writing.{WritesText};
 ghost use Rattle.tidy.specs.declared.line.Line.TheVariants as line;
 ghost use Rattle.tidy.specs.declared.line.Said.{Said as SaidSpec};
-ghost use Rattle.tidy.specs.Words.{is_gap};
 ghost use Rattle.tidy.specs.Tidied.{at_front, is_in_front, behind_status, place_after, may_end, shown};
-ghost use Rattle.tidy.specs.Steps.{spelled_line, first_line, first_bytes, bytes_more, keeps_empty, is_kept, is_gone, is_hidden, is_plain, held_bytes, end_bytes, new_line, at_line, behind_tidied, behind_byte, byte_written, behind_bytes, bytes_written, last_written, IsTidying, emitted_bytes};
+ghost use Rattle.tidy.specs.Steps.{spelled_line, first_line, first_bytes, bytes_more, keeps_empty, is_kept, is_gone, is_hidden, is_plain, held_bytes, end_bytes, new_line, at_line, behind_tidied, behind_byte, byte_written, last_written, IsTidying, emitted_bytes};
 
 use crate::line::{
     Line, Said, Word, changed, first_line, is_blank, later, line_more, place_more, takes_x,
 };
 use crate::place::Place;
-use base::{DeviceFault, Outbox, Sink, is_digit, next_line};
+use base::{Pen, Sink, is_digit};
 
 /// What is written for a byte.
 #[derive(Clone, Copy)]
@@ -24,6 +21,27 @@ pub(crate) enum Emitted {
     Nothing,
     Byte(u8),
     Pair(u8, u8),
+}
+
+impl Emitted {
+    /// It, where no witness is passed over, and else nothing.
+    fn shown(self, skip: u64) -> Emitted
+        ensures { emitted_bytes result ≡ shown skip (emitted_bytes self) }
+    {
+        if skip > 0 { Emitted::Nothing } else { self }
+    }
+
+    /// Puts it.
+    pub(crate) fn put<K: Sink>(self, pen: &mut Pen, sink: &mut K)
+        ensures { WritesText K.written K.failures sink.old sink.new pen.old pen.new
+            (emitted_bytes self) }
+    {
+        match self {
+            Emitted::Nothing => {}
+            Emitted::Byte(byte) => pen.put(sink, &[byte]),
+            Emitted::Pair(byte, behind) => pen.put(sink, &[byte, behind]),
+        }
+    }
 }
 
 /// A tidier of the text of a witness: how many witnesses it passes over before the one that is wanted, where the line
@@ -158,23 +176,6 @@ fn new_line(place: Place) -> Line
     }
 }
 
-/// Puts what is written for a byte.
-fn put_emitted<K: Sink>(
-    outbox: &mut Outbox,
-    sink: &mut K,
-    emitted: Emitted,
-) -> Result<(), DeviceFault>
-    ensures puts { Puts result (K.written sink.old) (K.written sink.new) outbox.old outbox.new
-        (emitted_bytes emitted) }
-    ensures failures { CountsFaults result (K.failures sink.old) (K.failures sink.new) }
-{
-    match emitted {
-        Emitted::Nothing => outbox.put(sink, &[]),
-        Emitted::Byte(byte) => outbox.put(sink, &[byte]),
-        Emitted::Pair(byte, behind) => outbox.put(sink, &[byte, behind]),
-    }
-}
-
 /// The place behind a line in the place of a status line.
 fn behind_status(skip: u64, line: Line) -> Place
     ensures { result ≡ behind_status skip (spelled_line line) }
@@ -239,14 +240,14 @@ impl Tidier {
     }
 
     /// Whether nothing is written of the line that has begun.
-    fn is_hidden(self) -> bool
+    pub(crate) fn is_hidden(self) -> bool
         ensures { result ≡ is_hidden self }
     {
         self.skip > 0 || is_gone(self.line)
     }
 
     /// How many bytes at the front of some, which end no line, are written or left out together.
-    fn run(self, bytes: &[u8]) -> usize
+    pub(crate) fn run(self, bytes: &[u8]) -> usize
         requires { IsLine bytes.now }
         ensures within { result ≤ length bytes.now }
         ensures run { IsTidying self (take result bytes.now) }
@@ -274,113 +275,42 @@ impl Tidier {
         }
     }
 
-    /// Puts what is written for such bytes.
-    fn put_run<K: Sink>(
-        self,
-        outbox: &mut Outbox,
-        sink: &mut K,
-        run: &[u8],
-    ) -> Result<(), DeviceFault>
-        requires { IsTidying self run.now }
-        ensures puts { Puts result (K.written sink.old) (K.written sink.new) outbox.old outbox.new
-            (bytes_written self run.now) }
-        ensures failures { CountsFaults result (K.failures sink.old) (K.failures sink.new) }
-    {
-        if self.is_hidden() {
-            return Ok(());
-        }
-        outbox.put(sink, run)
-    }
-
-    /// Puts what is written for a byte or at a line's end, where it is shown.
-    fn put_shown<K: Sink>(
-        self,
-        outbox: &mut Outbox,
-        sink: &mut K,
-        emitted: Emitted,
-    ) -> Result<(), DeviceFault>
-        ensures puts { Puts result (K.written sink.old) (K.written sink.new) outbox.old outbox.new
-            (shown self.skip (emitted_bytes emitted)) }
-        ensures failures { CountsFaults result (K.failures sink.old) (K.failures sink.new) }
-    {
-        if self.skip > 0 {
-            return Ok(());
-        }
-        put_emitted(outbox, sink, emitted)
-    }
-
-    /// Takes a byte that ends no line.
-    fn take_byte<K: Sink>(
-        &mut self,
-        outbox: &mut Outbox,
-        sink: &mut K,
-        byte: u8,
-    ) -> Result<(), DeviceFault>
+    /// What is written for a byte that ends no line.
+    pub(crate) fn byte_written(self, byte: u8) -> Emitted
         requires { (byte == 10) ≡ false }
-        ensures behind { OnOk result (self.new ≡ behind_byte self.old byte) }
-        ensures puts { Puts result (K.written sink.old) (K.written sink.new) outbox.old outbox.new
-            (byte_written self.old byte) }
-        ensures failures { CountsFaults result (K.failures sink.old) (K.failures sink.new) }
+        ensures { emitted_bytes result ≡ byte_written self byte }
     {
-        let before = *self;
-        let (place, line) = (before.place, before.line);
-        before.put_shown(outbox, sink, bytes_more(place, line, byte))?;
-        self.place = place_more(place, line, byte);
-        self.line = line_more(place, line, byte);
-        Ok(())
+        bytes_more(self.place, self.line, byte).shown(self.skip)
     }
 
-    /// Takes some bytes at the front of others, which end no line, and answers how many.
-    fn take_some<K: Sink>(
-        &mut self,
-        outbox: &mut Outbox,
-        sink: &mut K,
-        bytes: &[u8],
-    ) -> Result<usize, DeviceFault>
-        requires some { 0 < length bytes.now }
-        requires is_line { IsLine bytes.now }
-        ensures within { IfOk result (λ n. (0 < n) × (n ≤ length bytes.now)) }
-        ensures behind { IfOk result (λ n. self.new ≡ behind_bytes self.old (take n bytes.now)) }
-        ensures puts { IfOk result (λ n. Sent (K.written sink.old) (K.written sink.new)
-            (outbox.old ++ bytes_written self.old (take n bytes.now)) outbox.new) }
-        ensures err { OnErr result (AppendsBeginning (K.written sink.old) (K.written sink.new)
-            (outbox.old ++ bytes_written self.old bytes.now)) }
-        ensures failures { CountsFaults result (K.failures sink.old) (K.failures sink.new) }
+    /// The tidier behind a byte that ends no line.
+    pub(crate) fn behind_byte(self, byte: u8) -> Tidier
+        requires { (byte == 10) ≡ false }
+        ensures { result ≡ behind_byte self byte }
     {
-        let count = self.run(bytes);
-        if count == 0 {
-            self.take_byte(outbox, sink, bytes[0])?;
-            return Ok(1);
+        Tidier {
+            skip: self.skip,
+            place: place_more(self.place, self.line, byte),
+            line: line_more(self.place, self.line, byte),
         }
-        let (run, _) = bytes.split_at(count);
-        self.put_run(outbox, sink, run)?;
-        Ok(count)
     }
 
-    /// Takes bytes that end no line.
-    fn take_part<K: Sink>(
-        &mut self,
-        outbox: &mut Outbox,
-        sink: &mut K,
-        part: &[u8],
-    ) -> Result<(), DeviceFault>
-        requires { IsLine part.now }
-        ensures behind { OnOk result (self.new ≡ behind_bytes self.old part.now) }
-        ensures puts { Puts result (K.written sink.old) (K.written sink.new) outbox.old outbox.new
-            (bytes_written self.old part.now) }
-        ensures failures { CountsFaults result (K.failures sink.old) (K.failures sink.new) }
+    /// What is written at the end of the line.
+    pub(crate) fn end_written(self) -> Emitted
+        ensures { emitted_bytes result ≡ byte_written self 10 }
     {
-        let mut rest = part;
-        while !rest.is_empty() {
-            let count = self.take_some(outbox, sink, rest)?;
-            let (_, behind) = rest.split_at(count);
-            rest = behind;
-        }
-        Ok(())
+        end_bytes(self.place, self.line).shown(self.skip)
+    }
+
+    /// What is written at the end of the text.
+    pub(crate) fn last_written(self) -> Emitted
+        ensures { emitted_bytes result ≡ last_written self }
+    {
+        held_bytes(self.line).shown(self.skip)
     }
 
     /// The tidier behind the end of the line.
-    fn behind_line(self) -> Tidier
+    pub(crate) fn behind_line(self) -> Tidier
         ensures { result ≡ behind_tidied self }
     {
         let (skip, place) = if !is_end(self.place, self.line) {
@@ -395,76 +325,6 @@ impl Tidier {
             place,
             line: new_line(place),
         }
-    }
-
-    /// Takes the end of the line.
-    fn take_end<K: Sink>(&mut self, outbox: &mut Outbox, sink: &mut K) -> Result<(), DeviceFault>
-        ensures behind { OnOk result (self.new ≡ behind_tidied self.old) }
-        ensures puts { Puts result (K.written sink.old) (K.written sink.new) outbox.old outbox.new
-            (shown self.old.skip (end_bytes self.old.place self.old.line)) }
-        ensures failures { CountsFaults result (K.failures sink.old) (K.failures sink.new) }
-    {
-        let before = *self;
-        before.put_shown(outbox, sink, end_bytes(before.place, before.line))?;
-        *self = before.behind_line();
-        Ok(())
-    }
-
-    /// Takes the rest of a line and its end.
-    fn take_line<K: Sink>(
-        &mut self,
-        outbox: &mut Outbox,
-        sink: &mut K,
-        line: &[u8],
-    ) -> Result<(), DeviceFault>
-        requires { IsLine line.now }
-        ensures behind { OnOk result (self.new ≡ behind_bytes self.old (line.now ++ 10 ∷ [])) }
-        ensures puts { Puts result (K.written sink.old) (K.written sink.new) outbox.old outbox.new
-            (bytes_written self.old (line.now ++ 10 ∷ [])) }
-        ensures failures { CountsFaults result (K.failures sink.old) (K.failures sink.new) }
-    {
-        self.take_part(outbox, sink, line)?;
-        self.take_end(outbox, sink)
-    }
-
-    /// Takes a piece of the text behind those before.
-    ///
-    /// Errors: the sink's own; a beginning of what is written for the piece was written then.
-    pub(crate) fn feed<K: Sink>(
-        &mut self,
-        outbox: &mut Outbox,
-        sink: &mut K,
-        bytes: &[u8],
-    ) -> Result<(), DeviceFault>
-        ensures behind { OnOk result (self.new ≡ behind_bytes self.old bytes.now) }
-        ensures puts { Puts result (K.written sink.old) (K.written sink.new) outbox.old outbox.new
-            (bytes_written self.old bytes.now) }
-        ensures failures { CountsFaults result (K.failures sink.old) (K.failures sink.new) }
-    {
-        let mut rest = bytes;
-        while let Some((line, behind)) = next_line(rest) {
-            self.take_line(outbox, sink, line)?;
-            rest = behind;
-        }
-        self.take_part(outbox, sink, rest)
-    }
-
-    /// Puts what was held back where the text ends, and writes what the outbox keeps.
-    ///
-    /// Errors: the sink's own; a beginning of that was written then.
-    pub(crate) fn finish<K: Sink>(
-        self,
-        outbox: &mut Outbox,
-        sink: &mut K,
-    ) -> Result<(), DeviceFault>
-        ensures ok { OnOk result (Appends (K.written sink.old) (K.written sink.new)
-            (outbox.old ++ last_written self)) }
-        ensures err { OnErr result (AppendsBeginning (K.written sink.old) (K.written sink.new)
-            (outbox.old ++ last_written self)) }
-        ensures failures { CountsFaults result (K.failures sink.old) (K.failures sink.new) }
-    {
-        self.put_shown(outbox, sink, held_bytes(self.line))?;
-        outbox.flush(sink)
     }
 }
 

@@ -1,80 +1,131 @@
 //! Tidying whole sources.
-ghost use Rattle.std.specs.Prelude.{◌≡◌, ◌++◌, IfErr, IfSome, OnErr, OnOk, MatchResult};
+ghost use Rattle.std.specs.Prelude.{◌≡◌, ◌==◌, ℕ, ◌<◌, ◌≤◌, List, [], ◌∷◌, ◌++◌, Ok, IfSome, OnErr, OnOk, false, is_err, length, take};
 ghost use Rattle.std.specs.Io.KnownBytes.{Appends, IsAtEnd};
-ghost use Rattle.base.specs.Device.{AppendsBeginning, CountsFaults, Sent};
-ghost use Rattle.base.specs.Pieces.{Puts};
+ghost use Rattle.base.specs.Device.{AppendsBeginning};
+ghost use Rattle.base.specs.Lines.{IsLine};
+ghost use Rattle.base.specs.Writing.{IsWritten};
 ghost use Rattle.tidy.specs.Answers.{CountsTidy};
-ghost use Rattle.tidy.specs.Tidied.{tidied};
-ghost use Rattle.tidy.specs.Steps.{behind_bytes, bytes_written, last_written, TakesAll};
+ghost use Rattle.tidy.specs.Tidied.{at_front, tidied};
+ghost use Rattle.tidy.specs.Steps.{at_line, Takes, tidying_front};
 
 use crate::fault::TidyFault;
 use crate::tidier::Tidier;
-use base::{Outbox, Sink, Source};
+use base::{DeviceFault, Pen, Sink, Source, Taker, TakingFault, next_line, take_source};
 
-/// How many bytes one call of a source is asked for.
-const CHUNK: usize = 65536;
-
-/// Takes a piece of the text.
-///
-/// Errors: the sink's own.
-fn take_piece<K: Sink>(
-    tidier: &mut Tidier,
-    outbox: &mut Outbox,
-    sink: &mut K,
-    bytes: &[u8],
-) -> Result<(), TidyFault>
-    ensures behind { OnOk result (tidier.new ≡ behind_bytes tidier.old bytes.now) }
-    ensures puts { Puts result (K.written sink.old) (K.written sink.new) outbox.old outbox.new
-        (bytes_written tidier.old bytes.now) }
-    ensures fault { IfErr result (λ e. e ≡ TidyFault.Write) }
-    ensures failures { CountsFaults result (K.failures sink.old) (K.failures sink.new) }
-{
-    match tidier.feed(outbox, sink, bytes) {
-        Ok(()) => Ok(()),
-        Err(_) => Err(TidyFault::Write),
-    }
+/// What takes a text piece by piece: the tidier of what was taken, and the pen that puts what is written for it.
+#[derive(Drop)]
+pub(crate) struct Tidying {
+    tidier: Tidier,
+    pen: Pen,
 }
 
-/// Reads a source to its end, and puts what is written for its text.
-///
-/// Errors: the source's own, and the sink's.
-fn take_all<S: Source, K: Sink>(
-    tidier: &mut Tidier,
-    outbox: &mut Outbox,
-    source: &mut S,
-    sink: &mut K,
-) -> Result<(), TidyFault>
-    ensures takes { IfSome (S.to_come source.old)
-        (TakesAll result (K.written sink.old) (K.written sink.new) outbox.old outbox.new tidier.old
-        tidier.new) }
-    ensures end { OnOk result (IsAtEnd (S.to_come source.new)) }
-    ensures counted { CountsTidy result (S.failures source.old) (S.failures source.new)
-        (K.failures sink.old) (K.failures sink.new) }
-{
-    let mut chunk = [0u8; CHUNK];
-    loop {
-        match source.read(&mut chunk) {
-            Ok(0) => return Ok(()),
-            Ok(count) => take_piece(tidier, outbox, sink, &chunk[..count])?,
-            Err(_) => return Err(TidyFault::Read),
+impl Tidying {
+    /// Nothing is taken of a text, of which the witness with this number is wanted.
+    fn new(pick: u64) -> Tidying
+        ensures tidier { result.tidier ≡ at_line (at_front pick) }
+        ensures kept { result.pen.outbox ≡ [] }
+        ensures well { result.pen.answer ≡ Ok tt }
+    {
+        Tidying {
+            tidier: Tidier::new(pick),
+            pen: Pen::new(),
         }
     }
+
+    /// Takes a byte that ends no line.
+    fn take_byte<K: Sink>(&mut self, sink: &mut K, byte: u8)
+        requires { (byte == 10) ≡ false }
+        ensures { Takes K.written K.failures sink.old sink.new self.old self.new (byte ∷ []) }
+    {
+        let tidier = self.tidier;
+        tidier.byte_written(byte).put(&mut self.pen, sink);
+        self.tidier = tidier.behind_byte(byte);
+    }
+
+    /// Takes some bytes at the front of others, which end no line, and answers how many.
+    fn take_some<K: Sink>(&mut self, sink: &mut K, bytes: &[u8]) -> usize
+        requires some { 0 < length bytes.now }
+        requires is_line { IsLine bytes.now }
+        ensures some { 0 < result }
+        ensures within { result ≤ length bytes.now }
+        ensures takes { Takes K.written K.failures sink.old sink.new self.old self.new
+            (take result bytes.now) }
+    {
+        let count = self.tidier.run(bytes);
+        if count == 0 {
+            self.take_byte(sink, bytes[0]);
+            return 1;
+        }
+        if !self.tidier.is_hidden() {
+            let (run, _) = bytes.split_at(count);
+            self.pen.put(sink, run);
+        }
+        count
+    }
+
+    /// Takes bytes that end no line.
+    fn take_part<K: Sink>(&mut self, sink: &mut K, part: &[u8])
+        requires { IsLine part.now }
+        ensures { Takes K.written K.failures sink.old sink.new self.old self.new part.now }
+    {
+        let mut rest = part;
+        while !rest.is_empty() {
+            let count = self.take_some(sink, rest);
+            let (_, behind) = rest.split_at(count);
+            rest = behind;
+        }
+    }
+
+    /// Takes the end of a line.
+    fn take_end<K: Sink>(&mut self, sink: &mut K)
+        ensures { Takes K.written K.failures sink.old sink.new self.old self.new (10 ∷ []) }
+    {
+        let tidier = self.tidier;
+        tidier.end_written().put(&mut self.pen, sink);
+        self.tidier = tidier.behind_line();
+    }
+
+    /// Takes a piece of the text behind those before.
+    fn take_piece<K: Sink>(&mut self, sink: &mut K, piece: &[u8])
+        ensures { Takes K.written K.failures sink.old sink.new self.old self.new piece.now }
+    {
+        let mut rest = piece;
+        while let Some((line, behind)) = next_line(rest) {
+            self.take_part(sink, line);
+            self.take_end(sink);
+            rest = behind;
+        }
+        self.take_part(sink, rest);
+    }
+
+    /// Puts what was held back where the text ends, and writes what the pen keeps.
+    ///
+    /// Errors: the sink's first; a beginning of the tidied text was written then.
+    fn finish<K: Sink>(&mut self, sink: &mut K) -> Result<(), DeviceFault>
+        ensures { (start : K) (pick : ℕ) (text : List ℕ)
+            → Takes K.written K.failures start sink.old (tidying_front pick) self.old text
+            → IsWritten result (K.written start) (K.written sink.new) (K.failures start)
+            (K.failures sink.new) (tidied pick text) }
+    {
+        self.tidier.last_written().put(&mut self.pen, sink);
+        self.pen.finish(sink)
+    }
 }
 
-/// Puts what was held back, and writes what the outbox keeps.
-///
-/// Errors: the sink's own.
-fn end<K: Sink>(tidier: Tidier, outbox: &mut Outbox, sink: &mut K) -> Result<(), TidyFault>
-    ensures ok { OnOk result (Appends (K.written sink.old) (K.written sink.new)
-        (outbox.old ++ last_written tidier)) }
-    ensures err { OnErr result (AppendsBeginning (K.written sink.old) (K.written sink.new)
-        (outbox.old ++ last_written tidier)) }
-    ensures fault { IfErr result (λ e. e ≡ TidyFault.Write) }
-    ensures failures { CountsFaults result (K.failures sink.old) (K.failures sink.new) }
-{
-    match tidier.finish(outbox, sink) {
-        Ok(()) => Ok(()),
-        Err(_) => Err(TidyFault::Write),
+impl<K: Sink> Taker<K> for Tidying {
+    /// The sink as it was when nothing was taken, and the number of the witness that is wanted.
+    ghost Over = { K × ℕ };
+
+    ghost stands = { λ over sink taker text. Takes K.written K.failures over.0 sink (tidying_front over.1) taker text };
+
+    ghost is_done = { λ taker. is_err taker.pen.answer };
+
+    fn take(&mut self, output: &mut K, piece: &[u8]) {
+        self.take_piece(output, piece);
+    }
+
+    fn is_done(&self) -> bool {
+        self.pen.answer.is_err()
     }
 }
 
@@ -99,8 +150,13 @@ pub fn tidy<S: Source, K: Sink>(pick: u64, source: &mut S, sink: &mut K) -> Resu
     ensures counted { CountsTidy result (S.failures source.old) (S.failures source.new)
         (K.failures sink.old) (K.failures sink.new) }
 {
-    let mut tidier = Tidier::new(pick);
-    let mut outbox = Outbox::new();
-    take_all(&mut tidier, &mut outbox, source, sink)?;
-    end(tidier, &mut outbox, sink)
+    let mut tidying = Tidying::new(pick);
+    match take_source(&mut tidying, sink, source) {
+        Ok(()) => match tidying.finish(sink) {
+            Ok(()) => Ok(()),
+            Err(_) => Err(TidyFault::Write),
+        },
+        Err(TakingFault::Source) => Err(TidyFault::Read),
+        Err(TakingFault::Done) => Err(TidyFault::Write),
+    }
 }
