@@ -1,5 +1,5 @@
 -- Bytes that are written, or left out, together.
-use Rattle.std.proofs.Common.{◌≡◌, ℕ, zero, suc, Bool, true, false, not, ◌==◌, List, [], ◌∷◌, refl, sym, ap, subst, ◌∙◌, inl, inr, take, drop, arith}
+use Rattle.std.proofs.Common.{◌≡◌, ℕ, zero, suc, Bool, true, false, not, ◌==◌, List, [], ◌∷◌, ◌++◌, refl, sym, ap, ap₂, subst, ◌∙◌, inl, inr, take, drop, arith, if◌then◌else◌}
 use Rattle.std.specs.List.{list_all}
 use Rattle.std.proofs.lemmas.Bool.{cases_Bool, or_parts, or_from, and_parts, and_cases, not-true, ne_eqb}
 use Rattle.base.specs.Lines.{IsLine}
@@ -11,33 +11,47 @@ use Rattle.tidy.specs.declared.line.Line.{Line}
 use Rattle.tidy.specs.declared.line.Line.TheVariants as line
 use Rattle.tidy.specs.declared.tidier.Tidier.{Tidier}
 use Rattle.tidy.specs.Words.{is_gap}
-use Rattle.tidy.specs.Steps.{takes_x, changed, behind_bytes, bytes_written, line_more, place_more, is_plain, IsTidying}
+use Rattle.tidy.specs.Steps.{takes_x, changed, behind_byte, byte_written, behind_bytes, bytes_written, is_gone, is_hidden, is_plain, IsTidying}
 
 abbrev at : ℕ → Place → Line → Tidier
 at k p l = record { skip = k; place = p; line = l }
 
--- nothing is written of a line of a witness that is passed over
-hidden : (n : ℕ) (p : Place) (l : Line) (bytes : List ℕ) → IsLine bytes → bytes_written (at (suc n) p l) bytes ≡ []
-hidden n p l [] is = refl
-hidden n p l (b ∷ bs) is =
+-- a byte that is written as it is, or left out, and behind which the tidier is as before
+record IsSteady (t : Tidier) (b : ℕ) : Type 0 where
+  pub behind : behind_byte t b ≡ t
+  pub written : byte_written t b ≡ if is_hidden t then [] else b ∷ []
+
+hidden_or : (h : Bool) (b : ℕ) (bs : List ℕ) → (if h then [] else b ∷ []) ++ (if h then [] else bs) ≡ if h then [] else b ∷ bs
+hidden_or true b bs = refl
+hidden_or false b bs = refl
+
+nothing_run : (t : Tidier) → IsTidying t []
+nothing_run t = record { behind = refl; written = elim (cases_Bool (is_hidden t)) [ inl hidden ↦ rw hidden refl | inr shown ↦ rw shown refl ] }
+
+-- such bytes of a line
+run : (t : Tidier) (fine : ℕ → Bool) (bytes : List ℕ) → IsLine bytes → list_all fine bytes ≡ true → ((b : ℕ) → (b == 10) ≡ false → fine b ≡ true → IsSteady t b) → IsTidying t bytes
+run t fine [] is all each = nothing_run t
+run t fine (b ∷ bs) is all each =
     let parts = or_parts (b == 10) _ is in
-    rw parts.0 (hidden n (place_more p l b) (line_more p l b) bs parts.1)
+    let fines = and_parts (fine b) _ all in
+    let first = each b parts.0 fines.0 in
+    let rest = run t fine bs parts.1 fines.1 each in
+    record {
+      behind = ap (λ u. behind_bytes u bs) first.behind ∙ rest.behind;
+      written = ap₂ (λ l u. l ++ bytes_written u bs) first.written first.behind ∙ ap (λ l. (if is_hidden t then [] else b ∷ []) ++ l) rest.written ∙ hidden_or (is_hidden t) b bs;
+    }
 
-copied_behind : (k : ℕ) (p : Place) (bytes : List ℕ) → IsLine bytes → behind_bytes (at k p line.Copied) bytes ≡ at k p line.Copied
-copied_behind k p [] is = refl
-copied_behind k p (b ∷ bs) is = let parts = or_parts (b == 10) _ is in rw parts.0 (copied_behind k p bs parts.1)
+-- where witnesses are passed over, nothing is written
+is_skipping : (n : ℕ) → (suc n == 0) ≡ false
+is_skipping n = ne_eqb (suc n) 0 (λ e. absurd (omega arith))
 
-copied_written : (p : Place) (bytes : List ℕ) → IsLine bytes → bytes_written (at 0 p line.Copied) bytes ≡ bytes
-copied_written p [] is = refl
-copied_written p (b ∷ bs) is = let parts = or_parts (b == 10) _ is in rw parts.0 (ap (λ (l : List ℕ). b ∷ l) (copied_written p bs parts.1))
+steady : (k : ℕ) (p : Place) (l : Line) (b : ℕ) → behind_byte (at k p l) b ≡ at k p l → byte_written (at zero p l) b ≡ (if is_gone l then [] else b ∷ []) → IsSteady (at k p l) b
+steady zero p l b behind written = record { behind = behind; written = written }
+steady (suc n) p l b behind written = record { behind = behind; written = rw (is_skipping n) refl }
 
-gone_behind : (k : ℕ) (p : Place) (bytes : List ℕ) → IsLine bytes → behind_bytes (at k p line.Gone) bytes ≡ at k p line.Gone
-gone_behind k p [] is = refl
-gone_behind k p (b ∷ bs) is = let parts = or_parts (b == 10) _ is in rw parts.0 (gone_behind k p bs parts.1)
-
-gone_written : (p : Place) (bytes : List ℕ) → IsLine bytes → bytes_written (at 0 p line.Gone) bytes ≡ []
-gone_written p [] is = refl
-gone_written p (b ∷ bs) is = let parts = or_parts (b == 10) _ is in rw parts.0 (gone_written p bs parts.1)
+any_byte : (bytes : List ℕ) → list_all (λ b. true) bytes ≡ true
+any_byte [] = refl
+any_byte (b ∷ bs) = any_byte bs
 
 -- ---- bytes of a word
 
@@ -55,60 +69,26 @@ plain_same p w b h =
           ]
     ]
 
-kept_behind : (k : ℕ) (p : Place) (w : Word) (bytes : List ℕ) → IsLine bytes → list_all (is_plain (takes_x p w)) bytes ≡ true
-    → behind_bytes (at k p (line.Kept said.Other w false)) bytes ≡ at k p (line.Kept said.Other w false)
-kept_behind k p w [] is all = refl
-kept_behind k p w (b ∷ bs) is all =
-    let parts = or_parts (b == 10) _ is in
-    let each = and_parts (is_plain (takes_x p w) b) _ all in
-    rw (parts.0, plain_blank (takes_x p w) b each.0) (kept_behind k p w bs parts.1 each.1)
-
-kept_written : (p : Place) (w : Word) (bytes : List ℕ) → IsLine bytes → list_all (is_plain (takes_x p w)) bytes ≡ true
-    → bytes_written (at 0 p (line.Kept said.Other w false)) bytes ≡ bytes
-kept_written p w [] is all = refl
-kept_written p w (b ∷ bs) is all =
-    let parts = or_parts (b == 10) _ is in
-    let each = and_parts (is_plain (takes_x p w) b) _ all in
-    rw (parts.0, plain_blank (takes_x p w) b each.0, plain_same p w b each.0) (ap (λ (l : List ℕ). b ∷ l) (kept_written p w bs parts.1 each.1))
-
 -- ---- runs
 
--- witnesses are passed over
-is_skipping : (n : ℕ) → (suc n == 0) ≡ false
-is_skipping n = ne_eqb (suc n) 0 (λ e. absurd (omega arith))
-
-copied_at : (k : ℕ) (p : Place) (bytes : List ℕ) → IsLine bytes → IsTidying (at k p line.Copied) bytes
-copied_at zero p bytes is = record { behind = copied_behind zero p bytes is; written = copied_written p bytes is }
-copied_at (suc n) p bytes is = record { behind = copied_behind (suc n) p bytes is; written = rw (is_skipping n) (hidden n p line.Copied bytes is) }
-
-gone_at : (k : ℕ) (p : Place) (bytes : List ℕ) → IsLine bytes → IsTidying (at k p line.Gone) bytes
-gone_at zero p bytes is = record { behind = gone_behind zero p bytes is; written = gone_written p bytes is }
-gone_at (suc n) p bytes is = record { behind = gone_behind (suc n) p bytes is; written = rw (is_skipping n) (hidden n p line.Gone bytes is) }
-
-kept_at : (k : ℕ) (p : Place) (w : Word) (bytes : List ℕ) → IsLine bytes → list_all (is_plain (takes_x p w)) bytes ≡ true → IsTidying (at k p (line.Kept said.Other w false)) bytes
-kept_at zero p w bytes is all = record { behind = kept_behind zero p w bytes is all; written = kept_written p w bytes is all }
-kept_at (suc n) p w bytes is all = record { behind = kept_behind (suc n) p w bytes is all; written = rw (is_skipping n) (hidden n p (line.Kept said.Other w false) bytes is) }
-
-nothing_at : (k : ℕ) (p : Place) (l : Line) → IsTidying (at k p l) []
-nothing_at zero p line.Empty = record { behind = refl; written = refl }
-nothing_at zero p line.Copied = record { behind = refl; written = refl }
-nothing_at zero p line.Gone = record { behind = refl; written = refl }
-nothing_at zero p line.Held = record { behind = refl; written = refl }
-nothing_at zero p (line.Kept s w g) = record { behind = refl; written = refl }
-nothing_at (suc n) p l = record { behind = refl; written = rw (is_skipping n) refl }
-
--- a tidier whose line is known so
+-- of a tidier whose line is known so
 pub copied_run : (t : Tidier) (bytes : List ℕ) → t.line ≡ line.Copied → IsLine bytes → IsTidying t bytes
-copied_run t bytes e is = subst (λ (l : Line). IsTidying (at t.skip t.place l) bytes) (sym e) (copied_at t.skip t.place bytes is)
+copied_run t bytes e is =
+    subst (λ (l : Line). IsTidying (at t.skip t.place l) bytes) (sym e)
+    (run (at t.skip t.place line.Copied) (λ b. true) bytes is (any_byte bytes) (λ b h fine. steady t.skip t.place line.Copied b (rw h refl) (rw h refl)))
 
 pub gone_run : (t : Tidier) (bytes : List ℕ) → t.line ≡ line.Gone → IsLine bytes → IsTidying t bytes
-gone_run t bytes e is = subst (λ (l : Line). IsTidying (at t.skip t.place l) bytes) (sym e) (gone_at t.skip t.place bytes is)
+gone_run t bytes e is =
+    subst (λ (l : Line). IsTidying (at t.skip t.place l) bytes) (sym e)
+    (run (at t.skip t.place line.Gone) (λ b. true) bytes is (any_byte bytes) (λ b h fine. steady t.skip t.place line.Gone b (rw h refl) (rw h refl)))
 
 pub kept_run : (t : Tidier) (s : Said) (w : Word) (gap : Bool) (bytes : List ℕ) → t.line ≡ line.Kept s w gap → s ≡ said.Other → gap ≡ false → IsLine bytes → list_all (is_plain (takes_x t.place w)) bytes ≡ true
     → IsTidying t bytes
 kept_run t s w gap bytes e other none is all =
     subst (λ (l : Line). IsTidying (at t.skip t.place l) bytes) (sym (e ∙ ap (λ (o : Said). line.Kept o w gap) other ∙ ap (λ (g : Bool). line.Kept said.Other w g) none))
-    (kept_at t.skip t.place w bytes is all)
+    (run (at t.skip t.place (line.Kept said.Other w false)) (is_plain (takes_x t.place w)) bytes is all (λ b h plain.
+    let byte = plain_blank (takes_x t.place w) b plain in
+    steady t.skip t.place (line.Kept said.Other w false) b (rw (h, byte) refl) (rw (h, byte, plain_same t.place w b plain) refl)))
 
 -- a front of a line is one
 pub front_is_line : (n : ℕ) (bytes : List ℕ) → IsLine bytes → IsLine (take n bytes)

@@ -1,5 +1,5 @@
 -- A byte of a line: what it writes, and what it says of the place behind the line.
-use Rattle.std.proofs.Common.{◌≡◌, ℕ, Bool, true, false, ◌==◌, List, [], ◌∷◌, ◌++◌, Option, Some, None, map, refl, ap, ◌∙◌, inl, inr, if◌then◌else◌}
+use Rattle.std.proofs.Common.{◌≡◌, ℕ, true, false, ◌==◌, List, [], ◌∷◌, ◌++◌, Option, Some, None, map, refl, ap, ◌∙◌, append-nil, inl, inr, if◌then◌else◌}
 use Rattle.std.proofs.lemmas.Bool.{cases_Bool, eqb-true}
 use Rattle.base.specs.Decimals.{is_nothing, is_digit}
 use Rattle.tidy.specs.declared.place.Place.{Place}
@@ -11,7 +11,7 @@ use Rattle.tidy.specs.declared.line.Line.{Line}
 use Rattle.tidy.specs.declared.line.Line.TheVariants as line
 use Rattle.tidy.specs.Words.{is_gap, word_pieces, words, plain, begins_with, begins_digit}
 use Rattle.tidy.specs.Tidied.{front_line, tidied_line, closed_by, zero_x}
-use Rattle.tidy.specs.Steps.{takes_x, changed, first_in_front, first_line, first_place, first_bytes, line_more, place_more, bytes_more, held_bytes, end_bytes, new_line}
+use Rattle.tidy.specs.Steps.{takes_x, changed, first_in_front, first_line, first_place, first_bytes, line_more, place_more, bytes_more, held_bytes, is_kept, new_line}
 use Rattle.tidy.proofs.WordLemmas.{in_word, in_gap, IsPlain, words_blank, plain_blank, unindented_blank, unindented_byte, all_words_byte, next_of, behind_gap, joined_zero, joined_value, plain_byte, digit_behind}
 
 -- ---- what is written
@@ -151,52 +151,35 @@ step e p (line.Kept s w true) b bs = gap_step e p s w b bs
 
 -- ---- the end of a line, and of a text
 
-abbrev pub end_of : Bool → List ℕ
-end_of true = 10 ∷ []
-end_of false = []
+-- what is held back, and these bytes where the end of the line is written
+abbrev pub close : List ℕ → Place → Line → List ℕ
+close e p l = held_bytes l ++ (if is_kept p l then e else [])
 
-abbrev pub close : Bool → Place → Line → List ℕ
-close true p l = end_bytes p l
-close false p l = held_bytes l
+empty_closed : (e : List ℕ) (p : Place) → close e p line.Empty ≡ closed_by e (empty_left p [])
+empty_closed e place.Front = refl
+empty_closed e place.Between = refl
+empty_closed e place.Claims = refl
+empty_closed e place.Parts = refl
+empty_closed e place.BitClaim = refl
+empty_closed e place.Initial = refl
+empty_closed e place.First = refl
+empty_closed e place.Frames = refl
+empty_closed e place.Empties = refl
+empty_closed e place.Skipped = refl
+empty_closed e place.Passed = refl
+empty_closed e place.Over = refl
 
-empty_closed : (e : Bool) (p : Place) → close e p line.Empty ≡ closed_by (end_of e) (empty_left p [])
-empty_closed true place.Front = refl
-empty_closed true place.Between = refl
-empty_closed true place.Claims = refl
-empty_closed true place.Parts = refl
-empty_closed true place.BitClaim = refl
-empty_closed true place.Initial = refl
-empty_closed true place.First = refl
-empty_closed true place.Frames = refl
-empty_closed true place.Empties = refl
-empty_closed true place.Skipped = refl
-empty_closed true place.Passed = refl
-empty_closed true place.Over = refl
-empty_closed false place.Front = refl
-empty_closed false place.Between = refl
-empty_closed false place.Claims = refl
-empty_closed false place.Parts = refl
-empty_closed false place.BitClaim = refl
-empty_closed false place.Initial = refl
-empty_closed false place.First = refl
-empty_closed false place.Frames = refl
-empty_closed false place.Empties = refl
-empty_closed false place.Skipped = refl
-empty_closed false place.Passed = refl
-empty_closed false place.Over = refl
-
-pub closed : (e : Bool) (p : Place) (l : Line) → close e p l ≡ closed_by (end_of e) (left_of p l [])
+pub closed : (e : List ℕ) (p : Place) (l : Line) → close e p l ≡ closed_by e (left_of p l [])
 closed e p line.Empty = empty_closed e p
-closed true p line.Copied = refl
-closed false p line.Copied = refl
-closed true p line.Gone = refl
-closed false p line.Gone = refl
-closed true p line.Held = refl
-closed false p line.Held = refl
-closed true p (line.Kept s w false) = refl
-closed true p (line.Kept s w true) = refl
-closed false p (line.Kept s w false) = refl
-closed false p (line.Kept s w true) = refl
+closed e p line.Copied = refl
+closed e p line.Gone = refl
+closed e p line.Held = refl
+closed e p (line.Kept s w false) = refl
+closed e p (line.Kept s w true) = refl
+
+-- no end
+pub close_none : (p : Place) (l : Line) → close [] p l ≡ held_bytes l
+close_none p l = elim (cases_Bool (is_kept p l)) [ inl kept ↦ rw kept (append-nil (held_bytes l)) | inr gone ↦ rw gone (append-nil (held_bytes l)) ]
 
 -- a line of which no byte is known
 pub new_left : (p : Place) (bytes : List ℕ) → left_of p (new_line p) bytes ≡ tidied_line p bytes

@@ -1,5 +1,5 @@
 -- A tidier writes the tidied text.
-use Rattle.std.proofs.Common.{◌≡◌, ℕ, Bool, true, false, is_err, ◌==◌, List, [], ◌∷◌, ◌++◌, Option, Some, None, Result, Ok, Err, IfSome, refl, sym, ap, ap₂, subst, ◌∙◌, append_assoc, append-nil}
+use Rattle.std.proofs.Common.{◌≡◌, ℕ, true, false, is_err, ◌==◌, List, [], ◌∷◌, ◌++◌, Option, Some, None, Result, Ok, Err, IfSome, refl, sym, ap, ap₂, subst, ◌∙◌, append_assoc, append-nil}
 use Rattle.std.specs.Io.KnownBytes.{Consumes}
 use Rattle.std.proofs.lemmas.Bool.{or_parts}
 use Rattle.base.specs.declared.device.DeviceFault.{DeviceFault}
@@ -7,6 +7,7 @@ use Rattle.base.specs.declared.pen.Pen.{Pen}
 use Rattle.base.specs.Device.{AppendsBeginning, CountsFaults, HasRisen}
 use Rattle.base.specs.Lines.{IsLine, text_of_lines, whole_lines, unfinished}
 use Rattle.base.specs.Pieces.{Puts}
+use Rattle.base.specs.Taking.{TakesFront}
 use Rattle.base.specs.Writing.{WritesText}
 use Rattle.base.proofs.DeviceLemmas.{beginning_longer}
 use Rattle.base.proofs.LineLemmas.{EachLine, lines_are_lines, unfinished_is_line, parts_of_text}
@@ -18,7 +19,7 @@ use Rattle.tidy.specs.declared.tidying.Tidying.{Tidying}
 use Rattle.tidy.specs.Tidied.{Stand, at_front, behind_words, behind, closed_by, shown, tidy_line, tidied_lines, tidied}
 use Rattle.tidy.specs.Steps.{spelled_line, end_bytes, line_more, place_more, bytes_more, new_line, at_line, stand_of, behind_byte, byte_written, behind_bytes, bytes_written, last_written, Takes, tidying_front}
 use Rattle.tidy.proofs.ByteLemmas.{behind_bytes-append, bytes_written-append, shown-append}
-use Rattle.tidy.proofs.StepLemmas.{left_of, end_of, close, step, closed, new_left}
+use Rattle.tidy.proofs.StepLemmas.{left_of, close, step, closed, close_none, new_left}
 use Rattle.tidy.proofs.BehindLemmas.{standing, words_left, fits, keeps, fits_more, new_fits, nothing_left, new_words}
 
 abbrev at : ℕ → Place → Line → Tidier
@@ -37,10 +38,10 @@ byte_shown : (k : ℕ) (p : Place) (l : Line) (b : ℕ) → (b == 10) ≡ false 
 byte_shown k p l b h = rw h refl
 
 -- what is written for these bytes, and where the line or the text ends behind them
-abbrev closed_bytes : Bool → List ℕ → Tidier → List ℕ
+abbrev closed_bytes : List ℕ → List ℕ → Tidier → List ℕ
 closed_bytes e bytes t = bytes_written t bytes ++ shown (behind_bytes t bytes).skip (close e (behind_bytes t bytes).place (behind_bytes t bytes).line)
 
-line_written : (e : Bool) (k : ℕ) (p : Place) (l : Line) (bytes : List ℕ) → IsLine bytes → closed_bytes e bytes (at k p l) ≡ shown k (closed_by (end_of e) (left_of p l bytes))
+line_written : (e : List ℕ) (k : ℕ) (p : Place) (l : Line) (bytes : List ℕ) → IsLine bytes → closed_bytes e bytes (at k p l) ≡ shown k (closed_by e (left_of p l bytes))
 line_written e k p l [] is = ap (shown k) (closed e p l)
 line_written e k p l (b ∷ bs) is =
     let parts = or_parts (b == 10) _ is in
@@ -49,8 +50,8 @@ line_written e k p l (b ∷ bs) is =
     append_assoc (byte_written (at k p l) b) (bytes_written (behind_byte (at k p l) b) bs) _
     ∙ ap₂ (λ (x : List ℕ) (u : Tidier). x ++ closed_bytes e bs u) (byte_shown k p l b parts.0) (byte_behind k p l b parts.0)
     ∙ ap (λ (x : List ℕ). shown k (bytes_more p l b) ++ x) (line_written e k q m bs parts.1)
-    ∙ sym (shown-append k (bytes_more p l b) (closed_by (end_of e) (left_of q m bs)))
-    ∙ ap (shown k) (sym (step (end_of e) p l b bs))
+    ∙ sym (shown-append k (bytes_more p l b) (closed_by e (left_of q m bs)))
+    ∙ ap (shown k) (sym (step e p l b bs))
 
 -- the place behind the line of which these bytes were known last
 abbrev place_behind : List ℕ → Tidier → Stand
@@ -70,7 +71,7 @@ whole_written : (s : Stand) (line : List ℕ) → IsLine line → bytes_written 
 whole_written s line is =
     bytes_written-append (at_line s) line (10 ∷ [])
     ∙ ap (λ (x : List ℕ). bytes_written (at_line s) line ++ x) (written_end (behind_bytes (at_line s) line))
-    ∙ line_written true s.skip s.place (new_line s.place) line is
+    ∙ line_written (10 ∷ []) s.skip s.place (new_line s.place) line is
     ∙ ap (λ (o : Option (List ℕ)). shown s.skip (closed_by (10 ∷ []) o)) (new_left s.place line)
 
 whole_behind : (s : Stand) (line : List ℕ) → IsLine line → behind_bytes (at_line s) (line ++ 10 ∷ []) ≡ at_line (behind s line)
@@ -80,7 +81,9 @@ whole_behind s line is =
 
 last_line : (s : Stand) (rest : List ℕ) → IsLine rest → bytes_written (at_line s) rest ++ last_written (behind_bytes (at_line s) rest) ≡ tidy_line [] s rest
 last_line s rest is =
-    line_written false s.skip s.place (new_line s.place) rest is
+    let t : Tidier = behind_bytes (at_line s) rest in
+    ap (λ (x : List ℕ). bytes_written (at_line s) rest ++ shown t.skip x) (sym (close_none t.place t.line))
+    ∙ line_written [] s.skip s.place (new_line s.place) rest is
     ∙ ap (λ (o : Option (List ℕ)). shown s.skip (closed_by [] o)) (new_left s.place rest)
 
 -- ---- a text
@@ -109,9 +112,12 @@ text_written pick text =
 
 -- ---- a source
 
--- nothing is taken
-pub nothing_taken : {K : Type 0} (written : K → Option (List ℕ)) (failures : K → ℕ) (s : K) (pick : ℕ) (t : Tidying) → t.tidier ≡ at_line (at_front pick) → t.pen.outbox ≡ [] → t.pen.answer ≡ Ok tt → Takes written failures s s (tidying_front pick) t []
-nothing_taken written failures s pick t is kept well = record { behind = is; writes = record { puts = rw (kept, well) (writes_none {written = written} {failures = failures} {s = s} {p = (tidying_front pick).pen}).puts } }
+-- a front of it was taken since the tidier was new
+pub taken_front : {K : Type 0} {written : K → Option (List ℕ)} {failures : K → ℕ} {start s : K} (pick : ℕ) {source source' : Option (List ℕ)} {a b : Tidying} → a.tidier ≡ at_line (at_front pick) → a.pen.outbox ≡ [] → a.pen.answer ≡ Ok tt
+    → (front : TakesFront (λ (over : K × ℕ) sink t text. Takes written failures over.0 sink (tidying_front over.1) t text) source source' start s a b) → Takes written failures start s (tidying_front pick) b front.front
+taken_front {written} {failures} {start} pick is kept well front =
+    front.takes (start, pick) []
+    (record { behind = is; writes = record { puts = rw (kept, well) (writes_none {written = written} {failures = failures} {s = start} {p = (tidying_front pick).pen}).puts } })
 
 -- with what was held back, all of the tidied text is put
 pub all_put : {K : Type 0} {written : K → Option (List ℕ)} {failures : K → ℕ} {start s t : K} (pick : ℕ) {a : Tidying} {q : Pen} {text : List ℕ} → Takes written failures start s (tidying_front pick) a text → WritesText written failures s t a.pen q (last_written a.tidier)
