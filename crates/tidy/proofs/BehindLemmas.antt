@@ -56,15 +56,12 @@ other_words : (k : ℕ) (p : Place) (xs ys : List ℕ) → IsOther xs → IsOthe
 other_words k place.Front xs ys o q = rw (o.some, o.comment, o.progress, o.sat, o.one, q.some, q.comment, q.progress, q.sat, q.one) refl
 other_words k place.Between xs ys o q = rw (o.some, o.comment, o.c, o.progress, o.sat, o.one, q.some, q.comment, q.c, q.progress, q.sat, q.one) refl
 other_words k place.Claims xs ys o q = rw (o.some, o.comment, q.some, q.comment) refl
-other_words k place.Parts xs ys o q = rw (o.dot, q.dot) refl
 other_words k place.BitClaim xs ys o q = rw (o.some, q.some) refl
 other_words k place.Initial xs ys o q = refl
 other_words k place.First xs ys o q = rw (o.some, o.dot, q.some, q.dot) refl
-other_words k place.Frames xs ys o q = rw (o.dot, q.dot) refl
-other_words k place.Empties xs ys o q = rw (o.dot, q.dot) refl
-other_words k place.Skipped xs ys o q = rw (o.dot, q.dot) refl
 other_words k place.Passed xs ys o q = refl
 other_words k place.Over xs ys o q = refl
+other_words k p xs ys o q = rw (o.dot, q.dot) refl
 
 asked : (xs : List ℕ) → IsOther (63 ∷ xs)
 asked xs = record { some = refl; comment = refl; c = refl; progress = refl; sat = refl; one = refl; dot = refl }
@@ -87,19 +84,12 @@ said_step k p said.Sa b xs =
           rw other
           (other_words k p (115 ∷ 97 ∷ b ∷ xs) (63 ∷ xs) (record { some = refl; comment = refl; c = refl; progress = refl; sat = rw other refl; one = refl; dot = refl }) (asked xs))
     ]
-said_step k p said.Sat b xs = other_words k p (115 ∷ 97 ∷ 116 ∷ b ∷ xs) (63 ∷ xs) (record { some = refl; comment = refl; c = refl; progress = refl; sat = refl; one = refl; dot = refl }) (asked xs)
-said_step k p said.One b xs = other_words k p (49 ∷ b ∷ xs) (63 ∷ xs) (record { some = refl; comment = refl; c = refl; progress = refl; sat = refl; one = refl; dot = refl }) (asked xs)
-said_step k p said.Dot b xs = other_words k p (46 ∷ b ∷ xs) (63 ∷ xs) (record { some = refl; comment = refl; c = refl; progress = refl; sat = refl; one = refl; dot = refl }) (asked xs)
-said_step k p said.Other b xs = other_words k p (63 ∷ b ∷ xs) (63 ∷ xs) (asked (b ∷ xs)) (asked xs)
+said_step k p s b xs = other_words k p (spelled s ++ b ∷ xs) (63 ∷ xs) (record { some = refl; comment = refl; c = refl; progress = refl; sat = refl; one = refl; dot = refl }) (asked xs)
 
 -- behind a space
 gap_said : (k : ℕ) (p : Place) (s : Said) (xs : List ℕ) → behind_words (standing k p) (spelled s ++ 32 ∷ xs) ≡ behind_words (standing k p) (63 ∷ xs)
 gap_said k p said.S xs = said_step k p said.S 32 xs
-gap_said k p said.Sa xs = said_step k p said.Sa 32 xs
-gap_said k p said.Sat xs = said_step k p said.Sat 32 xs
-gap_said k p said.One xs = said_step k p said.One 32 xs
-gap_said k p said.Dot xs = said_step k p said.Dot 32 xs
-gap_said k p said.Other xs = said_step k p said.Other 32 xs
+gap_said k p s xs = said_step k p s 32 xs
 
 -- the line with a byte more has words that are as good
 abbrev Keeps : ℕ → Place → Line → ℕ → List ℕ → Type 0
@@ -133,16 +123,7 @@ u_other k p xs none = other_words k p (117 ∷ xs) (63 ∷ xs) (record { some = 
 u_digit : (k : ℕ) (p : Place) (xs : List ℕ) → fits p line.Held ≡ true → begins_digit xs ≡ true → behind_words (standing k p) (117 ∷ xs) ≡ behind_words (standing k p) (59 ∷ [])
 u_digit k place.Front xs f digit = rw digit refl
 u_digit k place.Between xs f digit = rw digit refl
-u_digit k place.Claims xs f digit = absurd (false≢true f)
-u_digit k place.Parts xs f digit = absurd (false≢true f)
-u_digit k place.BitClaim xs f digit = absurd (false≢true f)
-u_digit k place.Initial xs f digit = absurd (false≢true f)
-u_digit k place.First xs f digit = absurd (false≢true f)
-u_digit k place.Frames xs f digit = absurd (false≢true f)
-u_digit k place.Empties xs f digit = absurd (false≢true f)
-u_digit k place.Skipped xs f digit = absurd (false≢true f)
-u_digit k place.Passed xs f digit = absurd (false≢true f)
-u_digit k place.Over xs f digit = absurd (false≢true f)
+u_digit k p xs f digit = absurd (false≢true f)
 
 held_keeps : (k : ℕ) (p : Place) (b : ℕ) (bs : List ℕ) → fits p line.Held ≡ true → Keeps k p line.Held b bs
 held_keeps k p b bs f =
@@ -181,15 +162,11 @@ none_first k place.Between b xs free n =
     let parts = or_parts (b == 59) _ c.1 in
     rw (c.0, parts.0, parts.1, n.s, n.one) refl
 none_first k place.Claims b xs free n = rw free refl
-none_first k place.Parts b xs free n = rw n.dot refl
 none_first k place.BitClaim b xs free n = refl
 none_first k place.Initial b xs free n = refl
-none_first k place.First b xs free n = rw n.dot refl
-none_first k place.Frames b xs free n = rw n.dot refl
-none_first k place.Empties b xs free n = rw n.dot refl
-none_first k place.Skipped b xs free n = rw n.dot refl
 none_first k place.Passed b xs free n = refl
 none_first k place.Over b xs free n = refl
+none_first k p b xs free n = rw n.dot refl
 
 abbrev Begins : ℕ → Place → List ℕ → ℕ → Type 0
 Begins k p xs b = behind_words (standing k p) (b ∷ xs) ≡ behind_words (standing k p) (spelled (said_first b) ++ xs)
@@ -268,14 +245,7 @@ first_keeps k place.Between b bs =
     ]
 first_keeps k place.Claims b bs = words_first k place.Claims b bs (first_line place.Claims b) refl (λ h. h) (λ xs. refl)
 first_keeps k place.Parts b bs = words_first k place.Parts b bs (first_line place.Parts b) refl (λ h. h) (λ xs. refl)
-first_keeps k place.BitClaim b bs = kept_first k place.BitClaim b (in_word place.Front word.First bs) refl
-first_keeps k place.Initial b bs = kept_first k place.Initial b (in_word place.Front word.First bs) refl
-first_keeps k place.First b bs = kept_first k place.First b (in_word place.Front word.First bs) refl
-first_keeps k place.Frames b bs = kept_first k place.Frames b (in_word place.Front word.First bs) refl
-first_keeps k place.Empties b bs = kept_first k place.Empties b (in_word place.Front word.First bs) refl
-first_keeps k place.Skipped b bs = kept_first k place.Skipped b (in_word place.Front word.First bs) refl
-first_keeps k place.Passed b bs = kept_first k place.Passed b (in_word place.Front word.First bs) refl
-first_keeps k place.Over b bs = kept_first k place.Over b (in_word place.Front word.First bs) refl
+first_keeps k p b bs = kept_first k p b (in_word place.Front word.First bs) refl
 
 empty_keeps : (k : ℕ) (p : Place) (b : ℕ) (bs : List ℕ) → Keeps k p line.Empty b bs
 empty_keeps k p b bs =
@@ -307,14 +277,7 @@ first_fits place.Between b =
     elim (cases_Bool (b == 99)) [ inl c ↦ rw c refl | inr other ↦ rw other (front_fits place.Between b refl) ]
 first_fits place.Claims b = either_fits place.Claims (b == 59) line.Gone (first_kept b) refl refl
 first_fits place.Parts b = either_fits place.Parts (b == 59) line.Gone (first_kept b) refl refl
-first_fits place.BitClaim b = refl
-first_fits place.Initial b = refl
-first_fits place.First b = refl
-first_fits place.Frames b = refl
-first_fits place.Empties b = refl
-first_fits place.Skipped b = refl
-first_fits place.Passed b = refl
-first_fits place.Over b = refl
+first_fits p b = refl
 
 pub fits_more : (p : Place) (l : Line) (b : ℕ) → fits (place_more p l b) (line_more p l b) ≡ true
 fits_more p line.Empty b = elim (cases_Bool (is_gap b)) [ inl blank ↦ rw blank refl | inr byte ↦ rw byte (first_fits p b) ]
@@ -326,38 +289,15 @@ fits_more p (line.Kept s w true) b = either_fits p (is_gap b) (line.Kept s w tru
 
 pub new_fits : (p : Place) → fits p (new_line p) ≡ true
 new_fits place.Front = refl
-new_fits place.Between = refl
-new_fits place.Claims = refl
-new_fits place.Parts = refl
-new_fits place.BitClaim = refl
-new_fits place.Initial = refl
-new_fits place.First = refl
-new_fits place.Frames = refl
-new_fits place.Empties = refl
-new_fits place.Skipped = refl
-new_fits place.Passed = refl
-new_fits place.Over = refl
+new_fits p = refl
 
 -- ---- no byte, and none known
 
 pub nothing_left : (l : Line) → spelled_line l ≡ words_left l []
-nothing_left line.Empty = refl
-nothing_left line.Copied = refl
-nothing_left line.Gone = refl
-nothing_left line.Held = refl
 nothing_left (line.Kept s w false) = sym (append-nil (spelled s))
 nothing_left (line.Kept s w true) = sym (append-nil (spelled s))
+nothing_left l = refl
 
 pub new_words : (k : ℕ) (p : Place) (bytes : List ℕ) → behind_words (standing k p) (words_left (new_line p) bytes) ≡ behind_words (standing k p) (plain bytes)
 new_words k place.Front bytes = refl
-new_words k place.Between bytes = refl
-new_words k place.Claims bytes = refl
-new_words k place.Parts bytes = refl
-new_words k place.BitClaim bytes = refl
-new_words k place.Initial bytes = refl
-new_words k place.First bytes = refl
-new_words k place.Frames bytes = refl
-new_words k place.Empties bytes = refl
-new_words k place.Skipped bytes = refl
-new_words k place.Passed bytes = refl
-new_words k place.Over bytes = refl
+new_words k p bytes = refl

@@ -43,16 +43,8 @@ Steps e p l b bs = closed_by e (left_of p l (b ∷ bs)) ≡ bytes_more p l b ++ 
 blank_left : (p : Place) (b : ℕ) (bs : List ℕ) → is_gap b ≡ true → empty_left p (b ∷ bs) ≡ empty_left p bs
 blank_left place.Front b bs h = rw (plain_blank b bs h, unindented_blank b bs h) refl
 blank_left place.Between b bs h = rw (plain_blank b bs h, unindented_blank b bs h) refl
-blank_left place.Claims b bs h = rw (plain_blank b bs h) refl
 blank_left place.Parts b bs h = rw (plain_blank b bs h, words_blank b bs h) refl
-blank_left place.BitClaim b bs h = rw (plain_blank b bs h) refl
-blank_left place.Initial b bs h = rw (plain_blank b bs h) refl
-blank_left place.First b bs h = rw (plain_blank b bs h) refl
-blank_left place.Frames b bs h = rw (plain_blank b bs h) refl
-blank_left place.Empties b bs h = rw (plain_blank b bs h) refl
-blank_left place.Skipped b bs h = rw (plain_blank b bs h) refl
-blank_left place.Passed b bs h = rw (plain_blank b bs h) refl
-blank_left place.Over b bs h = rw (plain_blank b bs h) refl
+blank_left p b bs h = rw (plain_blank b bs h) refl
 
 -- a first byte
 zero_first : (p : Place) (b : ℕ) (bs : List ℕ) → ((w : Word) → takes_x p w ≡ true) → is_gap b ≡ false → map zero_x (plain (b ∷ bs)) ≡ changed p word.First b ∷ in_word p word.First bs
@@ -98,15 +90,12 @@ first_left e place.Parts b bs byte =
           rw (plain_byte place.Front b bs (λ w. refl) byte, other)
           (ap (λ (l : List ℕ). l ++ e) (joined_value (words (b ∷ bs)) ∙ all_words_byte place.Parts b bs byte))
     ]
-first_left e place.BitClaim b bs byte = rw (plain_byte place.BitClaim b bs (λ w. refl) byte) refl
 first_left e place.Initial b bs byte = ap (λ (l : List ℕ). l ++ e) (zero_first place.Initial b bs (λ w. refl) byte)
 first_left e place.First b bs byte = ap (λ (l : List ℕ). l ++ e) (zero_first place.First b bs (λ w. refl) byte)
 first_left e place.Frames b bs byte =
     rw (ap is_nothing (plain_byte place.Front b bs (λ w. refl) byte)) (ap (λ (l : List ℕ). l ++ e) (zero_first place.Frames b bs (λ w. refl) byte))
 first_left e place.Empties b bs byte = ap (λ (l : List ℕ). l ++ e) (zero_first place.Empties b bs (λ w. refl) byte)
-first_left e place.Skipped b bs byte = rw (plain_byte place.Skipped b bs (λ w. refl) byte) refl
-first_left e place.Passed b bs byte = rw (plain_byte place.Passed b bs (λ w. refl) byte) refl
-first_left e place.Over b bs byte = rw (plain_byte place.Over b bs (λ w. refl) byte) refl
+first_left e p b bs byte = rw (plain_byte p b bs (λ w. refl) byte) refl
 
 -- a byte behind `u`, and behind words
 held_step : (e : List ℕ) (p : Place) (b : ℕ) (bs : List ℕ) → Steps e p line.Held b bs
@@ -157,25 +146,12 @@ close e p l = held_bytes l ++ (if is_kept p l then e else [])
 
 empty_closed : (e : List ℕ) (p : Place) → close e p line.Empty ≡ closed_by e (empty_left p [])
 empty_closed e place.Front = refl
-empty_closed e place.Between = refl
-empty_closed e place.Claims = refl
-empty_closed e place.Parts = refl
-empty_closed e place.BitClaim = refl
-empty_closed e place.Initial = refl
-empty_closed e place.First = refl
-empty_closed e place.Frames = refl
-empty_closed e place.Empties = refl
-empty_closed e place.Skipped = refl
-empty_closed e place.Passed = refl
-empty_closed e place.Over = refl
+empty_closed e p = refl
 
 pub closed : (e : List ℕ) (p : Place) (l : Line) → close e p l ≡ closed_by e (left_of p l [])
 closed e p line.Empty = empty_closed e p
-closed e p line.Copied = refl
-closed e p line.Gone = refl
-closed e p line.Held = refl
 closed e p (line.Kept s w false) = refl
-closed e p (line.Kept s w true) = refl
+closed e p l = refl
 
 -- no end
 pub close_none : (p : Place) (l : Line) → close [] p l ≡ held_bytes l
@@ -184,14 +160,4 @@ close_none p l = elim (cases_Bool (is_kept p l)) [ inl kept ↦ rw kept (append-
 -- a line of which no byte is known
 pub new_left : (p : Place) (bytes : List ℕ) → left_of p (new_line p) bytes ≡ tidied_line p bytes
 new_left place.Front bytes = refl
-new_left place.Between bytes = refl
-new_left place.Claims bytes = refl
-new_left place.Parts bytes = refl
-new_left place.BitClaim bytes = refl
-new_left place.Initial bytes = refl
-new_left place.First bytes = refl
-new_left place.Frames bytes = refl
-new_left place.Empties bytes = refl
-new_left place.Skipped bytes = refl
-new_left place.Passed bytes = refl
-new_left place.Over bytes = refl
+new_left p bytes = refl

@@ -116,7 +116,8 @@ impl<K: Sink> Taker<K> for Tidying {
     /// The sink as it was when nothing was taken, and the number of the witness that is wanted.
     ghost Over = { K × ℕ };
 
-    ghost stands = { λ over sink taker text. Takes K.written K.failures over.0 sink (tidying_front over.1) taker text };
+    ghost stands = { λ over sink taker text. Takes K.written K.failures over.0 sink
+        (tidying_front over.1) taker text };
 
     ghost is_done = { λ taker. is_err taker.pen.answer };
 
