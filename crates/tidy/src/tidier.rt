@@ -7,7 +7,7 @@ ghost use Rattle.base.specs.Writing.{WritesText};
 ghost use Rattle.tidy.specs.declared.line.Line.TheVariants as line;
 ghost use Rattle.tidy.specs.declared.line.Said.{Said as SaidSpec};
 ghost use Rattle.tidy.specs.Tidied.{at_front, is_in_front, behind_status, place_after, may_end, shown};
-ghost use Rattle.tidy.specs.Steps.{spelled_line, first_line, first_bytes, bytes_more, keeps_empty, is_kept, is_gone, is_hidden, is_plain, held_bytes, end_bytes, new_line, at_line, behind_tidied, behind_byte, byte_written, last_written, IsTidying, emitted_bytes};
+ghost use Rattle.tidy.specs.Steps.{spelled_line, first_line, first_bytes, bytes_more, keeps_empty, is_kept, is_hidden, is_plain, held_bytes, end_bytes, new_line, at_line, behind_tidied, behind_byte, byte_written, last_written, IsTidying, emitted_bytes};
 
 use crate::line::{
     Line, Said, Word, changed, first_line, is_blank, later, line_more, place_more, takes_x,
@@ -51,13 +51,6 @@ pub(crate) struct Tidier {
     skip: u64,
     place: Place,
     line: Line,
-}
-
-/// Whether nothing of a line is written.
-fn is_gone(line: Line) -> bool
-    ensures { result ≡ is_gone line }
-{
-    matches!(line, Line::Gone)
 }
 
 /// What is written for the first byte of a line's words.
@@ -243,7 +236,7 @@ impl Tidier {
     pub(crate) fn is_hidden(self) -> bool
         ensures { result ≡ is_hidden self }
     {
-        self.skip > 0 || is_gone(self.line)
+        self.skip > 0 || matches!(self.line, Line::Gone)
     }
 
     /// How many bytes at the front of some, which end no line, are written or left out together.
