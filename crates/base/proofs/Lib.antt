@@ -1,7 +1,6 @@
 pub mod BitLemmas
 mod CounterLemmas
 pub mod DeviceLemmas
-pub mod PieceLemmas
 pub mod TakingLemmas
 pub mod PenLemmas
 pub mod DivisionLemmas

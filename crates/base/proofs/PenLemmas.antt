@@ -3,7 +3,9 @@ use Rattle.std.proofs.Common.{◌≡◌, ℕ, ◌^◌, ◌<◌, ◌≤◌, List,
 use Rattle.std.proofs.KnownBytes.{Appends-nil}
 use Rattle.std.proofs.lemmas.Fmt.{length-decimal-le}
 use Rattle.base.specs.declared.pen.Pen.{Pen}
-use Rattle.base.specs.Device.{HasRisen}
+use Rattle.base.specs.declared.device.DeviceFault.{DeviceFault}
+use Rattle.base.specs.Device.{HasRisen, AppendsBeginning}
+use Rattle.base.specs.Pieces.{Puts}
 use Rattle.base.specs.Writing.{PutsOn, WritesText}
 use Rattle.base.proofs.DeviceLemmas.{beginning_longer, sent_on, sent_then_beginning}
 
@@ -32,6 +34,16 @@ pub writes_then : {K : Type 0} {written : K → Option (List ℕ)} {failures : K
 writes_then {written} {failures} {s} {t} {u} {p} {q} {r} {x} {y} first next = record {
   puts = both_on p.answer q.answer r.answer (written s) (written t) (written u) (failures s) (failures t) (failures u) p.outbox q.outbox r.outbox x y first.puts next.puts;
 }
+
+-- what a pen has put since it was new is a beginning of what was written
+pub pen_begins : {K : Type 0} {written : K → Option (List ℕ)} {failures : K → ℕ} {s t : K} {p q : Pen} {text : List ℕ} → p.outbox ≡ [] → p.answer ≡ Ok tt → WritesText written failures s t p q text → AppendsBeginning (written s) (written t) text
+pen_begins {written} {failures} {s} {t} {q} {text} kept well w =
+    let puts : PutsOn (Ok tt) q.answer (written s) (written t) (failures s) (failures t) [] q.outbox text = rw (kept, well) at w.puts in
+    by q.answer (written s) (written t) q.outbox text puts.0
+  where
+    by : (r : Result Unit DeviceFault) (old new : Option (List ℕ)) (left text : List ℕ) → Puts r old new [] left text → AppendsBeginning old new text
+    by (Ok x) old new left text sent = (sent.front, (left, sent.whole), sent.appends)
+    by (Err e) old new left text begun = begun
 
 -- of a whole text a front was put, and this rest of it is still to be put
 pub record Writing {K : Type 0} (written : K → Option (List ℕ)) (failures : K → ℕ) (s t : K) (p q : Pen) (whole rest : List ℕ) : Type 0 where

@@ -1,7 +1,7 @@
 -- What was taken of a source, piece by piece.
-use Rattle.std.proofs.Common.{ℕ, List, [], ◌++◌, Option, IfSome, sym, subst, append_assoc, append-nil}
-use Rattle.std.specs.Io.KnownBytes.{Consumes, IsAtEnd}
-use Rattle.std.proofs.KnownBytes.{Consumes-nil, Consumes-trans, Consumes-whole}
+use Rattle.std.proofs.Common.{ℕ, List, [], ◌++◌, Option, Some, None, IfSome, sym, subst, append_assoc, append-nil}
+use Rattle.std.specs.Io.KnownBytes.{Consumes}
+use Rattle.std.proofs.KnownBytes.{Consumes-nil, Consumes-trans}
 use Rattle.base.specs.Taking.{TakesFront}
 
 pub front_nothing : {V O T : Type 0} (Stands : V → O → T → List ℕ → Type 0) (source : Option (List ℕ)) (o : O) (t : T) → TakesFront Stands source source o o t t
@@ -16,8 +16,8 @@ front_more {Stands = Stands} {old = old} {mid = mid} {now = now} {o'' = o''} {af
       takes = λ v text h. subst (Stands v o'' after) (append_assoc text taken.front piece) (takes v (text ++ taken.front) (taken.takes v text h));
     }
 
--- at the end of a source that is its whole text
-pub whole_taken : {V O T : Type 0} {Stands : V → O → T → List ℕ → Type 0} {old now : Option (List ℕ)} {o o' : O} {before after : T} → TakesFront Stands old now o o' before after → IsAtEnd now
-    → (v : V) (text : List ℕ) → Stands v o before text → IfSome old (λ all. Stands v o' after (text ++ all))
-whole_taken {Stands = Stands} {old = old} {now = now} {o' = o'} {after = after} taken end v text h =
-    Consumes-whole old now taken.front (λ all. Stands v o' after (text ++ all)) taken.consumes end (taken.takes v text h)
+-- of a front of what a source gives something holds, whatever follows
+pub part_given : (old now : Option (List ℕ)) (front : List ℕ) (P : List ℕ → Type 0) → Consumes old now front → ((rest : List ℕ) → P (front ++ rest)) → IfSome old P
+part_given None now front P a h = tt
+part_given (Some xs) None front P a h = absurd a
+part_given (Some xs) (Some ys) front P a h = subst P (sym a) (h ys)

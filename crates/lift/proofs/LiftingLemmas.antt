@@ -18,13 +18,9 @@ use Rattle.lift.specs.Answers.{CountsLift}
 use Rattle.lift.specs.Lifted.{lifted_with}
 use Rattle.lift.specs.Stands.{Lifter, LiftsWith, HasLifted, TakesText, TakesSource}
 use Rattle.lift.proofs.LineLemmas.{lifted_begins}
+use Rattle.base.proofs.TakingLemmas.{part_given}
 
 -- ---- what a source gives
-
-part_given : (old now : Option (List ℕ)) (front : List ℕ) (P : List ℕ → Type 0) → Consumes old now front → ((rest : List ℕ) → P (front ++ rest)) → IfSome old P
-part_given None now front P a h = tt
-part_given (Some xs) None front P a h = absurd a
-part_given (Some xs) (Some ys) front P a h = subst P (sym a) (h ys)
 
 -- a front of it was taken
 pub record Given {K : Type 0} (written : K → Option (List ℕ)) (failures : K → ℕ) (source source' : Option (List ℕ)) (s t : K) (pen now : Pen) (before after : Lifter) : Type 0 where

@@ -28,6 +28,7 @@ use Rattle.restore.proofs.FormLineLemmas.{Same, More, read_more, same_read, init
 use Rattle.restore.proofs.FormWitnessLemmas.{wide_read}
 use Rattle.restore.proofs.TakenLemmas.{put_more}
 use Rattle.restore.proofs.ToldLemmas.{end_lines}
+use Rattle.base.proofs.TakingLemmas.{part_given}
 
 -- ---- one line
 
@@ -145,11 +146,6 @@ pub prepended : (a b : Option (List ℕ)) (front rest : List ℕ) → Consumes a
 prepended None b front rest h = tt
 prepended (Some xs) None front rest h = absurd h
 prepended (Some xs) (Some ys) front rest h = h ∙ sym (append_assoc front rest ys)
-
-part_given : (old now : Option (List ℕ)) (front : List ℕ) (P : List ℕ → Type 0) → Consumes old now front → ((rest : List ℕ) → P (front ++ rest)) → IfSome old P
-part_given None now front P a h = tt
-part_given (Some xs) None front P a h = absurd a
-part_given (Some xs) (Some ys) front P a h = subst P (sym a) (h ys)
 
 module _ {K : Type 0} (put : ℕ → List ℕ → List ℕ) (written : K → Option (List ℕ)) (failures : K → ℕ) (start s : K) (from pen : Pen) (c : Circuit) (choice : Option ℕ) (d : Circuit) (judge : BitLines) (first p : Play) (j k : ℕ) (text : List ℕ) (kept : from.outbox ≡ []) (well : from.answer ≡ Ok tt) (form : IsEngineFormOf c choice d)
     (is_fresh : IsFresh c k first) (below : k < length c.bads) (is : property_of choice j ≡ k) (h : FormHolds put written failures start s from pen d judge first p j text) where

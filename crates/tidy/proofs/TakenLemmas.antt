@@ -23,9 +23,6 @@ pub record Taken {K : Type 0} (written : K → Option (List ℕ)) (failures : K 
   pub all : front ++ rest ≡ whole
   pub takes : Takes written failures s t a b front
 
-pub taken_none : {K : Type 0} {written : K → Option (List ℕ)} {failures : K → ℕ} {s : K} {a : Tidying} {whole : List ℕ} → Taken written failures s s a a whole whole
-taken_none = record { front = []; all = refl; takes = takes_none }
-
 pub taken_more : {K : Type 0} {written : K → Option (List ℕ)} {failures : K → ℕ} {s t u : K} {a b c : Tidying} {whole rest piece more : List ℕ} → Taken written failures s t a b whole rest → Takes written failures t u b c piece → rest ≡ piece ++ more → Taken written failures s u a c whole more
 taken_more {piece} {more} so_far next parts = record {
   front = so_far.front ++ piece;

@@ -11,7 +11,7 @@ use Rattle.base.specs.Taking.{TakesFront}
 use Rattle.base.specs.Writing.{WritesText}
 use Rattle.base.proofs.DeviceLemmas.{beginning_longer}
 use Rattle.base.proofs.LineLemmas.{EachLine, lines_are_lines, unfinished_is_line, parts_of_text}
-use Rattle.base.proofs.PenLemmas.{writes_none, writes_then}
+use Rattle.base.proofs.PenLemmas.{pen_begins, writes_none, writes_then}
 use Rattle.tidy.specs.declared.place.Place.{Place}
 use Rattle.tidy.specs.declared.line.Line.{Line}
 use Rattle.tidy.specs.declared.tidier.Tidier.{Tidier}
@@ -21,6 +21,7 @@ use Rattle.tidy.specs.Steps.{spelled_line, end_bytes, line_more, place_more, byt
 use Rattle.tidy.proofs.ByteLemmas.{behind_bytes-append, bytes_written-append, shown-append}
 use Rattle.tidy.proofs.StepLemmas.{left_of, close, step, closed, close_none, new_left}
 use Rattle.tidy.proofs.BehindLemmas.{standing, words_left, fits, keeps, fits_more, new_fits, nothing_left, new_words}
+use Rattle.base.proofs.TakingLemmas.{part_given}
 
 abbrev at : ℕ → Place → Line → Tidier
 at k p l = record { skip = k; place = p; line = l }
@@ -128,21 +129,12 @@ all_put {written} {failures} {start} {t = t} pick {q = q} {text} takes last =
     (writes_then takes.writes last)
 
 -- a beginning of it was written when a front of the text was taken
-begins_by : (r : Result Unit DeviceFault) (old new : Option (List ℕ)) (left text : List ℕ) → Puts r old new [] left text → AppendsBeginning old new text
-begins_by (Ok x) old new left text sent = (sent.front, (left, sent.whole), sent.appends)
-begins_by (Err e) old new left text begun = begun
-
-part_given : (old now : Option (List ℕ)) (front : List ℕ) (P : List ℕ → Type 0) → Consumes old now front → ((rest : List ℕ) → P (front ++ rest)) → IfSome old P
-part_given None now front P a h = tt
-part_given (Some xs) None front P a h = absurd a
-part_given (Some xs) (Some ys) front P a h = subst P (sym a) (h ys)
-
 pub front_put : {K : Type 0} {written : K → Option (List ℕ)} {failures : K → ℕ} {start s : K} (pick : ℕ) (source source' : Option (List ℕ)) {a : Tidying} {front : List ℕ} → Consumes source source' front → Takes written failures start s (tidying_front pick) a front
     → IfSome source (λ text. AppendsBeginning (written start) (written s) (tidied pick text))
 front_put {written} {start = start} {s} pick source source' {a} {front} consumes takes =
     part_given source source' front (λ text. AppendsBeginning (written start) (written s) (tidied pick text)) consumes (λ rest.
     subst (AppendsBeginning (written start) (written s)) (sym (written_on (at_line (at_front pick)) front rest) ∙ text_written pick (front ++ rest))
-    (beginning_longer (written start) (written s) (bytes_written (at_line (at_front pick)) front) _ (begins_by a.pen.answer (written start) (written s) a.pen.outbox _ takes.writes.puts.0)))
+    (beginning_longer (written start) (written s) (bytes_written (at_line (at_front pick)) front) _ (pen_begins refl refl takes.writes)))
 
 -- how often the sink has failed
 well_by : (r : Result Unit DeviceFault) (before after : ℕ) → CountsFaults r before after → is_err r ≡ false → after ≡ before

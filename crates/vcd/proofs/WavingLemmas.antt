@@ -9,7 +9,7 @@ use Rattle.base.specs.Lines.{text_of_lines}
 use Rattle.base.specs.Pieces.{Puts}
 use Rattle.base.specs.Writing.{PutsOn, WritesText}
 use Rattle.base.proofs.DeviceLemmas.{beginning_longer}
-use Rattle.base.proofs.PenLemmas.{writes_then}
+use Rattle.base.proofs.PenLemmas.{pen_begins, writes_then}
 use Rattle.btor2.specs.declared.item.Item.{Item}
 use Rattle.btor2.specs.Trace.{Frame}
 use Rattle.witness.specs.ClosedWords.{IsClosedTrace}
@@ -18,6 +18,7 @@ use Rattle.vcd.specs.declared.scope.Shown.{Shown}
 use Rattle.vcd.specs.Dumps.{declaration_lines, end_lines, vcd_text}
 use Rattle.vcd.specs.Stands.{Waver, Waves, Takes, TakesFront, Stops}
 use Rattle.vcd.proofs.WaverLemmas.{front_text, takes_none, takes_more}
+use Rattle.base.proofs.TakingLemmas.{part_given}
 
 -- ---- what a source gives
 
@@ -31,22 +32,6 @@ front_more {source} {source'} {source''} {more} g consumes takes = record {
   consumes = Consumes-trans source source' source'' g.front more g.consumes consumes;
   takes = takes_more g.takes takes;
 }
-
-part_given : (old now : Option (List ℕ)) (front : List ℕ) (P : List ℕ → Type 0) → Consumes old now front → ((rest : List ℕ) → P (front ++ rest)) → IfSome old P
-part_given None now front P a h = tt
-part_given (Some xs) None front P a h = absurd a
-part_given (Some xs) (Some ys) front P a h = subst P (sym a) (h ys)
-
--- ---- what a pen has written since it was new
-
-begins_by : (r : Result Unit DeviceFault) (old new : Option (List ℕ)) (left text : List ℕ) → Puts r old new [] left text → AppendsBeginning old new text
-begins_by (Ok x) old new left text sent = (sent.front, (left, sent.whole), sent.appends)
-begins_by (Err e) old new left text begun = begun
-
-pen_begins : {K : Type 0} {written : K → Option (List ℕ)} {failures : K → ℕ} {s t : K} {p q : Pen} {text : List ℕ} → p.outbox ≡ [] → p.answer ≡ Ok tt → WritesText written failures s t p q text → AppendsBeginning (written s) (written t) text
-pen_begins {written} {failures} {s} {t} {q} {text} kept well w =
-    let puts : PutsOn (Ok tt) q.answer (written s) (written t) (failures s) (failures t) [] q.outbox text = rw (kept, well) at w.puts in
-    begins_by q.answer (written s) (written t) q.outbox text puts.0
 
 -- ---- reading stopped before the end
 

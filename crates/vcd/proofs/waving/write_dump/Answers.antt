@@ -14,7 +14,7 @@ returns-in_err-take_all-clause-beginning g c =
 
 pub returns-in-Ok-clause-stands : goal.returns-in-Ok-clause-stands
 returns-in-Ok-clause-stands g c =
-    IfSome_then _  {Q = StandsForWitness c.args.model.now c.take_all.new.waver.judge} (ended c.args.shown c.args.model.now c.requires.waves c.in_ok-take_all.ensures.takes c.in_ok-take_all.ensures.end) (λ text waves. waves.judge)
+    IfSome_then _ {Q = StandsForWitness c.args.model.now c.take_all.new.waver.judge} (ended c.args.shown c.args.model.now c.requires.waves c.in_ok-take_all.ensures.takes c.in_ok-take_all.ensures.end) (λ text waves. waves.judge)
 
 pub returns-in-Ok-clause-written : goal.returns-in-Ok-clause-written
 returns-in-Ok-clause-written g c =
