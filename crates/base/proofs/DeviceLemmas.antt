@@ -1,8 +1,8 @@
 -- Lemmas on texts that go to a sink piece by piece.
-use Rattle.std.proofs.Common.{ℕ, List, ◌++◌, Option, take, drop, sym, ap, ◌∙◌, append_assoc, take-append-drop}
+use Rattle.std.proofs.Common.{◌≡◌, ℕ, List, ◌++◌, Option, Result, Ok, Err, OnOk, OnErr, IsErr, take, drop, sym, ap, subst, ◌∙◌, append_assoc, take-append-drop}
 use Rattle.std.specs.Io.KnownBytes.{Appends}
 use Rattle.std.proofs.KnownBytes.{Appends-trans}
-use Rattle.base.specs.Device.{AppendsBeginning, Sent}
+use Rattle.base.specs.Device.{AppendsBeginning, CountsFaults, HasRisen, Sent}
 
 -- one more write
 pub sent_more : (old mid new : Option (List ℕ)) (text rest : List ℕ) (n : ℕ) → Sent old mid text rest → Appends mid new (take n rest) → Sent old new text (drop n rest)
@@ -40,3 +40,21 @@ pub sent_then_beginning : (old mid new : Option (List ℕ)) (text rest more : Li
 sent_then_beginning old mid new text rest more s t =
     let both = sent_on old mid new text rest more t.1.0 s (record { front = t.0; whole = t.1.1; appends = t.2 }) in
     (both.front, (t.1.0, both.whole), both.appends)
+
+-- what holds where something is answered
+pub on_ok : {T E : Type 0} {r : Result T E} {x : T} {P : Type 0} → r ≡ Ok x → OnOk r P → P
+on_ok {P = P} is h = subst (λ q. OnOk q P) is h
+
+pub on_err : {T E : Type 0} (r : Result T E) {P : Type 0} → IsErr r → OnErr r P → P
+on_err (Ok x) is h = absurd cc
+on_err (Err e) is h = h
+
+pub not_ok : {T E : Type 0} {r : Result T E} {x : T} → IsErr r → r ≡ Ok x → ⊥
+not_ok err is = let h = subst IsErr is err in absurd cc
+
+pub ok_counts : {T E : Type 0} {r : Result T E} {x : T} (a b : ℕ) → r ≡ Ok x → CountsFaults r a b → b ≡ a
+ok_counts a b is h = subst (λ q. CountsFaults q a b) is h
+
+pub err_counts : {T E : Type 0} (r : Result T E) (a b : ℕ) → IsErr r → CountsFaults r a b → HasRisen a b
+err_counts (Ok x) a b is h = absurd cc
+err_counts (Err e) a b is h = h

@@ -1,11 +1,10 @@
 -- Pieces of a text that are put with a pen one after the other.
-use Rattle.std.proofs.Common.{◌≡◌, ℕ, ◌^◌, ◌<◌, ◌≤◌, List, [], ◌++◌, length, decimal, Option, Result, Ok, Err, refl, sym, ap, subst, ◌∙◌, append_assoc, append-nil, lit<, arith}
+use Rattle.std.proofs.Common.{◌≡◌, ℕ, ◌^◌, ◌<◌, ◌≤◌, List, [], ◌++◌, length, decimal, Option, Result, Ok, Err, is_err, true, false, refl, sym, ap, subst, ◌∙◌, append_assoc, append-nil, lit<, arith}
 use Rattle.std.proofs.KnownBytes.{Appends-nil}
 use Rattle.std.proofs.lemmas.Fmt.{length-decimal-le}
 use Rattle.base.specs.declared.pen.Pen.{Pen}
 use Rattle.base.specs.declared.device.DeviceFault.{DeviceFault}
-use Rattle.base.specs.Device.{HasRisen, AppendsBeginning}
-use Rattle.base.specs.Pieces.{Puts}
+use Rattle.base.specs.Device.{HasRisen, CountsFaults, AppendsBeginning}
 use Rattle.base.specs.Writing.{PutsOn, WritesText}
 use Rattle.base.proofs.DeviceLemmas.{beginning_longer, sent_on, sent_then_beginning}
 
@@ -35,15 +34,44 @@ writes_then {written} {failures} {s} {t} {u} {p} {q} {r} {x} {y} first next = re
   puts = both_on p.answer q.answer r.answer (written s) (written t) (written u) (failures s) (failures t) (failures u) p.outbox q.outbox r.outbox x y first.puts next.puts;
 }
 
--- what a pen has put since it was new is a beginning of what was written
-pub pen_begins : {K : Type 0} {written : K → Option (List ℕ)} {failures : K → ℕ} {s t : K} {p q : Pen} {text : List ℕ} → p.outbox ≡ [] → p.answer ≡ Ok tt → WritesText written failures s t p q text → AppendsBeginning (written s) (written t) text
-pen_begins {written} {failures} {s} {t} {q} {text} kept well w =
-    let puts : PutsOn (Ok tt) q.answer (written s) (written t) (failures s) (failures t) [] q.outbox text = rw (kept, well) at w.puts in
-    by q.answer (written s) (written t) q.outbox text puts.0
-  where
-    by : (r : Result Unit DeviceFault) (old new : Option (List ℕ)) (left text : List ℕ) → Puts r old new [] left text → AppendsBeginning old new text
-    by (Ok x) old new left text sent = (sent.front, (left, sent.whole), sent.appends)
-    by (Err e) old new left text begun = begun
+-- ---- a pen that was well at first
+
+module _ {K : Type 0} {written : K → Option (List ℕ)} {failures : K → ℕ} {s t : K} {p q : Pen} {text : List ℕ} (well : p.answer ≡ Ok tt) (w : WritesText written failures s t p q text) where
+  puts : PutsOn (Ok tt) q.answer (written s) (written t) (failures s) (failures t) p.outbox q.outbox text
+  puts = subst (λ a. PutsOn a q.answer (written s) (written t) (failures s) (failures t) p.outbox q.outbox text) well w.puts
+
+  -- nothing failed, or the sink did
+  pub well_counts : q.answer ≡ Ok tt → failures t ≡ failures s
+  well_counts is = (subst (λ a. PutsOn (Ok tt) a (written s) (written t) (failures s) (failures t) p.outbox q.outbox text) is puts).1
+
+  pub fails_counts : (q.answer ≡ Ok tt → ⊥) → HasRisen (failures s) (failures t)
+  fails_counts not = by q.answer refl puts
+    where
+      by : (a : Result (Unit {0}) DeviceFault) → q.answer ≡ a → PutsOn (Ok tt) a (written s) (written t) (failures s) (failures t) p.outbox q.outbox text → HasRisen (failures s) (failures t)
+      by (Ok tt) is h = absurd (not is)
+      by (Err e) is h = h.1
+
+  -- a beginning of it has gone out
+  pub begins : p.outbox ≡ [] → AppendsBeginning (written s) (written t) text
+  begins kept = by q.answer (subst (λ k. PutsOn (Ok tt) q.answer (written s) (written t) (failures s) (failures t) k q.outbox text) kept puts)
+    where
+      by : (a : Result (Unit {0}) DeviceFault) → PutsOn (Ok tt) a (written s) (written t) (failures s) (failures t) [] q.outbox text → AppendsBeginning (written s) (written t) text
+      by (Ok x) h = (h.0.front, (q.outbox, h.0.whole), h.0.appends)
+      by (Err e) h = h.0
+
+  pub counts_none : is_err q.answer ≡ false → failures t ≡ failures s
+  counts_none none = by q.answer none puts.1
+    where
+      by : (a : Result (Unit {0}) DeviceFault) → is_err a ≡ false → CountsFaults a (failures s) (failures t) → failures t ≡ failures s
+      by (Ok x) none h = h
+      by (Err e) none h = absurd cc
+
+  pub counts_one : is_err q.answer ≡ true → HasRisen (failures s) (failures t)
+  counts_one failed = by q.answer failed puts.1
+    where
+      by : (a : Result (Unit {0}) DeviceFault) → is_err a ≡ true → CountsFaults a (failures s) (failures t) → HasRisen (failures s) (failures t)
+      by (Ok x) failed h = absurd cc
+      by (Err e) failed h = h
 
 -- of a whole text a front was put, and this rest of it is still to be put
 pub record Writing {K : Type 0} (written : K → Option (List ℕ)) (failures : K → ℕ) (s t : K) (p q : Pen) (whole rest : List ℕ) : Type 0 where

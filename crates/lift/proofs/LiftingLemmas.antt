@@ -4,14 +4,13 @@ use Rattle.std.specs.Io.KnownBytes.{Consumes, IsAtEnd, Appends}
 use Rattle.std.proofs.KnownBytes.{Consumes-nil, Consumes-trans, Consumes-whole}
 use Rattle.base.specs.declared.pen.Pen.{Pen}
 use Rattle.base.specs.Device.{AppendsBeginning}
-use Rattle.base.proofs.DeviceLemmas.{beginning_longer}
+use Rattle.base.proofs.DeviceLemmas.{on_ok, on_err, ok_counts, err_counts, beginning_longer}
 use Rattle.base.specs.Writing.{WritesText, IsWritten}
-use Rattle.base.proofs.PenLemmas.{writes_none}
+use Rattle.base.proofs.PenLemmas.{begins, writes_none}
 use Rattle.btor2.specs.declared.item.Item.{Item}
 use Rattle.aiger.specs.Circuit.{Circuit}
 use Rattle.witness.specs.Readings.{reading}
 use Rattle.base.specs.declared.device.DeviceFault.{DeviceFault}
-use Rattle.restore.proofs.PenLemmas.{begins, on_ok, on_err, ok_counts, err_counts}
 use Rattle.lift.specs.declared.fault.LiftFault.{LiftFault}
 use Rattle.lift.specs.declared.fault.LiftFault.TheVariants as fault
 use Rattle.lift.specs.Answers.{CountsLift}

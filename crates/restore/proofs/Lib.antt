@@ -8,7 +8,6 @@ pub mod FormLineLemmas
 mod FrameOf
 mod LinesReadLemmas
 mod MarkLemmas
-pub mod PenLemmas
 mod PlayLemmas
 mod PlayedLemmas
 mod ReadingLemmas

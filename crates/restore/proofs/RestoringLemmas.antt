@@ -27,7 +27,7 @@ use Rattle.restore.specs.Reading.{before_mark, Found, whole, faulty, read_before
 use Rattle.restore.specs.Restored.{opening, written_frames, closing, restored_lines, restored_text}
 use Rattle.restore.specs.Steps.{FramesReader, read_at, frames_to_come, AgreeAsGiven, IsUnread, IsTextFault, GivesFound, LosesNothing, StepsOn}
 use Rattle.restore.proofs.FormBeginLemmas.{lines_begin}
-use Rattle.restore.proofs.PenLemmas.{begins}
+use Rattle.base.proofs.PenLemmas.{begins}
 use Rattle.restore.proofs.LinesReadLemmas.{whole as lines_whole, text_goes, nothing_admitted}
 use Rattle.restore.proofs.ReadingLemmas.{read, wide_found}
 use Rattle.restore.proofs.TakenLemmas.{put_more, put_as_they_are, all_put}

@@ -11,7 +11,7 @@ use Rattle.base.specs.Taking.{TakesFront}
 use Rattle.base.specs.Writing.{WritesText}
 use Rattle.base.proofs.DeviceLemmas.{beginning_longer}
 use Rattle.base.proofs.LineLemmas.{EachLine, lines_are_lines, unfinished_is_line, parts_of_text}
-use Rattle.base.proofs.PenLemmas.{pen_begins, writes_none, writes_then}
+use Rattle.base.proofs.PenLemmas.{begins, counts_none, counts_one, writes_none, writes_then}
 use Rattle.tidy.specs.declared.place.Place.{Place}
 use Rattle.tidy.specs.declared.line.Line.{Line}
 use Rattle.tidy.specs.declared.tidier.Tidier.{Tidier}
@@ -134,19 +134,11 @@ pub front_put : {K : Type 0} {written : K → Option (List ℕ)} {failures : K �
 front_put {written} {start = start} {s} pick source source' {a} {front} consumes takes =
     part_given source source' front (λ text. AppendsBeginning (written start) (written s) (tidied pick text)) consumes (λ rest.
     subst (AppendsBeginning (written start) (written s)) (sym (written_on (at_line (at_front pick)) front rest) ∙ text_written pick (front ++ rest))
-    (beginning_longer (written start) (written s) (bytes_written (at_line (at_front pick)) front) _ (pen_begins refl refl takes.writes)))
+    (beginning_longer (written start) (written s) (bytes_written (at_line (at_front pick)) front) _ (begins refl takes.writes refl)))
 
 -- how often the sink has failed
-well_by : (r : Result Unit DeviceFault) (before after : ℕ) → CountsFaults r before after → is_err r ≡ false → after ≡ before
-well_by (Ok x) before after h well = h
-well_by (Err e) before after h well = absurd cc
-
 pub sink_well : {K : Type 0} {written : K → Option (List ℕ)} {failures : K → ℕ} {start s : K} (pick : ℕ) {a : Tidying} {text : List ℕ} → Takes written failures start s (tidying_front pick) a text → is_err a.pen.answer ≡ false → failures s ≡ failures start
-sink_well {failures} {start = start} {s} pick {a} takes well = well_by a.pen.answer (failures start) (failures s) takes.writes.puts.1 well
-
-failed_by : (r : Result Unit DeviceFault) (before after : ℕ) → CountsFaults r before after → is_err r ≡ true → HasRisen before after
-failed_by (Ok x) before after h failed = absurd cc
-failed_by (Err e) before after h failed = h
+sink_well pick takes well = counts_none refl takes.writes well
 
 pub sink_failed : {K : Type 0} {written : K → Option (List ℕ)} {failures : K → ℕ} {start s : K} (pick : ℕ) {a : Tidying} {text : List ℕ} → Takes written failures start s (tidying_front pick) a text → is_err a.pen.answer ≡ true → HasRisen (failures start) (failures s)
-sink_failed {failures} {start = start} {s} pick {a} takes failed = failed_by a.pen.answer (failures start) (failures s) takes.writes.puts.1 failed
+sink_failed pick takes failed = counts_one refl takes.writes failed

@@ -7,9 +7,10 @@ use Rattle.base.specs.declared.pen.Pen.{Pen}
 use Rattle.base.specs.Device.{AppendsBeginning}
 use Rattle.base.specs.Lines.{text_of_lines}
 use Rattle.base.specs.Pieces.{Puts}
+use Rattle.base.specs.Taking.{TakesFront as BaseFront}
 use Rattle.base.specs.Writing.{PutsOn, WritesText}
 use Rattle.base.proofs.DeviceLemmas.{beginning_longer}
-use Rattle.base.proofs.PenLemmas.{pen_begins, writes_then}
+use Rattle.base.proofs.PenLemmas.{begins, writes_then}
 use Rattle.btor2.specs.declared.item.Item.{Item}
 use Rattle.btor2.specs.Trace.{Frame}
 use Rattle.witness.specs.ClosedWords.{IsClosedTrace}
@@ -22,16 +23,10 @@ use Rattle.base.proofs.TakingLemmas.{part_given}
 
 -- ---- what a source gives
 
-pub front_none : {K : Type 0} {written : K → Option (List ℕ)} {failures : K → ℕ} {s : K} {p : Pen} {w : Waver} {source : Option (List ℕ)} → TakesFront written failures s s p p w w source source
-front_none {source} = record { front = []; consumes = Consumes-nil source; takes = takes_none }
-
-pub front_more : {K : Type 0} {written : K → Option (List ℕ)} {failures : K → ℕ} {s t u : K} {p q r : Pen} {before w after : Waver} {source source' source'' : Option (List ℕ)} {more : List ℕ}
-    → TakesFront written failures s t p q before w source source' → Consumes source' source'' more → Takes written failures t u q r w after more → TakesFront written failures s u p r before after source source''
-front_more {source} {source'} {source''} {more} g consumes takes = record {
-  front = g.front ++ more;
-  consumes = Consumes-trans source source' source'' g.front more g.consumes consumes;
-  takes = takes_more g.takes takes;
-}
+pub front_taken : {K : Type 0} {written : K → Option (List ℕ)} {failures : K → ℕ} {s t : K} {p q : Pen} {before after : Waver} {W : Type 0} {from to : W} (pen : W → Pen) (waver : W → Waver) {source source' : Option (List ℕ)}
+    → BaseFront (λ (over : K × Pen × Waver) sink w text. Takes written failures over.0 sink over.1.0 (pen w) over.1.1 (waver w) text) source source' s t from to
+    → TakesFront written failures s t (pen from) (pen to) (waver from) (waver to) source source'
+front_taken {s = s} {from = from} pen waver front = record { front = front.front; consumes = front.consumes; takes = front.takes (s, pen from, waver from) [] takes_none }
 
 -- ---- reading stopped before the end
 
@@ -51,7 +46,7 @@ pub begun : {K : Type 0} {written : K → Option (List ℕ)} {failures : K → �
 begun {written} {start} {t} {after} {source} {source'} shown title items kept well declared h g =
     part_given source source' g.front (λ text. (fs : List Frame) → IsClosedTrace items text fs → AppendsBeginning (written start) (written t) (vcd_text shown title items fs)) g.consumes (λ rest fs trace.
     let dump = front_dump shown title items after g.front g.takes.put rest fs (g.takes.waves shown items [] [] h) trace in
-    subst (AppendsBeginning (written start) (written t)) dump.1 (beginning_longer (written start) (written t) (text_of_lines (declaration_lines shown title items) ++ g.takes.put) dump.0 (pen_begins kept well (writes_then declared g.takes.writes))))
+    subst (AppendsBeginning (written start) (written t)) dump.1 (beginning_longer (written start) (written t) (text_of_lines (declaration_lines shown title items) ++ g.takes.put) dump.0 (begins well (writes_then declared g.takes.writes) kept)))
 
 -- ---- the whole source
 

@@ -17,44 +17,64 @@ use crate::declarations::put_declarations;
 use crate::fault::WaveFault;
 use crate::scope::Shown;
 use crate::waver::Waver;
-use base::{Pen, Sink, Source};
+use base::{Pen, Sink, Source, Taker, TakingFault, take_source};
 use btor2::Model;
 use std::alloc::Global;
 use witness::Judgement;
 
-/// How many bytes one call of a source is asked for.
-const CHUNK: usize = 65536;
+/// A waver, and the pen that it puts with.
+#[derive(Drop)]
+struct Waving<'a> {
+    waver: Waver<'a>,
+    pen: Pen,
+}
+
+impl<'a, K: Sink> Taker<K> for Waving<'a> {
+    ghost use Rattle.std.specs.Prelude.{is_err};
+    ghost use Rattle.vcd.specs.Stands.{Waver as WaverValue, Takes};
+
+    /// The sink, the pen and the waver as they were when nothing was taken.
+    ghost Over = { K × Pen × WaverValue };
+
+    ghost stands = { λ over sink taker text. Takes K.written K.failures over.0 sink over.1.0
+        taker.pen over.1.1 taker.waver text };
+
+    ghost is_done = { λ taker. is_err taker.pen.answer };
+
+    fn take(&mut self, output: &mut K, piece: &[u8]) {
+        self.waver.take(&mut self.pen, output, piece);
+    }
+
+    fn is_done(&self) -> bool {
+        self.pen.answer.is_err()
+    }
+}
 
 /// Reads a source to its end, and puts the frames of its text, as long as the sink has not failed.
 ///
 /// Errors: the source's own, and the sink's.
 fn take_all<S: Source, K: Sink>(
-    waver: &mut Waver<'_>,
-    pen: &mut Pen,
+    waving: &mut Waving<'_>,
     source: &mut S,
     sink: &mut K,
 ) -> Result<(), WaveFault>
-    ensures takes { TakesFront K.written K.failures sink.old sink.new pen.old pen.new waver.old
-        waver.new (S.to_come source.old) (S.to_come source.new) }
+    ensures takes { TakesFront K.written K.failures sink.old sink.new waving.old.pen waving.new.pen
+        waving.old.waver waving.new.waver (S.to_come source.old) (S.to_come source.new) }
     ensures end { OnOk result (IsAtEnd (S.to_come source.new)) }
-    ensures stops { Stops result pen.new.answer (S.failures source.old) (S.failures source.new) }
+    ensures stops { Stops result waving.new.pen.answer (S.failures source.old) (S.failures source.new) }
 {
-    let mut chunk = [0u8; CHUNK];
-    while pen.answer.is_ok() {
-        match source.read(&mut chunk) {
-            Ok(0) => return Ok(()),
-            Ok(count) => waver.take(pen, sink, &chunk[..count]),
-            Err(_) => return Err(WaveFault::Read),
-        }
+    match take_source(waving, sink, source) {
+        Ok(()) => Ok(()),
+        Err(TakingFault::Source) => Err(WaveFault::Read),
+        Err(TakingFault::Done) => Err(WaveFault::Write),
     }
-    Err(WaveFault::Write)
 }
 
 /// Reads a source to its end, and writes the dump of the frames of its text, in which signals with a mark are told apart.
 ///
 /// Errors: the source's own, and the sink's.
 fn write_dump<S: Source, K: Sink>(
-    waver: &mut Waver<'_>,
+    waving: &mut Waving<'_>,
     model: &Model,
     shown: Shown,
     marks: &[bool],
@@ -62,10 +82,12 @@ fn write_dump<S: Source, K: Sink>(
     source: &mut S,
     sink: &mut K,
 ) -> Result<(), WaveFault>
-    requires waves { Waves shown model.now waver.old [] [] }
+    requires waves { Waves shown model.now waving.old.waver [] [] }
+    requires kept { waving.old.pen.outbox ≡ [] }
+    requires well { waving.old.pen.answer ≡ Ok tt }
     requires marks { marks.now ≡ all_marks shown model.now }
     ensures stands { OnOk result (IfSome (S.to_come source.old)
-        (StandsForWitness model.now waver.new.judge)) }
+        (StandsForWitness model.now waving.new.waver.judge)) }
     ensures written { OnOk result (IfSome (S.to_come source.old) (λ text. (fs : List Frame)
         → IsClosedTrace model.now text fs
         → Appends (K.written sink.old) (K.written sink.new)
@@ -79,11 +101,10 @@ fn write_dump<S: Source, K: Sink>(
     ensures counted { CountsWave result (S.failures source.old) (S.failures source.new)
         (K.failures sink.old) (K.failures sink.new) }
 {
-    let mut pen = Pen::new();
-    put_declarations(&mut pen, sink, model, shown, marks, title);
-    take_all(waver, &mut pen, source, sink)?;
-    waver.put_end(&mut pen, sink);
-    match pen.finish(sink) {
+    put_declarations(&mut waving.pen, sink, model, shown, marks, title);
+    take_all(waving, source, sink)?;
+    waving.waver.put_end(&mut waving.pen, sink);
+    match waving.pen.finish(sink) {
         Ok(()) => Ok(()),
         Err(_) => Err(WaveFault::Write),
     }
@@ -94,16 +115,18 @@ fn write_dump<S: Source, K: Sink>(
 /// Errors: `NoMemory`, with nothing read or written; the source's own, and the sink's.
 fn write_told<S: Source, K: Sink>(
     alloc: Global,
-    waver: &mut Waver<'_>,
+    waving: &mut Waving<'_>,
     model: &Model,
     shown: Shown,
     title: &[u8],
     source: &mut S,
     sink: &mut K,
 ) -> Result<(), WaveFault>
-    requires { Waves shown model.now waver.old [] [] }
+    requires waves { Waves shown model.now waving.old.waver [] [] }
+    requires kept { waving.old.pen.outbox ≡ [] }
+    requires well { waving.old.pen.answer ≡ Ok tt }
     ensures stands { OnOk result (IfSome (S.to_come source.old)
-        (StandsForWitness model.now waver.new.judge)) }
+        (StandsForWitness model.now waving.new.waver.judge)) }
     ensures written { OnOk result (IfSome (S.to_come source.old) (λ text. (fs : List Frame)
         → IsClosedTrace model.now text fs
         → Appends (K.written sink.old) (K.written sink.new)
@@ -120,7 +143,7 @@ fn write_told<S: Source, K: Sink>(
         (K.failures sink.old) (K.failures sink.new) }
 {
     match marks(alloc, model, shown) {
-        Ok(marks) => write_dump(waver, model, shown, marks.as_slice(), title, source, sink),
+        Ok(marks) => write_dump(waving, model, shown, marks.as_slice(), title, source, sink),
         Err(_) => Err(WaveFault::NoMemory),
     }
 }
@@ -169,9 +192,12 @@ pub fn wave<S: Source, K: Sink>(
     // the items of a model are one, so that its frames have a trace
     ensures well_formed { IsWellFormed model.now }
 {
-    let mut waver = Waver::new(alloc, model, shown)?;
-    let written = write_told(alloc, &mut waver, model, shown, title, source, sink);
-    let judgement = waver.finish();
+    let mut waving = Waving {
+        waver: Waver::new(alloc, model, shown)?,
+        pen: Pen::new(),
+    };
+    let written = write_told(alloc, &mut waving, model, shown, title, source, sink);
+    let judgement = waving.waver.finish();
     match written {
         Ok(()) => Ok(judgement),
         Err(fault) => Err(fault),

@@ -3,7 +3,8 @@ use Rattle.std.specs.Io.KnownBytes.{prepend_known}
 use Rattle.restore.specs.declared.fault.RestoreWhy.TheVariants as why
 use Rattle.restore.specs.Answers.{form_lines_put}
 use Rattle.restore.proofs.FormTakeLemmas.{form_claimed, form_begun, form_ends}
-use Rattle.restore.proofs.PenLemmas.{begins, on_ok, on_err}
+use Rattle.base.proofs.PenLemmas.{begins}
+use Rattle.base.proofs.DeviceLemmas.{on_ok, on_err}
 use Rattle.restore.proofs.RestoringLemmas.{nothing_written}
 use Rattle.restore.proofs.form_restoring.take_frames.Goals as goal
 

@@ -5,7 +5,7 @@ use Rattle.restore.specs.declared.fault.RestoreFault.{RestoreFault}
 use Rattle.restore.specs.Answers.{CountsRestore, CountsRestoreWhy}
 use Rattle.restore.specs.Putting.{TakesAll}
 use Rattle.restore.specs.Reading.{read_found}
-use Rattle.restore.proofs.PenLemmas.{on_ok, on_err, ok_counts, err_counts}
+use Rattle.base.proofs.DeviceLemmas.{on_ok, on_err, ok_counts, err_counts}
 use Rattle.restore.proofs.RestoringLemmas.{all_text, told_all, text_taken, ends_apart, ends_faulty, ends_unwritten, faulty_text}
 use Rattle.restore.proofs.restoring.end.Goals as goal
 

@@ -1,10 +1,10 @@
 use Rattle.std.proofs.Common.{rules, ◌≡◌, Bool, true, [], None, Ok, Err, refl, sym, subst, ◌∙◌}
 use Rattle.std.specs.Io.KnownBytes.{prepend_known}
-use Rattle.base.proofs.PenLemmas.{writes_none, writes_then}
+use Rattle.base.proofs.PenLemmas.{well_counts, fails_counts, writes_none, writes_then}
 use Rattle.restore.specs.declared.fault.RestoreFault.{RestoreFault}
 use Rattle.restore.specs.Answers.{CountsRestoreWhy}
 use Rattle.restore.specs.Steps.{StepsOn}
-use Rattle.restore.proofs.PenLemmas.{well_counts, fails_counts, not_ok}
+use Rattle.base.proofs.DeviceLemmas.{not_ok}
 use Rattle.restore.proofs.RestoringLemmas.{frames_nothing, frames_more, frames_all, frames_failed, frames_unwritten}
 use Rattle.restore.proofs.restoring.take_frames.Goals as goal
 
