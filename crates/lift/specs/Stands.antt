@@ -25,6 +25,12 @@ pub record HasRoom (c : Circuit) (room : ℕ) : Type 0 where
   pub latches : length c.latches ≤ room
   pub inputs : c.inputs ≤ room
 
+-- over what is lifted: with names or without, a model and a circuit
+pub record Lifted : Type 0 where
+  pub named : Bool
+  pub items : List Item
+  pub circuit : Circuit
+
 -- it lifts with names or without over this model, and stands for this text of a witness of this circuit
 pub record LiftsWith (named : Bool) (items : List Item) (c : Circuit) (l : Lifter) (text : List ℕ) : Type 0 where
   pub circuit : IsCircuit c
@@ -46,14 +52,6 @@ pub record HasLifted {K : Type 0} (written : K → Option (List ℕ)) (failures 
 abbrev pub TakesText : {K : Type 0} → (K → Option (List ℕ)) → (K → ℕ) → K → K → Pen → Pen → Lifter → Lifter → List ℕ → Type 0
 TakesText {K} written failures s t pen now before after bytes =
     (start : K) (from : Pen) (named : Bool) (items : List Item) (c : Circuit) (text : List ℕ) → HasLifted written failures start s from pen named items c before text → HasLifted written failures start t from now named items c after (text ++ bytes)
-
--- all of a source was taken, or at a fault a front of it
-abbrev pub TakesSource : {T E K : Type 0} → Result T E → (K → Option (List ℕ)) → (K → ℕ) → K → K → Pen → Pen → Lifter → Lifter → List ℕ → Type 0
-TakesSource {K = K} r written failures s t pen now before after text =
-    (start : K) (from : Pen) (named : Bool) (items : List Item) (c : Circuit) → HasLifted written failures start s from pen named items c before []
-    → MatchResult r
-    (λ x. HasLifted written failures start t from now named items c after text)
-    (λ e. (front : List ℕ) × (((rest : List ℕ) × (front ++ rest ≡ text)) × HasLifted written failures start t from now named items c after front))
 
 -- what a lifter that stands for nothing does with a whole source, whose bytes are known: it stands for the text, of which the lifted text was written; at a fault a beginning of that was
 abbrev pub LiftsAll : {T E : Type 0} → Result T E → Option (List ℕ) → Option (List ℕ) → Option (List ℕ) → Lifter → Lifter → Type 0

@@ -97,10 +97,8 @@ impl<'a> Lifter<'a> {
     /// Takes the rest of a line, and its end.
     fn take_line<K: Sink>(&mut self, pen: &mut Pen, sink: &mut K, line: &[u8])
         requires { IsLine line.now }
-        ensures takes { TakesText K.written K.failures sink.old sink.new pen.old pen.new self.old
+        ensures { TakesText K.written K.failures sink.old sink.new pen.old pen.new self.old
             self.new (line.now ++ 10 ∷ []) }
-        ensures writes { (text : List ℕ) × WritesText K.written K.failures sink.old sink.new pen.old
-            pen.new text }
     {
         self.kept.extend(line);
         let number = self.noter.admitted_lines();
@@ -112,10 +110,8 @@ impl<'a> Lifter<'a> {
 
     /// Takes a piece of the witness behind those before.
     pub(crate) fn take<K: Sink>(&mut self, pen: &mut Pen, sink: &mut K, bytes: &[u8])
-        ensures takes { TakesText K.written K.failures sink.old sink.new pen.old pen.new self.old
+        ensures { TakesText K.written K.failures sink.old sink.new pen.old pen.new self.old
             self.new bytes.now }
-        ensures writes { (text : List ℕ) × WritesText K.written K.failures sink.old sink.new pen.old
-            pen.new text }
     {
         let mut rest = bytes;
         while let Some((line, behind)) = next_line(rest) {

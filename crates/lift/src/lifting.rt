@@ -1,29 +1,25 @@
 //! Lifting whole sources.
-ghost use Rattle.std.specs.Prelude.{◌≡◌, ℕ, List, Ok, true, IfErr, IfOk, IfSome, IsErr, IsErrOf, OnErr, OnOk};
+ghost use Rattle.std.specs.Prelude.{◌≡◌, [], Ok, true, IfErr, IfOk, IfSome, IsErr, IsErrOf, OnErr, OnOk};
 ghost use Rattle.std.specs.Io.KnownBytes.{Appends, IsAtEnd};
 ghost use Rattle.base.specs.Device.{AppendsBeginning};
-ghost use Rattle.base.specs.Writing.{WritesText};
 ghost use Rattle.blast.specs.Lowering.{Lowers};
 ghost use Rattle.witness.specs.BitJudgements.{BitJudges};
 ghost use Rattle.witness.specs.Accepted.{BitAcceptsExactly};
 ghost use Rattle.rises.specs.FirstRises.{AreBitFirstRises};
 ghost use Rattle.lift.specs.Answers.{CountsLift};
 ghost use Rattle.lift.specs.Lifted.{lifted_text, lifted_with, named_text};
-ghost use Rattle.lift.specs.Stands.{TakesSource, LiftsAll};
+ghost use Rattle.lift.specs.Stands.{Lifted, LiftsAll, LiftsWith};
 ghost use Rattle.lift.specs.Verdicts.{KeepsVerdict, KeepsVerdictIn};
 
 use crate::fault::LiftFault;
 use crate::laws::{lifting_keeps_the_verdict, names_keep_the_verdict};
 use crate::lifter::Lifter;
 use aiger::Circuit;
-use base::{DeviceFault, Pen, Sink, Source};
+use base::{DeviceFault, Pen, Sink, Source, Taker, TakingFault, take_source};
 use btor2::Model;
 use rises::FirstRises;
 use std::alloc::Global;
 use witness::Judgement;
-
-/// How many bytes one call of a source is asked for.
-const CHUNK: usize = 65536;
 
 /// The answer of a sink.
 ///
@@ -38,36 +34,31 @@ fn written(answer: Result<(), DeviceFault>) -> Result<(), LiftFault>
     }
 }
 
-/// Reads a source to its end, and puts what its text is lifted to.
-///
-/// Errors: the source's own, and the sink's.
-fn lift_all<S: Source, K: Sink>(
-    lifter: &mut Lifter<'_>,
-    pen: &mut Pen,
-    source: &mut S,
-    sink: &mut K,
-) -> Result<(), LiftFault>
-    requires well { pen.old.answer ≡ Ok tt }
-    ensures takes { IfSome (S.to_come source.old)
-        (TakesSource result K.written K.failures sink.old sink.new pen.old pen.new lifter.old
-        lifter.new) }
-    ensures end { OnOk result (IsAtEnd (S.to_come source.new)) }
-    ensures fault { IfErr result (λ e. e ≡ LiftFault.NoMemory → ⊥) }
-    ensures writes { (text : List ℕ) × WritesText K.written K.failures sink.old sink.new pen.old pen.new
-        text }
-    ensures counted { CountsLift result (S.failures source.old) (S.failures source.new)
-        (K.failures sink.old) (K.failures sink.new) }
-{
-    let mut chunk = [0u8; CHUNK];
-    loop {
-        match source.read(&mut chunk) {
-            Ok(0) => return Ok(()),
-            Ok(count) => {
-                lifter.take(pen, sink, &chunk[..count]);
-                written(pen.answer)?;
-            }
-            Err(_) => return Err(LiftFault::Read),
-        }
+/// A lifter, and the pen that it puts with.
+#[derive(Drop)]
+struct Lifting<'a> {
+    lifter: Lifter<'a>,
+    pen: Pen,
+}
+
+impl<'a, K: Sink> Taker<K> for Lifting<'a> {
+    ghost use Rattle.std.specs.Prelude.{is_err};
+    ghost use Rattle.lift.specs.Stands.{Lifted, HasLifted};
+
+    /// The sink and the pen as they were when nothing was taken, and over what is lifted.
+    ghost Over = { K × Pen × Lifted };
+
+    ghost stands = { λ over sink taker text. HasLifted K.written K.failures over.0 sink over.1.0
+        taker.pen over.1.1.named over.1.1.items over.1.1.circuit taker.lifter text };
+
+    ghost is_done = { λ taker. is_err taker.pen.answer };
+
+    fn take(&mut self, output: &mut K, piece: &[u8]) {
+        self.lifter.take(&mut self.pen, output, piece);
+    }
+
+    fn is_done(&self) -> bool {
+        self.pen.answer.is_err()
     }
 }
 
@@ -75,21 +66,25 @@ fn lift_all<S: Source, K: Sink>(
 ///
 /// Errors: the source's own, and the sink's.
 fn lift_through<S: Source, K: Sink>(
-    lifter: &mut Lifter<'_>,
+    lifting: &mut Lifting<'_>,
     source: &mut S,
     sink: &mut K,
 ) -> Result<(), LiftFault>
+    requires lifts { (over : Lifted)
+        × LiftsWith over.named over.items over.circuit lifting.old.lifter [] }
+    requires kept { lifting.old.pen.outbox ≡ [] }
+    requires well { lifting.old.pen.answer ≡ Ok tt }
     ensures lifts { LiftsAll result (S.to_come source.old) (K.written sink.old)
-        (K.written sink.new) lifter.old lifter.new }
+        (K.written sink.new) lifting.old.lifter lifting.new.lifter }
     ensures end { OnOk result (IsAtEnd (S.to_come source.new)) }
     ensures fault { IfErr result (λ e. e ≡ LiftFault.NoMemory → ⊥) }
     ensures counted { CountsLift result (S.failures source.old) (S.failures source.new)
         (K.failures sink.old) (K.failures sink.new) }
 {
-    let mut pen = Pen::new();
-    match lift_all(lifter, &mut pen, source, sink) {
-        Ok(()) => written(pen.finish(sink)),
-        Err(fault) => Err(fault),
+    match take_source(lifting, sink, source) {
+        Ok(()) => written(lifting.pen.finish(sink)),
+        Err(TakingFault::Source) => Err(LiftFault::Read),
+        Err(TakingFault::Done) => Err(LiftFault::Write),
     }
 }
 
@@ -138,12 +133,15 @@ pub fn lift_with_rises<S: Source, K: Sink>(
 {
     lifting_keeps_the_verdict();
     names_keep_the_verdict();
-    let mut lifter = match Lifter::new(alloc, model, circuit, named) {
-        Ok(lifter) => lifter,
+    let mut lifting = match Lifter::new(alloc, model, circuit, named) {
+        Ok(lifter) => Lifting {
+            lifter,
+            pen: Pen::new(),
+        },
         Err(_) => return Err(LiftFault::NoMemory),
     };
-    match lift_through(&mut lifter, source, sink) {
-        Ok(()) => Ok(lifter.finish()),
+    match lift_through(&mut lifting, source, sink) {
+        Ok(()) => Ok(lifting.lifter.finish()),
         Err(fault) => Err(fault),
     }
 }
