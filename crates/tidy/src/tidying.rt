@@ -38,8 +38,9 @@ impl Tidying {
         ensures { Takes K.written K.failures sink.old sink.new self.old self.new (byte ∷ []) }
     {
         let tidier = self.tidier;
-        tidier.byte_written(byte).put(&mut self.pen, sink);
+        let written = tidier.byte_written(byte);
         self.tidier = tidier.behind_byte(byte);
+        written.put(&mut self.pen, sink);
     }
 
     /// Takes some bytes at the front of others, which end no line, and answers how many.
@@ -81,8 +82,9 @@ impl Tidying {
         ensures { Takes K.written K.failures sink.old sink.new self.old self.new (10 ∷ []) }
     {
         let tidier = self.tidier;
-        tidier.end_written().put(&mut self.pen, sink);
+        let written = tidier.end_written();
         self.tidier = tidier.behind_line();
+        written.put(&mut self.pen, sink);
     }
 
     /// Takes a piece of the text behind those before.
