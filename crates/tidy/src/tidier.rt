@@ -6,7 +6,7 @@ ghost use Rattle.base.specs.Lines.{IsLine};
 ghost use Rattle.base.specs.Writing.{WritesText};
 ghost use Rattle.tidy.specs.declared.line.Line.TheVariants as line;
 ghost use Rattle.tidy.specs.declared.line.Said.{Said as SaidSpec};
-ghost use Rattle.tidy.specs.Tidied.{at_front, is_in_front, behind_status, place_after, may_end, shown};
+ghost use Rattle.tidy.specs.Tidied.{at_front, is_in_front, behind_status, place_after, may_end};
 ghost use Rattle.tidy.specs.Steps.{spelled_line, first_line, first_bytes, bytes_more, keeps_empty, is_kept, is_hidden, is_plain, held_bytes, end_bytes, new_line, at_line, behind_tidied, behind_byte, byte_written, last_written, IsTidying, emitted_bytes};
 
 use crate::line::{
@@ -24,13 +24,6 @@ pub(crate) enum Emitted {
 }
 
 impl Emitted {
-    /// It, where no witness is passed over, and else nothing.
-    fn shown(self, skip: u64) -> Emitted
-        ensures { emitted_bytes result ≡ shown skip (emitted_bytes self) }
-    {
-        if skip > 0 { Emitted::Nothing } else { self }
-    }
-
     /// Puts it.
     pub(crate) fn put<K: Sink>(self, pen: &mut Pen, sink: &mut K)
         ensures { WritesText K.written K.failures sink.old sink.new pen.old pen.new
@@ -273,7 +266,10 @@ impl Tidier {
         requires { (byte == 10) ≡ false }
         ensures { emitted_bytes result ≡ byte_written self byte }
     {
-        bytes_more(self.place, self.line, byte).shown(self.skip)
+        if self.skip > 0 {
+            return Emitted::Nothing;
+        }
+        bytes_more(self.place, self.line, byte)
     }
 
     /// The tidier behind a byte that ends no line.
@@ -292,14 +288,20 @@ impl Tidier {
     pub(crate) fn end_written(self) -> Emitted
         ensures { emitted_bytes result ≡ byte_written self 10 }
     {
-        end_bytes(self.place, self.line).shown(self.skip)
+        if self.skip > 0 {
+            return Emitted::Nothing;
+        }
+        end_bytes(self.place, self.line)
     }
 
     /// What is written at the end of the text.
     pub(crate) fn last_written(self) -> Emitted
         ensures { emitted_bytes result ≡ last_written self }
     {
-        held_bytes(self.line).shown(self.skip)
+        if self.skip > 0 {
+            return Emitted::Nothing;
+        }
+        held_bytes(self.line)
     }
 
     /// The tidier behind the end of the line.
