@@ -82,9 +82,8 @@ impl Tidying {
         ensures { Takes K.written K.failures sink.old sink.new self.old self.new (10 ∷ []) }
     {
         let tidier = self.tidier;
-        let written = tidier.end_written();
+        tidier.end_written().put(&mut self.pen, sink);
         self.tidier = tidier.behind_line();
-        written.put(&mut self.pen, sink);
     }
 
     /// Takes a piece of the text behind those before.
