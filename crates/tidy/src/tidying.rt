@@ -81,9 +81,8 @@ impl Tidying {
     fn take_end<K: Sink>(&mut self, sink: &mut K)
         ensures { Takes K.written K.failures sink.old sink.new self.old self.new (10 ∷ []) }
     {
-        let tidier = self.tidier;
-        tidier.end_written().put(&mut self.pen, sink);
-        self.tidier = tidier.behind_line();
+        self.tidier.end_written().put(&mut self.pen, sink);
+        self.tidier = self.tidier.behind_line();
     }
 
     /// Takes a piece of the text behind those before.
