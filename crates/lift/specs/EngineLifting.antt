@@ -65,22 +65,32 @@ noted_first firsts (Some first) = slice_set firsts first.0 (Some first.1)
 
 -- what is told of the text of a counterexample, of which these bytes are known: a judgement, and first rises where words are lifted with names; and what was written of it
 pub record LiftsRestored (r : Result (Judgement × List (Option ℕ)) RestoreFault) (named : Bool) (items : List Item) (c : Circuit) (k : ℕ) (source old new : Option (List ℕ)) : Type 0 where
+  -- the judgement is that over the circuit of what the text is restored to, with which nothing is wrong
   pub judged : IfOk r (λ told. IfSome source (λ text. BitJudges c (restored_text c k text) told.0))
+  -- and what stands beside it, with names, are the first rises of that text
   pub rises : named ≡ true → IfOk r (λ told. IfSome source (λ text. AreBitFirstRises c (restored_text c k text) told.1))
   pub right : OnOk r (IfSome source (λ text. (read_found (input_count c) text).fault ≡ None))
+  -- what is judged of what is written over the model is the same verdict
   pub kept : IfOk r (λ told. IfSome source (λ text. KeepsVerdictIn items c (restored_text c k text) (engine_lifted_text named items c k text) told.0))
   pub written : OnOk r (IfSome source (λ text. Appends old new (engine_lifted_text named items c k text)))
+  -- where the text's frames make the claimed property of an engine form 1, both are accepted, and end with the first such frame
   pub found : IfOk r (λ told. IfSome source (λ text. FindsAgain c k text told.0))
   pub in_model : OnOk r (IfSome source (λ text. FindsInModel named items c k text))
+  -- a fault of the text is its own, and what the lines before it give was written; at any other a beginning was
   pub faulty : IfErr r (λ e. is_of_text e.why ≡ true → IfSome source (λ text. (read_found (input_count c) text).fault ≡ Some e))
   pub before : IfErr r (λ e. is_of_text e.why ≡ true → IfSome source (λ text. Appends old new (engine_lifted_text named items c k text)))
   pub beginning : IfErr r (λ e. is_of_text e.why ≡ false → IfSome source (λ text. AppendsBeginning old new (engine_lifted_text named items c k text)))
 
 -- and of a witness of the engine form
 pub record LiftsForm (r : Result (Judgement × List (Option ℕ)) RestoreFault) (named : Bool) (items : List Item) (c : Circuit) (choice : Option ℕ) (d : Circuit) (source old new : Option (List ℕ)) : Type 0 where
+  -- the judgement is that of the text: over the form where it makes no claim or a line is faulty, else over the circuit
   pub judged : IfOk r (λ told. IfSome source (λ text. FormJudges c choice d text told.0))
+  -- and what stands beside it, with names, are the first rises of what the text is restored to
   pub rises : named ≡ true → IfOk r (λ told. IfSome source (λ text. AreBitFirstRises c (form_restored_text c choice d text) told.1))
+  -- what is judged of what is written over the model is the same verdict as over the circuit
   pub kept : IfOk r (λ told. IfSome source (λ text. KeepsFormVerdict named items c choice d text told.0))
   pub written : OnOk r (IfSome source (λ text. Appends old new (form_lifted_text named items c choice d text)))
+  -- what is accepted over the form is found again, over the circuit and over the model
   pub found : OnOk r (IfSome source (FindsWitnessInModel named items c choice d))
+  -- at a fault a beginning was written
   pub beginning : OnErr r (IfSome source (λ text. AppendsBeginning old new (form_lifted_text named items c choice d text)))

@@ -71,72 +71,10 @@ fn lift_pieces<S: Source, K: Sink>(
     }
 }
 
-/// Lifts as `lift_restored` does, and answers with the judgement the first frame in which the claimed bad property is 1, where
-/// names are asked for; without names it notes none.
-///
-/// Conditions: the circuit is a lowering of the model, and has the claimed property.
-///
-/// Errors: those of `lift_restored`.
-pub fn lift_restored_with_rises<S: Source, K: Sink>(
-    alloc: Global,
-    model: &Model,
-    circuit: &Circuit,
-    claim: usize,
-    named: bool,
-    source: &mut S,
-    sink: &mut K,
-) -> Result<(Judgement, FirstRises), RestoreFault>
-    requires lowers { Lowers model.now circuit.now }
-    requires claim { claim < length circuit.now.bads }
-    // the judgement is that over the circuit of what the text is restored to, with which nothing is wrong
-    ensures judged { IfOk result (λ told. IfSome (S.to_come source.old)
-        (λ text. BitJudges circuit.now (restored_text circuit.now claim text) told.0)) }
-    // and what stands beside it, with names, are the first rises of that text
-    ensures rises { named ≡ true
-        → IfOk result (λ told. IfSome (S.to_come source.old)
-        (λ text. AreBitFirstRises circuit.now (restored_text circuit.now claim text) told.1)) }
-    ensures right { OnOk result (IfSome (S.to_come source.old)
-        (λ text. (read_found (input_count circuit.now) text).fault ≡ None)) }
-    // what is judged of what is written over the model is the same verdict
-    ensures kept { IfOk result (λ told. IfSome (S.to_come source.old)
-        (λ text. KeepsVerdictIn model.now circuit.now (restored_text circuit.now claim text)
-        (engine_lifted_text named model.now circuit.now claim text) told.0)) }
-    ensures written { OnOk result (IfSome (S.to_come source.old)
-        (λ text. Appends (K.written sink.old) (K.written sink.new)
-        (engine_lifted_text named model.now circuit.now claim text))) }
-    // where the text's frames make the claimed property of an engine form 1, both are accepted, and end with the first such frame
-    ensures found { IfOk result (λ told. IfSome (S.to_come source.old)
-        (λ text. FindsAgain circuit.now claim text told.0)) }
-    ensures in_model { OnOk result (IfSome (S.to_come source.old)
-        (λ text. FindsInModel named model.now circuit.now claim text)) }
-    // a fault of the text is its own, and what the lines before it give was written; at any other a beginning was
-    ensures faulty { IfErr result (λ e. is_of_text e.why ≡ true
-        → IfSome (S.to_come source.old) (λ text. (read_found (input_count circuit.now) text).fault
-        ≡ Some e)) }
-    ensures before { IfErr result (λ e. is_of_text e.why ≡ true
-        → IfSome (S.to_come source.old)
-        (λ text. Appends (K.written sink.old) (K.written sink.new)
-        (engine_lifted_text named model.now circuit.now claim text))) }
-    ensures beginning { IfErr result (λ e. is_of_text e.why ≡ false
-        → IfSome (S.to_come source.old)
-        (λ text. AppendsBeginning (K.written sink.old) (K.written sink.new)
-        (engine_lifted_text named model.now circuit.now claim text))) }
-    ensures apart { IfErr result (λ e. is_of_text e.why ≡ false → e.line ≡ 0) }
-    ensures end { OnOk result (IsAtEnd (S.to_come source.new)) }
-    ensures read_on { IfErr result (λ e. is_of_text e.why ≡ true → IsAtEnd (S.to_come source.new)) }
-    // the source failed once where that is told, the sink where that is, and else neither
-    ensures counted { CountsRestore result (S.failures source.old) (S.failures source.new)
-        (K.failures sink.old) (K.failures sink.new) }
-{
-    let firsts = FirstRises::of_circuit(alloc, circuit, named)?;
-    let pieces = Pieces::new(model, named);
-    lift_pieces(alloc, circuit, claim, &pieces, firsts, source, sink)
-}
-
 /// Reads the text of a counterexample over the engine form of a circuit to its end, and writes what it is lifted to: the
 /// witness of the model that says the same, up to and with the first frame in which the claimed property rises, or of all
-/// frames where it does not; with names or without, as `lift_named` and `lift` write it. The answer is the judgement over the
-/// circuit of what the text is restored to. Of the text one line is held, and what one call of the source gives; beside it
+/// frames where it does not; with names or without, as `lift_with_rises` writes it. The answer is the judgement over the circuit
+/// of what the text is restored to, and with names the first frame in which the claimed bad property is 1. Of the text one line is held, and what one call of the source gives; beside it
 /// one run of the circuit, two lines, and what one call of the sink takes.
 ///
 /// Conditions: the circuit is a lowering of the model, and has the claimed property.
@@ -152,38 +90,11 @@ pub fn lift_restored<S: Source, K: Sink>(
     named: bool,
     source: &mut S,
     sink: &mut K,
-) -> Result<Judgement, RestoreFault>
+) -> Result<(Judgement, FirstRises), RestoreFault>
     requires lowers { Lowers model.now circuit.now }
     requires claim { claim < length circuit.now.bads }
-    // the judgement is that over the circuit of what the text is restored to, with which nothing is wrong
-    ensures judged { IfOk result (λ judgement. IfSome (S.to_come source.old)
-        (λ text. BitJudges circuit.now (restored_text circuit.now claim text) judgement)) }
-    ensures right { OnOk result (IfSome (S.to_come source.old)
-        (λ text. (read_found (input_count circuit.now) text).fault ≡ None)) }
-    // what is judged of what is written over the model is the same verdict
-    ensures kept { IfOk result (λ judgement. IfSome (S.to_come source.old)
-        (λ text. KeepsVerdictIn model.now circuit.now (restored_text circuit.now claim text)
-        (engine_lifted_text named model.now circuit.now claim text) judgement)) }
-    ensures written { OnOk result (IfSome (S.to_come source.old)
-        (λ text. Appends (K.written sink.old) (K.written sink.new)
-        (engine_lifted_text named model.now circuit.now claim text))) }
-    // where the text's frames make the claimed property of an engine form 1, both are accepted, and end with the first such frame
-    ensures found { IfOk result (λ judgement. IfSome (S.to_come source.old)
-        (λ text. FindsAgain circuit.now claim text judgement)) }
-    ensures in_model { OnOk result (IfSome (S.to_come source.old)
-        (λ text. FindsInModel named model.now circuit.now claim text)) }
-    // a fault of the text is its own, and what the lines before it give was written; at any other a beginning was
-    ensures faulty { IfErr result (λ e. is_of_text e.why ≡ true
-        → IfSome (S.to_come source.old) (λ text. (read_found (input_count circuit.now) text).fault
-        ≡ Some e)) }
-    ensures before { IfErr result (λ e. is_of_text e.why ≡ true
-        → IfSome (S.to_come source.old)
-        (λ text. Appends (K.written sink.old) (K.written sink.new)
-        (engine_lifted_text named model.now circuit.now claim text))) }
-    ensures beginning { IfErr result (λ e. is_of_text e.why ≡ false
-        → IfSome (S.to_come source.old)
-        (λ text. AppendsBeginning (K.written sink.old) (K.written sink.new)
-        (engine_lifted_text named model.now circuit.now claim text))) }
+    ensures lifts { LiftsRestored result named model.now circuit.now claim (S.to_come source.old)
+        (K.written sink.old) (K.written sink.new) }
     ensures apart { IfErr result (λ e. is_of_text e.why ≡ false → e.line ≡ 0) }
     ensures end { OnOk result (IsAtEnd (S.to_come source.new)) }
     ensures read_on { IfErr result (λ e. is_of_text e.why ≡ true → IsAtEnd (S.to_come source.new)) }
@@ -191,8 +102,7 @@ pub fn lift_restored<S: Source, K: Sink>(
     ensures counted { CountsRestore result (S.failures source.old) (S.failures source.new)
         (K.failures sink.old) (K.failures sink.new) }
 {
-    match lift_restored_with_rises(alloc, model, circuit, claim, named, source, sink) {
-        Ok((judgement, _)) => Ok(judgement),
-        Err(fault) => Err(fault),
-    }
+    let firsts = FirstRises::of_circuit(alloc, circuit, named)?;
+    let pieces = Pieces::new(model, named);
+    lift_pieces(alloc, circuit, claim, &pieces, firsts, source, sink)
 }

@@ -55,60 +55,10 @@ fn lift_witness<S: Source, K: Sink>(
     }
 }
 
-/// Lifts as `lift_form` does, and answers with the judgement the first frame in which the claimed bad property is 1, where
-/// names are asked for; without names it notes none.
-///
-/// Conditions: the circuit is a lowering of the model, and the form is its engine form.
-///
-/// Errors: those of `lift_form`.
-pub fn lift_form_with_rises<S: Source, K: Sink>(
-    alloc: Global,
-    model: &Model,
-    circuit: &Circuit,
-    form: &Circuit,
-    choice: Option<usize>,
-    named: bool,
-    source: &mut S,
-    sink: &mut K,
-) -> Result<(Judgement, FirstRises), RestoreFault>
-    requires lowers { Lowers model.now circuit.now }
-    requires is_form { IsEngineFormOf circuit.now choice form.now }
-    // the judgement is that of the text: over the form where it makes no claim or a line is faulty, else over the circuit
-    ensures judged { IfOk result (λ told. IfSome (S.to_come source.old)
-        (λ text. FormJudges circuit.now choice form.now text told.0)) }
-    // and what stands beside it, with names, are the first rises of what the text is restored to
-    ensures rises { named ≡ true
-        → IfOk result (λ told. IfSome (S.to_come source.old)
-        (λ text. AreBitFirstRises circuit.now (form_restored_text circuit.now choice form.now text)
-        told.1)) }
-    // what is judged of what is written over the model is the same verdict as over the circuit
-    ensures kept { IfOk result (λ told. IfSome (S.to_come source.old)
-        (λ text. KeepsFormVerdict named model.now circuit.now choice form.now text told.0)) }
-    ensures written { OnOk result (IfSome (S.to_come source.old)
-        (λ text. Appends (K.written sink.old) (K.written sink.new)
-        (form_lifted_text named model.now circuit.now choice form.now text))) }
-    // what is accepted over the form is found again, over the circuit and over the model
-    ensures found { OnOk result (IfSome (S.to_come source.old)
-        (FindsWitnessInModel named model.now circuit.now choice form.now)) }
-    // at a fault a beginning was written
-    ensures beginning { OnErr result (IfSome (S.to_come source.old)
-        (λ text. AppendsBeginning (K.written sink.old) (K.written sink.new)
-        (form_lifted_text named model.now circuit.now choice form.now text))) }
-    ensures apart { IfErr result (λ e. is_of_text e.why ≡ false × (e.line ≡ 0)) }
-    ensures end { OnOk result (IsAtEnd (S.to_come source.new)) }
-    // the source failed once where that is told, the sink where that is, and else neither
-    ensures counted { CountsRestore result (S.failures source.old) (S.failures source.new)
-        (K.failures sink.old) (K.failures sink.new) }
-{
-    let firsts = FirstRises::of_circuit(alloc, circuit, named)?;
-    let pieces = Pieces::new(model, named);
-    lift_witness(alloc, circuit, form, choice, &pieces, firsts, source, sink)
-}
-
 /// Reads a witness of the engine form of a circuit to its end, with all bad properties or the chosen one, and writes what it
 /// is lifted to: the witness of the model that says the same, with the property that it claims, up to and with the first
-/// frame in which this rises, or of all frames where it does not; with names or without, as `lift_named` and `lift` write it.
-/// The answer is that it makes no claim, or its first faulty line, before which what the lines give was written; else the
+/// frame in which this rises, or of all frames where it does not; with names or without, as `lift_with_rises` writes it. With
+/// names the answer has the first frame in which the claimed bad property is 1, too. It is that it makes no claim, or its first faulty line, before which what the lines give was written; else the
 /// judgement over the circuit of what it is restored to. Of the text one line is held, and what one call of the source gives;
 /// beside it one run of the circuit, two lines, and what one call of the sink takes.
 ///
@@ -125,33 +75,18 @@ pub fn lift_form<S: Source, K: Sink>(
     named: bool,
     source: &mut S,
     sink: &mut K,
-) -> Result<Judgement, RestoreFault>
+) -> Result<(Judgement, FirstRises), RestoreFault>
     requires lowers { Lowers model.now circuit.now }
     requires is_form { IsEngineFormOf circuit.now choice form.now }
-    // the judgement is that of the text: over the form where it makes no claim or a line is faulty, else over the circuit
-    ensures judged { IfOk result (λ judgement. IfSome (S.to_come source.old)
-        (λ text. FormJudges circuit.now choice form.now text judgement)) }
-    // what is judged of what is written over the model is the same verdict as over the circuit
-    ensures kept { IfOk result (λ judgement. IfSome (S.to_come source.old)
-        (λ text. KeepsFormVerdict named model.now circuit.now choice form.now text judgement)) }
-    ensures written { OnOk result (IfSome (S.to_come source.old)
-        (λ text. Appends (K.written sink.old) (K.written sink.new)
-        (form_lifted_text named model.now circuit.now choice form.now text))) }
-    // what is accepted over the form is found again, over the circuit and over the model
-    ensures found { OnOk result (IfSome (S.to_come source.old)
-        (FindsWitnessInModel named model.now circuit.now choice form.now)) }
-    // at a fault a beginning was written
-    ensures beginning { OnErr result (IfSome (S.to_come source.old)
-        (λ text. AppendsBeginning (K.written sink.old) (K.written sink.new)
-        (form_lifted_text named model.now circuit.now choice form.now text))) }
+    ensures lifts { LiftsForm result named model.now circuit.now choice form.now
+        (S.to_come source.old) (K.written sink.old) (K.written sink.new) }
     ensures apart { IfErr result (λ e. is_of_text e.why ≡ false × (e.line ≡ 0)) }
     ensures end { OnOk result (IsAtEnd (S.to_come source.new)) }
     // the source failed once where that is told, the sink where that is, and else neither
     ensures counted { CountsRestore result (S.failures source.old) (S.failures source.new)
         (K.failures sink.old) (K.failures sink.new) }
 {
-    match lift_form_with_rises(alloc, model, circuit, form, choice, named, source, sink) {
-        Ok((judgement, _)) => Ok(judgement),
-        Err(fault) => Err(fault),
-    }
+    let firsts = FirstRises::of_circuit(alloc, circuit, named)?;
+    let pieces = Pieces::new(model, named);
+    lift_witness(alloc, circuit, form, choice, &pieces, firsts, source, sink)
 }

@@ -10,7 +10,7 @@ mod lifter;
 mod lifting;
 mod pieces;
 
-pub use engine_lifting::{lift_restored, lift_restored_with_rises};
+pub use engine_lifting::lift_restored;
 pub use fault::LiftFault;
-pub use form_lifting::{lift_form, lift_form_with_rises};
-pub use lifting::{lift, lift_named, lift_with_rises};
+pub use form_lifting::lift_form;
+pub use lifting::{lift, lift_with_rises};

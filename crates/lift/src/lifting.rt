@@ -7,7 +7,7 @@ ghost use Rattle.witness.specs.BitJudgements.{BitJudges};
 ghost use Rattle.witness.specs.Accepted.{BitAcceptsExactly};
 ghost use Rattle.rises.specs.FirstRises.{AreBitFirstRises};
 ghost use Rattle.lift.specs.Answers.{CountsLift};
-ghost use Rattle.lift.specs.Lifted.{lifted_text, lifted_with, named_text};
+ghost use Rattle.lift.specs.Lifted.{lifted_text, lifted_with};
 ghost use Rattle.lift.specs.Stands.{Lifted, LiftsAll, LiftsWith};
 ghost use Rattle.lift.specs.Verdicts.{KeepsVerdict, KeepsVerdictIn};
 
@@ -88,8 +88,10 @@ fn lift_through<S: Source, K: Sink>(
     }
 }
 
-/// Lifts as `lift_named` does where names are asked for, and answers with the judgement the first frame in which the claimed
-/// bad property is 1; without names it lifts as `lift` does, and notes no frame.
+/// Lifts as `lift` does. With names it writes them, too: behind the word of an input or a state with a symbol stands a space
+/// and `<symbol>@<frame>`, as BtorMC writes it, but where that is longer than a symbol may be; names have no meaning in a
+/// witness. It then answers with the judgement the first frame in which the claimed bad property is 1; without names it notes
+/// none.
 ///
 /// Condition: the circuit is a lowering of the model.
 ///
@@ -187,52 +189,6 @@ pub fn lift<S: Source, K: Sink>(
         (K.failures sink.old) (K.failures sink.new) }
 {
     match lift_with_rises(alloc, model, circuit, false, source, sink) {
-        Ok((judgement, _)) => Ok(judgement),
-        Err(fault) => Err(fault),
-    }
-}
-
-/// Lifts as `lift` does, and writes names: behind the word of an input or a state with a symbol stands a space and
-/// `<symbol>@<frame>`, as BtorMC writes it, but where that is longer than a symbol may be. Names have no meaning in a
-/// witness.
-///
-/// Condition: the circuit is a lowering of the model.
-///
-/// Errors: `NoMemory` where a growth was refused, and then nothing was read or written; `Read` where the source failed in
-/// this call, and `Write` where the sink did, once. After both a beginning of the text with names was written.
-pub fn lift_named<S: Source, K: Sink>(
-    alloc: Global,
-    model: &Model,
-    circuit: &Circuit,
-    source: &mut S,
-    sink: &mut K,
-) -> Result<Judgement, LiftFault>
-    requires { Lowers model.now circuit.now }
-    // the judgement is that of the whole text over the circuit
-    ensures judged { IfOk result (λ judgement. IfSome (S.to_come source.old)
-        (λ text. BitJudges circuit.now text judgement)) }
-    // accepted exactly where it says a witness of which this is judged
-    ensures accepted { IfOk result (λ judgement. IfSome (S.to_come source.old)
-        (λ text. BitAcceptsExactly circuit.now text judgement)) }
-    // what is judged of the text with names over the model is the same verdict
-    ensures kept { IfOk result (λ judgement. IfSome (S.to_come source.old)
-        (λ text. KeepsVerdictIn model.now circuit.now text (named_text model.now circuit.now text)
-        judgement)) }
-    // what is written is the lifted text with names, and after a fault a beginning of it
-    ensures written { OnOk result (IfSome (S.to_come source.old)
-        (λ text. Appends (K.written sink.old) (K.written sink.new)
-        (named_text model.now circuit.now text))) }
-    ensures beginning { OnErr result (IfSome (S.to_come source.old)
-        (λ text. AppendsBeginning (K.written sink.old) (K.written sink.new)
-        (named_text model.now circuit.now text))) }
-    ensures unread { IsErrOf result LiftFault.NoMemory → source.new ≡ source.old }
-    ensures unwritten { IsErrOf result LiftFault.NoMemory → sink.new ≡ sink.old }
-    ensures end { OnOk result (IsAtEnd (S.to_come source.new)) }
-    // the source failed once where that is answered, the sink where that is, and else neither
-    ensures counted { CountsLift result (S.failures source.old) (S.failures source.new)
-        (K.failures sink.old) (K.failures sink.new) }
-{
-    match lift_with_rises(alloc, model, circuit, true, source, sink) {
         Ok((judgement, _)) => Ok(judgement),
         Err(fault) => Err(fault),
     }

@@ -32,11 +32,15 @@ fn initial_why(line: &[u8]) -> Option<RestoreWhy>
     None
 }
 
-/// Whether all bytes are `0` or `1`.
+/// Whether all bytes are `0` or `1`. All are looked at, so that many are at once.
 fn are_bits(line: &[u8]) -> bool
     ensures { result ≡ list_all (λ b. b == 48 || b == 49) line.now }
 {
-    line.iter().all(|byte| *byte == b'0' || *byte == b'1')
+    let mut all = true;
+    for byte in line {
+        all &= *byte == b'0' || *byte == b'1';
+    }
+    all
 }
 
 /// Writes the bits of a line.
