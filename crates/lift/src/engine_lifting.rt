@@ -1,18 +1,10 @@
 //! Lifting counterexamples over the engine forms of circuits.
-ghost use Rattle.std.specs.Prelude.{◌≡◌, ◌<◌, None, Some, true, false, length, replicate, IfErr, IfOk, IfSome, OnOk};
-ghost use Rattle.std.specs.Io.KnownBytes.{Appends, IsAtEnd};
-ghost use Rattle.base.specs.Device.{AppendsBeginning};
+ghost use Rattle.std.specs.Prelude.{◌≡◌, ◌<◌, None, Some, true, false, length, replicate, IfErr, OnOk};
+ghost use Rattle.std.specs.Io.KnownBytes.{IsAtEnd};
 ghost use Rattle.blast.specs.Lowering.{Lowers};
-ghost use Rattle.engine_form.specs.EngineForm.{input_count};
-ghost use Rattle.witness.specs.BitJudgements.{BitJudges};
-ghost use Rattle.rises.specs.FirstRises.{AreBitFirstRises};
-ghost use Rattle.restore.specs.Accepted.{FindsAgain};
 ghost use Rattle.restore.specs.Answers.{CountsRestore};
 ghost use Rattle.restore.specs.Faults.{is_of_text};
-ghost use Rattle.restore.specs.Reading.{read_found};
-ghost use Rattle.restore.specs.Restored.{restored_text};
-ghost use Rattle.lift.specs.EngineLifting.{engine_lifted_text, FindsInModel, noted_first, LiftsRestored};
-ghost use Rattle.lift.specs.Verdicts.{KeepsVerdictIn};
+ghost use Rattle.lift.specs.EngineLifting.{noted_first, LiftsRestored};
 
 use crate::engine_laws::found_over_the_form_is_found_in_the_model;
 use crate::laws::{lifting_keeps_the_verdict, names_keep_the_verdict};

@@ -1,14 +1,11 @@
 //! Lifting witnesses of the engine forms of circuits.
-ghost use Rattle.std.specs.Prelude.{◌≡◌, None, length, replicate, true, false, IfErr, IfOk, IfSome, OnErr, OnOk};
-ghost use Rattle.std.specs.Io.KnownBytes.{Appends, IsAtEnd};
-ghost use Rattle.base.specs.Device.{AppendsBeginning};
+ghost use Rattle.std.specs.Prelude.{◌≡◌, None, length, replicate, true, false, IfErr, OnOk};
+ghost use Rattle.std.specs.Io.KnownBytes.{IsAtEnd};
 ghost use Rattle.blast.specs.Lowering.{Lowers};
 ghost use Rattle.engine_form.specs.EngineForm.{IsEngineFormOf};
-ghost use Rattle.rises.specs.FirstRises.{AreBitFirstRises};
 ghost use Rattle.restore.specs.Answers.{CountsRestore};
 ghost use Rattle.restore.specs.Faults.{is_of_text};
-ghost use Rattle.restore.specs.FormWitness.{form_restored_text, FormJudges};
-ghost use Rattle.lift.specs.EngineLifting.{form_lifted_text, FindsWitnessInModel, KeepsFormVerdict, LiftsForm};
+ghost use Rattle.lift.specs.EngineLifting.{LiftsForm};
 
 use crate::engine_laws::accepted_over_the_form_is_found_in_the_model;
 use crate::engine_lifting::with_first;

@@ -1,5 +1,5 @@
 //! A judge of witnesses over a circuit that notes when claims are first reached.
-ghost use Rattle.std.specs.Prelude.{◌≡◌, ℕ, Bool, true, List, [], ◌∷◌, ◌++◌, MatchResult, if◌then◌else◌, length};
+ghost use Rattle.std.specs.Prelude.{◌≡◌, ℕ, Bool, true, List, [], ◌∷◌, ◌++◌, MatchResult, if◌then◌else◌};
 ghost use Rattle.base.specs.Lines.{IsLine};
 ghost use Rattle.base.specs.Literal.{Valuation};
 ghost use Rattle.aiger.specs.Circuit.{Circuit};

@@ -1,8 +1,6 @@
 //! Judging whole sources over a model, and over a circuit, with the frames in which claims are first reached.
-ghost use Rattle.std.specs.Prelude.{◌≡◌, ℕ, true, List, [], ◌++◌, IfErr, IfOk, IfSome, IsErrOf, OnOk};
+ghost use Rattle.std.specs.Prelude.{◌≡◌, true, List, IfErr, IfOk, IfSome, IsErrOf, OnOk};
 ghost use Rattle.std.specs.Io.KnownBytes.{IsAtEnd};
-ghost use Rattle.base.specs.Device.{CountsFaults};
-ghost use Rattle.btor2.specs.declared.item.Item.{Item};
 ghost use Rattle.btor2.specs.Check.{IsWellFormed};
 ghost use Rattle.btor2.specs.Lists.{first_init_without_next};
 ghost use Rattle.btor2.specs.Trace.{Frame};
@@ -12,7 +10,6 @@ ghost use Rattle.witness.specs.Judgements.{Judges};
 ghost use Rattle.witness.specs.ClosedWords.{IsClosedTrace};
 ghost use Rattle.witness.specs.BitJudgements.{BitJudges};
 ghost use Rattle.rises.specs.FirstRises.{word_first_rises, AreBitFirstRises};
-ghost use Rattle.rises.specs.Notes.{NotesWords, NotesBits};
 
 use crate::bit_noter::BitNoter;
 use crate::first_rises::FirstRises;

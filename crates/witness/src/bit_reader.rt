@@ -1,8 +1,8 @@
 //! The lines of a witness of a circuit, admitted one after the other.
 ghost use Rattle.std.specs.Prelude.{◌≡◌, ℕ, List, IfOk, OnErr};
 ghost use Rattle.aiger.specs.Circuit.{Circuit};
-ghost use Rattle.witness.specs.BitAdmits.{BitRead, no_line_read, bits_at};
-ghost use Rattle.witness.specs.BitStands.{ReadsBits, GivesBitLine, GivesFrame, HasBits, is_frame, line_room};
+ghost use Rattle.witness.specs.BitAdmits.{BitRead, no_line_read};
+ghost use Rattle.witness.specs.BitStands.{ReadsBits, GivesBitLine, GivesFrame, HasBits, line_room};
 ghost use Rattle.witness.specs.CutLines.{AreFront};
 
 use crate::bit_line::{claim_of, no_bits};

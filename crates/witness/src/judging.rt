@@ -1,17 +1,13 @@
 //! Judging whole sources over a model, and over a circuit.
-ghost use Rattle.std.specs.Prelude.{◌≡◌, ℕ, List, [], ◌++◌, IfErr, IfOk, IfSome, IsErrOf, OnOk};
+ghost use Rattle.std.specs.Prelude.{◌≡◌, IfErr, IfOk, IfSome, IsErrOf, OnOk};
 ghost use Rattle.std.specs.Io.KnownBytes.{IsAtEnd};
-ghost use Rattle.base.specs.Device.{CountsFaults};
-ghost use Rattle.btor2.specs.declared.item.Item.{Item};
 ghost use Rattle.btor2.specs.Check.{IsWellFormed};
 ghost use Rattle.btor2.specs.Lists.{first_init_without_next};
 ghost use Rattle.witness.specs.Answers.{AnswersJudge, CountsJudge, NamesState};
 ghost use Rattle.witness.specs.Judgements.{Judges};
 ghost use Rattle.witness.specs.Accepted.{AcceptsExactly, BitAcceptsExactly};
-ghost use Rattle.witness.specs.WordStands.{StandsForWitness};
 ghost use Rattle.aiger.specs.Circuit.{Circuit, IsCircuit};
 ghost use Rattle.witness.specs.BitJudgements.{BitJudges};
-ghost use Rattle.witness.specs.BitStands.{StandsForBits};
 
 use crate::bit_judge::BitJudge;
 use crate::fault::JudgeFault;

@@ -1,5 +1,5 @@
 //! What a run of a model says in one frame, what was found in frames, and the line behind the last whole one.
-ghost use Rattle.std.specs.Prelude.{◌≡◌, ℕ, ◌<◌, ◌||◌, Bool, List, IfSome, length, false, true, slice_get, nat_le};
+ghost use Rattle.std.specs.Prelude.{◌≡◌, ℕ, ◌<◌, Bool, List, IfSome, length, false, true, slice_get, nat_le};
 ghost use Rattle.std.specs.Option.{option_or};
 ghost use Rattle.btor2.specs.Items.{is_state, is_bad, init_word};
 ghost use Rattle.btor2.specs.Check.{IsWellFormed};

@@ -1,6 +1,5 @@
 //! The judge of witnesses over a model.
-ghost use Rattle.std.specs.Prelude.{◌≡◌, ℕ, ◌+◌, ◌<◌, ◌^◌, ◌&&◌, ◌||◌, true, List, [], ◌∷◌, ◌++◌, IfNone, IfOk, IfSome, None, codes};
-ghost use Rattle.std.specs.Str.{bytes_eq};
+ghost use Rattle.std.specs.Prelude.{◌≡◌, ℕ, ◌+◌, ◌<◌, ◌^◌, ◌||◌, true, List, [], ◌∷◌, ◌++◌, IfNone, IfOk, IfSome, None};
 ghost use Rattle.btor2.specs.declared.item.Item.{Item};
 ghost use Rattle.btor2.specs.Check.{IsWellFormed};
 ghost use Rattle.btor2.specs.Lists.{first_init_without_next};
@@ -8,17 +7,14 @@ ghost use Rattle.btor2.specs.Trace.{Frame};
 ghost use Rattle.runs.specs.Refusal.{AnswersNew};
 ghost use Rattle.runs.specs.Run.{node_count, state_count};
 ghost use Rattle.witness.specs.Texts.{shape_of};
-ghost use Rattle.witness.specs.Admits.{is_at_end};
 ghost use Rattle.witness.specs.Judgements.{Judges};
 ghost use Rattle.witness.specs.Accepted.{AcceptsExactly};
 ghost use Rattle.witness.specs.WordPlays.{steps_of};
 ghost use Rattle.witness.specs.ClosedWords.{admitted_word_lines, closed_word_frames, IsClosedTrace, last_word};
 ghost use Rattle.witness.specs.Reached.{word_reached};
 ghost use Rattle.base.specs.Lines.{IsLine, unfinished};
-ghost use Rattle.witness.specs.KeptLines.{AreAlike};
 ghost use Rattle.witness.specs.declared.word_reader.Place.TheVariants as place;
-ghost use Rattle.witness.specs.Stands.{IsOfLines};
-ghost use Rattle.witness.specs.WordStands.{StandsForWitness, JudgesLine, JudgesLines, NoPlainLine, is_alone, is_status, place_of, word_judging};
+ghost use Rattle.witness.specs.WordStands.{StandsForWitness, JudgesLine, JudgesLines, NoPlainLine, is_alone, place_of};
 
 use crate::cut_line::CutLine;
 use crate::judgement::Judgement;
