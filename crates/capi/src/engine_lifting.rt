@@ -43,7 +43,7 @@ fn lift_over(
 {
     let mut source = found;
     match lift_restored(alloc, model, circuit, bad, names, &mut source, text) {
-        Ok(judgement) => Ok(Verdict::of(&judgement)),
+        Ok((judgement, _)) => Ok(Verdict::of(&judgement)),
         Err(fault) => {
             if fault.why.is_of_text() {
                 Ok(Verdict::of_fault(&fault))
@@ -150,7 +150,7 @@ fn lift_through(
         &mut source,
         text,
     ) {
-        Ok(judgement) => Ok(Verdict::of(&judgement)),
+        Ok((judgement, _)) => Ok(Verdict::of(&judgement)),
         Err(_) => Err(Stop::NoMemory),
     }
 }

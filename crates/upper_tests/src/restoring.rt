@@ -204,8 +204,23 @@ fn told<K: Sink>(
     match (way.lifts, way.takes_witness) {
         (false, false) => restore(alloc, circuit, 0, &mut source, sink),
         (false, true) => restore_form(alloc, circuit, form, None, &mut source, sink),
-        (true, false) => lift_restored(alloc, model, circuit, 0, true, &mut source, sink),
-        (true, true) => lift_form(alloc, model, circuit, form, None, true, &mut source, sink),
+        (true, false) => {
+            let (judgement, _) = lift_restored(alloc, model, circuit, 0, true, &mut source, sink)?;
+            Ok(judgement)
+        }
+        (true, true) => {
+            let (judgement, _) = lift_form(
+                alloc,
+                model,
+                circuit,
+                form,
+                None,
+                true,
+                &mut source,
+                sink,
+            )?;
+            Ok(judgement)
+        }
     }
 }
 
