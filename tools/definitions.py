@@ -16,7 +16,7 @@ those name, and so on. How a value is kept (its view, its invariant) is nothing 
 
 A word that is carried is none of them: a call gives it of what it makes, others keep it, and the rest use it as a premise, so
 that what they say follows whatever the word means. Each clause that names one is looked at: it stands there in one of these
-three ways, or the script says so.
+three ways, or as the word that a value gives for `stands` of `Taker`, or the script says so.
 
 In docs/DEFINITIONS.md the first list begins at the heading `## What the public calls rest on`, with a heading of the third
 rank for each crate, and tables with names in the first column. A definition has a row where one row of its crate has its
@@ -146,14 +146,15 @@ def named_in(modules, text, scope):
 
 def is_carried(word, clause):
     """Whether a clause names a word as one that is carried: of a value that is made, with nothing fed to it; as a premise on
-    the value before; or as what such a premise gives of the value after."""
+    the value before; as what such a premise gives of the value after; or as what a value gives for `stands` of `Taker`."""
     clause = " ".join(clause.split())
     term = r"(?:[\w.]+|\[\]|\((?:[^()]|\([^()]*\))*\))"
     over = r"%s(?: %s)?" % (term, term)
     made = re.compile(r"\(λ (\w+)\. %s %s \1 \[\]\)|\b%s %s result \[\]" % (word, over, word, over))
     premise = re.compile(r"\b%s %s self(?:\.(?:old|now|entry))? %s →" % (word, over, term))
     kept = re.compile(r"\b%s %s self\.new %s" % (word, over, term))
-    rest = made.sub("", clause)
+    given = re.compile(r"λ \w+ \w+ (\w+) (\w+)\. %s %s \1 \2(?=$| \})" % (word, over))
+    rest = given.sub("", made.sub("", clause))
     if premise.search(rest):
         rest = kept.sub("", premise.sub("", rest))
     return not re.search(r"\b%s\b" % word, rest)

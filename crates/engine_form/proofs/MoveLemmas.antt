@@ -61,7 +61,7 @@ name_fits c s k name inside free good =
     by true e = absurd (cc)
     by false e = rw (free, good) refl
 
--- ---- where they go
+    -- ---- where they go
 
     fits : (s : Section) → k < section_count s c → new_position c s k < section_count (new_section s) (unnamed c)
     fits Input h = h

@@ -19,3 +19,4 @@ mod table;
 pub use fault::EngineFault;
 pub use form::{engine_form, why_no_form};
 pub use outputs::outputs_as_bads;
+pub use sizes::input_count;

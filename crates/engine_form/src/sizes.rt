@@ -1,7 +1,7 @@
 //! How large an engine form is.
 ghost use Rattle.std.specs.Prelude.{◌≡◌, ◌≤◌, length, if◌then◌else◌};
 ghost use Rattle.aiger.specs.Limits.{greatest_count};
-ghost use Rattle.engine_form.specs.EngineForm.{taken_bits, free_count};
+ghost use Rattle.engine_form.specs.EngineForm.{taken_bits, free_count, input_count};
 ghost use Rattle.engine_form.specs.Reads.{sizes_of};
 ghost use Rattle.engine_form.specs.Refusal.{engine_bound};
 
@@ -28,6 +28,14 @@ pub(crate) fn free_count(latches: &[Latch]) -> u32
         count += taken_bits(latch.reset);
     }
     count
+}
+
+/// How many inputs the engine form of a circuit has.
+pub fn input_count(circuit: &Circuit) -> u32
+    ensures count { result ≡ input_count circuit.now }
+    ensures own { circuit.now.inputs ≤ result }
+{
+    (circuit.inputs() + free_count(circuit.latches())).max(1)
 }
 
 /// How large an engine form is, and which latches of its own it has.
@@ -59,7 +67,7 @@ pub(crate) fn sizes_of(circuit: &Circuit) -> Sizes
     let has_constraint = circuit.constraints().len() > 0;
     let latches = circuit.latches().len() as u32 + one_if(has_free) + one_if(has_constraint);
     Sizes {
-        inputs: (circuit.inputs() + free).max(1),
+        inputs: input_count(circuit),
         latches: latches.max(1),
         has_free,
         has_constraint,

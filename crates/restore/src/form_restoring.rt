@@ -26,10 +26,10 @@ use crate::progress::write_bits;
 use crate::restorer::Restorer;
 use crate::restoring::written;
 use crate::told::Restored;
-use crate::width::input_count;
 use crate::writer::{AsItIs, Writer};
 use aiger::Circuit;
 use base::{LineReader, Pen, Sink, Source};
+use engine_form::input_count;
 use std::alloc::Global;
 use witness::{BitLines, Judgement, Why};
 

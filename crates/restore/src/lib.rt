@@ -16,7 +16,6 @@ mod progress;
 mod restorer;
 mod restoring;
 mod told;
-mod width;
 mod writer;
 
 pub use fault::{RestoreFault, RestoreWhy};

@@ -23,10 +23,10 @@ use crate::frame_reader::FrameReader;
 use crate::laws::restored_text_is_accepted;
 use crate::restorer::Restorer;
 use crate::told::Restored;
-use crate::width::input_count;
 use crate::writer::{AsItIs, Writer};
 use aiger::Circuit;
 use base::{DeviceFault, Pen, Sink, Source};
+use engine_form::input_count;
 use std::alloc::Global;
 use witness::Judgement;
 
