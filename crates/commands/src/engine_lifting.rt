@@ -8,7 +8,8 @@ ghost use Rattle.btor2text.specs.Spelling.{IsModelOf};
 ghost use Rattle.commands.specs.Done.{LiftsFound};
 ghost use Rattle.subcommands.specs.Refusals.{IsNotClaimed};
 ghost use Rattle.subcommands.specs.declared.refusals.Claimed.TheVariants as claimed_is;
-ghost use Rattle.subcommands.specs.Statuses.{Counts, IfInput, ErrUntold};
+ghost use Rattle.subcommands.specs.Statuses.{Ends, IfInput};
+ghost use Rattle.subcommands.specs.Statuses.Use.{Unused, Used};
 
 use aiger::Circuit;
 use base::{Sink, Source};
@@ -36,10 +37,8 @@ pub(crate) fn lift_counterexample<B: Source, O: Sink, E: Sink, W: Watch>(
         (O.written out.new) (E.written err.old) (E.written err.new)) }
     ensures refused { (known : Option (List ℕ)) → IsModelOf known model.now
         → IfErr result (IfInput (IsNotClaimed claimed_is.Found given_is.Model choice known)) }
-    ensures unwritten { IfErr result (IfInput (λ _. out.new ≡ out.old)) }
-    ensures untold { ErrUntold result (err.new ≡ err.old) }
-    ensures counted { (f : ℕ) → Counts result f f (B.failures second.old) (B.failures second.new)
-        (O.failures out.old) (O.failures out.new) (E.failures err.old) (E.failures err.new) }
+    ensures ends { Ends result Unused (Used B.failures second.old second.new)
+        (Used O.failures out.old out.new) (Used E.failures err.old err.new) }
 {
     // a model's items are well-formed
     let _ = model.items();
@@ -65,10 +64,8 @@ fn lift_over_circuit<B: Source, O: Sink, E: Sink>(
         (O.written out.new) (E.written err.old) (E.written err.new)) }
     ensures refused { (known : Option (List ℕ)) → IsModelOf known model.now
         → IfErr result (IfInput (IsNotClaimed claimed_is.Found given_is.Model choice known)) }
-    ensures unwritten { IfErr result (IfInput (λ _. out.new ≡ out.old)) }
-    ensures untold { ErrUntold result (err.new ≡ err.old) }
-    ensures counted { (f : ℕ) → Counts result f f (B.failures second.old) (B.failures second.new)
-        (O.failures out.old) (O.failures out.new) (E.failures err.old) (E.failures err.new) }
+    ensures ends { Ends result Unused (Used B.failures second.old second.new)
+        (Used O.failures out.old out.new) (Used E.failures err.old err.new) }
 {
     lift::laws::lifting_keeps_the_verdict();
     lift::laws::names_keep_the_verdict();

@@ -9,7 +9,8 @@ ghost use Rattle.btor2text.specs.Spelling.{IsModelOf};
 ghost use Rattle.subcommands.specs.Done.{Judged};
 ghost use Rattle.commands.specs.Done.{IsFormLifted};
 ghost use Rattle.subcommands.specs.Refusals.{IsNotForEngines};
-ghost use Rattle.subcommands.specs.Statuses.{Counts, IfInput, IsOfNoInput, ErrUntold};
+ghost use Rattle.subcommands.specs.Statuses.{Ends, EndsUnrefused, IfInput};
+ghost use Rattle.subcommands.specs.Statuses.Use.{Unused, Used};
 
 use aiger::Circuit;
 use base::{Sink, Source};
@@ -38,10 +39,8 @@ pub(crate) fn lift_form_witness<B: Source, O: Sink, E: Sink, W: Watch>(
         (O.written out.old) (O.written out.new) (E.written err.old) (E.written err.new))) }
     ensures refused { (known : Option (List ℕ)) → IsModelOf known model.now
         → IfErr result (IfInput (IsNotForEngines given_is.Model choice known)) }
-    ensures unwritten { IfErr result (IfInput (λ _. out.new ≡ out.old)) }
-    ensures untold { ErrUntold result (err.new ≡ err.old) }
-    ensures counted { (f : ℕ) → Counts result f f (B.failures second.old) (B.failures second.new)
-        (O.failures out.old) (O.failures out.new) (E.failures err.old) (E.failures err.new) }
+    ensures ends { Ends result Unused (Used B.failures second.old second.new)
+        (Used O.failures out.old out.new) (Used E.failures err.old err.new) }
 {
     // a model's items are well-formed
     let _ = model.items();
@@ -67,10 +66,8 @@ fn lift_over_circuit<B: Source, O: Sink, E: Sink>(
         (O.written out.old) (O.written out.new) (E.written err.old) (E.written err.new))) }
     ensures refused { (known : Option (List ℕ)) → IsModelOf known model.now
         → IfErr result (IfInput (IsNotForEngines given_is.Model choice known)) }
-    ensures unwritten { IfErr result (IfInput (λ _. out.new ≡ out.old)) }
-    ensures untold { ErrUntold result (err.new ≡ err.old) }
-    ensures counted { (f : ℕ) → Counts result f f (B.failures second.old) (B.failures second.new)
-        (O.failures out.old) (O.failures out.new) (E.failures err.old) (E.failures err.new) }
+    ensures ends { Ends result Unused (Used B.failures second.old second.new)
+        (Used O.failures out.old out.new) (Used E.failures err.old err.new) }
 {
     let form = engine_form(alloc, circuit, choice)?;
     lift_through_form(
@@ -95,10 +92,8 @@ fn lift_through_form<B: Source, O: Sink, E: Sink>(
     ensures done { (known : Option (List ℕ)) → IsModelOf known model.now
         → IfOk result (Judged (IsFormLifted named choice known (B.to_come second.old)
         (O.written out.old) (O.written out.new) (E.written err.old) (E.written err.new))) }
-    ensures no_input { IsOfNoInput result }
-    ensures untold { ErrUntold result (err.new ≡ err.old) }
-    ensures counted { (f : ℕ) → Counts result f f (B.failures second.old) (B.failures second.new)
-        (O.failures out.old) (O.failures out.new) (E.failures err.old) (E.failures err.new) }
+    ensures ends { EndsUnrefused result Unused (Used B.failures second.old second.new)
+        (Used O.failures out.old out.new) (Used E.failures err.old err.new) }
 {
     let told = lift_form_with_rises(alloc, model, circuit, form, choice, named, second, out);
     tell_lifted(alloc, told, named, Subject::Lowered(model, circuit), err)

@@ -7,7 +7,8 @@ ghost use Rattle.subcommands.specs.Done.{Judged};
 ghost use Rattle.commands.specs.Done.{IsLifted};
 ghost use Rattle.commands.specs.Refusals.{of_lifting};
 ghost use Rattle.subcommands.specs.Refusals.{IsNotLowered};
-ghost use Rattle.subcommands.specs.Statuses.{Counts, IfInput, ErrUntold, IsOfNoInput};
+ghost use Rattle.subcommands.specs.Statuses.{Ends, EndsUnrefused, IfInput};
+ghost use Rattle.subcommands.specs.Statuses.Use.{Unused, Used};
 
 use aiger::Circuit;
 use base::{Sink, Source};
@@ -34,10 +35,8 @@ pub(crate) fn lift_witness<B: Source, O: Sink, E: Sink, W: Watch>(
         (O.written out.new) (E.written err.old) (E.written err.new))) }
     ensures refused { (known : Option (List ℕ)) → IsModelOf known model.now
         → IfErr result (IfInput (IsNotLowered known)) }
-    ensures unwritten { IfErr result (IfInput (λ _. out.new ≡ out.old)) }
-    ensures untold { ErrUntold result (err.new ≡ err.old) }
-    ensures counted { (f : ℕ) → Counts result f f (B.failures second.old) (B.failures second.new)
-        (O.failures out.old) (O.failures out.new) (E.failures err.old) (E.failures err.new) }
+    ensures ends { Ends result Unused (Used B.failures second.old second.new)
+        (Used O.failures out.old out.new) (Used E.failures err.old err.new) }
 {
     // a model's items are well-formed
     let _ = model.items();
@@ -59,10 +58,8 @@ fn lift_over_circuit<B: Source, O: Sink, E: Sink>(
     ensures done { (known : Option (List ℕ)) → IsModelOf known model.now
         → IfOk result (Judged (IsLifted named known (B.to_come second.old) (O.written out.old)
         (O.written out.new) (E.written err.old) (E.written err.new))) }
-    ensures no_input { IsOfNoInput result }
-    ensures untold { ErrUntold result (err.new ≡ err.old) }
-    ensures counted { (f : ℕ) → Counts result f f (B.failures second.old) (B.failures second.new)
-        (O.failures out.old) (O.failures out.new) (E.failures err.old) (E.failures err.new) }
+    ensures ends { EndsUnrefused result Unused (Used B.failures second.old second.new)
+        (Used O.failures out.old out.new) (Used E.failures err.old err.new) }
 {
     match lift_with_rises(alloc, model, circuit, named, second, out) {
         Ok((judgement, firsts)) => {

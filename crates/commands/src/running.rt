@@ -1,13 +1,14 @@
 //! Doing a command.
 
-ghost use Rattle.std.specs.Prelude.{◌≡◌, ◌≢◌, ◌≤◌, ◌⊎◌, ℕ, List, Option, true, false, IfOk, IfErr, option_map};
+ghost use Rattle.std.specs.Prelude.{◌≡◌, ◌≢◌, ◌≤◌, ℕ, List, Option, true, false, IfOk, IfErr, option_map};
 ghost use Rattle.subcommands.specs.declared.answers.Answer.TheVariants as answer;
 ghost use Rattle.btor2text.specs.Spelling.{IsModelOf};
 ghost use Rattle.aigertext.specs.Spelling.{IsCircuitText};
 ghost use Rattle.invocation.specs.declared.tasks.Task.TheVariants as task_is;
 ghost use Rattle.commands.specs.Done.{Answers, has_one_file, has_three_files, is_quiet};
 ghost use Rattle.commands.specs.Refusals.{RefusesTask, RefusesSecond};
-ghost use Rattle.subcommands.specs.Statuses.{Counts, CountsAll, ErrUntold, IfInput, IfSecond};
+ghost use Rattle.subcommands.specs.Statuses.{Ends, EndsAll, IfInput, IfSecond};
+ghost use Rattle.subcommands.specs.Statuses.Use.{Unused, Used};
 ghost use Rattle.commands.specs.Statuses.{HasFailed, IsLeftOpen, IsRefused};
 
 use crate::engine_lifting::lift_counterexample;
@@ -146,13 +147,9 @@ fn obey<A: Source, B: Source, T: Source, O: Sink, E: Sink, W: Watch>(
     ensures refused { IfErr result (IfInput (RefusesTask order.now.task (A.to_come first.old))) }
     ensures refused_second { IfErr result
         (IfSecond (RefusesSecond order.now.task (A.to_come first.old) (B.to_come second.old))) }
-    ensures unwritten { IfErr result (IfInput (λ _. out.new ≡ out.old)) }
-    ensures unwritten_second { IfErr result (IfSecond (λ _. out.new ≡ out.old)) }
-    ensures untold { ErrUntold result (err.new ≡ err.old) }
-    ensures counted { CountsAll result (A.failures first.old) (A.failures first.new)
-        (B.failures second.old) (B.failures second.new) (T.failures third.old)
-        (T.failures third.new) (O.failures out.old) (O.failures out.new) (E.failures err.old)
-        (E.failures err.new) }
+    ensures ends { EndsAll result (Used A.failures first.old first.new)
+        (Used B.failures second.old second.new) (Used T.failures third.old third.new)
+        (Used O.failures out.old out.new) (Used E.failures err.old err.new) }
     ensures quiet { is_quiet order.now.named order.now.task ≡ true → err.new ≡ err.old }
     ensures one_file { has_one_file order.now.task ≡ true → second.new ≡ second.old }
     ensures no_third { has_three_files order.now.task ≡ false → third.new ≡ third.old }
@@ -189,13 +186,9 @@ fn obey_on_certificate<A: Source, B: Source, T: Source, O: Sink, E: Sink, W: Wat
     ensures refused_second { IfErr result
         (IfSecond (RefusesSecond (task_is.Certificate task) (A.to_come first.old)
         (B.to_come second.old))) }
-    ensures unwritten { IfErr result (IfInput (λ _. out.new ≡ out.old)) }
-    ensures unwritten_second { IfErr result (IfSecond (λ _. out.new ≡ out.old)) }
-    ensures untold { ErrUntold result (err.new ≡ err.old) }
-    ensures counted { CountsAll result (A.failures first.old) (A.failures first.new)
-        (B.failures second.old) (B.failures second.new) (T.failures third.old)
-        (T.failures third.new) (O.failures out.old) (O.failures out.new) (E.failures err.old)
-        (E.failures err.new) }
+    ensures ends { EndsAll result (Used A.failures first.old first.new)
+        (Used B.failures second.old second.new) (Used T.failures third.old third.new)
+        (Used O.failures out.old out.new) (Used E.failures err.old err.new) }
     ensures quiet { is_quiet order.now.named (task_is.Certificate task) ≡ true → err.new ≡ err.old }
     ensures no_third { has_three_files (task_is.Certificate task) ≡ false → third.new ≡ third.old }
 {
@@ -234,9 +227,8 @@ fn obey_on_text<A: Source, O: Sink, W: Watch>(
         (A.to_come first.old) second third (O.written out.old) (O.written out.new) told told) }
     ensures refused { IfErr result
         (IfInput (RefusesTask (task_is.Text task) (A.to_come first.old))) }
-    ensures unwritten { IfErr result (IfInput (λ _. out.new ≡ out.old)) }
-    ensures counted { (s e : ℕ) → Counts result (A.failures first.old) (A.failures first.new) s s
-        (O.failures out.old) (O.failures out.new) e e }
+    ensures ends { Ends result (Used A.failures first.old first.new) Unused
+        (Used O.failures out.old out.new) Unused }
 {
     match task {
         TextTask::Lower => lower_model(alloc, order.form, first, out, watch),
@@ -262,11 +254,9 @@ fn obey_on_model<A: Source, B: Source, O: Sink, E: Sink, W: Watch>(
         (E.written err.old) (E.written err.new)) }
     ensures refused { IfErr result
         (IfInput (RefusesTask (task_is.Model task) (A.to_come first.old))) }
-    ensures unwritten { IfErr result (IfInput (λ _. out.new ≡ out.old)) }
-    ensures untold { ErrUntold result (err.new ≡ err.old) }
-    ensures counted { Counts result (A.failures first.old) (A.failures first.new)
-        (B.failures second.old) (B.failures second.new) (O.failures out.old) (O.failures out.new)
-        (E.failures err.old) (E.failures err.new) }
+    ensures ends { Ends result (Used A.failures first.old first.new)
+        (Used B.failures second.old second.new) (Used O.failures out.old out.new)
+        (Used E.failures err.old err.new) }
     ensures quiet { is_quiet order.now.named (task_is.Model task) ≡ true → err.new ≡ err.old }
     ensures one_file { has_one_file (task_is.Model task) ≡ true → second.new ≡ second.old }
 {
@@ -292,10 +282,8 @@ fn do_on_model<B: Source, O: Sink, E: Sink, W: Watch>(
         (E.written err.old) (E.written err.new)) }
     ensures refused { (known : Option (List ℕ)) → IsModelOf known model.now
         → IfErr result (IfInput (RefusesTask (task_is.Model task) known)) }
-    ensures unwritten { IfErr result (IfInput (λ _. out.new ≡ out.old)) }
-    ensures untold { ErrUntold result (err.new ≡ err.old) }
-    ensures counted { (f : ℕ) → Counts result f f (B.failures second.old) (B.failures second.new)
-        (O.failures out.old) (O.failures out.new) (E.failures err.old) (E.failures err.new) }
+    ensures ends { Ends result Unused (Used B.failures second.old second.new)
+        (Used O.failures out.old out.new) (Used E.failures err.old err.new) }
     ensures quiet { is_quiet order.now.named (task_is.Model task) ≡ true → err.new ≡ err.old }
     ensures one_file { has_one_file (task_is.Model task) ≡ true → second.new ≡ second.old }
 {
@@ -334,11 +322,9 @@ fn obey_on_circuit<A: Source, B: Source, O: Sink, E: Sink>(
         (O.written out.new) (E.written err.old) (E.written err.new)) }
     ensures refused { IfErr result
         (IfInput (RefusesTask (task_is.Circuit task) (A.to_come first.old))) }
-    ensures unwritten { IfErr result (IfInput (λ _. out.new ≡ out.old)) }
-    ensures untold { ErrUntold result (err.new ≡ err.old) }
-    ensures counted { Counts result (A.failures first.old) (A.failures first.new)
-        (B.failures second.old) (B.failures second.new) (O.failures out.old) (O.failures out.new)
-        (E.failures err.old) (E.failures err.new) }
+    ensures ends { Ends result (Used A.failures first.old first.new)
+        (Used B.failures second.old second.new) (Used O.failures out.old out.new)
+        (Used E.failures err.old err.new) }
     ensures quiet { is_quiet order.now.named (task_is.Circuit task) ≡ true → err.new ≡ err.old }
     ensures one_file { has_one_file (task_is.Circuit task) ≡ true → second.new ≡ second.old }
 {
@@ -363,10 +349,8 @@ fn do_on_circuit<B: Source, O: Sink, E: Sink>(
         (E.written err.old) (E.written err.new)) }
     ensures refused { (known : Option (List ℕ)) → IsCircuitText known circuit.now
         → IfErr result (IfInput (RefusesTask (task_is.Circuit task) known)) }
-    ensures unwritten { IfErr result (IfInput (λ _. out.new ≡ out.old)) }
-    ensures untold { ErrUntold result (err.new ≡ err.old) }
-    ensures counted { (f : ℕ) → Counts result f f (B.failures second.old) (B.failures second.new)
-        (O.failures out.old) (O.failures out.new) (E.failures err.old) (E.failures err.new) }
+    ensures ends { Ends result Unused (Used B.failures second.old second.new)
+        (Used O.failures out.old out.new) (Used E.failures err.old err.new) }
     ensures quiet { is_quiet order.now.named (task_is.Circuit task) ≡ true → err.new ≡ err.old }
     ensures one_file { has_one_file (task_is.Circuit task) ≡ true → second.new ≡ second.old }
 {

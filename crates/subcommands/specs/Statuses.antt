@@ -1,5 +1,5 @@
 -- What is told of a task that is not done, with which exit status, and which failures are counted.
-use Rattle.std.specs.Prelude.{◌≡◌, ℕ, List, Option, Result, Ok, Err, ◌⊎◌, codes}
+use Rattle.std.specs.Prelude.{◌≡◌, ℕ, List, Option, Result, Ok, Err, IfErr, ◌⊎◌, codes}
 use Rattle.std.specs.Io.KnownBytes.{Appends}
 use Rattle.base.specs.Device.{HasRisen}
 use Rattle.base.specs.declared.reasons.Reason.{Reason}
@@ -45,6 +45,44 @@ IfInput P _ = Unit {0}
 abbrev pub IfSecond : (Fault → Type 0) → Refusal → Type 0
 IfSecond P (refusal.Second f) = P f
 IfSecond P _ = Unit {0}
+
+-- a file or a stream of a command: one that it does not use; or one that it does, with the count of its failures, as it was and as it is
+pub data Use : Type 1 where
+  Unused : Use
+  Used : {S : Type 0} → (S → ℕ) → S → S → Use
+
+-- what is so of the counts before and after; where it is not used, of every count
+abbrev pub OverCounts : Use → (ℕ → ℕ → Type 0) → Type 0
+OverCounts Unused P = (n : ℕ) → P n n
+OverCounts (Used failures old new) P = P (failures old) (failures new)
+
+-- what is so of that it is as it was, where it is used
+abbrev pub IfUsed : Use → (Type 0 → Type 0) → Type 0
+IfUsed Unused P = Unit {0}
+IfUsed (Used failures old new) P = P (new ≡ old)
+
+-- the failures of a command that uses the first file, the second, standard output and standard error so
+abbrev pub CountsUses : {T : Type 0} → Result T Refusal → Use → Use → Use → Use → Type 0
+CountsUses r first second out err = OverCounts first (λ f f'. OverCounts second (λ s s'. OverCounts out (λ o o'. OverCounts err (Counts r f f' s s' o o'))))
+
+-- how a command ends that uses them so: the failure that is told is counted, and no other; nothing is written of an input that is refused; and nothing is told before a refusal, but where standard error failed
+pub record Ends {T : Type 0} (r : Result T Refusal) (first second out err : Use) : Type 0 where
+  pub counted : CountsUses r first second out err
+  pub unwritten : IfUsed out (λ unchanged. IfErr r (IfInput (λ _. unchanged)))
+  pub untold : IfUsed err (ErrUntold r)
+
+-- the same of one that refuses no input
+pub record EndsUnrefused {T : Type 0} (r : Result T Refusal) (first second out err : Use) : Type 0 where
+  pub counted : CountsUses r first second out err
+  pub no_input : IsOfNoInput r
+  pub untold : IfUsed err (ErrUntold r)
+
+-- the same of any command, with the third file behind the second: nothing is written of a second input that is refused, either
+pub record EndsAll {T : Type 0} (r : Result T Refusal) (first second third out err : Use) : Type 0 where
+  pub counted : OverCounts first (λ f f'. OverCounts second (λ s s'. OverCounts third (λ t t'. OverCounts out (λ o o'. OverCounts err (CountsAll r f f' s s' t t' o o')))))
+  pub unwritten : IfUsed out (λ unchanged. IfErr r (IfInput (λ _. unchanged)))
+  pub unwritten_second : IfUsed out (λ unchanged. IfErr r (IfSecond (λ _. unchanged)))
+  pub untold : IfUsed err (ErrUntold r)
 
 -- what was told of the fault of a file, and the status: its line and its own, or `no memory` where there was none for the line
 abbrev pub TellsFault : List ℕ → Fault → ℕ → Option (List ℕ) → Option (List ℕ) → Type 0

@@ -11,7 +11,8 @@ ghost use Rattle.invocation.specs.declared.tasks.Given.TheVariants as given_is;
 ghost use Rattle.subcommands.specs.Certificates.{CertifiesWith, GivesItsCircuit, IsGivenNumbering, IsRead, IsSoDerived, WritesOwed, given_said, read_said, verdict_line};
 ghost use Rattle.btor2text.specs.Spelling.{IsModelOf};
 ghost use Rattle.subcommands.specs.Refusals.{IsFaultyCertificate, IsNoCircuit, IsNotCertifiable, IsNotGiven, IsNotLowered};
-ghost use Rattle.subcommands.specs.Statuses.{Counts, CountsAll, ErrUntold, IfInput, IfSecond, IsOfNoInput};
+ghost use Rattle.subcommands.specs.Statuses.{Ends, EndsAll, EndsUnrefused, IfInput, IfSecond};
+ghost use Rattle.subcommands.specs.Statuses.Use.{Unused, Used};
 ghost use Rattle.subcommands.specs.Subjects.{bad_said, holds_said, where_named};
 
 use crate::answers::Answer;
@@ -36,7 +37,7 @@ fn lower_read<W: Watch>(alloc: Global, model: &Model, watch: &mut W) -> Result<C
     ensures lowers { IfOk result (Lowers model.now) }
     ensures refused { (known : Option (List ℕ)) → IsModelOf known model.now
         → IfErr result (IfInput (IsNotLowered known)) }
-    ensures counted { (f s o e : ℕ) → Counts result f f s s o o e e }
+    ensures ends { Ends result Unused Unused Unused Unused }
 {
     // a model's items are well-formed
     let _ = model.items();
@@ -72,8 +73,7 @@ fn lower_first<A: Source, W: Watch>(
 ) -> Result<Read, Refusal>
     ensures read { IfOk result (IsRead given_is.Model (A.to_come first.old)) }
     ensures refused { IfErr result (IfInput (IsNotLowered (A.to_come first.old))) }
-    ensures counted { (s o e : ℕ)
-        → Counts result (A.failures first.old) (A.failures first.new) s s o o e e }
+    ensures ends { Ends result (Used A.failures first.old first.new) Unused Unused Unused }
 {
     let model = read_model(alloc, first)?;
     let circuit = lower_read(alloc, &model, watch)?;
@@ -88,8 +88,7 @@ fn lower_first<A: Source, W: Watch>(
 fn read_first<A: Source>(alloc: Global, first: &mut A) -> Result<Read, Refusal>
     ensures read { IfOk result (IsRead given_is.Circuit (A.to_come first.old)) }
     ensures refused { IfErr result (IfInput (IsNoCircuit (A.to_come first.old))) }
-    ensures counted { (s o e : ℕ)
-        → Counts result (A.failures first.old) (A.failures first.new) s s o o e e }
+    ensures ends { Ends result (Used A.failures first.old first.new) Unused Unused Unused }
 {
     match read_numbered(alloc, first) {
         Ok(numbered) => {
@@ -114,8 +113,7 @@ fn read_given<A: Source, W: Watch>(
 ) -> Result<Read, Refusal>
     ensures read { IfOk result (IsRead given (A.to_come first.old)) }
     ensures refused { IfErr result (IfInput (IsNotGiven given (A.to_come first.old))) }
-    ensures counted { (s o e : ℕ)
-        → Counts result (A.failures first.old) (A.failures first.new) s s o o e e }
+    ensures ends { Ends result (Used A.failures first.old first.new) Unused Unused Unused }
 {
     match given {
         Given::Model => lower_first(alloc, first, watch),
@@ -128,9 +126,7 @@ fn write_owed<O: Sink>(formula: &Formula, out: &mut O) -> Result<Answer, Refusal
     ensures written { OnOk result (Appends (O.written out.old) (O.written out.new)
         (formula_text formula.now)) }
     ensures answer { IfOk result (λ answer. answer ≡ Answer.Done) }
-    ensures no_input { IsOfNoInput result }
-    ensures counted { (f s e : ℕ) → Counts result f f s s (O.failures out.old)
-        (O.failures out.new) e e }
+    ensures ends { EndsUnrefused result Unused Unused (Used O.failures out.old out.new) Unused }
 {
     match write_formula(formula, out) {
         Ok(()) => Ok(Answer::Done),
@@ -159,10 +155,8 @@ fn write_owed_over<B: Source, O: Sink>(
     ensures second { (g : Given) (known : Option (List ℕ)) → GivesItsCircuit g known circuit.now
         → IsGivenNumbering g known circuit.now numbering.now
         → IfErr result (IfSecond (IsFaultyCertificate by g choice known (B.to_come second.old))) }
-    ensures unwritten { IfErr result (IfInput (λ _. out.new ≡ out.old)) }
-    ensures unwritten_second { IfErr result (IfSecond (λ _. out.new ≡ out.old)) }
-    ensures counted { (f t e : ℕ) → CountsAll result f f (B.failures second.old)
-        (B.failures second.new) t t (O.failures out.old) (O.failures out.new) e e }
+    ensures ends { EndsAll result Unused (Used B.failures second.old second.new) Unused
+        (Used O.failures out.old out.new) Unused }
 {
     let claim = certified_claim(circuit, by, choice)?;
     let formula = owed(alloc, by, circuit, numbering, claim, second)?;
@@ -191,11 +185,8 @@ pub fn write_obligation<A: Source, B: Source, O: Sink, W: Watch>(
     ensures second { IfErr result
         (IfSecond (IsFaultyCertificate by given choice (A.to_come first.old)
         (B.to_come second.old))) }
-    ensures unwritten { IfErr result (IfInput (λ _. out.new ≡ out.old)) }
-    ensures unwritten_second { IfErr result (IfSecond (λ _. out.new ≡ out.old)) }
-    ensures counted { (t e : ℕ) → CountsAll result (A.failures first.old) (A.failures first.new)
-        (B.failures second.old) (B.failures second.new) t t (O.failures out.old)
-        (O.failures out.new) e e }
+    ensures ends { EndsAll result (Used A.failures first.old first.new)
+        (Used B.failures second.old second.new) Unused (Used O.failures out.old out.new) Unused }
 {
     let read = read_given(alloc, given, first, watch)?;
     write_owed_over(
@@ -245,9 +236,7 @@ fn write_verdict<O: Sink>(
     ensures written { OnOk result (Appends (O.written out.old) (O.written out.new)
         (verdict_line claim judgement.now)) }
     ensures so { IfOk result (λ answer. IsSoDerived answer judgement.now) }
-    ensures no_input { IsOfNoInput result }
-    ensures counted { (f s e : ℕ) → Counts result f f s s (O.failures out.old)
-        (O.failures out.new) e e }
+    ensures ends { EndsUnrefused result Unused Unused (Used O.failures out.old out.new) Unused }
 {
     let line = verdict_line(alloc, claim, judgement)?;
     write_result(out, line.as_bytes())?;
@@ -290,10 +279,8 @@ fn tell_verdict<O: Sink, E: Sink>(
         (where_named named (holds_said judgement.now (bad_said subject.entry claim)))) }
     ensures quiet { named ≡ false → err.new ≡ err.old }
     ensures so { IfOk result (λ answer. IsSoDerived answer judgement.now) }
-    ensures no_input { IsOfNoInput result }
-    ensures untold { ErrUntold result (err.new ≡ err.old) }
-    ensures counted { (f s : ℕ) → Counts result f f s s (O.failures out.old) (O.failures out.new)
-        (E.failures err.old) (E.failures err.new) }
+    ensures ends { EndsUnrefused result Unused Unused (Used O.failures out.old out.new)
+        (Used E.failures err.old err.new) }
 {
     let answer = write_verdict(alloc, claim, judgement, out)?;
     match tell_what_holds(named, subject, claim, judgement, err) {
@@ -329,13 +316,10 @@ fn check_over<B: Source, T: Source, O: Sink, E: Sink>(
     ensures second { (g : Given) (known : Option (List ℕ)) → GivesItsCircuit g known circuit.now
         → IsGivenNumbering g known circuit.now numbering.now
         → IfErr result (IfSecond (IsFaultyCertificate by g choice known (B.to_come second.old))) }
-    ensures unwritten { IfErr result (IfInput (λ _. out.new ≡ out.old)) }
-    ensures unwritten_second { IfErr result (IfSecond (λ _. out.new ≡ out.old)) }
-    ensures untold { ErrUntold result (err.new ≡ err.old) }
+    ensures ends { EndsAll result Unused (Used B.failures second.old second.new)
+        (Used T.failures third.old third.new) (Used O.failures out.old out.new)
+        (Used E.failures err.old err.new) }
     ensures quiet { named ≡ false → err.new ≡ err.old }
-    ensures counted { (f : ℕ) → CountsAll result f f (B.failures second.old) (B.failures second.new)
-        (T.failures third.old) (T.failures third.new) (O.failures out.old) (O.failures out.new)
-        (E.failures err.old) (E.failures err.new) }
 {
     certified_never_rises();
     blast::laws::bad_properties_rise_alike();
@@ -366,14 +350,10 @@ pub fn check_proof<A: Source, B: Source, T: Source, O: Sink, E: Sink, W: Watch>(
     ensures second { IfErr result
         (IfSecond (IsFaultyCertificate by given choice (A.to_come first.old)
         (B.to_come second.old))) }
-    ensures unwritten { IfErr result (IfInput (λ _. out.new ≡ out.old)) }
-    ensures unwritten_second { IfErr result (IfSecond (λ _. out.new ≡ out.old)) }
-    ensures untold { ErrUntold result (err.new ≡ err.old) }
+    ensures ends { EndsAll result (Used A.failures first.old first.new)
+        (Used B.failures second.old second.new) (Used T.failures third.old third.new)
+        (Used O.failures out.old out.new) (Used E.failures err.old err.new) }
     ensures quiet { named ≡ false → err.new ≡ err.old }
-    ensures counted { CountsAll result (A.failures first.old) (A.failures first.new)
-        (B.failures second.old) (B.failures second.new) (T.failures third.old)
-        (T.failures third.new) (O.failures out.old) (O.failures out.new) (E.failures err.old)
-        (E.failures err.new) }
 {
     let read = read_given(alloc, given, first, watch)?;
     let subject = read.subject();

@@ -7,7 +7,8 @@ ghost use Rattle.aigertext.specs.Binary.{circuit_text};
 ghost use Rattle.aigertext.specs.Spelling.{IsCircuitText};
 ghost use Rattle.subcommands.specs.Done.{IsJudgedOver, IsJudgedOverByName, Judged, Rewrites};
 ghost use Rattle.subcommands.specs.Refusals.{IsNoCircuit};
-ghost use Rattle.subcommands.specs.Statuses.{Counts, ErrUntold, IfInput, IsOfNoInput};
+ghost use Rattle.subcommands.specs.Statuses.{Ends, EndsUnrefused, IfInput};
+ghost use Rattle.subcommands.specs.Statuses.Use.{Unused, Used};
 
 use crate::answers::Answer;
 use crate::judgements::{write_judgement, write_judgement_by_name};
@@ -25,8 +26,7 @@ use witness::judge_bits;
 pub fn read_circuit<A: Source>(alloc: Global, first: &mut A) -> Result<Circuit, Refusal>
     ensures read { IfOk result (IsCircuitText (A.to_come first.old)) }
     ensures refused { IfErr result (IfInput (IsNoCircuit (A.to_come first.old))) }
-    ensures counted { (s o e : ℕ)
-        → Counts result (A.failures first.old) (A.failures first.new) s s o o e e }
+    ensures ends { Ends result (Used A.failures first.old first.new) Unused Unused Unused }
 {
     match read(alloc, first) {
         Ok(circuit) => Ok(circuit),
@@ -43,9 +43,7 @@ pub fn convert_circuit<O: Sink>(
     ensures done { (known : Option (List ℕ)) → IsCircuitText known circuit.now
         → OnOk result (Rewrites known (O.written out.old) (O.written out.new) form) }
     ensures answer { IfOk result (λ answer. answer ≡ Answer.Done) }
-    ensures no_input { IsOfNoInput result }
-    ensures counted { (f s e : ℕ) → Counts result f f s s (O.failures out.old)
-        (O.failures out.new) e e }
+    ensures ends { EndsUnrefused result Unused Unused (Used O.failures out.old out.new) Unused }
 {
     // the lists of a circuit are one
     let _ = circuit.inputs();
@@ -57,9 +55,7 @@ pub fn write_circuit<O: Sink>(circuit: &Circuit, form: Form, out: &mut O) -> Res
     ensures done { OnOk result (Appends (O.written out.old) (O.written out.new)
         (circuit_text form circuit.now)) }
     ensures answer { IfOk result (λ answer. answer ≡ Answer.Done) }
-    ensures no_input { IsOfNoInput result }
-    ensures counted { (f s e : ℕ) → Counts result f f s s (O.failures out.old)
-        (O.failures out.new) e e }
+    ensures ends { EndsUnrefused result Unused Unused (Used O.failures out.old out.new) Unused }
 {
     match write(circuit, form, out) {
         Ok(()) => Ok(Answer::Done),
@@ -77,9 +73,8 @@ pub fn check_circuit<B: Source, O: Sink>(
     ensures done { (known : Option (List ℕ)) → IsCircuitText known circuit.now
         → IfOk result (Judged (IsJudgedOver known (B.to_come second.old) (O.written out.old)
         (O.written out.new))) }
-    ensures no_input { IsOfNoInput result }
-    ensures counted { (f e : ℕ) → Counts result f f (B.failures second.old) (B.failures second.new)
-        (O.failures out.old) (O.failures out.new) e e }
+    ensures ends { EndsUnrefused result Unused (Used B.failures second.old second.new)
+        (Used O.failures out.old out.new) Unused }
 {
     // the lists of a circuit are one
     let _ = circuit.inputs();
@@ -102,10 +97,8 @@ pub fn check_circuit_by_name<B: Source, O: Sink, E: Sink>(
     ensures done { (known : Option (List ℕ)) → IsCircuitText known circuit.now
         → IfOk result (Judged (IsJudgedOverByName known (B.to_come second.old) (O.written out.old)
         (O.written out.new) (E.written err.old) (E.written err.new))) }
-    ensures no_input { IsOfNoInput result }
-    ensures untold { ErrUntold result (err.new ≡ err.old) }
-    ensures counted { (f : ℕ) → Counts result f f (B.failures second.old) (B.failures second.new)
-        (O.failures out.old) (O.failures out.new) (E.failures err.old) (E.failures err.new) }
+    ensures ends { EndsUnrefused result Unused (Used B.failures second.old second.new)
+        (Used O.failures out.old out.new) (Used E.failures err.old err.new) }
 {
     // the lists of a circuit are one
     let _ = circuit.inputs();

@@ -6,7 +6,8 @@ ghost use Rattle.btor2text.specs.Spelling.{IsModelOf};
 ghost use Rattle.aigertext.specs.Spelling.{IsCircuitText};
 ghost use Rattle.subcommands.specs.Done.{ConvertsForEngines, LowersForEngines, WritesEngineForm};
 ghost use Rattle.subcommands.specs.Refusals.{IsNotForEngines, IsWithoutForm};
-ghost use Rattle.subcommands.specs.Statuses.{Counts, IfInput};
+ghost use Rattle.subcommands.specs.Statuses.{Ends, IfInput};
+ghost use Rattle.subcommands.specs.Statuses.Use.{Unused, Used};
 
 use crate::answers::Answer;
 use crate::circuits::{read_circuit, write_circuit};
@@ -32,9 +33,7 @@ pub(crate) fn write_engine_form<O: Sink>(
         (O.written out.new) form) }
     ensures answer { IfOk result (λ answer. answer ≡ Answer.Done) }
     ensures refused { IfErr result (IfInput (IsWithoutForm circuit.now choice)) }
-    ensures unwritten { IfErr result (IfInput (λ _. out.new ≡ out.old)) }
-    ensures counted { (f s e : ℕ) → Counts result f f s s (O.failures out.old)
-        (O.failures out.new) e e }
+    ensures ends { Ends result Unused Unused (Used O.failures out.old out.new) Unused }
 {
     let plain = engine_form(alloc, circuit, choice)?;
     write_circuit(&plain, form, out)
@@ -54,9 +53,7 @@ pub fn lower_for_engines<O: Sink, W: Watch>(
     ensures answer { IfOk result (λ answer. answer ≡ Answer.Done) }
     ensures refused { (known : Option (List ℕ)) → IsModelOf known model.now
         → IfErr result (IfInput (IsNotForEngines given_is.Model choice known)) }
-    ensures unwritten { IfErr result (IfInput (λ _. out.new ≡ out.old)) }
-    ensures counted { (f s e : ℕ) → Counts result f f s s (O.failures out.old)
-        (O.failures out.new) e e }
+    ensures ends { Ends result Unused Unused (Used O.failures out.old out.new) Unused }
 {
     // a model's items are well-formed
     let _ = model.items();
@@ -80,9 +77,7 @@ pub fn convert_for_engines<O: Sink>(
     ensures answer { IfOk result (λ answer. answer ≡ Answer.Done) }
     ensures refused { (known : Option (List ℕ)) → IsCircuitText known circuit.now
         → IfErr result (IfInput (IsNotForEngines given_is.Circuit choice known)) }
-    ensures unwritten { IfErr result (IfInput (λ _. out.new ≡ out.old)) }
-    ensures counted { (f s e : ℕ) → Counts result f f s s (O.failures out.old)
-        (O.failures out.new) e e }
+    ensures ends { Ends result Unused Unused (Used O.failures out.old out.new) Unused }
 {
     // the lists of a circuit are one
     let _ = circuit.inputs();

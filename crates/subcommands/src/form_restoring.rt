@@ -1,12 +1,13 @@
 //! The command that restores witnesses of engine forms.
 
-ghost use Rattle.std.specs.Prelude.{◌≡◌, ℕ, List, Option, IfOk, IfErr};
+ghost use Rattle.std.specs.Prelude.{ℕ, List, Option, IfOk, IfErr};
 ghost use Rattle.engine_form.specs.EngineForm.{IsEngineFormOf};
 ghost use Rattle.invocation.specs.declared.tasks.Given.TheVariants as given_is;
 ghost use Rattle.aigertext.specs.Spelling.{IsCircuitText};
 ghost use Rattle.subcommands.specs.Done.{IsFormRestored, Judged};
 ghost use Rattle.subcommands.specs.Refusals.{IsNotForEngines};
-ghost use Rattle.subcommands.specs.Statuses.{Counts, IfInput, IsOfNoInput, ErrUntold};
+ghost use Rattle.subcommands.specs.Statuses.{Ends, EndsUnrefused, IfInput};
+ghost use Rattle.subcommands.specs.Statuses.Use.{Unused, Used};
 
 use crate::answers::Answer;
 use crate::circuits::read_circuit;
@@ -36,10 +37,8 @@ pub fn restore_witness<B: Source, O: Sink, E: Sink>(
         (O.written out.old) (O.written out.new) (E.written err.old) (E.written err.new))) }
     ensures refused { (known : Option (List ℕ)) → IsCircuitText known circuit.now
         → IfErr result (IfInput (IsNotForEngines given_is.Circuit choice known)) }
-    ensures unwritten { IfErr result (IfInput (λ _. out.new ≡ out.old)) }
-    ensures untold { ErrUntold result (err.new ≡ err.old) }
-    ensures counted { (f : ℕ) → Counts result f f (B.failures second.old) (B.failures second.new)
-        (O.failures out.old) (O.failures out.new) (E.failures err.old) (E.failures err.new) }
+    ensures ends { Ends result Unused (Used B.failures second.old second.new)
+        (Used O.failures out.old out.new) (Used E.failures err.old err.new) }
 {
     // the lists of a circuit are one
     let _ = circuit.inputs();
@@ -61,10 +60,8 @@ fn restore_through_form<B: Source, O: Sink, E: Sink>(
     ensures done { (known : Option (List ℕ)) → IsCircuitText known circuit.now
         → IfOk result (Judged (IsFormRestored choice known (B.to_come second.old)
         (O.written out.old) (O.written out.new) (E.written err.old) (E.written err.new))) }
-    ensures no_input { IsOfNoInput result }
-    ensures untold { ErrUntold result (err.new ≡ err.old) }
-    ensures counted { (f : ℕ) → Counts result f f (B.failures second.old) (B.failures second.new)
-        (O.failures out.old) (O.failures out.new) (E.failures err.old) (E.failures err.new) }
+    ensures ends { EndsUnrefused result Unused (Used B.failures second.old second.new)
+        (Used O.failures out.old out.new) (Used E.failures err.old err.new) }
 {
     let told = restore_form(alloc, circuit, form, choice, second, out);
     tell_restored(alloc, told, err)

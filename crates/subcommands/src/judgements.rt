@@ -1,10 +1,11 @@
 //! Lines of judgements.
 
-ghost use Rattle.std.specs.Prelude.{◌≡◌, ◌++◌, ℕ, false, IfOk, OnOk};
+ghost use Rattle.std.specs.Prelude.{◌≡◌, ◌++◌, IfOk, OnOk};
 ghost use Rattle.std.specs.Io.KnownBytes.{Appends};
 ghost use Rattle.std.specs.String.{string_bytes};
 ghost use Rattle.subcommands.specs.Done.{IsSo, judgement_line};
-ghost use Rattle.subcommands.specs.Statuses.{Counts, ErrUntold, IsOfNoInput};
+ghost use Rattle.subcommands.specs.Statuses.{EndsUnrefused};
+ghost use Rattle.subcommands.specs.Statuses.Use.{Unused, Used};
 ghost use Rattle.subcommands.specs.Subjects.{bad_said, said_by_name, subject_said, where_named};
 
 use crate::answers::Answer;
@@ -32,9 +33,7 @@ pub fn write_judgement<O: Sink>(
     ensures written { OnOk result (Appends (O.written out.old) (O.written out.new)
         (judgement_line judgement.now)) }
     ensures so { IfOk result (λ answer. IsSo answer judgement.now) }
-    ensures no_input { IsOfNoInput result }
-    ensures counted { (f s e : ℕ) → Counts result f f s s (O.failures out.old)
-        (O.failures out.new) e e }
+    ensures ends { EndsUnrefused result Unused Unused (Used O.failures out.old out.new) Unused }
 {
     let line = judgement_line(alloc, judgement)?;
     write_result(out, line.as_bytes())?;
@@ -57,10 +56,8 @@ pub fn write_judgement_by_name<O: Sink, E: Sink>(
         (said_by_name (subject_said subject.entry) (bad_said subject.entry) firsts.now
         judgement.now)) }
     ensures so { IfOk result (λ answer. IsSo answer judgement.now) }
-    ensures no_input { IsOfNoInput result }
-    ensures untold { ErrUntold result (err.new ≡ err.old) }
-    ensures counted { (f s : ℕ) → Counts result f f s s (O.failures out.old) (O.failures out.new)
-        (E.failures err.old) (E.failures err.new) }
+    ensures ends { EndsUnrefused result Unused Unused (Used O.failures out.old out.new)
+        (Used E.failures err.old err.new) }
 {
     let answer = write_judgement(alloc, judgement, out)?;
     match tell_by_name(subject, judgement, firsts, err) {
@@ -78,10 +75,7 @@ pub fn tell_line<E: Sink>(
     ensures written { OnOk result (Appends (E.written err.old) (E.written err.new)
         (judgement_line judgement.now)) }
     ensures so { IfOk result (λ answer. IsSo answer judgement.now) }
-    ensures no_input { IsOfNoInput result }
-    ensures untold { ErrUntold result (err.new ≡ err.old) }
-    ensures counted { (f s o : ℕ) → Counts result f f s s o o (E.failures err.old)
-        (E.failures err.new) }
+    ensures ends { EndsUnrefused result Unused Unused Unused (Used E.failures err.old err.new) }
 {
     let line = judgement_line(alloc, judgement)?;
     match write_all(err, line.as_bytes()) {
@@ -105,10 +99,7 @@ pub fn tell_judgement<E: Sink>(
         (said_by_name (subject_said subject.entry) (bad_said subject.entry) firsts.now
         judgement.now))) }
     ensures so { IfOk result (λ answer. IsSo answer judgement.now) }
-    ensures no_input { IsOfNoInput result }
-    ensures untold { ErrUntold result (err.new ≡ err.old) }
-    ensures counted { (f s o : ℕ) → Counts result f f s s o o (E.failures err.old)
-        (E.failures err.new) }
+    ensures ends { EndsUnrefused result Unused Unused Unused (Used E.failures err.old err.new) }
 {
     let answer = tell_line(alloc, judgement, err)?;
     match tell_where_named(named, subject, judgement, firsts, err) {

@@ -1,6 +1,6 @@
 //! The commands on models.
 
-ghost use Rattle.std.specs.Prelude.{◌≡◌, ◌++◌, ℕ, List, Option, IfOk, IfErr, OnOk};
+ghost use Rattle.std.specs.Prelude.{◌≡◌, ℕ, List, Option, IfOk, IfErr, OnOk};
 ghost use Rattle.std.specs.Io.KnownBytes.{Appends};
 ghost use Rattle.std.specs.String.{string_bytes};
 ghost use Rattle.btor2text.specs.Writing.{written};
@@ -8,7 +8,8 @@ ghost use Rattle.blast.specs.Conversion.{Converts};
 ghost use Rattle.btor2text.specs.Spelling.{IsModelOf};
 ghost use Rattle.subcommands.specs.Done.{IsJudged, IsJudgedByName, Judged, ShowsModel, TellsCost, counts_line, cost_lines};
 ghost use Rattle.subcommands.specs.Refusals.{IsNoModel, IsNotJudged, IsNotLowered};
-ghost use Rattle.subcommands.specs.Statuses.{Counts, ErrUntold, IfInput, IsOfNoInput};
+ghost use Rattle.subcommands.specs.Statuses.{Ends, EndsUnrefused, IfInput};
+ghost use Rattle.subcommands.specs.Statuses.Use.{Unused, Used};
 
 use crate::answers::Answer;
 use crate::judgements::{write_judgement, write_judgement_by_name};
@@ -29,8 +30,7 @@ use witness::judge_words;
 pub fn read_model<A: Source>(alloc: Global, first: &mut A) -> Result<Model, Refusal>
     ensures read { IfOk result (IsModelOf (A.to_come first.old)) }
     ensures refused { IfErr result (IfInput (IsNoModel (A.to_come first.old))) }
-    ensures counted { (s o e : ℕ)
-        → Counts result (A.failures first.old) (A.failures first.new) s s o o e e }
+    ensures ends { Ends result (Used A.failures first.old first.new) Unused Unused Unused }
 {
     match read(alloc, first) {
         Ok(model) => Ok(model),
@@ -50,9 +50,8 @@ pub fn lower_model<A: Source, O: Sink, W: Watch>(
         (Appends (O.written out.old) (O.written out.new))) }
     ensures answer { IfOk result (λ answer. answer ≡ Answer.Done) }
     ensures refused { IfErr result (IfInput (IsNotLowered (A.to_come first.old))) }
-    ensures unwritten { IfErr result (IfInput (λ _. out.new ≡ out.old)) }
-    ensures counted { (s e : ℕ) → Counts result (A.failures first.old) (A.failures first.new) s s
-        (O.failures out.old) (O.failures out.new) e e }
+    ensures ends { Ends result (Used A.failures first.old first.new) Unused
+        (Used O.failures out.old out.new) Unused }
 {
     match convert_watched(alloc, first, out, form, watch) {
         Ok(()) => Ok(Answer::Done),
@@ -72,9 +71,8 @@ pub fn check_model<B: Source, O: Sink>(
         (O.written out.new))) }
     ensures refused { (known : Option (List ℕ)) → IsModelOf known model.now
         → IfErr result (IfInput (IsNotJudged known)) }
-    ensures unwritten { IfErr result (IfInput (λ _. out.new ≡ out.old)) }
-    ensures counted { (f e : ℕ) → Counts result f f (B.failures second.old) (B.failures second.new)
-        (O.failures out.old) (O.failures out.new) e e }
+    ensures ends { Ends result Unused (Used B.failures second.old second.new)
+        (Used O.failures out.old out.new) Unused }
 {
     judged_claims_are_reached();
     match judge_words(alloc, model, second) {
@@ -97,10 +95,8 @@ pub fn check_model_by_name<B: Source, O: Sink, E: Sink>(
         (O.written out.new) (E.written err.old) (E.written err.new))) }
     ensures refused { (known : Option (List ℕ)) → IsModelOf known model.now
         → IfErr result (IfInput (IsNotJudged known)) }
-    ensures unwritten { IfErr result (IfInput (λ _. out.new ≡ out.old)) }
-    ensures untold { ErrUntold result (err.new ≡ err.old) }
-    ensures counted { (f : ℕ) → Counts result f f (B.failures second.old) (B.failures second.new)
-        (O.failures out.old) (O.failures out.new) (E.failures err.old) (E.failures err.new) }
+    ensures ends { Ends result Unused (Used B.failures second.old second.new)
+        (Used O.failures out.old out.new) (Used E.failures err.old err.new) }
 {
     judged_claims_are_reached();
     match judge_words_with_rises(alloc, model, second) {
@@ -121,9 +117,7 @@ pub fn show<O: Sink>(alloc: Global, model: &Model, out: &mut O) -> Result<Answer
     ensures done { (known : Option (List ℕ)) → IsModelOf known model.now
         → OnOk result (ShowsModel known (O.written out.old) (O.written out.new)) }
     ensures answer { IfOk result (λ answer. answer ≡ Answer.Done) }
-    ensures no_input { IsOfNoInput result }
-    ensures counted { (f s e : ℕ) → Counts result f f s s (O.failures out.old)
-        (O.failures out.new) e e }
+    ensures ends { EndsUnrefused result Unused Unused (Used O.failures out.old out.new) Unused }
 {
     // a model's items are well-formed
     let _ = model.items();
@@ -155,9 +149,7 @@ pub fn tell_cost<O: Sink>(alloc: Global, model: &Model, out: &mut O) -> Result<A
     ensures done { (known : Option (List ℕ)) → IsModelOf known model.now
         → OnOk result (TellsCost known (O.written out.old) (O.written out.new)) }
     ensures answer { IfOk result (λ answer. answer ≡ Answer.Done) }
-    ensures no_input { IsOfNoInput result }
-    ensures counted { (f s e : ℕ) → Counts result f f s s (O.failures out.old)
-        (O.failures out.new) e e }
+    ensures ends { EndsUnrefused result Unused Unused (Used O.failures out.old out.new) Unused }
 {
     // a model's items are well-formed
     let _ = model.items();

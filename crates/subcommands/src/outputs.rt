@@ -4,7 +4,8 @@ ghost use Rattle.std.specs.Prelude.{◌≡◌, ℕ, List, Option, IfOk, IfErr, O
 ghost use Rattle.engine_form.specs.Outputs.{HasOutputsAsBads};
 ghost use Rattle.aigertext.specs.Spelling.{IsCircuitText};
 ghost use Rattle.subcommands.specs.Outputs.{ConvertsOutputs, ConvertsOutputsForEngines, HasTooManyOutputs, IsNotWithOutputs, IsNotWithOutputsForEngines};
-ghost use Rattle.subcommands.specs.Statuses.{Counts, IfInput};
+ghost use Rattle.subcommands.specs.Statuses.{Ends, IfInput};
+ghost use Rattle.subcommands.specs.Statuses.Use.{Unused, Used};
 
 use crate::answers::Answer;
 use crate::circuits::{read_circuit, write_circuit};
@@ -20,7 +21,7 @@ use std::alloc::Global;
 fn with_outputs(alloc: Global, circuit: &Circuit) -> Result<Circuit, Refusal>
     ensures made { IfOk result (HasOutputsAsBads circuit.now) }
     ensures refused { IfErr result (IfInput (HasTooManyOutputs circuit.now)) }
-    ensures counted { (f s o e : ℕ) → Counts result f f s s o o e e }
+    ensures ends { Ends result Unused Unused Unused Unused }
 {
     match outputs_as_bads(alloc, circuit) {
         Ok(made) => Ok(made),
@@ -40,9 +41,7 @@ pub fn convert_outputs<O: Sink>(
     ensures answer { IfOk result (λ answer. answer ≡ Answer.Done) }
     ensures refused { (known : Option (List ℕ)) → IsCircuitText known circuit.now
         → IfErr result (IfInput (IsNotWithOutputs known)) }
-    ensures unwritten { IfErr result (IfInput (λ _. out.new ≡ out.old)) }
-    ensures counted { (f s e : ℕ) → Counts result f f s s (O.failures out.old)
-        (O.failures out.new) e e }
+    ensures ends { Ends result Unused Unused (Used O.failures out.old out.new) Unused }
 {
     engine_form::laws::outputs_rise_as_bads();
     let made = with_outputs(alloc, circuit)?;
@@ -63,9 +62,7 @@ pub fn convert_outputs_for_engines<O: Sink>(
     ensures answer { IfOk result (λ answer. answer ≡ Answer.Done) }
     ensures refused { (known : Option (List ℕ)) → IsCircuitText known circuit.now
         → IfErr result (IfInput (IsNotWithOutputsForEngines choice known)) }
-    ensures unwritten { IfErr result (IfInput (λ _. out.new ≡ out.old)) }
-    ensures counted { (f s e : ℕ) → Counts result f f s s (O.failures out.old)
-        (O.failures out.new) e e }
+    ensures ends { Ends result Unused Unused (Used O.failures out.old out.new) Unused }
 {
     engine_form::laws::outputs_rise_as_bads();
     engine_form::laws::bad_properties_rise_alike();

@@ -1,6 +1,6 @@
 //! Which bad property a certificate is about, the formula that it owes for it, and the judgement of a proof over that.
 
-ghost use Rattle.std.specs.Prelude.{◌≡◌, ◌<◌, ℕ, List, length, None, Option, Some, IfOk, IfErr};
+ghost use Rattle.std.specs.Prelude.{◌<◌, ℕ, List, length, None, Option, Some, IfOk, IfErr};
 ghost use Rattle.aiger.specs.Circuit.{Circuit};
 ghost use Rattle.aiger.specs.Reachability.{CanRiseInCircuit};
 ghost use Rattle.witness_circuits.specs.Owing.{IsTestedFormula, IsTestedOverForm};
@@ -10,7 +10,8 @@ ghost use Rattle.invocation.specs.declared.tasks.Certificate.{Certificate};
 ghost use Rattle.subcommands.specs.Certificates.{IsCertifiedBy, IsOwedBy};
 ghost use Rattle.subcommands.specs.Claims.{IsClaim};
 ghost use Rattle.subcommands.specs.Refusals.{IsFaultyBy, IsFaultyFor, IsFaultyOverForm, IsFaultyWitness, IsUnclaimedBy, IsUnguarded, IsWithoutForm, IsWithoutFormBy};
-ghost use Rattle.subcommands.specs.Statuses.{CountsAll, IfInput, IfSecond, IsOfNoInput};
+ghost use Rattle.subcommands.specs.Statuses.{EndsAll, IfInput, IfSecond, IsOfNoInput};
+ghost use Rattle.subcommands.specs.Statuses.Use.{Unused, Used};
 
 use crate::refusals::{Claimed, Fault, Refusal};
 use crate::restoring::claim_of;
@@ -65,8 +66,8 @@ fn owed_by_invariant<B: Source>(
     ensures refused { IfErr result (IfInput (IsWithoutForm circuit.now (Some claim))) }
     ensures second { IfErr result
         (IfSecond (IsFaultyFor circuit.now claim (B.to_come second.old))) }
-    ensures counted { (f t o e : ℕ)
-        → CountsAll result f f (B.failures second.old) (B.failures second.new) t t o o e e }
+    ensures ends { EndsAll result Unused (Used B.failures second.old second.new) Unused Unused
+        Unused }
 {
     match certificates::owed_formula(alloc, circuit, claim, second) {
         Ok(formula) => Ok(formula),
@@ -87,8 +88,8 @@ fn owed_by_circuit<B: Source>(
     ensures no_input { IsOfNoInput result }
     ensures second { IfErr result
         (IfSecond (IsFaultyWitness numbering.now circuit.now claim (B.to_come second.old))) }
-    ensures counted { (f t o e : ℕ)
-        → CountsAll result f f (B.failures second.old) (B.failures second.new) t t o o e e }
+    ensures ends { EndsAll result Unused (Used B.failures second.old second.new) Unused Unused
+        Unused }
 {
     match witness_circuits::owed_formula(alloc, circuit, numbering, claim, second) {
         Ok(formula) => Ok(formula),
@@ -107,8 +108,8 @@ fn owed_by_circuit_of_form<B: Source>(
     ensures refused { IfErr result (IfInput (IsWithoutForm circuit.now (Some claim))) }
     ensures second { IfErr result
         (IfSecond (IsFaultyOverForm circuit.now claim (B.to_come second.old))) }
-    ensures counted { (f t o e : ℕ)
-        → CountsAll result f f (B.failures second.old) (B.failures second.new) t t o o e e }
+    ensures ends { EndsAll result Unused (Used B.failures second.old second.new) Unused Unused
+        Unused }
 {
     match witness_circuits::owed_formula_over_form(alloc, circuit, claim, second) {
         Ok(formula) => Ok(formula),
@@ -131,8 +132,8 @@ pub fn owed<B: Source>(
     ensures refused { IfErr result (IfInput (IsWithoutFormBy by circuit.now claim)) }
     ensures second { IfErr result
         (IfSecond (IsFaultyBy by numbering.now circuit.now claim (B.to_come second.old))) }
-    ensures counted { (f t o e : ℕ)
-        → CountsAll result f f (B.failures second.old) (B.failures second.new) t t o o e e }
+    ensures ends { EndsAll result Unused (Used B.failures second.old second.new) Unused Unused
+        Unused }
 {
     match by {
         Certificate::Invariant => owed_by_invariant(alloc, circuit, claim, second),
@@ -145,8 +146,8 @@ pub fn owed<B: Source>(
 fn proved<T: Source>(alloc: Global, formula: Formula, third: &mut T) -> Result<Judgement, Refusal>
     ensures judged { IfOk result (IsJudgedProof formula (T.to_come third.old)) }
     ensures no_input { IsOfNoInput result }
-    ensures counted { (f s o e : ℕ)
-        → CountsAll result f f s s (T.failures third.old) (T.failures third.new) o o e e }
+    ensures ends { EndsAll result Unused Unused (Used T.failures third.old third.new) Unused
+        Unused }
     ensures no_second { IfErr result (IfSecond (λ _. ⊥)) }
 {
     match judge_proof(alloc, formula, third) {
@@ -170,8 +171,8 @@ pub fn judged<B: Source, T: Source>(
     ensures refused { IfErr result (IfInput (IsWithoutFormBy by circuit.now claim)) }
     ensures second { IfErr result
         (IfSecond (IsFaultyBy by numbering.now circuit.now claim (B.to_come second.old))) }
-    ensures counted { (f o e : ℕ) → CountsAll result f f (B.failures second.old)
-        (B.failures second.new) (T.failures third.old) (T.failures third.new) o o e e }
+    ensures ends { EndsAll result Unused (Used B.failures second.old second.new)
+        (Used T.failures third.old third.new) Unused Unused }
 {
     let formula = owed(alloc, by, circuit, numbering, claim, second)?;
     proved(alloc, formula, third)

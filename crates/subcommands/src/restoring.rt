@@ -16,7 +16,8 @@ ghost use Rattle.subcommands.specs.Done.{Restores, TellsRestored, malformed_line
 ghost use Rattle.subcommands.specs.Restoring.{IsAnswerOf, IsWhole, TellsLifted, TellsVerdict};
 ghost use Rattle.subcommands.specs.Refusals.{IsNotClaimed, IsUnclaimed, IsWithoutForm};
 ghost use Rattle.subcommands.specs.declared.refusals.Claimed.TheVariants as claimed_is;
-ghost use Rattle.subcommands.specs.Statuses.{Counts, IfInput, IsOfNoInput, ErrUntold};
+ghost use Rattle.subcommands.specs.Statuses.{Counts, Ends, EndsUnrefused, ErrUntold, IfInput, IsOfNoInput};
+ghost use Rattle.subcommands.specs.Statuses.Use.{Unused, Used};
 ghost use Rattle.subcommands.specs.Subjects.{bad_said, said_by_name, subject_said, where_named};
 
 use crate::answers::Answer;
@@ -51,10 +52,7 @@ fn tell_malformed<E: Sink>(
     ensures written { OnOk result (Appends (E.written err.old) (E.written err.new)
         (malformed_line fault.now)) }
     ensures answer { IfOk result (λ answer. answer ≡ answer_is.NotAccepted) }
-    ensures no_input { IsOfNoInput result }
-    ensures untold { ErrUntold result (err.new ≡ err.old) }
-    ensures counted { (f s o : ℕ) → Counts result f f s s o o (E.failures err.old)
-        (E.failures err.new) }
+    ensures ends { EndsUnrefused result Unused Unused Unused (Used E.failures err.old err.new) }
 {
     let line = malformed_line(alloc, fault)?;
     match write_all(err, line.as_bytes()) {
@@ -91,7 +89,7 @@ pub fn has_form(circuit: &Circuit, claim: usize) -> Result<(), Refusal>
     ensures accepted { OnOk result (engine_refusal circuit.now (Some claim) ≡ None) }
     ensures there { OnOk result (claim < length circuit.now.bads) }
     ensures refused { IfErr result (IfInput (IsWithoutForm circuit.now (Some claim))) }
-    ensures counted { (f s o e : ℕ) → Counts result f f s s o o e e }
+    ensures ends { Ends result Unused Unused Unused Unused }
 {
     match why_no_form(circuit, Some(claim)) {
         Some(fault) => Err(Refusal::from(fault)),
@@ -187,10 +185,8 @@ pub fn restore_counterexample<B: Source, O: Sink, E: Sink>(
         (O.written out.new) (E.written err.old) (E.written err.new)) }
     ensures refused { (known : Option (List ℕ)) → IsCircuitText known circuit.now
         → IfErr result (IfInput (IsNotClaimed claimed_is.Found given_is.Circuit choice known)) }
-    ensures unwritten { IfErr result (IfInput (λ _. out.new ≡ out.old)) }
-    ensures untold { ErrUntold result (err.new ≡ err.old) }
-    ensures counted { (f : ℕ) → Counts result f f (B.failures second.old) (B.failures second.new)
-        (O.failures out.old) (O.failures out.new) (E.failures err.old) (E.failures err.new) }
+    ensures ends { Ends result Unused (Used B.failures second.old second.new)
+        (Used O.failures out.old out.new) (Used E.failures err.old err.new) }
 {
     // the lists of a circuit are one
     let _ = circuit.inputs();

@@ -1,6 +1,6 @@
 //! What is written to standard output and to standard error.
 
-ghost use Rattle.std.specs.Prelude.{◌≡◌, ◌⊎◌, ℕ, IfOk, OnOk, OnErr, codes, option_map};
+ghost use Rattle.std.specs.Prelude.{◌≡◌, ◌⊎◌, IfOk, OnOk, OnErr, codes, option_map};
 ghost use Rattle.std.specs.Io.KnownBytes.{Appends};
 ghost use Rattle.std.specs.String.{string_bytes};
 ghost use Rattle.base.specs.Device.{CountsFaults};
@@ -8,7 +8,8 @@ ghost use Rattle.subcommands.specs.declared.refusals.Device.TheVariants as devic
 ghost use Rattle.subcommands.specs.declared.refusals.Refusal.TheVariants as refusal_is;
 ghost use Rattle.subcommands.specs.Names.{harmless};
 ghost use Rattle.subcommands.specs.Refusals.{device_line, output_name};
-ghost use Rattle.subcommands.specs.Statuses.{Counts, IsOfNoInput, Tells, TellsFault};
+ghost use Rattle.subcommands.specs.Statuses.{EndsUnrefused, Tells, TellsFault};
+ghost use Rattle.subcommands.specs.Statuses.Use.{Unused, Used};
 
 use crate::names::{is_harmless, write_name};
 use crate::reasons::write_reason;
@@ -26,9 +27,7 @@ const NO_MEMORY: &[u8] = b"no memory\n";
 /// Writes a result to standard output.
 pub fn write_result<O: Sink>(out: &mut O, text: &[u8]) -> Result<(), Refusal>
     ensures written { OnOk result (Appends (O.written out.old) (O.written out.new) text.now) }
-    ensures no_input { IsOfNoInput result }
-    ensures counted { (f s e : ℕ) → Counts result f f s s (O.failures out.old)
-        (O.failures out.new) e e }
+    ensures ends { EndsUnrefused result Unused Unused (Used O.failures out.old out.new) Unused }
 {
     match write_all(out, text) {
         Ok(()) => Ok(()),

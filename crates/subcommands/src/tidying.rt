@@ -1,8 +1,9 @@
 //! The command that writes the strict text of a witness.
 
-ghost use Rattle.std.specs.Prelude.{◌≡◌, ℕ, IfOk, IfSome, OnOk};
+ghost use Rattle.std.specs.Prelude.{◌≡◌, IfOk, OnOk};
 ghost use Rattle.subcommands.specs.Done.{Tidies};
-ghost use Rattle.subcommands.specs.Statuses.{Counts, IsOfNoInput};
+ghost use Rattle.subcommands.specs.Statuses.{EndsUnrefused};
+ghost use Rattle.subcommands.specs.Statuses.Use.{Unused, Used};
 
 use crate::answers::Answer;
 use crate::refusals::{Device, Refusal};
@@ -21,9 +22,8 @@ pub fn tidy_witness<A: Source, O: Sink>(
     ensures done { OnOk result (Tidies pick (A.to_come first.old) (O.written out.old)
         (O.written out.new)) }
     ensures answer { IfOk result (λ answer. answer ≡ Answer.Done) }
-    ensures no_input { IsOfNoInput result }
-    ensures counted { (s e : ℕ) → Counts result (A.failures first.old) (A.failures first.new) s s
-        (O.failures out.old) (O.failures out.new) e e }
+    ensures ends { EndsUnrefused result (Used A.failures first.old first.new) Unused
+        (Used O.failures out.old out.new) Unused }
 {
     match tidy(pick, first, out) {
         Ok(()) => Ok(Answer::Done),

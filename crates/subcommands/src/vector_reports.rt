@@ -1,9 +1,10 @@
 //! The command on vectors of operators.
 
-ghost use Rattle.std.specs.Prelude.{◌≡◌, ℕ, Some, IfOk, IfErr};
+ghost use Rattle.std.specs.Prelude.{Some, IfOk, IfErr};
 ghost use Rattle.subcommands.specs.Done.{Compares};
 ghost use Rattle.subcommands.specs.Refusals.{IsNoVectorList};
-ghost use Rattle.subcommands.specs.Statuses.{Counts, IfInput};
+ghost use Rattle.subcommands.specs.Statuses.{Ends, IfInput};
+ghost use Rattle.subcommands.specs.Statuses.Use.{Unused, Used};
 
 use crate::answers::Answer;
 use crate::refusals::Refusal;
@@ -21,9 +22,8 @@ pub fn compare_vectors<A: Source, O: Sink>(
     ensures done { IfOk result (Compares (A.to_come first.old) (O.written out.old)
         (O.written out.new)) }
     ensures refused { IfErr result (IfInput (IsNoVectorList (A.to_come first.old))) }
-    ensures unwritten { IfErr result (IfInput (λ _. out.new ≡ out.old)) }
-    ensures counted { (s e : ℕ) → Counts result (A.failures first.old) (A.failures first.new) s s
-        (O.failures out.old) (O.failures out.new) e e }
+    ensures ends { Ends result (Used A.failures first.old first.new) Unused
+        (Used O.failures out.old out.new) Unused }
 {
     let text = read_all(alloc, first)?;
     compare_text(alloc, text.as_slice(), out)
@@ -33,9 +33,7 @@ pub fn compare_vectors<A: Source, O: Sink>(
 fn compare_text<O: Sink>(alloc: Global, text: &[u8], out: &mut O) -> Result<Answer, Refusal>
     ensures done { IfOk result (Compares (Some text.now) (O.written out.old) (O.written out.new)) }
     ensures refused { IfErr result (IfInput (IsNoVectorList (Some text.now))) }
-    ensures unwritten { IfErr result (IfInput (λ _. out.new ≡ out.old)) }
-    ensures counted { (f s e : ℕ) → Counts result f f s s (O.failures out.old)
-        (O.failures out.new) e e }
+    ensures ends { Ends result Unused Unused (Used O.failures out.old out.new) Unused }
 {
     let report = judge_vectors(alloc, text)?;
     write_result(out, report.text.as_bytes())?;

@@ -1,10 +1,11 @@
 //! The command that dumps the frames of witnesses.
 
-ghost use Rattle.std.specs.Prelude.{◌≡◌, ℕ, List, Option, IfOk, IfErr};
+ghost use Rattle.std.specs.Prelude.{ℕ, List, Option, IfOk, IfErr};
 ghost use Rattle.btor2text.specs.Spelling.{IsModelOf};
 ghost use Rattle.subcommands.specs.Done.{IsDumped, Judged};
 ghost use Rattle.subcommands.specs.Refusals.{IsNotJudged};
-ghost use Rattle.subcommands.specs.Statuses.{Counts, IfInput, ErrUntold};
+ghost use Rattle.subcommands.specs.Statuses.{Ends, IfInput};
+ghost use Rattle.subcommands.specs.Statuses.Use.{Unused, Used};
 
 use crate::answers::Answer;
 use crate::judgements::tell_line;
@@ -41,10 +42,8 @@ pub fn dump_witness<B: Source, O: Sink, E: Sink>(
         (O.written out.new) (E.written err.old) (E.written err.new))) }
     ensures refused { (known : Option (List ℕ)) → IsModelOf known model.now
         → IfErr result (IfInput (IsNotJudged known)) }
-    ensures unwritten { IfErr result (IfInput (λ _. out.new ≡ out.old)) }
-    ensures untold { ErrUntold result (err.new ≡ err.old) }
-    ensures counted { (f : ℕ) → Counts result f f (B.failures second.old) (B.failures second.new)
-        (O.failures out.old) (O.failures out.new) (E.failures err.old) (E.failures err.new) }
+    ensures ends { Ends result Unused (Used B.failures second.old second.new)
+        (Used O.failures out.old out.new) (Used E.failures err.old err.new) }
 {
     let title = title_of(alloc, order)?;
     let judgement = wave(alloc, model, shown, title.as_bytes(), second, out)?;

@@ -1,5 +1,5 @@
 use Rattle.std.proofs.Common.{rules, ◌≡◌, Err}
-use Rattle.subcommands.proofs.CountLemmas.{counted_behind}
+use Rattle.subcommands.proofs.CountLemmas.{as_is, as_was, ends_as, unfailed}
 use Rattle.commands.proofs.TaskLemmas.{refuses_no_circuit}
 use Rattle.commands.proofs.running.obey_on_circuit.Goals as goal
 
@@ -11,7 +11,5 @@ returns-in_err-circuit-clause-refused g c =
 pub returns-clause-done : goal.returns-clause-done
 returns-clause-done g c = λ third. c.do_on_circuit.ensures.done (g.A.Source.to_come c.args.first.now) third c.in_ok-circuit.ensures.read
 
-pub returns-clause-counted : goal.returns-clause-counted
-returns-clause-counted g c =
-    counted_behind c.do_on_circuit.result (g.A.Source.failures c.args.first.now) (g.A.Source.failures c.read_circuit.new.first) (g.B.Source.failures c.args.second.now) (g.B.Source.failures c.do_on_circuit.new.second) (g.O.Sink.failures c.args.out.now) (g.O.Sink.failures c.do_on_circuit.new.out) (g.E.Sink.failures c.args.err.now) (g.E.Sink.failures c.do_on_circuit.new.err)
-    (c.in_ok-circuit.ensures.counted 0 0 0).0 (c.do_on_circuit.ensures.counted (g.A.Source.failures c.read_circuit.new.first))
+pub returns-clause-ends : goal.returns-clause-ends
+returns-clause-ends g c = ends_as (unfailed (c.in_ok-circuit.ensures.ends.counted 0 0 0).0) as_is as_was as_was c.do_on_circuit.ensures.ends

@@ -1,28 +1,19 @@
-use Rattle.std.proofs.Common.{rules, ◌≡◌, Err}
-use Rattle.subcommands.specs.declared.certifying.Read.{Read}
-use Rattle.subcommands.specs.Refusals.{IsFaultyCertificate}
-use Rattle.subcommands.proofs.CountLemmas.{counted_all_behind, no_second_on, refused_first}
+use Rattle.std.proofs.Common.{rules, ◌≡◌, Err, refl}
+use Rattle.subcommands.proofs.CountLemmas.{as_is, as_was, ends_all, ends_all_as, handed_on, idle, no_second, unfailed}
 use Rattle.subcommands.proofs.certifying.write_obligation.Goals as goal
 
 pub returns-in_err-read-clause-second : goal.returns-in_err-read-clause-second
 returns-in_err-read-clause-second g c =
-    let same : c.from_residual.result ≡ Err c.in_err-read.field-0.0 = search rules in
-    no_second_on Read c.from_residual.result c.in_err-read.field-0.0 (IsFaultyCertificate c.args.by c.args.given c.args.choice (g.A.Source.to_come c.args.first.now) (g.B.Source.to_come c.args.second.now)) (g.A.Source.failures c.args.first.now) (g.A.Source.failures c.read_given.new.first) 0 0 0 0 0 0 same
-    (c.in_err-read.ensures.counted 0 0 0)
+    let is : c.from_residual.result ≡ Err c.in_err-read.field-0.0 = search rules in
+    no_second _ (handed_on is c.in_err-read.ensures.ends)
 
-pub returns-in_err-read-clause-counted : goal.returns-in_err-read-clause-counted
-returns-in_err-read-clause-counted g c = λ t e.
-    let second = g.B.Source.failures c.args.second.now in
-    let out = g.O.Sink.failures c.args.out.now in
-    let same : c.from_residual.result ≡ Err c.in_err-read.field-0.0 = search rules in
-    refused_first Read c.from_residual.result c.in_err-read.field-0.0 (g.A.Source.failures c.args.first.now) (g.A.Source.failures c.read_given.new.first) second second t out out e e same
-    (c.in_err-read.ensures.counted second out e)
+pub returns-in_err-read-clause-ends : goal.returns-in_err-read-clause-ends
+returns-in_err-read-clause-ends g c =
+    let is : c.from_residual.result ≡ Err c.in_err-read.field-0.0 = search rules in
+    ends_all_as as_is (unfailed refl) as_is idle as_was (ends_all (handed_on is c.in_err-read.ensures.ends))
 
-pub returns-clause-counted : goal.returns-clause-counted
-returns-clause-counted g c = λ t e.
-    let first = g.A.Source.failures c.read_given.new.first in
-    counted_all_behind c.write_owed_over.result (g.A.Source.failures c.args.first.now) first (g.B.Source.failures c.args.second.now) (g.B.Source.failures c.write_owed_over.new.second) t t (g.O.Sink.failures c.args.out.now) (g.O.Sink.failures c.write_owed_over.new.out) e e
-    (c.in_ok-read.ensures.counted 0 0 0).0 (c.write_owed_over.ensures.counted first t e)
+pub returns-clause-ends : goal.returns-clause-ends
+returns-clause-ends g c = ends_all_as (unfailed (c.in_ok-read.ensures.ends.counted 0 0 0).0) as_is as_is as_was as_was c.write_owed_over.ensures.ends
 
 pub returns-clause-done : goal.returns-clause-done
 returns-clause-done g c = c.write_owed_over.ensures.done c.args.given (g.A.Source.to_come c.args.first.now) c.in_ok-read.ensures.read.gives c.in_ok-read.ensures.read.is_numbering

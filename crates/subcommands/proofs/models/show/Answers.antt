@@ -1,5 +1,5 @@
 use Rattle.std.proofs.Common.{refl, ◌∙◌}
 use Rattle.subcommands.proofs.models.show.Goals as goal
 
-pub returns-clause-counted : goal.returns-clause-counted
-returns-clause-counted g c = λ f s e. (refl, refl, (c.in_ok-write_result.ensures.counted 0 0 0).2 ∙ c.in-Ok.ensures.failures, refl)
+pub returns-clause-ends : goal.returns-clause-ends
+returns-clause-ends g c = record { counted = λ f s e. (refl, refl, (c.in_ok-write_result.ensures.ends.counted 0 0 0).2 ∙ c.in-Ok.ensures.failures, refl); no_input = tt; untold = tt }

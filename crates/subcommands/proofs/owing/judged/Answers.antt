@@ -1,20 +1,11 @@
-use Rattle.std.proofs.Common.{rules, ◌≡◌, ℕ, Err, subst}
-use Rattle.drup.specs.Formula.{Formula}
-use Rattle.subcommands.specs.Statuses.{CountsAll}
-use Rattle.subcommands.proofs.CountLemmas.{handed_on}
+use Rattle.std.proofs.Common.{rules, ◌≡◌, Err, refl}
+use Rattle.subcommands.proofs.CountLemmas.{all_handed_on, as_is, as_was, ends_all_as, unfailed}
 use Rattle.subcommands.proofs.owing.judged.Goals as goal
 
-pub returns-in_err-formula-clause-counted : goal.returns-in_err-formula-clause-counted
-returns-in_err-formula-clause-counted g c = λ f o e.
-    let third = g.T.Source.failures c.args.third.now in
-    let same : c.from_residual.result ≡ Err c.in_err-formula.field-0.0 = search rules in
-    handed_on Formula c.from_residual.result c.in_err-formula.field-0.0 f f (g.B.Source.failures c.args.second.now) (g.B.Source.failures c.owed.new.second) third third o o e e same
-    (c.in_err-formula.ensures.counted f third o e)
+pub returns-in_err-formula-clause-ends : goal.returns-in_err-formula-clause-ends
+returns-in_err-formula-clause-ends g c =
+    let is : c.from_residual.result ≡ Err c.in_err-formula.field-0.0 = search rules in
+    ends_all_as as_is as_is (unfailed refl) as_was as_was (all_handed_on is c.in_err-formula.ensures.ends)
 
-pub returns-clause-counted : goal.returns-clause-counted
-returns-clause-counted g c = λ f o e.
-    let third = g.T.Source.failures c.args.third.now in
-    let third' = g.T.Source.failures c.proved.new.third in
-    let second' = g.B.Source.failures c.owed.new.second in
-    let Counted : ℕ → Type 0 = λ s. CountsAll c.proved.result f f s second' third third' o o e e in
-    subst Counted (c.in_ok-formula.ensures.counted f third o e).0.1 (c.proved.ensures.counted f second' o e)
+pub returns-clause-ends : goal.returns-clause-ends
+returns-clause-ends g c = ends_all_as as_is (unfailed (c.in_ok-formula.ensures.ends.counted 0 0 0 0).0.1) as_is as_was as_was c.proved.ensures.ends

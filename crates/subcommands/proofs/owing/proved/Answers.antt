@@ -5,12 +5,17 @@ use Rattle.subcommands.specs.Statuses.{CountsAll}
 use Rattle.subcommands.proofs.CertificateLemmas.{counted_proof}
 use Rattle.subcommands.proofs.owing.proved.Goals as goal
 
-pub returns-in-Ok-clause-counted : goal.returns-in-Ok-clause-counted
-returns-in-Ok-clause-counted g c = λ f s o e. ((refl, refl, refl, refl), (c.in-Ok.ensures.counted 0).1)
+pub returns-in-Ok-clause-ends : goal.returns-in-Ok-clause-ends
+returns-in-Ok-clause-ends g c = record { counted = λ f s o e. ((refl, refl, refl, refl), (c.in-Ok.ensures.counted 0).1); unwritten = tt; unwritten_second = tt; untold = tt }
 
-pub returns-in-Err-clause-counted : goal.returns-in-Err-clause-counted
-returns-in-Err-clause-counted g c = λ f s o e.
-    let third = g.T.Source.failures c.args.third.now in
-    let third' = g.T.Source.failures c.judge_proof.new.proof in
-    let Counted : Refusal → Type 0 = λ r. CountsAll {T = Judgement} (Err r) f f s s third third' o o e e in
-    subst Counted (sym c.from.ensures) (counted_proof c.in-Err.fault f s third third' o e c.in-Err.ensures.fault c.in-Err.ensures.counted)
+pub returns-in-Err-clause-ends : goal.returns-in-Err-clause-ends
+returns-in-Err-clause-ends g c = record {
+  counted = λ f s o e.
+      let third = g.T.Source.failures c.args.third.now in
+      let third' = g.T.Source.failures c.judge_proof.new.proof in
+      let Counted : Refusal → Type 0 = λ r. CountsAll {T = Judgement} (Err r) f f s s third third' o o e e in
+      subst Counted (sym c.from.ensures) (counted_proof c.in-Err.fault f s third third' o e c.in-Err.ensures.fault c.in-Err.ensures.counted);
+  unwritten = tt;
+  unwritten_second = tt;
+  untold = tt;
+}
