@@ -15,7 +15,7 @@ use aiger::Circuit;
 use base::{Sink, Source};
 use blast::{Watch, lower_watched};
 use btor2::Model;
-use lift::lift_restored_with_rises;
+use lift::lift_restored;
 use std::alloc::Global;
 use subcommands::{Answer, Claimed, Refusal, Subject, claim_of, has_form, read_model, tell_lifted};
 
@@ -72,6 +72,6 @@ fn lift_over_circuit<B: Source, O: Sink, E: Sink>(
     lift::engine_laws::found_over_the_form_is_found_in_the_model();
     let claim = claim_of(circuit, choice, Claimed::Found)?;
     has_form(circuit, claim)?;
-    let told = lift_restored_with_rises(alloc, model, circuit, claim, named, second, out);
+    let told = lift_restored(alloc, model, circuit, claim, named, second, out);
     tell_lifted(alloc, told, named, Subject::Lowered(model, circuit), err)
 }

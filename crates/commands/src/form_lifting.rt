@@ -17,7 +17,7 @@ use base::{Sink, Source};
 use blast::{Watch, lower_watched};
 use btor2::Model;
 use engine_form::engine_form;
-use lift::lift_form_with_rises;
+use lift::lift_form;
 use std::alloc::Global;
 use subcommands::{Answer, Refusal, Subject, read_model, tell_lifted};
 
@@ -95,6 +95,6 @@ fn lift_through_form<B: Source, O: Sink, E: Sink>(
     ensures ends { EndsUnrefused result Unused (Used B.failures second.old second.new)
         (Used O.failures out.old out.new) (Used E.failures err.old err.new) }
 {
-    let told = lift_form_with_rises(alloc, model, circuit, form, choice, named, second, out);
+    let told = lift_form(alloc, model, circuit, form, choice, named, second, out);
     tell_lifted(alloc, told, named, Subject::Lowered(model, circuit), err)
 }

@@ -2,7 +2,6 @@
 
 ghost use Rattle.std.specs.Prelude.{◌≡◌, ℕ, List, Option, IfOk, IfErr, OnOk};
 ghost use Rattle.std.specs.Io.KnownBytes.{Appends};
-ghost use Rattle.aiger.specs.Circuit.{IsCircuit};
 ghost use Rattle.aigertext.specs.Binary.{circuit_text};
 ghost use Rattle.aigertext.specs.Spelling.{IsCircuitText};
 ghost use Rattle.subcommands.specs.Done.{IsJudgedOver, IsJudgedOverByName, Judged, Rewrites};
