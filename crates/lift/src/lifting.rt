@@ -43,13 +43,14 @@ struct Lifting<'a> {
 
 impl<'a, K: Sink> Taker<K> for Lifting<'a> {
     ghost use Rattle.std.specs.Prelude.{is_err};
+    ghost use Rattle.base.specs.declared.pen.Pen.{Pen};
     ghost use Rattle.lift.specs.Stands.{Lifted, HasLifted};
 
     /// The sink and the pen as they were when nothing was taken, and over what is lifted.
     ghost Over = { K × Pen × Lifted };
 
-    ghost stands = { λ over sink taker text. HasLifted K.written K.failures over.0 sink over.1.0
-        taker.pen over.1.1.named over.1.1.items over.1.1.circuit taker.lifter text };
+    ghost stands = { λ over sink taker text. HasLifted K.written K.failures over.0 sink over.1
+        taker.pen over.2.named over.2.items over.2.circuit taker.lifter text };
 
     ghost is_done = { λ taker. is_err taker.pen.answer };
 

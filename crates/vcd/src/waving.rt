@@ -31,13 +31,14 @@ struct Waving<'a> {
 
 impl<'a, K: Sink> Taker<K> for Waving<'a> {
     ghost use Rattle.std.specs.Prelude.{is_err};
+    ghost use Rattle.base.specs.declared.pen.Pen.{Pen};
     ghost use Rattle.vcd.specs.Stands.{Waver as WaverValue, Takes};
 
     /// The sink, the pen and the waver as they were when nothing was taken.
     ghost Over = { K × Pen × WaverValue };
 
-    ghost stands = { λ over sink taker text. Takes K.written K.failures over.0 sink over.1.0
-        taker.pen over.1.1 taker.waver text };
+    ghost stands = { λ over sink taker text. Takes K.written K.failures over.0 sink over.1
+        taker.pen over.2 taker.waver text };
 
     ghost is_done = { λ taker. is_err taker.pen.answer };
 
