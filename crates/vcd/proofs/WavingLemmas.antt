@@ -23,7 +23,7 @@ use Rattle.base.proofs.TakingLemmas.{part_given}
 
 -- ---- what a source gives
 
-pub front_taken : {K : Type 0} {written : K → Option (List ℕ)} {failures : K → ℕ} {s t : K} {p q : Pen} {before after : Waver} {W : Type 0} {from to : W} (pen : W → Pen) (waver : W → Waver) {source source' : Option (List ℕ)}
+pub front_taken : {K : Type 0} {written : K → Option (List ℕ)} {failures : K → ℕ} {s t : K} {W : Type 0} {from to : W} (pen : W → Pen) (waver : W → Waver) {source source' : Option (List ℕ)}
     → BaseFront (λ (over : K × Pen × Waver) sink w text. Takes written failures over.0 sink over.1 (pen w) over.2 (waver w) text) source source' s t from to
     → TakesFront written failures s t (pen from) (pen to) (waver from) (waver to) source source'
 front_taken {s = s} {from = from} pen waver front = record { front = front.front; consumes = front.consumes; takes = front.takes (s, pen from, waver from) [] takes_none }
