@@ -1,7 +1,6 @@
 -- A whole source is lifted.
-use Rattle.std.proofs.Common.{◌≡◌, ℕ, Bool, List, [], ◌++◌, Option, Some, None, Result, Ok, Err, IfSome, refl, sym, ap, subst, take, OnOk, OnErr, IfErr, IsErr, MatchResult, ◌∙◌, append_assoc, append-nil}
-use Rattle.std.specs.Io.KnownBytes.{Consumes, IsAtEnd, Appends}
-use Rattle.std.proofs.KnownBytes.{Consumes-nil, Consumes-trans, Consumes-whole}
+use Rattle.std.proofs.Common.{◌≡◌, ℕ, Bool, List, [], Option, Some, None, Result, Ok, Err, IfSome, refl, sym, subst, OnOk, OnErr, IfErr, IsErr, MatchResult}
+use Rattle.std.specs.Io.KnownBytes.{Consumes, Appends}
 use Rattle.base.specs.declared.pen.Pen.{Pen}
 use Rattle.base.specs.Device.{AppendsBeginning}
 use Rattle.base.proofs.DeviceLemmas.{on_ok, on_err, ok_counts, err_counts, beginning_longer}
@@ -15,7 +14,7 @@ use Rattle.lift.specs.declared.fault.LiftFault.{LiftFault}
 use Rattle.lift.specs.declared.fault.LiftFault.TheVariants as fault
 use Rattle.lift.specs.Answers.{CountsLift}
 use Rattle.lift.specs.Lifted.{lifted_with}
-use Rattle.lift.specs.Stands.{Lifter, LiftsWith, HasLifted, TakesText, TakesSource}
+use Rattle.lift.specs.Stands.{Lifter, LiftsWith, HasLifted}
 use Rattle.lift.proofs.LineLemmas.{lifted_begins}
 use Rattle.base.proofs.TakingLemmas.{part_given}
 

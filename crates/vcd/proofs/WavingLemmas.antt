@@ -1,14 +1,13 @@
 -- A whole source is written as a dump.
-use Rattle.std.proofs.Common.{◌≡◌, ℕ, List, [], ◌++◌, Option, Some, None, Result, Ok, Err, IfSome, sym, ap, ap₂, subst, ◌∙◌, append_assoc}
-use Rattle.std.specs.Io.KnownBytes.{Consumes, IsAtEnd}
-use Rattle.std.proofs.KnownBytes.{Consumes-nil, Consumes-trans, Consumes-whole}
+use Rattle.std.proofs.Common.{◌≡◌, ℕ, List, [], ◌++◌, Option, Result, Ok, Err, IfSome, sym, ap, ap₂, subst, ◌∙◌, append_assoc}
+use Rattle.std.specs.Io.KnownBytes.{IsAtEnd}
+use Rattle.std.proofs.KnownBytes.{Consumes-whole}
 use Rattle.base.specs.declared.device.DeviceFault.{DeviceFault}
 use Rattle.base.specs.declared.pen.Pen.{Pen}
 use Rattle.base.specs.Device.{AppendsBeginning}
 use Rattle.base.specs.Lines.{text_of_lines}
-use Rattle.base.specs.Pieces.{Puts}
 use Rattle.base.specs.Taking.{TakesFront as BaseFront}
-use Rattle.base.specs.Writing.{PutsOn, WritesText}
+use Rattle.base.specs.Writing.{WritesText}
 use Rattle.base.proofs.DeviceLemmas.{beginning_longer}
 use Rattle.base.proofs.PenLemmas.{begins, writes_then}
 use Rattle.btor2.specs.declared.item.Item.{Item}
@@ -18,7 +17,7 @@ use Rattle.std.proofs.lemmas.Option.{IfSome_then}
 use Rattle.vcd.specs.declared.scope.Shown.{Shown}
 use Rattle.vcd.specs.Dumps.{declaration_lines, end_lines, vcd_text}
 use Rattle.vcd.specs.Stands.{Waver, Waves, Takes, TakesFront, Stops}
-use Rattle.vcd.proofs.WaverLemmas.{front_text, takes_none, takes_more}
+use Rattle.vcd.proofs.WaverLemmas.{front_text, takes_none}
 use Rattle.base.proofs.TakingLemmas.{part_given}
 
 -- ---- what a source gives
