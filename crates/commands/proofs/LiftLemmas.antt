@@ -8,7 +8,7 @@ use Rattle.engine_form.specs.EngineForm.{input_count, IsEngineFormOf}
 use Rattle.engine_form.specs.Refusal.{engine_refusal}
 use Rattle.witness.specs.declared.judgement.Judgement.{Judgement}
 use Rattle.witness.specs.BitJudgements.{BitJudges}
-use Rattle.witness.proofs.FeedLemmas.{if_some_then}
+use Rattle.std.proofs.lemmas.Option.{IfSome_then}
 use Rattle.rises.specs.FirstRises.{AreBitFirstRises}
 use Rattle.restore.specs.declared.fault.RestoreFault.{RestoreFault}
 use Rattle.restore.specs.Accepted.{FindsAgain}
@@ -42,8 +42,7 @@ Lifted = Result (Judgement × List (Option ℕ)) RestoreFault
 none_of_faulty : (c : Circuit) (claim : ℕ) (found : Option (List ℕ)) (e : RestoreFault) (firsts : List (Option ℕ)) → IfSome found (λ text. (read_found (input_count c) text).fault ≡ Some e)
     → IfSome found (λ text. (read_found (input_count c) text).fault ≡ None → AreBitFirstRises c (restored_text c claim text) firsts)
 none_of_faulty c claim found e firsts first =
-    if_some_then found (λ text. (read_found (input_count c) text).fault ≡ Some e) (λ text. (read_found (input_count c) text).fault ≡ None → AreBitFirstRises c (restored_text c claim text) firsts)
-    (λ text is none. let not : None ≡ Some e = sym none ∙ is in absurd (cc)) first
+    IfSome_then found {P = λ text. (read_found (input_count c) text).fault ≡ Some e} {Q = λ text. (read_found (input_count c) text).fault ≡ None → AreBitFirstRises c (restored_text c claim text) firsts} first (λ text is none. let not : None ≡ Some e = sym none ∙ is in absurd (cc))
 
 -- a command that told it has lifted what was restored
 pub engine_lifted : (r : Result Answer Refusal) (told_by : Lifted) (known found before now told told' : Option (List ℕ)) (named : Bool) (choice : Option ℕ) (items : List Item) (c : Circuit) (claim : ℕ)
@@ -67,7 +66,7 @@ engine_lifted (Ok a) (Ok lifted) known found before now told told' named choice 
   in_model = finds;
   firsts = lifted.1;
   rises = λ on.
-      if_some_then found (λ text. AreBitFirstRises c (restored_text c claim text) lifted.1) (λ text. (read_found (input_count c) text).fault ≡ None → AreBitFirstRises c (restored_text c claim text) lifted.1) (λ text are none. are) (rises on);
+      IfSome_then found {P = λ text. AreBitFirstRises c (restored_text c claim text) lifted.1} {Q = λ text. (read_found (input_count c) text).fault ≡ None → AreBitFirstRises c (restored_text c claim text) lifted.1} (rises on) (λ text are none. are);
   tells = inl (record { verdict = lifted.0; is_judged = record { right = right; judged = judged; again = again; line = tells.1 }; so = tells.0 });
 }
 engine_lifted (Ok a) (Err e) known found before now told told' named choice items c claim text lowers is accepted judged again rises right first all front keeps finds tells = record {
