@@ -122,7 +122,7 @@ impl Model for Circuit {
 impl Circuit {
     ghost use Rattle.base.specs.Literal.{variable};
     ghost use Rattle.aiger.specs.Net.{variables};
-    ghost use Rattle.aiger.specs.View.{circuit_from};
+    ghost use Rattle.aiger.specs.View.{circuit_from, with_latches_and_properties};
     ghost use Rattle.aiger.specs.Circuit.{IsCircuit, net, fresh_circuit, with_gate, with_latch, with_output, with_bad, with_constraint, with_justice, with_fair, with_name, name_of, section_count, are_defined, circuit_refusal, gate_refusal, literal_refusal, property_refusal, justice_refusal, name_refusal, RefusesBy, RefusesOnlyBy};
 
     /// A circuit of so many inputs and latches, which begin with next 0 and reset `Zero`.
@@ -156,6 +156,15 @@ impl Circuit {
         ensures { result ≡ circuit_from lists }
     {
         Circuit { lists }
+    }
+
+    /// Gives a circuit these latches and properties in place of its own. It takes no memory.
+    pub fn set_latches_and_properties(&mut self, latches: Vec<Latch>, properties: Properties)
+        requires { IsCircuit (with_latches_and_properties self.old latches.items properties) }
+        ensures { self.new ≡ with_latches_and_properties self.old latches.items properties }
+    {
+        self.lists.latches = latches;
+        self.lists.properties = properties;
     }
 
     /// Adds an AND gate of two literals, the greater one first, and answers its literal.

@@ -5,6 +5,7 @@ use Rattle.aigerlists.specs.declared.loose.LatchLine.{LatchLine}
 use Rattle.aigerlists.specs.declared.loose.GateLine.{GateLine}
 use Rattle.aiger.specs.declared.circuit.Latch.{Latch}
 use Rattle.aiger.specs.declared.circuit.Section.{Section}
+use Rattle.aiger.specs.declared.lists.Properties.{Properties}
 use Rattle.aiger.specs.declared.fault.CircuitFault.{CircuitFault}
 use Rattle.aiger.specs.declared.fault.CircuitFault.TheVariants.{LiteralOutOfRange, TooBig}
 use Rattle.aiger.specs.Limits.{greatest_count}
@@ -112,6 +113,11 @@ with_justice_lines l lits = record l { justice = l.justice ++ lits ∷ [] }
 -- with a fairness constraint more
 abbrev pub with_fair_line : Loose → ℕ → Loose
 with_fair_line l lit = record l { fair = l.fair ++ lit ∷ [] }
+
+-- with these properties in place of its own
+abbrev pub with_property_lines : Loose → Properties → Loose
+with_property_lines l p =
+    record l { outputs = p.outputs.items; bads = p.bads.items; constraints = p.constraints.items; justice = p.justice; fair = p.fair.items }
 
 -- with the name of a position of a section
 abbrev pub with_loose_name : Loose → Section → ℕ → List ℕ → Loose

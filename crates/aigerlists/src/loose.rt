@@ -72,7 +72,7 @@ impl Model for Loose {
 }
 
 impl Loose {
-    ghost use Rattle.aigerlists.specs.Loose.{IsLoose, empty_loose, is_defined, defined_count, sections_of, loose_name, with_input_line, with_latch_line, with_gate_line, with_output_line, with_bad_line, with_constraint_line, with_justice_lines, with_fair_line, with_loose_name, loose_line_refusal, use_refusal, loose_justice_refusal, loose_name_refusal};
+    ghost use Rattle.aigerlists.specs.Loose.{IsLoose, empty_loose, is_defined, defined_count, sections_of, loose_name, with_input_line, with_latch_line, with_gate_line, with_output_line, with_bad_line, with_constraint_line, with_justice_lines, with_fair_line, with_property_lines, with_loose_name, loose_line_refusal, use_refusal, loose_justice_refusal, loose_name_refusal};
 
     /// Empty lists. It takes no memory.
     pub fn new(alloc: Global) -> Loose
@@ -148,6 +148,15 @@ impl Loose {
         }
         let line = GateLine { lhs, rhs0, rhs1 };
         define(&mut self.defined, &mut self.gates, lhs.var(), line)
+    }
+
+    /// Gives lists without names these properties in place of their own. It takes no memory.
+    pub fn set_properties(&mut self, properties: Properties)
+        requires unnamed { self.old.names ≡ [] }
+        requires lists { IsLoose (with_property_lines empty_loose properties) }
+        ensures { self.new ≡ with_property_lines self.old properties }
+    {
+        self.properties = properties;
     }
 
     /// Adds an output. Its variable need not be defined yet.

@@ -28,7 +28,8 @@ use Rattle.aigertext.proofs.BackLemmas.{ok_same, not_err, bind-back, bind-then, 
 use Rattle.aigertext.proofs.FileReadLemmas.{inputs_onto, latches_onto, gates_onto, HasInputs, HasLeaves, input_grows, latch_grows, gate_grows}
 use Rattle.aigertext.proofs.LatchBackLemmas.{spaced, fields-back, latch_by}
 use Rattle.aigertext.proofs.OntoLemmas.{OntoBack, onto-back}
-use Rattle.aigertext.proofs.ReadStandsLemmas.{PropertiesBack, properties-back, property_is, length_lists, lists_hold, lists_total}
+use Rattle.aigertext.proofs.ReadStandsLemmas.{PropertiesBack, properties-back, lists_hold}
+use Rattle.aigertext.proofs.StandsLemmas.{property_text}
 
 -- ---- lines
 
@@ -181,6 +182,44 @@ few_defined a b c i l g v is1 is2 is3 fits few = omega arith
 few_of : (m n : ℕ) → m ≡ n → n ≤ greatest_count → m ≤ greatest_count
 few_of m n is few = subst (λ (k : ℕ). k ≤ greatest_count) (sym is) few
 
+-- properties that were read are those of lists
+module _ (h : Counts) (few : AreSmall h) (text : List ℕ) (p : Properties) (rest : List ℕ) (q : PropertiesBack h text p rest) where
+  all_small : (ls : List ℕ) → All (λ n. n ≤ 2 * h.variables + 1) ls → All IsSmall ls
+  all_small ls up_to = All-weaker (λ n. n ≤ 2 * h.variables + 1) IsSmall (λ n le. small_literal h.variables n few.variables le) ls up_to
+
+  pub properties_alone : IsLoose (with_properties_of empty_loose p)
+  unfolding IsStrictlySortedBy
+  properties_alone = record {
+    definitions = record { inputs = All-nil IsDefining; latches = All-nil (λ x. IsDefining x.current); gates = All-nil (λ x. IsDefining x.lhs); once = λ v. omega arith };
+    small = record {
+      inputs = All-nil IsSmall;
+      latches = All-nil (λ x. IsSmall x.current);
+      gates = All-nil (λ x. IsSmall x.lhs);
+      first_operands = All-nil (λ x. IsSmall x.rhs0);
+      second_operands = All-nil (λ x. IsSmall x.rhs1);
+      sections = record {
+        nexts = All-nil (λ x. IsSmall x.next);
+        outputs = all_small p.outputs q.up_to.outputs;
+        bads = all_small p.bads q.up_to.bads;
+        constraints = all_small p.constraints q.up_to.constraints;
+        justice = lists_hold IsSmall p.justice (all_small (concat p.justice) q.up_to.justice);
+        fair = all_small p.fair q.up_to.fair;
+      };
+    };
+    few = record {
+      defined = omega arith;
+      sections = record {
+        outputs = few_of (length p.outputs) h.outputs q.outputs few.outputs;
+        bads = few_of (length p.bads) h.bads q.bads few.bads;
+        constraints = few_of (length p.constraints) h.constraints q.constraints few.constraints;
+        justice = few_of (length p.justice) h.justice q.justice few.justice;
+        justice_literals = q.total;
+        fair = few_of (length p.fair) h.fair q.fair few.fair;
+      };
+    };
+    names = record { sorted = tt; named = All-nil (IsNamed (sections_of (with_properties_of empty_loose p))) };
+  }
+
 -- each section of the lists was read back
 module _ (h : Counts) (few : AreSmall h) (fits : h.inputs + h.latches + h.gates ≤ h.variables) (text t1 t2 t3 end : List ℕ) (l1 l2 l : Loose) (p : Properties)
     (i : OntoBack with_input_line IsInputLine (IsGoodInput (2 * h.variables + 1)) HasInputs empty_loose l1 h.inputs text t1)
@@ -211,8 +250,8 @@ module _ (h : Counts) (few : AreSmall h) (fits : h.inputs + h.latches + h.gates 
         once = once_all;
       }
 
-  all_small : (ls : List ℕ) → All (λ n. n ≤ 2 * h.variables + 1) ls → All IsSmall ls
-  all_small ls up_to = All-weaker (λ n. n ≤ 2 * h.variables + 1) IsSmall (λ n le. small_literal h.variables n few.variables le) ls up_to
+  alone : IsLoose (with_properties_of empty_loose p)
+  alone = properties_alone h few t2 p t3 q
 
   small_back : HasSmall (made i.things k.things p g.things)
   small_back =
@@ -224,11 +263,11 @@ module _ (h : Counts) (few : AreSmall h) (fits : h.inputs + h.latches + h.gates 
         second_operands = All-weaker (IsGoodGate (2 * h.variables + 1)) (λ x. IsSmall x.rhs1) (λ x y. small_literal h.variables x.rhs1 few.variables y.0.2) g.things g.good;
         sections = record {
           nexts = All-map (λ (x : Latch). IsSmall x.next) latch_section k.things (All-weaker (IsGoodLatch (2 * h.variables + 1)) (λ x. IsSmall x.next) (λ x y. small_literal h.variables x.next few.variables y.0.1) k.things k.good);
-          outputs = all_small p.outputs q.up_to.outputs;
-          bads = all_small p.bads q.up_to.bads;
-          constraints = all_small p.constraints q.up_to.constraints;
-          justice = lists_hold IsSmall (sized_lists p.sizes p.listed) (all_small (concat (sized_lists p.sizes p.listed)) q.up_to.justice);
-          fair = all_small p.fair q.up_to.fair;
+          outputs = alone.small.sections.outputs;
+          bads = alone.small.sections.bads;
+          constraints = alone.small.sections.constraints;
+          justice = alone.small.sections.justice;
+          fair = alone.small.sections.fair;
         };
       }
 
@@ -237,12 +276,12 @@ module _ (h : Counts) (few : AreSmall h) (fits : h.inputs + h.latches + h.gates 
       record {
         defined = few_defined (length i.things) (length k.things) (length g.things) h.inputs h.latches h.gates h.variables i.many k.many g.many fits few.variables;
         sections = record {
-          outputs = few_of (length p.outputs) h.outputs q.outputs few.outputs;
-          bads = few_of (length p.bads) h.bads q.bads few.bads;
-          constraints = few_of (length p.constraints) h.constraints q.constraints few.constraints;
-          justice = few_of (length (sized_lists p.sizes p.listed)) h.justice (length_lists p.sizes p.listed ∙ q.sizes) few.justice;
-          justice_literals = lists_total p.sizes p.listed q.listed q.total;
-          fair = few_of (length p.fair) h.fair q.fair few.fair;
+          outputs = alone.few.sections.outputs;
+          bads = alone.few.sections.bads;
+          constraints = alone.few.sections.constraints;
+          justice = alone.few.sections.justice;
+          justice_literals = alone.few.sections.justice_literals;
+          fair = alone.few.sections.fair;
         };
       }
 
@@ -267,11 +306,11 @@ module _ (h : Counts) (few : AreSmall h) (fits : h.inputs + h.latches + h.gates 
   whole_back : text ≡ i.bytes ++ (k.bytes ++ (use_lines (made i.things k.things p g.things) ++ (g.bytes ++ end)))
   whole_back =
       i.parts ∙ ap (λ (t : List ℕ). i.bytes ++ t) k.parts
-      ∙ ap (λ (t : List ℕ). i.bytes ++ (k.bytes ++ t)) (q.parts ∙ sym (property_is 0 [] p [] t3 q.listed))
+      ∙ ap (λ (t : List ℕ). i.bytes ++ (k.bytes ++ t)) (q.parts ∙ sym (property_text (nameless 0 [] p []) t3))
       ∙ ap (λ (t : List ℕ). i.bytes ++ (k.bytes ++ (property_lines (nameless 0 [] p []) ++ t))) g.parts
 
   counts_back : h ≡ counts_of_file h.variables (made i.things k.things p g.things)
-  counts_back = rw (i.many, k.many, g.many, q.outputs, q.bads, q.constraints, length_lists p.sizes p.listed ∙ q.sizes, q.fair) refl
+  counts_back = rw (i.many, k.many, g.many, q.outputs, q.bads, q.constraints, q.justice, q.fair) refl
 
   sections-back : ListsBack h text l end
   sections-back =

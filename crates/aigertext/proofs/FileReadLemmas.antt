@@ -24,7 +24,7 @@ use Rattle.aigertext.specs.Reading.{within, reset_of, line_at, next_fields}
 use Rattle.aigertext.specs.AsciiReading.{defining, input_of, latch_fields, latch_of_line, gate_fields, gate_of_line, onto_lists, with_properties_of, lists_of_file}
 use Rattle.aigertext.proofs.FieldLemmas.{joined, fields-joined, numbers_read}
 use Rattle.aigertext.proofs.OntoLemmas.{all_onto, onto-read}
-use Rattle.aigertext.proofs.PropertyLemmas.{within-read, lists_of-concat, IsTold, reset-told}
+use Rattle.aigertext.proofs.PropertyLemmas.{within-read, IsTold, reset-told}
 use Rattle.aigertext.proofs.StandsLemmas.{HasUpTo, properties_in, properties-read}
 
 -- a literal that may define a variable
@@ -178,9 +178,7 @@ module _ (greatest : ℕ) (l : Loose) (valid : IsLoose l) (unnamed : l.names ≡
       ∙ ap (λ (m : Loose). Ok (m, rest)) (gates_onto with_all_uses l.gates)
 
   all_read : (end : List ℕ) → ◌≡◌ {A = Result (Loose × List ℕ) Stop} (Ok (record with_all_uses { gates = l.gates }, end)) (Ok (l, end))
-  all_read end =
-      ap (λ (lists : List (List ℕ)). Ok (record l { justice = lists; names = [] }, end)) (lists_of-concat l.justice)
-      ∙ ap (λ names. Ok (record l { names = names }, end)) (sym unnamed)
+  all_read end = ap (λ names. Ok (record l { names = names }, end)) (sym unnamed)
 
   pub lists-read : (inputs latches gates end : List ℕ) → AreLines IsInputLine l.inputs inputs → AreLines IsLatchLine l.latches latches → AreLines IsGateLine l.gates gates
       → lists_of_file (counts_of_file greatest l) (inputs ++ (latches ++ (use_lines l ++ (gates ++ end)))) ≡ Ok (l, end)

@@ -9,6 +9,8 @@ use Rattle.aiger.specs.declared.circuit.Latch.{Latch}
 use Rattle.aiger.specs.declared.circuit.Section.{Section}
 use Rattle.aiger.specs.Limits.{greatest_count}
 use Rattle.aiger.specs.Net.{variables, AreOrderedFrom}
+use Rattle.aiger.specs.declared.lists.Properties.{Properties as PropertiesValue}
+use Rattle.aiger.specs.View.{with_latches_and_properties}
 use Rattle.aiger.specs.Circuit.{Circuit, IsCircuit, net, fresh_circuit, fresh_latch}
 use Rattle.aigerlists.specs.OwnLists.{own_lists}
 use Rattle.aigerlists.specs.Renumbering.{IsRenumbered, IsNumberingOf}
@@ -27,7 +29,7 @@ use Rattle.aigertext.specs.AsciiReading.{lists_of_file, AnswersNamed, AnswersLis
 use Rattle.aigerlists.specs.Loose.{Loose}
 use Rattle.base.specs.Lines.{IsLine}
 use Rattle.aigertext.specs.Numbering.{IsNumberingOfText}
-use Rattle.aigertext.specs.Passes.{onto, with_more_gates, latch_in, latches_in}
+use Rattle.aigertext.specs.Passes.{onto, with_more_gates, properties_of, latch_in, latches_in}
 use Rattle.aigertext.specs.InOrder.{uses_at, uses_of, IsFront, HasFront, text_with, ArePutGates, PutsText, Finishes, IsFinish, ReadsOnto}
 use Rattle.aigertext.proofs.AsciiWrittenLemmas.{OwnValid, OwnNumbered, OwnMany, OwnNumbering, up_to, written_inputs, written_gates}
 use Rattle.aigertext.proofs.BackLemmas.{ok_same, err_same, not_err, bind-then, line-back}
@@ -36,7 +38,8 @@ use Rattle.aigertext.proofs.GateLemmas.{gates-read, gates-read-on}
 use Rattle.aigertext.proofs.HeaderBackLemmas.{HeaderBack, header-back}
 use Rattle.aigertext.proofs.LatchBackLemmas.{AreLatchesAt, latches-back}
 use Rattle.aigertext.proofs.PutsLemmas.{gates_text-append, front_kept, more_kept, at_end, front_taken, rest_within}
-use Rattle.aigertext.proofs.ReadStandsLemmas.{PropertiesBack, properties-back, property_is, length_lists, end-back, header_spelled}
+use Rattle.aigertext.proofs.ReadStandsLemmas.{PropertiesBack, properties-back, bare_valid, end-back, header_spelled}
+use Rattle.aigertext.proofs.StandsLemmas.{property_text}
 use Rattle.aigertext.proofs.FileReadLemmas.{lists-read}
 use Rattle.aigertext.proofs.ReadFrontLemmas.{IsAtFront, line-front, lines-front, properties-front}
 
@@ -143,8 +146,23 @@ spelled form h uses before gs front =
       p = p;
       before_is =
           sym (append-nil before) ∙ s.parts ∙ sym (append_assoc s.line (10 ∷ []) (inputs_text form h.inputs ++ (front.lines ++ [])))
-          ∙ ap (λ (t : List ℕ). (s.line ++ 10 ∷ []) ++ (inputs_text form h.inputs ++ t)) (l.parts ∙ ap (λ (t : List ℕ). l.bytes ++ t) (p.parts ∙ sym (property_is h.inputs uses.0 uses.1 gs [] p.listed) ∙ append-nil bare));
+          ∙ ap (λ (t : List ℕ). (s.line ++ 10 ∷ []) ++ (inputs_text form h.inputs ++ t)) (l.parts ∙ ap (λ (t : List ℕ). l.bytes ++ t) (p.parts ∙ sym (property_text (nameless h.inputs uses.0 uses.1 gs) []) ∙ append-nil bare));
     }
+
+-- the gates of a circuit that has nothing but these behind inputs and latches are in order
+ordered_behind : (h : Counts) (c : Circuit) → c ≡ with_more_gates (fresh_circuit h.inputs h.latches) c.gates → IsCircuit c → AreOrderedFrom (suc (h.inputs + h.latches)) c.gates
+ordered_behind h c bare valid =
+    subst (λ (m : ℕ). AreOrderedFrom (suc m) c.gates)
+    (ap (λ (d : Circuit). d.inputs + length c.latches) bare ∙ ap (λ (l : ℕ). h.inputs + l) (ap (λ (d : Circuit). length d.latches) bare ∙ length-replicate h.latches fresh_latch)) valid.ordered
+
+-- with gates in order they are a circuit
+pub spelled_valid : (form : Form) (h : Counts) (ls : List Latch) (p : PropertiesValue) (before : List ℕ) → IsFront form h (ls, properties_of p) before → (c : Circuit) → c ≡ with_more_gates (fresh_circuit h.inputs h.latches) c.gates → length c.gates ≡ h.gates → IsCircuit c
+    → IsCircuit (with_latches_and_properties c ls p)
+spelled_valid form h ls p before front c bare many valid =
+    let s = spelled form h (ls, properties_of p) before c.gates front in
+    let whole : IsCircuit (nameless h.inputs ls (properties_of p) c.gates) =
+    bare_valid form h s.text ls s.after (properties_of p) [] c.gates s.k.few_first s.k.few_last front.fits s.l s.p many (ordered_behind h c bare valid) in
+    subst IsCircuit (sym (ap (λ (d : Circuit). with_latches_and_properties d ls p) bare)) whole
 
 -- a text with such lines, gates and names
 whole_text : (before line i l p gates names : List ℕ) → before ≡ line ++ (i ++ (l ++ p)) → before ++ (gates ++ names) ≡ line ++ (i ++ (l ++ (p ++ (gates ++ names))))
@@ -156,7 +174,7 @@ module _ (h : Counts) (uses : List Latch × Properties) (before : List ℕ) (gs 
       let bare : Circuit = nameless h.inputs uses.0 uses.1 gs in
       let e = end-back (nameless h.inputs uses.0 uses.1 gs) c names (λ (x : Section). few_positions x (nameless h.inputs uses.0 uses.1 gs) f.valid) refl f.are_names in
       let counts : h ≡ counts_in bare =
-      rw (fits, s.l.count, s.p.outputs, many, s.p.bads, s.p.constraints, length_lists uses.1.sizes uses.1.listed ∙ s.p.sizes, s.p.fair) refl in
+      rw (fits, s.l.count, s.p.outputs, many, s.p.bads, s.p.constraints, s.p.justice, s.p.fair) refl in
       let own : h ≡ counts_in c = counts ∙ ap counts_in e.same in
       record {
         header = s.line ++ 10 ∷ [];
@@ -179,7 +197,7 @@ module _ (h : Counts) (uses : List Latch × Properties) (before : List ℕ) (gs 
     own_counts : counts_of_file h.variables (own_lists (nameless h.inputs uses.0 uses.1 gs)) ≡ h
     own_counts =
         let lists = own_many (nameless h.inputs uses.0 uses.1 gs) in
-        rw (lists.0, lists.1, lists.2, s.l.count, many, s.p.outputs, s.p.bads, s.p.constraints, length_lists uses.1.sizes uses.1.listed, s.p.sizes, s.p.fair) refl
+        rw (lists.0, lists.1, lists.2, s.l.count, many, s.p.outputs, s.p.bads, s.p.constraints, s.p.justice, s.p.fair) refl
 
     own_up_to : AreUpTo (2 * h.variables + 1) (own_lists (nameless h.inputs uses.0 uses.1 gs))
     own_up_to = subst (λ (m : ℕ). AreUpTo (2 * m + 1) (own_lists (nameless h.inputs uses.0 uses.1 gs))) all_variables (up_to own_valid own_numbered own_many (nameless h.inputs uses.0 uses.1 gs) f.valid)
@@ -397,7 +415,7 @@ module _ (form : Form) (h : Counts) (uses : List Latch × Properties) (before : 
       ∙ ap (λ (l : List ℕ). before ++ l) (append_assoc (gates_text form first c0.gates) puts.bytes names ∙ ap (λ (l : List ℕ). gates_text form first c0.gates ++ l) (sym puts.text))
 
   in_order : AreOrderedFrom (suc (h.inputs + h.latches)) c1.gates
-  in_order = subst (λ (m : ℕ). AreOrderedFrom (suc m) c1.gates) (ap (λ (i : ℕ). i + length c1.latches) (ap (λ (c : Circuit). c.inputs) bare_then) ∙ ap (λ (l : ℕ). h.inputs + l) latches_are) valid.ordered
+  in_order = ordered_behind h c1 bare_then valid
 
   few_gates : suc (h.inputs + h.latches) + length c1.gates ≤ 2 ^ 32
   few_gates = by c1.inputs (length c1.latches) (ap (λ (c : Circuit). c.inputs) bare_then) latches_are valid.small

@@ -19,8 +19,6 @@ mod ReadStandsLemmas
 mod FieldCutLemmas
 mod FrontLemmas
 mod PassLemmas
-mod TakeLemmas
-mod PropertyListLemmas
 mod NamingLemmas
 mod PutsLemmas
 mod ReadFrontLemmas

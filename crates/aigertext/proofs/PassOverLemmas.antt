@@ -17,7 +17,7 @@ use Rattle.aigertext.specs.declared.fault.Stop.{Stop}
 use Rattle.aigertext.specs.declared.fault.Why.{Why}
 use Rattle.aigertext.specs.Reading.{◌>>=◌, cut_at_byte, line_at, Properties, properties_at}
 use Rattle.aigertext.specs.AsciiReading.{behind_line, behind_lines, lines_before, onto_lists, with_properties_of}
-use Rattle.aigertext.specs.PropertyLists.{no_lists, file_lists, properties_onto}
+use Rattle.aigertext.specs.Passes.{properties_onto}
 use Rattle.aigertext.proofs.BackLemmas.{ok_same, err_same, not_err, bind-back, line-back}
 
 -- ---- lines that are passed over
@@ -94,12 +94,12 @@ onto_kept {A} says with' P step (suc n) l text m rest p e =
     let s = line-back (says l) text b.value.0 b.value.1 b.was in
     onto_kept says with' P step n (with' l b.value.0) b.value.1 m rest (step n l b.value.0 s.line s.said p) b.then'
 
--- no properties yet
-pub no_uses : (h : Counts) (text t1 t2 : List ℕ) (l0 l1 l2 : Loose) (says1 : Loose → List ℕ → Result ℕ Why) (says2 : Loose → List ℕ → Result LatchLine Why)
-    → l0 ≡ empty_loose → onto_lists says1 with_input_line l0 h.inputs text ≡ Ok (l1, t1) → onto_lists says2 with_latch_line l1 h.latches t1 ≡ Ok (l2, t2) → file_lists l2 ≡ no_lists
-no_uses h text t1 t2 l0 l1 l2 says1 says2 none one two =
-    let first : file_lists l1 ≡ no_lists = onto_kept says1 with_input_line (λ n l. file_lists l ≡ no_lists) (λ n l x line e k. k) h.inputs l0 text l1 t1 (ap file_lists none) one in
-    onto_kept says2 with_latch_line (λ n l. file_lists l ≡ no_lists) (λ n l x line e k. k) h.latches l1 t1 l2 t2 first two
+-- no names yet
+pub no_names : (h : Counts) (text t1 t2 : List ℕ) (l0 l1 l2 : Loose) (says1 : Loose → List ℕ → Result ℕ Why) (says2 : Loose → List ℕ → Result LatchLine Why)
+    → l0 ≡ empty_loose → onto_lists says1 with_input_line l0 h.inputs text ≡ Ok (l1, t1) → onto_lists says2 with_latch_line l1 h.latches t1 ≡ Ok (l2, t2) → l2.names ≡ []
+no_names h text t1 t2 l0 l1 l2 says1 says2 none one two =
+    let first : l1.names ≡ [] = onto_kept says1 with_input_line (λ n l. l.names ≡ []) (λ n l x line e k. k) h.inputs l0 text l1 t1 (ap (λ (l : Loose). l.names) none) one in
+    onto_kept says2 with_latch_line (λ n l. l.names ≡ []) (λ n l x line e k. k) h.latches l1 t1 l2 t2 first two
 
 -- ---- the lists of a file, put together
 

@@ -1,7 +1,8 @@
 -- The lines of latches and properties are read again.
-use Rattle.std.proofs.Common.{◌≡◌, ◌≢◌, ℕ, suc, ◌+◌, ◌-◌, ◌*◌, ◌^◌, ◌<◌, ◌≤◌, List, [], ◌∷◌, ◌++◌, length, map, decimal, Some, Ok, refl, sym, ap, ◌∙◌, append_assoc, length-append, inl, inr, ◌⊎◌, arith}
+use Rattle.std.proofs.Common.{◌≡◌, ◌≢◌, ℕ, suc, ◌+◌, ◌-◌, ◌*◌, ◌^◌, ◌<◌, ◌≤◌, List, [], ◌∷◌, ◌++◌, length, map, take, drop, get_or, decimal, Some, Ok, refl, sym, ap, ◌∙◌, append_assoc, length-append, inl, inr, ◌⊎◌, arith}
 use Rattle.std.specs.List.{All, concat, sum, sum_by}
 use Rattle.std.proofs.lemmas.Bool.{ne_eqb, eq-eqb, le-leb}
+use Rattle.std.proofs.lemmas.List.{drop_more, length-drop}
 use Rattle.std.proofs.lemmas.List.Elements.{All-head, All-tail}
 use Rattle.std.proofs.lemmas.List.Sums.{sum-map, sum_by-cons}
 use Rattle.std.proofs.Math.Seq.{take-append_seam, drop-append_seam}
@@ -15,7 +16,8 @@ use Rattle.aigertext.specs.declared.fault.Why.{Why}
 use Rattle.aigertext.specs.declared.fault.Why.TheVariants as why
 use Rattle.aigertext.specs.Ascii.{numbers_line, literal_lines, size_lines, list_lines}
 use Rattle.aigertext.specs.Spelling.{IsReset, AreNextLines}
-use Rattle.aigertext.specs.Reading.{within, reset_of, literal_on, size_of, next_of, next_fields, literals_at, sizes_at, nexts_at, line_at, sized_lists}
+use Rattle.aigertext.specs.Reading.{within, reset_of, literal_on, size_of, next_of, next_fields, literals_at, sizes_at, justice_at, nexts_at, line_at, sized_lists}
+use Rattle.aigertext.proofs.PassLemmas.{sum_of_cons}
 use Rattle.aigertext.proofs.FieldLemmas.{joined, fields-joined, numbers_read, lines_step}
 
 -- ---- literals
@@ -42,7 +44,7 @@ size-read : (before n : ℕ) → before + n ≤ greatest_count → size_of befor
 unfolding size_of
 size-read before n le = rw (number_of-decimal n (omega arith), le-leb n (greatest_count - before) (omega arith)) refl
 
-pub sizes-read : (before : ℕ) (lists : List (List ℕ)) (rest : List ℕ) → before + sum_by length lists ≤ greatest_count → sizes_at before (length lists) (size_lines lists ++ rest) ≡ Ok (map length lists, rest)
+sizes-read : (before : ℕ) (lists : List (List ℕ)) (rest : List ℕ) → before + sum_by length lists ≤ greatest_count → sizes_at before (length lists) (size_lines lists ++ rest) ≡ Ok (map length lists, rest)
 sizes-read before [] rest h = refl
 sizes-read before (ls ∷ lists) rest h =
     let sum : sum_by length (ls ∷ lists) ≡ length ls + sum_by length lists = sum_by-cons length ls lists in
@@ -65,13 +67,43 @@ length-concat_by [] = refl
 length-concat_by (ls ∷ lists) =
     length-append ls (concat lists) ∙ ap (λ (n : ℕ). length ls + n) (length-concat_by lists) ∙ sym (sum_by-cons length ls lists)
 
-pub length-concat : (lists : List (List ℕ)) → sum (map length lists) ≡ length (concat lists)
+length-concat : (lists : List (List ℕ)) → sum (map length lists) ≡ length (concat lists)
 length-concat lists = sum-map length lists ∙ sym (length-concat_by lists)
 
 -- they are cut into the lists again
-pub lists_of-concat : (lists : List (List ℕ)) → sized_lists (map length lists) (concat lists) ≡ lists
+lists_of-concat : (lists : List (List ℕ)) → sized_lists (map length lists) (concat lists) ≡ lists
 lists_of-concat [] = refl
 lists_of-concat (ls ∷ lists) = rw (take-append_seam ls (concat lists), drop-append_seam ls (concat lists), lists_of-concat lists) refl
+
+pub justice-read : (greatest : ℕ) (lists : List (List ℕ)) (rest : List ℕ) → All (λ l. l ≤ greatest) (concat lists) → greatest < 2 ^ 64 → sum_by length lists ≤ greatest_count
+    → justice_at greatest (length lists) (size_lines lists ++ (literal_lines (concat lists) ++ rest)) ≡ Ok (lists, rest)
+justice-read greatest lists rest below small few =
+    let sizes = sizes-read 0 lists (literal_lines (concat lists) ++ rest) (omega (arith, few)) in
+    let listed = literals-read greatest (concat lists) rest below small in
+    rw (sizes, length-concat lists, listed, lists_of-concat lists) refl
+
+-- rows of these sizes, behind those that were there: what is made of them, and the literals of the others
+pub record RowsMade (sizes listed : List ℕ) (before : List (List ℕ)) (index : ℕ) (rows : List (List ℕ)) (rest : List ℕ) : Type 0 where
+  pub all : rows ++ sized_lists (drop index sizes) rest ≡ before ++ sized_lists sizes listed
+  pub sums : length rest ≡ sum (drop index sizes)
+
+module _ (sizes listed : List ℕ) (before : List (List ℕ)) (index : ℕ) (rows : List (List ℕ)) (rest : List ℕ) (m : RowsMade sizes listed before index rows rest) (more : index < length sizes) where
+  abbrev pub size : ℕ
+  size = get_or sizes index 0
+
+  sizes_left : drop index sizes ≡ size ∷ drop (index + 1) sizes
+  sizes_left = drop_more sizes index 0 more
+
+  pub size_within : size ≤ length rest
+  size_within = omega (arith, m.sums ∙ ap sum sizes_left ∙ sum_of_cons size (drop (index + 1) sizes))
+
+  pub row_more : (then' : List (List ℕ)) → then' ≡ rows ++ take size rest ∷ [] → RowsMade sizes listed before (index + 1) then' (drop size rest)
+  row_more then' is = record {
+    all =
+        ap (λ (ns : List (List ℕ)). ns ++ sized_lists (drop (index + 1) sizes) (drop size rest)) is
+        ∙ append_assoc rows (take size rest ∷ []) (sized_lists (drop (index + 1) sizes) (drop size rest)) ∙ ap (λ (ns : List ℕ). rows ++ sized_lists ns rest) (sym sizes_left) ∙ m.all;
+    sums = omega (arith, length-drop size rest, m.sums ∙ ap sum sizes_left ∙ sum_of_cons size (drop (index + 1) sizes), size_within);
+  }
 
 -- ---- latches
 

@@ -4,7 +4,7 @@ use Rattle.std.specs.List.{sum}
 use Rattle.aigertext.specs.declared.reading.counts.Counts.{Counts}
 use Rattle.aigertext.specs.declared.fault.Stop.{Stop}
 use Rattle.aigertext.specs.declared.fault.Why.{Why}
-use Rattle.aigertext.specs.Reading.{line_at, lines_at, literal_on, literals_at, size_of, sizes_at, Properties, properties_at}
+use Rattle.aigertext.specs.Reading.{line_at, lines_at, literal_on, literals_at, size_of, sizes_at, sized_lists, justice_at, Properties, properties_at}
 use Rattle.aigertext.specs.Passes.{WasToBeRead}
 use Rattle.aigertext.proofs.BackLemmas.{ok_same, bind-then, lines-back, line-back}
 use Rattle.aigertext.proofs.FieldLemmas.{line_read}
@@ -43,30 +43,46 @@ lines-front {A} says next s (suc n) text xs rest e =
           ap (lines_at says next s (suc n)) (one_and_others b.one.line o.front other) ∙ (rw (one, others) (ap (λ (l : List A). Ok (l, other)) (sym b.all)));
     }
 
-six_fronts : (a b c d e f other : List ℕ) → (a ++ (b ++ (c ++ (d ++ (e ++ f))))) ++ other ≡ a ++ (b ++ (c ++ (d ++ (e ++ (f ++ other)))))
-six_fronts a b c d e f other = simp append_assoc
+pub justice-front : (greatest n : ℕ) (text : List ℕ) (lists : List (List ℕ)) (rest : List ℕ) → justice_at greatest n text ≡ Ok (lists, rest) → IsAtFront (λ t. justice_at greatest n t) text lists rest
+justice-front greatest n text lists rest e0 =
+    bind-then (sizes_at 0 n text) _ (lists, rest) e0
+    (λ s s' e1. bind-then (literals_at greatest (sum s.0) s.1) _ (lists, rest) e1
+    (λ j j' e2.
+    let sizes = lines-front size_of (λ b size. b + size) 0 n text s.0 s.1 s' in
+    let listed = lines-front literal_on (λ g l. g) greatest (sum s.0) s.1 j.0 j.1 j' in
+    subst (λ (q : List (List ℕ) × List ℕ). IsAtFront (λ t. justice_at greatest n t) text q.0 q.1) (ok_same _ (lists, rest) e2)
+    (record {
+      front = sizes.front ++ listed.front;
+      parts = sizes.parts ∙ ap (λ (t : List ℕ). sizes.front ++ t) listed.parts ∙ sym (append_assoc sizes.front listed.front j.1);
+      again = λ other.
+          let one = sizes.again (listed.front ++ other) in
+          let two = listed.again other in
+          ap (justice_at greatest n) (append_assoc sizes.front listed.front other) ∙ (rw (one, two) refl);
+    })))
 
-joined_fronts : (text a t1 b t2 c t3 d t4 e t5 f rest : List ℕ) → text ≡ a ++ t1 → t1 ≡ b ++ t2 → t2 ≡ c ++ t3 → t3 ≡ d ++ t4 → t4 ≡ e ++ t5 → t5 ≡ f ++ rest → text ≡ (a ++ (b ++ (c ++ (d ++ (e ++ f))))) ++ rest
-joined_fronts text a t1 b t2 c t3 d t4 e t5 f rest p q r s t u =
-    p ∙ ap (λ (l : List ℕ). a ++ l) (q ∙ ap (λ (l : List ℕ). b ++ l) (r ∙ ap (λ (l : List ℕ). c ++ l) (s ∙ ap (λ (l : List ℕ). d ++ l) (t ∙ ap (λ (l : List ℕ). e ++ l) u))))
-    ∙ sym (six_fronts a b c d e f rest)
+five_fronts : (a b c d e other : List ℕ) → (a ++ (b ++ (c ++ (d ++ e)))) ++ other ≡ a ++ (b ++ (c ++ (d ++ (e ++ other))))
+five_fronts a b c d e other = simp append_assoc
 
-module _ (h : Counts) (text t1 t2 t3 t4 t5 rest : List ℕ) (os bs cs ns ls fs : List ℕ)
+joined_fronts : (text a t1 b t2 c t3 d t4 e rest : List ℕ) → text ≡ a ++ t1 → t1 ≡ b ++ t2 → t2 ≡ c ++ t3 → t3 ≡ d ++ t4 → t4 ≡ e ++ rest → text ≡ (a ++ (b ++ (c ++ (d ++ e)))) ++ rest
+joined_fronts text a t1 b t2 c t3 d t4 e rest p q r s t =
+    p ∙ ap (λ (l : List ℕ). a ++ l) (q ∙ ap (λ (l : List ℕ). b ++ l) (r ∙ ap (λ (l : List ℕ). c ++ l) (s ∙ ap (λ (l : List ℕ). d ++ l) t)))
+    ∙ sym (five_fronts a b c d e rest)
+
+module _ (h : Counts) (text t1 t2 t3 t4 rest : List ℕ) (os bs cs : List ℕ) (js : List (List ℕ)) (fs : List ℕ)
     (o : IsAtFront (λ t. literals_at (2 * h.variables + 1) h.outputs t) text os t1) (b : IsAtFront (λ t. literals_at (2 * h.variables + 1) h.bads t) t1 bs t2) (c : IsAtFront (λ t. literals_at (2 * h.variables + 1) h.constraints t) t2 cs t3)
-    (s : IsAtFront (λ t. sizes_at 0 h.justice t) t3 ns t4) (j : IsAtFront (λ t. literals_at (2 * h.variables + 1) (sum ns) t) t4 ls t5) (f : IsAtFront (λ t. literals_at (2 * h.variables + 1) h.fair t) t5 fs rest) where
-  all-front : IsAtFront (properties_at h) text (record { outputs = os; bads = bs; constraints = cs; sizes = ns; listed = ls; fair = fs }) rest
+    (j : IsAtFront (λ t. justice_at (2 * h.variables + 1) h.justice t) t3 js t4) (f : IsAtFront (λ t. literals_at (2 * h.variables + 1) h.fair t) t4 fs rest) where
+  all-front : IsAtFront (properties_at h) text (record { outputs = os; bads = bs; constraints = cs; justice = js; fair = fs }) rest
   unfolding properties_at
   all-front = record {
-    front = o.front ++ (b.front ++ (c.front ++ (s.front ++ (j.front ++ f.front))));
-    parts = joined_fronts text o.front t1 b.front t2 c.front t3 s.front t4 j.front t5 f.front rest o.parts b.parts c.parts s.parts j.parts f.parts;
+    front = o.front ++ (b.front ++ (c.front ++ (j.front ++ f.front)));
+    parts = joined_fronts text o.front t1 b.front t2 c.front t3 j.front t4 f.front rest o.parts b.parts c.parts j.parts f.parts;
     again = λ other.
-        let one = o.again (b.front ++ (c.front ++ (s.front ++ (j.front ++ (f.front ++ other))))) in
-        let two = b.again (c.front ++ (s.front ++ (j.front ++ (f.front ++ other)))) in
-        let three = c.again (s.front ++ (j.front ++ (f.front ++ other))) in
-        let four = s.again (j.front ++ (f.front ++ other)) in
-        let five = j.again (f.front ++ other) in
-        let six = f.again other in
-        ap (properties_at h) (six_fronts o.front b.front c.front s.front j.front f.front other) ∙ (rw (one, two, three, four, five, six) refl);
+        let one = o.again (b.front ++ (c.front ++ (j.front ++ (f.front ++ other)))) in
+        let two = b.again (c.front ++ (j.front ++ (f.front ++ other))) in
+        let three = c.again (j.front ++ (f.front ++ other)) in
+        let four = j.again (f.front ++ other) in
+        let five = f.again other in
+        ap (properties_at h) (five_fronts o.front b.front c.front j.front f.front other) ∙ (rw (one, two, three, four, five) refl);
   }
 
 pub properties-front : (h : Counts) (text : List ℕ) (p : Properties) (rest : List ℕ) → properties_at h text ≡ Ok (p, rest) → IsAtFront (properties_at h) text p rest
@@ -75,20 +91,23 @@ properties-front h text p rest e0 =
     bind-then (literals_at (2 * h.variables + 1) h.outputs text) _ (p, rest) e0
     (λ o o' e1. bind-then (literals_at (2 * h.variables + 1) h.bads o.1) _ (p, rest) e1
     (λ b b' e2. bind-then (literals_at (2 * h.variables + 1) h.constraints b.1) _ (p, rest) e2
-    (λ c c' e3. bind-then (sizes_at 0 h.justice c.1) _ (p, rest) e3
-    (λ s s' e4. bind-then (literals_at (2 * h.variables + 1) (sum s.0) s.1) _ (p, rest) e4
-    (λ j j' e5. bind-then (literals_at (2 * h.variables + 1) h.fair j.1) _ (p, rest) e5
-    (λ f f' e6. subst (λ (q : Properties × List ℕ). IsAtFront (properties_at h) text q.0 q.1) (ok_same _ (p, rest) e6)
-    (all-front h text o.1 b.1 c.1 s.1 j.1 f.1 o.0 b.0 c.0 s.0 j.0 f.0
+    (λ c c' e3. bind-then (justice_at (2 * h.variables + 1) h.justice c.1) _ (p, rest) e3
+    (λ j j' e4. bind-then (literals_at (2 * h.variables + 1) h.fair j.1) _ (p, rest) e4
+    (λ f f' e5. subst (λ (q : Properties × List ℕ). IsAtFront (properties_at h) text q.0 q.1) (ok_same _ (p, rest) e5)
+    (all-front h text o.1 b.1 c.1 j.1 f.1 o.0 b.0 c.0 j.0 f.0
     (lines-front literal_on (λ g l. g) (2 * h.variables + 1) h.outputs text o.0 o.1 o') (lines-front literal_on (λ g l. g) (2 * h.variables + 1) h.bads o.1 b.0 b.1 b') (lines-front literal_on (λ g l. g) (2 * h.variables + 1) h.constraints b.1 c.0 c.1 c')
-    (lines-front size_of (λ b size. b + size) 0 h.justice c.1 s.0 s.1 s') (lines-front literal_on (λ g l. g) (2 * h.variables + 1) (sum s.0) s.1 j.0 j.1 j') (lines-front literal_on (λ g l. g) (2 * h.variables + 1) h.fair j.1 f.0 f.1 f'))))))))
+    (justice-front (2 * h.variables + 1) h.justice c.1 j.0 j.1 j') (lines-front literal_on (λ g l. g) (2 * h.variables + 1) h.fair j.1 f.0 f.1 f')))))))
+
+-- lists that were read by their sizes and their literals
+pub justice_read : (greatest n : ℕ) (text t1 ns ls rest : List ℕ) (lists : List (List ℕ)) → sizes_at 0 n text ≡ Ok (ns, t1) → literals_at greatest (sum ns) t1 ≡ Ok (ls, rest) → lists ≡ sized_lists ns ls → justice_at greatest n text ≡ Ok (lists, rest)
+justice_read greatest n text t1 ns ls rest lists s j is = rw (s, j, is) refl
 
 -- properties that were read up to the last section are all read with that
-pub properties_read : {X : Type 0} (h : Counts) (text t1 t2 t3 t4 t5 os bs cs ns ls fs : List ℕ) (rest : X → List ℕ) (answer : Result X Stop)
+pub properties_read : {X : Type 0} (h : Counts) (text t1 t2 t3 t4 os bs cs : List ℕ) (js : List (List ℕ)) (fs : List ℕ) (rest : X → List ℕ) (answer : Result X Stop)
     → literals_at (2 * h.variables + 1) h.outputs text ≡ Ok (os, t1) → literals_at (2 * h.variables + 1) h.bads t1 ≡ Ok (bs, t2) → literals_at (2 * h.variables + 1) h.constraints t2 ≡ Ok (cs, t3)
-    → sizes_at 0 h.justice t3 ≡ Ok (ns, t4) → literals_at (2 * h.variables + 1) (sum ns) t4 ≡ Ok (ls, t5) → WasToBeRead {X = X} {A = List ℕ × List ℕ} (λ x. (fs, rest x)) answer (literals_at (2 * h.variables + 1) h.fair t5)
-    → WasToBeRead {X = X} {A = Properties × List ℕ} (λ x. (record { outputs = os; bads = bs; constraints = cs; sizes = ns; listed = ls; fair = fs }, rest x)) answer (properties_at h text)
+    → justice_at (2 * h.variables + 1) h.justice t3 ≡ Ok (js, t4) → WasToBeRead {X = X} {A = List ℕ × List ℕ} (λ x. (fs, rest x)) answer (literals_at (2 * h.variables + 1) h.fair t4)
+    → WasToBeRead {X = X} {A = Properties × List ℕ} (λ x. (record { outputs = os; bads = bs; constraints = cs; justice = js; fair = fs }, rest x)) answer (properties_at h text)
 unfolding properties_at
-properties_read h text t1 t2 t3 t4 t5 os bs cs ns ls fs rest (Ok x) o b c s j f = rw (o, b, c, s, j, f) refl
-properties_read h text t1 t2 t3 t4 t5 os bs cs ns ls fs rest (Err e) o b c s j (inl full) = inl full
-properties_read h text t1 t2 t3 t4 t5 os bs cs ns ls fs rest (Err e) o b c s j (inr f) = inr (rw (o, b, c, s, j, f) refl)
+properties_read h text t1 t2 t3 t4 os bs cs js fs rest (Ok x) o b c j f = rw (o, b, c, j, f) refl
+properties_read h text t1 t2 t3 t4 os bs cs js fs rest (Err e) o b c j (inl full) = inl full
+properties_read h text t1 t2 t3 t4 os bs cs js fs rest (Err e) o b c j (inr f) = inr (rw (o, b, c, j, f) refl)

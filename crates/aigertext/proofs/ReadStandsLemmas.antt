@@ -24,7 +24,7 @@ use Rattle.aigertext.specs.Ascii.{form_word, numbers_line, literal_lines, size_l
 use Rattle.aigertext.specs.Counts.{first_of_counts, last_of_counts, counts_in}
 use Rattle.aigertext.specs.Binary.{gates_text}
 use Rattle.aigertext.specs.Spelling.{IsHeader, AreNextLines, GiveNames, Given, IsEnd, IsBinaryText}
-use Rattle.aigertext.specs.Reading.{Properties, sized_lists, line_at, literal_on, size_within, size_of, literals_at, sizes_at, nexts_at, gates_at, properties_at, nameless, binary_at, names_at, header_of}
+use Rattle.aigertext.specs.Reading.{Properties, sized_lists, line_at, literal_on, size_within, size_of, literals_at, sizes_at, justice_at, nexts_at, gates_at, properties_at, nameless, binary_at, names_at, header_of}
 use Rattle.aigertext.proofs.BackLemmas.{ok_same, not_err, bind-back, bind-then, lines-back, within-back, literals-back, sizes-back, SaysAt, line-back}
 use Rattle.aigertext.proofs.FieldLemmas.{joined, numbers_line-joined}
 use Rattle.deltas.proofs.BackLemmas.{AreBytes}
@@ -54,11 +54,18 @@ none_left : (literals : List ℕ) → length literals ≡ 0 → [] ≡ literals
 none_left [] e = refl
 none_left (l ∷ ls) e = absurd (omega (arith, e))
 
-pub concat_of_lists : (ns literals : List ℕ) → length literals ≡ sum ns → concat (sized_lists ns literals) ≡ literals
+concat_of_lists : (ns literals : List ℕ) → length literals ≡ sum ns → concat (sized_lists ns literals) ≡ literals
 concat_of_lists [] literals e = none_left literals e
 concat_of_lists (n ∷ ns) literals e =
     let fits = fits_front n ns literals e in
     ap (λ (l : List ℕ). take n literals ++ l) (concat_of_lists ns (drop n literals) fits.1) ∙ take-append-drop n literals
+
+lists_total : (ns literals : List ℕ) → length literals ≡ sum ns → sum ns ≤ greatest_count → sum_by length (sized_lists ns literals) ≤ greatest_count
+lists_total ns literals e few = subst (λ (n : ℕ). n ≤ greatest_count) (ap sum (sym (sizes_of_lists ns literals e)) ∙ sum-map length (sized_lists ns literals)) few
+
+length_lists : (ns literals : List ℕ) → length (sized_lists ns literals) ≡ length ns
+length_lists [] literals = refl
+length_lists (n ∷ ns) literals = ap suc (length_lists ns (drop n literals))
 
 size_lines-is : (lists : List (List ℕ)) → size_lines lists ≡ literal_lines (map length lists)
 size_lines-is [] = refl
@@ -79,6 +86,9 @@ literals_small greatest (suc n) text ls rest e =
     let others = literals_small greatest n b.after b.others rest b.more in
     let first : b.first ≤ greatest = (within-back why.BadNumber greatest b.first (number_of b.one.line) b.one.said).1 in
     subst (AreSmall greatest (suc n)) (sym b.all) (record { many = ap suc others.many; small = (first, others.small) })
+
+pub literals_many : (greatest n : ℕ) (text ls rest : List ℕ) → literals_at greatest n text ≡ Ok (ls, rest) → length ls ≡ n
+literals_many greatest n text ls rest e = (literals_small greatest n text ls rest e).many
 
 -- all sizes together are within the limit
 size_fits : (before n : ℕ) (line : List ℕ) → size_of before line ≡ Ok n → n ≤ greatest_count - before
@@ -103,51 +113,76 @@ sizes_total before (suc n) text ls rest few e =
     let others = sizes_total (before + b.first) n b.after b.others rest (omega (arith, fits, few)) b.more in
     subst (λ (ns : List ℕ). before + sum ns ≤ greatest_count) (sym b.all) (omega (arith, others, sum_of_cons b.first b.others))
 
+-- justice properties that were read: their lines, and how many and how great they are
+record JusticeBack (greatest n : ℕ) (text : List ℕ) (lists : List (List ℕ)) (rest : List ℕ) : Type 0 where
+  parts : text ≡ size_lines lists ++ (literal_lines (concat lists) ++ rest)
+  count : length lists ≡ n
+  total : sum_by length lists ≤ greatest_count
+  up_to : All (λ l. l ≤ greatest) (concat lists)
+
+below : (greatest n : ℕ) (text ls rest : List ℕ) → literals_at greatest n text ≡ Ok (ls, rest) → All (λ l. l ≤ greatest) ls
+below greatest n text ls rest e = All-from_recursion (λ l. l ≤ greatest) ls (literals_small greatest n text ls rest e).small
+
+justice_are : (greatest n : ℕ) → greatest < 2 ^ 64 - 1 → (text t1 rest ns ls : List ℕ) → sizes_at 0 n text ≡ Ok (ns, t1) → literals_at greatest (sum ns) t1 ≡ Ok (ls, rest) → JusticeBack greatest n text (sized_lists ns ls) rest
+justice_are greatest n small text t1 rest ns ls s j =
+    let s' = sizes-back 0 n text ns t1 s in
+    let j' = literals-back greatest (sum ns) t1 ls rest small j in
+    let sizes : size_lines (sized_lists ns ls) ≡ literal_lines ns = size_lines-is (sized_lists ns ls) ∙ ap literal_lines (sizes_of_lists ns ls j'.count) in
+    let listed : concat (sized_lists ns ls) ≡ ls = concat_of_lists ns ls j'.count in
+    record {
+      parts =
+          s'.parts ∙ ap (λ (l : List ℕ). literal_lines ns ++ l) j'.parts ∙ ap (λ (l : List ℕ). l ++ (literal_lines ls ++ rest)) (sym sizes)
+          ∙ ap (λ (l : List ℕ). size_lines (sized_lists ns ls) ++ (literal_lines l ++ rest)) (sym listed);
+      count = length_lists ns ls ∙ s'.count;
+      total = lists_total ns ls j'.count (omega (arith, sizes_total 0 n text ns t1 (omega arith) s));
+      up_to = subst (All (λ l. l ≤ greatest)) (sym listed) (below greatest (sum ns) t1 ls rest j);
+    }
+
+justice-back : (greatest n : ℕ) → greatest < 2 ^ 64 - 1 → (text : List ℕ) (lists : List (List ℕ)) (rest : List ℕ) → justice_at greatest n text ≡ Ok (lists, rest) → JusticeBack greatest n text lists rest
+justice-back greatest n small text lists rest e0 =
+    bind-then (sizes_at 0 n text) _ (lists, rest) e0
+    (λ s s' e1. bind-then (literals_at greatest (sum s.0) s.1) _ (lists, rest) e1
+    (λ j j' e2. subst (λ (q : List (List ℕ) × List ℕ). JusticeBack greatest n text q.0 q.1) (ok_same _ (lists, rest) e2) (justice_are greatest n small text s.1 j.1 s.0 j.0 s' j')))
+
 pub record PropertiesBack (h : Counts) (text : List ℕ) (p : Properties) (rest : List ℕ) : Type 0 where
-  pub parts : text ≡ literal_lines p.outputs ++ (literal_lines p.bads ++ (literal_lines p.constraints ++ (literal_lines p.sizes ++ (literal_lines p.listed ++ (literal_lines p.fair ++ rest)))))
+  pub parts : text ≡ literal_lines p.outputs ++ (literal_lines p.bads ++ (literal_lines p.constraints ++ (size_lines p.justice ++ (literal_lines (concat p.justice) ++ (literal_lines p.fair ++ rest)))))
   pub outputs : length p.outputs ≡ h.outputs
   pub bads : length p.bads ≡ h.bads
   pub constraints : length p.constraints ≡ h.constraints
-  pub sizes : length p.sizes ≡ h.justice
-  pub listed : length p.listed ≡ sum p.sizes
+  pub justice : length p.justice ≡ h.justice
   pub fair : length p.fair ≡ h.fair
-  pub total : sum p.sizes ≤ greatest_count
+  pub total : sum_by length p.justice ≤ greatest_count
   pub up_to : HasUpTo (2 * h.variables + 1) (nameless 0 [] p [])
 
-six_parts : (t a b c d e a' b' c' d' e' f r : List ℕ) → t ≡ a ++ a' → a' ≡ b ++ b' → b' ≡ c ++ c' → c' ≡ d ++ d' → d' ≡ e ++ e' → e' ≡ f ++ r → t ≡ a ++ (b ++ (c ++ (d ++ (e ++ (f ++ r)))))
-six_parts t a b c d e a' b' c' d' e' f r p q s u v w =
-    p ∙ ap (λ (l : List ℕ). a ++ l) (q ∙ ap (λ (l : List ℕ). b ++ l) (s ∙ ap (λ (l : List ℕ). c ++ l) (u ∙ ap (λ (l : List ℕ). d ++ l) (v ∙ ap (λ (l : List ℕ). e ++ l) w))))
+five_parts : (t a b c d e f a' b' c' d' r : List ℕ) → t ≡ a ++ a' → a' ≡ b ++ b' → b' ≡ c ++ c' → c' ≡ d ++ (e ++ d') → d' ≡ f ++ r → t ≡ a ++ (b ++ (c ++ (d ++ (e ++ (f ++ r)))))
+five_parts t a b c d e f a' b' c' d' r p q s u v =
+    p ∙ ap (λ (l : List ℕ). a ++ l) (q ∙ ap (λ (l : List ℕ). b ++ l) (s ∙ ap (λ (l : List ℕ). c ++ l) (u ∙ ap (λ (l : List ℕ). d ++ (e ++ l)) v)))
 
 -- the parts of properties that were read
-module _ (h : Counts) (small : 2 * h.variables + 1 < 2 ^ 64 - 1) (text t1 t2 t3 t4 t5 rest : List ℕ) (os bs cs ns ls fs : List ℕ)
+module _ (h : Counts) (small : 2 * h.variables + 1 < 2 ^ 64 - 1) (text t1 t2 t3 t4 rest : List ℕ) (os bs cs : List ℕ) (js : List (List ℕ)) (fs : List ℕ)
     (o : literals_at (2 * h.variables + 1) h.outputs text ≡ Ok (os, t1)) (b : literals_at (2 * h.variables + 1) h.bads t1 ≡ Ok (bs, t2)) (c : literals_at (2 * h.variables + 1) h.constraints t2 ≡ Ok (cs, t3))
-    (s : sizes_at 0 h.justice t3 ≡ Ok (ns, t4)) (j : literals_at (2 * h.variables + 1) (sum ns) t4 ≡ Ok (ls, t5)) (f : literals_at (2 * h.variables + 1) h.fair t5 ≡ Ok (fs, rest)) where
-  below : (n : ℕ) (text ls rest : List ℕ) → literals_at (2 * h.variables + 1) n text ≡ Ok (ls, rest) → All (λ l. l ≤ 2 * h.variables + 1) ls
-  below n text ls rest e = All-from_recursion (λ l. l ≤ 2 * h.variables + 1) ls (literals_small (2 * h.variables + 1) n text ls rest e).small
-
-  properties_are : PropertiesBack h text (record { outputs = os; bads = bs; constraints = cs; sizes = ns; listed = ls; fair = fs }) rest
+    (j : justice_at (2 * h.variables + 1) h.justice t3 ≡ Ok (js, t4)) (f : literals_at (2 * h.variables + 1) h.fair t4 ≡ Ok (fs, rest)) where
+  properties_are : PropertiesBack h text (record { outputs = os; bads = bs; constraints = cs; justice = js; fair = fs }) rest
   properties_are =
       let o' = literals-back (2 * h.variables + 1) h.outputs text os t1 small o in
       let b' = literals-back (2 * h.variables + 1) h.bads t1 bs t2 small b in
       let c' = literals-back (2 * h.variables + 1) h.constraints t2 cs t3 small c in
-      let s' = sizes-back 0 h.justice t3 ns t4 s in
-      let j' = literals-back (2 * h.variables + 1) (sum ns) t4 ls t5 small j in
-      let f' = literals-back (2 * h.variables + 1) h.fair t5 fs rest small f in
+      let j' = justice-back (2 * h.variables + 1) h.justice small t3 js t4 j in
+      let f' = literals-back (2 * h.variables + 1) h.fair t4 fs rest small f in
       record {
-        parts = six_parts text (literal_lines os) (literal_lines bs) (literal_lines cs) (literal_lines ns) (literal_lines ls) t1 t2 t3 t4 t5 (literal_lines fs) rest o'.parts b'.parts c'.parts s'.parts j'.parts f'.parts;
+        parts = five_parts text (literal_lines os) (literal_lines bs) (literal_lines cs) (size_lines js) (literal_lines (concat js)) (literal_lines fs) t1 t2 t3 t4 rest o'.parts b'.parts c'.parts j'.parts f'.parts;
         outputs = o'.count;
         bads = b'.count;
         constraints = c'.count;
-        sizes = s'.count;
-        listed = j'.count;
+        justice = j'.count;
         fair = f'.count;
-        total = omega (arith, sizes_total 0 h.justice t3 ns t4 (omega arith) s);
+        total = j'.total;
         up_to = record {
-          outputs = below h.outputs text os t1 o;
-          bads = below h.bads t1 bs t2 b;
-          constraints = below h.constraints t2 cs t3 c;
-          justice = subst (All (λ n. n ≤ 2 * h.variables + 1)) (sym (concat_of_lists ns ls j'.count)) (below (sum ns) t4 ls t5 j);
-          fair = below h.fair t5 fs rest f;
+          outputs = below (2 * h.variables + 1) h.outputs text os t1 o;
+          bads = below (2 * h.variables + 1) h.bads t1 bs t2 b;
+          constraints = below (2 * h.variables + 1) h.constraints t2 cs t3 c;
+          justice = j'.up_to;
+          fair = below (2 * h.variables + 1) h.fair t4 fs rest f;
         };
       }
 
@@ -157,11 +192,10 @@ properties-back h text p rest few e0 =
     bind-then (literals_at (2 * h.variables + 1) h.outputs text) _ (p, rest) e0
     (λ o o' e1. bind-then (literals_at (2 * h.variables + 1) h.bads o.1) _ (p, rest) e1
     (λ b b' e2. bind-then (literals_at (2 * h.variables + 1) h.constraints b.1) _ (p, rest) e2
-    (λ c c' e3. bind-then (sizes_at 0 h.justice c.1) _ (p, rest) e3
-    (λ s s' e4. bind-then (literals_at (2 * h.variables + 1) (sum s.0) s.1) _ (p, rest) e4
-    (λ j j' e5. bind-then (literals_at (2 * h.variables + 1) h.fair j.1) _ (p, rest) e5
-    (λ f f' e6. subst (λ (q : Properties × List ℕ). PropertiesBack h text q.0 q.1) (ok_same _ (p, rest) e6)
-    (properties_are h (omega (arith, few)) text o.1 b.1 c.1 s.1 j.1 f.1 o.0 b.0 c.0 s.0 j.0 f.0 o' b' c' s' j' f')))))))
+    (λ c c' e3. bind-then (justice_at (2 * h.variables + 1) h.justice c.1) _ (p, rest) e3
+    (λ j j' e4. bind-then (literals_at (2 * h.variables + 1) h.fair j.1) _ (p, rest) e4
+    (λ f f' e5. subst (λ (q : Properties × List ℕ). PropertiesBack h text q.0 q.1) (ok_same _ (p, rest) e5)
+    (properties_are h (omega (arith, few)) text o.1 b.1 c.1 j.1 f.1 o.0 b.0 c.0 j.0 f.0 o' b' c' j' f'))))))
 
 -- ---- the circuit
 
@@ -177,9 +211,6 @@ lists_hold P (ls ∷ lists) h =
     let parts = front_holds P ls (concat lists) h in
     All-cons (All P) ls lists parts.0 (lists_hold P lists parts.1)
 
-pub lists_total : (ns literals : List ℕ) → length literals ≡ sum ns → sum ns ≤ greatest_count → sum_by length (sized_lists ns literals) ≤ greatest_count
-lists_total ns literals e few = subst (λ (n : ℕ). n ≤ greatest_count) (ap sum (sym (sizes_of_lists ns literals e)) ∙ sum-map length (sized_lists ns literals)) few
-
 -- names change nothing else
 pub names_alone : (c : Circuit) (gs : List Given) (d : Circuit) → GiveNames c gs d → ◌≡◌ {A = Circuit} (record c { names = [] }) (record d { names = [] })
 names_alone c [] d e = ap (λ (x : Circuit). record x { names = [] }) e
@@ -192,70 +223,44 @@ pub record IsBody (h : Counts) (text : List ℕ) (end : List ℕ) (c : Circuit) 
   pub whole : text ≡ latches ++ (property_lines c ++ (gates_text Binary (suc (c.inputs + length c.latches)) c.gates ++ end))
   pub counts : h ≡ counts_in c
 
-pub length_lists : (ns literals : List ℕ) → length (sized_lists ns literals) ≡ length ns
-length_lists [] literals = refl
-length_lists (n ∷ ns) literals = ap suc (length_lists ns (drop n literals))
-
-pub property_is : (inputs : ℕ) (ls : List Latch) (p : Properties) (gs : List Gate) (rest : List ℕ) → length p.listed ≡ sum p.sizes
-    → property_lines (nameless inputs ls p gs) ++ rest
-    ≡ literal_lines p.outputs ++ (literal_lines p.bads ++ (literal_lines p.constraints ++ (literal_lines p.sizes ++ (literal_lines p.listed ++ (literal_lines p.fair ++ rest)))))
-property_is inputs ls p gs rest e =
-    let sizes : size_lines (sized_lists p.sizes p.listed) ≡ literal_lines p.sizes = size_lines-is (sized_lists p.sizes p.listed) ∙ ap literal_lines (sizes_of_lists p.sizes p.listed e) in
-    property_text (nameless inputs ls p gs) rest
-    ∙ ap (λ (l : List ℕ). literal_lines p.outputs ++ (literal_lines p.bads ++ (literal_lines p.constraints ++ (l ++ (literal_lines (concat (sized_lists p.sizes p.listed)) ++ (literal_lines p.fair ++ rest)))))) sizes
-    ∙ ap (λ (l : List ℕ). literal_lines p.outputs ++ (literal_lines p.bads ++ (literal_lines p.constraints ++ (literal_lines p.sizes ++ (literal_lines l ++ (literal_lines p.fair ++ rest))))))
-    (concat_of_lists p.sizes p.listed e)
-
--- what stands behind a header is the circuit's sections
-module _ (h : Counts) (text : List ℕ) (c : Circuit) (ls : List Latch) (after : List ℕ) (p : Properties) (behind : List ℕ) (gs : List Gate) (end : List ℕ)
+-- a circuit of what was read before the gates of a text, and of gates
+module _ (form : Form) (h : Counts) (text : List ℕ) (ls : List Latch) (after : List ℕ) (p : Properties) (behind : List ℕ) (gs : List Gate)
     (few_first : AreCounts (first_of_counts h)) (few_last : AreCounts (last_of_counts h)) (fits : h.variables ≡ h.inputs + h.latches + h.gates)
-    (l : AreLatchesAt Binary (2 * h.variables + 1) (suc h.inputs) h.latches text ls after) (q : PropertiesBack h after p behind) (g : AreGatesAt (suc (h.inputs + h.latches)) h.gates behind gs end) where
-  bare : Circuit
-  bare = nameless h.inputs ls p gs
-
+    (l : AreLatchesAt form (2 * h.variables + 1) (suc h.inputs) h.latches text ls after) (q : PropertiesBack h after p behind) (many : length gs ≡ h.gates) where
   few_bare : HasFewPositions (nameless h.inputs ls p gs)
   few_bare section.Input = few_first.1.0
   few_bare section.Latch = omega (arith, l.count, few_first.1.1.0)
   few_bare section.Output = omega (arith, q.outputs, few_first.1.1.1.0)
   few_bare section.Bad = omega (arith, q.bads, few_last.0)
   few_bare section.Constraint = omega (arith, q.constraints, few_last.1.0)
-  few_bare section.Justice = omega (arith, length_lists p.sizes p.listed, q.sizes, few_last.1.1.0)
+  few_bare section.Justice = omega (arith, q.justice, few_last.1.1.0)
   few_bare section.Fair = omega (arith, q.fair, few_last.1.1.1.0)
 
-  body-is : IsBody h text end (nameless h.inputs ls p gs)
-  body-is = record {
-    latches = l.bytes;
-    are_latches = l.lines;
-    whole =
-        l.parts
-        ∙ ap (λ (t : List ℕ). l.bytes ++ t) (q.parts ∙ sym (property_is h.inputs ls p gs behind q.listed))
-        ∙ ap (λ (t : List ℕ). l.bytes ++ (property_lines (nameless h.inputs ls p gs) ++ t))
-        (g.parts ∙ ap (λ (n : ℕ). gates_text Binary (suc (h.inputs + n)) gs ++ end) (sym l.count));
-    counts = rw (fits, l.count, q.outputs, g.count, q.bads, q.constraints, length_lists p.sizes p.listed ∙ q.sizes, q.fair) refl;
-  }
+  counts_bare : h ≡ counts_in (nameless h.inputs ls p gs)
+  counts_bare = rw (fits, l.count, q.outputs, many, q.bads, q.constraints, q.justice, q.fair) refl
 
-  bare_valid : IsCircuit (nameless h.inputs ls p gs)
+  pub bare_valid : AreOrderedFrom (suc (h.inputs + h.latches)) gs → IsCircuit (nameless h.inputs ls p gs)
   unfolding IsStrictlySortedBy
-  bare_valid =
-      let many : h.inputs + length ls + length gs ≡ h.variables = omega (arith, l.count, g.count, fits) in
-      let defined = λ (lits : List ℕ) (b : All (λ n. n ≤ 2 * h.variables + 1) lits). All-weaker (λ n. n ≤ 2 * h.variables + 1) (λ n. variable n ≤ h.inputs + length ls + length gs) (λ n le. omega (arith, le, many)) lits b in
+  bare_valid ordered =
+      let all : h.inputs + length ls + length gs ≡ h.variables = omega (arith, l.count, many, fits) in
+      let defined = λ (lits : List ℕ) (b : All (λ n. n ≤ 2 * h.variables + 1) lits). All-weaker (λ n. n ≤ 2 * h.variables + 1) (λ n. variable n ≤ h.inputs + length ls + length gs) (λ n le. omega (arith, le, all)) lits b in
       record {
-        small = omega (arith, many, few_first.0);
+        small = omega (arith, all, few_first.0);
         few = record {
           outputs = omega (arith, q.outputs, few_first.1.1.1.0);
           bads = omega (arith, q.bads, few_last.0);
           constraints = omega (arith, q.constraints, few_last.1.0);
-          justice = omega (arith, length_lists p.sizes p.listed, q.sizes, few_last.1.1.0);
-          justice_literals = lists_total p.sizes p.listed q.listed q.total;
+          justice = omega (arith, q.justice, few_last.1.1.0);
+          justice_literals = q.total;
           fair = omega (arith, q.fair, few_last.1.1.1.0);
         };
-        ordered = subst (λ (n : ℕ). AreOrderedFrom (suc (h.inputs + n)) gs) (sym l.count) g.ordered;
+        ordered = subst (λ (n : ℕ). AreOrderedFrom (suc (h.inputs + n)) gs) (sym l.count) ordered;
         defined = record {
-          nexts = All-weaker (λ x. x.next ≤ 2 * h.variables + 1) (λ x. variable x.next ≤ h.inputs + length ls + length gs) (λ x le. omega (arith, le, many)) ls l.below;
+          nexts = All-weaker (λ x. x.next ≤ 2 * h.variables + 1) (λ x. variable x.next ≤ h.inputs + length ls + length gs) (λ x le. omega (arith, le, all)) ls l.below;
           outputs = defined p.outputs q.up_to.outputs;
           bads = defined p.bads q.up_to.bads;
           constraints = defined p.constraints q.up_to.constraints;
-          justice = lists_hold (λ n. variable n ≤ h.inputs + length ls + length gs) (sized_lists p.sizes p.listed) (defined (concat (sized_lists p.sizes p.listed)) q.up_to.justice);
+          justice = lists_hold (λ n. variable n ≤ h.inputs + length ls + length gs) p.justice (defined (concat p.justice) q.up_to.justice);
           fair = defined p.fair q.up_to.fair;
         };
         names = record { sorted = tt; named = All-nil (IsNamed (nameless h.inputs ls p gs)) };
@@ -304,14 +309,25 @@ binary-back law h text c few_first few_last fits bytes e =
     let l' = latches-back Binary (2 * h.variables + 1) (suc h.inputs) h.latches text l.value.0 l.value.1 (omega (arith, few_first.0)) (omega (arith, few_first.1.0, few_first.1.1.0)) l.was in
     let p' = properties-back h l.value.1 p.value.0 p.value.1 few_first.0 p.was in
     let bytes1 : AreBytes l.value.1 = bytes_after l'.bytes l.value.1 text bytes l'.parts in
-    let bytes2 : AreBytes p.value.1 = bytes_after (property_lines (nameless 0 [] p.value.0 [])) p.value.1 l.value.1 bytes1 (p'.parts ∙ sym (property_is 0 [] p.value.0 [] p.value.1 p'.listed)) in
+    let bytes2 : AreBytes p.value.1 = bytes_after (property_lines (nameless 0 [] p.value.0 [])) p.value.1 l.value.1 bytes1 (p'.parts ∙ sym (property_text (nameless 0 [] p.value.0 []) p.value.1)) in
     let g' = gates-back (suc (h.inputs + h.latches)) h.gates p.value.1 g.value.0 g.value.1 bytes2 g.was in
-    let few = few_bare h text c l.value.0 l.value.1 p.value.0 p.value.1 g.value.0 g.value.1 few_first few_last fits l' p' g' in
-    let n = end-back (nameless h.inputs l.value.0 p.value.0 g.value.0) c g.value.1 few refl g.then' in
+    let bare : Circuit = nameless h.inputs l.value.0 p.value.0 g.value.0 in
+    let n = end-back bare c g.value.1 (few_bare Binary h text l.value.0 l.value.1 p.value.0 p.value.1 g.value.0 few_first few_last fits l' p' g'.count) refl g.then' in
+    let body : IsBody h text g.value.1 bare =
+    record {
+      latches = l'.bytes;
+      are_latches = l'.lines;
+      whole =
+          l'.parts
+          ∙ ap (λ (t : List ℕ). l'.bytes ++ t) (p'.parts ∙ sym (property_text bare p.value.1))
+          ∙ ap (λ (t : List ℕ). l'.bytes ++ (property_lines bare ++ t))
+          (g'.parts ∙ ap (λ (n : ℕ). gates_text Binary (suc (h.inputs + n)) g.value.0 ++ g.value.1) (sym l'.count));
+      counts = counts_bare Binary h text l.value.0 l.value.1 p.value.0 p.value.1 g.value.0 few_first few_last fits l' p' g'.count;
+    } in
     record {
       end = g.value.1;
-      body = body_of h text g.value.1 c (subst (IsBody h text g.value.1) n.same (body-is h text c l.value.0 l.value.1 p.value.0 p.value.1 g.value.0 g.value.1 few_first few_last fits l' p' g'));
-      valid = n.valid law (bare_valid h text c l.value.0 l.value.1 p.value.0 p.value.1 g.value.0 g.value.1 few_first few_last fits l' p' g');
+      body = body_of h text g.value.1 c (subst (IsBody h text g.value.1) n.same body);
+      valid = n.valid law (bare_valid Binary h text l.value.0 l.value.1 p.value.0 p.value.1 g.value.0 few_first few_last fits l' p' g'.count g'.ordered);
       is_end = n.is_end;
     }
   where

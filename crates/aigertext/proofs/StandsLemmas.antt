@@ -22,7 +22,7 @@ use Rattle.aigertext.proofs.GateLemmas.{gates-read}
 use Rattle.aigertext.proofs.HeaderLemmas.{circuit_counts, header-read}
 use Rattle.aigertext.proofs.NameTextLemmas.{counts_kept}
 use Rattle.aigertext.proofs.NameReadLemmas.{HasFewPositions, names-read}
-use Rattle.aigertext.proofs.PropertyLemmas.{literals-read, sizes-read, list_lines-concat, length-concat, lists_of-concat, nexts-read}
+use Rattle.aigertext.proofs.PropertyLemmas.{literals-read, justice-read, list_lines-concat, nexts-read}
 
 -- a literal that is defined is at most the greatest one
 defined_below : (n : Net) (l : ℕ) → IsDefined n l → l ≤ 2 * variables n + 1
@@ -46,8 +46,7 @@ properties_in c =
       outputs = c.outputs;
       bads = c.bads;
       constraints = c.constraints;
-      sizes = map length c.justice;
-      listed = concat c.justice;
+      justice = c.justice;
       fair = c.fair;
     }
 
@@ -80,11 +79,10 @@ properties-read variables inputs latches gates c rest few below few_literals =
     let outputs = literals-read (2 * variables + 1) c.outputs one below.outputs small in
     let bads = literals-read (2 * variables + 1) c.bads two below.bads small in
     let constraints = literals-read (2 * variables + 1) c.constraints three below.constraints small in
-    let sizes = sizes-read 0 c.justice four (omega (arith, few_literals)) in
-    let listed = literals-read (2 * variables + 1) (concat c.justice) five below.justice small in
+    let justice = justice-read (2 * variables + 1) c.justice five below.justice small few_literals in
     let fair = literals-read (2 * variables + 1) c.fair rest below.fair small in
     ap (properties_at (record { variables = variables; inputs = inputs; latches = latches; outputs = length c.outputs; gates = gates; bads = length c.bads; constraints = length c.constraints; justice = length c.justice; fair = length c.fair })) (property_text c rest)
-    ∙ (rw (outputs, bads, constraints, sizes, length-concat c.justice, listed, fair) refl)
+    ∙ (rw (outputs, bads, constraints, justice, fair) refl)
 
 pub circuit_up_to : (c : Circuit) → IsCircuit c → HasUpTo (2 * variables (net c) + 1) c
 circuit_up_to c valid = record {
@@ -94,10 +92,6 @@ circuit_up_to c valid = record {
   justice = lists_below (net c) c.justice valid.defined.justice;
   fair = all_below (net c) c.fair valid.defined.fair;
 }
-
--- the circuit without its names
-nameless_is : (c : Circuit) → nameless c.inputs c.latches (properties_in c) c.gates ≡ record c { names = [] }
-nameless_is c = ap (λ (lists : List (List ℕ)). record c { names = []; justice = lists }) (lists_of-concat c.justice)
 
 pub few_in : (c : Circuit) → IsCircuit c → HasFewPositions (record c { names = [] })
 few_in c valid s = omega (arith, counts_kept s c [], few_positions s c valid)
@@ -115,8 +109,7 @@ body-read c text t =
     let properties = properties-read (variables (net c)) c.inputs (length c.latches) (length c.gates) c third valid.small (circuit_up_to c valid) valid.few.justice_literals in
     let gates = gates-read (suc (c.inputs + length c.latches)) c.gates t.end valid.ordered (omega (arith, few)) in
     let names : names_at (nameless c.inputs c.latches (properties_in c) c.gates) t.end ≡ Ok c =
-    ap (λ (d : Circuit). names_at d t.end) (nameless_is c)
-    ∙ ap (names_at (record c { names = [] })) t.is_end.spelled
+    ap (names_at (record c { names = [] })) t.is_end.spelled
     ∙ names-read (record c { names = [] }) t.is_end.given c t.is_end.comment (few_in c valid) t.is_end.names t.is_end.is_comment in
     rw (nexts, properties, gates) names
 

@@ -11,7 +11,7 @@ use Rattle.aigertext.specs.declared.reading.counts.Counts.{Counts}
 use Rattle.aigertext.specs.declared.fault.Stop.{Stop}
 use Rattle.aigertext.specs.declared.fault.Why.{Why}
 use Rattle.aigertext.specs.declared.fault.Why.TheVariants as why
-use Rattle.aigertext.specs.Reading.{◌>>=◌, stop, cut_at_byte, fields, line_at, some_or, within, next_fields, header_of, sized_lists, Properties, properties_at, names_at, binary_at, fault_of}
+use Rattle.aigertext.specs.Reading.{◌>>=◌, stop, cut_at_byte, fields, line_at, some_or, within, next_fields, header_of, Properties, properties_at, names_at, binary_at, fault_of}
 use Rattle.aigertext.specs.declared.forms.Form.{Form}
 use Rattle.aigertext.specs.declared.forms.Form.TheVariants.{Ascii, Binary}
 use Rattle.aigertext.specs.declared.fault.ReadFault.{ReadFault}
@@ -65,7 +65,7 @@ onto_lists says with' l (suc n) text = do
 -- the lists with their properties
 abbrev pub with_properties_of : Loose → Properties → Loose
 with_properties_of l p =
-    record l { outputs = p.outputs; bads = p.bads; constraints = p.constraints; justice = sized_lists p.sizes p.listed; fair = p.fair }
+    record l { outputs = p.outputs; bads = p.bads; constraints = p.constraints; justice = p.justice; fair = p.fair }
 
 -- the lists that stand behind a header of the ascii form, and the text behind them
 unfoldable pub lists_of_file : Counts → List ℕ → Result (Loose × List ℕ) Stop

@@ -20,12 +20,11 @@ use Rattle.aigertext.specs.Ascii.{numbers_line}
 use Rattle.aigertext.specs.Binary.{inputs_text, gates_text}
 use Rattle.aigertext.specs.declared.reading.front.Front.{Front}
 use Rattle.aigertext.specs.Counts.{AreSmall, Fits}
-use Rattle.aigertext.specs.PropertyLists.{numbers_of}
 use Rattle.aigertext.specs.Spelling.{SpellsCircuit}
 use Rattle.aigertext.specs.Numbering.{IsNumberingOfText}
 use Rattle.aigertext.specs.AsciiReading.{lists_of_file, AnswersText}
 use Rattle.aigertext.specs.Reading.{◌>>=◌, line_at, header_of, Properties, properties_at, nameless, names_at}
-use Rattle.aigertext.specs.Passes.{with_more_gates, latches_in, ReadsText}
+use Rattle.aigertext.specs.Passes.{with_more_gates, latches_in, properties_of, ReadsText}
 
 -- ---- the text
 
@@ -37,7 +36,7 @@ uses_at form h text = do
   Ok ((l.0, p.0), p.1)
 
 abbrev pub uses_of : Front → List Latch × Properties
-uses_of f = (f.latches.items, numbers_of f.properties)
+uses_of f = (f.latches.items, properties_of f.properties)
 
 -- a text that begins with a header, the lines of the inputs in turn, where the form has them, and those of latches and properties, whatever stands behind them
 pub record IsFront (form : Form) (h : Counts) (uses : List Latch × Properties) (before : List ℕ) : Type 0 where

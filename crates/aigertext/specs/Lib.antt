@@ -6,7 +6,6 @@ pub mod Reading
 pub mod AsciiReading
 pub mod Numbering
 pub mod Counts
-pub mod PropertyLists
 pub mod Passes
 pub mod InOrder
 pub mod Worked

@@ -2,14 +2,16 @@
 use Rattle.std.specs.Prelude.{◌≡◌, ℕ, ◌+◌, ◌-◌, ◌==◌, List, [], ◌∷◌, ◌++◌, Bool, true, Option, Result, Ok, Err, ◌⊎◌, if◌then◌else◌}
 use Rattle.aiger.specs.declared.circuit.Gate.{Gate}
 use Rattle.aiger.specs.declared.circuit.Latch.{Latch}
+use Rattle.aiger.specs.declared.lists.Properties.{Properties as PropertiesValue}
 use Rattle.aiger.specs.Circuit.{Circuit}
 use Rattle.aigerlists.specs.declared.numbered.Numbered.{Numbered}
 use Rattle.aigerlists.specs.declared.fault.LooseFault.{LooseFault}
 use Rattle.aigerlists.specs.Loose.{Loose}
 use Rattle.aigerlists.specs.Renumbering.{IsRenumbered, IsNumberingOf, AnswersNumber}
-use Rattle.aigertext.specs.AsciiReading.{IsAsciiFaultOf}
+use Rattle.aigertext.specs.AsciiReading.{with_properties_of, IsAsciiFaultOf}
 use Rattle.aigertext.specs.Spelling.{SpellsCircuit}
 use Rattle.aigertext.specs.Numbering.{IsNumberingOfText}
+use Rattle.aigertext.specs.declared.reading.counts.Counts.{Counts}
 use Rattle.aigertext.specs.declared.fault.ReadFault.{ReadFault}
 use Rattle.aigertext.specs.declared.fault.Stop.{Stop}
 use Rattle.aigertext.specs.declared.fault.Why.{Why}
@@ -17,7 +19,7 @@ use Rattle.aigertext.specs.declared.fault.Why.TheVariants as why
 use Rattle.base.specs.Decimals.{number_of}
 use Rattle.aigertext.specs.declared.forms.Form.{Form}
 use Rattle.aigertext.specs.declared.forms.Form.TheVariants.{Ascii, Binary}
-use Rattle.aigertext.specs.Reading.{◌>>=◌, some_or, fields, lines_at, next_fields, next_of, names_at, delta_at, below, at_or_below}
+use Rattle.aigertext.specs.Reading.{◌>>=◌, some_or, fields, lines_at, next_fields, next_of, Properties, properties_at, names_at, delta_at, below, at_or_below}
 
 -- ---- latches in both forms
 
@@ -53,12 +55,21 @@ abbrev pub onto : {A : Type 0} → List A → Result (List A × List ℕ) Stop �
 onto front (Ok x) = Ok (front ++ x.0, x.1)
 onto front (Err e) = Err e
 
--- the circuit with more gates, and with other latches
+-- the circuit with more gates
 abbrev pub with_more_gates : Circuit → List Gate → Circuit
 with_more_gates c gs = record c { gates = c.gates ++ gs }
 
-abbrev pub with_latches : Circuit → List Latch → Circuit
-with_latches c ls = record c { latches = ls }
+-- the properties that a value has, and none
+abbrev pub properties_of : PropertiesValue → Properties
+properties_of p =
+    record { outputs = p.outputs.items; bads = p.bads.items; constraints = p.constraints.items; justice = p.justice; fair = p.fair.items }
+
+abbrev pub no_properties : Properties
+no_properties = record { outputs = []; bads = []; constraints = []; justice = []; fair = [] }
+
+-- the lists of a file with the properties that a header counts, and the text behind these
+abbrev pub properties_onto : Counts → Loose → List ℕ → Result (Loose × List ℕ) Stop
+properties_onto h l text = properties_at h text >>= (λ x. Ok (with_properties_of l x.0, x.1))
 
 -- an answer, seen as what was made, is one that is to be given, unless memory ran out
 abbrev pub ReadsBy : {X A E : Type 0} → (E → Why) → (X → A) → Result X E → (Result A E → Type 0) → Type 0

@@ -281,13 +281,19 @@ abbrev pub sized_lists : List ℕ → List ℕ → List (List ℕ)
 sized_lists [] literals = []
 sized_lists (n ∷ ns) literals = take n literals ∷ sized_lists ns (drop n literals)
 
--- the literals of outputs, bad properties and constraints, the sizes and literals of the justice properties, and the fairness constraints
+-- so many justice properties: the sizes of all, then the literals of all
+abbrev pub justice_at : ℕ → ℕ → List ℕ → Result (List (List ℕ) × List ℕ) Stop
+justice_at greatest n text = do
+  s ← sizes_at 0 n text
+  j ← literals_at greatest (sum s.0) s.1
+  Ok (sized_lists s.0 j.0, j.1)
+
+-- the literals of outputs, bad properties and constraints, those of each justice property, and the fairness constraints
 pub record Properties : Type 0 where
   pub outputs : List ℕ
   pub bads : List ℕ
   pub constraints : List ℕ
-  pub sizes : List ℕ
-  pub listed : List ℕ
+  pub justice : List (List ℕ)
   pub fair : List ℕ
 
 -- the properties that a header counts, and the text behind them
@@ -296,10 +302,9 @@ properties_at h text = do
   o ← literals_at (2 * h.variables + 1) h.outputs text
   b ← literals_at (2 * h.variables + 1) h.bads o.1
   c ← literals_at (2 * h.variables + 1) h.constraints b.1
-  s ← sizes_at 0 h.justice c.1
-  j ← literals_at (2 * h.variables + 1) (sum s.0) s.1
+  j ← justice_at (2 * h.variables + 1) h.justice c.1
   f ← literals_at (2 * h.variables + 1) h.fair j.1
-  Ok (record { outputs = o.0; bads = b.0; constraints = c.0; sizes = s.0; listed = j.0; fair = f.0 }, f.1)
+  Ok (record { outputs = o.0; bads = b.0; constraints = c.0; justice = j.0; fair = f.0 }, f.1)
 
 -- a circuit without names
 abbrev pub nameless : ℕ → List Latch → Properties → List Gate → Circuit
@@ -311,7 +316,7 @@ nameless inputs latches p gates =
       outputs = p.outputs;
       bads = p.bads;
       constraints = p.constraints;
-      justice = sized_lists p.sizes p.listed;
+      justice = p.justice;
       fair = p.fair;
       names = [];
     }

@@ -30,7 +30,6 @@ mod numbers;
 mod pieces;
 mod plain_numbers;
 mod properties;
-mod property_lists;
 mod taking;
 
 use crate::fault::{ReadFault, Stop, Why};
@@ -61,7 +60,7 @@ fn read_lines(alloc: Global, counts: &Counts, text: &[u8], lines: &[u8]) -> Resu
     let Ok(mut circuit) = Circuit::new(alloc, front.counts.inputs, front.counts.latches) else {
         return Err(stop(text, Why::NoMemory));
     };
-    read_left(&mut circuit, &front, gates)?;
+    read_left(&mut circuit, front, gates)?;
     Ok(circuit)
 }
 

@@ -1,13 +1,12 @@
 //! Reading what stands behind the header of an ascii text.
-ghost use Rattle.std.specs.Prelude.{◌≡◌, ◌-◌, ◌≤◌, true, Ok, length, IfOk};
+ghost use Rattle.std.specs.Prelude.{◌≡◌, ◌-◌, ◌≤◌, true, [], Ok, length, IfOk};
 ghost use Rattle.std.specs.List.{sum_by};
 ghost use Rattle.aigerlists.specs.Loose.{empty_loose};
 ghost use Rattle.aigerlists.specs.Renumbering.{used_lines};
 ghost use Rattle.aigertext.specs.declared.forms.Form.TheVariants as form;
 ghost use Rattle.aigertext.specs.AsciiReading.{lists_of_file, behind_lines, lines_before, AnswersLists};
 ghost use Rattle.aigertext.specs.Numbering.{IsNumberingOfLists};
-ghost use Rattle.aigertext.specs.Passes.{WasToBeRead, ReadsBy, AnswersWanted, AreNumbersOf};
-ghost use Rattle.aigertext.specs.PropertyLists.{no_lists, file_lists, properties_onto};
+ghost use Rattle.aigertext.specs.Passes.{WasToBeRead, ReadsBy, AnswersWanted, AreNumbersOf, properties_onto};
 ghost use Rattle.aigertext.specs.Counts.{AreSmall, Fits};
 
 use crate::fault::{Stop, Why};
@@ -15,32 +14,29 @@ use crate::reading::ascii_definitions::push_definitions;
 use crate::reading::counts::Counts;
 use crate::reading::lines::stop;
 use crate::reading::names::give_names;
-use crate::reading::properties::{PropertyLines, read_properties};
-use crate::reading::property_lists::put_properties;
-use aiger::Lit;
+use crate::reading::properties::read_properties;
+use aiger::{Lit, Properties};
 use aigerlists::laws::one_renumbering;
 use aigerlists::{GateLine, LatchLine, Loose, LooseFault, Numbered};
 use base::next_line;
 use std::alloc::Global;
 
-/// Adds the properties of a file by their lines, and answers the text behind them.
-fn push_properties<'a>(
+/// Sets the properties of a file by their lines, and answers the text behind them.
+fn set_properties<'a>(
     alloc: Global,
     lists: &mut Loose,
     text: &'a [u8],
     counts: &Counts,
 ) -> Result<&'a [u8], Stop>
-    requires none { file_lists lists.old ≡ no_lists }
+    requires unnamed { lists.old.names ≡ [] }
     requires small { AreSmall counts.now }
     ensures { WasToBeRead (λ x. (lists.new, x.now)) result
         (properties_onto counts.now lists.old text.now) }
 {
-    let mut properties = PropertyLines::new(alloc);
-    let rest = read_properties(&mut properties, text, counts)?;
-    match put_properties(lists, &properties) {
-        Ok(()) => Ok(rest),
-        Err(_) => Err(stop(rest, Why::NoMemory)),
-    }
+    let mut properties = Properties::new(alloc);
+    let rest = read_properties(alloc, &mut properties, text, counts)?;
+    lists.set_properties(properties);
+    Ok(rest)
 }
 
 /// Reads the lists of a file onto empty ones, and answers the text behind them.
@@ -58,7 +54,7 @@ pub fn read_lists<'a>(
     let greatest = 2 * counts.variables + 1;
     let rest = push_definitions::<Lit>(lists, text, greatest, counts.inputs)?;
     let rest = push_definitions::<LatchLine>(lists, rest, greatest, counts.latches)?;
-    let rest = push_properties(alloc, lists, rest, counts)?;
+    let rest = set_properties(alloc, lists, rest, counts)?;
     push_definitions::<GateLine>(lists, rest, greatest, counts.gates)
 }
 

@@ -5,8 +5,7 @@ ghost use Rattle.std.specs.Io.KnownBytes.{prepend_known, Keeps, IsAtEnd};
 ghost use Rattle.base.specs.Device.{HasRisen};
 ghost use Rattle.aigertext.specs.Binary.{inputs_text};
 ghost use Rattle.aigertext.specs.Counts.{AreSmall, Fits};
-ghost use Rattle.aigertext.specs.Passes.{latches_in, WasToBeRead};
-ghost use Rattle.aigertext.specs.PropertyLists.{no_numbers};
+ghost use Rattle.aigertext.specs.Passes.{latches_in, WasToBeRead, no_properties};
 ghost use Rattle.aigertext.specs.InOrder.{uses_at, uses_of, HasFront};
 
 use crate::fault::{Stop, Why};
@@ -15,12 +14,12 @@ use crate::reading::counts::Counts;
 use crate::reading::lines::{header_line, latch_line, stop};
 use crate::reading::pieces::{PIECE, read_piece};
 use crate::reading::plain_numbers::number_before;
-use crate::reading::properties::{PropertyLines, read_properties};
-use aiger::Latch;
+use crate::reading::properties::read_properties;
+use aiger::{Latch, Properties};
 use base::{ReadAllFault, Source};
 use std::alloc::Global;
 
-/// What stands before the gates of a text: its form and its counts, and the numbers of its latches and properties.
+/// What stands before the gates of a text: its form and its counts, its latches and its properties.
 #[derive(Drop)]
 pub(crate) struct Front {
     /// The form.
@@ -30,7 +29,7 @@ pub(crate) struct Front {
     /// The latches.
     pub(crate) latches: Vec<Latch>,
     /// The properties.
-    pub(crate) properties: PropertyLines,
+    pub(crate) properties: Properties,
 }
 
 /// Reads so many latches by their lines, the first of which has the given literal, and answers the text behind them.
@@ -62,8 +61,8 @@ fn read_latches<'a>(
 }
 
 /// Reads the lines of the latches and of all properties, and answers the text behind them.
-fn read_uses<'a>(front: &mut Front, text: &'a [u8]) -> Result<&'a [u8], Stop>
-    requires none { uses_of front.old ≡ ([], no_numbers) }
+fn read_uses<'a>(alloc: Global, front: &mut Front, text: &'a [u8]) -> Result<&'a [u8], Stop>
+    requires none { uses_of front.old ≡ ([], no_properties) }
     requires small { AreSmall front.old.counts }
     requires fits { front.old.counts.inputs + front.old.counts.latches
         ≤ front.old.counts.variables }
@@ -77,7 +76,7 @@ fn read_uses<'a>(front: &mut Front, text: &'a [u8]) -> Result<&'a [u8], Stop>
     let first = 2 * (counts.inputs + 1);
     let latches = &mut front.latches;
     let rest = read_latches(latches, front.form, text, greatest, first, counts.latches)?;
-    read_properties(&mut front.properties, rest, &counts)
+    read_properties(alloc, &mut front.properties, rest, &counts)
 }
 
 /// What the lines of latches and properties say in a form, and the text behind them.
@@ -98,9 +97,9 @@ pub fn uses<'a>(
         form,
         counts: *counts,
         latches: Vec::new(alloc),
-        properties: PropertyLines::new(alloc),
+        properties: Properties::new(alloc),
     };
-    let gates = read_uses(&mut front, text)?;
+    let gates = read_uses(alloc, &mut front, text)?;
     Ok((front, gates))
 }
 

@@ -1,49 +1,15 @@
-//! The lines of properties, read as numbers.
-ghost use Rattle.std.specs.Prelude.{◌≡◌, ◌≤◌, [], IfOk};
+//! The lines of properties.
+ghost use Rattle.std.specs.Prelude.{◌≡◌, ◌≤◌, [], ◌++◌, length, IfOk, OnOk};
 ghost use Rattle.std.specs.List.{sum};
-ghost use Rattle.aigertext.specs.Counts.{AreSmall};
-ghost use Rattle.aigertext.specs.Reading.{literals_at, sizes_at, properties_at};
-ghost use Rattle.aigertext.specs.Passes.{WasToBeRead};
-ghost use Rattle.aigertext.specs.PropertyLists.{numbers_of, no_numbers};
+ghost use Rattle.aigertext.specs.Reading.{sized_lists, literals_at, sizes_at, justice_at, properties_at};
+ghost use Rattle.aigertext.specs.Passes.{WasToBeRead, properties_of, no_properties};
 
 use crate::fault::{Stop, Why};
 use crate::reading::counts::Counts;
 use crate::reading::lines::{literal_line, size_line, stop};
-use aiger::Lit;
-use std::alloc::Global;
-
-/// The numbers of the lines of properties.
-#[derive(Drop)]
-pub(crate) struct PropertyLines {
-    /// The literals of the outputs.
-    pub(crate) outputs: Vec<Lit>,
-    /// The literals of the bad properties.
-    pub(crate) bads: Vec<Lit>,
-    /// The literals of the constraints.
-    pub(crate) constraints: Vec<Lit>,
-    /// How many literals each justice property has.
-    pub(crate) sizes: Vec<u32>,
-    /// The literals of all justice properties.
-    pub(crate) listed: Vec<Lit>,
-    /// The literals of the fairness constraints.
-    pub(crate) fair: Vec<Lit>,
-}
-
-impl PropertyLines {
-    /// No numbers.
-    pub fn new(alloc: Global) -> PropertyLines
-        ensures { numbers_of result ≡ no_numbers }
-    {
-        PropertyLines {
-            outputs: Vec::new(alloc),
-            bads: Vec::new(alloc),
-            constraints: Vec::new(alloc),
-            sizes: Vec::new(alloc),
-            listed: Vec::new(alloc),
-            fair: Vec::new(alloc),
-        }
-    }
-}
+use aiger::{Lit, Properties};
+use base::Rows;
+use std::alloc::{AllocError, Global};
 
 /// Reads the literals of so many lines, and answers the text behind them.
 fn read_literals<'a>(
@@ -89,22 +55,57 @@ fn read_sizes<'a>(list: &mut Vec<u32>, text: &'a [u8], count: u32) -> Result<(u3
     Ok((total, rest))
 }
 
+/// Adds rows of these sizes, by the literals of all of them.
+fn push_rows(rows: &mut Rows<Lit>, sizes: &[u32], listed: &[Lit]) -> Result<(), AllocError>
+    requires { length listed.now ≡ sum sizes.now }
+    ensures { OnOk result (rows.new ≡ rows.old ++ sized_lists sizes.now listed.now) }
+{
+    let mut rest = listed;
+    for size in sizes {
+        let (row, behind) = rest.split_at(*size as usize);
+        rows.push(row)?;
+        rest = behind;
+    }
+    Ok(())
+}
+
+/// Reads so many justice properties, the sizes of all and then the literals of all, and answers the text behind them.
+fn read_justice<'a>(
+    alloc: Global,
+    justice: &mut Rows<Lit>,
+    text: &'a [u8],
+    greatest: u32,
+    count: u32,
+) -> Result<&'a [u8], Stop>
+    requires { justice.old ≡ [] }
+    ensures { WasToBeRead (λ x. (justice.new, x.now)) result (justice_at greatest count text.now) }
+{
+    let mut sizes = Vec::new(alloc);
+    let (total, rest) = read_sizes(&mut sizes, text, count)?;
+    let mut listed = Vec::new(alloc);
+    let rest = read_literals(&mut listed, rest, greatest, total)?;
+    match push_rows(justice, &sizes, &listed) {
+        Ok(()) => Ok(rest),
+        Err(_) => Err(stop(rest, Why::NoMemory)),
+    }
+}
+
 /// Reads the lines of all properties, and answers the text behind them.
 pub fn read_properties<'a>(
-    lines: &mut PropertyLines,
+    alloc: Global,
+    properties: &mut Properties,
     text: &'a [u8],
     counts: &Counts,
 ) -> Result<&'a [u8], Stop>
-    requires none { numbers_of lines.old ≡ no_numbers }
+    requires none { properties_of properties.old ≡ no_properties }
     requires small { counts.now.variables ≤ 1073741824 }
-    ensures { WasToBeRead (λ x. (numbers_of lines.new, x.now)) result
+    ensures { WasToBeRead (λ x. (properties_of properties.new, x.now)) result
         (properties_at counts.now text.now) }
 {
     let greatest = 2 * counts.variables + 1;
-    let rest = read_literals(&mut lines.outputs, text, greatest, counts.outputs)?;
-    let rest = read_literals(&mut lines.bads, rest, greatest, counts.bads)?;
-    let rest = read_literals(&mut lines.constraints, rest, greatest, counts.constraints)?;
-    let (listed, rest) = read_sizes(&mut lines.sizes, rest, counts.justice)?;
-    let rest = read_literals(&mut lines.listed, rest, greatest, listed)?;
-    read_literals(&mut lines.fair, rest, greatest, counts.fair)
+    let rest = read_literals(&mut properties.outputs, text, greatest, counts.outputs)?;
+    let rest = read_literals(&mut properties.bads, rest, greatest, counts.bads)?;
+    let rest = read_literals(&mut properties.constraints, rest, greatest, counts.constraints)?;
+    let rest = read_justice(alloc, &mut properties.justice, rest, greatest, counts.justice)?;
+    read_literals(&mut properties.fair, rest, greatest, counts.fair)
 }

@@ -53,16 +53,16 @@ fn is_out_of_turn(form: Form, circuit: &Circuit, count: usize) -> bool
 /// onto the lists of a file.
 fn read_onto<S: Source>(
     alloc: Global,
-    front: &Front,
+    front: Front,
     before: &[u8],
     circuit: &mut Circuit,
     window: &mut Vec<u8>,
     source: &mut S,
     wanted: bool,
 ) -> Result<Option<Taken>, ReadAllFault>
-    requires front { IsFront front.now.form front.now.counts (uses_of front.now) before.now }
-    requires small { AreSmall front.now.counts }
-    requires fresh { circuit.old ≡ fresh_circuit front.now.counts.inputs front.now.counts.latches }
+    requires front { IsFront front.form front.counts (uses_of front) before.now }
+    requires small { AreSmall front.counts }
+    requires fresh { circuit.old ≡ fresh_circuit front.counts.inputs front.counts.latches }
     ensures taken { IfOk result
         (IsTakenOnto (prepend_known (before.now ++ window.old.items) (S.to_come source.old)) wanted
         circuit.new) }
@@ -73,7 +73,7 @@ fn read_onto<S: Source>(
     ensures memory { IsErrOf result ReadAllFault.NoMemory → S.failures source.new
         ≡ S.failures source.old }
 {
-    let counts = &front.counts;
+    let counts = front.counts;
     let count = counts.gates as usize;
     let greatest = 2 * counts.variables + 1;
     let passed = read_gates(front.form, greatest, circuit, window, count, source)?;
@@ -97,14 +97,14 @@ fn read_onto<S: Source>(
 /// Takes all of a source behind a text whose lines before the gates are in order.
 fn take_behind<S: Source>(
     alloc: Global,
-    front: &Front,
+    front: Front,
     before: &[u8],
     gates: &[u8],
     source: &mut S,
     wanted: bool,
 ) -> Result<Taken, ReadAllFault>
-    requires front { IsFront front.now.form front.now.counts (uses_of front.now) before.now }
-    requires small { AreSmall front.now.counts }
+    requires front { IsFront front.form front.counts (uses_of front) before.now }
+    requires small { AreSmall front.counts }
     ensures taken { IfOk result
         (IsTakenFrom (prepend_known (before.now ++ gates.now) (S.to_come source.old)) wanted) }
     ensures end { OnOk result (IsAtEnd (S.to_come source.new)) }
@@ -152,7 +152,7 @@ pub fn take<S: Source>(alloc: Global, source: &mut S, wanted: bool) -> Result<Ta
         None => Ok(Taken::Text(text)),
         Some((front, place)) => {
             let (before, gates) = text.as_slice().split_at(place);
-            take_behind(alloc, &front, before, gates, source, wanted)
+            take_behind(alloc, front, before, gates, source, wanted)
         }
     }
 }

@@ -4,7 +4,7 @@ use Rattle.aigerlists.specs.Loose.{with_gate_line}
 use Rattle.aigertext.specs.Passes.{WasToBeRead}
 use Rattle.aigertext.specs.AsciiReading.{lists_of_file, onto_lists, gate_of_line}
 use Rattle.aigertext.proofs.PassLemmas.{reads_stop, stops_then, reads_then, stopped}
-use Rattle.aigertext.proofs.PassOverLemmas.{no_uses, gates_left, gates_stop}
+use Rattle.aigertext.proofs.PassOverLemmas.{no_names, gates_left, gates_stop}
 use Rattle.aigertext.proofs.reading.ascii.read_lists.Goals as goal
 
 pub returns-in_err-rest : goal.returns-in_err-rest
@@ -17,9 +17,9 @@ unfolding lists_of_file
 returns-in_err-rest-2 c =
     stopped _ _ _ _ (err_from_is_err_and c.from_residual-in_err-rest-2.result c.from_residual-in_err-rest-2.ensures.1) (stops_then _ _ _ _ (rw c.requires.empty at c.in_ok-rest.ensures) (reads_stop _ _ _ c.in_err-rest-2.ensures))
 
-pub push_properties-requires-clause-none : goal.push_properties-requires-clause-none
-push_properties-requires-clause-none c =
-    no_uses c.args.counts.now c.args.text.now _ _ c.args.lists.now c.push_definitions.new.lists c.push_definitions-2.new.lists _ _ c.requires.empty c.in_ok-rest.ensures c.in_ok-rest-2.ensures
+pub set_properties-requires-clause-unnamed : goal.set_properties-requires-clause-unnamed
+set_properties-requires-clause-unnamed c =
+    no_names c.args.counts.now c.args.text.now _ _ c.args.lists.now c.push_definitions.new.lists c.push_definitions-2.new.lists _ _ c.requires.empty c.in_ok-rest.ensures c.in_ok-rest-2.ensures
 
 pub returns-in_err-rest-3 : goal.returns-in_err-rest-3
 unfolding lists_of_file
@@ -38,5 +38,5 @@ returns c =
     reads_then _ _ _ _ _ (rw c.requires.empty at c.in_ok-rest.ensures)
     (reads_then _ _ _ _ _ c.in_ok-rest-2.ensures
     (subst (WasToBeRead (λ x. (c.push_definitions-3.new.lists, x.now)) c.push_definitions-3.result)
-    (sym (gates_left c.args.counts.now c.push_definitions-2.new.lists c.push_properties.new.lists _ _ (λ l t. onto_lists (gate_of_line (2 * c.args.counts.now.variables + 1)) with_gate_line l c.args.counts.now.gates t) c.in_ok-rest-3.ensures))
+    (sym (gates_left c.args.counts.now c.push_definitions-2.new.lists c.set_properties.new.lists _ _ (λ l t. onto_lists (gate_of_line (2 * c.args.counts.now.variables + 1)) with_gate_line l c.args.counts.now.gates t) c.in_ok-rest-3.ensures))
     c.push_definitions-3.ensures))

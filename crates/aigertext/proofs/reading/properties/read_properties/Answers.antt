@@ -16,15 +16,9 @@ pub returns-in_err-rest-3 : goal.returns-in_err-rest-3
 unfolding properties_at
 returns-in_err-rest-3 c = stopped _ _ _ _ (err_from_is_err_and c.from_residual-in_err-rest-3.result c.from_residual-in_err-rest-3.ensures.1) (stops_then _ _ _ _ c.in_ok-rest.ensures (stops_then _ _ _ _ c.in_ok-rest-2.ensures (reads_stop _ _ _ c.in_err-rest-3.ensures)))
 
-pub returns-in_err-listed : goal.returns-in_err-listed
-unfolding properties_at
-returns-in_err-listed c = stopped _ _ _ _ (err_from_is_err_and c.from_residual-in_err-listed.result c.from_residual-in_err-listed.ensures.1) (stops_then _ _ _ _ c.in_ok-rest.ensures (stops_then _ _ _ _ c.in_ok-rest-2.ensures (stops_then _ _ _ _ c.in_ok-rest-3.ensures (reads_stop _ _ _ c.in_err-listed.ensures.read))))
-
 pub returns-in_err-rest-4 : goal.returns-in_err-rest-4
 unfolding properties_at
-returns-in_err-rest-4 c = stopped _ _ _ _ (err_from_is_err_and c.from_residual-in_err-rest-4.result c.from_residual-in_err-rest-4.ensures.1) (stops_then _ _ _ _ c.in_ok-rest.ensures (stops_then _ _ _ _ c.in_ok-rest-2.ensures (stops_then _ _ _ _ c.in_ok-rest-3.ensures (stops_then _ _ _ _ c.in_ok-listed.ensures.read (reads_stop _ _ _ (rw c.in_ok-listed.ensures.sums at c.in_err-rest-4.ensures))))))
+returns-in_err-rest-4 c = stopped _ _ _ _ (err_from_is_err_and c.from_residual-in_err-rest-4.result c.from_residual-in_err-rest-4.ensures.1) (stops_then _ _ _ _ c.in_ok-rest.ensures (stops_then _ _ _ _ c.in_ok-rest-2.ensures (stops_then _ _ _ _ c.in_ok-rest-3.ensures (reads_stop _ _ _ c.in_err-rest-4.ensures))))
 
 pub returns : goal.returns
-returns c =
-    properties_read c.args.counts.now c.args.text.now _ _ _ _ _ _ _ _ _ _ _ (λ x. x.now) c.read_literals-5.result c.in_ok-rest.ensures c.in_ok-rest-2.ensures c.in_ok-rest-3.ensures c.in_ok-listed.ensures.read
-    (rw c.in_ok-listed.ensures.sums at c.in_ok-rest-4.ensures) c.read_literals-5.ensures
+returns c = properties_read c.args.counts.now c.args.text.now _ _ _ _ _ _ _ _ _ (λ x. x.now) c.read_literals-4.result c.in_ok-rest.ensures c.in_ok-rest-2.ensures c.in_ok-rest-3.ensures c.in_ok-rest-4.ensures c.read_literals-4.ensures

@@ -7,9 +7,9 @@ use Rattle.aigertext.proofs.reading.taking.read_onto.Goals as goal
 
 pub returns-in-Ok-clause-taken : goal.returns-in-Ok-clause-taken
 returns-in-Ok-clause-taken g c = record {
-  text = text_with c.args.front.now.form c.args.front.now.counts c.args.before.now c.read_gates.new.target.gates c.read_rest.new.bytes.items;
+  text = text_with c.args.front.form c.args.front.counts c.args.before.now c.read_gates.new.target.gates c.read_rest.new.bytes.items;
   is =
-      text_all c.args.front.now.form c.args.front.now.counts c.args.before.now c.args.circuit.now c.read_gates.new.target c.in_ok-passed.passed c.args.window.now.items c.read_gates.new.window.items
+      text_all c.args.front.form c.args.front.counts c.args.before.now c.args.circuit.now c.read_gates.new.target c.in_ok-passed.passed c.args.window.now.items c.read_gates.new.window.items
       (g.S.Source.to_come c.args.source.now) (g.S.Source.to_come c.read_gates.new.source) c.requires.fresh c.in_ok-passed.ensures.puts
       c.read_rest.new.bytes.items (g.S.Source.to_come c.read_rest.new.source) c.in_ok-read_rest.ensures.bytes c.in_ok-read_rest.ensures.end;
   reads =
@@ -19,14 +19,14 @@ returns-in-Ok-clause-taken g c = record {
 
 pub returns-in-Err-clause-taken : goal.returns-in-Err-clause-taken
 returns-in-Err-clause-taken g c = record {
-  text = text_with c.args.front.now.form c.args.front.now.counts c.args.before.now c.read_gates.new.target.gates c.read_rest.new.bytes.items;
+  text = text_with c.args.front.form c.args.front.counts c.args.before.now c.read_gates.new.target.gates c.read_rest.new.bytes.items;
   is =
-      text_all c.args.front.now.form c.args.front.now.counts c.args.before.now c.args.circuit.now c.read_gates.new.target c.in_ok-passed.passed c.args.window.now.items c.read_gates.new.window.items
+      text_all c.args.front.form c.args.front.counts c.args.before.now c.args.circuit.now c.read_gates.new.target c.in_ok-passed.passed c.args.window.now.items c.read_gates.new.window.items
       (g.S.Source.to_come c.args.source.now) (g.S.Source.to_come c.read_gates.new.source) c.requires.fresh c.in_ok-passed.ensures.puts
       c.read_rest.new.bytes.items (g.S.Source.to_come c.read_rest.new.source) c.in_ok-read_rest.ensures.bytes c.in_ok-read_rest.ensures.end;
   reads =
       fault_read _ c.args.wanted c.in_ok-total.total c.in-Err.stop c.fault.result
-      (text_long c.args.front.now.form c.args.front.now.counts c.args.before.now c.args.circuit.now c.read_gates.new.target c.in_ok-passed.passed c.args.window.now.items c.read_gates.new.window.items
+      (text_long c.args.front.form c.args.front.counts c.args.before.now c.args.circuit.now c.read_gates.new.target c.in_ok-passed.passed c.args.window.now.items c.read_gates.new.window.items
       (g.S.Source.to_come c.args.source.now) (g.S.Source.to_come c.read_gates.new.source) c.requires.fresh c.in_ok-passed.ensures.puts
       c.in_ok-total.total c.read_rest.new.bytes.items (omega (arith, rw c.in_ok-total.ensures.ok_part at c.total-total.ensures, c.len.ensures)))
       c.fault.ensures (rw c.as_slice.ensures.value at (c.in-Err.ensures c.args.before.now c.requires.front));
@@ -34,7 +34,7 @@ returns-in-Err-clause-taken g c = record {
 
 pub returns-then-is_out_of_turn-clause-taken : goal.returns-then-is_out_of_turn-clause-taken
 returns-then-is_out_of_turn-clause-taken g c =
-    let f = c.args.front.now in
+    let f = c.args.front in
     let k0 = g.S.Source.to_come c.args.source.now in
     let k1 = g.S.Source.to_come c.read_gates.new.source in
     let window = c.read_gates.new.window.items in
