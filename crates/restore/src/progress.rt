@@ -1,6 +1,5 @@
 //! How far a reading of frames is, line by line.
-ghost use Rattle.std.specs.Prelude.{◌≡◌, ℕ, true, false, List, ◌∷◌, length, IfOk, ◌==◌, ◌||◌};
-ghost use Rattle.std.specs.List.{list_all};
+ghost use Rattle.std.specs.Prelude.{◌≡◌, ℕ, true, false, List, ◌∷◌, length, IfOk};
 ghost use Rattle.restore.specs.declared.place.Place.TheVariants.{Start};
 ghost use Rattle.restore.specs.Reading.{initial_why, frame_why, line_bits, read_frames, read_found_lines};
 ghost use Rattle.restore.specs.Steps.{may_follow, read_at, later_lines, lines_from, given_by, ReadsFrame, FailsByText};
@@ -8,6 +7,7 @@ ghost use Rattle.restore.specs.Steps.{may_follow, read_at, later_lines, lines_fr
 use crate::fault::{RestoreFault, RestoreWhy};
 use crate::place::Place;
 use std::alloc::{AllocError, Global};
+use witness::are_bits;
 
 /// How far a reading of frames is.
 #[derive(Drop)]
@@ -30,17 +30,6 @@ fn initial_why(line: &[u8]) -> Option<RestoreWhy>
         }
     }
     None
-}
-
-/// Whether all bytes are `0` or `1`. All are looked at, so that many are at once.
-fn are_bits(line: &[u8]) -> bool
-    ensures { result ≡ list_all (λ b. b == 48 || b == 49) line.now }
-{
-    let mut all = true;
-    for byte in line {
-        all &= *byte == b'0' || *byte == b'1';
-    }
-    all
 }
 
 /// Writes the bits of a line.

@@ -16,8 +16,8 @@ fn is_bit(byte: u8) -> bool
     byte == b'0' || byte == b'1'
 }
 
-/// Whether all bytes are `0` or `1`. All are looked at, so that many are at once.
-fn are_all_bits(line: &[u8]) -> bool
+/// Whether all bytes of a line are `0` or `1`. All are looked at, so that many are at once.
+pub fn are_bits(line: &[u8]) -> bool
     ensures { result ≡ list_all is_bit line.now }
 {
     let mut all = true;
@@ -35,7 +35,7 @@ pub(crate) fn no_bits(line: &[u8], count: u64) -> Option<Why>
     if line.len() as u64 != count {
         return Some(Why::BadValue);
     }
-    if are_all_bits(line) {
+    if are_bits(line) {
         return None;
     }
     Some(refusal(line))

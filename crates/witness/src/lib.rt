@@ -27,6 +27,7 @@ mod word_reader;
 mod word_value;
 
 pub use bit_judge::BitJudge;
+pub use bit_line::are_bits;
 pub use bit_lines::BitLines;
 pub use bit_play::first_violated;
 pub use cut_line::CutLine;

@@ -1,7 +1,7 @@
 use Rattle.std.proofs.Common.{◌≡◌, take}
 use Rattle.std.specs.List.{list_all}
 use Rattle.witness.specs.Admits.{is_bit}
-use Rattle.witness.proofs.bit_line.are_all_bits.Given as goal
+use Rattle.witness.proofs.bit_line.are_bits.Given as goal
 
 abbrev pub invariant-loop-byte : goal.invariant-loop-byte
 invariant-loop-byte l = l.all ≡ list_all is_bit (take l.byte-index l.line)
