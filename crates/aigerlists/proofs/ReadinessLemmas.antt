@@ -15,7 +15,7 @@ use Rattle.std.specs.BinaryHeap.{IsHeap, IsUpperBound, PopsGreatest}
 use Rattle.std.specs.List.{AllByRecursion, list_any, IsDistinct}
 use Rattle.std.specs.List.Sorted.{IsPermutation}
 use Rattle.std.specs.declared.cmp.Reverse.{Reverse}
-use Rattle.aigerlists.specs.Readiness.{slot_at, waits_for_nothing, awaited, may_be_next, AreSlots, is_passed, stands, IsChain, turns, one_if, times_ready, IsFirstReady, is_open, IsPut, IsFirst, AreFirst, AreDone, IsUnderway, IsTaken, IsWholeOrder}
+use Rattle.aigerlists.specs.Readiness.{slot_at, waits_for_nothing, awaited, may_be_next, AreSlots, is_passed, stands, IsChain, turns, one_if, times_ready, IsFirstReady, is_open, IsPut, IsFirst, AreFirst, AreDone, IsUnderway, IsTaken}
 use Rattle.aigerlists.proofs.OrderLemmas.{false_unless}
 
 -- what is read at a position is the element there
@@ -648,11 +648,6 @@ pub walk_left : (slots : List ℕ) (n bound : ℕ) (done heads links : List ℕ)
 walk_left slots n bound done heads links ready at w =
     length_is links at (length heads) w.rest w.chain
     (omega (arith, w.underway.marks.count, length-le_from_distinct_below w.rest n (chain_once links at w.rest w.chain) (λ k t. let l : k < bound = (w.each k t).low in omega (arith, l, w.underway.low))))
-
--- where none is ready before the last bound, the order is whole
-pub underway_ends : (slots : List ℕ) (n : ℕ) (order heads links : List ℕ) (ready : ℕ → ℕ) → IsUnderway slots n n order [] heads links ready → ((i : ℕ) → ready i ≡ 0) → IsWholeOrder slots n order heads
-underway_ends slots n order heads links ready u none =
-    record { in_turn = u.in_turn; done = u.marks; whole = λ j. ⊎_elim (λ (h : j < n). none_passed n j (may_be_next slots n order j) h (sym (u.has j) ∙ none j)) (λ (h : n ≤ j). and_left (nat_lt j n) (not (list_any (nat_eq j) order) && nat_eq (awaited slots order j) 0) (le-ltb j n h)) (cases_lt j n) }
 
 -- gates in turn are no more than there are
 few_from : (passes : List ℕ → ℕ → Bool) (n : ℕ) → ((done : List ℕ) (j : ℕ) → passes done j ≡ true → (j < n) × (list_any (nat_eq j) done ≡ false)) → (done js : List ℕ) → AreFirst passes done js → IsDistinct nat_eq done → ((i : ℕ) → list_any (nat_eq i) done ≡ true → i < n) → length (done ++ js) ≤ n

@@ -1,9 +1,9 @@
 -- A text whose gates are read onto the lists of a file is read as these lists.
-use Rattle.std.proofs.Common.{◌≡◌, ℕ, suc, ◌+◌, ◌*◌, ◌<◌, ◌≤◌, List, [], ◌∷◌, ◌++◌, length, drop, get_or, All, Bool, Option, Result, Ok, Err, refl, sym, ap, subst, ◌∙◌, append_assoc, append-nil, inl, inr, arith}
+use Rattle.std.proofs.Common.{◌≡◌, ℕ, suc, ◌+◌, ◌*◌, ◌<◌, List, [], ◌∷◌, ◌++◌, length, drop, get_or, All, Bool, Option, Result, Ok, Err, refl, sym, ap, subst, ◌∙◌, append_assoc, append-nil, inl, inr, arith}
 use Rattle.std.specs.Io.KnownBytes.{prepend_known, Keeps, IsAtEnd}
 use Rattle.std.specs.Prelude.{IfSome}
 use Rattle.std.proofs.KnownBytes.{Keeps-trans}
-use Rattle.std.proofs.lemmas.List.{drop_more, drop_all}
+use Rattle.std.proofs.lemmas.List.{drop_more}
 use Rattle.std.proofs.lemmas.List.Elements.{All-nil, All-append}
 use Rattle.aiger.specs.declared.circuit.Gate.{Gate}
 use Rattle.aigerlists.specs.declared.fault.LooseFault.{LooseFault}
@@ -95,9 +95,6 @@ all_lists_kept h before l m n held rest all a b c s p kept end =
 abbrev pub PutsOwn : ℕ → ℕ → List Gate → Loose → Loose → ℕ → ℕ → Type 0
 PutsOwn greatest first gs l m variable index = (bytes : List ℕ) × (IsPutOnLists greatest l m bytes × (bytes ++ gates_text Ascii variable (drop index gs) ≡ gates_text Ascii first gs))
 
-pub own_none : (greatest first : ℕ) (gs : List Gate) (l : Loose) → PutsOwn greatest first gs l l first 0
-own_none greatest first gs l = ([], ((lists_pieces greatest).none l, refl))
-
 pub own_more : (greatest first : ℕ) (gs : List Gate) (l m n : Loose) (variable next index a b : ℕ) (g : Gate) → PutsOwn greatest first gs l m variable index → index < length gs → g ≡ get_or gs index g → a ≡ g.rhs0 → b ≡ g.rhs1 → next ≡ suc variable
     → (n ≡ with_gate_line m (record { lhs = 2 * variable; rhs0 = a; rhs1 = b })) × IsLineUpTo greatest (record { lhs = 2 * variable; rhs0 = a; rhs1 = b }) → PutsOwn greatest first gs l n next (index + 1)
 own_more greatest first gs l m n variable next index a b g p inside is first_is second_is next_is added =
@@ -110,10 +107,6 @@ own_more greatest first gs l m n variable next index a b g p inside is first_is 
       p.0 ++ line,
       ((lists_pieces greatest).both l m n p.0 line p.1.0 (one_line greatest m n _ added), append_assoc p.0 line (gates_text Ascii next (drop (index + 1) gs)) ∙ ap (λ (t : List ℕ). p.0 ++ t) (sym rest) ∙ p.1.1),
     )
-
-pub own_all : (greatest first : ℕ) (gs : List Gate) (l m : Loose) (variable index : ℕ) → PutsOwn greatest first gs l m variable index → length gs ≤ index → IsPutOnLists greatest l m (gates_text Ascii first gs)
-own_all greatest first gs l m variable index p all =
-    subst (IsPutOnLists greatest l m) (sym (append-nil p.0) ∙ ap (λ (hs : List Gate). p.0 ++ gates_text Ascii variable hs) (sym (drop_all index gs all)) ∙ p.1.1) p.1.0
 
 -- lists that were numbered have their numbers, wanted or not
 pub numbers_wanted : (l : Loose) (wanted : Bool) (r : Result Numbered LooseFault) → AnswersNumbered l r → AnswersWanted l wanted r

@@ -14,7 +14,7 @@ use Rattle.aigertext.specs.declared.forms.Form.{Form}
 use Rattle.aigertext.specs.declared.forms.Form.TheVariants.{Ascii, Binary}
 use Rattle.aigertext.specs.Counts.{AreSmall, Fits, counts_of_file}
 use Rattle.aigertext.specs.Spelling.{IsHeader, IsAsciiText, SpellsCircuit, use_lines}
-use Rattle.aigertext.specs.Numbering.{IsNumberingOfLists, IsNumberingOfBody, IsNumberingOfText}
+use Rattle.aigertext.specs.Numbering.{IsNumberingOfLists}
 use Rattle.aigertext.specs.Passes.{AreNumbersOf}
 use Rattle.aigertext.specs.Reading.{line_at, header_of, names_at}
 use Rattle.aigertext.specs.AsciiReading.{lists_of_file, AnswersNamed, AnswersUndefined, AnswersCycle, AnswersLists, AnswersBody, AnswersHeader, AnswersText}
@@ -119,12 +119,6 @@ pub file_numbers : IsCircuitLaw → (h : Counts) (text : List ℕ) (l : Loose) (
     → (wanted ≡ true → IfOk r (λ x. AreNumbersOf l names x.circuit x.numbering)) → wanted ≡ true → IfOk r (λ x. IsNumberingOfLists h text x.circuit x.numbering)
 file_numbers circuit h text l names wanted (Ok x) small fits read numbers is = numbers_of_lists circuit h text l names x.circuit x.numbering small fits read (numbers is)
 file_numbers circuit h text l names wanted (Err e) small fits read numbers is = tt
-
--- and of the text
-pub text_numbers : (form : Form) (h : Counts) (text behind : List ℕ) (wanted : Bool) (r : Result Numbered Stop) → line_at header_of text ≡ Ok ((form, h), behind)
-    → (wanted ≡ true → IfOk r (λ x. IsNumberingOfBody form h behind x.circuit x.numbering)) → wanted ≡ true → IfOk r (λ x. IsNumberingOfText text x.circuit x.numbering)
-text_numbers form h text behind wanted (Ok x) header numbers is = record { form = form; counts = h; behind = behind; header = header; body = numbers is }
-text_numbers form h text behind wanted (Err e) header numbers is = tt
 
 -- ---- either form
 

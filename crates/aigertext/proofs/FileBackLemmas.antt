@@ -22,7 +22,7 @@ use Rattle.aigertext.specs.declared.forms.Form.TheVariants.{Ascii}
 use Rattle.aigertext.specs.Ascii.{property_lines}
 use Rattle.aigertext.specs.Counts.{AreSmall, Fits, counts_of_file}
 use Rattle.aigertext.specs.Spelling.{AreLines, IsInputLine, IsLatchLine, IsGateLine, use_lines, AreUpTo}
-use Rattle.aigertext.specs.Reading.{some_or, fields, within, Properties, sized_lists, nameless, properties_at, next_fields}
+use Rattle.aigertext.specs.Reading.{some_or, fields, within, Properties, nameless, properties_at, next_fields}
 use Rattle.aigertext.specs.AsciiReading.{defining, defining_by, input_of, latch_fields, latch_of_line, gate_fields, gate_of_line, onto_lists, with_properties_of, lists_of_file}
 use Rattle.aigertext.proofs.BackLemmas.{ok_same, not_err, bind-back, bind-then, within-back}
 use Rattle.aigertext.proofs.FileReadLemmas.{inputs_onto, latches_onto, gates_onto, HasInputs, HasLeaves, input_grows, latch_grows, gate_grows}

@@ -1,5 +1,5 @@
 -- Lines that define variables, one after the other onto the lists of a file.
-use Rattle.std.proofs.Common.{◌≡◌, ℕ, suc, List, Result, Ok, Err, refl, sym, ap, ◌∙◌}
+use Rattle.std.proofs.Common.{◌≡◌, ℕ, suc, List, Result, Ok, refl, sym, ap, ◌∙◌}
 use Rattle.aigerlists.specs.Loose.{Loose}
 use Rattle.aigertext.specs.declared.fault.Stop.{Stop}
 use Rattle.aigertext.specs.declared.fault.Why.{Why}
@@ -11,8 +11,3 @@ module _ {A : Type 0} (says : Loose → List ℕ → Result A Why) (with' : Loos
   file_step x after next one is =
       let step : onto_lists says with' l m text ≡ onto_lists says with' (with' l x) n after = ap (λ (k : ℕ). onto_lists says with' l k text) left ∙ rw one refl in
       ap (λ (k : Loose). onto_lists says with' k n after) is ∙ sym step ∙ so_far
-
-  pub file_stop : (e : Stop) → line_at (says l) text ≡ Err e → whole ≡ Err e
-  file_stop e one =
-      let stops : onto_lists says with' l m text ≡ Err e = ap (λ (k : ℕ). onto_lists says with' l k text) left ∙ rw one refl in
-      sym so_far ∙ stops

@@ -43,10 +43,6 @@ abbrev pub ahead : List ℕ → Result (List ℕ) Why → Result (List ℕ) Why
 ahead xs (Ok ys) = Ok (xs ++ ys)
 ahead xs (Err e) = Err e
 
-pub ahead_none : (r : Result (List ℕ) Why) → ahead [] r ≡ r
-ahead_none (Ok xs) = refl
-ahead_none (Err e) = refl
-
 ahead_one : (xs : List ℕ) (n : ℕ) (r : Result (List ℕ) Why) → ahead (xs ++ n ∷ []) r ≡ ahead xs (◌>>=◌ {A = List ℕ} {B = List ℕ} {E = Why} r (λ ns. Ok (n ∷ ns)))
 ahead_one xs n (Ok ys) = ap (λ (l : List ℕ). Ok l) (append_assoc xs (n ∷ []) ys)
 ahead_one xs n (Err e) = refl
@@ -74,9 +70,6 @@ module _ (xs : List ℕ) (all fs : List (List ℕ)) (field : List ℕ) (whole : 
 
   pub number_more : (n : ℕ) → number_of field ≡ Some n → ahead (xs ++ n ∷ []) (numbers_in fs) ≡ whole
   number_more n is = ahead_one xs n (numbers_in fs) ∙ (rw is at own)
-
-  pub number_bad : number_of field ≡ None → whole ≡ Err why.BadHeader
-  number_bad is = sym own ∙ rw is refl
 
   -- there are too many
   pub number_beyond : length xs ≡ 9 → (whole >>= counts_of) ≡ Err why.BadHeader

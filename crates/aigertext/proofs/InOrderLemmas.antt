@@ -355,9 +355,6 @@ whole_text_is form h uses text gates p c fresh =
 
 module _ (form : Form) (h : Counts) (before : List ℕ) (c0 c1 : Circuit) (passed : ℕ) (window0 window1 : List ℕ) (k0 k1 : Option (List ℕ))
     (fresh : c0 ≡ fresh_circuit h.inputs h.latches) (puts : PutsText (ArePutGates form) c0 c1 passed (prepend_known window0 k0) (prepend_known window1 k1)) where
-  pub put_on : c1 ≡ with_more_gates (fresh_circuit h.inputs h.latches) c1.gates
-  put_on = (gates_put h.inputs h.latches c0 c1 puts.puts.gates fresh puts.puts.is).1
-
   own_text : puts.bytes ≡ gates_text form (suc (h.inputs + h.latches)) c1.gates
   own_text =
       puts.puts.own ∙ ap (λ (v : ℕ). gates_text form v puts.puts.gates) (ap (λ (d : Circuit). suc (variables (net d))) fresh ∙ fresh_first h.inputs h.latches)

@@ -1,5 +1,5 @@
 -- Names are read line by line, up to a line `c` or the end.
-use Rattle.std.proofs.Common.{◌≡◌, ℕ, List, [], ◌∷◌, ◌++◌, length, Result, Ok, Err, true, false, codes, refl, sym, ap, ◌∙◌, append_assoc, arith}
+use Rattle.std.proofs.Common.{◌≡◌, ℕ, List, [], ◌∷◌, ◌++◌, length, Result, Ok, Err, false, codes, refl, sym, ap, ◌∙◌, append_assoc}
 use Rattle.std.specs.Str.{bytes_eq}
 use Rattle.base.specs.Lines.{IsLine, whole_lines, unfinished, text_of_lines}
 use Rattle.base.proofs.LineLemmas.{whole_lines-line, unfinished-line, whole_lines-last, unfinished-last, parts_of_text}
@@ -22,9 +22,6 @@ module _ (c : Circuit) (text line after : List ℕ) (total : Result Circuit Stop
       ap (names_at c) parts ∙ ap (λ (ls : List (List ℕ)). names_on c ls (unfinished (line ++ 10 ∷ after))) (whole_lines-line line after whole)
       ∙ ap (names_on c (line ∷ whole_lines after)) (unfinished-line line after)
 
-  pub comment_ends : bytes_eq line (codes "c") ≡ true → total ≡ Ok c
-  comment_ends is = sym so_far ∙ cut_text ∙ rw is refl
-
   one_line : bytes_eq line (codes "c") ≡ false → names_on c (line ∷ whole_lines after) (unfinished after) ≡ ◌>>=◌ {A = Circuit} {B = Circuit} {E = Stop} (said_at_front text (name_on c line)) (λ d. names_at d after)
   one_line not = rw (not, again) refl
 
@@ -35,10 +32,6 @@ module _ (c : Circuit) (text line after : List ℕ) (total : Result Circuit Stop
   name_refused not w is = sym so_far ∙ cut_text ∙ one_line not ∙ rw is refl
 
 module _ (c : Circuit) (total : Result Circuit Stop) where
-  pub names_end : (text : List ℕ) → IsLine text → length text ≡ 0 → names_at c text ≡ total → total ≡ Ok c
-  names_end [] whole none so_far = sym so_far
-  names_end (b ∷ bs) whole none so_far = absurd (omega (arith, none))
-
   pub names_cut : (text : List ℕ) → IsLine text → (length text ≡ 0 → ⊥) → names_at c text ≡ total → total ≡ Err (stop text why.Truncated)
   names_cut [] whole some so_far = absurd (some refl)
   names_cut (b ∷ bs) whole some so_far =

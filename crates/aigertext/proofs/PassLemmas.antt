@@ -1,5 +1,5 @@
 -- Lines read one after the other: what is behind them, and what was read so far.
-use Rattle.std.proofs.Common.{◌≡◌, ℕ, suc, ◌+◌, List, [], ◌∷◌, ◌++◌, map, Result, Ok, Err, ◌⊎◌, inl, inr, refl, sym, ap, subst, ◌∙◌, append_assoc, append-nil, arith}
+use Rattle.std.proofs.Common.{◌≡◌, ℕ, suc, ◌+◌, List, [], ◌∷◌, ◌++◌, map, Result, Ok, Err, ◌⊎◌, inl, inr, refl, sym, ap, subst, ◌∙◌, append_assoc, arith}
 use Rattle.std.specs.List.{sum, sum_by}
 use Rattle.std.proofs.lemmas.List.Sums.{sum_by-append, sum_by-cons, sum-map}
 use Rattle.aigertext.specs.declared.fault.Stop.{Stop}
@@ -52,10 +52,6 @@ module _ {A S : Type 0} (says : S → List ℕ → Result A Why) (next : S → A
 
   pub onto_stop : (xs : List A) (e : Stop) (whole : Result (List A × List ℕ) Stop) → line_at (says s) text ≡ Err e → onto xs (lines_at says next s m text) ≡ whole → whole ≡ Err e
   onto_stop xs e whole one so_far = sym so_far ∙ ap (onto xs) (lines_stop e one)
-
-module _ {A S : Type 0} (says : S → List ℕ → Result A Why) (next : S → A → S) (s : S) (m : ℕ) (text : List ℕ) (left : m ≡ 0) where
-  pub onto_done : (xs : List A) (whole : Result (List A × List ℕ) Stop) → onto xs (lines_at says next s m text) ≡ whole → whole ≡ Ok (xs, text)
-  onto_done xs whole so_far = sym so_far ∙ ap (λ (k : ℕ). onto xs (lines_at says next s k text)) left ∙ ap (λ (l : List A). Ok (l, text)) (append-nil xs)
 
 -- ---- one after the other
 

@@ -8,7 +8,7 @@ use Rattle.std.proofs.lemmas.Option.{slice_get_within, get_or_from_slice_get}
 use Rattle.std.proofs.lemmas.Bool.Decides.{nat_tests}
 use Rattle.aigerlists.specs.declared.loose.GateLine.{GateLine}
 use Rattle.aigerlists.specs.declared.loose.LatchLine.{LatchLine}
-use Rattle.aigerlists.specs.Loose.{Loose, empty_loose, defined_count, with_input_line, with_latch_line}
+use Rattle.aigerlists.specs.Loose.{Loose, empty_loose, with_input_line, with_latch_line}
 use Rattle.aigerlists.specs.Renumbering.{used_lines, alone, AnswersNumber, LeadsToCycle, LeadsAlong}
 use Rattle.aigerlists.specs.declared.fault.LooseFault.{LooseFault}
 use Rattle.aigerlists.specs.declared.fault.LooseFault.TheVariants.{Cycle}
@@ -101,15 +101,7 @@ no_names h text t1 t2 l0 l1 l2 says1 says2 none one two =
     let first : l1.names ≡ [] = onto_kept says1 with_input_line (λ n l. l.names ≡ []) (λ n l x line e k. k) h.inputs l0 text l1 t1 (ap (λ (l : Loose). l.names) none) one in
     onto_kept says2 with_latch_line (λ n l. l.names ≡ []) (λ n l x line e k. k) h.latches l1 t1 l2 t2 first two
 
--- ---- the lists of a file, put together
-
--- there is room for the definitions that a header counts
-room : (i l g v a b c : ℕ) → i + l + g ≤ v → v ≤ 1073741824 → a ≡ 0 → b ≡ a + i → c ≡ b + l → (b + l ≤ 1073741824) × (c + g ≤ 1073741824)
-room i l g v a b c fits few first second third = (omega arith, omega arith)
-
-module _ (h : Counts) (fits : h.inputs + h.latches + h.gates ≤ h.variables) (few : h.variables ≤ 1073741824) (l0 l1 : Loose) (none : l0 ≡ empty_loose) (i : defined_count l1 ≡ defined_count l0 + h.inputs) where
-  pub latches_few : defined_count l1 + h.latches ≤ 1073741824
-  latches_few = (room h.inputs h.latches h.gates h.variables (defined_count l0) (defined_count l1) (defined_count l1 + h.latches) fits few (ap defined_count none) i refl).0
+-- ---- properties of a file
 
 -- properties that were read onto lists, with what follows them
 pub gates_left : {B : Type 0} (h : Counts) (l m : Loose) (text rest : List ℕ) (next : Loose → List ℕ → Result B Stop) → properties_onto h l text ≡ Ok (m, rest) → (properties_at h text >>= (λ p. next (with_properties_of l p.0) p.1)) ≡ next m rest

@@ -1,8 +1,7 @@
 -- The lines of latches and properties are read again.
-use Rattle.std.proofs.Common.{◌≡◌, ◌≢◌, ℕ, suc, ◌+◌, ◌-◌, ◌*◌, ◌^◌, ◌<◌, ◌≤◌, List, [], ◌∷◌, ◌++◌, length, map, take, drop, get_or, decimal, Some, Ok, refl, sym, ap, ◌∙◌, append_assoc, length-append, inl, inr, ◌⊎◌, arith}
+use Rattle.std.proofs.Common.{◌≡◌, ◌≢◌, ℕ, suc, ◌+◌, ◌-◌, ◌*◌, ◌^◌, ◌<◌, ◌≤◌, List, [], ◌∷◌, ◌++◌, length, map, drop, decimal, Some, Ok, refl, sym, ap, ◌∙◌, append_assoc, length-append, inl, inr, ◌⊎◌, arith}
 use Rattle.std.specs.List.{All, concat, sum, sum_by}
 use Rattle.std.proofs.lemmas.Bool.{ne_eqb, eq-eqb, le-leb}
-use Rattle.std.proofs.lemmas.List.{drop_more, length-drop}
 use Rattle.std.proofs.lemmas.List.Elements.{All-head, All-tail}
 use Rattle.std.proofs.lemmas.List.Sums.{sum-map, sum_by-cons}
 use Rattle.std.proofs.Math.Seq.{take-append_seam, drop-append_seam}
@@ -17,7 +16,6 @@ use Rattle.aigertext.specs.declared.fault.Why.TheVariants as why
 use Rattle.aigertext.specs.Ascii.{numbers_line, literal_lines, size_lines, list_lines}
 use Rattle.aigertext.specs.Spelling.{IsReset, AreNextLines}
 use Rattle.aigertext.specs.Reading.{within, reset_of, literal_on, size_of, next_of, next_fields, literals_at, sizes_at, justice_at, nexts_at, line_at, sized_lists}
-use Rattle.aigertext.proofs.PassLemmas.{sum_of_cons}
 use Rattle.aigertext.proofs.FieldLemmas.{joined, fields-joined, numbers_read, lines_step}
 
 -- ---- literals
@@ -86,24 +84,6 @@ justice-read greatest lists rest below small few =
 pub record RowsMade (sizes listed : List ℕ) (before : List (List ℕ)) (index : ℕ) (rows : List (List ℕ)) (rest : List ℕ) : Type 0 where
   pub all : rows ++ sized_lists (drop index sizes) rest ≡ before ++ sized_lists sizes listed
   pub sums : length rest ≡ sum (drop index sizes)
-
-module _ (sizes listed : List ℕ) (before : List (List ℕ)) (index : ℕ) (rows : List (List ℕ)) (rest : List ℕ) (m : RowsMade sizes listed before index rows rest) (more : index < length sizes) where
-  abbrev pub size : ℕ
-  size = get_or sizes index 0
-
-  sizes_left : drop index sizes ≡ size ∷ drop (index + 1) sizes
-  sizes_left = drop_more sizes index 0 more
-
-  pub size_within : size ≤ length rest
-  size_within = omega (arith, m.sums ∙ ap sum sizes_left ∙ sum_of_cons size (drop (index + 1) sizes))
-
-  pub row_more : (then' : List (List ℕ)) → then' ≡ rows ++ take size rest ∷ [] → RowsMade sizes listed before (index + 1) then' (drop size rest)
-  row_more then' is = record {
-    all =
-        ap (λ (ns : List (List ℕ)). ns ++ sized_lists (drop (index + 1) sizes) (drop size rest)) is
-        ∙ append_assoc rows (take size rest ∷ []) (sized_lists (drop (index + 1) sizes) (drop size rest)) ∙ ap (λ (ns : List ℕ). rows ++ sized_lists ns rest) (sym sizes_left) ∙ m.all;
-    sums = omega (arith, length-drop size rest, m.sums ∙ ap sum sizes_left ∙ sum_of_cons size (drop (index + 1) sizes), size_within);
-  }
 
 -- ---- latches
 

@@ -28,7 +28,7 @@ use Rattle.aigertext.specs.Reading.{Properties, sized_lists, line_at, literal_on
 use Rattle.aigertext.proofs.BackLemmas.{ok_same, not_err, bind-back, bind-then, lines-back, within-back, literals-back, sizes-back, SaysAt, line-back}
 use Rattle.aigertext.proofs.FieldLemmas.{joined, numbers_line-joined}
 use Rattle.deltas.proofs.BackLemmas.{AreBytes}
-use Rattle.aigertext.proofs.GateBackLemmas.{bytes_behind, AreGatesAt, gates-back}
+use Rattle.aigertext.proofs.GateBackLemmas.{bytes_behind, gates-back}
 use Rattle.aigertext.proofs.HeaderBackLemmas.{HeaderBack, header-back, AreCounts}
 use Rattle.aigertext.proofs.LatchBackLemmas.{AreLatchesAt, latches-back}
 use Rattle.aigertext.proofs.NameBackLemmas.{names-back}

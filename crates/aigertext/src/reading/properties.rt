@@ -105,7 +105,18 @@ pub fn read_properties<'a>(
     let greatest = 2 * counts.variables + 1;
     let rest = read_literals(&mut properties.outputs, text, greatest, counts.outputs)?;
     let rest = read_literals(&mut properties.bads, rest, greatest, counts.bads)?;
-    let rest = read_literals(&mut properties.constraints, rest, greatest, counts.constraints)?;
-    let rest = read_justice(alloc, &mut properties.justice, rest, greatest, counts.justice)?;
+    let rest = read_literals(
+        &mut properties.constraints,
+        rest,
+        greatest,
+        counts.constraints,
+    )?;
+    let rest = read_justice(
+        alloc,
+        &mut properties.justice,
+        rest,
+        greatest,
+        counts.justice,
+    )?;
     read_literals(&mut properties.fair, rest, greatest, counts.fair)
 }

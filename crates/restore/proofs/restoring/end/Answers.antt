@@ -1,4 +1,4 @@
-use Rattle.std.proofs.Common.{rules, ◌≡◌, Err, Result, true, sym, subst, ◌∙◌}
+use Rattle.std.proofs.Common.{rules, ◌≡◌, Err, Result, sym, subst, ◌∙◌}
 use Rattle.base.proofs.PenLemmas.{writes_then}
 use Rattle.engine_form.specs.EngineForm.{input_count}
 use Rattle.restore.specs.declared.fault.RestoreFault.{RestoreFault}

@@ -1,5 +1,4 @@
 use Rattle.std.proofs.Common.{rules, ◌≡◌, List, [], ℕ, false, Err, refl, subst}
-use Rattle.engine_form.specs.EngineForm.{input_count}
 use Rattle.std.proofs.lemmas.Option.{IfSome_then}
 use Rattle.restore.specs.declared.fault.RestoreFault.{RestoreFault}
 use Rattle.restore.specs.declared.fault.RestoreWhy.TheVariants as why

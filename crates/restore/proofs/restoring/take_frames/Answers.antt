@@ -1,4 +1,4 @@
-use Rattle.std.proofs.Common.{rules, ◌≡◌, Bool, true, [], None, Ok, Err, refl, sym, subst, ◌∙◌}
+use Rattle.std.proofs.Common.{rules, ◌≡◌, Bool, [], None, Ok, Err, refl, sym, subst, ◌∙◌}
 use Rattle.std.specs.Io.KnownBytes.{prepend_known}
 use Rattle.base.proofs.PenLemmas.{well_counts, fails_counts, writes_none, writes_then}
 use Rattle.restore.specs.declared.fault.RestoreFault.{RestoreFault}

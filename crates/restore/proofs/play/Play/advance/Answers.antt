@@ -10,7 +10,7 @@ use Rattle.runs.specs.CircuitRun.{CircuitRun, no_inputs, settle_steps}
 use Rattle.witness.specs.Judgements.{violated_at}
 use Rattle.witness.specs.BitPlays.{first_bit_violated}
 use Rattle.restore.specs.Frames.{frame_of}
-use Rattle.restore.specs.Plays.{Play as PlayValue, are_too_many, played}
+use Rattle.restore.specs.Plays.{Play as PlayValue, played}
 use Rattle.restore.proofs.PlayedLemmas.{met_more}
 use Rattle.restore.proofs.PlayLemmas.{by_other, settled_circuit, settled_now, is_played}
 use Rattle.restore.proofs.play.Play.advance.Goals as goal
