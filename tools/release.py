@@ -161,6 +161,8 @@ def make(folder):
     made = build.make([build.PROGRAM, LIBRARY])
     if not made:
         sys.exit("release: not all is proved, so nothing is released")
+    if not all(" sum=" in it.verdict for it in made):
+        sys.exit("release: of a library that stands it is not said how it was proved: remove its folder out/proved")
     if run(["git", "status", "--porcelain", "--", "crates", "crates.txt", "include", "tools"], cwd=TOP):
         sys.exit("release: what is released is committed first")
     folder.mkdir(parents=True, exist_ok=True)
