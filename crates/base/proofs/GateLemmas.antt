@@ -1,27 +1,49 @@
 -- Bits that gates put one after another.
-use Rattle.std.proofs.Common.{◌≡◌, ◌≢◌, ℕ, ◌+◌, ◌/◌, ◌<◌, Bool, false, ◌&&◌, List, length, get_or, set, ⊎_elim, sym, ap₂, ◌∙◌, arith}
+use Rattle.std.proofs.Common.{◌≡◌, ◌≢◌, ℕ, ◌+◌, ◌/◌, ◌%◌, ◌<◌, ◌&&◌, bit_and, List, length, get_or, set, ⊎_elim, sym, ap, ap₂, ◌∙◌, arith}
+use Rattle.std.proofs.lemmas.Nat.{and_mod}
 use Rattle.std.proofs.lemmas.Bool.{cases_eq}
 use Rattle.std.proofs.lemmas.Bool.Decides.{nat_tests}
 use Rattle.std.proofs.lemmas.List.{get_or-set_same, get_or-set_other}
-use Rattle.base.specs.Literal.{variable, literal_value, valuation_of, IsAnd}
+use Rattle.base.specs.Literal.{variable, literal_value, bit_of, valuation_of, IsAnd}
 
--- what a literal says where the bit of another variable is set
-pub literal_value-set : (bits : List Bool) (place : ℕ) (b : Bool) (l : ℕ) → variable l < place → literal_value (valuation_of (set bits place b)) l ≡ literal_value (valuation_of bits) l
-literal_value-set bits place b l h = let e : get_or (set bits place b) (l / 2) false ≡ get_or bits (l / 2) false = get_or-set_other bits place (l / 2) b false (omega arith) in grind (arith, nat_tests)
+-- the bit that two bytes hold both
+pub bit_of-and : (a b : ℕ) → bit_of (bit_and a b) ≡ (bit_of a && bit_of b)
+bit_of-and a b =
+    let e : bit_and a b % 2 ≡ bit_and (a % 2) (b % 2) = and_mod a b 1 in
+    ⊎_elim
+    (λ (x : a % 2 ≡ 0). let zero : bit_and (a % 2) (b % 2) ≡ 0 = ap (λ (n : ℕ). bit_and n (b % 2)) x in grind (arith, nat_tests))
+    (λ (x : a % 2 ≢ 0).
+    let one : a % 2 ≡ 1 = omega arith in
+    ⊎_elim
+    (λ (y : b % 2 ≡ 0). let zero : bit_and (a % 2) (b % 2) ≡ 0 = ap₂ bit_and one y in grind (arith, nat_tests))
+    (λ (y : b % 2 ≢ 0). let one' : b % 2 ≡ 1 = omega arith in let both : bit_and (a % 2) (b % 2) ≡ 1 = ap₂ bit_and one one' in grind (arith, nat_tests))
+    (cases_eq (b % 2) 0))
+    (cases_eq (a % 2) 0)
+
+-- what a literal says where the bytes below a place stay
+pub literal_value-below : (place : ℕ) (bits bits' : List ℕ) (l : ℕ) → ((p : ℕ) → p < place → get_or bits' p 0 ≡ get_or bits p 0) → variable l < place → literal_value (valuation_of bits') l ≡ literal_value (valuation_of bits) l
+literal_value-below place bits bits' l same h = let e : get_or bits' (l / 2) 0 ≡ get_or bits (l / 2) 0 = same (l / 2) (omega arith) in grind (arith, nat_tests)
+
+-- an output put behind its operands
+pub put_is_and : (bits : List ℕ) (place a b left right : ℕ) → place < length bits → variable left < place → variable right < place → bit_of a ≡ literal_value (valuation_of bits) left → bit_of b ≡ literal_value (valuation_of bits) right
+    → IsAnd (valuation_of (set bits place (bit_and a b))) place left right
+put_is_and bits place a b left right room l r is_left is_right =
+    let same : (p : ℕ) → p < place → get_or (set bits place (bit_and a b)) p 0 ≡ get_or bits p 0 = λ p h. get_or-set_other bits place p (bit_and a b) 0 (omega arith) in
+    ap bit_of (get_or-set_same bits place (bit_and a b) 0 room) ∙ bit_of-and a b
+    ∙ ap₂ ◌&&◌ (is_left ∙ sym (literal_value-below place bits (set bits place (bit_and a b)) left same l)) (is_right ∙ sym (literal_value-below place bits (set bits place (bit_and a b)) right same r))
 
 -- so many gates from a first variable on have their bits
-abbrev pub AreAnds : (ℕ → ℕ) → (ℕ → ℕ) → ℕ → ℕ → List Bool → Type 0
+abbrev pub AreAnds : (ℕ → ℕ) → (ℕ → ℕ) → ℕ → ℕ → List ℕ → Type 0
 AreAnds left right first count bits = (j : ℕ) → j < count → IsAnd (valuation_of bits) (first + j) (left j) (right j)
 
 -- and so has the next one, whose bit is put behind them
-pub AreAnds-more : (left right : ℕ → ℕ) (first k n : ℕ) (bits : List Bool) → k < n → first + k < length bits → ((j : ℕ) → j < n → variable (left j) < first + j) → ((j : ℕ) → j < n → variable (right j) < first + j) → AreAnds left right first k bits
-    → AreAnds left right first (k + 1) (set bits (first + k) (literal_value (valuation_of bits) (left k) && literal_value (valuation_of bits) (right k)))
-AreAnds-more left right first k n bits within room lefts rights done j h =
-    let value : Bool = literal_value (valuation_of bits) (left k) && literal_value (valuation_of bits) (right k) in
+pub AreAnds-more : (left right : ℕ → ℕ) (first k next n : ℕ) (bits bits' : List ℕ) → next ≡ k + 1 → k < n → ((j : ℕ) → j < n → variable (left j) < first + j) → ((j : ℕ) → j < n → variable (right j) < first + j)
+    → ((p : ℕ) → p < first + k → get_or bits' p 0 ≡ get_or bits p 0) → IsAnd (valuation_of bits') (first + k) (left k) (right k) → AreAnds left right first k bits → AreAnds left right first next bits'
+AreAnds-more left right first k next n bits bits' is within lefts rights same last done j h =
+    ⊎_elim (λ (e : j ≡ k). rw e last)
+    (λ (ne : j ≢ k).
     let below = lefts j (omega arith) in
     let below' = rights j (omega arith) in
-    let same : (literal_value (valuation_of bits) (left j) && literal_value (valuation_of bits) (right j)) ≡ (literal_value (valuation_of (set bits (first + k) value)) (left j) && literal_value (valuation_of (set bits (first + k) value)) (right j))
-    = ap₂ (λ (x y : Bool). x && y) (sym (literal_value-set bits (first + k) value (left j) (omega arith))) (sym (literal_value-set bits (first + k) value (right j) (omega arith))) in
-    ⊎_elim (λ (e : j ≡ k). (rw e (get_or-set_same bits (first + k) value false room)) ∙ same)
-    (λ (ne : j ≢ k). get_or-set_other bits (first + k) (first + j) value false (omega arith) ∙ done j (omega arith) ∙ same)
+    ap bit_of (same (first + j) (omega arith)) ∙ done j (omega arith)
+    ∙ sym (ap₂ ◌&&◌ (literal_value-below (first + k) bits bits' (left j) same (omega arith)) (literal_value-below (first + k) bits bits' (right j) same (omega arith))))
     (cases_eq j k)

@@ -20,9 +20,13 @@ literal_value v l =
     else (if l == 1 then true
     else (if l % 2 == 0 then v (variable l) else not (v (variable l))))
 
--- the valuation of a list of bits: the k-th is that of variable k
-abbrev pub valuation_of : List Bool → Valuation
-valuation_of bits k = slice_index_or bits k false
+-- the bit that a byte holds: its lowest, whatever the others are
+abbrev pub bit_of : ℕ → Bool
+bit_of b = b % 2 == 1
+
+-- the valuation of a list of bytes: the bit of variable k is the one that the k-th holds
+abbrev pub valuation_of : List ℕ → Valuation
+valuation_of bits k = bit_of (slice_index_or bits k 0)
 
 -- a variable is true exactly where both of two literals are
 abbrev pub IsAnd : Valuation → ℕ → ℕ → ℕ → Type 0

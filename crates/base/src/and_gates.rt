@@ -1,6 +1,6 @@
-//! Lists of bits as valuations, and AND gates over them.
+//! Lists of bits as valuations, a byte for each, and AND gates over them.
 ghost use Rattle.std.specs.Prelude.{◌≡◌, ℕ, ◌+◌, ◌<◌, ◌≤◌, false, length, slice_index_or};
-ghost use Rattle.base.specs.Literal.{variable, literal_value, valuation_of, IsAnd};
+ghost use Rattle.base.specs.Literal.{variable, bit_of, literal_value, valuation_of, IsAnd};
 ghost use Rattle.base.specs.Steps.{more_steps};
 
 use crate::tally::{Tally, take_all};
@@ -29,40 +29,67 @@ pub trait AndGates {
         ensures second { result.1 ≡ right self.now k };
 }
 
-/// The bit of a literal, by those of 0 and of the variables.
+/// The bit of a literal, by those of 0 and of the variables: the lowest of the byte that is answered.
 ///
 /// Conditions: there is one of its variable, and that of 0 is 0.
 #[inline(always)]
-pub fn literal_bit(bits: &[bool], literal: u32) -> bool
+pub fn literal_bit(bits: &[u8], literal: u32) -> u8
     requires inside { variable literal < length bits.now }
-    requires constant { slice_index_or bits.now 0 false ≡ false }
-    ensures { result ≡ literal_value (valuation_of bits.now) literal }
+    requires constant { valuation_of bits.now 0 ≡ false }
+    ensures { bit_of result ≡ literal_value (valuation_of bits.now) literal }
 {
-    bits[(literal / 2) as usize] != (literal % 2 == 1)
+    bits[(literal / 2) as usize] ^ (literal & 0xff) as u8
+}
+
+/// The output of one gate, put at the place of its variable.
+#[inline(always)]
+fn put_output<G: AndGates>(gates: &G, k: usize, first: usize, bits: &mut [u8])
+    requires there { k < G.count gates.now }
+    requires above { 0 < first }
+    requires inside { first + k < length bits.old }
+    requires left { variable (G.left gates.now k) < first + k }
+    requires right { variable (G.right gates.now k) < first + k }
+    requires constant { valuation_of bits.old 0 ≡ false }
+    ensures value { IsAnd (valuation_of bits.new) (first + k) (G.left gates.now k) (G.right gates.now k) }
+    ensures others { (p : ℕ) → p < first + k → slice_index_or bits.new p 0
+        ≡ slice_index_or bits.old p 0 }
+    ensures as_many { length bits.new ≡ length bits.old }
+{
+    let (left, right) = gates.operands(k);
+    bits[first + k] = literal_bit(bits, left) & literal_bit(bits, right);
 }
 
 /// The outputs of AND gates, put as the bits from `first` on, at once: of each from its two operands, whose bits stand
 /// before it. One step for each.
 ///
+/// A bit is the lowest of its byte, and the others of a byte mean nothing: so a gate needs neither a test nor a mask. Four
+/// gates go in one turn.
+///
 /// Conditions: `first` is above 0, there is room, the variables of each gate's operands are below its own, and the bit of 0
 /// is 0.
-pub fn gate_all<G: AndGates>(gates: &G, first: usize, bits: &mut [bool], tally: &mut Tally)
+pub fn gate_all<G: AndGates>(gates: &G, first: usize, bits: &mut [u8], tally: &mut Tally)
     requires above { 0 < first }
     requires inside { first + G.count gates.now ≤ length bits.old }
     requires lefts { (k : ℕ) → k < G.count gates.now → variable (G.left gates.now k) < first + k }
     requires rights { (k : ℕ) → k < G.count gates.now → variable (G.right gates.now k) < first + k }
-    requires constant { slice_index_or bits.old 0 false ≡ false }
+    requires constant { valuation_of bits.old 0 ≡ false }
     ensures values { (k : ℕ) → k < G.count gates.now
         → IsAnd (valuation_of bits.new) (first + k) (G.left gates.now k) (G.right gates.now k) }
-    ensures others { (p : ℕ) → p < first → slice_index_or bits.new p false
-        ≡ slice_index_or bits.old p false }
+    ensures others { (p : ℕ) → p < first → slice_index_or bits.new p 0
+        ≡ slice_index_or bits.old p 0 }
     ensures as_many { length bits.new ≡ length bits.old }
     ensures steps { tally.new ≡ more_steps (G.count gates.now) tally.old }
 {
     let count = gates.count();
     take_all(count, tally);
-    for k in 0..count {
-        let (left, right) = gates.operands(k);
-        bits[first + k] = literal_bit(bits, left) & literal_bit(bits, right);
+    for turn in 0..count / 4 {
+        let k = 4 * turn;
+        put_output(gates, k, first, bits);
+        put_output(gates, k + 1, first, bits);
+        put_output(gates, k + 2, first, bits);
+        put_output(gates, k + 3, first, bits);
+    }
+    for k in count / 4 * 4..count {
+        put_output(gates, k, first, bits);
     }
 }

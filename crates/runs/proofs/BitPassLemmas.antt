@@ -1,9 +1,9 @@
--- Lists of bits as valuations, bits put into them, and gates one by one.
+-- Lists of bytes as valuations, bits put into them, and gates one by one.
 use Rattle.std.proofs.Common.{◌≡◌, ◌≢◌, ℕ, zero, suc, ◌+◌, ◌<◌, ◌≤◌, Bool, false, List, [], ◌∷◌, ◌++◌, length, length-append, get_or, set, ⊎_elim, refl, sym, ap, ◌∙◌, arith}
 use Rattle.std.proofs.lemmas.Bool.{cases_eq}
 use Rattle.std.proofs.lemmas.List.{length-set, get_or-set_same, get_or-set_other, ext_get_or, get_or_at, get_or_append_left}
 use Rattle.aiger.specs.declared.circuit.Gate.{Gate}
-use Rattle.base.specs.Literal.{Valuation, variable, IsAnd, valuation_of}
+use Rattle.base.specs.Literal.{Valuation, variable, IsAnd, bit_of, valuation_of}
 use Rattle.aiger.specs.Net.{SatisfiesFrom, AreOrderedFrom, bits_from}
 use Rattle.aiger.proofs.NetLemmas.{length-bits_from}
 use Rattle.runs.specs.CircuitHolds.{IsPut, left_operand, right_operand}
@@ -22,44 +22,46 @@ bits_from-is first count v bits many same =
     get_or-bits_from first count v j inside ∙ same j inside)
 
 -- a bit that is set among them
-pub bits_from-set : (first count : ℕ) (bits : List Bool) (k place : ℕ) (b : Bool) → place ≡ first + k → k < count → first + count ≤ length bits
-    → bits_from first count (valuation_of (set bits place b)) ≡ set (bits_from first count (valuation_of bits)) k b
+pub bits_from-set : (first count : ℕ) (bits : List ℕ) (k place b : ℕ) → place ≡ first + k → k < count → first + count ≤ length bits
+    → bits_from first count (valuation_of (set bits place b)) ≡ set (bits_from first count (valuation_of bits)) k (bit_of b)
 bits_from-set first count bits k place b at inside room =
-    bits_from-is first count (valuation_of (set bits place b)) (set (bits_from first count (valuation_of bits)) k b) (length-set (bits_from first count (valuation_of bits)) k b ∙ length-bits_from first count (valuation_of bits))
+    bits_from-is first count (valuation_of (set bits place b)) (set (bits_from first count (valuation_of bits)) k (bit_of b)) (length-set (bits_from first count (valuation_of bits)) k (bit_of b) ∙ length-bits_from first count (valuation_of bits))
     (λ j within.
     ⊎_elim
     (λ e.
     let own : k < length (bits_from first count (valuation_of bits)) = omega (arith, length-bits_from first count (valuation_of bits)) in
     let same : first + j ≡ place = omega arith in
-    ap (valuation_of (set bits place b)) same ∙ get_or-set_same bits place b false (omega arith)
-    ∙ sym (ap (λ (i : ℕ). get_or (set (bits_from first count (valuation_of bits)) k b) i false) e ∙ get_or-set_same (bits_from first count (valuation_of bits)) k b false own))
+    ap (valuation_of (set bits place b)) same ∙ ap bit_of (get_or-set_same bits place b 0 (omega arith))
+    ∙ sym (ap (λ (i : ℕ). get_or (set (bits_from first count (valuation_of bits)) k (bit_of b)) i false) e ∙ get_or-set_same (bits_from first count (valuation_of bits)) k (bit_of b) false own))
     (λ ne.
     let other : first + j ≢ place = omega arith in
-    get_or-set_other bits place (first + j) b false other
-    ∙ sym (get_or-set_other (bits_from first count (valuation_of bits)) k j b false ne ∙ get_or-bits_from first count (valuation_of bits) j within))
+    ap bit_of (get_or-set_other bits place (first + j) b 0 other)
+    ∙ sym (get_or-set_other (bits_from first count (valuation_of bits)) k j (bit_of b) false ne ∙ get_or-bits_from first count (valuation_of bits) j within))
     (cases_eq j k))
 
 -- Bits put one after another.
 
-pub put_nothing : (first : ℕ) (bits : List Bool) → IsPut [] first bits bits
+pub put_nothing : (first : ℕ) (bits : List ℕ) → IsPut [] first bits bits
 put_nothing first bits = record { put = λ k h. absurd (omega arith); below = λ p h. refl; above = λ p h. refl; as_many = refl }
 
 -- one more
-pub put_more : (given : List Bool) (first place : ℕ) (b : Bool) (old new : List Bool) → place ≡ first + length given → place < length old → IsPut given first old new → IsPut (given ++ b ∷ []) first old (set new place b)
-put_more given first place b old new at room is =
-    let long = length-append given (b ∷ []) in
+pub put_more : (given : List Bool) (bit : Bool) (first place b : ℕ) (old new : List ℕ) → bit_of b ≡ bit → place ≡ first + length given → place < length old → IsPut given first old new → IsPut (given ++ bit ∷ []) first old (set new place b)
+put_more given bit first place b old new holds at room is =
+    let long = length-append given (bit ∷ []) in
     let inside : place < length new = omega (arith, room, is.as_many) in
     record {
       put = λ k h.
           ⊎_elim
-          (λ e. let same : first + k ≡ place = omega arith in ap (λ (p : ℕ). get_or (set new place b) p false) same ∙ get_or-set_same new place b false inside ∙ sym (ap (λ (n : ℕ). get_or (given ++ b ∷ []) n false) e ∙ get_or_at given b [] false (length given) refl))
+          (λ e.
+          let same : first + k ≡ place = omega arith in
+          ap (valuation_of (set new place b)) same ∙ ap bit_of (get_or-set_same new place b 0 inside) ∙ holds ∙ sym (ap (λ (n : ℕ). get_or (given ++ bit ∷ []) n false) e ∙ get_or_at given bit [] false (length given) refl))
           (λ ne.
           let before : k < length given = omega (arith, h, long, ne) in
           let other : first + k ≢ place = omega arith in
-          get_or-set_other new place (first + k) b false other ∙ is.put k before ∙ sym (get_or_append_left given (b ∷ []) false k before))
+          ap bit_of (get_or-set_other new place (first + k) b 0 other) ∙ is.put k before ∙ sym (get_or_append_left given (bit ∷ []) false k before))
           (cases_eq k (length given));
-      below = λ p h. let other : p ≢ place = omega arith in get_or-set_other new place p b false other ∙ is.below p h;
-      above = λ p h. let other : p ≢ place = omega (arith, long, h) in get_or-set_other new place p b false other ∙ is.above p (omega (arith, long, h));
+      below = λ p h. let other : p ≢ place = omega arith in ap bit_of (get_or-set_other new place p b 0 other) ∙ is.below p h;
+      above = λ p h. let other : p ≢ place = omega (arith, long, h) in ap bit_of (get_or-set_other new place p b 0 other) ∙ is.above p (omega (arith, long, h));
       as_many = length-set new place b ∙ is.as_many;
     }
 

@@ -3,13 +3,13 @@ use Rattle.std.proofs.Common.{◌≡◌, ℕ, suc, ◌+◌, ◌<◌, ◌≤◌, 
 use Rattle.std.proofs.lemmas.List.{length-map, length-set, length-replicate, get_or-map, get_or-replicate, get_or-set_other}
 use Rattle.aiger.specs.declared.circuit.Latch.{Latch}
 use Rattle.aiger.specs.declared.circuit.Reset.TheVariants.{Zero}
-use Rattle.base.specs.Literal.{Valuation, variable, literal_value, valuation_of}
+use Rattle.base.specs.Literal.{Valuation, variable, literal_value, bit_of, valuation_of}
 use Rattle.aiger.specs.Net.{variables, IsDefined, SatisfiesFrom, net_input_bits, latch_bits}
 use Rattle.aiger.specs.Circuit.{Circuit, IsCircuit, net}
 use Rattle.aiger.specs.Trace.{IsCircuitFrame, SameCircuitFrame, next_latch_bits}
 use Rattle.aiger.proofs.TraceLemmas.{literal_value-agree, bits_from-agree, SameFrame-from_bits}
 use Rattle.runs.specs.CircuitRun.{CircuitRun, reset_bit, reset_bits, no_inputs}
-use Rattle.runs.specs.CircuitHolds.{KeepsBits, IsPut}
+use Rattle.runs.specs.CircuitHolds.{KeepsBits, IsCopied, IsPut}
 use Rattle.runs.proofs.BitPassLemmas.{bits_from-is, bits_from-set}
 
 -- runs with equal parts are equal
@@ -18,19 +18,19 @@ pub circuit_run_same : (c : Circuit) (latches latches' inputs inputs' : List Boo
 circuit_run_same c latches latches' inputs inputs' settled steps steps' l i s = rw (l, i, s) refl
 
 -- the bits of the latches, and of the inputs
-abbrev pub latches_in : Circuit → List Bool → List Bool
+abbrev pub latches_in : Circuit → List ℕ → List Bool
 latches_in c bits = latch_bits (net c) (valuation_of bits)
 
-abbrev pub inputs_in : Circuit → List Bool → List Bool
+abbrev pub inputs_in : Circuit → List ℕ → List Bool
 inputs_in c bits = net_input_bits (net c) (valuation_of bits)
 
-pub inputs_agree : (c : Circuit) (bits bits' : List Bool) → ((p : ℕ) → 1 ≤ p → p ≤ c.inputs → valuation_of bits' p ≡ valuation_of bits p) → inputs_in c bits' ≡ inputs_in c bits
+pub inputs_agree : (c : Circuit) (bits bits' : List ℕ) → ((p : ℕ) → 1 ≤ p → p ≤ c.inputs → valuation_of bits' p ≡ valuation_of bits p) → inputs_in c bits' ≡ inputs_in c bits
 inputs_agree c bits bits' same = bits_from-agree 1 c.inputs (valuation_of bits') (valuation_of bits) (λ p low high. same p low (omega arith))
 
-pub latches_agree : (c : Circuit) (bits bits' : List Bool) → ((p : ℕ) → c.inputs < p → p ≤ c.inputs + length c.latches → valuation_of bits' p ≡ valuation_of bits p) → latches_in c bits' ≡ latches_in c bits
+pub latches_agree : (c : Circuit) (bits bits' : List ℕ) → ((p : ℕ) → c.inputs < p → p ≤ c.inputs + length c.latches → valuation_of bits' p ≡ valuation_of bits p) → latches_in c bits' ≡ latches_in c bits
 latches_agree c bits bits' same = bits_from-agree (suc c.inputs) (length c.latches) (valuation_of bits') (valuation_of bits) (λ p low high. same p (omega arith) (omega arith))
 
-module _ (c : Circuit) (bits next_bits : List Bool) (settled : Bool) (k : KeepsBits c bits next_bits settled) where
+module _ (c : Circuit) (bits next_bits : List ℕ) (settled : Bool) (k : KeepsBits c bits next_bits settled) where
   -- a literal of the circuit is one of the list
   pub defined_inside : (l : ℕ) → IsDefined (net c) l → variable l < length bits
   defined_inside l d = omega (arith, k.many)
@@ -46,38 +46,38 @@ module _ (c : Circuit) (bits next_bits : List Bool) (settled : Bool) (k : KeepsB
       literal_value-agree (suc (variables (net c))) (valuation_of bits) v l (λ p low high. same p low (omega arith)) (omega arith)
 
   -- bits set for latches, or for inputs
-  pub record AfterSet (bits' latches' inputs' : List Bool) : Type 0 where
+  pub record AfterSet (bits' : List ℕ) (latches' inputs' : List Bool) : Type 0 where
     pub keeps : KeepsBits c bits' next_bits false
     pub latches : latches_in c bits' ≡ latches'
     pub inputs : inputs_in c bits' ≡ inputs'
 
-  set_keeps : (place : ℕ) (b : Bool) → 0 < place → KeepsBits c (set bits place b) next_bits false
+  set_keeps : (place b : ℕ) → 0 < place → KeepsBits c (set bits place b) next_bits false
   set_keeps place b above =
       record {
         valid = k.valid;
         many = length-set bits place b ∙ k.many;
         many_latches = k.many_latches;
-        constant = get_or-set_other bits place 0 b false (omega arith) ∙ k.constant;
+        constant = ap bit_of (get_or-set_other bits place 0 b 0 (omega arith)) ∙ k.constant;
         gates = λ e. absurd (cc);
       }
 
-  pub set_latch_keeps : (j place : ℕ) (b : Bool) → j < length c.latches → place ≡ 1 + c.inputs + j → AfterSet (set bits place b) (set (latches_in c bits) j b) (inputs_in c bits)
+  pub set_latch_keeps : (j place b : ℕ) → j < length c.latches → place ≡ 1 + c.inputs + j → AfterSet (set bits place b) (set (latches_in c bits) j (bit_of b)) (inputs_in c bits)
   set_latch_keeps j place b inside at =
       record {
         keeps = set_keeps place b (omega arith);
         latches = bits_from-set (suc c.inputs) (length c.latches) bits j place b (omega arith) inside (omega (arith, k.many));
-        inputs = inputs_agree c bits (set bits place b) (λ p low high. get_or-set_other bits place p b false (omega arith));
+        inputs = inputs_agree c bits (set bits place b) (λ p low high. ap bit_of (get_or-set_other bits place p b 0 (omega arith)));
       }
 
-  pub set_input_keeps : (j place : ℕ) (b : Bool) → j < c.inputs → place ≡ 1 + j → AfterSet (set bits place b) (latches_in c bits) (set (inputs_in c bits) j b)
+  pub set_input_keeps : (j place b : ℕ) → j < c.inputs → place ≡ 1 + j → AfterSet (set bits place b) (latches_in c bits) (set (inputs_in c bits) j (bit_of b))
   set_input_keeps j place b inside at =
       record {
         keeps = set_keeps place b (omega arith);
-        latches = latches_agree c bits (set bits place b) (λ p low high. get_or-set_other bits place p b false (omega arith));
+        latches = latches_agree c bits (set bits place b) (λ p low high. ap bit_of (get_or-set_other bits place p b 0 (omega arith)));
         inputs = bits_from-set 1 c.inputs bits j place b (omega arith) inside (omega (arith, k.many));
       }
 
-  put_keeps : (given : List Bool) (first : ℕ) (bits' : List Bool) → 0 < first → IsPut given first bits bits' → KeepsBits c bits' next_bits false
+  put_keeps : (given : List Bool) (first : ℕ) (bits' : List ℕ) → 0 < first → IsPut given first bits bits' → KeepsBits c bits' next_bits false
   put_keeps given first bits' above put =
       record {
         valid = k.valid;
@@ -87,7 +87,7 @@ module _ (c : Circuit) (bits next_bits : List Bool) (settled : Bool) (k : KeepsB
         gates = λ e. absurd (cc);
       }
 
-  pub put_latches_keeps : (given : List Bool) (first : ℕ) (bits' : List Bool) → first ≡ 1 + c.inputs → length given ≡ length c.latches → IsPut given first bits bits' → AfterSet bits' given (inputs_in c bits)
+  pub put_latches_keeps : (given : List Bool) (first : ℕ) (bits' : List ℕ) → first ≡ 1 + c.inputs → length given ≡ length c.latches → IsPut given first bits bits' → AfterSet bits' given (inputs_in c bits)
   put_latches_keeps given first bits' at many put =
       record {
         keeps = put_keeps given first bits' (omega arith) put;
@@ -95,7 +95,7 @@ module _ (c : Circuit) (bits next_bits : List Bool) (settled : Bool) (k : KeepsB
         inputs = inputs_agree c bits bits' (λ p low high. put.below p (omega arith));
       }
 
-  pub put_inputs_keeps : (given bits' : List Bool) → length given ≡ c.inputs → IsPut given 1 bits bits' → AfterSet bits' (latches_in c bits) given
+  pub put_inputs_keeps : (given : List Bool) (bits' : List ℕ) → length given ≡ c.inputs → IsPut given 1 bits bits' → AfterSet bits' (latches_in c bits) given
   put_inputs_keeps given bits' many put =
       record {
         keeps = put_keeps given 1 bits' (omega arith) put;
@@ -104,12 +104,12 @@ module _ (c : Circuit) (bits next_bits : List Bool) (settled : Bool) (k : KeepsB
       }
 
   -- the gates given their bits
-  pub record AfterSettle (bits' : List Bool) : Type 0 where
+  pub record AfterSettle (bits' : List ℕ) : Type 0 where
     pub keeps : KeepsBits c bits' next_bits true
     pub latches : latches_in c bits' ≡ latches_in c bits
     pub inputs : inputs_in c bits' ≡ inputs_in c bits
 
-  pub settle_keeps : (first : ℕ) (bits' : List Bool) → first ≡ 1 + c.inputs + length c.latches → SatisfiesFrom first c.gates (valuation_of bits') → ((p : ℕ) → p < first → valuation_of bits' p ≡ valuation_of bits p) → length bits' ≡ length bits
+  pub settle_keeps : (first : ℕ) (bits' : List ℕ) → first ≡ 1 + c.inputs + length c.latches → SatisfiesFrom first c.gates (valuation_of bits') → ((p : ℕ) → p < first → get_or bits' p 0 ≡ get_or bits p 0) → length bits' ≡ length bits
       → AfterSettle bits'
   settle_keeps first bits' at gates others many =
       let place : first ≡ suc (c.inputs + length c.latches) = omega arith in
@@ -118,23 +118,23 @@ module _ (c : Circuit) (bits next_bits : List Bool) (settled : Bool) (k : KeepsB
           valid = k.valid;
           many = many ∙ k.many;
           many_latches = k.many_latches;
-          constant = others 0 (omega arith) ∙ k.constant;
+          constant = ap bit_of (others 0 (omega arith)) ∙ k.constant;
           gates = λ e. subst (λ (n : ℕ). SatisfiesFrom n c.gates (valuation_of bits')) place gates;
         };
-        latches = latches_agree c bits bits' (λ p low high. others p (omega arith));
-        inputs = inputs_agree c bits bits' (λ p low high. others p (omega arith));
+        latches = latches_agree c bits bits' (λ p low high. ap bit_of (others p (omega arith)));
+        inputs = inputs_agree c bits bits' (λ p low high. ap bit_of (others p (omega arith)));
       }
 
   -- the latches moved and the inputs cleared: `put` are the bits between
-  pub record AfterAdvance (next_bits' bits' : List Bool) : Type 0 where
+  pub record AfterAdvance (next_bits' bits' : List ℕ) : Type 0 where
     pub keeps : KeepsBits c bits' next_bits' false
     pub latches : (v : Valuation) → IsCircuitFrame c (latches_in c bits) (inputs_in c bits) v → latches_in c bits' ≡ next_latch_bits c v
     pub inputs : inputs_in c bits' ≡ no_inputs c
 
-  pub advance_keeps : settled ≡ true → (next_bits' put bits' : List Bool) (first : ℕ) → first ≡ 1 + c.inputs
-      → ((j : ℕ) (d : Latch) → j < length c.latches → get_or next_bits' j false ≡ literal_value (valuation_of bits) (get_or c.latches j d).next) → length next_bits' ≡ length next_bits
-      → IsPut next_bits' first bits put
-      → ((j : ℕ) → j < c.inputs → get_or bits' (1 + j) false ≡ false) → ((p : ℕ) → c.inputs < p → get_or bits' p false ≡ get_or put p false) → get_or bits' 0 false ≡ get_or put 0 false → length bits' ≡ length put
+  pub advance_keeps : settled ≡ true → (next_bits' put bits' : List ℕ) (first : ℕ) → first ≡ 1 + c.inputs
+      → ((j : ℕ) (d : Latch) → j < length c.latches → valuation_of next_bits' j ≡ literal_value (valuation_of bits) (get_or c.latches j d).next) → length next_bits' ≡ length next_bits
+      → IsCopied next_bits' first bits put
+      → ((j : ℕ) → j < c.inputs → valuation_of bits' (1 + j) ≡ false) → ((p : ℕ) → c.inputs < p → get_or bits' p 0 ≡ get_or put p 0) → get_or bits' 0 0 ≡ get_or put 0 0 → length bits' ≡ length put
       → AfterAdvance next_bits' bits'
   advance_keeps done next_bits' put bits' first at taken as_many is cleared others constant many' =
       record {
@@ -142,35 +142,35 @@ module _ (c : Circuit) (bits next_bits : List Bool) (settled : Bool) (k : KeepsB
           valid = k.valid;
           many = many' ∙ is.as_many ∙ k.many;
           many_latches = as_many ∙ k.many_latches;
-          constant = constant ∙ is.below 0 (omega arith) ∙ k.constant;
+          constant = ap bit_of (constant ∙ is.below 0 (omega arith)) ∙ k.constant;
           gates = λ e. absurd (cc);
         };
         latches = λ v frame.
             bits_from-is (suc c.inputs) (length c.latches) (valuation_of bits') (next_latch_bits c v) (length-map c.latches (λ (l : Latch). literal_value v l.next)) (λ j within.
             let d : Latch = get_or c.latches j (record { next = 0; reset = Zero }) in
             let same : suc c.inputs + j ≡ first + j = omega arith in
-            others (suc c.inputs + j) (omega arith) ∙ ap (valuation_of put) same ∙ is.put j (omega (arith, as_many, k.many_latches)) ∙ taken j d within
+            ap bit_of (others (suc c.inputs + j) (omega arith)) ∙ ap (valuation_of put) same ∙ ap bit_of (is.put j (omega (arith, as_many, k.many_latches))) ∙ taken j d within
             ∙ literal_now done v frame (get_or c.latches j d).next (k.valid.defined.nexts j d within)
             ∙ sym (get_or-map (λ (l : Latch). literal_value v l.next) c.latches j d false within));
         inputs = bits_from-is 1 c.inputs (valuation_of bits') (no_inputs c) (length-replicate c.inputs false) (λ j within. cleared j within ∙ sym (get_or-replicate c.inputs j false false within));
       }
 
 -- The bits of a new run: 0 each, and then those of the resets.
-pub record Starts (c : Circuit) (next_bits bits : List Bool) : Type 0 where
+pub record Starts (c : Circuit) (next_bits bits : List ℕ) : Type 0 where
   pub keeps : KeepsBits c bits next_bits false
   pub latches : latches_in c bits ≡ reset_bits c.latches
   pub inputs : inputs_in c bits ≡ no_inputs c
 
-pub starts : (c : Circuit) (blank next_bits bits : List Bool) (first : ℕ) → IsCircuit c → first ≡ 1 + c.inputs → blank ≡ replicate (variables (net c) + 1) false
-    → ((j : ℕ) (d : Latch) → j < length c.latches → get_or next_bits j false ≡ reset_bit (get_or c.latches j d).reset) → length next_bits ≡ length c.latches
-    → IsPut next_bits first blank bits → Starts c next_bits bits
+pub starts : (c : Circuit) (blank next_bits bits : List ℕ) (first : ℕ) → IsCircuit c → first ≡ 1 + c.inputs → blank ≡ replicate (variables (net c) + 1) 0
+    → ((j : ℕ) (d : Latch) → j < length c.latches → valuation_of next_bits j ≡ reset_bit (get_or c.latches j d).reset) → length next_bits ≡ length c.latches
+    → IsCopied next_bits first blank bits → Starts c next_bits bits
 starts c blank next_bits bits first valid at are_false taken as_many put =
-    let are_zero : (p : ℕ) → p < first → get_or bits p false ≡ false =
-    λ p h. put.below p h ∙ ap (λ (l : List Bool). get_or l p false) are_false ∙ get_or-replicate (variables (net c) + 1) p false false (omega arith) in
+    let are_zero : (p : ℕ) → p < first → valuation_of bits p ≡ false =
+    λ p h. ap bit_of (put.below p h ∙ ap (λ (l : List ℕ). get_or l p 0) are_false ∙ get_or-replicate (variables (net c) + 1) p 0 0 (omega arith)) in
     record {
       keeps = record {
         valid = valid;
-        many = put.as_many ∙ ap length are_false ∙ length-replicate (variables (net c) + 1) false;
+        many = put.as_many ∙ ap length are_false ∙ length-replicate (variables (net c) + 1) 0;
         many_latches = as_many;
         constant = are_zero 0 (omega arith);
         gates = λ e. absurd (cc);
@@ -178,6 +178,6 @@ starts c blank next_bits bits first valid at are_false taken as_many put =
       latches = bits_from-is (suc c.inputs) (length c.latches) (valuation_of bits) (reset_bits c.latches) (length-map c.latches (λ (l : Latch). reset_bit l.reset)) (λ j within.
           let d : Latch = get_or c.latches j (record { next = 0; reset = Zero }) in
           let same : suc c.inputs + j ≡ first + j = omega arith in
-          ap (valuation_of bits) same ∙ put.put j (omega (arith, as_many)) ∙ taken j d within ∙ sym (get_or-map (λ (l : Latch). reset_bit l.reset) c.latches j d false within));
+          ap (valuation_of bits) same ∙ ap bit_of (put.put j (omega (arith, as_many))) ∙ taken j d within ∙ sym (get_or-map (λ (l : Latch). reset_bit l.reset) c.latches j d false within));
       inputs = bits_from-is 1 c.inputs (valuation_of bits) (no_inputs c) (length-replicate c.inputs false) (λ j within. are_zero (1 + j) (omega arith) ∙ sym (get_or-replicate c.inputs j false false within));
     }

@@ -25,15 +25,22 @@ circuit_run_of r =
       steps = r.tally;
     }
 
--- bits stand at the places from a first one on, and all others are as before
-pub record IsPut (given : List Bool) (first : ℕ) (old new : List Bool) : Type 0 where
+-- bits stand at the places from a first one on of a list of bytes, each the lowest of its byte, and all others are as before
+pub record IsPut (given : List Bool) (first : ℕ) (old new : List ℕ) : Type 0 where
   pub put : (k : ℕ) → k < length given → valuation_of new (first + k) ≡ slice_index_or given k false
   pub below : (p : ℕ) → p < first → valuation_of new p ≡ valuation_of old p
   pub above : (p : ℕ) → first + length given ≤ p → valuation_of new p ≡ valuation_of old p
   pub as_many : length new ≡ length old
 
+-- bytes stand so
+pub record IsCopied (given : List ℕ) (first : ℕ) (old new : List ℕ) : Type 0 where
+  pub put : (k : ℕ) → k < length given → slice_index_or new (first + k) 0 ≡ slice_index_or given k 0
+  pub below : (p : ℕ) → p < first → slice_index_or new p 0 ≡ slice_index_or old p 0
+  pub above : (p : ℕ) → first + length given ≤ p → slice_index_or new p 0 ≡ slice_index_or old p 0
+  pub as_many : length new ≡ length old
+
 -- The bits of 0 and of each variable, and room for each latch's next one; the bits satisfy the gates where the run is settled.
-pub record KeepsBits (c : Circuit) (bits next_bits : List Bool) (settled : Bool) : Type 0 where
+pub record KeepsBits (c : Circuit) (bits next_bits : List ℕ) (settled : Bool) : Type 0 where
   pub valid : IsCircuit c
   pub many : length bits ≡ variables (net c) + 1
   pub many_latches : length next_bits ≡ length c.latches

@@ -1,10 +1,10 @@
-//! The passes over the lists of bits of a run.
+//! The passes over the lists of bits of a run, each bit the lowest of its byte.
 ghost use Rattle.std.specs.Prelude.{◌≡◌, ℕ, ◌+◌, ◌<◌, ◌≤◌, false, length, All, slice_index_or};
 ghost use Rattle.base.specs.Steps.{more_steps};
 ghost use Rattle.base.specs.Literal.{variable, literal_value, valuation_of};
 ghost use Rattle.aiger.specs.Net.{AreOrderedFrom, SatisfiesFrom};
 ghost use Rattle.runs.specs.CircuitRun.{reset_bit, written_bits};
-ghost use Rattle.runs.specs.CircuitHolds.{IsPut};
+ghost use Rattle.runs.specs.CircuitHolds.{IsCopied, IsPut};
 
 use aiger::{Gate, Latch, Reset};
 use base::{AndGates, Tally, gate_all, literal_bit, take_all};
@@ -36,14 +36,14 @@ impl<'a> AndGates for Operands<'a> {
 }
 
 /// Gives each gate its bit, from those before it; `first` is the variable of the first gate. One step for each.
-pub(crate) fn settle_gates(gates: &[Gate], first: usize, bits: &mut [bool], tally: &mut Tally)
+pub(crate) fn settle_gates(gates: &[Gate], first: usize, bits: &mut [u8], tally: &mut Tally)
     requires above { 0 < first }
     requires ordered { AreOrderedFrom first gates.now }
     requires inside { first + length gates.now ≤ length bits.old }
-    requires constant { slice_index_or bits.old 0 false ≡ false }
+    requires constant { valuation_of bits.old 0 ≡ false }
     ensures gates { SatisfiesFrom first gates.now (valuation_of bits.new) }
-    ensures others { (p : ℕ) → p < first → slice_index_or bits.new p false
-        ≡ slice_index_or bits.old p false }
+    ensures others { (p : ℕ) → p < first → slice_index_or bits.new p 0
+        ≡ slice_index_or bits.old p 0 }
     ensures as_many { length bits.new ≡ length bits.old }
     ensures steps { tally.new ≡ more_steps (length gates.now) tally.old }
 {
@@ -51,12 +51,12 @@ pub(crate) fn settle_gates(gates: &[Gate], first: usize, bits: &mut [bool], tall
 }
 
 /// Takes the bits of the latches' next literals. One step for each.
-pub(crate) fn take_nexts(latches: &[Latch], bits: &[bool], taken: &mut [bool], tally: &mut Tally)
+pub(crate) fn take_nexts(latches: &[Latch], bits: &[u8], taken: &mut [u8], tally: &mut Tally)
     requires inside { All (λ l. variable l.next < length bits.now) latches.now }
-    requires constant { slice_index_or bits.now 0 false ≡ false }
+    requires constant { valuation_of bits.now 0 ≡ false }
     requires as_many { length taken.old ≡ length latches.now }
     ensures taken { (k : ℕ) (d : Latch) → k < length latches.now
-        → slice_index_or taken.new k false ≡ literal_value (valuation_of bits.now)
+        → valuation_of taken.new k ≡ literal_value (valuation_of bits.now)
         (slice_index_or latches.now k d).next }
     ensures as_many { length taken.new ≡ length taken.old }
     ensures steps { tally.new ≡ more_steps (length latches.now) tally.old }
@@ -78,43 +78,53 @@ fn first_bit(reset: Reset) -> bool
 }
 
 /// Takes the bits that the latches begin with.
-pub(crate) fn take_first_bits(latches: &[Latch], taken: &mut [bool])
+pub(crate) fn take_first_bits(latches: &[Latch], taken: &mut [u8])
     requires as_many { length taken.old ≡ length latches.now }
     ensures taken { (k : ℕ) (d : Latch) → k < length latches.now
-        → slice_index_or taken.new k false ≡ reset_bit (slice_index_or latches.now k d).reset }
+        → valuation_of taken.new k ≡ reset_bit (slice_index_or latches.now k d).reset }
     ensures as_many { length taken.new ≡ length taken.old }
 {
     for (k, latch) in latches.iter().enumerate() {
-        taken[k] = first_bit(latch.reset);
+        taken[k] = u8::from(first_bit(latch.reset));
     }
 }
 
 /// Puts bits at the places from `first` on.
-pub(crate) fn put_bits(taken: &[bool], first: usize, bits: &mut [bool])
+pub(crate) fn put_bits(given: &[bool], first: usize, bits: &mut [u8])
+    requires { first + length given.now ≤ length bits.old }
+    ensures { IsPut given.now first bits.old bits.new }
+{
+    for (k, bit) in given.iter().enumerate() {
+        bits[first + k] = u8::from(*bit);
+    }
+}
+
+/// Puts the bits that were taken at the places from `first` on.
+pub(crate) fn put_taken(taken: &[u8], first: usize, bits: &mut [u8])
     requires { first + length taken.now ≤ length bits.old }
-    ensures { IsPut taken.now first bits.old bits.new }
+    ensures { IsCopied taken.now first bits.old bits.new }
 {
     bits[first..first + taken.len()].copy_from_slice(taken);
 }
 
 /// Puts the bits that digits write at the places from `first` on.
-pub(crate) fn put_digits(digits: &[u8], first: usize, bits: &mut [bool])
+pub(crate) fn put_digits(digits: &[u8], first: usize, bits: &mut [u8])
     requires { first + length digits.now ≤ length bits.old }
     ensures { IsPut (written_bits digits.now) first bits.old bits.new }
 {
     for (k, digit) in digits.iter().enumerate() {
-        bits[first + k] = *digit == b'1';
+        bits[first + k] = u8::from(*digit == b'1');
     }
 }
 
 /// Puts 0 for each input.
-pub(crate) fn clear_inputs(inputs: usize, bits: &mut [bool])
+pub(crate) fn clear_inputs(inputs: usize, bits: &mut [u8])
     requires { inputs < length bits.old }
-    ensures cleared { (k : ℕ) → k < inputs → slice_index_or bits.new (1 + k) false ≡ false }
-    ensures others { (p : ℕ) → inputs < p → slice_index_or bits.new p false
-        ≡ slice_index_or bits.old p false }
-    ensures constant { slice_index_or bits.new 0 false ≡ slice_index_or bits.old 0 false }
+    ensures cleared { (k : ℕ) → k < inputs → valuation_of bits.new (1 + k) ≡ false }
+    ensures others { (p : ℕ) → inputs < p → slice_index_or bits.new p 0
+        ≡ slice_index_or bits.old p 0 }
+    ensures constant { slice_index_or bits.new 0 0 ≡ slice_index_or bits.old 0 0 }
     ensures as_many { length bits.new ≡ length bits.old }
 {
-    bits[1..1 + inputs].fill(false);
+    bits[1..1 + inputs].fill(0);
 }

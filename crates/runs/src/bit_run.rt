@@ -8,7 +8,7 @@ ghost use Rattle.aiger.specs.Trace.{next_latch_bits};
 ghost use Rattle.runs.specs.CircuitRun.{IsFrameNow, circuit_start, no_inputs, settle_steps, circuit_held, written_bits};
 
 use crate::bit_passes::{
-    clear_inputs, put_bits, put_digits, settle_gates, take_first_bits, take_nexts,
+    clear_inputs, put_bits, put_digits, put_taken, settle_gates, take_first_bits, take_nexts,
 };
 use crate::fault::NewFault;
 use aiger::{Circuit, Lit};
@@ -20,10 +20,10 @@ use std::alloc::{AllocError, Global};
 #[derive(Drop)]
 pub struct BitRun<'a> {
     circuit: &'a Circuit,
-    // the bits of 0 and of the variables now; those of the inputs and latches are given
-    bits: Vec<bool>,
+    // the bits of 0 and of the variables now, each the lowest of its byte; those of the inputs and latches are given
+    bits: Vec<u8>,
     // the bits of the latches in the next frame, while the run advances
-    next_bits: Vec<bool>,
+    next_bits: Vec<u8>,
     settled: bool,
     tally: Tally,
 }
@@ -50,10 +50,10 @@ impl<'a> BitRun<'a> {
         requires { tally ≡ 0 }
         ensures { IfOk result (λ run. run ≡ circuit_start circuit.now) }
     {
-        let mut bits = vec![in alloc; false; circuit.variables() as usize + 1]?;
-        let mut next_bits = vec![in alloc; false; circuit.latches().len()]?;
+        let mut bits = vec![in alloc; 0; circuit.variables() as usize + 1]?;
+        let mut next_bits = vec![in alloc; 0; circuit.latches().len()]?;
         take_first_bits(circuit.latches(), &mut next_bits);
-        put_bits(&next_bits, 1 + circuit.inputs() as usize, &mut bits);
+        put_taken(&next_bits, 1 + circuit.inputs() as usize, &mut bits);
         Ok(BitRun {
             circuit,
             bits,
@@ -85,7 +85,7 @@ impl<'a> BitRun<'a> {
         ensures { self.new
             ≡ record self.old { latches = slice_set self.old.latches k bit; settled = false } }
     {
-        self.bits[1 + self.circuit.inputs() as usize + k] = bit;
+        self.bits[1 + self.circuit.inputs() as usize + k] = u8::from(bit);
         self.settled = false;
     }
 
@@ -97,7 +97,7 @@ impl<'a> BitRun<'a> {
         ensures { self.new
             ≡ record self.old { inputs = slice_set self.old.inputs k bit; settled = false } }
     {
-        self.bits[1 + k] = bit;
+        self.bits[1 + k] = u8::from(bit);
         self.settled = false;
     }
 
@@ -177,7 +177,7 @@ impl<'a> BitRun<'a> {
         requires settled { self.now.settled ≡ true }
         ensures { (v : Valuation) → IsFrameNow self.now v → result ≡ literal_value v lit }
     {
-        base::literal_bit(&self.bits, lit.number())
+        base::literal_bit(&self.bits, lit.number()) % 2 == 1
     }
 
     /// Whether a constraint holds. `i` counts the constraints.
@@ -233,7 +233,7 @@ impl<'a> BitRun<'a> {
             &mut self.next_bits,
             &mut self.tally,
         );
-        put_bits(&self.next_bits, 1 + inputs, &mut self.bits);
+        put_taken(&self.next_bits, 1 + inputs, &mut self.bits);
         clear_inputs(inputs, &mut self.bits);
         self.settled = false;
     }

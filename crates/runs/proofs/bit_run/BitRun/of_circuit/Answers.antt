@@ -1,39 +1,39 @@
-use Rattle.std.proofs.Common.{◌≡◌, ℕ, ◌+◌, ◌<◌, Bool, false, List, length, get_or, replicate, ap, sym, subst, ◌∙◌, arith}
+use Rattle.std.proofs.Common.{◌≡◌, ℕ, ◌+◌, ◌<◌, List, length, get_or, replicate, ap, sym, subst, ◌∙◌, arith}
 use Rattle.std.proofs.lemmas.List.{with_items_is, length-replicate}
 use Rattle.std.specs.Vec.{with_items}
 use Rattle.aiger.specs.declared.circuit.Latch.{Latch}
 use Rattle.runs.specs.CircuitRun.{reset_bit}
-use Rattle.runs.specs.CircuitHolds.{IsPut}
+use Rattle.runs.specs.CircuitHolds.{IsCopied}
 use Rattle.runs.proofs.BitRunLemmas.{Starts, latches_in, inputs_in, starts, circuit_run_same}
 use Rattle.runs.proofs.bit_run.BitRun.of_circuit.Goals as goal
-use Rattle.runs.proofs.bit_run.BitRun.of_circuit.Goals.{After-put_bits}
+use Rattle.runs.proofs.bit_run.BitRun.of_circuit.Goals.{After-put_taken}
 
 -- the bits of the latches, and those of all
-taken_is : (c : After-put_bits) → (with_items c.in_ok-next_bits.next_bits c.take_first_bits.new.taken).items ≡ c.take_first_bits.new.taken
+taken_is : (c : After-put_taken) → (with_items c.in_ok-next_bits.next_bits c.take_first_bits.new.taken).items ≡ c.take_first_bits.new.taken
 taken_is c = with_items_is c.in_ok-next_bits.next_bits c.take_first_bits.new.taken (omega arith)
 
-put_is : (c : After-put_bits) → (with_items c.in_ok-bits.bits c.put_bits.new.bits).items ≡ c.put_bits.new.bits
-put_is c = with_items_is c.in_ok-bits.bits c.put_bits.new.bits (omega arith)
+put_is : (c : After-put_taken) → (with_items c.in_ok-bits.bits c.put_taken.new.bits).items ≡ c.put_taken.new.bits
+put_is c = with_items_is c.in_ok-bits.bits c.put_taken.new.bits (omega arith)
 
-begun : (c : After-put_bits) → Starts c.args.circuit.now c.take_first_bits.new.taken c.put_bits.new.bits
+begun : (c : After-put_taken) → Starts c.args.circuit.now c.take_first_bits.new.taken c.put_taken.new.bits
 begun c =
     let circuit = c.args.circuit.now in
     let blank : c.deref_mut-2.result.now ≡ c.in_ok-bits.bits.items = c.deref_mut-2.ensures.value in
     let given : c.deref.result.now ≡ c.take_first_bits.new.taken = c.deref.ensures.value ∙ taken_is c in
-    starts circuit c.in_ok-bits.bits.items c.take_first_bits.new.taken c.put_bits.new.bits (1 + c.inputs.result) c.variables.ensures.valid (ap (λ (n : ℕ). 1 + n) c.inputs.ensures.count)
-    (c.in_ok-bits.ensures.items_if_clones_equal (λ y same. same) ∙ ap (λ (n : ℕ). replicate (n + 1) false) c.variables.ensures.count)
+    starts circuit c.in_ok-bits.bits.items c.take_first_bits.new.taken c.put_taken.new.bits (1 + c.inputs.result) c.variables.ensures.valid (ap (λ (n : ℕ). 1 + n) c.inputs.ensures.count)
+    (c.in_ok-bits.ensures.items_if_clones_equal (λ y same. same) ∙ ap (λ (n : ℕ). replicate (n + 1) 0) c.variables.ensures.count)
     (λ j d within. c.take_first_bits.ensures.taken j d (subst (λ (ls : List Latch). j < length ls) (sym c.latches-2.ensures.items) within) ∙ ap (λ (ls : List Latch). reset_bit (get_or ls j d).reset) c.latches-2.ensures.items)
-    (c.take_first_bits.ensures.as_many ∙ ap length (c.deref_mut.ensures.value ∙ c.in_ok-next_bits.ensures.items_if_clones_equal (λ y same. same)) ∙ length-replicate (length c.latches.result.now) false ∙ ap length c.latches.ensures.items)
-    (subst (λ (l : List Bool). IsPut c.take_first_bits.new.taken (1 + c.inputs.result) l c.put_bits.new.bits) blank
-    (subst (λ (l : List Bool). IsPut l (1 + c.inputs.result) c.deref_mut-2.result.now c.put_bits.new.bits) given c.put_bits.ensures))
+    (c.take_first_bits.ensures.as_many ∙ ap length (c.deref_mut.ensures.value ∙ c.in_ok-next_bits.ensures.items_if_clones_equal (λ y same. same)) ∙ length-replicate (length c.latches.result.now) 0 ∙ ap length c.latches.ensures.items)
+    (subst (λ (l : List ℕ). IsCopied c.take_first_bits.new.taken (1 + c.inputs.result) l c.put_taken.new.bits) blank
+    (subst (λ (l : List ℕ). IsCopied l (1 + c.inputs.result) c.deref_mut-2.result.now c.put_taken.new.bits) given c.put_taken.ensures))
 
 pub invariant_of-result : goal.invariant_of-result
 invariant_of-result c =
-    let end = (goal.at.invariant_of-result c).After-put_bits in
+    let end = (goal.at.invariant_of-result c).After-put_taken in
     rw (put_is end, taken_is end) (begun end).keeps
 
 pub returns : goal.returns
 returns c =
     let circuit = c.args.circuit.now in
-    let end = (goal.at.returns c).After-put_bits in
+    let end = (goal.at.returns c).After-put_taken in
     circuit_run_same _ _ _ _ _ _ _ _ (ap (latches_in circuit) (put_is end) ∙ (begun end).latches) (ap (inputs_in circuit) (put_is end) ∙ (begun end).inputs) c.requires

@@ -1,4 +1,4 @@
-use Rattle.std.proofs.Common.{◌≡◌, ℕ, ◌+◌, Bool, false, List, length, get_or, ap, ap₂, subst, ◌∙◌, arith}
+use Rattle.std.proofs.Common.{◌≡◌, ℕ, ◌+◌, List, length, get_or, ap, ap₂, subst, ◌∙◌, arith}
 use Rattle.std.proofs.lemmas.List.{with_items_is}
 use Rattle.std.specs.Vec.{with_items}
 use Rattle.aiger.specs.declared.circuit.Gate.{Gate}
@@ -21,7 +21,7 @@ after c =
     let first : ℕ = 1 + c.inputs-inputs.result + length c.latches.result.now in
     let place : first ≡ 1 + circuit.inputs + length circuit.latches = ap₂ (λ (i l : ℕ). 1 + i + l) c.inputs-inputs.ensures.count (ap length c.latches.ensures.items) in
     let gates = subst (λ (gs : List Gate). SatisfiesFrom first gs (valuation_of c.settle_gates.new.bits)) c.gates.ensures.items c.settle_gates.ensures.gates in
-    settle_keeps _ _ _ _ c.self.invariant first c.settle_gates.new.bits place gates (λ p h. c.settle_gates.ensures.others p h ∙ ap (λ (l : List Bool). get_or l p false) between) (c.settle_gates.ensures.as_many ∙ ap length between)
+    settle_keeps _ _ _ _ c.self.invariant first c.settle_gates.new.bits place gates (λ p h. c.settle_gates.ensures.others p h ∙ ap (λ (l : List ℕ). get_or l p 0) between) (c.settle_gates.ensures.as_many ∙ ap length between)
 
 pub invariant_of-self : goal.invariant_of-self
 invariant_of-self c =

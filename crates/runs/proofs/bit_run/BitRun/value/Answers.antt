@@ -1,5 +1,5 @@
-use Rattle.std.proofs.Common.{◌≡◌, ℕ, Bool, true, List, ap, sym, subst, ◌∙◌}
-use Rattle.base.specs.Literal.{Valuation, literal_value, valuation_of}
+use Rattle.std.proofs.Common.{◌≡◌, ℕ, true, List, ap, sym, subst, ◌∙◌}
+use Rattle.base.specs.Literal.{Valuation, bit_of, literal_value, valuation_of}
 use Rattle.aiger.specs.Net.{IsDefined}
 use Rattle.aiger.specs.Circuit.{net}
 use Rattle.runs.specs.CircuitRun.{CircuitRun, IsFrameNow}
@@ -10,6 +10,6 @@ pub returns : goal.returns
 returns c =
     let there = subst (λ (r : CircuitRun). IsDefined (net r.circuit) c.args.lit) (sym c.self.view_is) c.requires.there in
     let done = subst (λ (r : CircuitRun). r.settled ≡ true) (sym c.self.view_is) c.requires.settled in
-    let read = c.literal_bit.ensures ∙ ap (λ (l : ℕ). literal_value (valuation_of c.deref.result.now) l) c.number.ensures ∙ ap (λ (bits : List Bool). literal_value (valuation_of bits) c.args.lit) c.deref.ensures.value in
-    subst (λ (r : CircuitRun). (v : Valuation) → IsFrameNow r v → c.literal_bit.result ≡ literal_value v c.args.lit) c.self.view_is
+    let read = c.literal_bit.ensures ∙ ap (λ (l : ℕ). literal_value (valuation_of c.deref.result.now) l) c.number.ensures ∙ ap (λ (bits : List ℕ). literal_value (valuation_of bits) c.args.lit) c.deref.ensures.value in
+    subst (λ (r : CircuitRun). (v : Valuation) → IsFrameNow r v → bit_of c.literal_bit.result ≡ literal_value v c.args.lit) c.self.view_is
     (λ v frame. read ∙ literal_now _ _ _ _ c.self.invariant done v frame c.args.lit there)
