@@ -6,7 +6,6 @@ use Rattle.aiger.specs.Circuit.{Circuit}
 use Rattle.aiger.specs.Reachability.{CanRiseInCircuit}
 use Rattle.blast.specs.Lowering.{Lowers}
 use Rattle.btor2.specs.Reachability.{CanRise}
-use Rattle.blast.specs.Refusal.{lowering_refusal}
 use Rattle.engine_form.specs.declared.fault.EngineFault.{EngineFault}
 use Rattle.engine_form.specs.declared.fault.EngineFault.TheVariants as engine
 use Rattle.drup.specs.declared.judgement.Judgement.{Judgement}
@@ -38,12 +37,11 @@ use Rattle.invocation.specs.declared.tasks.Given.TheVariants as given
 use Rattle.subcommands.specs.declared.refusals.Fault.{Fault}
 use Rattle.subcommands.specs.declared.refusals.Refusal.{Refusal}
 use Rattle.subcommands.specs.declared.refusals.Refusal.TheVariants as refusal
-use Rattle.subcommands.specs.Certificates.{Certifies, CertifiesWith, GivesItsCircuit, IsCertifiedBy, IsGivenNumbering, IsSoDerived, LowersFirst, NeverRises, given_said, verdict_line}
+use Rattle.subcommands.specs.Certificates.{Certifies, CertifiesWith, GivesItsCircuit, IsCertifiedBy, IsGivenNumbering, IsSoDerived, NeverRises, given_said, verdict_line}
 use Rattle.subcommands.specs.Conversions.{of_certificate, of_claim, of_engine_form, of_invariant_for, of_obligation, of_witness, of_witness_reading_for}
 use Rattle.subcommands.specs.Refusals.{IsFaultyFor, IsFaultyOver, IsFaultyOverForm, IsFaultyWitness}
 use Rattle.subcommands.specs.Statuses.{CountsAll, IfSecond}
 use Rattle.subcommands.specs.Subjects.{holds_said, where_named}
-use Rattle.btor2text.specs.Spelling.{IsModelOf}
 use Rattle.subcommands.specs.Claims.{IsClaim}
 
 -- ---- what is refused
@@ -114,10 +112,6 @@ counted_proof (certificate.Judge e) f s t t' o err of h = ((refl, refl, refl, re
 counted_proof certificate.Device f s t t' o err of h = (refl, refl, (h 0).1, refl, refl)
 
 -- ---- what is done
-
--- a first text of a model against which nothing speaks gives the circuit that lowers it
-pub gives_lowered : (known : Option (List ℕ)) (items : List Item) (c : Circuit) → IsModelOf known items → lowering_refusal items ≡ None → Lowers items c → LowersFirst known c
-gives_lowered known items c text accepted lowers = record { items = items; text = text; accepted = accepted; lowers = lowers }
 
 never : (g : Given) (known : Option (List ℕ)) (c : Circuit) (gives : GivesItsCircuit g known c) (k : ℕ) → ((items : List Item) (d : Circuit) (b : ℕ) → Lowers items d → CanRise items b ↔ CanRiseInCircuit d b) → (CanRiseInCircuit c k → ⊥) → NeverRises g known c gives k
 never given.Model known c gives k alike cannot = λ rise. cannot ((alike gives.items c k gives.lowers).0 rise)

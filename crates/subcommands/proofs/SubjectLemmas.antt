@@ -1,6 +1,5 @@
 -- The item with a number among those of a kind, by the list of their places; and what a command has done that says what its judgement is about.
 use Rattle.std.proofs.Common.{◌≡◌, ℕ, zero, suc, Bool, true, false, cond, List, [], ◌∷◌, ◌++◌, ◌+◌, ◌<◌, drop, Option, Some, None, IfSome, Result, Ok, Err, IfOk, OnOk, length, length-append, append_assoc, option_and_then, slice_get, refl, sym, ap, subst, ◌∙◌, arith}
-use Rattle.std.proofs.lemmas.List.{append-nil}
 use Rattle.std.specs.Io.KnownBytes.{Appends}
 use Rattle.btor2.specs.declared.item.Item.{Item}
 use Rattle.btor2.specs.declared.item.Body.{Body}
@@ -57,10 +56,6 @@ pub record Told (old new : Option (List ℕ)) (all rest : List ℕ) : Type 0 whe
   pub told : Appends old new front
   pub is : front ++ rest ≡ all
 
-pub none_told : (old : Option (List ℕ)) (all : List ℕ) → Told old old all all
-none_told None all = record { front = []; told = tt; is = refl }
-none_told (Some xs) all = record { front = []; told = sym (append-nil xs); is = refl }
-
 pub appends_more : (old mid new : Option (List ℕ)) (a b : List ℕ) → Appends old mid a → Appends mid new b → Appends old new (a ++ b)
 appends_more None mid new a b first second = tt
 appends_more (Some xs) None new a b first second = absurd first
@@ -85,15 +80,6 @@ more_told old mid new all part rest rest' so_far now is = record {
   told = appends_more old mid new so_far.front part so_far.told now;
   is = append_assoc so_far.front part rest' ∙ ap (λ (l : List ℕ). so_far.front ++ l) (sym is) ∙ so_far.is;
 }
-
-pub all_told : (old new : Option (List ℕ)) (all rest : List ℕ) → Told old new all rest → rest ≡ [] → Appends old new all
-all_told old new all rest so_far none = by old new so_far.told
-  where
-    front : so_far.front ≡ all
-    front = sym (append-nil so_far.front) ∙ ap (λ (l : List ℕ). so_far.front ++ l) (sym none) ∙ so_far.is
-
-    by : (o n : Option (List ℕ)) → Appends o n so_far.front → Appends o n all
-    by o n told = rw (← front) told
 
 -- what is said of the first rises from one on, and of those behind it
 firsts_step : (bad : ℕ → List ℕ) (k n : ℕ) (firsts : List (Option ℕ)) → k < length firsts
