@@ -1,13 +1,12 @@
 -- The parts of pieces, as they are put.
-use Rattle.std.proofs.Common.{◌≡◌, ℕ, zero, suc, ◌+◌, ◌-◌, ◌<◌, ◌≤◌, ◌==◌, ◌||◌, if◌then◌else◌, Bool, true, false, Option, Some, option_and_then, slice_get, List, [], ◌∷◌, ◌++◌, length, map, reverse, take, drop, get_or, set, codes, decimal, refl, sym, ap, subst, ◌∙◌, append_assoc, append-nil, drop-cons, add-one, arith, ap₂}
+use Rattle.std.proofs.Common.{◌≡◌, ℕ, zero, suc, ◌+◌, ◌-◌, ◌<◌, ◌≤◌, ◌==◌, ◌||◌, if◌then◌else◌, Bool, true, false, Option, Some, option_and_then, slice_get, List, [], ◌∷◌, ◌++◌, length, map, reverse, take, drop, get_or, codes, decimal, refl, sym, ap, subst, ◌∙◌, append_assoc, drop-cons, add-one, arith, ap₂}
 use Rattle.std.specs.List.{list_any}
 use Rattle.std.specs.Fmt.{digits}
 use Rattle.std.proofs.Math.Seq.{take_all}
-use Rattle.std.proofs.lemmas.Bool.{or_from, or_right, lt-ltb, le-ltb}
+use Rattle.std.proofs.lemmas.Bool.{or_right, lt-ltb, le-ltb}
 use Rattle.std.specs.Str.{bytes_eq}
 use Rattle.std.proofs.Math.ListN.{get_or-map}
-use Rattle.std.proofs.lemmas.List.{reverse-append, take_more_set, length-map, take-map, drop-map}
-use Rattle.std.proofs.lemmas.List.Folds.{list_any-append}
+use Rattle.std.proofs.lemmas.List.{reverse-append, length-map, take-map, drop-map}
 use Rattle.std.proofs.lemmas.List.Concat.{flat_map-append}
 use Rattle.std.proofs.lemmas.Grind.{take_at_read}
 use Rattle.base.specs.Lines.{text_of_lines}
@@ -31,6 +30,14 @@ pub digits_left : (bits : List Bool) (left : ℕ) (b d : Bool) → left < length
 digits_left bits left b d lt at =
     ap (λ (l : List Bool). map digit (reverse l)) ((take_at_read bits left d lt).1 ∙ ap (λ (x : Bool). take left bits ++ x ∷ []) (sym at))
     ∙ ap (map digit) (reverse-append (take left bits) (b ∷ []))
+
+-- the digits put so far, in front of a line, and one more
+pub digit_more : (bits : List ℕ) (k : ℕ) (line old : List ℕ) → k < length bits → line ≡ map digit (reverse (take k (bits_of_line bits))) ++ old
+    → digit (get_or bits k 0 == 49) ∷ line ≡ map digit (reverse (take (k + 1) (bits_of_line bits))) ++ old
+digit_more bits k line old lt is =
+    let within : k < length (bits_of_line bits) = omega (arith, lt, length-map bits (λ b. b == 49)) in
+    let at : (get_or bits k 0 == 49) ≡ get_or (bits_of_line bits) k (0 == 49) = sym (get_or-map (λ b. b == 49) bits k 0) in
+    ap (λ (l : List ℕ). digit (get_or bits k 0 == 49) ∷ l) is ∙ sym (ap (λ (l : List ℕ). l ++ old) (digits_left (bits_of_line bits) k (get_or bits k 0 == 49) (0 == 49) within at))
 
 -- the leaves behind some others
 pub leaves_left : (l : Leaves) (items : List Item) (name : Item → Option (List ℕ)) (index p d : ℕ) (ps : List ℕ) (bits : List Bool) → index < length ps → p ≡ get_or ps index d
@@ -115,38 +122,6 @@ digits_step bits done put d lt e =
     let is : put ≡ digit (get_or bits left d) ∷ [] = e ∙ ap (λ (k : ℕ). digit (get_or bits k d) ∷ []) at in
     ap (λ (k : ℕ). map digit (reverse (take k bits))) more ∙ digits_left bits left (get_or bits left d) d (omega (arith, lt)) refl
     ∙ ap (λ (l : List ℕ). l ++ map digit (reverse (take left bits))) (sym is)
-
--- the digits of a word, in a loop that writes them
-pub written_more : (bits : List Bool) (digits : List ℕ) (done : ℕ) (d : Bool) → done < length bits → length bits ≤ length digits
-    → take done digits ++ map digit (reverse (take (length bits - done) bits)) ≡ map digit (reverse bits)
-    → take (done + 1) (set digits done (digit (get_or bits (length bits - done - 1) d))) ++ map digit (reverse (take (length bits - (done + 1)) bits)) ≡ map digit (reverse bits)
-written_more bits digits done d lt fits h =
-    let b : ℕ = digit (get_or bits (length bits - done - 1) d) in
-    let rest : List ℕ = map digit (reverse (take (length bits - (done + 1)) bits)) in
-    ap (λ (l : List ℕ). l ++ rest) (take_more_set digits done b (omega (arith, lt, fits)))
-    ∙ (append_assoc (take done digits) (b ∷ []) rest ∙ (ap (λ (l : List ℕ). take done digits ++ l) (sym (digits_step bits done (b ∷ []) d lt refl)) ∙ h))
-
-pub all_written : (bits : List Bool) (digits : List ℕ) (done : ℕ) → done ≡ length bits → take done digits ++ map digit (reverse (take (length bits - done) bits)) ≡ map digit (reverse bits)
-    → take (length bits) digits ≡ map digit (reverse bits)
-all_written bits digits done all h =
-    let none : length bits - done ≡ 0 = omega (arith, all) in
-    let rest : map digit (reverse (take (length bits - done) bits)) ≡ [] = ap (λ (n : ℕ). map digit (reverse (take n bits))) none in
-    ap (λ (n : ℕ). take n digits) (sym all) ∙ (sym (append-nil (take done digits)) ∙ (ap (λ (l : List ℕ). take done digits ++ l) (sym rest) ∙ h))
-
--- the same of a byte for each bit
-pub byte_written : (bits digits : List ℕ) (done d : ℕ) → done < length bits → length bits ≤ length digits → take done digits ++ map digit (reverse (take (length bits - done) (bits_of_line bits))) ≡ map digit (reverse (bits_of_line bits))
-    → take (done + 1) (set digits done (digit (get_or bits (length bits - done - 1) d == 49))) ++ map digit (reverse (take (length bits - (done + 1)) (bits_of_line bits))) ≡ map digit (reverse (bits_of_line bits))
-byte_written bits digits done d lt fits h =
-    let many : length (bits_of_line bits) ≡ length bits = length-map bits (λ b. b == 49) in
-    let was : take done digits ++ map digit (reverse (take (length (bits_of_line bits) - done) (bits_of_line bits))) ≡ map digit (reverse (bits_of_line bits)) = rw many h in
-    let more = written_more (bits_of_line bits) digits done (d == 49) (omega (arith, lt, many)) (omega (arith, fits, many)) was in
-    let byte : get_or (bits_of_line bits) (length bits - done - 1) (d == 49) ≡ (get_or bits (length bits - done - 1) d == 49) = get_or-map (λ b. b == 49) bits (length bits - done - 1) d in
-    rw byte at (rw many at more)
-
-pub bytes_written : (bits digits : List ℕ) (done : ℕ) → done ≡ length bits → take done digits ++ map digit (reverse (take (length bits - done) (bits_of_line bits))) ≡ map digit (reverse (bits_of_line bits)) → take (length bits) digits ≡ map digit (reverse (bits_of_line bits))
-bytes_written bits digits done all h =
-    let many : length (bits_of_line bits) ≡ length bits = length-map bits (λ b. b == 49) in
-    rw many at (all_written (bits_of_line bits) digits done (all ∙ sym many) (rw many h))
 
 -- the leaves, in a loop
 pub leaves_step : (l : Leaves) (items : List Item) (name : Item → Option (List ℕ)) (index d w : ℕ) (t : Bool) (x : Item) (bits word behind : List Bool) → index < length (places (list_of l) 0 items)

@@ -11,7 +11,7 @@ ghost use Rattle.witness.specs.Texts.{digit, symbol_part, shape_of, has_free};
 ghost use Rattle.lift.specs.Lifted.{bits_of_line, name_in_frame, names, word_line, initial_piece, free_piece, frame_piece, piece};
 ghost use Rattle.lift.specs.Placed.{leaf_lines, taken_line};
 
-use base::{Pen, Sink};
+use base::{Line, Pen, Sink};
 use btor2::{Item, Leaves, Model};
 use itoa::Buffer;
 use restore::Writer;
@@ -27,17 +27,16 @@ fn put_line<K: Sink>(pen: &mut Pen, sink: &mut K, line: &[u8])
 }
 
 /// Puts a byte, a number and the end of a line.
-fn put_mark<K: Sink>(pen: &mut Pen, sink: &mut K, mark: &[u8], number: u64)
+fn put_mark<K: Sink>(pen: &mut Pen, sink: &mut K, mark: u8, number: u64)
     ensures { WritesText K.written K.failures sink.old sink.new pen.old pen.new
-        (mark.now ++ (decimal number ++ 10 ∷ [])) }
+        (mark ∷ (decimal number ++ 10 ∷ [])) }
 {
-    pen.put(sink, mark);
-    pen.put_number(sink, number);
-    pen.put(sink, b"\n");
+    pen.line.clear();
+    pen.line.byte(b'\n');
+    pen.line.number(number);
+    pen.line.byte(mark);
+    pen.put_line(sink);
 }
-
-/// The most bits of a word.
-const MOST_BITS: usize = 64;
 
 /// The digit of a bit.
 fn digit(bit: bool) -> u8
@@ -46,67 +45,48 @@ fn digit(bit: bool) -> u8
     if bit { b'1' } else { b'0' }
 }
 
-/// Writes the digits of a word, whose bits are a byte each, to the front of a list, the highest first.
-fn write_digits(bits: &[u8], digits: &mut [u8])
-    requires { length bits.now ≤ length digits.old }
-    ensures digits { take (length bits.now) digits.new
-        ≡ map digit (reverse (bits_of_line bits.now)) }
-    ensures as_many { length digits.new ≡ length digits.old }
+/// Puts the digits of a word, whose bits are a byte each, the lowest first, in front of a line: the highest first.
+fn add_digits(line: &mut Line, bits: &[u8])
+    requires { length line.old + length bits.now ≤ 512 }
+    ensures { line.new ≡ map digit (reverse (bits_of_line bits.now)) ++ line.old }
 {
-    for place in 0..bits.len() {
-        digits[place] = digit(bits[bits.len() - place - 1] == b'1');
+    for bit in bits {
+        line.byte(digit(*bit == b'1'));
     }
-}
-
-/// Puts the digits of a word, the highest first.
-fn put_digits<K: Sink>(pen: &mut Pen, sink: &mut K, bits: &[u8])
-    requires { length bits.now ≤ 64 }
-    ensures { WritesText K.written K.failures sink.old sink.new pen.old pen.new
-        (map digit (reverse (bits_of_line bits.now))) }
-{
-    let mut digits = [0; MOST_BITS];
-    write_digits(bits, &mut digits);
-    let (word, _) = digits.split_at(bits.len());
-    pen.put(sink, word);
 }
 
 /// The most bytes of a symbol.
 const MOST_BYTES: usize = 255;
 
-/// Puts a space, a symbol, `@` and the digits of a frame's number.
-fn put_symbol_part<K: Sink>(pen: &mut Pen, sink: &mut K, symbol: &[u8], digits: &[u8])
-    ensures { WritesText K.written K.failures sink.old sink.new pen.old pen.new
-        ((32 ∷ []) ++ (symbol.now ++ ((64 ∷ []) ++ digits.now))) }
-{
-    pen.put(sink, b" ");
-    pen.put(sink, symbol);
-    pen.put(sink, b"@");
-    pen.put(sink, digits);
-}
-
-/// Puts the name of a symbol in a frame behind a word, where that is a symbol.
-fn put_name_in_frame<K: Sink>(pen: &mut Pen, sink: &mut K, symbol: &[u8], frame: u64)
-    requires { is_symbol symbol.now ≡ true }
-    ensures { WritesText K.written K.failures sink.old sink.new pen.old pen.new
-        (symbol_part (name_in_frame frame symbol.now)) }
+/// Puts the name of a symbol in a frame in front of a line, where that is a symbol: a space, the symbol, `@` and the frame's
+/// number.
+fn add_name_in_frame(line: &mut Line, symbol: &[u8], frame: u64)
+    requires symbol { is_symbol symbol.now ≡ true }
+    requires room { length line.old ≤ 1 }
+    ensures name { line.new ≡ symbol_part (name_in_frame frame symbol.now) ++ line.old }
+    ensures short { length line.new ≤ 257 }
 {
     let mut buffer = Buffer::new();
     let digits = buffer.format(frame).as_bytes();
     if symbol.len() + digits.len() < MOST_BYTES {
-        put_symbol_part(pen, sink, symbol, digits);
+        line.text(digits);
+        line.byte(b'@');
+        line.text(symbol);
+        line.byte(b' ');
     }
 }
 
-/// Puts the name of an item in a frame behind a word, where names are asked for and it has one.
-fn put_name<K: Sink>(pen: &mut Pen, sink: &mut K, named: bool, frame: u64, item: &Item)
-    ensures { WritesText K.written K.failures sink.old sink.new pen.old pen.new
-        (symbol_part (names named frame item.now)) }
+/// Puts the name of an item in a frame in front of a line, where names are asked for and it has one.
+fn add_name(line: &mut Line, named: bool, frame: u64, item: &Item)
+    requires { length line.old ≤ 1 }
+    ensures name { line.new ≡ symbol_part (names named frame item.now) ++ line.old }
+    ensures short { length line.new ≤ 257 }
 {
     if !named {
         return;
     }
     if let Some(symbol) = &item.symbol {
-        put_name_in_frame(pen, sink, symbol.bytes(), frame);
+        add_name_in_frame(line, symbol.bytes(), frame);
     }
 }
 
@@ -124,11 +104,13 @@ fn put_word<K: Sink>(
     ensures { WritesText K.written K.failures sink.old sink.new pen.old pen.new
         (word_line index (bits_of_line bits.now) (names named frame item.now) ++ 10 ∷ []) }
 {
-    pen.put_number(sink, index as u64);
-    pen.put(sink, b" ");
-    put_digits(pen, sink, bits);
-    put_name(pen, sink, named, frame, item);
-    pen.put(sink, b"\n");
+    pen.line.clear();
+    pen.line.byte(b'\n');
+    add_name(&mut pen.line, named, frame, item);
+    add_digits(&mut pen.line, bits);
+    pen.line.byte(b' ');
+    pen.line.number(index as u64);
+    pen.put_line(sink);
 }
 
 /// Puts the line of a leaf in a frame, where it takes bits.
@@ -214,13 +196,13 @@ fn put_part<K: Sink>(
     sink: &mut K,
     model: &Model,
     named: bool,
-    mark: &[u8],
+    mark: u8,
     frame: u64,
     leaves: Leaves,
     bits: &[u8],
 )
     ensures { WritesText K.written K.failures sink.old sink.new pen.old pen.new
-        ((mark.now ++ (decimal frame ++ 10 ∷ [])) ++ leaf_lines leaves model.now (names named frame)
+        ((mark ∷ (decimal frame ++ 10 ∷ [])) ++ leaf_lines leaves model.now (names named frame)
         (bits_of_line bits.now)) }
 {
     put_mark(pen, sink, mark, frame);
@@ -253,7 +235,7 @@ fn put_initial<K: Sink>(pen: &mut Pen, sink: &mut K, model: &Model, named: bool,
         (text_of_lines (initial_piece named model.now (bits_of_line bits.now))) }
 {
     let _items = model.items();
-    put_part(pen, sink, model, named, b"#", 0, Leaves::Carried, bits);
+    put_part(pen, sink, model, named, b'#', 0, Leaves::Carried, bits);
 }
 
 /// Puts the words of the free states in a frame, whose bits stand behind those of the inputs: those of the first frame stand
@@ -293,7 +275,7 @@ fn put_free<K: Sink>(
         sink,
         model,
         named,
-        b"#",
+        b'#',
         frame,
         Leaves::Free,
         behind_inputs(model, bits),
@@ -316,7 +298,7 @@ fn put_frame<K: Sink>(
 {
     let _items = model.items();
     put_free(pen, sink, model, named, some_free, frame, bits);
-    put_part(pen, sink, model, named, b"@", frame, Leaves::Inputs, bits)
+    put_part(pen, sink, model, named, b'@', frame, Leaves::Inputs, bits)
 }
 
 /// Whether a line is a word.

@@ -1,5 +1,5 @@
-use Rattle.base.proofs.PenLemmas.{writes_then}
+use Rattle.base.proofs.PenLemmas.{writes_line}
 use Rattle.lift.proofs.pieces.put_mark.Goals as goal
 
 pub returns : goal.returns
-returns g c = writes_then c.put.ensures (writes_then c.put_number.ensures c.put-2.ensures)
+returns g c = rw (c.byte-2.ensures, c.number.ensures.digits, c.byte.ensures, c.clear.ensures) at (writes_line {p = c.args.pen.now} c.put_line.ensures)
