@@ -39,9 +39,9 @@ pub record LiftsWith (named : Bool) (items : List Item) (c : Circuit) (l : Lifte
   pub kept : l.kept ≡ cut_of l.kept.room (unfinished text)
   pub room : HasRoom c l.kept.room
 
--- the piece of the line that is kept, where it is admitted
-abbrev pub admitted_piece : Bool → Lifter → ℕ → List (List ℕ)
-admitted_piece admitted l number = if admitted then piece l.pieces.named l.pieces.items number l.kept.bytes else []
+-- the piece of a line, where it is admitted
+abbrev pub admitted_piece : Bool → Lifter → ℕ → List ℕ → List (List ℕ)
+admitted_piece admitted l number line = if admitted then piece l.pieces.named l.pieces.items number line else []
 
 -- it stands for a text, of which the lifted text was put since a pen began
 pub record HasLifted {K : Type 0} (written : K → Option (List ℕ)) (failures : K → ℕ) (start s : K) (from pen : Pen) (named : Bool) (items : List Item) (c : Circuit) (l : Lifter) (text : List ℕ) : Type 0 where

@@ -6,6 +6,7 @@ ghost use Rattle.btor2.specs.declared.item.Item.{Item};
 ghost use Rattle.aiger.specs.Circuit.{Circuit};
 ghost use Rattle.witness.specs.BitJudgements.{BitJudges};
 ghost use Rattle.rises.specs.FirstRises.{AreBitFirstRises};
+ghost use Rattle.witness.specs.Readings.{is_nothing};
 ghost use Rattle.lift.specs.Stands.{HasRoom, LiftsWith, TakesText, admitted_piece};
 
 use crate::pieces::Pieces;
@@ -74,13 +75,20 @@ impl<'a> Lifter<'a> {
         }
     }
 
-    /// Puts the piece of the line that is kept, where it is admitted behind so many others.
-    fn put_admitted<K: Sink>(&self, pen: &mut Pen, sink: &mut K, admitted: bool, number: u64)
+    /// Puts the piece of a line, where it is admitted behind so many others.
+    fn put_admitted<K: Sink>(
+        &self,
+        pen: &mut Pen,
+        sink: &mut K,
+        admitted: bool,
+        number: u64,
+        line: &[u8],
+    )
         ensures { WritesText K.written K.failures sink.old sink.new pen.old pen.new
-            (text_of_lines (admitted_piece admitted self.now number)) }
+            (text_of_lines (admitted_piece admitted self.now number line.now)) }
     {
         if admitted {
-            self.pieces.put(pen, sink, number, self.kept.bytes());
+            self.pieces.put(pen, sink, number, line);
         }
     }
 
@@ -94,8 +102,21 @@ impl<'a> Lifter<'a> {
         self.noter.take_bytes(bytes);
     }
 
-    /// Takes the rest of a line, and its end.
-    fn take_line<K: Sink>(&mut self, pen: &mut Pen, sink: &mut K, line: &[u8])
+    /// Takes a whole line, and its end.
+    fn take_whole<K: Sink>(&mut self, pen: &mut Pen, sink: &mut K, line: &[u8])
+        requires line { IsLine line.now }
+        requires none { is_nothing self.old.kept.bytes ≡ true }
+        ensures { TakesText K.written K.failures sink.old sink.new pen.old pen.new self.old
+            self.new (line.now ++ 10 ∷ []) }
+    {
+        let number = self.noter.admitted_lines();
+        self.noter.take_line(line);
+        let admitted = self.noter.admitted_lines() != number;
+        self.put_admitted(pen, sink, admitted, number, line);
+    }
+
+    /// Takes the rest of a line that was cut, and its end.
+    fn take_rest<K: Sink>(&mut self, pen: &mut Pen, sink: &mut K, line: &[u8])
         requires { IsLine line.now }
         ensures { TakesText K.written K.failures sink.old sink.new pen.old pen.new self.old
             self.new (line.now ++ 10 ∷ []) }
@@ -104,8 +125,21 @@ impl<'a> Lifter<'a> {
         let number = self.noter.admitted_lines();
         self.noter.take_line(line);
         let admitted = self.noter.admitted_lines() != number;
-        self.put_admitted(pen, sink, admitted, number);
+        self.put_admitted(pen, sink, admitted, number, self.kept.bytes());
         self.kept.clear();
+    }
+
+    /// Takes the rest of a line, and its end.
+    fn take_line<K: Sink>(&mut self, pen: &mut Pen, sink: &mut K, line: &[u8])
+        requires { IsLine line.now }
+        ensures { TakesText K.written K.failures sink.old sink.new pen.old pen.new self.old
+            self.new (line.now ++ 10 ∷ []) }
+    {
+        if self.kept.is_empty() {
+            self.take_whole(pen, sink, line);
+        } else {
+            self.take_rest(pen, sink, line);
+        }
     }
 
     /// Takes a piece of the witness behind those before.
