@@ -4,9 +4,10 @@ counted calls of `base`, one for each operator, and is counted in the one tally 
 
 Outside comments and contracts no case of the two enums of operators is named, a circuit's gates are read in `runs` alone,
 `Tally::new` is called in the `new` of the two runs alone, and `witness` and `lift` make no counted call. In `runs` the list of
-a circuit's gates is handed to one function, which does nothing but hand it on to the counted call for many gates: there the
-operands of a gate are named in the one place that tells them to `base`, and what tells them is called by nothing. Prints what
-breaks one of these rules, and ends with status 0 where nothing does, else 1."""
+the gates, as they are arranged, is handed to one function, which does nothing but hand it on to the counted call for many gates:
+there the operands of a gate are named in the one place that tells them to `base`, and what tells them is called by nothing. What
+arranges gates names their operands, too, but no type of a bit, and makes no counted call. Prints what breaks one of these rules,
+and ends with status 0 where nothing does, else 1."""
 import pathlib
 import re
 import sys
@@ -14,9 +15,11 @@ import sys
 CRATES = pathlib.Path(__file__).resolve().parent.parent / "crates"
 COUNTED = ("unary", "binary", "ite", "slice", "uext", "sext", "concat", "take", "take_all", "gate", "gate_all")
 # Where `runs` hands a circuit's gates on, the call that counts them, and what tells `base` their operands.
-HANDED = r"settle_gates\(\s*self\.circuit\.gates\(\)"
+HANDED = r"settle_gates\(\s*self\.arrangement\.gates\(self\.circuit\)"
 HANDS_ON = "{gate_all(&Operands(gates),first,bits,tally);}"
 TELLS = "{letgate=&self.0[k];(gate.rhs0.number(),gate.rhs1.number())}"
+# What brings gates into the order in which they are evaluated, and sees no bit.
+ARRANGES = "runs/src/arranging.rt"
 
 
 def without_blocks(text, opening):
@@ -59,7 +62,10 @@ def gate_faults():
     tells, hands_on = 0, 0
     for file in sorted((CRATES / "runs/src").rglob("*.rt")):
         text, name = code(file), file.relative_to(CRATES)
-        if len(re.findall(r"\bgates\(\)", text)) != len(re.findall(HANDED, text)):
+        if str(name) == ARRANGES:
+            yield from (f"{name}: names {it}" for it in re.findall(r"\b(?:u8|bool|base|Tally|Operands|operands)\b", text))
+            continue
+        if len(re.findall(r"\bgates\(", text)) != len(re.findall(HANDED, text)):
             yield f"{name}: reads a circuit's gates"
         for of, body in functions(text):
             packed = re.sub(r"\s+", "", body)

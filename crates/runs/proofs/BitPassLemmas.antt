@@ -3,10 +3,11 @@ use Rattle.std.proofs.Common.{◌≡◌, ◌≢◌, ℕ, zero, suc, ◌+◌, ◌
 use Rattle.std.proofs.lemmas.Bool.{cases_eq}
 use Rattle.std.proofs.lemmas.List.{length-set, get_or-set_same, get_or-set_other, ext_get_or, get_or_at, get_or_append_left}
 use Rattle.aiger.specs.declared.circuit.Gate.{Gate}
-use Rattle.base.specs.Literal.{Valuation, variable, IsAnd, bit_of, valuation_of}
-use Rattle.aiger.specs.Net.{SatisfiesFrom, AreOrderedFrom, bits_from}
+use Rattle.base.specs.Literal.{Valuation, IsAnd, bit_of, valuation_of}
+use Rattle.aiger.specs.Net.{SatisfiesFrom, bits_from}
 use Rattle.aiger.proofs.NetLemmas.{length-bits_from}
-use Rattle.runs.specs.CircuitHolds.{IsPut, left_operand, right_operand}
+use Rattle.runs.specs.CircuitHolds.{IsPut}
+use Rattle.runs.specs.Arranging.{left_operand, right_operand}
 
 -- Bits one after another.
 
@@ -66,11 +67,6 @@ put_more given bit first place b old new holds at room is =
     }
 
 -- Gates one by one.
-
-pub operands_below : (first : ℕ) (gates : List Gate) (k : ℕ) → AreOrderedFrom first gates → k < length gates → (variable (left_operand gates k) < first + k) × (variable (right_operand gates k) < first + k)
-operands_below first [] k o h = absurd (omega arith)
-operands_below first (g ∷ gs) zero o h = (omega (arith, o.0), omega (arith, o.0, o.1))
-operands_below first (g ∷ gs) (suc k) o h = let rest = operands_below (suc first) gs k o.2 (omega arith) in (omega (arith, rest.0), omega (arith, rest.1))
 
 pub satisfies_at : (first : ℕ) (gates : List Gate) (v : Valuation) → ((k : ℕ) → k < length gates → IsAnd v (first + k) (left_operand gates k) (right_operand gates k)) → SatisfiesFrom first gates v
 satisfies_at first [] v h = tt

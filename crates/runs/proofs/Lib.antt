@@ -11,5 +11,6 @@ pub mod ReadLemmas
 pub mod AdvanceLemmas
 pub mod StartLemmas
 pub mod GivenLemmas
+pub mod ArrangingLemmas
 pub mod BitPassLemmas
 pub mod BitRunLemmas

@@ -5,5 +5,6 @@ pub mod Run
 pub mod Nodes
 pub mod Holds
 pub mod CircuitRun
+pub mod Arranging
 pub mod CircuitHolds
 pub mod Worked

@@ -1,12 +1,12 @@
 //! The passes over the lists of bits of a run, each bit the lowest of its byte.
 ghost use Rattle.std.specs.Prelude.{◌≡◌, ℕ, ◌+◌, ◌<◌, ◌≤◌, false, length, All, slice_index_or};
 ghost use Rattle.base.specs.Steps.{more_steps};
-ghost use Rattle.base.specs.Literal.{variable, literal_value, valuation_of};
-ghost use Rattle.aiger.specs.Net.{AreOrderedFrom, SatisfiesFrom};
+ghost use Rattle.base.specs.Literal.{variable, valuation_of, IsAnd};
+ghost use Rattle.runs.specs.Arranging.{AreBehindOperands, left_operand, right_operand};
 ghost use Rattle.runs.specs.CircuitRun.{reset_bit, written_bits};
-ghost use Rattle.runs.specs.CircuitHolds.{IsCopied, IsPut};
+ghost use Rattle.runs.specs.CircuitHolds.{AreTaken, IsCopied, IsPut};
 
-use aiger::{Gate, Latch, Reset};
+use aiger::{Gate, Latch, Lit, Reset};
 use base::{AndGates, Tally, gate_all, literal_bit, take_all};
 
 /// The gates of a circuit as those that `base` counts and evaluates.
@@ -15,7 +15,7 @@ struct Operands<'a>(&'a [Gate]);
 
 impl<'a> AndGates for Operands<'a> {
     ghost use Rattle.std.specs.Prelude.{length};
-    ghost use Rattle.runs.specs.CircuitHolds.{left_operand, right_operand};
+    ghost use Rattle.runs.specs.Arranging.{left_operand, right_operand};
 
     ghost count = { λ g. length g.0.now };
 
@@ -38,10 +38,11 @@ impl<'a> AndGates for Operands<'a> {
 /// Gives each gate its bit, from those before it; `first` is the variable of the first gate. One step for each.
 pub(crate) fn settle_gates(gates: &[Gate], first: usize, bits: &mut [u8], tally: &mut Tally)
     requires above { 0 < first }
-    requires ordered { AreOrderedFrom first gates.now }
+    requires behind { AreBehindOperands first gates.now }
     requires inside { first + length gates.now ≤ length bits.old }
     requires constant { valuation_of bits.old 0 ≡ false }
-    ensures gates { SatisfiesFrom first gates.now (valuation_of bits.new) }
+    ensures gates { (k : ℕ) → k < length gates.now
+        → IsAnd (valuation_of bits.new) (first + k) (left_operand gates.now k) (right_operand gates.now k) }
     ensures others { (p : ℕ) → p < first → slice_index_or bits.new p 0
         ≡ slice_index_or bits.old p 0 }
     ensures as_many { length bits.new ≡ length bits.old }
@@ -50,20 +51,40 @@ pub(crate) fn settle_gates(gates: &[Gate], first: usize, bits: &mut [u8], tally:
     gate_all(&Operands(gates), first, bits, tally);
 }
 
-/// Takes the bits of the latches' next literals. One step for each.
-pub(crate) fn take_nexts(latches: &[Latch], bits: &[u8], taken: &mut [u8], tally: &mut Tally)
-    requires inside { All (λ l. variable l.next < length bits.now) latches.now }
+/// Takes the bit of one latch's next literal, where those before it are taken.
+#[inline(always)]
+fn take_next(nexts: &[Lit], k: usize, bits: &[u8], taken: &mut [u8])
+    requires there { k < length nexts.now }
+    requires inside { All (λ l. variable l < length bits.now) nexts.now }
     requires constant { valuation_of bits.now 0 ≡ false }
-    requires as_many { length taken.old ≡ length latches.now }
-    ensures taken { (k : ℕ) (d : Latch) → k < length latches.now
-        → valuation_of taken.new k ≡ literal_value (valuation_of bits.now)
-        (slice_index_or latches.now k d).next }
+    requires as_many { length taken.old ≡ length nexts.now }
+    ensures taken { AreTaken nexts.now bits.now k taken.old
+        → AreTaken nexts.now bits.now (k + 1) taken.new }
     ensures as_many { length taken.new ≡ length taken.old }
-    ensures steps { tally.new ≡ more_steps (length latches.now) tally.old }
 {
-    take_all(latches.len(), tally);
-    for (k, latch) in latches.iter().enumerate() {
-        taken[k] = literal_bit(bits, latch.next.number());
+    taken[k] = literal_bit(bits, nexts[k].number());
+}
+
+/// Takes the bits of the latches' next literals, four in one turn. One step for each.
+pub(crate) fn take_nexts(nexts: &[Lit], bits: &[u8], taken: &mut [u8], tally: &mut Tally)
+    requires inside { All (λ l. variable l < length bits.now) nexts.now }
+    requires constant { valuation_of bits.now 0 ≡ false }
+    requires as_many { length taken.old ≡ length nexts.now }
+    ensures taken { AreTaken nexts.now bits.now (length nexts.now) taken.new }
+    ensures as_many { length taken.new ≡ length taken.old }
+    ensures steps { tally.new ≡ more_steps (length nexts.now) tally.old }
+{
+    let count = nexts.len();
+    take_all(count, tally);
+    for turn in 0..count / 4 {
+        let k = 4 * turn;
+        take_next(nexts, k, bits, taken);
+        take_next(nexts, k + 1, bits, taken);
+        take_next(nexts, k + 2, bits, taken);
+        take_next(nexts, k + 3, bits, taken);
+    }
+    for k in count / 4 * 4..count {
+        take_next(nexts, k, bits, taken);
     }
 }
 

@@ -7,6 +7,7 @@ ghost use Rattle.aiger.specs.Circuit.{net};
 ghost use Rattle.aiger.specs.Trace.{next_latch_bits};
 ghost use Rattle.runs.specs.CircuitRun.{IsFrameNow, circuit_start, no_inputs, settle_steps, circuit_held, written_bits};
 
+use crate::arranging::Arrangement;
 use crate::bit_passes::{
     clear_inputs, put_bits, put_digits, put_taken, settle_gates, take_first_bits, take_nexts,
 };
@@ -20,6 +21,10 @@ use std::alloc::{AllocError, Global};
 #[derive(Drop)]
 pub struct BitRun<'a> {
     circuit: &'a Circuit,
+    // the order in which gates are evaluated, and where the bits of variables stand
+    arrangement: Arrangement,
+    // the latches' next literals, by places
+    nexts: Vec<Lit>,
     // the bits of 0 and of the variables now, each the lowest of its byte; those of the inputs and latches are given
     bits: Vec<u8>,
     // the bits of the latches in the next frame, while the run advances
@@ -50,12 +55,16 @@ impl<'a> BitRun<'a> {
         requires { tally ≡ 0 }
         ensures { IfOk result (λ run. run ≡ circuit_start circuit.now) }
     {
+        let arrangement = Arrangement::new(alloc, circuit)?;
+        let nexts = arrangement.nexts(alloc, circuit.latches())?;
         let mut bits = vec![in alloc; 0; circuit.variables() as usize + 1]?;
         let mut next_bits = vec![in alloc; 0; circuit.latches().len()]?;
         take_first_bits(circuit.latches(), &mut next_bits);
         put_taken(&next_bits, 1 + circuit.inputs() as usize, &mut bits);
         Ok(BitRun {
             circuit,
+            arrangement,
+            nexts,
             bits,
             next_bits,
             settled: false,
@@ -158,7 +167,12 @@ impl<'a> BitRun<'a> {
         let inputs = self.circuit.inputs() as usize;
         let first = 1 + inputs + self.circuit.latches().len();
         base::take_all(inputs, &mut self.tally);
-        settle_gates(self.circuit.gates(), first, &mut self.bits, &mut self.tally);
+        settle_gates(
+            self.arrangement.gates(self.circuit),
+            first,
+            &mut self.bits,
+            &mut self.tally,
+        );
         self.settled = true;
     }
 
@@ -177,7 +191,7 @@ impl<'a> BitRun<'a> {
         requires settled { self.now.settled ≡ true }
         ensures { (v : Valuation) → IsFrameNow self.now v → result ≡ literal_value v lit }
     {
-        base::literal_bit(&self.bits, lit.number()) % 2 == 1
+        base::literal_bit(&self.bits, self.arrangement.placed(lit).number()) % 2 == 1
     }
 
     /// Whether a constraint holds. `i` counts the constraints.
@@ -228,7 +242,7 @@ impl<'a> BitRun<'a> {
     {
         let inputs = self.circuit.inputs() as usize;
         take_nexts(
-            self.circuit.latches(),
+            &self.nexts,
             &self.bits,
             &mut self.next_bits,
             &mut self.tally,

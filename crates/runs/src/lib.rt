@@ -2,6 +2,7 @@
 //! laws of its definitions stand in `laws`.
 #![tactic(auto)]
 
+mod arranging;
 mod bit_passes;
 mod bit_run;
 mod fault;

@@ -1,11 +1,9 @@
-use Rattle.std.proofs.Common.{◌≡◌, ℕ, ◌<◌, length, get_or}
-use Rattle.aiger.specs.declared.circuit.Latch.{Latch}
-use Rattle.base.specs.Literal.{literal_value, valuation_of}
+use Rattle.std.proofs.Common.{◌≡◌, ◌*◌, length}
+use Rattle.runs.specs.CircuitHolds.{AreTaken}
 use Rattle.runs.proofs.bit_passes.take_nexts.Given as goal
 
+abbrev pub invariant-loop-turn : goal.invariant-loop-turn
+invariant-loop-turn l = record { taken : AreTaken l.nexts l.bits (4 * l.turn) l.taken; as_many : length l.taken ≡ length l.fn.taken }
+
 abbrev pub invariant-loop-k : goal.invariant-loop-k
-invariant-loop-k l =
-    record {
-      taken : (j : ℕ) (d : Latch) → j < l.k → valuation_of l.taken j ≡ literal_value (valuation_of l.bits) (get_or l.latches j d).next;
-      as_many : length l.taken ≡ length l.fn.taken;
-    }
+invariant-loop-k l = record { taken : AreTaken l.nexts l.bits l.k l.taken; as_many : length l.taken ≡ length l.fn.taken }

@@ -10,6 +10,6 @@ returns c =
     let circuit = c.self.inside.circuit.now in
     let there = subst (λ (r : CircuitRun). length c.args.digits.now ≡ length r.circuit.latches) (sym c.self.view_is) c.requires in
     let put = subst (λ (l : List ℕ). IsPut (written_bits c.args.digits.now) (1 + c.inputs.result) l c.put_digits.new.bits) c.deref_mut.ensures.value c.put_digits.ensures in
-    let after = put_latches_keeps _ _ _ _ c.self.invariant (written_bits c.args.digits.now) (1 + c.inputs.result) c.put_digits.new.bits (ap (λ (n : ℕ). 1 + n) c.inputs.ensures.count) (length-map c.args.digits.now (λ b. b == 49) ∙ there) put in
+    let after = put_latches_keeps _ _ _ _ _ _ c.self.invariant (written_bits c.args.digits.now) (1 + c.inputs.result) c.put_digits.new.bits (ap (λ (n : ℕ). 1 + n) c.inputs.ensures.count) (length-map c.args.digits.now (λ b. b == 49) ∙ there) put in
     let is = with_items_is c.self.inside.bits c.put_digits.new.bits (omega (arith, c.deref_mut.ensures.len)) in
     rw (← c.self.view_is) (circuit_run_same _ _ _ _ _ _ _ _ (ap (latches_in circuit) is ∙ after.latches) (ap (inputs_in circuit) is ∙ after.inputs) refl)
