@@ -6,7 +6,6 @@ use Rattle.std.proofs.lemmas.Bool.{and_from, and_parts, leb-true, le-leb}
 use Rattle.std.proofs.lemmas.List.Folds.{list_all-append}
 use Rattle.base.specs.Decimals.{is_digit, are_digits}
 use Rattle.btor2.specs.Symbols.{is_printed, is_symbol}
-use Rattle.btor2.proofs.SymbolLemmas.{long_is_no_symbol}
 use Rattle.base.proofs.DecimalLemmas.{decimal_digits}
 use Rattle.witness.specs.Texts.{symbol_part}
 use Rattle.btor2.specs.declared.item.Item.{Item}
@@ -48,11 +47,6 @@ pub name_fits : (symbol digits : List ℕ) (k : ℕ) → is_symbol symbol ≡ tr
 name_fits symbol digits k is small e fits =
     let name : is_symbol (at_frame symbol k) ≡ true = longer_symbol symbol (64 ∷ decimal k) is (mark_printed k small) (omega (arith, fits, ap length e)) in
     ap (λ (b : Bool). symbol_part (if b then Some (at_frame symbol k) else None)) name ∙ ap (λ (l : List ℕ). 32 ∷ (symbol ++ 64 ∷ l)) (sym e)
-
-pub name_is_long : (symbol digits : List ℕ) (k : ℕ) → digits ≡ decimal k → (length symbol + length digits < 255 → ⊥) → symbol_part (name_in_frame k symbol) ≡ []
-name_is_long symbol digits k e long =
-    let many : 255 < length (at_frame symbol k) = omega (arith, long, ap length e, length-append symbol (64 ∷ decimal k)) in
-    ap (λ (b : Bool). symbol_part (if b then Some (at_frame symbol k) else None)) (long_is_no_symbol (at_frame symbol k) many)
 
 -- an item without a symbol has no name
 pub no_name : (named : Bool) (k : ℕ) (x : Item) → x.symbol ≡ None → names named k x ≡ None

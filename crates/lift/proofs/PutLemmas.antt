@@ -1,5 +1,5 @@
 -- The parts of pieces, as they are put.
-use Rattle.std.proofs.Common.{◌≡◌, ℕ, zero, suc, ◌+◌, ◌-◌, ◌<◌, ◌≤◌, ◌==◌, ◌||◌, if◌then◌else◌, Bool, true, false, Option, Some, option_and_then, slice_get, List, [], ◌∷◌, ◌++◌, length, map, reverse, take, drop, get_or, codes, decimal, refl, sym, ap, subst, ◌∙◌, append_assoc, drop-cons, add-one, arith, ap₂}
+use Rattle.std.proofs.Common.{◌≡◌, ℕ, zero, suc, ◌+◌, ◌-◌, ◌<◌, ◌≤◌, ◌==◌, ◌||◌, if◌then◌else◌, Bool, true, false, Option, Some, option_and_then, slice_get, List, [], ◌∷◌, ◌++◌, length, map, reverse, take, drop, get_or, codes, decimal, refl, sym, ap, subst, ◌∙◌, drop-cons, add-one, arith, ap₂}
 use Rattle.std.specs.List.{list_any}
 use Rattle.std.specs.Fmt.{digits}
 use Rattle.std.proofs.Math.Seq.{take_all}
@@ -18,9 +18,9 @@ use Rattle.btor2.specs.declared.leaves.Leaves.TheVariants as leaves
 use Rattle.btor2.specs.Leaves.{list_of, is_leaf_at, leaf_width}
 use Rattle.btor2.specs.Check.{IsWellFormed}
 use Rattle.blast.specs.Cost.{input_width}
-use Rattle.witness.specs.Texts.{digit, most_lines, symbol_part, shape_of, has_free}
+use Rattle.witness.specs.Texts.{digit, most_lines, shape_of, has_free}
 use Rattle.witness.proofs.ShapeLemmas.{free_at_places}
-use Rattle.lift.specs.Lifted.{names, word_line, bits_of_line, initial_piece, free_piece, frame_piece, piece}
+use Rattle.lift.specs.Lifted.{names, bits_of_line, initial_piece, free_piece, frame_piece, piece}
 use Rattle.lift.specs.Placed.{taken_line, placed_lines, leaf_lines, Pieces, put_piece_for}
 use Rattle.lift.proofs.LeafLemmas.{lifted_input_lines, inputs_placed, carried_placed, free_placed}
 
@@ -54,10 +54,6 @@ pub bits_behind : (rest bits : List ℕ) (n m : ℕ) → rest ≡ drop n bits �
 bits_behind rest bits n m e same = ap bits_of_line e ∙ (sym (drop-map (λ b. b == 49) n bits) ∙ ap (λ (k : ℕ). drop k (bits_of_line bits)) same)
 
 -- the pieces
-pub word_parts : (index : ℕ) (bits : List Bool) (name : Option (List ℕ)) → word_line index bits name ++ 10 ∷ [] ≡ decimal index ++ ((32 ∷ []) ++ (map digit (reverse bits) ++ (symbol_part name ++ 10 ∷ [])))
-word_parts index bits name =
-    append_assoc (decimal index ++ 32 ∷ map digit (reverse bits)) (symbol_part name) (10 ∷ []) ∙ append_assoc (decimal index) (32 ∷ map digit (reverse bits)) (symbol_part name ++ 10 ∷ [])
-
 pub hash : (35 ∷ decimal 0) ≡ codes "#0"
 unfolding digits
 hash = refl
