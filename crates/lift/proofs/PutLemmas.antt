@@ -1,14 +1,12 @@
 -- The parts of pieces, as they are put.
-use Rattle.std.proofs.Common.{◌≡◌, ℕ, zero, suc, ◌+◌, ◌-◌, ◌<◌, ◌≤◌, ◌==◌, ◌||◌, if◌then◌else◌, Bool, true, false, Option, Some, option_and_then, slice_get, List, [], ◌∷◌, ◌++◌, length, map, reverse, take, drop, get_or, codes, decimal, refl, sym, ap, subst, ◌∙◌, drop-cons, add-one, arith, ap₂}
+use Rattle.std.proofs.Common.{◌≡◌, ℕ, zero, suc, ◌+◌, ◌<◌, ◌≤◌, ◌==◌, ◌||◌, if◌then◌else◌, Bool, true, false, Option, Some, option_and_then, slice_get, List, [], ◌∷◌, ◌++◌, length, map, reverse, take, drop, get_or, codes, decimal, refl, sym, ap, subst, ◌∙◌, drop-cons, add-one, arith, ap₂}
 use Rattle.std.specs.List.{list_any}
 use Rattle.std.specs.Fmt.{digits}
 use Rattle.std.proofs.Math.Seq.{take_all}
 use Rattle.std.proofs.lemmas.Bool.{or_right, lt-ltb, le-ltb}
 use Rattle.std.specs.Str.{bytes_eq}
-use Rattle.std.proofs.Math.ListN.{get_or-map}
-use Rattle.std.proofs.lemmas.List.{reverse-append, length-map, take-map, drop-map}
+use Rattle.std.proofs.lemmas.List.{reverse-append, map-append, take-map, drop-map}
 use Rattle.std.proofs.lemmas.List.Concat.{flat_map-append}
-use Rattle.std.proofs.lemmas.Grind.{take_at_read}
 use Rattle.base.specs.Lines.{text_of_lines}
 use Rattle.btor2.specs.declared.item.Item.{Item}
 use Rattle.btor2.specs.Items.{is_state}
@@ -18,26 +16,17 @@ use Rattle.btor2.specs.declared.leaves.Leaves.TheVariants as leaves
 use Rattle.btor2.specs.Leaves.{list_of, is_leaf_at, leaf_width}
 use Rattle.btor2.specs.Check.{IsWellFormed}
 use Rattle.blast.specs.Cost.{input_width}
-use Rattle.witness.specs.Texts.{digit, most_lines, shape_of, has_free}
+use Rattle.witness.specs.Texts.{most_lines, shape_of, has_free}
 use Rattle.witness.proofs.ShapeLemmas.{free_at_places}
 use Rattle.lift.specs.Lifted.{names, bits_of_line, initial_piece, free_piece, frame_piece, piece}
 use Rattle.lift.specs.Placed.{taken_line, placed_lines, leaf_lines, Pieces, put_piece_for}
 use Rattle.lift.proofs.LeafLemmas.{lifted_input_lines, inputs_placed, carried_placed, free_placed}
 
--- the digits of a word, of which the highest is left
-pub digits_left : (bits : List Bool) (left : ℕ) (b d : Bool) → left < length bits → b ≡ get_or bits left d
-    → map digit (reverse (take (left + 1) bits)) ≡ (digit b ∷ []) ++ map digit (reverse (take left bits))
-digits_left bits left b d lt at =
-    ap (λ (l : List Bool). map digit (reverse l)) ((take_at_read bits left d lt).1 ∙ ap (λ (x : Bool). take left bits ++ x ∷ []) (sym at))
-    ∙ ap (map digit) (reverse-append (take left bits) (b ∷ []))
-
--- the digits put so far, in front of a line, and one more
-pub digit_more : (bits : List ℕ) (k : ℕ) (line old : List ℕ) → k < length bits → line ≡ map digit (reverse (take k (bits_of_line bits))) ++ old
-    → digit (get_or bits k 0 == 49) ∷ line ≡ map digit (reverse (take (k + 1) (bits_of_line bits))) ++ old
-digit_more bits k line old lt is =
-    let within : k < length (bits_of_line bits) = omega (arith, lt, length-map bits (λ b. b == 49)) in
-    let at : (get_or bits k 0 == 49) ≡ get_or (bits_of_line bits) k (0 == 49) = sym (get_or-map (λ b. b == 49) bits k 0) in
-    ap (λ (l : List ℕ). digit (get_or bits k 0 == 49) ∷ l) is ∙ sym (ap (λ (l : List ℕ). l ++ old) (digits_left (bits_of_line bits) k (get_or bits k 0 == 49) (0 == 49) within at))
+-- what is made of each element is reversed with them
+pub map-reversed : {X Y : Type 0} (f : X → Y) (xs : List X) → map f (reverse xs) ≡ reverse (map f xs)
+map-reversed f [] = refl
+map-reversed f (x ∷ xs) =
+    ap (map f) (reverse-append (x ∷ []) xs) ∙ map-append f (reverse xs) (x ∷ []) ∙ ap (λ l. l ++ f x ∷ []) (map-reversed f xs) ∙ sym (reverse-append (f x ∷ []) (map f xs))
 
 -- the leaves behind some others
 pub leaves_left : (l : Leaves) (items : List Item) (name : Item → Option (List ℕ)) (index p d : ℕ) (ps : List ℕ) (bits : List Bool) → index < length ps → p ≡ get_or ps index d
@@ -107,17 +96,6 @@ pub piece_of_bits : (named : Bool) (items : List Item) (n : ℕ) (line : List �
 piece_of_bits named items n line is =
     let chosen : (if bytes_eq line (codes ".") then line ∷ [] else frame_piece named items n (bits_of_line line)) ≡ frame_piece named items n (bits_of_line line) = rw is refl in
     ap text_of_lines (at_frame named items n line ∙ chosen)
-
--- the digits, in a loop
-pub digits_step : (bits : List Bool) (done : ℕ) (put : List ℕ) (d : Bool) → done < length bits → put ≡ digit (get_or bits (length bits - done - 1) d) ∷ []
-    → map digit (reverse (take (length bits - done) bits)) ≡ put ++ map digit (reverse (take (length bits - (done + 1)) bits))
-digits_step bits done put d lt e =
-    let left : ℕ = length bits - (done + 1) in
-    let more : length bits - done ≡ left + 1 = omega (arith, lt) in
-    let at : length bits - done - 1 ≡ left = omega (arith, lt) in
-    let is : put ≡ digit (get_or bits left d) ∷ [] = e ∙ ap (λ (k : ℕ). digit (get_or bits k d) ∷ []) at in
-    ap (λ (k : ℕ). map digit (reverse (take k bits))) more ∙ digits_left bits left (get_or bits left d) d (omega (arith, lt)) refl
-    ∙ ap (λ (l : List ℕ). l ++ map digit (reverse (take left bits))) (sym is)
 
 -- the leaves, in a loop
 pub leaves_step : (l : Leaves) (items : List Item) (name : Item → Option (List ℕ)) (index d w : ℕ) (t : Bool) (x : Item) (bits word behind : List Bool) → index < length (places (list_of l) 0 items)

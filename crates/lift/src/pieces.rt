@@ -45,14 +45,27 @@ fn digit(bit: bool) -> u8
     if bit { b'1' } else { b'0' }
 }
 
+/// Puts the digits of bits, a byte each, in their order.
+fn put_digits(bits: &[u8], digits: &mut [u8])
+    requires { length digits.old ≡ length bits.now }
+    ensures { digits.new ≡ map digit (bits_of_line bits.now) }
+{
+    for (k, bit) in bits.iter().enumerate() {
+        digits[k] = digit(*bit == b'1');
+    }
+}
+
 /// Puts the digits of a word, whose bits are a byte each, the lowest first, in front of a line: the highest first.
 fn add_digits(line: &mut Line, bits: &[u8])
-    requires { length line.old + length bits.now ≤ 512 }
+    requires room { length line.old + length bits.now ≤ 512 }
+    requires word { length bits.now ≤ 64 }
     ensures { line.new ≡ map digit (reverse (bits_of_line bits.now)) ++ line.old }
 {
-    for bit in bits {
-        line.byte(digit(*bit == b'1'));
-    }
+    let mut buffer = [0u8; 64];
+    let digits = &mut buffer[..bits.len()];
+    put_digits(bits, digits);
+    digits.reverse();
+    line.text(digits);
 }
 
 /// The most bytes of a symbol.

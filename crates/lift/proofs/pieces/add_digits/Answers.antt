@@ -1,10 +1,9 @@
-use Rattle.std.proofs.Common.{◌∷◌, ◌∙◌, ℕ, ap, rules}
-use Rattle.lift.proofs.PutLemmas.{digit_more}
+use Rattle.std.proofs.Common.{◌++◌, ℕ, List, reverse, ap, sym, ◌∙◌}
+use Rattle.witness.specs.Texts.{digit}
+use Rattle.lift.specs.Lifted.{bits_of_line}
+use Rattle.lift.proofs.PutLemmas.{map-reversed}
 use Rattle.lift.proofs.pieces.add_digits.Goals as goal
 
-pub loop-bit-preserved : goal.loop-bit-preserved
-loop-bit-preserved c =
-    record {
-      digits = c.byte.ensures ∙ ap (λ (d : ℕ). d ∷ c.loop-bit.line) c.digit.ensures ∙ digit_more c.args.bits.now c.loop-bit.bit-index c.loop-bit.line c.args.line.now c.loop-bit-test.true c.loop-bit.invariant.digits;
-      as_many = search rules;
-    }
+pub returns : goal.returns
+returns c =
+    c.text.ensures ∙ ap (λ (l : List ℕ). l ++ c.args.line.now) (c.reverse.ensures.after ∙ ap reverse c.put_digits.ensures ∙ sym (map-reversed digit (bits_of_line c.args.bits.now)))
