@@ -49,7 +49,7 @@ tried "the lowered circuit" tests/wrong-bodies/gates/gate_is_dropped.edit
 tried "its constraints and bad properties" tests/wrong-bodies/witness/breach_behind_the_first_frame_is_passed_over.edit
 tried "a witness text is judged exactly" tests/wrong-bodies/witness/fault_is_told_a_line_late.edit
 tried "lifting keeps the verdict" tests/wrong-bodies/lift/word_is_lifted_to_the_neighbour_of_its_state.edit
-tried "it holds" tests/wrong-bodies/invariants/next_property_is_certified.edit
+tried "it holds" tests/wrong-bodies/certificates/next_property_is_certified.edit
 
 part "$([ "$wrong" = 0 ] && echo "All of this is as it should be." || echo "NOT ALL OF THIS IS AS IT SHOULD BE.")"
 exit "$wrong"
