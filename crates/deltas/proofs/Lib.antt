@@ -2,3 +2,4 @@ mod DigitLemmas
 mod DigitReadLemmas
 pub mod ReadLemmas
 pub mod BackLemmas
+mod PairLemmas

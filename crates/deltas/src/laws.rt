@@ -2,6 +2,7 @@
 ghost use Rattle.std.specs.Prelude.{◌≡◌, ℕ, ◌<◌, ◌^◌, List, [], ◌∷◌, ◌++◌, Ok, Err};
 ghost use Rattle.std.specs.List.{AllByRecursion};
 ghost use Rattle.deltas.specs.Deltas.{delta, number_at};
+ghost use Rattle.deltas.specs.Pairs.{word_of, ends_of, value_of};
 ghost use Rattle.deltas.specs.declared.reading.DeltaFault.TheVariants as fault;
 
 /// Worked rows: the bytes of deltas, on both sides of each number of digits.
@@ -30,6 +31,13 @@ pub fn worked_numbers()
     ensures nothing { number_at [] ≡ Err fault.Truncated }
     ensures cut { number_at (130 ∷ []) ≡ Err fault.Truncated }
     ensures too_long { number_at (255 ∷ 255 ∷ 255 ∷ 255 ∷ 255 ∷ 0 ∷ []) ≡ Err fault.TooLong }
+{}
+
+/// Worked rows: bytes as a word, where the deltas in it end, and the number of one of two bytes.
+pub fn worked_words()
+    ensures word { (word_of (130 ∷ 1 ∷ []) ≡ 386) × (word_of (5 ∷ 7 ∷ []) ≡ 1797) }
+    ensures ends { (ends_of (130 ∷ 1 ∷ []) ≡ 32768) × (ends_of (5 ∷ 7 ∷ []) ≡ 32896) }
+    ensures value { (value_of 5 ≡ 5) × (value_of 386 ≡ 130) × (value_of 2139062143 ≡ 268435455) }
 {}
 
 /// A delta that is written is read again, and each number has one spelling.

@@ -3,8 +3,10 @@
 #![tactic(auto)]
 
 pub mod laws;
+mod pairs;
 mod reading;
 mod writing;
 
+pub use pairs::{DeltaPair, read_pair};
 pub use reading::{DeltaFault, read};
 pub use writing::write;

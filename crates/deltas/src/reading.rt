@@ -36,11 +36,13 @@ fn more_digits(more: u32, text: &[u8]) -> Result<(u64, &[u8]), DeltaFault>
     }
 }
 
-/// A delta, and the text behind it, byte by byte.
+/// The delta at the front of a text, below 2^35, and the text behind it.
+///
+/// Errors: why none stands there.
 #[cold]
 #[inline(never)]
 #[tactic(auto, unfolding(crate::specs::Deltas::number_at))]
-fn any_number(text: &[u8]) -> Result<(u64, &[u8]), DeltaFault>
+pub fn read(text: &[u8]) -> Result<(u64, &[u8]), DeltaFault>
     ensures { MatchResult result (λ x. number_at text.now ≡ Ok (x.0, x.1.now))
         (λ e. number_at text.now ≡ Err e) }
 {
@@ -52,28 +54,4 @@ fn any_number(text: &[u8]) -> Result<(u64, &[u8]), DeltaFault>
             Ok((u64::from(*byte - 128) + 128 * higher, behind))
         }
     }
-}
-
-/// The delta at the front of a text, below 2^35, and the text behind it. Whether it has one byte, two or three is no
-/// branch: no guess of it would be right.
-///
-/// Errors: why none stands there.
-#[inline(always)]
-#[tactic(auto, unfolding(crate::specs::Deltas::number_at))]
-pub fn read(text: &[u8]) -> Result<(u64, &[u8]), DeltaFault>
-    ensures { MatchResult result (λ x. number_at text.now ≡ Ok (x.0, x.1.now))
-        (λ e. number_at text.now ≡ Err e) }
-{
-    if let [low, middle, high, ..] = text {
-        let more = *low / 128;
-        let second = more * *middle;
-        let further = second / 128;
-        let third = further * *high;
-        if more <= second && further <= third && third < 128 {
-            let value = u64::from(*low % 128) + 128 * u64::from(second % 128);
-            let (_, rest) = text.split_at(usize::from(1 + more + further));
-            return Ok((value + 16384 * u64::from(third), rest));
-        }
-    }
-    any_number(text)
 }

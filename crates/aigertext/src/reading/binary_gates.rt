@@ -1,7 +1,9 @@
 //! Reading the gates of the binary form, two deltas each.
-ghost use Rattle.std.specs.Prelude.{◌≡◌, ◌<◌, ◌≤◌, IfOk};
+ghost use Rattle.std.specs.Prelude.{◌≡◌, ◌<◌, ◌≤◌, ◌++◌, length, drop, IfOk, IfSome};
+ghost use Rattle.aigertext.specs.Binary.{gate_text};
 ghost use Rattle.aigertext.specs.Reading.{IsAsRead, said_at_front, delta_why, delta_at, gate_at};
 ghost use Rattle.aigertext.specs.Passes.{greater_at, smaller_at};
+ghost use Rattle.aigertext.specs.declared.forms.Form.TheVariants.{Binary};
 
 use crate::fault::{Stop, Why};
 use crate::reading::lines::stop;
@@ -70,4 +72,19 @@ pub fn gate(text: &[u8], own: u32) -> Result<(Gate, &[u8]), Stop>
     let (smaller, behind) = smaller_operand(rest, greater)?;
     let (rhs0, rhs1) = (Lit::new(greater), Lit::new(smaller));
     Ok((Gate { rhs0, rhs1 }, behind))
+}
+
+/// The gate with this literal at the front of a text, where its deltas are read at once, and how many bytes they take.
+/// Of nothing no more is said.
+#[inline(always)]
+pub fn near_gate(text: &[u8], own: u32) -> Option<(Gate, usize)>
+    ensures gives { IfSome result (λ x. text.now
+        ≡ gate_text Binary own x.0 ++ drop x.1 text.now) }
+    ensures within { IfSome result (λ x. x.1 ≤ length text.now) }
+{
+    let pair = deltas::read_pair(text)?;
+    let greater = own.checked_sub(pair.first)?;
+    let smaller = greater.checked_sub(pair.second)?;
+    let (rhs0, rhs1) = (Lit::new(greater), Lit::new(smaller));
+    Some((Gate { rhs0, rhs1 }, pair.length))
 }

@@ -10,7 +10,7 @@ ghost use Rattle.aigertext.specs.declared.forms.Form.{Form as FormValue};
 ghost use Rattle.aigertext.specs.InOrder.{IsLineUpTo, ArePutGates, IsPutOnLists, PutsText, FollowEachOther};
 
 use crate::forms::Form;
-use crate::reading::binary_gates::gate;
+use crate::reading::binary_gates::{gate, near_gate};
 use crate::reading::pieces::{PIECE, read_piece, remove_front};
 use crate::reading::plain_numbers::three_numbers;
 use aiger::{Circuit, Gate, Lit};
@@ -41,10 +41,15 @@ fn gate_in(form: Form, text: &[u8], own: u32) -> Option<(Gate, &[u8])>
 {
     match form {
         Form::Ascii => line_gate(text, own),
-        Form::Binary => match gate(text, own) {
-            Ok(found) => Some(found),
-            Err(_) => None,
-        },
+        Form::Binary => {
+            if let Some((found, taken)) = near_gate(text, own) {
+                return Some((found, &text[taken..]));
+            }
+            match gate(text, own) {
+                Ok(found) => Some(found),
+                Err(_) => None,
+            }
+        }
     }
 }
 
