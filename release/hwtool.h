@@ -26,7 +26,7 @@ extern "C" {
 #endif
 
 /* The version of the library that this header goes with. */
-#define HWTOOL_VERSION "0.4.3"
+#define HWTOOL_VERSION "0.4.4"
 
 /* The statuses. */
 enum {
