@@ -8,6 +8,8 @@ crates are tried, N at once. docs/DEVELOPING.md says how an edit is written. It 
 functions that it changes are checked alone, by `rattle check --only`. A line for each says what comes of it, and of which functions:
 
     ensures  the prover refuses it by what a function ensures
+    types    it does not compile, as the edit says, with these words: a line `types: WORDS` in it
+    sources  tests/sources.py tells it, as the edit says: a line `sources: WORDS` in it
     goal     by another goal: what a call requires, what a loop keeps
     written  only at a written proof, which may only be that it no longer fits
     PROVED   the contract says nothing against it
@@ -36,7 +38,13 @@ sys.dont_write_bytecode = True
 sys.path.insert(0, str(TOP / "tools"))
 import build  # noqa: E402
 
-REFUSED = {"ensures": "by what a function ensures", "goal": "by another goal", "written": "only at a written proof"}
+REFUSED = {
+    "ensures": "by what a function ensures",
+    "types": "by types",
+    "sources": "by tests/sources.py",
+    "goal": "by another goal",
+    "written": "only at a written proof",
+}
 OTHERS = {"PROVED": "proved", "BAD": "bad", "UNTOLD": "untold"}
 FUNCTION = re.compile(r'^( *)(?:pub(?:\([a-z]+\))? )?(?:const )?(?:extern "C" )?fn (\w+)', re.M)
 BLOCK = re.compile(r"^(?:pub )?(impl|trait)\b([^{;]*)\{", re.M)
@@ -88,12 +96,13 @@ def changed(text, old, new):
 
 
 class Edit:
-    """An edit: its crate, the pairs of texts with their files, and the functions that it names itself."""
+    """An edit: its crate, the pairs of texts with their files, the functions that it names itself, and what refuses it where that is
+    no proof, with words that are then said."""
 
     def __init__(self, path, crates):
         self.path = path
         self.crate = next((crates[it] for it in (path.parent.name, path.parent.parent.name) if it in crates), None)
-        self.pairs, self.only, file, old = [], [], None, None
+        self.pairs, self.only, self.refused_by, file, old = [], [], None, None, None
         for line in path.read_text().splitlines():
             key, _, text = line.partition(":")
             text = text.removeprefix(" ")
@@ -105,6 +114,8 @@ class Edit:
                 self.pairs.append((file, old, text))
             elif key == "only":
                 self.only = text.split()
+            elif key in ("types", "sources"):
+                self.refused_by = key, text.strip()
 
     def texts(self):
         """The files that it makes, and the functions that it changes, each with the names to try."""
@@ -120,7 +131,7 @@ class Edit:
                 # where no name of it is known, as of one of two of a name, the module stands for all in it
                 functions[front + found[0]] = (front + found[0], *found, front.removesuffix("::") or found[1])
             texts[file] = text.replace(old, new)
-        if not functions and not self.only:
+        if not functions and not self.only and not self.refused_by:
             raise Bad("what it changes is no function's body: a line `only: module::function ..` has to name some")
         return texts, [(it,) for it in self.only] or list(functions.values())
 
@@ -147,9 +158,31 @@ def checks(edit, texts, functions, running):
     return " ".join(names), run.returncode, said
 
 
+def told_of_sources(edit, texts):
+    """What tests/sources.py says of the sources with an edit."""
+    with tempfile.TemporaryDirectory(prefix="wrong-body-") as there:
+        for name in ("base", "runs", "witness", "lift"):
+            shutil.copytree(TOP / "crates" / name / "src", pathlib.Path(there, "crates", name, "src"))
+        for file, text in texts.items():
+            pathlib.Path(there, "crates", edit.crate.name, file).write_text(text)
+        return subprocess.run([sys.executable, TOP / "tests/sources.py", there], capture_output=True, text=True, check=False).stdout
+
+
+def judge_otherwise(edit, running):
+    """The same of an edit that no proof refuses: it does not compile, or the script on the sources tells it."""
+    by, words = edit.refused_by
+    texts, functions = edit.texts()
+    said = told_of_sources(edit, texts) if by == "sources" else checks(edit, texts, functions or [("",)], running)[2]
+    told = said.splitlines() if by == "sources" else [it[0] for it in UNREAD.finditer(said)]
+    found = next((it for it in told if words in it), None)
+    return (by, "", found) if found else ("PROVED", "", f"nothing says {words}: {said.rpartition(chr(10))[2]}")
+
+
 def judge(edit, running):
     """What comes of an edit: the word for it, the functions, and what the prover said."""
     try:
+        if edit.refused_by:
+            return judge_otherwise(edit, running)
         names, status, said = checks(edit, *edit.texts(), running)
     except (Bad, OSError) as error:
         return "BAD", "", str(error)

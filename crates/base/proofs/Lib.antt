@@ -16,6 +16,7 @@ pub mod ShiftLaws
 pub mod OverflowLaws
 pub mod CutLemmas
 pub mod LineLemmas
+pub mod FixedLemmas
 pub mod HeldLemmas
 pub mod DecimalLemmas
 pub mod NumeralLemmas

@@ -5,6 +5,7 @@ pub mod Widths
 pub mod Steps
 pub mod Literal
 pub mod Device
+pub mod Fixed
 pub mod Gates
 pub mod Lines
 pub mod Held

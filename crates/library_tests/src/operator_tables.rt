@@ -164,11 +164,11 @@ fn word(values: &[u64], bits: &Bits, k: usize) -> u64
 }
 
 /// The word that an operator gives for operands of a width.
-fn expected(op: Op, w: Width, operands: Operands) -> u64 {
+fn expected(alloc: Global, op: Op, w: Width, operands: Operands) -> u64 {
     let a = operands[0] & ones(w);
     let b = operands[1] & ones(w);
     let c = operands[2] & 1;
-    let mut tally = Tally::new();
+    let mut tally = Tally::new(alloc);
     match op {
         Op::Unary(op) => unary(op, w, a, &mut tally),
         Op::Binary(op) => binary(op, w, a, b, &mut tally),
@@ -188,7 +188,7 @@ fn agrees(
     for batch in all.chunks(64) {
         let values = values(alloc, circuit, batch)?;
         for k in 0..batch.len() {
-            if word(&values, bits, k) != expected(op, w, batch[k]) {
+            if word(&values, bits, k) != expected(alloc, op, w, batch[k]) {
                 return Ok(false);
             }
         }

@@ -36,23 +36,23 @@ pub latches_agree : (c : Circuit) (bits bits' : List ℕ) → ((p : ℕ) → c.i
 latches_agree c bits bits' same = bits_from-agree (suc c.inputs) (length c.latches) (valuation_of bits') (valuation_of bits) (λ p low high. same p (omega arith) (omega arith))
 
 -- variables of a circuit have places in a run
-pub place_defined : (c : Circuit) (a : Arrangement) → IsArrangementOf c a → (l : ℕ) → IsDefined (net c) l → place_of a.places.items (variable l) < variables (net c) + 1
-place_defined c a is l d = let inside = place_inside (first_gate c) c.gates a.places.items (run_gates c a) (omega arith) is (variable l) (omega arith) in omega arith
+pub place_defined : (c : Circuit) (a : Arrangement) → IsArrangementOf c a → (l : ℕ) → IsDefined (net c) l → place_of a.places (variable l) < variables (net c) + 1
+place_defined c a is l d = let inside = place_inside (first_gate c) c.gates a.places (run_gates c a) (omega arith) is (variable l) (omega arith) in omega arith
 
 module _ (c : Circuit) (a : Arrangement) (nexts bits next_bits : List ℕ) (settled : Bool) (k : KeepsBits c a nexts bits next_bits settled) where
   -- a literal of the circuit is one of the list
-  pub placed_inside : (l : ℕ) → IsDefined (net c) l → variable (placed a.places.items l) < length bits
-  placed_inside l d = omega (arith, k.many, variable-placed a.places.items l, place_defined c a k.arranged l d)
+  pub placed_inside : (l : ℕ) → IsDefined (net c) l → variable (placed a.places l) < length bits
+  placed_inside l d = omega (arith, k.many, variable-placed a.places l, place_defined c a k.arranged l d)
 
   -- and its place is small
-  pub place_small : (l : ℕ) → IsDefined (net c) l → place_of a.places.items (variable l) ≤ greatest_count
+  pub place_small : (l : ℕ) → IsDefined (net c) l → place_of a.places (variable l) ≤ greatest_count
   place_small l d = omega (arith, k.valid.small, place_defined c a k.arranged l d)
 
   pub many_nexts : length nexts ≡ length c.latches
-  many_nexts = ap length k.are_nexts ∙ length-map c.latches (λ (l : Latch). placed a.places.items l.next)
+  many_nexts = ap length k.are_nexts ∙ length-map c.latches (λ (l : Latch). placed a.places l.next)
 
-  next_at : (j : ℕ) (d : Latch) → j < length c.latches → get_or nexts j 0 ≡ placed a.places.items (get_or c.latches j d).next
-  next_at j d h = ap (λ (l : List ℕ). get_or l j 0) k.are_nexts ∙ get_or-map (λ (l : Latch). placed a.places.items l.next) c.latches j d 0 h
+  next_at : (j : ℕ) (d : Latch) → j < length c.latches → get_or nexts j 0 ≡ placed a.places (get_or c.latches j d).next
+  next_at j d h = ap (λ (l : List ℕ). get_or l j 0) k.are_nexts ∙ get_or-map (λ (l : Latch). placed a.places l.next) c.latches j d 0 h
 
   pub nexts_inside : All (λ l. variable l < length bits) nexts
   nexts_inside =
@@ -62,13 +62,13 @@ module _ (c : Circuit) (a : Arrangement) (nexts bits next_bits : List ℕ) (sett
       subst (λ (l : ℕ). variable l < length bits) (sym (next_at j d within)) (placed_inside (get_or c.latches j d).next (k.valid.defined.nexts j d within)))
 
   -- inputs and latches stay at their numbers
-  stays : (v : ℕ) → v < first_gate c → placed_valuation a.places.items bits v ≡ valuation_of bits v
+  stays : (v : ℕ) → v < first_gate c → placed_valuation a.places bits v ≡ valuation_of bits v
   stays v h = ap (valuation_of bits) (k.arranged.below v h)
 
   -- its bit is that of the frame that the run is in
-  pub literal_now : settled ≡ true → (v : Valuation) → IsCircuitFrame c (latches_in c bits) (inputs_in c bits) v → (l : ℕ) → IsDefined (net c) l → literal_value (valuation_of bits) (placed a.places.items l) ≡ literal_value v l
+  pub literal_now : settled ≡ true → (v : Valuation) → IsCircuitFrame c (latches_in c bits) (inputs_in c bits) v → (l : ℕ) → IsDefined (net c) l → literal_value (valuation_of bits) (placed a.places l) ≡ literal_value v l
   literal_now done v frame l d =
-      let placed_bits : Valuation = placed_valuation a.places.items bits in
+      let placed_bits : Valuation = placed_valuation a.places bits in
       let own : IsCircuitFrame c (latches_in c bits) (inputs_in c bits) placed_bits =
       record {
         gates = k.gates done;
@@ -76,7 +76,7 @@ module _ (c : Circuit) (a : Arrangement) (nexts bits next_bits : List ℕ) (sett
         latches = bits_from-agree (suc c.inputs) (length c.latches) placed_bits (valuation_of bits) (λ p low high. stays p (omega arith));
       } in
       let same : SameCircuitFrame c placed_bits v = SameFrame-from_bits c (latches_in c bits) (inputs_in c bits) placed_bits v k.valid own frame in
-      placed-says a.places.items bits l k.constant (k.arranged.below 0 (omega arith)) ∙ literal_value-agree (suc (variables (net c))) placed_bits v l (λ p low high. same p low (omega arith)) (omega arith)
+      placed-says a.places bits l k.constant (k.arranged.below 0 (omega arith)) ∙ literal_value-agree (suc (variables (net c))) placed_bits v l (λ p low high. same p low (omega arith)) (omega arith)
 
   -- bits set for latches, or for inputs
   pub record AfterSet (bits' : List ℕ) (latches' inputs' : List Bool) : Type 0 where
@@ -151,9 +151,9 @@ module _ (c : Circuit) (a : Arrangement) (nexts bits next_bits : List ℕ) (sett
   settle_keeps first bits' at gates others many =
       let place : first_gate c ≡ suc (c.inputs + length c.latches) = omega arith in
       let constant : valuation_of bits' 0 ≡ false = ap bit_of (others 0 (omega arith)) ∙ k.constant in
-      let placed_bits : Valuation = placed_valuation a.places.items bits' in
+      let placed_bits : Valuation = placed_valuation a.places bits' in
       let own : SatisfiesFrom (first_gate c) c.gates placed_bits =
-      satisfies_at (first_gate c) c.gates placed_bits (have_bits (first_gate c) c.gates a.places.items (run_gates c a) (omega arith) k.arranged bits' constant
+      satisfies_at (first_gate c) c.gates placed_bits (have_bits (first_gate c) c.gates a.places (run_gates c a) (omega arith) k.arranged bits' constant
       (λ j h. subst (λ (n : ℕ). IsAnd (valuation_of bits') (n + j) (left_operand (run_gates c a) j) (right_operand (run_gates c a) j)) at (gates j h))) in
       record {
         keeps = record {
@@ -207,7 +207,7 @@ pub record Starts (c : Circuit) (a : Arrangement) (nexts next_bits bits : List �
   pub latches : latches_in c bits ≡ reset_bits c.latches
   pub inputs : inputs_in c bits ≡ no_inputs c
 
-pub starts : (c : Circuit) (a : Arrangement) (nexts blank next_bits bits : List ℕ) (first : ℕ) → IsCircuit c → IsArrangementOf c a → nexts ≡ map (λ l. placed a.places.items l.next) c.latches → first ≡ 1 + c.inputs → blank ≡ replicate (variables (net c) + 1) 0
+pub starts : (c : Circuit) (a : Arrangement) (nexts blank next_bits bits : List ℕ) (first : ℕ) → IsCircuit c → IsArrangementOf c a → nexts ≡ map (λ l. placed a.places l.next) c.latches → first ≡ 1 + c.inputs → blank ≡ replicate (variables (net c) + 1) 0
     → ((j : ℕ) (d : Latch) → j < length c.latches → valuation_of next_bits j ≡ reset_bit (get_or c.latches j d).reset) → length next_bits ≡ length c.latches
     → IsCopied next_bits first blank bits → Starts c a nexts next_bits bits
 starts c a nexts blank next_bits bits first valid arranged are_nexts at are_false taken as_many put =

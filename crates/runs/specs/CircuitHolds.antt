@@ -13,8 +13,8 @@ abbrev pub circuit_run_of : Inside → CircuitRun
 circuit_run_of r =
     record {
       circuit = r.circuit.now;
-      latches = latch_bits (net r.circuit.now) (valuation_of r.bits.items);
-      inputs = net_input_bits (net r.circuit.now) (valuation_of r.bits.items);
+      latches = latch_bits (net r.circuit.now) (valuation_of r.bits);
+      inputs = net_input_bits (net r.circuit.now) (valuation_of r.bits);
       settled = r.settled;
       steps = r.tally;
     }
@@ -41,11 +41,11 @@ AreTaken literals bits count taken = (k : ℕ) → k < count → valuation_of ta
 pub record KeepsBits (c : Circuit) (a : Arrangement) (nexts bits next_bits : List ℕ) (settled : Bool) : Type 0 where
   pub valid : IsCircuit c
   pub arranged : IsArrangementOf c a
-  pub are_nexts : nexts ≡ map (λ l. placed a.places.items l.next) c.latches
+  pub are_nexts : nexts ≡ map (λ l. placed a.places l.next) c.latches
   pub many : length bits ≡ variables (net c) + 1
   pub many_latches : length next_bits ≡ length c.latches
   pub constant : valuation_of bits 0 ≡ false
-  pub gates : settled ≡ true → Satisfies (net c) (placed_valuation a.places.items bits)
+  pub gates : settled ≡ true → Satisfies (net c) (placed_valuation a.places bits)
 
 abbrev pub IsCircuitRun : Inside → Type 0
-IsCircuitRun r = KeepsBits r.circuit.now r.arrangement r.nexts.items r.bits.items r.next_bits.items r.settled
+IsCircuitRun r = KeepsBits r.circuit.now r.arrangement r.nexts r.bits r.next_bits r.settled

@@ -17,8 +17,8 @@ abbrev pub run_of : Inside → Run
 run_of r =
     record {
       items = r.model.now;
-      states = words_at r.values.items r.states.items;
-      inputs = words_at r.values.items r.inputs.items;
+      states = words_at r.values r.states;
+      inputs = words_at r.values r.inputs;
       settled = r.settled;
       steps = r.tally;
     }
@@ -70,4 +70,4 @@ pub record Keeps (items : List Item) (nodes : List Node) (slots states inputs : 
 
 abbrev pub IsRun : Inside → Type 0
 IsRun r =
-    Keeps r.model.now r.nodes.items r.slots.items r.states.items r.inputs.items r.nexts.items r.bads.items r.constraints.items r.values.items r.next_values.items r.settled
+    Keeps r.model.now r.nodes r.slots r.states r.inputs r.nexts r.bads r.constraints r.values r.next_values r.settled

@@ -13,7 +13,7 @@ use crate::bit_passes::{
 };
 use crate::fault::NewFault;
 use aiger::{Circuit, Lit};
-use base::Tally;
+use base::{Fixed, Tally};
 use std::alloc::{AllocError, Global};
 
 /// A run of a circuit, which it borrows: the bits of the latches and of the inputs now, those of all variables once it
@@ -24,11 +24,11 @@ pub struct BitRun<'a> {
     // the order in which gates are evaluated, and where the bits of variables stand
     arrangement: Arrangement,
     // the latches' next literals, by places
-    nexts: Vec<Lit>,
+    nexts: Fixed<Lit>,
     // the bits of 0 and of the variables now, each the lowest of its byte; those of the inputs and latches are given
-    bits: Vec<u8>,
+    bits: Fixed<u8>,
     // the bits of the latches in the next frame, while the run advances
-    next_bits: Vec<u8>,
+    next_bits: Fixed<u8>,
     settled: bool,
     tally: Tally,
 }
@@ -64,9 +64,9 @@ impl<'a> BitRun<'a> {
         Ok(BitRun {
             circuit,
             arrangement,
-            nexts,
-            bits,
-            next_bits,
+            nexts: Fixed::new(nexts),
+            bits: Fixed::new(bits),
+            next_bits: Fixed::new(next_bits),
             settled: false,
             tally,
         })
@@ -80,7 +80,7 @@ impl<'a> BitRun<'a> {
         ensures ok { IfOk result (λ run. run ≡ circuit_start circuit.now) }
         ensures err { IfErr result (λ fault. fault ≡ NewFault.NoMemory) }
     {
-        match BitRun::of_circuit(alloc, circuit, Tally::new()) {
+        match BitRun::of_circuit(alloc, circuit, Tally::new(alloc)) {
             Ok(run) => Ok(run),
             Err(_) => Err(NewFault::NoMemory),
         }

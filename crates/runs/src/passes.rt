@@ -13,13 +13,11 @@ pub(crate) fn settle_nodes(nodes: &[Node], values: &mut [u64], tally: &mut Tally
     ensures values { values.new ≡ settled_values nodes.now values.old }
     ensures steps { tally.new ≡ more_steps (length values.old) tally.old }
 {
-    let mut steps = tally.taken();
-    base::take_all(values.len() - nodes.len(), &mut steps);
+    base::take_all(values.len() - nodes.len(), tally);
     for at in 0..nodes.len() {
         let node = &nodes[at];
-        values[node.place] = operator_word(&node.operator, values, &mut steps);
+        values[node.place] = operator_word(&node.operator, values, tally);
     }
-    *tally = steps;
 }
 
 /// The word at a place, where there is a place, and else 0.
@@ -45,11 +43,9 @@ pub(crate) fn take_words(
     ensures taken { taken.new ≡ map (word_where values.now) places.now }
     ensures steps { tally.new ≡ more_steps (length places.now) tally.old }
 {
-    let mut steps = tally.taken();
     for k in 0..places.len() {
-        taken[k] = base::take(word_where(values, places[k]), &mut steps);
+        taken[k] = base::take(word_where(values, places[k]), tally);
     }
-    *tally = steps;
 }
 
 /// Puts words at some places, each of which stands there once.

@@ -13,7 +13,7 @@ use crate::fault::NewFault;
 use crate::nodes::Node;
 use crate::passes::{clear_words, put_words, settle_nodes, take_words};
 use crate::resolving::{first_words, node_slots, resolved_nodes, run_slots, standing_words};
-use base::Tally;
+use base::{Fixed, Tally};
 use btor2::Model;
 use std::alloc::{AllocError, Global};
 
@@ -23,20 +23,20 @@ use std::alloc::{AllocError, Global};
 pub struct WordRun<'a> {
     model: &'a Model,
     // the nodes that are operators, in file order
-    nodes: Vec<Node>,
+    nodes: Fixed<Node>,
     // for each item how many nodes with a value stand before it
-    slots: Vec<usize>,
+    slots: Fixed<usize>,
     // the slots of the states, of the inputs, of the states' next nodes where they have one, and of the nodes that
     // the properties name
-    states: Vec<usize>,
-    inputs: Vec<usize>,
-    nexts: Vec<Option<usize>>,
-    bads: Vec<usize>,
-    constraints: Vec<usize>,
+    states: Fixed<usize>,
+    inputs: Fixed<usize>,
+    nexts: Fixed<Option<usize>>,
+    bads: Fixed<usize>,
+    constraints: Fixed<usize>,
     // the words of the nodes with a value now; those of the leaves are given, and those of the constants stay
-    values: Vec<u64>,
+    values: Fixed<u64>,
     // the words of the states in the next frame, while the run advances
-    next_values: Vec<u64>,
+    next_values: Fixed<u64>,
     settled: bool,
     tally: Tally,
 }
@@ -68,15 +68,15 @@ impl<'a> WordRun<'a> {
         put_words(&next_values, &named.states, &mut values);
         Ok(WordRun {
             model,
-            nodes,
-            slots,
-            states: named.states,
-            inputs: named.inputs,
-            nexts: named.nexts,
-            bads: named.bads,
-            constraints: named.constraints,
-            values,
-            next_values,
+            nodes: Fixed::new(nodes),
+            slots: Fixed::new(slots),
+            states: Fixed::new(named.states),
+            inputs: Fixed::new(named.inputs),
+            nexts: Fixed::new(named.nexts),
+            bads: Fixed::new(named.bads),
+            constraints: Fixed::new(named.constraints),
+            values: Fixed::new(values),
+            next_values: Fixed::new(next_values),
             settled: false,
             tally,
         })
@@ -95,7 +95,7 @@ impl<'a> WordRun<'a> {
         let _ = model.items();
         match model.first_init_without_next() {
             Some(id) => Err(NewFault::NoNext(id)),
-            None => match WordRun::resolved(alloc, model, Tally::new()) {
+            None => match WordRun::resolved(alloc, model, Tally::new(alloc)) {
                 Ok(run) => Ok(run),
                 Err(_) => Err(NewFault::NoMemory),
             },

@@ -25,11 +25,11 @@ pub struct Report {
 }
 
 /// The word that the evaluator gives for a vector's operands.
-fn evaluated(vector: Vector) -> u64
+fn evaluated(alloc: Global, vector: Vector) -> u64
     requires { IsVector vector }
     ensures { result ≡ vector_value vector }
 {
-    let mut tally = Tally::new();
+    let mut tally = Tally::new(alloc);
     match vector {
         Vector::Unary {
             operator,
@@ -58,6 +58,7 @@ fn said(vector: Vector) -> u64
 
 /// Notes the line of a vector where the evaluator or the circuit gives another word than it says.
 fn note(
+    alloc: Global,
     vector: &Numbered,
     run: &mut BitRun<'_>,
     circuit: &Circuit,
@@ -70,7 +71,8 @@ fn note(
         ++ lines_that_differ (vector.now ∷ [])) }
 {
     let said = said(vector.vector());
-    if evaluated(vector.vector()) == said && circuit_word(run, circuit, vector.vector()) == said {
+    let word = evaluated(alloc, vector.vector());
+    if word == said && circuit_word(run, circuit, vector.vector()) == said {
         return Ok(());
     }
     match lines.push(vector.line()) {
@@ -83,6 +85,7 @@ fn note(
 /// circuit of these, and answers the vectors behind.
 #[tactic(auto, using(crate::proofs::DifferingLemmas::noted_more))]
 fn note_alike<'a>(
+    alloc: Global,
     kind: &Numbered,
     vectors: &'a [Numbered],
     run: &mut BitRun<'_>,
@@ -100,7 +103,7 @@ fn note_alike<'a>(
         if !kind.is_alike(vector) {
             return Ok(rest);
         }
-        note(vector, run, circuit, lines)?;
+        note(alloc, vector, run, circuit, lines)?;
         rest = behind;
     }
     Ok(rest)
@@ -120,8 +123,8 @@ fn note_by<'a>(
     ensures behind { IfOk result (λ rest. length rest.now ≤ length vectors.now) }
 {
     let mut run = operator_run(alloc, circuit, first.vector())?;
-    note(first, &mut run, circuit, lines)?;
-    note_alike(first, vectors, &mut run, circuit, lines)
+    note(alloc, first, &mut run, circuit, lines)?;
+    note_alike(alloc, first, vectors, &mut run, circuit, lines)
 }
 
 /// Notes the lines that differ of a vector and of those behind it that are of its operator and width, by one circuit, and

@@ -4,7 +4,7 @@ ghost use Rattle.base.specs.Decimals.{are_digits};
 ghost use Rattle.witness.specs.Readings.{is_nothing};
 ghost use Rattle.witness.specs.CutLines.{cut_of, no_byte};
 
-use base::{copy_at, is_digit};
+use base::{Fixed, copy_at, is_digit};
 use std::alloc::{AllocError, Global};
 use std::marker::Model;
 
@@ -15,7 +15,7 @@ use std::marker::Model;
 #[derive(Drop)]
 pub struct CutLine {
     // the bytes that are kept stand in front
-    buffer: Vec<u8>,
+    buffer: Fixed<u8>,
     used: usize,
     digits: bool,
 }
@@ -26,9 +26,9 @@ impl Model for CutLine {
 
     ghost Value = { CutLineValue };
 
-    ghost view = { λ l. record { room = length l.buffer.items; bytes = take l.used l.buffer.items; digits = l.digits } };
+    ghost view = { λ l. record { room = length l.buffer; bytes = take l.used l.buffer; digits = l.digits } };
 
-    ghost invariant = { λ l. l.used ≤ length l.buffer.items };
+    ghost invariant = { λ l. l.used ≤ length l.buffer };
 }
 
 /// The first bytes, at most so many, and those behind them.
@@ -56,7 +56,7 @@ impl CutLine {
     {
         let buffer = vec![in alloc; 0u8; room]?;
         Ok(CutLine {
-            buffer,
+            buffer: Fixed::new(buffer),
             used: 0,
             digits: true,
         })
@@ -66,7 +66,7 @@ impl CutLine {
     pub fn bytes(&self) -> &[u8]
         ensures { result.now ≡ self.now.bytes }
     {
-        let (bytes, _) = self.buffer.split_at(self.used);
+        let (bytes, _) = self.buffer.as_slice().split_at(self.used);
         bytes
     }
 

@@ -1,7 +1,8 @@
 //! Which of some nodes have a word in the part that is open.
-ghost use Rattle.std.specs.Prelude.{◌≡◌, ◌<◌, true, length, slice_set, IfErr, IfOk};
+ghost use Rattle.std.specs.Prelude.{◌≡◌, ◌<◌, true, length, replicate, slice_set, IfErr, IfOk};
 ghost use Rattle.witness.specs.Fits.{NoneIsSet, is_set};
 
+use base::Fixed;
 use runs::NewFault;
 use std::alloc::{AllocError, Global};
 
@@ -12,7 +13,7 @@ use std::alloc::{AllocError, Global};
 #[derive(Drop)]
 pub(crate) struct Given {
     // for each node the last part in which it had a word, or 0
-    last: Vec<u64>,
+    last: Fixed<u64>,
     // the number of the open part
     part: u64,
 }
@@ -22,9 +23,16 @@ impl std::marker::Model for Given {
 
     ghost Value = { List Bool };
 
-    ghost view = { λ g. map (λ n. n == g.part) g.last.items };
+    ghost view = { λ g. map (λ n. n == g.part) g.last };
 
-    ghost invariant = { λ g. All (λ n. n ≤ g.part) g.last.items };
+    ghost invariant = { λ g. All (λ n. n ≤ g.part) g.last };
+}
+
+/// Puts 0 for each node.
+fn forget(last: &mut [u64])
+    ensures { last.new ≡ replicate (length last.old) 0 }
+{
+    last.fill(0);
 }
 
 impl Given {
@@ -35,7 +43,10 @@ impl Given {
         ensures fault { IfErr result (λ fault. fault ≡ NewFault.NoMemory) }
     {
         match vec![in alloc; 0u64; count] {
-            Ok(last) => Ok(Given { last, part: 1 }),
+            Ok(last) => Ok(Given {
+                last: Fixed::new(last),
+                part: 1,
+            }),
             Err(AllocError) => Err(NewFault::NoMemory),
         }
     }
@@ -62,7 +73,7 @@ impl Given {
         ensures none { NoneIsSet self.new }
     {
         if self.part == u64::MAX {
-            self.last.fill(0);
+            forget(self.last.as_mut_slice());
             self.part = 0;
         }
         self.part += 1;

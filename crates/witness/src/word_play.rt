@@ -22,7 +22,7 @@ use crate::verdicts::{
 };
 use crate::why::Why;
 use crate::word_fields::assigned;
-use base::{Counter, Width};
+use base::{Counter, Fixed, Width};
 use btor2::Model;
 use runs::{NewFault, WordRun};
 use std::alloc::{AllocError, Global};
@@ -34,8 +34,8 @@ pub(crate) struct WordPlay<'a> {
     // it stays settled in the frame that was closed last until a word of the next is given, or that is closed too
     run: WordRun<'a>,
     // for each state, and for each input, how many bits it has
-    state_widths: Vec<Width>,
-    input_widths: Vec<Width>,
+    state_widths: Fixed<Width>,
+    input_widths: Fixed<Width>,
     // for each state, and for each input, whether it has a word in the part that is open
     states_given: Given,
     inputs_given: Given,
@@ -45,7 +45,7 @@ pub(crate) struct WordPlay<'a> {
     // the first constraint that did not hold in a closed frame
     breach: Option<Breach>,
     // for each bad property whether it rose in a closed frame
-    rose: Vec<bool>,
+    rose: Fixed<bool>,
 }
 
 impl<'a> std::marker::Model for WordPlay<'a> {
@@ -57,9 +57,9 @@ impl<'a> std::marker::Model for WordPlay<'a> {
 
     ghost Value = { WordPlayValue };
 
-    ghost view = { λ p. record { items = p.model.now; run = p.run; states_given = p.states_given; inputs_given = p.inputs_given; differs = p.differs; frames = p.frames; breach = p.breach; rose = p.rose.items } };
+    ghost view = { λ p. record { items = p.model.now; run = p.run; states_given = p.states_given; inputs_given = p.inputs_given; differs = p.differs; frames = p.frames; breach = p.breach; rose = p.rose } };
 
-    ghost invariant = { λ p. (p.run.items ≡ p.model.now) × (length p.states_given ≡ length (places is_state 0 p.model.now)) × (length p.inputs_given ≡ length (places is_input 0 p.model.now)) × (length p.rose.items ≡ length (places is_bad 0 p.model.now)) × (p.state_widths.items ≡ widths_of is_state p.model.now) × (p.input_widths.items ≡ widths_of is_input p.model.now) };
+    ghost invariant = { λ p. (p.run.items ≡ p.model.now) × (length p.states_given ≡ length (places is_state 0 p.model.now)) × (length p.inputs_given ≡ length (places is_input 0 p.model.now)) × (length p.rose ≡ length (places is_bad 0 p.model.now)) × (p.state_widths ≡ widths_of is_state p.model.now) × (p.input_widths ≡ widths_of is_input p.model.now) };
 }
 
 /// The width of a node at a place of a model.
@@ -77,10 +77,10 @@ fn width_at(model: &Model, place: usize) -> Width
 /// The widths of the nodes at some places of a model, in the order of the places.
 ///
 /// Error: `NoMemory`.
-fn widths_at(alloc: Global, model: &Model, places: &[usize]) -> Result<Vec<Width>, NewFault>
+fn widths_at(alloc: Global, model: &Model, places: &[usize]) -> Result<Fixed<Width>, NewFault>
     requires there { All (λ k. k < length model.now) places.now }
     requires some { All (λ k. is_some (width_at model.now k) ≡ true) places.now }
-    ensures ok { IfOk result (λ widths. widths.items ≡ widths_by model.now places.now) }
+    ensures ok { IfOk result (λ widths. widths ≡ widths_by model.now places.now) }
     ensures fault { IfErr result (λ fault. fault ≡ NewFault.NoMemory) }
 {
     let mut widths = Vec::new(alloc);
@@ -90,17 +90,17 @@ fn widths_at(alloc: Global, model: &Model, places: &[usize]) -> Result<Vec<Width
             Err(_) => return Err(NewFault::NoMemory),
         }
     }
-    Ok(widths)
+    Ok(Fixed::new(widths))
 }
 
 /// So many flags, none of them set.
-pub(crate) fn no_flags(alloc: Global, count: usize) -> Result<Vec<bool>, NewFault>
-    ensures many { IfOk result (λ flags. length flags.items ≡ count) }
-    ensures none { IfOk result (λ flags. NoneIsSet flags.items) }
+pub(crate) fn no_flags(alloc: Global, count: usize) -> Result<Fixed<bool>, NewFault>
+    ensures many { IfOk result (λ flags. length flags ≡ count) }
+    ensures none { IfOk result (λ flags. NoneIsSet flags) }
     ensures fault { IfErr result (λ fault. fault ≡ NewFault.NoMemory) }
 {
     match vec![in alloc; false; count] {
-        Ok(flags) => Ok(flags),
+        Ok(flags) => Ok(Fixed::new(flags)),
         Err(AllocError) => Err(NewFault::NoMemory),
     }
 }

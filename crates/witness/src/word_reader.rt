@@ -21,6 +21,7 @@ use crate::word_claims::ClaimScan;
 use crate::word_fields::index_of;
 use crate::word_line::{begins_part, is_comment, is_numbered, is_word};
 use crate::word_play::{WordPlay, no_flags};
+use base::Fixed;
 use btor2::Model;
 use runs::NewFault;
 use std::alloc::Global;
@@ -49,7 +50,7 @@ pub(crate) struct WordReader<'a> {
     place: Place,
     // the line of claims, and for each bad property whether it is claimed
     claims: ClaimScan,
-    claimed: Vec<bool>,
+    claimed: Fixed<bool>,
     // there is a free state
     has_free: bool,
 }
@@ -62,9 +63,9 @@ impl<'a> std::marker::Model for WordReader<'a> {
 
     ghost Value = { WordReaderValue };
 
-    ghost view = { λ q. record { play = q.play; place = q.place; claims = q.claims; claimed = q.claimed.items; has_free = q.has_free } };
+    ghost view = { λ q. record { play = q.play; place = q.place; claims = q.claims; claimed = q.claimed; has_free = q.has_free } };
 
-    ghost invariant = { λ q. length q.claimed.items ≡ length (places is_bad 0 q.play.items) };
+    ghost invariant = { λ q. length q.claimed ≡ length (places is_bad 0 q.play.items) };
 }
 
 /// Whether the state of an index is free.

@@ -5,7 +5,7 @@ use Rattle.runs.proofs.PassLemmas.{Settling-begin, Settling-fits, Settling-more,
 use Rattle.runs.proofs.passes.settle_nodes.Goals as goal
 
 pub loop-at-init : goal.loop-at-init
-loop-at-init c = rw (c.take_all.ensures, c.taken-steps.ensures.taken) (Settling-begin c.args.nodes.now c.args.values.now _ c.requires.fit)
+loop-at-init c = rw (c.take_all.ensures) (Settling-begin c.args.nodes.now c.args.values.now _ c.requires.fit)
 
 pub operator_word-requires : goal.operator_word-requires
 operator_word-requires c = (Settling-fits _ _ _ _ _ _ c.index-nodes-at.result c.loop-at.invariant c.loop-at-test.true c.index-nodes-at.is).1

@@ -7,5 +7,5 @@ abbrev pub invariant-loop-k : goal.invariant-loop-k
 invariant-loop-k l =
     record {
       taken : (j : ℕ) → j < l.k → get_or l.taken j 0 ≡ word_where l.values (get_or l.places j None);
-      steps : l.steps ≡ more_steps l.k l.fn.tally;
+      steps : l.tally ≡ more_steps l.k l.fn.tally;
     }

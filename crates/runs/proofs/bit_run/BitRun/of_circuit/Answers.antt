@@ -22,7 +22,7 @@ begun c =
     let circuit = c.args.circuit.now in
     let blank : c.deref_mut-2.result.now ≡ c.in_ok-bits.bits.items = c.deref_mut-2.ensures.value in
     let given : c.deref.result.now ≡ c.take_first_bits.new.taken = c.deref.ensures.value ∙ taken_is c in
-    starts circuit c.in_ok-arrangement.arrangement c.in_ok-nexts.nexts.items c.in_ok-bits.bits.items c.take_first_bits.new.taken c.put_taken.new.bits (1 + c.inputs.result) c.variables.ensures.valid c.in_ok-arrangement.ensures (c.in_ok-nexts.ensures ∙ ap (map (λ (l : Latch). placed c.in_ok-arrangement.arrangement.places.items l.next)) c.latches.ensures.items) (ap (λ (n : ℕ). 1 + n) c.inputs.ensures.count)
+    starts circuit c.in_ok-arrangement.arrangement c.in_ok-nexts.nexts.items c.in_ok-bits.bits.items c.take_first_bits.new.taken c.put_taken.new.bits (1 + c.inputs.result) c.variables.ensures.valid c.in_ok-arrangement.ensures (c.in_ok-nexts.ensures ∙ ap (map (λ (l : Latch). placed c.in_ok-arrangement.arrangement.places l.next)) c.latches.ensures.items) (ap (λ (n : ℕ). 1 + n) c.inputs.ensures.count)
     (c.in_ok-bits.ensures.items_if_clones_equal (λ y same. same) ∙ ap (λ (n : ℕ). replicate (n + 1) 0) c.variables.ensures.count)
     (λ j d within. c.take_first_bits.ensures.taken j d (subst (λ (ls : List Latch). j < length ls) (sym c.latches-3.ensures.items) within) ∙ ap (λ (ls : List Latch). reset_bit (get_or ls j d).reset) c.latches-3.ensures.items)
     (c.take_first_bits.ensures.as_many ∙ ap length (c.deref_mut.ensures.value ∙ c.in_ok-next_bits.ensures.items_if_clones_equal (λ y same. same)) ∙ length-replicate (length c.latches-2.result.now) 0 ∙ ap length c.latches-2.ensures.items)
@@ -40,10 +40,10 @@ nexts-requires c k d h =
 pub invariant_of-result : goal.invariant_of-result
 invariant_of-result c =
     let end = (goal.at.invariant_of-result c).After-put_taken in
-    rw (put_is end, taken_is end) (begun end).keeps
+    rw (c.new-2.ensures, c.new-3.ensures, c.new-4.ensures, put_is end, taken_is end) (begun end).keeps
 
 pub returns : goal.returns
 returns c =
     let circuit = c.args.circuit.now in
     let end = (goal.at.returns c).After-put_taken in
-    circuit_run_same _ _ _ _ _ _ _ _ (ap (latches_in circuit) (put_is end) ∙ (begun end).latches) (ap (inputs_in circuit) (put_is end) ∙ (begun end).inputs) c.requires
+    rw (c.new-3.ensures) (circuit_run_same _ _ _ _ _ _ _ _ (ap (latches_in circuit) (put_is end) ∙ (begun end).latches) (ap (inputs_in circuit) (put_is end) ∙ (begun end).inputs) c.requires)

@@ -1,5 +1,6 @@
 use Rattle.std.proofs.Common.{◌≡◌, ℕ, ◌==◌, List, length, ap, sym, subst, refl, ◌∙◌, arith}
-use Rattle.std.proofs.lemmas.List.{length-map, with_items_is}
+use Rattle.std.proofs.lemmas.List.{length-map}
+use Rattle.base.proofs.FixedLemmas.{refilled_is}
 use Rattle.runs.specs.CircuitRun.{CircuitRun, written_bits}
 use Rattle.runs.specs.CircuitHolds.{IsPut}
 use Rattle.runs.proofs.BitRunLemmas.{put_inputs_keeps, circuit_run_same, latches_in, inputs_in}
@@ -11,5 +12,5 @@ returns c =
     let there = subst (λ (r : CircuitRun). length c.args.digits.now ≡ r.circuit.inputs) (sym c.self.view_is) c.requires in
     let put = subst (λ (l : List ℕ). IsPut (written_bits c.args.digits.now) 1 l c.put_digits.new.bits) c.deref_mut.ensures.value c.put_digits.ensures in
     let after = put_inputs_keeps _ _ _ _ _ _ c.self.invariant (written_bits c.args.digits.now) c.put_digits.new.bits (length-map c.args.digits.now (λ b. b == 49) ∙ there) put in
-    let is = with_items_is c.self.inside.bits c.put_digits.new.bits (omega (arith, c.deref_mut.ensures.len)) in
+    let is = refilled_is c.self.inside.bits c.put_digits.new.bits (omega (arith, ap length c.deref_mut.ensures.value)) in
     rw (← c.self.view_is) (circuit_run_same _ _ _ _ _ _ _ _ (ap (latches_in circuit) is ∙ after.latches) (ap (inputs_in circuit) is ∙ after.inputs) refl)

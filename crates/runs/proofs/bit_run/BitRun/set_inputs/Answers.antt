@@ -1,5 +1,5 @@
 use Rattle.std.proofs.Common.{◌≡◌, ℕ, List, length, ap, sym, subst, refl, ◌∙◌, arith}
-use Rattle.std.proofs.lemmas.List.{with_items_is}
+use Rattle.base.proofs.FixedLemmas.{refilled_is}
 use Rattle.runs.specs.CircuitRun.{CircuitRun}
 use Rattle.runs.specs.CircuitHolds.{IsPut}
 use Rattle.runs.proofs.BitRunLemmas.{put_inputs_keeps, circuit_run_same, latches_in, inputs_in}
@@ -11,5 +11,5 @@ returns c =
     let there = subst (λ (r : CircuitRun). length c.args.bits.now ≡ r.circuit.inputs) (sym c.self.view_is) c.requires in
     let put = subst (λ (l : List ℕ). IsPut c.args.bits.now 1 l c.put_bits.new.bits) c.deref_mut.ensures.value c.put_bits.ensures in
     let after = put_inputs_keeps _ _ _ _ _ _ c.self.invariant c.args.bits.now c.put_bits.new.bits (there) put in
-    let is = with_items_is c.self.inside.bits c.put_bits.new.bits (omega (arith, c.deref_mut.ensures.len)) in
+    let is = refilled_is c.self.inside.bits c.put_bits.new.bits (omega (arith, ap length c.deref_mut.ensures.value)) in
     rw (← c.self.view_is) (circuit_run_same _ _ _ _ _ _ _ _ (ap (latches_in circuit) is ∙ after.latches) (ap (inputs_in circuit) is ∙ after.inputs) refl)

@@ -1,6 +1,6 @@
 use Rattle.std.proofs.Common.{◌≡◌, ℕ, ◌+◌, ◌<◌, List, length, get_or, ap, ap₂, subst, ◌∙◌, arith}
-use Rattle.std.proofs.lemmas.List.{with_items_is}
-use Rattle.std.specs.Vec.{with_items}
+use Rattle.base.proofs.FixedLemmas.{refilled_is}
+use Rattle.base.specs.Fixed.{refilled}
 use Rattle.aiger.specs.declared.circuit.Gate.{Gate}
 use Rattle.base.specs.Steps.{more_steps}
 use Rattle.base.proofs.StepLemmas.{more_steps-sum}
@@ -11,13 +11,13 @@ use Rattle.runs.proofs.bit_run.BitRun.settle.Goals as goal
 use Rattle.runs.proofs.bit_run.BitRun.settle.Goals.{After-settle_gates}
 
 -- the bits at the end
-settled_is : (c : After-settle_gates) → (with_items c.self.inside.bits c.settle_gates.new.bits).items ≡ c.settle_gates.new.bits
-settled_is c = with_items_is c.self.inside.bits c.settle_gates.new.bits (omega arith)
+settled_is : (c : After-settle_gates) → (refilled c.self.inside.bits c.settle_gates.new.bits) ≡ c.settle_gates.new.bits
+settled_is c = refilled_is c.self.inside.bits c.settle_gates.new.bits (omega (arith, ap length c.deref_mut.ensures.value))
 
-after : (c : After-settle_gates) → AfterSettle c.self.inside.circuit.now c.self.inside.arrangement c.self.inside.nexts.items c.self.inside.bits.items c.self.inside.next_bits.items c.self.inside.settled c.self.invariant c.settle_gates.new.bits
+after : (c : After-settle_gates) → AfterSettle c.self.inside.circuit.now c.self.inside.arrangement c.self.inside.nexts c.self.inside.bits c.self.inside.next_bits c.self.inside.settled c.self.invariant c.settle_gates.new.bits
 after c =
     let circuit = c.self.inside.circuit.now in
-    let between : c.deref_mut.result.now ≡ c.self.inside.bits.items = c.deref_mut.ensures.value in
+    let between : c.deref_mut.result.now ≡ c.self.inside.bits = c.deref_mut.ensures.value in
     let first : ℕ = 1 + c.inputs-inputs.result + length c.latches.result.now in
     let place : first ≡ first_gate circuit = ap₂ (λ (i l : ℕ). 1 + i + l) c.inputs-inputs.ensures.count (ap length c.latches.ensures.items) in
     let bits : List ℕ = c.settle_gates.new.bits in

@@ -49,10 +49,10 @@ begun c same m =
 pub invariant_of-result : goal.invariant_of-result
 invariant_of-result c =
     let made = (goal.at.invariant_of-result c).After-deref_mut in
-    (begun (goal.at.invariant_of-result c).After-put_words made.deref_mut.ensures.value (new_lists made)).keeps
+    rw (c.new.ensures, c.new-2.ensures, c.new-3.ensures, c.new-4.ensures, c.new-5.ensures, c.new-6.ensures, c.new-7.ensures, c.new-8.ensures, c.new-9.ensures) (begun (goal.at.invariant_of-result c).After-put_words made.deref_mut.ensures.value (new_lists made)).keeps
 
 pub returns : goal.returns
 returns c =
     let made = (goal.at.returns c).After-deref_mut in
     let begin = begun (goal.at.returns c).After-put_words made.deref_mut.ensures.value (new_lists made) in
-    run_same _ _ _ _ _ _ _ _ begin.first_words begin.no_inputs c.requires.none
+    rw (c.new-3.ensures, c.new-4.ensures, c.new-8.ensures) (run_same _ _ _ _ _ _ _ _ begin.first_words begin.no_inputs c.requires.none)

@@ -9,28 +9,28 @@ use Rattle.runs.proofs.word_run.WordRun.set_state.Goals as goal
 pub index-requires : goal.index-requires
 index-requires c =
     let there = subst (λ (r : Run). c.args.k < length (places is_state 0 r.items)) (sym c.self.view_is) c.requires.there in
-    omega (arith, (state_inside _ _ _ _ _ _ _ _ _ _ _ c.self.invariant c.args.k c.args.word there).0, c.self.inside.states.ok.0)
+    omega (arith, (state_inside _ _ _ _ _ _ _ _ _ _ _ c.self.invariant c.args.k c.args.word there).0)
 
 pub index_mut-requires : goal.index_mut-requires
 index_mut-requires c =
     let there = subst (λ (r : Run). c.args.k < length (places is_state 0 r.items)) (sym c.self.view_is) c.requires.there in
     let inside = state_inside _ _ _ _ _ _ _ _ _ _ _ c.self.invariant c.args.k c.args.word there in
-    let place : c.index.result.now ≡ get_or c.self.inside.states.items c.args.k 0 = get_or_read c.self.inside.states.items c.args.k c.index.result.now inside.0 c.index.ensures 0 in
-    omega (arith, place, inside.1, c.self.inside.values.ok.0)
+    let place : c.index.result.now ≡ get_or c.self.inside.states c.args.k 0 = get_or_read c.self.inside.states c.args.k c.index.result.now inside.0 c.index.ensures 0 in
+    omega (arith, place, inside.1)
 
 pub invariant_of-self : goal.invariant_of-self
 invariant_of-self c =
     let there = subst (λ (r : Run). c.args.k < length (places is_state 0 r.items)) (sym c.self.view_is) c.requires.there in
     let fits = subst (λ (r : Run). IfSome (width_at r.items (get_or (places is_state 0 r.items) c.args.k 0)) (λ n. c.args.word < 2 ^ n)) (sym c.self.view_is) c.requires.fits in
     let inside = state_inside _ _ _ _ _ _ _ _ _ _ _ c.self.invariant c.args.k c.args.word there in
-    let place = get_or_read c.self.inside.states.items c.args.k c.index.result.now inside.0 c.index.ensures 0 in
-    (set_state_keeps _ _ _ _ _ _ _ _ _ _ _ c.self.invariant c.args.k c.args.word there fits _ (ap (λ (s : ℕ). set c.self.inside.values.items s c.args.word) place)).keeps
+    let place = get_or_read c.self.inside.states c.args.k c.index.result.now inside.0 c.index.ensures 0 in
+    (set_state_keeps _ _ _ _ _ _ _ _ _ _ _ c.self.invariant c.args.k c.args.word there fits _ (ap (λ (s : ℕ). set c.self.inside.values s c.args.word) place)).keeps
 
 pub returns : goal.returns
 returns c =
     let there = subst (λ (r : Run). c.args.k < length (places is_state 0 r.items)) (sym c.self.view_is) c.requires.there in
     let fits = subst (λ (r : Run). IfSome (width_at r.items (get_or (places is_state 0 r.items) c.args.k 0)) (λ n. c.args.word < 2 ^ n)) (sym c.self.view_is) c.requires.fits in
     let inside = state_inside _ _ _ _ _ _ _ _ _ _ _ c.self.invariant c.args.k c.args.word there in
-    let place = get_or_read c.self.inside.states.items c.args.k c.index.result.now inside.0 c.index.ensures 0 in
-    let after = set_state_keeps _ _ _ _ _ _ _ _ _ _ _ c.self.invariant c.args.k c.args.word there fits _ (ap (λ (s : ℕ). set c.self.inside.values.items s c.args.word) place) in
+    let place = get_or_read c.self.inside.states c.args.k c.index.result.now inside.0 c.index.ensures 0 in
+    let after = set_state_keeps _ _ _ _ _ _ _ _ _ _ _ c.self.invariant c.args.k c.args.word there fits _ (ap (λ (s : ℕ). set c.self.inside.values s c.args.word) place) in
     rw (← c.self.view_is) (run_same _ _ _ _ _ _ _ _ after.set_word after.same_words refl)

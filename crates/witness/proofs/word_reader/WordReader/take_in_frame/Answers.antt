@@ -14,7 +14,7 @@ use Rattle.witness.proofs.word_reader.WordReader.take_in_frame.Goals as goal
 
 pub returns-in-Some-clause-line : goal.returns-in-Some-clause-line
 returns-in-Some-clause-line c there =
-    let q : WordReader = record { play = c.self.inside.play; place = c.self.inside.place; claims = c.self.inside.claims; claimed = c.self.inside.claimed.items; has_free = c.self.inside.has_free } in
+    let q : WordReader = record { play = c.self.inside.play; place = c.self.inside.place; claims = c.self.inside.claims; claimed = c.self.inside.claimed; has_free = c.self.inside.has_free } in
     let taken = c.in-Some.ensures.line in
     let widths : List ℕ = widths_of is_input q.play.items in
     let small : length widths < 2 ^ 64 = c.model-model.ensures.small.inputs.few in
@@ -33,7 +33,7 @@ returns-in-Some-clause-line c there =
 
 pub returns-clause-line : goal.returns-clause-line
 returns-clause-line c there =
-    let same = ap (λ (p : WordPlay). record { play = p; place = c.self.inside.place; claims = c.self.inside.claims; claimed = c.self.inside.claimed.items; has_free = c.self.inside.has_free }) c.in_default.ensures.kept ∙ c.self.view_is in
+    let same = ap (λ (p : WordPlay). record { play = p; place = c.self.inside.place; claims = c.self.inside.claims; claimed = c.self.inside.claimed; has_free = c.self.inside.has_free }) c.in_default.ensures.kept ∙ c.self.view_is in
     let next : ℕ = suc c.take_input.new.self.frames in
     let line : List ℕ = 64 ∷ decimal next in
     record {
@@ -49,7 +49,7 @@ returns-clause-line c there =
 
 pub returns-in_err-rest-clause-none : goal.returns-in_err-rest-clause-none
 returns-in_err-rest-clause-none c =
-    let same = ap (λ (p : WordPlay). record { play = p; place = c.self.inside.place; claims = c.self.inside.claims; claimed = c.self.inside.claimed.items; has_free = c.self.inside.has_free }) c.in_default.ensures.kept ∙ c.self.view_is in
+    let same = ap (λ (p : WordPlay). record { play = p; place = c.self.inside.place; claims = c.self.inside.claims; claimed = c.self.inside.claimed; has_free = c.self.inside.has_free }) c.in_default.ensures.kept ∙ c.self.view_is in
     rw c.from_residual.ensures
     (record {
       assignment = subst (λ (q : WordReader). NoAssignment (widths_of is_input q.play.items) q.play.inputs_given c.args.text.now) c.self.view_is c.in_default.ensures.none;
