@@ -214,7 +214,7 @@ impl<'a> WordRun<'a> {
     pub fn held(&self) -> u64
         ensures { result ≡ node_count self.now.items + state_count self.now.items }
     {
-        (self.values.len() + self.next_values.len()) as u64
+        (self.values.as_slice().len() + self.next_values.as_slice().len()) as u64
     }
 
     /// The steps taken so far; the count stays at its greatest value, 2^128 - 1, once it is there.
