@@ -108,7 +108,7 @@ impl CutLine {
         ensures bytes { self.new.bytes ≡ take self.old.room (self.old.bytes ++ bytes.now) }
         ensures room { self.new.room ≡ self.old.room }
     {
-        let (front, behind) = parted(bytes, self.buffer.len() - self.used);
+        let (front, behind) = parted(bytes, self.buffer.as_slice().len() - self.used);
         self.keep(front);
         self.digits &= are_digits(behind);
     }

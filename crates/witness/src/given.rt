@@ -74,7 +74,8 @@ impl Given {
     {
         if self.part == u64::MAX {
             forget(self.last.as_mut_slice());
-            self.part = 0;
+            self.part = 1;
+            return;
         }
         self.part += 1;
     }

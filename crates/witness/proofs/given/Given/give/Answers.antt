@@ -6,5 +6,5 @@ use Rattle.witness.proofs.given.Given.give.Goals as goal
 pub returns : goal.returns
 returns c =
     let is_open : ℕ → Bool = λ n. n == c.self.inside.part in
-    map-set is_open c.self.inside.last.items c.args.k c.self.inside.part
+    map-set is_open c.self.inside.last c.args.k c.self.inside.part
     ∙ ap₂ (λ (l : List Bool) (b : Bool). set l c.args.k b) c.self.view_is (eq-eqb c.self.inside.part c.self.inside.part refl)

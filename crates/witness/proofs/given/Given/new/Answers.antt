@@ -5,5 +5,5 @@ use Rattle.witness.proofs.given.Given.new.Goals as goal
 
 pub returns-in-Ok-clause-none : goal.returns-in-Ok-clause-none
 returns-in-Ok-clause-none c =
-    let is : c.in-Ok.last ≡ replicate c.args.count 0 = search rules in
-    none_behind c.in-Ok.last 1 (subst (All (λ n. n < 1)) (sym is) (All-replicate (λ n. n < 1) c.args.count 0 (omega arith)))
+    let is : c.in-Ok.last.items ≡ replicate c.args.count 0 = search rules in
+    rw c.new.ensures (none_behind c.in-Ok.last.items 1 (subst (All (λ n. n < 1)) (sym is) (All-replicate (λ n. n < 1) c.args.count 0 (omega arith))))
