@@ -26,8 +26,8 @@ pub(crate) struct Word {
     pub(crate) help: &'static str,
 }
 
-/// A command of this program: its word, its task, what help says of it, and its words, of which the first stands for its
-/// first file.
+/// A command of this program: its word, its task, what help says of it, and its words. Those that stand for files are in the
+/// order of its files.
 pub(crate) struct Row {
     pub(crate) word: &'static str,
     pub(crate) task: Task,
@@ -35,13 +35,48 @@ pub(crate) struct Row {
     pub(crate) words: &'static [Word],
 }
 
-/// The name of the second file of a command that has one.
-pub(crate) const WITNESS: &str = "WITNESS";
+impl Row {
+    /// The word that stands for the file at a place among those of the command, from 0, where it has so many.
+    pub(crate) fn file(&self, place: usize) -> Option<&'static str> {
+        let mut before = place;
+        for word in self.words {
+            if matches!(word.kind, Kind::File) {
+                if before == 0 {
+                    return Some(word.name);
+                }
+                before -= 1;
+            }
+        }
+        None
+    }
+}
+
+/// The word of a command, and how many files it has.
+#[derive(Clone, Copy)]
+pub struct CommandFiles {
+    /// The word.
+    pub word: &'static str,
+    /// How many files there are.
+    pub files: usize,
+}
+
+/// The command at a place of the table, from 0; none behind the last.
+pub fn command_at(place: usize) -> Option<CommandFiles> {
+    let row = ROWS.get(place)?;
+    let is_file = |word: &&Word| matches!(word.kind, Kind::File);
+    Some(CommandFiles {
+        word: row.word,
+        files: row.words.iter().filter(is_file).count(),
+    })
+}
+
+/// The name of a witness.
+const WITNESS: &str = "WITNESS";
 
 /// The names of the second and the third file of a command on certificates.
 pub(crate) const CERTIFICATE: &str = "CERTIFICATE";
 
-pub(crate) const PROOF: &str = "PROOF";
+const PROOF: &str = "PROOF";
 
 /// The name of the option for the file that a result goes to.
 pub(crate) const OUTPUT: &str = "output";

@@ -4,8 +4,7 @@ ghost use Rattle.std.specs.Prelude.{◌≡◌, IfOk, false, option_map};
 ghost use Rattle.invocation.specs.Files.{names_standard_input, reads_input_twice};
 
 use crate::command_table::{
-    ALL, ASCII, BINARY, CERTIFICATE, Kind, NAMES, OUTPUT, OUTPUTS, PICK, PROOF, QUIET, ROWS, Row,
-    WITNESS, Word, row_of,
+    ALL, ASCII, BINARY, Kind, NAMES, OUTPUT, OUTPUTS, PICK, QUIET, ROWS, Row, Word, row_of,
 };
 use crate::engine_words::{engine_properties, with_engine};
 use aigertext::Form;
@@ -152,12 +151,9 @@ fn output_of<'a>(words: &ArgMatches<'a>) -> Option<&'a str> {
     }
 }
 
-/// The name of the second file, where the command has one.
-fn second_of<'a>(words: &ArgMatches<'a>) -> Option<&'a str> {
-    match words.get_str(WITNESS) {
-        Some(name) => Some(name),
-        None => words.get_str(CERTIFICATE),
-    }
+/// The name of the file at a place among those of a command, from 0, where it has so many.
+fn file_of<'a>(row: &Row, words: &ArgMatches<'a>, place: usize) -> Option<&'a str> {
+    words.get_str(row.file(place)?)
 }
 
 /// A command, where outputs are to be bad properties the one that makes them so.
@@ -202,7 +198,6 @@ fn order_of<'a>(
     pick: u64,
 ) -> Option<Order<'a>> {
     let row = row_of(word)?;
-    let file = row.words.first()?;
     Some(Order {
         task: task_of(row.task, words, engine, pick),
         named: words.get_flag(NAMES),
@@ -211,9 +206,9 @@ fn order_of<'a>(
         } else {
             Form::Ascii
         },
-        first: words.get_str(file.name)?,
-        second: second_of(words),
-        third: words.get_str(PROOF),
+        first: file_of(row, words, 0)?,
+        second: file_of(row, words, 1),
+        third: file_of(row, words, 2),
         output: output_of(words),
         tells_progress: !words.get_flag(QUIET),
     })
