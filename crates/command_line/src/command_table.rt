@@ -321,6 +321,19 @@ const CLAIMED_BAD: Word = Word {
     help: "The position of the bad property that is claimed, from 0; needed where there is more than one",
 };
 
+/// The bad property that a witness is to claim.
+const MODEL_BAD: Word = Word {
+    name: BAD,
+    kind: Kind::Value("K"),
+    help: "Accept only a witness that claims the bad property at this position, from 0, or of this symbol",
+};
+
+const CIRCUIT_BAD: Word = Word {
+    name: BAD,
+    kind: Kind::Value("K"),
+    help: "Accept only a witness that claims the bad property at this position, from 0, or of this name",
+};
+
 /// The commands, in the order in which help lists them.
 pub(crate) static ROWS: [Row; 13] = [
     Row {
@@ -341,7 +354,7 @@ pub(crate) static ROWS: [Row; 13] = [
         word: "check-btor",
         task: Task::Model(ModelTask::CheckBtor),
         about: "Judge a BTOR2 witness over a model",
-        words: &[MODEL_FILE, QUIET_FLAG, BTOR_WITNESS, MODEL_NAMES],
+        words: &[MODEL_FILE, QUIET_FLAG, BTOR_WITNESS, MODEL_NAMES, MODEL_BAD],
     },
     Row {
         word: "show",
@@ -374,7 +387,13 @@ pub(crate) static ROWS: [Row; 13] = [
         word: "check-aig",
         task: Task::Circuit(CircuitTask::CheckAig),
         about: "Judge an AIGER witness over a circuit",
-        words: &[CIRCUIT_FILE, QUIET_FLAG, AIGER_WITNESS, CIRCUIT_NAMES],
+        words: &[
+            CIRCUIT_FILE,
+            QUIET_FLAG,
+            AIGER_WITNESS,
+            CIRCUIT_NAMES,
+            CIRCUIT_BAD,
+        ],
     },
     Row {
         word: "lift",

@@ -6,7 +6,7 @@ ghost use Rattle.invocation.specs.Files.{names_standard_input, reads_input_twice
 use crate::command_table::{
     ALL, ASCII, BINARY, Kind, NAMES, OUTPUT, OUTPUTS, PICK, QUIET, ROWS, Row, Word, row_of,
 };
-use crate::engine_words::{engine_properties, with_engine};
+use crate::engine_words::{asked_of, engine_properties, with_engine};
 use aigertext::Form;
 use base::decimal;
 use clap::error::ErrorKind;
@@ -201,6 +201,7 @@ fn order_of<'a>(
     Some(Order {
         task: task_of(row.task, words, engine, pick),
         named: words.get_flag(NAMES),
+        asked: asked_of(row.task, words),
         form: if words.get_flag(BINARY) {
             Form::Binary
         } else {
@@ -337,6 +338,7 @@ pub fn order<'a, S: AsStr>(alloc: Global, words: &'a [S]) -> Result<Order<'a>, S
         return Ok(Order {
             task: Task::Text(TextTask::Lower),
             named: false,
+            asked: None,
             form: Form::Ascii,
             first: STANDARD_INPUT,
             second: None,
