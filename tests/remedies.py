@@ -614,6 +614,16 @@ def witnesses(trials):
     case(152, "a counterexample with open bits", restore, b"0\n1\nx# DONE\n", b"0\n1\n1# DONE\n", False)
 
 
+def proofs(trials):
+    """A proof of a solver that makes a variable of its own, which is none of the formula's."""
+    for name in ("btor2", "invariant"):
+        (trials.folder / name).write_bytes((TOP / f"examples/guarded.{name}").read_bytes())
+    good = (TOP / "examples/guarded.proof").read_bytes()
+    trials.said("--no-factor`")
+    trials.said("--bva 0`")
+    trials.case(162, "a variable of the solver's own", ["check-proof", "@btor2", "@invariant", "FILE"], b"99999 1 0\n" + good, good, False)
+
+
 NAMED = """
 module named (input clk, input [39:0] a, input [39:0] b, output [39:0] y);
     wire [79:0] packet = {a, b};
@@ -731,7 +741,7 @@ def main():
     program = os.path.abspath(sys.argv[1]) if len(sys.argv) > 1 else str(TOP / "crates/hwtool/out/hwtool")
     with tempfile.TemporaryDirectory() as folder:
         trials = Trials(program, pathlib.Path(folder))
-        for part in (models, files, circuits, outputs, witnesses, designs, abc):
+        for part in (models, files, circuits, outputs, witnesses, proofs, designs, abc):
             part(trials)
     for it in trials.left:
         print(f"left out: {it}")

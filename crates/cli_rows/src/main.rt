@@ -28,7 +28,7 @@
 //! line tells how many rows there are, and how many of them are as they should be.
 //!
 //! Behind them comes what no row says: what commands hold while a long text streams past, want of memory in place of a
-//! command, a model that is too big for a row, how far long work is told to be, and what becomes of files that results go to
+//! command, `-` in place of each file of each command, a model that is too big for a row, how far long work is told to be, and what becomes of files that results go to
 //! or that can't be opened. The last line tells whether all of that is as it should be, or what is not.
 #![tactic(auto)]
 
@@ -41,6 +41,7 @@ mod held;
 mod on_disk;
 mod progress;
 mod results;
+mod standard_input;
 mod stops;
 mod too_big;
 
@@ -58,6 +59,7 @@ use invocation::{Order, Stop};
 use on_disk::gives_on_disk;
 use progress::fault_of_progress;
 use results::fault_of_results;
+use standard_input::command_without_standard_input;
 use std::alloc::{AllocError, Global};
 use std::io;
 use too_big::is_told_too_big;
@@ -101,6 +103,9 @@ fn fault_beside_rows(rt: &HostRuntime) -> io::Result<Fault> {
 fn fault_beside_streams(alloc: Global) -> Result<Fault, AllocError> {
     if !stops::tells_no_memory(alloc) {
         return Ok(Some("want of memory in place of a command"));
+    }
+    if let Some(word) = command_without_standard_input(alloc)? {
+        return Ok(Some(word));
     }
     match order(alloc, &["lower", "model"]) {
         Ok(order) if is_told_too_big(alloc, &order)? => fault_of_progress(alloc),

@@ -26,8 +26,8 @@ pub(crate) struct Word {
     pub(crate) help: &'static str,
 }
 
-/// A command of this program: its word, its task, what help says of it, and its words, of which the first stands for its
-/// first file.
+/// A command of this program: its word, its task, what help says of it, and its words. Those that stand for files are in the
+/// order of its files.
 pub(crate) struct Row {
     pub(crate) word: &'static str,
     pub(crate) task: Task,
@@ -35,13 +35,48 @@ pub(crate) struct Row {
     pub(crate) words: &'static [Word],
 }
 
-/// The name of the second file of a command that has one.
-pub(crate) const WITNESS: &str = "WITNESS";
+impl Row {
+    /// The word that stands for the file at a place among those of the command, from 0, where it has so many.
+    pub(crate) fn file(&self, place: usize) -> Option<&'static str> {
+        let mut before = place;
+        for word in self.words {
+            if matches!(word.kind, Kind::File) {
+                if before == 0 {
+                    return Some(word.name);
+                }
+                before -= 1;
+            }
+        }
+        None
+    }
+}
+
+/// The word of a command, and how many files it has.
+#[derive(Clone, Copy)]
+pub struct CommandFiles {
+    /// The word.
+    pub word: &'static str,
+    /// How many files there are.
+    pub files: usize,
+}
+
+/// The command at a place of the table, from 0; none behind the last.
+pub fn command_at(place: usize) -> Option<CommandFiles> {
+    let row = ROWS.get(place)?;
+    let is_file = |word: &&Word| matches!(word.kind, Kind::File);
+    Some(CommandFiles {
+        word: row.word,
+        files: row.words.iter().filter(is_file).count(),
+    })
+}
+
+/// The name of a witness.
+const WITNESS: &str = "WITNESS";
 
 /// The names of the second and the third file of a command on certificates.
 pub(crate) const CERTIFICATE: &str = "CERTIFICATE";
 
-pub(crate) const PROOF: &str = "PROOF";
+const PROOF: &str = "PROOF";
 
 /// The name of the option for the file that a result goes to.
 pub(crate) const OUTPUT: &str = "output";
@@ -286,6 +321,19 @@ const CLAIMED_BAD: Word = Word {
     help: "The position of the bad property that is claimed, from 0; needed where there is more than one",
 };
 
+/// The bad property that a witness is to claim.
+const MODEL_BAD: Word = Word {
+    name: BAD,
+    kind: Kind::Value("K"),
+    help: "Accept only a witness that claims the bad property at this position, from 0, or of this symbol",
+};
+
+const CIRCUIT_BAD: Word = Word {
+    name: BAD,
+    kind: Kind::Value("K"),
+    help: "Accept only a witness that claims the bad property at this position, from 0, or of this name",
+};
+
 /// The commands, in the order in which help lists them.
 pub(crate) static ROWS: [Row; 13] = [
     Row {
@@ -306,7 +354,7 @@ pub(crate) static ROWS: [Row; 13] = [
         word: "check-btor",
         task: Task::Model(ModelTask::CheckBtor),
         about: "Judge a BTOR2 witness over a model",
-        words: &[MODEL_FILE, QUIET_FLAG, BTOR_WITNESS, MODEL_NAMES],
+        words: &[MODEL_FILE, QUIET_FLAG, BTOR_WITNESS, MODEL_NAMES, MODEL_BAD],
     },
     Row {
         word: "show",
@@ -339,7 +387,13 @@ pub(crate) static ROWS: [Row; 13] = [
         word: "check-aig",
         task: Task::Circuit(CircuitTask::CheckAig),
         about: "Judge an AIGER witness over a circuit",
-        words: &[CIRCUIT_FILE, QUIET_FLAG, AIGER_WITNESS, CIRCUIT_NAMES],
+        words: &[
+            CIRCUIT_FILE,
+            QUIET_FLAG,
+            AIGER_WITNESS,
+            CIRCUIT_NAMES,
+            CIRCUIT_BAD,
+        ],
     },
     Row {
         word: "lift",

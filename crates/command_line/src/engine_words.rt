@@ -19,6 +19,23 @@ fn speaks_of_one(word: &str, words: &ArgMatches<'_>) -> bool {
     always || words.get_flag(ENGINE) || words.get_flag(ABC) || words.get_str(CERTIFICATE).is_some()
 }
 
+/// Whether a command judges a witness, which may be to claim a bad property.
+fn judges(task: Task) -> bool {
+    matches!(
+        task,
+        Task::Model(ModelTask::CheckBtor) | Task::Circuit(CircuitTask::CheckAig)
+    )
+}
+
+/// The bad property that a witness is to claim by the words of a command, where they say so.
+pub(crate) fn asked_of<'a>(task: Task, words: &ArgMatches<'a>) -> Option<&'a str> {
+    if judges(task) {
+        words.get_str(BAD)
+    } else {
+        None
+    }
+}
+
 /// The bad properties of the engine form that the words of a command ask for: all, or the one at a position; none where
 /// they ask for no engine form.
 ///
@@ -28,6 +45,7 @@ pub(crate) fn engine_properties(
     words: &ArgMatches<'_>,
 ) -> Result<Option<Option<usize>>, &'static str> {
     match words.get_str(BAD) {
+        Some(_) if matches!(row_of(word), Some(row) if judges(row.task)) => Ok(None),
         None if speaks_of_one(word, words) => Ok(Some(None)),
         None => Ok(None),
         Some(_) if !speaks_of_one(word, words) => Err(BAD_ALONE),

@@ -6,5 +6,6 @@ mod engine_words;
 mod reading_words;
 mod terminals;
 
+pub use command_table::{CommandFiles, command_at};
 pub use reading_words::{given_words, order};
 pub use terminals::{Terminals, order_at};

@@ -4,10 +4,9 @@ ghost use Rattle.std.specs.Prelude.{◌≡◌, IfOk, false, option_map};
 ghost use Rattle.invocation.specs.Files.{names_standard_input, reads_input_twice};
 
 use crate::command_table::{
-    ALL, ASCII, BINARY, CERTIFICATE, Kind, NAMES, OUTPUT, OUTPUTS, PICK, PROOF, QUIET, ROWS, Row,
-    WITNESS, Word, row_of,
+    ALL, ASCII, BINARY, Kind, NAMES, OUTPUT, OUTPUTS, PICK, QUIET, ROWS, Row, Word, row_of,
 };
-use crate::engine_words::{engine_properties, with_engine};
+use crate::engine_words::{asked_of, engine_properties, with_engine};
 use aigertext::Form;
 use base::decimal;
 use clap::error::ErrorKind;
@@ -152,12 +151,9 @@ fn output_of<'a>(words: &ArgMatches<'a>) -> Option<&'a str> {
     }
 }
 
-/// The name of the second file, where the command has one.
-fn second_of<'a>(words: &ArgMatches<'a>) -> Option<&'a str> {
-    match words.get_str(WITNESS) {
-        Some(name) => Some(name),
-        None => words.get_str(CERTIFICATE),
-    }
+/// The name of the file at a place among those of a command, from 0, where it has so many.
+fn file_of<'a>(row: &Row, words: &ArgMatches<'a>, place: usize) -> Option<&'a str> {
+    words.get_str(row.file(place)?)
 }
 
 /// A command, where outputs are to be bad properties the one that makes them so.
@@ -202,18 +198,18 @@ fn order_of<'a>(
     pick: u64,
 ) -> Option<Order<'a>> {
     let row = row_of(word)?;
-    let file = row.words.first()?;
     Some(Order {
         task: task_of(row.task, words, engine, pick),
         named: words.get_flag(NAMES),
+        asked: asked_of(row.task, words),
         form: if words.get_flag(BINARY) {
             Form::Binary
         } else {
             Form::Ascii
         },
-        first: words.get_str(file.name)?,
-        second: second_of(words),
-        third: words.get_str(PROOF),
+        first: file_of(row, words, 0)?,
+        second: file_of(row, words, 1),
+        third: file_of(row, words, 2),
         output: output_of(words),
         tells_progress: !words.get_flag(QUIET),
     })
@@ -342,6 +338,7 @@ pub fn order<'a, S: AsStr>(alloc: Global, words: &'a [S]) -> Result<Order<'a>, S
         return Ok(Order {
             task: Task::Text(TextTask::Lower),
             named: false,
+            asked: None,
             form: Form::Ascii,
             first: STANDARD_INPUT,
             second: None,

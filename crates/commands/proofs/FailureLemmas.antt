@@ -29,6 +29,7 @@ untold_failed refusal.NoMemory f f' s s' t t' o o' e m e' other c rise = risen e
 
 not_three : (x : Fault) → status_of_fault x ≡ 3 → ⊥
 not_three (fault.Unchosen c) is = absurd (cc)
+not_three (fault.SameName j k) is = absurd (cc)
 not_three _ is = absurd (cc)
 
 -- the fault of a file was told, with status 3 where there was no memory for its line

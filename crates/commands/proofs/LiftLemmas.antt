@@ -1,5 +1,5 @@
 -- What a command has done that tells how what it lifted is judged.
-use Rattle.std.proofs.Common.{false, ◌≡◌, ℕ, Bool, List, [], inl, inr, Option, Some, None, IfSome, Result, Ok, Err, IfOk, IfErr, OnOk, true, sym, ◌∙◌}
+use Rattle.std.proofs.Common.{false, ◌≡◌, ℕ, Bool, List, [], inl, inr, Option, Some, None, IfSome, Result, Ok, Err, IfOk, IfErr, OnOk, length, true, sym, ◌∙◌}
 use Rattle.std.specs.Io.KnownBytes.{Appends}
 use Rattle.btor2.specs.declared.item.Item.{Item}
 use Rattle.aiger.specs.Circuit.{Circuit}
@@ -22,8 +22,9 @@ use Rattle.lift.specs.Verdicts.{KeepsVerdict, KeepsVerdictIn}
 use Rattle.subcommands.specs.declared.answers.Answer.{Answer}
 use Rattle.subcommands.specs.declared.refusals.Refusal.{Refusal}
 use Rattle.subcommands.specs.Done.{Judged}
-use Rattle.subcommands.specs.Restoring.{TellsLifted}
+use Rattle.subcommands.specs.Restoring.{TellsFormLifted, TellsLifted}
 use Rattle.btor2text.specs.Spelling.{IsModelOf}
+use Rattle.subcommands.specs.Assumed.{assumed_said}
 use Rattle.subcommands.specs.Claims.{IsClaim}
 use Rattle.commands.specs.Done.{LiftsFound, IsFormLifted, lifting_said}
 
@@ -91,11 +92,11 @@ pub form_lifted : (r : Result Answer Refusal) (told_by : Lifted) (known found be
     → IsModelOf known items → Lowers items c → IsEngineFormOf c choice d → OnOk told_by (IfSome found (λ text. Appends before now (form_lifted_text named items c choice d text))) → IfOk told_by (λ lifted. IfSome found (λ text. FormJudges c choice d text lifted.0))
     → (named ≡ true → IfOk told_by (λ lifted. IfSome found (λ text. AreBitFirstRises c (form_restored_text c choice d text) lifted.1)))
     → IfOk told_by (λ lifted. IfSome found (λ text. KeepsFormVerdict named items c choice d text lifted.0)) → OnOk told_by (IfSome found (FindsWitnessInModel named items c choice d)) → IfErr told_by (λ e. is_of_text e.why ≡ false × (e.line ≡ 0))
-    → IfOk r (λ a. TellsLifted (lifting_said named items c) told_by a told told') → IfOk r (Judged (IsFormLifted named choice known found before now told told'))
+    → IfOk r (λ a. TellsFormLifted (lifting_said named items c) (assumed_said choice (length c.bads)) told_by a told told') → IfOk r (Judged (IsFormLifted named choice known found before now told told'))
 form_lifted (Ok a) (Ok lifted) known found before now told told' named choice items c d text lowers form put judged rises kept finds apart tells = record {
   verdict = lifted.0;
   is_judged = record { items = items; lowered = c; form = d; text = text; lowers = lowers; is_form = form; lifted = put; judged = judged; kept = kept; in_model = finds; firsts = lifted.1; rises = rises; lines = tells.1 };
   so = tells.0;
 }
-form_lifted (Ok a) (Err e) known found before now told told' named choice items c d text lowers form put judged rises kept finds apart tells = let h : true ≡ false = sym tells.0 ∙ apart.0 in absurd (cc)
+form_lifted (Ok a) (Err e) known found before now told told' named choice items c d text lowers form put judged rises kept finds apart tells = let h : true ≡ false = sym tells ∙ apart.0 in absurd (cc)
 form_lifted (Err x) told_by known found before now told told' named choice items c d text lowers form put judged rises kept finds apart tells = tt

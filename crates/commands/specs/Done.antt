@@ -1,5 +1,5 @@
 -- What the exit statuses 0 and 1 of a command say.
-use Rattle.std.specs.Prelude.{◌≡◌, ℕ, Bool, true, false, not, List, ◌++◌, Option, None, Some, IfSome}
+use Rattle.std.specs.Prelude.{◌≡◌, ℕ, Bool, true, false, not, List, ◌++◌, length, Option, None, Some, IfSome}
 use Rattle.std.specs.Io.KnownBytes.{Appends}
 use Rattle.btor2.specs.declared.item.Item.{Item}
 use Rattle.aiger.specs.Circuit.{Circuit}
@@ -19,12 +19,14 @@ use Rattle.lift.specs.Lifted.{lifted_with}
 use Rattle.lift.specs.Verdicts.{KeepsVerdictIn}
 use Rattle.subcommands.specs.declared.answers.Answer.{Answer}
 use Rattle.subcommands.specs.declared.answers.Answer.TheVariants as answer
+use Rattle.subcommands.specs.Asked.{IsJudgedFor, IsJudgedOverFor}
 use Rattle.subcommands.specs.Certificates.{CertifiesWith, WritesOwed}
+use Rattle.subcommands.specs.Assumed.{assumed_said}
 use Rattle.subcommands.specs.Done.{Compares, ConvertsForEngines, IsDumped, IsFormRestored, IsJudged, IsJudgedByName, IsJudgedOver, IsJudgedOverByName, Judged, LowersForEngines, Restores, Rewrites, ShowsModel, TellsCost, TellsRestored, Tidies, judgement_line}
 use Rattle.subcommands.specs.Outputs.{ConvertsOutputs, ConvertsOutputsForEngines}
 use Rattle.subcommands.specs.Subjects.{bad_item_said, lifted_said, said_by_name, where_named}
 use Rattle.btor2text.specs.Spelling.{IsModelOf}
-use Rattle.subcommands.specs.Claims.{IsClaim}
+use Rattle.subcommands.specs.Claims.{CanBeClaimed, IsClaim}
 use Rattle.invocation.specs.declared.tasks.CertificateTask.TheVariants as certificate
 use Rattle.invocation.specs.declared.tasks.CircuitTask.TheVariants as circuit
 use Rattle.invocation.specs.declared.tasks.ModelTask.TheVariants as model
@@ -42,6 +44,7 @@ pub record IsLifted (named : Bool) (model witness before now told told' : Option
   pub circuit : Circuit
   pub text : IsModelOf model items
   pub lowers : Lowers items circuit
+  pub claimable : CanBeClaimed circuit
   pub judged : IfSome witness (λ text. BitJudges circuit text verdict)
   pub lifted : IfSome witness (λ text. Appends before now (lifted_with named items circuit text))
   pub kept : IfSome witness (λ text. KeepsVerdictIn items circuit text (lifted_with named items circuit text) verdict)
@@ -65,7 +68,7 @@ pub record LiftsFound (named : Bool) (choice : Option ℕ) (model found before n
   pub rises : named ≡ true → IfSome found (λ text. (read_found (input_count lowered) text).fault ≡ None → AreBitFirstRises lowered (restored_text lowered claim text) firsts)
   pub tells : TellsRestored (lifting_said named items lowered firsts) a lowered claim found told told'
 
--- The first text is of a model, which a circuit lowers that has an engine form, with all its bad properties or the chosen one; what was written is what the second, a witness of that form, is lifted to, with names or without; it was told how that is judged, with names behind it what the judgement is about, and of an acceptance in which frame the claim is reached first in what the second is restored to: over the model what is written is judged so too, and accepted, where the second is so over the form.
+-- The first text is of a model, which a circuit lowers that has an engine form, with all its bad properties or the chosen one; what was written is what the second, a witness of that form, is lifted to, with names or without; it was told how that is judged, with names behind it what the judgement is about, and of an acceptance in which frame the claim is reached first in what the second is restored to, and that the form is taken to be of all bad properties, where there are several and none is chosen: over the model what is written is judged so too, and accepted, where the second is so over the form.
 pub record IsFormLifted (named : Bool) (choice : Option ℕ) (model found before now told told' : Option (List ℕ)) (verdict : Judgement) : Type 0 where
   pub items : List Item
   pub lowered : Circuit
@@ -79,33 +82,35 @@ pub record IsFormLifted (named : Bool) (choice : Option ℕ) (model found before
   pub in_model : IfSome found (FindsWitnessInModel named items lowered choice form)
   pub firsts : List (Option ℕ)
   pub rises : named ≡ true → IfSome found (λ text. AreBitFirstRises lowered (form_restored_text lowered choice form text) firsts)
-  pub lines : Appends told told' (judgement_line verdict ++ lifting_said named items lowered firsts verdict)
+  pub lines : Appends told told' ((judgement_line verdict ++ lifting_said named items lowered firsts verdict) ++ assumed_said choice (length lowered.bads))
 
--- what a command has done that answers so. Of `first`, `second` and `third` each, all bytes that were to come are known, or none are; `before` and `now` stand on standard output, `told` and `told'` on standard error
-unfoldable pub Answers : Bool → Task → Form → Answer → Option (List ℕ) → Option (List ℕ) → Option (List ℕ) → Option (List ℕ) → Option (List ℕ) → Option (List ℕ) → Option (List ℕ) → Type 0
-Answers named (task.Text text.Lower) form answer.Done first second third before now told told' = Converts first form (Appends before now)
-Answers named (task.Model (model.LowerForEngines choice)) form answer.Done first second third before now told told' = LowersForEngines first before now form choice
-Answers false (task.Model model.CheckBtor) form a first second third before now told told' = Judged (IsJudged first second before now) a
-Answers true (task.Model model.CheckBtor) form a first second third before now told told' = Judged (IsJudgedByName first second before now told told') a
-Answers named (task.Model model.Show) form answer.Done first second third before now told told' = ShowsModel first before now
-Answers named (task.Model model.Cost) form answer.Done first second third before now told told' = TellsCost first before now
-Answers named (task.Circuit circuit.AigConvert) form answer.Done first second third before now told told' = Rewrites first before now form
-Answers named (task.Circuit (circuit.ConvertForEngines choice)) form answer.Done first second third before now told told' = ConvertsForEngines first before now form choice
-Answers named (task.Circuit circuit.ConvertOutputs) form answer.Done first second third before now told told' = ConvertsOutputs first before now form
-Answers named (task.Circuit (circuit.ConvertOutputsForEngines choice)) form answer.Done first second third before now told told' = ConvertsOutputsForEngines first before now form choice
-Answers named (task.Text (text.TidyWitness pick)) form answer.Done first second third before now told told' = Tidies pick first before now
-Answers false (task.Circuit circuit.CheckAig) form a first second third before now told told' = Judged (IsJudgedOver first second before now) a
-Answers true (task.Circuit circuit.CheckAig) form a first second third before now told told' = Judged (IsJudgedOverByName first second before now told told') a
-Answers named (task.Model model.Lift) form a first second third before now told told' = Judged (IsLifted named first second before now told told') a
-Answers named (task.Model (model.Wave shown)) form a first second third before now told told' = Judged (IsDumped shown first second before now told told') a
-Answers named (task.Circuit (circuit.Restore choice)) form a first second third before now told told' = Restores choice first second before now told told' a
-Answers named (task.Circuit (circuit.RestoreForm choice)) form a first second third before now told told' = Judged (IsFormRestored choice first second before now told told') a
-Answers named (task.Model (model.LiftFound choice)) form a first second third before now told told' = LiftsFound named choice first second before now told told' a
-Answers named (task.Model (model.LiftForm choice)) form a first second third before now told told' = Judged (IsFormLifted named choice first second before now told told') a
-Answers named (task.Text text.Vectors) form a first second third before now told told' = Compares first before now a
-Answers named (task.Certificate (certificate.Obligation g by choice)) form answer.Done first second third before now told told' = WritesOwed g by choice first second before now
-Answers named (task.Certificate (certificate.CheckProof g by choice)) form a first second third before now told told' = CertifiesWith named g by choice first second third before now told told' a
-Answers named _ form a first second third before now told told' = ⊥
+-- what a command has done that answers so, where it asks for the claim of a bad property or not. Of `first`, `second` and `third` each, all bytes that were to come are known, or none are; `before` and `now` stand on standard output, `told` and `told'` on standard error
+unfoldable pub Answers : Bool → Task → Option (List ℕ) → Form → Answer → Option (List ℕ) → Option (List ℕ) → Option (List ℕ) → Option (List ℕ) → Option (List ℕ) → Option (List ℕ) → Option (List ℕ) → Type 0
+Answers named (task.Text text.Lower) asked form answer.Done first second third before now told told' = Converts first form (Appends before now)
+Answers named (task.Model (model.LowerForEngines choice)) asked form answer.Done first second third before now told told' = LowersForEngines first before now form choice
+Answers named (task.Model model.CheckBtor) (Some word) form a first second third before now told told' = IsJudgedFor named word first second before now told told' a
+Answers false (task.Model model.CheckBtor) None form a first second third before now told told' = Judged (IsJudged first second before now) a
+Answers true (task.Model model.CheckBtor) None form a first second third before now told told' = Judged (IsJudgedByName first second before now told told') a
+Answers named (task.Model model.Show) asked form answer.Done first second third before now told told' = ShowsModel first before now
+Answers named (task.Model model.Cost) asked form answer.Done first second third before now told told' = TellsCost first before now
+Answers named (task.Circuit circuit.AigConvert) asked form answer.Done first second third before now told told' = Rewrites first before now form
+Answers named (task.Circuit (circuit.ConvertForEngines choice)) asked form answer.Done first second third before now told told' = ConvertsForEngines first before now form choice
+Answers named (task.Circuit circuit.ConvertOutputs) asked form answer.Done first second third before now told told' = ConvertsOutputs first before now form
+Answers named (task.Circuit (circuit.ConvertOutputsForEngines choice)) asked form answer.Done first second third before now told told' = ConvertsOutputsForEngines first before now form choice
+Answers named (task.Text (text.TidyWitness pick)) asked form answer.Done first second third before now told told' = Tidies pick first before now
+Answers named (task.Circuit circuit.CheckAig) (Some word) form a first second third before now told told' = IsJudgedOverFor named word first second before now told told' a
+Answers false (task.Circuit circuit.CheckAig) None form a first second third before now told told' = Judged (IsJudgedOver first second before now) a
+Answers true (task.Circuit circuit.CheckAig) None form a first second third before now told told' = Judged (IsJudgedOverByName first second before now told told') a
+Answers named (task.Model model.Lift) asked form a first second third before now told told' = Judged (IsLifted named first second before now told told') a
+Answers named (task.Model (model.Wave shown)) asked form a first second third before now told told' = Judged (IsDumped shown first second before now told told') a
+Answers named (task.Circuit (circuit.Restore choice)) asked form a first second third before now told told' = Restores choice first second before now told told' a
+Answers named (task.Circuit (circuit.RestoreForm choice)) asked form a first second third before now told told' = Judged (IsFormRestored choice first second before now told told') a
+Answers named (task.Model (model.LiftFound choice)) asked form a first second third before now told told' = LiftsFound named choice first second before now told told' a
+Answers named (task.Model (model.LiftForm choice)) asked form a first second third before now told told' = Judged (IsFormLifted named choice first second before now told told') a
+Answers named (task.Text text.Vectors) asked form a first second third before now told told' = Compares first before now a
+Answers named (task.Certificate (certificate.Obligation g by choice)) asked form answer.Done first second third before now told told' = WritesOwed g by choice first second before now
+Answers named (task.Certificate (certificate.CheckProof g by choice)) asked form a first second third before now told told' = CertifiesWith named g by choice first second third before now told told' a
+Answers named _ asked form a first second third before now told told' = ⊥
 
 -- a command has one file
 unfoldable pub has_one_file : Task → Bool

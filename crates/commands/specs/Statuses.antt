@@ -4,10 +4,8 @@ use Rattle.std.specs.Io.KnownBytes.{Appends}
 use Rattle.base.specs.Device.{HasRisen}
 use Rattle.base.specs.declared.reasons.Reason.{Reason}
 use Rattle.invocation.specs.declared.tasks.Task.{Task}
-use Rattle.subcommands.specs.declared.refusals.Claimed.{Claimed}
 use Rattle.subcommands.specs.declared.refusals.Device.TheVariants as device
 use Rattle.subcommands.specs.declared.refusals.Fault.{Fault}
-use Rattle.subcommands.specs.declared.refusals.Fault.TheVariants as fault
 use Rattle.subcommands.specs.declared.refusals.Refusal.{Refusal}
 use Rattle.subcommands.specs.declared.refusals.Refusal.TheVariants as refusal
 use Rattle.subcommands.specs.declared.answers.Answer.{Answer}
@@ -16,9 +14,9 @@ use Rattle.subcommands.specs.Statuses.{CountsAll}
 use Rattle.commands.specs.Refusals.{RefusesTask, RefusesSecond}
 
 -- the first text has a fault for which the command refuses it, and the line that tells that fault of the first file was written
-pub record IsFirstRefused (task : Task) (file : List ℕ) (first told told' : Option (List ℕ)) : Type 0 where
+pub record IsFirstRefused (task : Task) (asked : Option (List ℕ)) (file : List ℕ) (first told told' : Option (List ℕ)) : Type 0 where
   pub fault : Fault
-  pub has : RefusesTask task first fault
+  pub has : RefusesTask task asked first fault
   pub status : status_of_fault fault ≡ 2
   pub line : Appends told told' (fault_line file fault)
 
@@ -30,14 +28,15 @@ pub record IsSecondRefused (task : Task) (file : List ℕ) (first second told to
   pub line : Appends told told' (fault_line file fault)
 
 -- Status 2: the first file is refused, or the second one; the line names the file that it is about.
-abbrev pub IsRefused : Task → List ℕ → Option (List ℕ) → Option (List ℕ) → Option (List ℕ) → Option (List ℕ) → Option (List ℕ) → Type 0
-IsRefused task file name first second told told' = IsFirstRefused task file first told told' ⊎ IsSecondRefused task (second_name name) first second told told'
+abbrev pub IsRefused : Task → Option (List ℕ) → List ℕ → Option (List ℕ) → Option (List ℕ) → Option (List ℕ) → Option (List ℕ) → Option (List ℕ) → Type 0
+IsRefused task asked file name first second told told' = IsFirstRefused task asked file first told told' ⊎ IsSecondRefused task (second_name name) first second told told'
 
--- Status 4: words leave open which bad property of the first text is claimed, and the line that says so was written.
-pub record IsLeftOpen (task : Task) (file : List ℕ) (first told told' : Option (List ℕ)) : Type 0 where
-  pub claimed : Claimed
-  pub has : RefusesTask task first (fault.Unchosen claimed)
-  pub line : Appends told told' (fault_line file (fault.Unchosen claimed))
+-- Status 4: words leave open which bad property of the first text is claimed, or ask for one by a name that two have, and the line that says so was written.
+pub record IsLeftOpen (task : Task) (asked : Option (List ℕ)) (file : List ℕ) (first told told' : Option (List ℕ)) : Type 0 where
+  pub fault : Fault
+  pub has : RefusesTask task asked first fault
+  pub status : status_of_fault fault ≡ 4
+  pub line : Appends told told' (fault_line file fault)
 
 -- a refusal is none of an input, and standard error did not fail
 abbrev pub IsTold : Refusal → Type 0

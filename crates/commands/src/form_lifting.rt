@@ -19,11 +19,11 @@ use btor2::Model;
 use engine_form::engine_form;
 use lift::lift_form;
 use std::alloc::Global;
-use subcommands::{Answer, Refusal, Subject, read_model, tell_lifted};
+use subcommands::{Answer, Refusal, Subject, tell_form_lifted};
 
 /// Lowers a model, lifts a witness of the engine form of its circuit to standard output, with names or without, and tells on
 /// standard error how that is judged, with names behind it what the judgement is about, and of an acceptance in which frame the
-/// claim is reached first.
+/// claim is reached first, and what the form is taken for, where none of several bad properties is chosen.
 pub(crate) fn lift_form_witness<B: Source, O: Sink, E: Sink, W: Watch>(
     alloc: Global,
     named: bool,
@@ -96,5 +96,6 @@ fn lift_through_form<B: Source, O: Sink, E: Sink>(
         (Used O.failures out.old out.new) (Used E.failures err.old err.new) }
 {
     let told = lift_form(alloc, model, circuit, form, choice, named, second, out);
-    tell_lifted(alloc, told, named, Subject::Lowered(model, circuit), err)
+    let subject = Subject::Lowered(model, circuit);
+    tell_form_lifted(alloc, told, named, subject, choice, circuit, err)
 }

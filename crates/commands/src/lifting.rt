@@ -1,13 +1,15 @@
 //! The command that lifts witnesses.
 
-ghost use Rattle.std.specs.Prelude.{◌≡◌, ℕ, List, Option, IfOk, IfErr};
+ghost use Rattle.std.specs.Prelude.{◌≡◌, ℕ, List, None, Option, IfOk, IfErr};
 ghost use Rattle.blast.specs.Lowering.{Lowers};
+ghost use Rattle.blast.specs.Refusal.{lowering_refusal};
+ghost use Rattle.invocation.specs.declared.tasks.Given.TheVariants as given_is;
 ghost use Rattle.btor2text.specs.Spelling.{IsModelOf};
 ghost use Rattle.subcommands.specs.Done.{Judged};
 ghost use Rattle.commands.specs.Done.{IsLifted};
 ghost use Rattle.commands.specs.Refusals.{of_lifting};
-ghost use Rattle.subcommands.specs.Refusals.{IsNotLowered};
-ghost use Rattle.subcommands.specs.Statuses.{Ends, EndsUnrefused, IfInput};
+ghost use Rattle.subcommands.specs.Refusals.{IsNotClaimable};
+ghost use Rattle.subcommands.specs.Statuses.{Ends, IfInput};
 ghost use Rattle.subcommands.specs.Statuses.Use.{Unused, Used};
 
 use aiger::Circuit;
@@ -16,7 +18,7 @@ use blast::{Watch, lower_watched};
 use btor2::Model;
 use lift::{LiftFault, lift_with_rises};
 use std::alloc::Global;
-use subcommands::{Answer, Device, Refusal, Subject, read_model, tell_judgement};
+use subcommands::{Answer, Device, Refusal, Subject, claimable, tell_judgement};
 
 /// Lowers a model, lifts a witness of its circuit to standard output, with names or without, and tells its judgement on
 /// standard error, with names behind it what the judgement is about, and of an acceptance in which frame the claim is reached
@@ -34,7 +36,7 @@ pub(crate) fn lift_witness<B: Source, O: Sink, E: Sink, W: Watch>(
         → IfOk result (Judged (IsLifted named known (B.to_come second.old) (O.written out.old)
         (O.written out.new) (E.written err.old) (E.written err.new))) }
     ensures refused { (known : Option (List ℕ)) → IsModelOf known model.now
-        → IfErr result (IfInput (IsNotLowered known)) }
+        → IfErr result (IfInput (IsNotClaimable given_is.Model known)) }
     ensures ends { Ends result Unused (Used B.failures second.old second.new)
         (Used O.failures out.old out.new) (Used E.failures err.old err.new) }
 {
@@ -54,13 +56,17 @@ fn lift_over_circuit<B: Source, O: Sink, E: Sink>(
     out: &mut O,
     err: &mut E,
 ) -> Result<Answer, Refusal>
-    requires { Lowers model.now circuit.now }
+    requires accepted { lowering_refusal model.now ≡ None }
+    requires lowers { Lowers model.now circuit.now }
     ensures done { (known : Option (List ℕ)) → IsModelOf known model.now
         → IfOk result (Judged (IsLifted named known (B.to_come second.old) (O.written out.old)
         (O.written out.new) (E.written err.old) (E.written err.new))) }
-    ensures ends { EndsUnrefused result Unused (Used B.failures second.old second.new)
+    ensures refused { (known : Option (List ℕ)) → IsModelOf known model.now
+        → IfErr result (IfInput (IsNotClaimable given_is.Model known)) }
+    ensures ends { Ends result Unused (Used B.failures second.old second.new)
         (Used O.failures out.old out.new) (Used E.failures err.old err.new) }
 {
+    claimable(circuit)?;
     match lift_with_rises(alloc, model, circuit, named, second, out) {
         Ok((judgement, firsts)) => {
             let subject = Subject::Lowered(model, circuit);

@@ -28,21 +28,21 @@ pub fn run_to_file<A: Source, B: Source, T: Source, O: Sink, N: ResultName, E: S
     err: &mut E,
     watch: &mut W,
 ) -> u8
-    ensures done { result ≡ 0 → Answers order.now.named order.now.task order.now.form answer.Done
+    ensures done { result ≡ 0 → Answers order.now.named order.now.task (option_map (λ word. word.now) order.now.asked) order.now.form answer.Done
         (A.to_come first.old) (B.to_come second.old) (T.to_come third.old) (O.written out.old)
         (O.written out.new) (E.written err.old) (E.written err.new) }
     ensures not_accepted { result ≡ 1
-        → Answers order.now.named order.now.task order.now.form answer.NotAccepted
+        → Answers order.now.named order.now.task (option_map (λ word. word.now) order.now.asked) order.now.form answer.NotAccepted
         (A.to_come first.old) (B.to_come second.old) (T.to_come third.old) (O.written out.old)
         (O.written out.new) (E.written err.old) (E.written err.new) }
     // the name is given to a result that is done, and to no other
     ensures named { result ≤ 1 → N.is_given name.new ≡ true }
     ensures unnamed { ¬ (result ≤ 1) → N.is_given name.new ≡ N.is_given name.old }
-    ensures refused { result ≡ 2 → IsRefused order.now.task order.now.first.now
+    ensures refused { result ≡ 2 → IsRefused order.now.task (option_map (λ word. word.now) order.now.asked) order.now.first.now
         (option_map (λ name. name.now) order.now.second) (A.to_come first.old)
         (B.to_come second.old) (E.written err.old) (E.written err.new) }
     ensures left_open { result ≡ 4
-        → IsLeftOpen order.now.task order.now.first.now (A.to_come first.old) (E.written err.old)
+        → IsLeftOpen order.now.task (option_map (λ word. word.now) order.now.asked) order.now.first.now (A.to_come first.old) (E.written err.old)
         (E.written err.new) }
     ensures unwritten { result ≡ 2 → out.new ≡ out.old }
     ensures unwritten_words { result ≡ 4 → out.new ≡ out.old }
@@ -53,7 +53,7 @@ pub fn run_to_file<A: Source, B: Source, T: Source, O: Sink, N: ResultName, E: S
         (A.failures first.old) (A.failures first.new) (B.failures second.old)
         (B.failures second.new) (T.failures third.old) (T.failures third.new) (O.failures out.old)
         (O.failures out.new) (E.failures err.old) (E.failures err.new)
-        ⊎ IsUnnamed (Answers order.now.named order.now.task order.now.form) (A.to_come first.old)
+        ⊎ IsUnnamed (Answers order.now.named order.now.task (option_map (λ word. word.now) order.now.asked) order.now.form) (A.to_come first.old)
         (B.to_come second.old) (T.to_come third.old) (O.written out.old) (O.written out.new)
         (option_map (λ name. name.now) order.now.output) (E.written err.old) (E.written err.new)
         (A.failures first.old) (A.failures first.new) (B.failures second.old)

@@ -4,6 +4,8 @@ ghost use Rattle.std.specs.Prelude.{◌≡◌, ◌≢◌, ◌≤◌, ℕ, List, 
 ghost use Rattle.subcommands.specs.declared.answers.Answer.TheVariants as answer;
 ghost use Rattle.btor2text.specs.Spelling.{IsModelOf};
 ghost use Rattle.aigertext.specs.Spelling.{IsCircuitText};
+ghost use Rattle.invocation.specs.declared.tasks.CircuitTask.TheVariants as circuit_is;
+ghost use Rattle.invocation.specs.declared.tasks.ModelTask.TheVariants as model_is;
 ghost use Rattle.invocation.specs.declared.tasks.Task.TheVariants as task_is;
 ghost use Rattle.commands.specs.Done.{Answers, has_one_file, has_three_files, is_quiet};
 ghost use Rattle.commands.specs.Refusals.{RefusesTask, RefusesSecond};
@@ -21,11 +23,11 @@ use btor2::Model;
 use invocation::{CertificateTask, CircuitTask, DEVICE, ModelTask, Order, Task, TextTask};
 use std::alloc::Global;
 use subcommands::{
-    Answer, Device, Refusal, check_circuit, check_circuit_by_name, check_model,
-    check_model_by_name, check_proof, compare_vectors, convert_circuit, convert_for_engines,
-    convert_outputs, convert_outputs_for_engines, dump_witness, lower_for_engines, lower_model,
-    read_circuit, read_model, restore_counterexample, restore_witness, show, tell, tell_cost,
-    tidy_witness, write_obligation,
+    Answer, Device, Refusal, check_circuit, check_circuit_by_name, check_circuit_for, check_model,
+    check_model_by_name, check_model_for, check_proof, compare_vectors, convert_circuit,
+    convert_for_engines, convert_outputs, convert_outputs_for_engines, dump_witness,
+    lower_for_engines, lower_model, read_circuit, read_model, restore_counterexample,
+    restore_witness, show, tell, tell_cost, tidy_witness, write_obligation,
 };
 
 /// Does a command, and answers the exit status: 0 done or accepted, 1 not accepted, 2 input refused, 3 device or memory, 4
@@ -44,7 +46,7 @@ use subcommands::{
 ///   counterexample is restored to and that is accepted, or that all vectors agree, or the text of the formula that a
 ///   certificate owes, or that a certificate holds: then the bad property that is claimed of the model or circuit rises in no
 ///   frame up to which its constraints hold, from any initial state, under every input sequence.
-/// - 1: the witness is judged and not accepted, and the line of its judgement, or what it is lifted or restored to, was
+/// - 1: the witness is judged and not accepted, or does not claim the bad property that is asked for, and the line of its judgement, or what it is lifted or restored to, was
 ///   written; or a line of a counterexample is faulty, and what those before it are restored to was; or the lines of
 ///   vectors that differ were; or the line was that tells why a certificate does not hold.
 /// - 2: the first file is refused, or, where it is a certificate, the second. Nothing was written to `out`, no device
@@ -52,7 +54,7 @@ use subcommands::{
 ///   its model, or against an obligation of its cubes, or a test of its circuit.
 /// - 3: a device failed, and the line on `err` names it, or `err` itself failed; or memory was wanting, and no device
 ///   failed.
-/// - 4: the words leave open which bad property of the first file is claimed. Nothing was written to `out`, no device failed,
+/// - 4: the words leave open which bad property of the first file is claimed, or ask for one by a name that two have. Nothing was written to `out`, no device failed,
 ///   and the line on `err` says so.
 pub fn run<A: Source, B: Source, T: Source, O: Sink, E: Sink, W: Watch>(
     alloc: Global,
@@ -64,18 +66,18 @@ pub fn run<A: Source, B: Source, T: Source, O: Sink, E: Sink, W: Watch>(
     err: &mut E,
     watch: &mut W,
 ) -> u8
-    ensures done { result ≡ 0 → Answers order.now.named order.now.task order.now.form answer.Done
+    ensures done { result ≡ 0 → Answers order.now.named order.now.task (option_map (λ word. word.now) order.now.asked) order.now.form answer.Done
         (A.to_come first.old) (B.to_come second.old) (T.to_come third.old) (O.written out.old)
         (O.written out.new) (E.written err.old) (E.written err.new) }
     ensures not_accepted { result ≡ 1
-        → Answers order.now.named order.now.task order.now.form answer.NotAccepted
+        → Answers order.now.named order.now.task (option_map (λ word. word.now) order.now.asked) order.now.form answer.NotAccepted
         (A.to_come first.old) (B.to_come second.old) (T.to_come third.old) (O.written out.old)
         (O.written out.new) (E.written err.old) (E.written err.new) }
-    ensures refused { result ≡ 2 → IsRefused order.now.task order.now.first.now
+    ensures refused { result ≡ 2 → IsRefused order.now.task (option_map (λ word. word.now) order.now.asked) order.now.first.now
         (option_map (λ name. name.now) order.now.second) (A.to_come first.old)
         (B.to_come second.old) (E.written err.old) (E.written err.new) }
     ensures left_open { result ≡ 4
-        → IsLeftOpen order.now.task order.now.first.now (A.to_come first.old) (E.written err.old)
+        → IsLeftOpen order.now.task (option_map (λ word. word.now) order.now.asked) order.now.first.now (A.to_come first.old) (E.written err.old)
         (E.written err.new) }
     // nothing is written of an input that is refused, and nothing where the words are
     ensures unwritten { result ≡ 2 → out.new ≡ out.old }
@@ -141,10 +143,10 @@ fn obey<A: Source, B: Source, T: Source, O: Sink, E: Sink, W: Watch>(
     watch: &mut W,
 ) -> Result<Answer, Refusal>
     ensures done { IfOk result
-        (λ answer. Answers order.now.named order.now.task order.now.form answer
+        (λ answer. Answers order.now.named order.now.task (option_map (λ word. word.now) order.now.asked) order.now.form answer
         (A.to_come first.old) (B.to_come second.old) (T.to_come third.old) (O.written out.old)
         (O.written out.new) (E.written err.old) (E.written err.new)) }
-    ensures refused { IfErr result (IfInput (RefusesTask order.now.task (A.to_come first.old))) }
+    ensures refused { IfErr result (IfInput (RefusesTask order.now.task (option_map (λ word. word.now) order.now.asked) (A.to_come first.old))) }
     ensures refused_second { IfErr result
         (IfSecond (RefusesSecond order.now.task (A.to_come first.old) (B.to_come second.old))) }
     ensures ends { EndsAll result (Used A.failures first.old first.new)
@@ -178,11 +180,11 @@ fn obey_on_certificate<A: Source, B: Source, T: Source, O: Sink, E: Sink, W: Wat
     watch: &mut W,
 ) -> Result<Answer, Refusal>
     ensures done { IfOk result
-        (λ answer. Answers order.now.named (task_is.Certificate task) order.now.form answer
+        (λ answer. Answers order.now.named (task_is.Certificate task) (option_map (λ word. word.now) order.now.asked) order.now.form answer
         (A.to_come first.old) (B.to_come second.old) (T.to_come third.old) (O.written out.old)
         (O.written out.new) (E.written err.old) (E.written err.new)) }
     ensures refused { IfErr result
-        (IfInput (RefusesTask (task_is.Certificate task) (A.to_come first.old))) }
+        (IfInput (RefusesTask (task_is.Certificate task) (option_map (λ word. word.now) order.now.asked) (A.to_come first.old))) }
     ensures refused_second { IfErr result
         (IfSecond (RefusesSecond (task_is.Certificate task) (A.to_come first.old)
         (B.to_come second.old))) }
@@ -223,10 +225,10 @@ fn obey_on_text<A: Source, O: Sink, W: Watch>(
     watch: &mut W,
 ) -> Result<Answer, Refusal>
     ensures done { (second third told : Option (List ℕ))
-        → IfOk result (λ answer. Answers order.now.named (task_is.Text task) order.now.form answer
+        → IfOk result (λ answer. Answers order.now.named (task_is.Text task) (option_map (λ word. word.now) order.now.asked) order.now.form answer
         (A.to_come first.old) second third (O.written out.old) (O.written out.new) told told) }
     ensures refused { IfErr result
-        (IfInput (RefusesTask (task_is.Text task) (A.to_come first.old))) }
+        (IfInput (RefusesTask (task_is.Text task) (option_map (λ word. word.now) order.now.asked) (A.to_come first.old))) }
     ensures ends { Ends result (Used A.failures first.old first.new) Unused
         (Used O.failures out.old out.new) Unused }
 {
@@ -249,11 +251,11 @@ fn obey_on_model<A: Source, B: Source, O: Sink, E: Sink, W: Watch>(
     watch: &mut W,
 ) -> Result<Answer, Refusal>
     ensures done { (third : Option (List ℕ))
-        → IfOk result (λ answer. Answers order.now.named (task_is.Model task) order.now.form answer
+        → IfOk result (λ answer. Answers order.now.named (task_is.Model task) (option_map (λ word. word.now) order.now.asked) order.now.form answer
         (A.to_come first.old) (B.to_come second.old) third (O.written out.old) (O.written out.new)
         (E.written err.old) (E.written err.new)) }
     ensures refused { IfErr result
-        (IfInput (RefusesTask (task_is.Model task) (A.to_come first.old))) }
+        (IfInput (RefusesTask (task_is.Model task) (option_map (λ word. word.now) order.now.asked) (A.to_come first.old))) }
     ensures ends { Ends result (Used A.failures first.old first.new)
         (Used B.failures second.old second.new) (Used O.failures out.old out.new)
         (Used E.failures err.old err.new) }
@@ -277,11 +279,11 @@ fn do_on_model<B: Source, O: Sink, E: Sink, W: Watch>(
     watch: &mut W,
 ) -> Result<Answer, Refusal>
     ensures done { (known third : Option (List ℕ)) → IsModelOf known model.now
-        → IfOk result (λ answer. Answers order.now.named (task_is.Model task) order.now.form answer
+        → IfOk result (λ answer. Answers order.now.named (task_is.Model task) (option_map (λ word. word.now) order.now.asked) order.now.form answer
         known (B.to_come second.old) third (O.written out.old) (O.written out.new)
         (E.written err.old) (E.written err.new)) }
     ensures refused { (known : Option (List ℕ)) → IsModelOf known model.now
-        → IfErr result (IfInput (RefusesTask (task_is.Model task) known)) }
+        → IfErr result (IfInput (RefusesTask (task_is.Model task) (option_map (λ word. word.now) order.now.asked) known)) }
     ensures ends { Ends result Unused (Used B.failures second.old second.new)
         (Used O.failures out.old out.new) (Used E.failures err.old err.new) }
     ensures quiet { is_quiet order.now.named (task_is.Model task) ≡ true → err.new ≡ err.old }
@@ -291,8 +293,7 @@ fn do_on_model<B: Source, O: Sink, E: Sink, W: Watch>(
         ModelTask::LowerForEngines(choice) => {
             lower_for_engines(alloc, model, order.form, choice, out, watch)
         }
-        ModelTask::CheckBtor if order.named => check_model_by_name(alloc, model, second, out, err),
-        ModelTask::CheckBtor => check_model(alloc, model, second, out),
+        ModelTask::CheckBtor => judge_on_model(alloc, order, model, second, out, err),
         ModelTask::Show => show(alloc, model, out),
         ModelTask::Cost => tell_cost(alloc, model, out),
         ModelTask::Lift => lift_witness(alloc, order.named, model, second, out, err, watch),
@@ -303,6 +304,35 @@ fn do_on_model<B: Source, O: Sink, E: Sink, W: Watch>(
             lift_form_witness(alloc, order.named, model, choice, second, out, err, watch)
         }
         ModelTask::Wave(shown) => dump_witness(alloc, order, shown, model, second, out, err),
+    }
+}
+
+/// Judges a witness over a model that was read.
+#[tactic(auto, unfolding(crate::specs::Done::Answers, crate::specs::Done::is_quiet, crate::specs::Refusals::RefusesTask))]
+fn judge_on_model<B: Source, O: Sink, E: Sink>(
+    alloc: Global,
+    order: &Order<'_>,
+    model: &Model,
+    second: &mut B,
+    out: &mut O,
+    err: &mut E,
+) -> Result<Answer, Refusal>
+    ensures done { (known third : Option (List ℕ)) → IsModelOf known model.now
+        → IfOk result (λ answer. Answers order.now.named (task_is.Model model_is.CheckBtor)
+        (option_map (λ word. word.now) order.now.asked) order.now.form answer known
+        (B.to_come second.old) third (O.written out.old) (O.written out.new)
+        (E.written err.old) (E.written err.new)) }
+    ensures refused { (known : Option (List ℕ)) → IsModelOf known model.now
+        → IfErr result (IfInput (RefusesTask (task_is.Model model_is.CheckBtor)
+        (option_map (λ word. word.now) order.now.asked) known)) }
+    ensures ends { Ends result Unused (Used B.failures second.old second.new)
+        (Used O.failures out.old out.new) (Used E.failures err.old err.new) }
+    ensures quiet { order.now.named ≡ false → err.new ≡ err.old }
+{
+    match order.asked {
+        Some(word) => check_model_for(alloc, order.named, model, word, second, out, err),
+        None if order.named => check_model_by_name(alloc, model, second, out, err),
+        None => check_model(alloc, model, second, out),
     }
 }
 
@@ -317,11 +347,11 @@ fn obey_on_circuit<A: Source, B: Source, O: Sink, E: Sink>(
     err: &mut E,
 ) -> Result<Answer, Refusal>
     ensures done { (third : Option (List ℕ))
-        → IfOk result (λ answer. Answers order.now.named (task_is.Circuit task) order.now.form
+        → IfOk result (λ answer. Answers order.now.named (task_is.Circuit task) (option_map (λ word. word.now) order.now.asked) order.now.form
         answer (A.to_come first.old) (B.to_come second.old) third (O.written out.old)
         (O.written out.new) (E.written err.old) (E.written err.new)) }
     ensures refused { IfErr result
-        (IfInput (RefusesTask (task_is.Circuit task) (A.to_come first.old))) }
+        (IfInput (RefusesTask (task_is.Circuit task) (option_map (λ word. word.now) order.now.asked) (A.to_come first.old))) }
     ensures ends { Ends result (Used A.failures first.old first.new)
         (Used B.failures second.old second.new) (Used O.failures out.old out.new)
         (Used E.failures err.old err.new) }
@@ -344,11 +374,11 @@ fn do_on_circuit<B: Source, O: Sink, E: Sink>(
     err: &mut E,
 ) -> Result<Answer, Refusal>
     ensures done { (known third : Option (List ℕ)) → IsCircuitText known circuit.now
-        → IfOk result (λ answer. Answers order.now.named (task_is.Circuit task) order.now.form
+        → IfOk result (λ answer. Answers order.now.named (task_is.Circuit task) (option_map (λ word. word.now) order.now.asked) order.now.form
         answer known (B.to_come second.old) third (O.written out.old) (O.written out.new)
         (E.written err.old) (E.written err.new)) }
     ensures refused { (known : Option (List ℕ)) → IsCircuitText known circuit.now
-        → IfErr result (IfInput (RefusesTask (task_is.Circuit task) known)) }
+        → IfErr result (IfInput (RefusesTask (task_is.Circuit task) (option_map (λ word. word.now) order.now.asked) known)) }
     ensures ends { Ends result Unused (Used B.failures second.old second.new)
         (Used O.failures out.old out.new) (Used E.failures err.old err.new) }
     ensures quiet { is_quiet order.now.named (task_is.Circuit task) ≡ true → err.new ≡ err.old }
@@ -363,15 +393,41 @@ fn do_on_circuit<B: Source, O: Sink, E: Sink>(
         CircuitTask::ConvertOutputsForEngines(choice) => {
             convert_outputs_for_engines(alloc, circuit, order.form, choice, out)
         }
-        CircuitTask::CheckAig if order.named => {
-            check_circuit_by_name(alloc, circuit, second, out, err)
-        }
-        CircuitTask::CheckAig => check_circuit(alloc, circuit, second, out),
+        CircuitTask::CheckAig => judge_on_circuit(alloc, order, circuit, second, out, err),
         CircuitTask::Restore(choice) => {
             restore_counterexample(alloc, circuit, choice, second, out, err)
         }
         CircuitTask::RestoreForm(choice) => restore_witness(
             alloc, circuit, choice, second, out, err,
         ),
+    }
+}
+
+/// Judges a witness over a circuit that was read.
+#[tactic(auto, unfolding(crate::specs::Done::Answers, crate::specs::Done::is_quiet, crate::specs::Refusals::RefusesTask))]
+fn judge_on_circuit<B: Source, O: Sink, E: Sink>(
+    alloc: Global,
+    order: &Order<'_>,
+    circuit: &Circuit,
+    second: &mut B,
+    out: &mut O,
+    err: &mut E,
+) -> Result<Answer, Refusal>
+    ensures done { (known third : Option (List ℕ)) → IsCircuitText known circuit.now
+        → IfOk result (λ answer. Answers order.now.named (task_is.Circuit circuit_is.CheckAig)
+        (option_map (λ word. word.now) order.now.asked) order.now.form answer known
+        (B.to_come second.old) third (O.written out.old) (O.written out.new)
+        (E.written err.old) (E.written err.new)) }
+    ensures refused { (known : Option (List ℕ)) → IsCircuitText known circuit.now
+        → IfErr result (IfInput (RefusesTask (task_is.Circuit circuit_is.CheckAig)
+        (option_map (λ word. word.now) order.now.asked) known)) }
+    ensures ends { Ends result Unused (Used B.failures second.old second.new)
+        (Used O.failures out.old out.new) (Used E.failures err.old err.new) }
+    ensures quiet { order.now.named ≡ false → err.new ≡ err.old }
+{
+    match order.asked {
+        Some(word) => check_circuit_for(alloc, order.named, circuit, word, second, out, err),
+        None if order.named => check_circuit_by_name(alloc, circuit, second, out, err),
+        None => check_circuit(alloc, circuit, second, out),
     }
 }

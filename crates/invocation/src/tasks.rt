@@ -118,6 +118,8 @@ pub struct Order<'a> {
     pub task: Task,
     /// Whether a command that judges says by name what the judgement is about, or one that lifts writes names behind words too.
     pub named: bool,
+    /// The bad property that a witness is to claim, for a command that judges one: its position, or its name.
+    pub asked: Option<&'a str>,
     /// The form of a circuit that is written.
     pub form: Form,
     /// The name of the first file; `-` is standard input.

@@ -32,14 +32,18 @@ use Rattle.witness_circuits.specs.declared.witness_fault.WitnessFault.TheVariant
 use Rattle.subcommands.specs.declared.answers.Answer.{Answer}
 use Rattle.subcommands.specs.declared.answers.Answer.TheVariants as answer
 use Rattle.invocation.specs.declared.tasks.Certificate.{Certificate}
+use Rattle.invocation.specs.declared.tasks.Certificate.TheVariants as kind
 use Rattle.invocation.specs.declared.tasks.Given.{Given}
 use Rattle.invocation.specs.declared.tasks.Given.TheVariants as given
+use Rattle.subcommands.specs.declared.refusals.Claimed.{Claimed}
+use Rattle.subcommands.specs.declared.refusals.Claimed.TheVariants as claimed
 use Rattle.subcommands.specs.declared.refusals.Fault.{Fault}
+use Rattle.subcommands.specs.declared.refusals.Fault.TheVariants as fault
 use Rattle.subcommands.specs.declared.refusals.Refusal.{Refusal}
 use Rattle.subcommands.specs.declared.refusals.Refusal.TheVariants as refusal
 use Rattle.subcommands.specs.Certificates.{Certifies, CertifiesWith, GivesItsCircuit, IsCertifiedBy, IsGivenNumbering, IsSoDerived, NeverRises, given_said, verdict_line}
 use Rattle.subcommands.specs.Conversions.{of_certificate, of_claim, of_engine_form, of_invariant_for, of_obligation, of_witness, of_witness_reading_for}
-use Rattle.subcommands.specs.Refusals.{IsFaultyFor, IsFaultyOver, IsFaultyOverForm, IsFaultyWitness}
+use Rattle.subcommands.specs.Refusals.{IsNotCertifiable, IsNotClaimed, IsNotGuarded, IsUnclaimed, IsUnclaimedBy, IsUnguarded, IsFaultyFor, IsFaultyOver, IsFaultyOverForm, IsFaultyWitness}
 use Rattle.subcommands.specs.Statuses.{CountsAll, IfSecond}
 use Rattle.subcommands.specs.Subjects.{holds_said, where_named}
 use Rattle.subcommands.specs.Claims.{IsClaim}
@@ -150,3 +154,22 @@ certified named (Ok a) g by choice n known second third before now told told' c 
     with_names false said = certifies
     with_names true said = record { certifies = certifies; subject = said }
 certified named (Err e) g by choice n known second third before now told told' c k j law alike gives numbers is judged line said so = so
+
+-- ---- what is refused of the first file
+
+not_claimed : (m : Claimed) (g : Given) (known : Option (List ℕ)) (c : Circuit) (f : Fault) → GivesItsCircuit g known c → IsUnclaimed m c f → IsNotClaimed m g None known f
+not_claimed m g known c (fault.Engine e) gives is = inr (record { circuit = c; gives = gives; unchosen = refl; none = is.0; first = is.1 })
+not_claimed m g known c (fault.Unchosen n) gives is = (is.0, record { circuit = c; gives = gives; unchosen = refl; several = is.1 })
+not_claimed m g known c _ gives is = absurd is
+
+not_guarded : (g : Given) (choice : Option ℕ) (known : Option (List ℕ)) (c : Circuit) (f : Fault) → GivesItsCircuit g known c → IsUnguarded choice c f → IsNotGuarded g choice known f
+not_guarded g choice known c (fault.Engine e) gives is = record { circuit = c; gives = gives; unguarded = is }
+not_guarded g choice known c (fault.Test e) gives is = record { circuit = c; gives = gives; unguarded = is }
+not_guarded g choice known c (fault.Unchosen n) gives is = record { circuit = c; gives = gives; unguarded = is }
+not_guarded g choice known c _ gives is = absurd is
+
+-- a first file is refused of whose circuit no bad property is claimed so by a certificate of a kind
+pub not_certifiable : (by : Certificate) (g : Given) (choice : Option ℕ) (known : Option (List ℕ)) (c : Circuit) (f : Fault) → GivesItsCircuit g known c → IsUnclaimedBy by choice c f → IsNotCertifiable by g choice known f
+not_certifiable kind.Invariant g choice known c f gives is = rw is.0 (not_claimed claimed.Certified g known c f gives is.1)
+not_certifiable kind.Circuit g choice known c f gives is = not_guarded g choice known c f gives is
+not_certifiable kind.CircuitOfForm g choice known c f gives is = rw is.0 (not_claimed claimed.Guarded g known c f gives is.1)

@@ -1,3 +1,4 @@
+pub mod AskedLemmas
 pub mod CertificateLemmas
 pub mod CountLemmas
 pub mod EngineLemmas

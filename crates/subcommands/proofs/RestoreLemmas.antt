@@ -1,5 +1,5 @@
 -- What a restoring answers, and what a command has done that tells it.
-use Rattle.std.proofs.Common.{false, ◌≡◌, ℕ, inl, subst, List, [], Option, Some, None, IfSome, Result, Ok, Err, IfOk, IfErr, OnOk, true, sym, ◌∙◌}
+use Rattle.std.proofs.Common.{false, ◌≡◌, ℕ, inl, subst, List, [], Option, Some, None, IfSome, Result, Ok, Err, IfOk, IfErr, OnOk, length, true, sym, ◌∙◌}
 use Rattle.std.specs.Io.KnownBytes.{Appends}
 use Rattle.std.proofs.lemmas.List.{append-nil}
 use Rattle.aiger.specs.Circuit.{Circuit, IsCircuit}
@@ -16,9 +16,10 @@ use Rattle.restore.specs.Restored.{restored_text}
 use Rattle.subcommands.specs.declared.answers.Answer.{Answer}
 use Rattle.subcommands.specs.declared.refusals.Refusal.{Refusal}
 use Rattle.aigertext.specs.Spelling.{IsCircuitText}
+use Rattle.subcommands.specs.Assumed.{assumed_said}
 use Rattle.subcommands.specs.Claims.{IsClaim}
 use Rattle.subcommands.specs.Done.{IsSo, Restores, TellsRestored, Judged, IsFormRestored, judgement_line}
-use Rattle.subcommands.specs.Restoring.{IsAnswerOf, IsWhole, TellsVerdict}
+use Rattle.subcommands.specs.Restoring.{IsAnswerOf, IsWhole, TellsFormVerdict}
 
 -- what is known of an answer by its clauses
 pub answer_of : (r : Result Judgement RestoreFault) (c : Circuit) (claim : ℕ) (found : Option (List ℕ))
@@ -59,7 +60,7 @@ restored (Err e) told_by known found before now told told' choice c claim valid 
 -- a command that told what is judged of a witness of the form
 pub form_restored : (r : Result Answer Refusal) (told_by : Result Judgement RestoreFault) (known found before now told told' : Option (List ℕ)) (choice : Option ℕ) (c d : Circuit)
     → IsCircuitText known c → IsEngineFormOf c choice d → OnOk told_by (IfSome found (λ text. Appends before now (form_restored_text c choice d text))) → IfOk told_by (λ j. IfSome found (λ text. FormJudges c choice d text j)) → OnOk told_by (IfSome found (FindsWitnessAgain c choice d))
-    → IfErr told_by (λ e. is_of_text e.why ≡ false × (e.line ≡ 0)) → IfOk r (λ a. TellsVerdict told_by a told told') → IfOk r (Judged (IsFormRestored choice known found before now told told'))
+    → IfErr told_by (λ e. is_of_text e.why ≡ false × (e.line ≡ 0)) → IfOk r (λ a. TellsFormVerdict (assumed_said choice (length c.bads)) told_by a told told') → IfOk r (Judged (IsFormRestored choice known found before now told told'))
 form_restored (Ok a) (Ok j) known found before now told told' choice c d text form restored judged again apart tells = record {
   verdict = j;
   is_judged = record { value = c; form = d; text = text; is_form = form; restored = restored; judged = judged; again = again; line = tells.1 };

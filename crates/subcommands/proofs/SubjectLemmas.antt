@@ -18,6 +18,7 @@ use Rattle.subcommands.specs.declared.refusals.Refusal.{Refusal}
 use Rattle.reached.specs.Accepted.{Reaches, ReachesInCircuit}
 use Rattle.btor2text.specs.Spelling.{IsModelOf}
 use Rattle.aigertext.specs.Spelling.{IsCircuitText}
+use Rattle.subcommands.specs.Claims.{CanBeClaimed}
 use Rattle.subcommands.specs.Done.{IsJudged, IsJudgedByName, IsJudgedOver, IsJudgedOverByName, IsSo, Judged, judgement_line}
 use Rattle.subcommands.specs.Subjects.{bad_item_said, bad_name_said, first_said, firsts_said, item_line, name_said, numbered_item, said_by_name, says_item}
 
@@ -37,7 +38,7 @@ numbered_from test whole before (x ∷ xs) at k is e =
     by true (suc k) rest = rest k
     by false k rest = rest k
 
-numbered : (test : Body → Bool) (items : List Item) (list : List ℕ) (k : ℕ) → list ≡ places test 0 items → numbered_item test items k ≡ option_and_then (slice_get items) (slice_get list k)
+pub numbered : (test : Body → Bool) (items : List Item) (list : List ℕ) (k : ℕ) → list ≡ places test 0 items → numbered_item test items k ≡ option_and_then (slice_get items) (slice_get list k)
 numbered test items list k e = numbered_from test items [] items 0 k refl refl ∙ ap (λ (l : List ℕ). option_and_then (slice_get items) (slice_get l k)) (sym e)
 
 pub says_some : (kind : List ℕ) (test : Body → Bool) (items : List Item) (list : List ℕ) (k place : ℕ) (x : Item) → list ≡ places test 0 items → slice_get list k ≡ Some place → slice_get items place ≡ Some x
@@ -102,7 +103,7 @@ firsts_end bad (suc k) n (x ∷ xs) few = firsts_end bad k n xs (omega (arith, f
 
 -- ---- what is done
 
-each_reached : {P Q : List ℕ → Type 0} (witness : Option (List ℕ)) → IfSome witness P → ((text : List ℕ) → P text → Q text) → IfSome witness Q
+pub each_reached : {P Q : List ℕ → Type 0} (witness : Option (List ℕ)) → IfSome witness P → ((text : List ℕ) → P text → Q text) → IfSome witness Q
 each_reached None h reaches = tt
 each_reached (Some text) h reaches = reaches text h
 
@@ -135,29 +136,29 @@ judged_by_name (Ok a) known witness before now told told' items verdict firsts t
 judged_by_name (Err e) known witness before now told told' items verdict firsts text valid each is reaches rises line subject so = so
 
 pub judged_over : (r : Result Answer Refusal) (known witness before now : Option (List ℕ)) (c : Circuit) (verdict : Judgement)
-    → IsCircuitText known c → IsCircuit c → IfSome witness (λ text. BitJudges c text verdict) → ((text : List ℕ) → BitJudges c text verdict → ReachesInCircuit c text verdict)
+    → IsCircuitText known c → IsCircuit c → CanBeClaimed c → IfSome witness (λ text. BitJudges c text verdict) → ((text : List ℕ) → BitJudges c text verdict → ReachesInCircuit c text verdict)
     → OnOk r (Appends before now (judgement_line verdict)) → IfOk r (λ a. IsSo a verdict)
     → IfOk r (Judged (IsJudgedOver known witness before now))
-judged_over (Ok a) known witness before now c verdict text valid is reaches line so = record {
+judged_over (Ok a) known witness before now c verdict text valid claimable is reaches line so = record {
   verdict = verdict;
-  is_judged = record { value = c; is_circuit = valid; text = text; judged = is; reached = each_reached witness is reaches; line = line };
+  is_judged = record { value = c; is_circuit = valid; text = text; claimable = claimable; judged = is; reached = each_reached witness is reaches; line = line };
   so = so;
 }
-judged_over (Err e) known witness before now c verdict text valid is reaches line so = so
+judged_over (Err e) known witness before now c verdict text valid claimable is reaches line so = so
 
 pub judged_over_by_name : (r : Result Answer Refusal) (known witness before now told told' : Option (List ℕ)) (c : Circuit) (verdict : Judgement) (firsts : List (Option ℕ))
-    → IsCircuitText known c → IsCircuit c → IfSome witness (λ text. BitJudges c text verdict) → ((text : List ℕ) → BitJudges c text verdict → ReachesInCircuit c text verdict)
+    → IsCircuitText known c → IsCircuit c → CanBeClaimed c → IfSome witness (λ text. BitJudges c text verdict) → ((text : List ℕ) → BitJudges c text verdict → ReachesInCircuit c text verdict)
     → IfSome witness (λ text. AreBitFirstRises c text firsts)
     → OnOk r (Appends before now (judgement_line verdict)) → OnOk r (Appends told told' (said_by_name (name_said c) (bad_name_said c) firsts verdict)) → IfOk r (λ a. IsSo a verdict)
     → IfOk r (Judged (IsJudgedOverByName known witness before now told told'))
-judged_over_by_name (Ok a) known witness before now told told' c verdict firsts text valid is reaches rises line subject so = record {
+judged_over_by_name (Ok a) known witness before now told told' c verdict firsts text valid claimable is reaches rises line subject so = record {
   verdict = verdict;
   is_judged = record {
-    judged = record { value = c; is_circuit = valid; text = text; judged = is; reached = each_reached witness is reaches; line = line };
+    judged = record { value = c; is_circuit = valid; text = text; claimable = claimable; judged = is; reached = each_reached witness is reaches; line = line };
     firsts = firsts;
     rises = rises;
     subject = subject;
   };
   so = so;
 }
-judged_over_by_name (Err e) known witness before now told told' c verdict firsts text valid is reaches rises line subject so = so
+judged_over_by_name (Err e) known witness before now told told' c verdict firsts text valid claimable is reaches rises line subject so = so

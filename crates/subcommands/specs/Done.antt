@@ -39,7 +39,8 @@ use Rattle.vectors.specs.declared.lines.Vector.{Vector}
 use Rattle.vectors.specs.Vectors.{AreVectorsOf, IsRight, numbered, lines_that_differ, report}
 use Rattle.btor2text.specs.Spelling.{IsModelOf}
 use Rattle.aigertext.specs.Spelling.{IsCircuitText}
-use Rattle.subcommands.specs.Claims.{IsClaim}
+use Rattle.subcommands.specs.Assumed.{assumed_said}
+use Rattle.subcommands.specs.Claims.{CanBeClaimed, IsClaim}
 use Rattle.subcommands.specs.declared.answers.Answer.{Answer}
 use Rattle.subcommands.specs.declared.answers.Answer.TheVariants as answer
 use Rattle.subcommands.specs.Subjects.{bad_item_said, bad_name_said, item_line, name_said, said_by_name}
@@ -63,11 +64,12 @@ pub record IsJudged (model witness before now : Option (List ℕ)) (verdict : Ju
   pub reached : IfSome witness (λ text. Reaches items text verdict)
   pub line : Appends before now (judgement_line verdict)
 
--- The first text is of a circuit; the second is judged so over it, and where it is accepted the bad property that it claims can rise; and what was written is the line of that judgement.
+-- The first text is of a circuit with a bad property, or without outputs; the second is judged so over it, and where it is accepted the bad property that it claims can rise; and what was written is the line of that judgement.
 pub record IsJudgedOver (circuit witness before now : Option (List ℕ)) (verdict : Judgement) : Type 0 where
   pub value : Circuit
   pub is_circuit : IsCircuit value
   pub text : IsCircuitText circuit value
+  pub claimable : CanBeClaimed value
   pub judged : IfSome witness (λ text. BitJudges value text verdict)
   pub reached : IfSome witness (λ text. ReachesInCircuit value text verdict)
   pub line : Appends before now (judgement_line verdict)
@@ -183,7 +185,7 @@ pub record IsRestoredSo (said : Judgement → List ℕ) (c : Circuit) (claim : �
   pub again : IfSome found (λ text. FindsAgain c claim text verdict)
   pub line : Appends told told' (judgement_line verdict ++ said verdict)
 
--- The first text is of a circuit that has an engine form, with all its bad properties or the chosen one; what was written is what the second, a witness of that form, is restored to; it was told how that is judged: accepted, where it is so over the form.
+-- The first text is of a circuit that has an engine form, with all its bad properties or the chosen one; what was written is what the second, a witness of that form, is restored to; it was told how that is judged, and that the form is taken to be of all bad properties, where there are several and none is chosen: accepted, where it is so over the form.
 pub record IsFormRestored (choice : Option ℕ) (circuit found before now told told' : Option (List ℕ)) (verdict : Judgement) : Type 0 where
   pub value : Circuit
   pub form : Circuit
@@ -192,7 +194,7 @@ pub record IsFormRestored (choice : Option ℕ) (circuit found before now told t
   pub restored : IfSome found (λ text. Appends before now (form_restored_text value choice form text))
   pub judged : IfSome found (λ text. FormJudges value choice form text verdict)
   pub again : IfSome found (FindsWitnessAgain value choice form)
-  pub line : Appends told told' (judgement_line verdict)
+  pub line : Appends told told' (judgement_line verdict ++ assumed_said choice (length value.bads))
 
 -- the line of the first faulty line of a counterexample
 abbrev pub malformed_line : RestoreFault → List ℕ

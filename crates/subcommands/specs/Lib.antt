@@ -1,4 +1,6 @@
 -- What tasks read, do and tell.
+pub mod Asked
+pub mod Assumed
 pub mod Certificates
 pub mod Conversions
 pub mod Done

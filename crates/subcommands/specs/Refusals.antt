@@ -1,5 +1,5 @@
 -- What a task says that is not done: the fault that its input has, or which file or stream failed, and the line that tells it.
-use Rattle.std.specs.Prelude.{◌≡◌, ◌⊎◌, ℕ, ◌<◌, ◌≤◌, List, [], ◌++◌, length, Option, None, Some, Err, IfSome, unwrap_or, unsigned_abs, codes, decimal}
+use Rattle.std.specs.Prelude.{◌≡◌, ◌≢◌, ◌⊎◌, ℕ, ◌<◌, ◌≤◌, List, [], ◌++◌, length, Option, None, Some, Err, IfSome, unwrap_or, unsigned_abs, codes, decimal}
 use Rattle.base.specs.declared.reasons.Reason.{Reason}
 use Rattle.base.specs.declared.reasons.Reason.TheVariants as reason
 use Rattle.btor2.specs.declared.item.Item.{Item}
@@ -18,6 +18,7 @@ use Rattle.blast.specs.Refusal.{lowering_refusal}
 use Rattle.engine_form.specs.Faults.{engine_fault_number as engine_number, engine_fault_name as engine_name}
 use Rattle.engine_form.specs.Refusal.{engine_refusal}
 use Rattle.engine_form.specs.declared.fault.EngineFault.{EngineFault}
+use Rattle.engine_form.specs.declared.fault.EngineFault.TheVariants as engine
 use Rattle.vectors.specs.Vectors.{IsFirstBad}
 use Rattle.witness_circuits.specs.Faults.{test_number, test_name}
 use Rattle.witness_circuits.specs.Refusal.{test_refusal}
@@ -71,6 +72,14 @@ at_item (lower.Fair id) says = place_said (codes "item ") id says
 at_item (lower.NoNext id) says = place_said (codes "item ") id says
 at_item _ says = says
 
+-- what is said of a file of which two bad properties have one name
+abbrev pub same_name_said : ℕ → ℕ → List ℕ
+same_name_said one other =
+    codes "b" ++ (decimal one
+    ++ (codes " and b" ++ (decimal other
+    ++ (codes " have this name: write --bad " ++ (decimal one
+    ++ (codes " or --bad " ++ (decimal other ++ codes "\n")))))))
+
 -- what is said of a file that has a fault
 abbrev pub fault_said : Fault → List ℕ
 fault_said (fault.Model e) = place_said (codes "line ") e.line (numbered_name (printed_number e.why) (line_why_name e.why))
@@ -86,14 +95,16 @@ fault_said (fault.Vector n) = place_said (codes "line ") n (codes "bad vector\n"
 fault_said (fault.Unchosen claimed.Found) = codes "--bad K says which bad property rises: the K that the engine form was made for, or of a form of all, that of ABC's Output K of miter\n"
 fault_said (fault.Unchosen claimed.Certified) = codes "--bad K says which bad property holds: the K that the engine form of the invariant was made for\n"
 fault_said (fault.Unchosen claimed.Guarded) = codes "--bad K says which bad property holds: the one that the witness circuit is a certificate of\n"
+fault_said (fault.SameName one other) = same_name_said one other
 
 -- the line that tells a fault of a file
 abbrev pub fault_line : List ℕ → Fault → List ℕ
 fault_line file f = about (harmless file) (fault_said f)
 
--- the exit status of a fault: words that leave a choice open are refused, and else the input is
+-- the exit status of a fault: words that leave a choice open, or ask by a name that two have, are refused, and else the input is
 abbrev pub status_of_fault : Fault → ℕ
 status_of_fault (fault.Unchosen c) = 4
+status_of_fault (fault.SameName one other) = 4
 status_of_fault _ = 2
 
 -- the name by which the second file is told
@@ -196,6 +207,11 @@ abbrev pub IsNoVectorList : Option (List ℕ) → Fault → Type 0
 IsNoVectorList known (fault.Vector n) = IfSome known (λ text. IsFirstBad text n)
 IsNoVectorList known _ = ⊥
 
+-- a circuit has outputs, as before AIGER 1.9, and no bad property
+abbrev pub HasOutputsAlone : Circuit → Fault → Type 0
+HasOutputsAlone c (fault.Engine e) = (e ≡ engine.NoBad) × ((c.bads ≡ []) × (c.outputs ≢ []))
+HasOutputsAlone c _ = ⊥
+
 -- this is the first that speaks against an engine form of a circuit
 abbrev pub IsWithoutForm : Circuit → Option ℕ → Fault → Type 0
 IsWithoutForm c choice (fault.Engine e) = engine_refusal c choice ≡ Some e
@@ -205,6 +221,17 @@ IsWithoutForm c choice _ = ⊥
 abbrev pub IsNotGiven : Given → Option (List ℕ) → Fault → Type 0
 IsNotGiven given.Model known f = IsNotLowered known f
 IsNotGiven given.Circuit known f = IsNoCircuit known f
+
+-- the first text gives a circuit that has outputs and no bad property
+pub record GivesOutputsAlone (g : Given) (known : Option (List ℕ)) (f : Fault) : Type 0 where
+  pub circuit : Circuit
+  pub gives : GivesItsCircuit g known circuit
+  pub alone : HasOutputsAlone circuit f
+
+-- the first text gives no circuit, or one of which no witness can claim a bad property that was meant
+abbrev pub IsNotClaimable : Given → Option (List ℕ) → Fault → Type 0
+IsNotClaimable g known (fault.Engine e) = GivesOutputsAlone g known (fault.Engine e)
+IsNotClaimable g known f = IsNotGiven g known f
 
 -- the first text gives a circuit, and this is the first that speaks against an engine form of it
 pub record GivesWithoutForm (g : Given) (choice : Option ℕ) (known : Option (List ℕ)) (e : EngineFault) : Type 0 where
@@ -254,7 +281,8 @@ IsNotClaimed c g choice known f = IsNotGiven g known f
 
 -- no bad property of a circuit can be guarded: there is none at the place that is chosen, or none at all; or there are several, and none is chosen
 abbrev pub IsUnguarded : Option ℕ → Circuit → Fault → Type 0
-IsUnguarded choice c (fault.Test e) = (e ≡ test.NoSuchBad) × (length c.bads ≤ unwrap_or choice 0)
+IsUnguarded choice c (fault.Engine e) = (e ≡ engine.NoBad) × (c.bads ≡ [])
+IsUnguarded choice c (fault.Test e) = (e ≡ test.NoSuchBad) × ((0 < length c.bads) × (length c.bads ≤ unwrap_or choice 0))
 IsUnguarded choice c (fault.Unchosen c') = (c' ≡ claimed.Guarded) × ((choice ≡ None) × (1 < length c.bads))
 IsUnguarded choice c _ = ⊥
 
@@ -266,6 +294,7 @@ pub record GivesUnguarded (g : Given) (choice : Option ℕ) (known : Option (Lis
 
 -- the first text gives no circuit, or one of which no bad property can be guarded
 abbrev pub IsNotGuarded : Given → Option ℕ → Option (List ℕ) → Fault → Type 0
+IsNotGuarded g choice known (fault.Engine e) = GivesUnguarded g choice known (fault.Engine e)
 IsNotGuarded g choice known (fault.Test e) = GivesUnguarded g choice known (fault.Test e)
 IsNotGuarded g choice known (fault.Unchosen c) = GivesUnguarded g choice known (fault.Unchosen c)
 IsNotGuarded g choice known f = IsNotGiven g known f

@@ -25,10 +25,20 @@ abbrev pub TellsVerdict : Result Judgement RestoreFault → Answer → Option (L
 TellsVerdict (Ok j) a told told' = IsSo a j × Appends told told' (judgement_line j)
 TellsVerdict (Err e) a told told' = is_of_text e.why ≡ true
 
+-- the same of a witness of an engine form, with what is told of the form behind the line; and of no faulty line
+abbrev pub TellsFormVerdict : List ℕ → Result Judgement RestoreFault → Answer → Option (List ℕ) → Option (List ℕ) → Type 0
+TellsFormVerdict form (Ok j) a told told' = IsSo a j × Appends told told' (judgement_line j ++ form)
+TellsFormVerdict form (Err e) a told told' = is_of_text e.why ≡ true
+
 -- what was told of what a lifting answers: of a judgement and first rises the line of the judgement, and what is said behind it, and whether it is that the witness is accepted; or the first faulty line
 abbrev pub TellsLifted : (List (Option ℕ) → Judgement → List ℕ) → Result (Judgement × List (Option ℕ)) RestoreFault → Answer → Option (List ℕ) → Option (List ℕ) → Type 0
 TellsLifted said (Ok lifted) a told told' = IsSo a lifted.0 × Appends told told' (judgement_line lifted.0 ++ said lifted.1 lifted.0)
 TellsLifted said (Err e) a told told' = (is_of_text e.why ≡ true) × ((a ≡ answer.NotAccepted) × Appends told told' (malformed_line e))
+
+-- the same of a witness of an engine form, with what is told of the form behind it; and of no faulty line
+abbrev pub TellsFormLifted : (List (Option ℕ) → Judgement → List ℕ) → List ℕ → Result (Judgement × List (Option ℕ)) RestoreFault → Answer → Option (List ℕ) → Option (List ℕ) → Type 0
+TellsFormLifted said form (Ok lifted) a told told' = IsSo a lifted.0 × Appends told told' ((judgement_line lifted.0 ++ said lifted.1 lifted.0) ++ form)
+TellsFormLifted said form (Err e) a told told' = is_of_text e.why ≡ true
 
 -- the counterexample was read to its end, and all that it gives was written
 abbrev pub IsWhole : Result Judgement RestoreFault → Type 0

@@ -10,17 +10,17 @@ ghost use Rattle.subcommands.specs.Statuses.{Ends, EndsUnrefused, IfInput};
 ghost use Rattle.subcommands.specs.Statuses.Use.{Unused, Used};
 
 use crate::answers::Answer;
+use crate::assumed::tell_form_restored;
 use crate::circuits::read_circuit;
 use crate::refusals::Refusal;
-use crate::restoring::tell_restored;
 use aiger::Circuit;
 use base::{Sink, Source};
 use engine_form::engine_form;
 use restore::restore_form;
 use std::alloc::Global;
 
-/// Restores a witness of the engine form of a circuit to standard output, and tells on standard error how that is
-/// judged.
+/// Restores a witness of the engine form of a circuit to standard output, and tells on standard error how that is judged, and
+/// what the form is taken for, where none of several bad properties is chosen.
 ///
 /// Its buffers stand in a frame of its own: each command enters that of its caller.
 #[inline(never)]
@@ -64,5 +64,5 @@ fn restore_through_form<B: Source, O: Sink, E: Sink>(
         (Used O.failures out.old out.new) (Used E.failures err.old err.new) }
 {
     let told = restore_form(alloc, circuit, form, choice, second, out);
-    tell_restored(alloc, told, err)
+    tell_form_restored(alloc, told, choice, circuit, err)
 }

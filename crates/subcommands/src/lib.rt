@@ -2,12 +2,15 @@
 #![tactic(auto)]
 
 mod answers;
+mod asked;
+mod assumed;
 mod certifying;
 mod circuits;
 mod engines;
 mod files;
 mod form_restoring;
 mod judgements;
+pub mod laws;
 mod models;
 mod names;
 mod outputs;
@@ -23,13 +26,19 @@ mod vector_reports;
 mod waving;
 
 pub use answers::Answer;
+pub use assumed::tell_form_lifted;
 pub use certifying::{check_proof, write_obligation};
-pub use circuits::{check_circuit, check_circuit_by_name, convert_circuit, read_circuit};
+pub use circuits::{
+    check_circuit, check_circuit_by_name, check_circuit_for, claimable, convert_circuit,
+    read_circuit,
+};
 pub use engines::{convert_for_engines, lower_for_engines};
 pub use files::{LateFile, NoFile, Stream, open_input};
 pub use form_restoring::restore_witness;
 pub use judgements::tell_judgement;
-pub use models::{check_model, check_model_by_name, lower_model, read_model, show, tell_cost};
+pub use models::{
+    check_model, check_model_by_name, check_model_for, lower_model, read_model, show, tell_cost,
+};
 pub use outputs::{convert_outputs, convert_outputs_for_engines};
 pub use progress::{Counted, Progress, Watched, Work};
 pub use refusals::{Claimed, Device, Fault, Refusal};

@@ -20,6 +20,7 @@ use aigerlists::Numbering;
 use base::Source;
 use certificates::judge_proof;
 use drup::{Formula, Judgement};
+use engine_form::EngineFault;
 use invocation::Certificate;
 use std::alloc::Global;
 use witness_circuits::TestFault;
@@ -35,6 +36,7 @@ fn guarded_claim(circuit: &Circuit, choice: Option<usize>) -> Result<usize, Faul
         Some(position) if position < count => Ok(position),
         None if count == 1 => Ok(0),
         None if count > 1 => Err(Fault::Unchosen(Claimed::Guarded)),
+        _ if count == 0 => Err(Fault::Engine(EngineFault::NoBad)),
         _ => Err(Fault::Test(TestFault::NoSuchBad)),
     }
 }

@@ -4,7 +4,7 @@ ghost use Rattle.std.specs.Prelude.{◌≡◌, IfOk};
 ghost use Rattle.std.specs.String.{string_bytes};
 ghost use Rattle.subcommands.specs.declared.refusals.Fault.TheVariants as fault_is;
 ghost use Rattle.subcommands.specs.declared.refusals.Refusal.TheVariants as refusal;
-ghost use Rattle.subcommands.specs.Refusals.{about, fault_said, item_said, numbered_name, status_of_fault};
+ghost use Rattle.subcommands.specs.Refusals.{about, fault_said, item_said, numbered_name, same_name_said, status_of_fault};
 ghost use Rattle.subcommands.specs.Conversions.{of_reading, of_circuit_reading, of_lowering, of_outputs, of_engine_form, of_conversion, of_judging, of_dumping, of_reading_all, of_lines, of_invariant_for, of_obligation, of_claim, of_certificate, of_witness};
 
 use aiger::CircuitFault;
@@ -44,6 +44,8 @@ pub enum Fault {
     Vector(u64),
     /// The circuit has several bad properties, and the words do not say which is claimed.
     Unchosen(Claimed),
+    /// The words ask for a bad property by a name that these two have.
+    SameName(u64, u64),
 }
 
 /// What claims a bad property.
@@ -299,7 +301,7 @@ impl Fault {
         ensures { result ≡ status_of_fault self.now }
     {
         match self {
-            Fault::Unchosen(_) => WORDS_REFUSED,
+            Fault::Unchosen(_) | Fault::SameName(..) => WORDS_REFUSED,
             _ => REFUSED,
         }
     }
@@ -345,6 +347,7 @@ impl Fault {
                 format!(in alloc; "{file}{UNCHOSEN_CERTIFIED}")
             }
             Fault::Unchosen(Claimed::Guarded) => format!(in alloc; "{file}{UNCHOSEN_GUARDED}"),
+            Fault::SameName(one, other) => same_name_line(alloc, file, *one, *other),
         }
     }
 }
@@ -361,6 +364,16 @@ fn item_line(
         ≡ about file.now (item_said id number name.now)) }
 {
     format!(in alloc; "{file}: item {id}: {number} {name}\n")
+}
+
+/// The line that tells of a file that two bad properties have one name, and what to write in its place.
+fn same_name_line(alloc: Global, file: &str, one: u64, other: u64) -> Result<String, AllocError>
+    ensures { IfOk result (λ line. string_bytes line
+        ≡ about file.now (same_name_said one other)) }
+{
+    format!(in alloc;
+        "{file}: b{one} and b{other} have this name: write --bad {one} or --bad {other}\n"
+    )
 }
 
 /// The line that tells of a file as a whole the number and the name of what speaks against it.

@@ -99,7 +99,11 @@ pub fn has_form(circuit: &Circuit, claim: usize) -> Result<(), Refusal>
 
 /// Tells why a counterexample is not restored to its end: its first faulty line on standard error; else a device failed, or
 /// memory was wanting.
-fn tell_fault<E: Sink>(alloc: Global, fault: &RestoreFault, err: &mut E) -> Result<Answer, Refusal>
+pub(crate) fn tell_fault<E: Sink>(
+    alloc: Global,
+    fault: &RestoreFault,
+    err: &mut E,
+) -> Result<Answer, Refusal>
     ensures of_text { OnOk result (is_of_text fault.now.why ≡ true) }
     ensures written { OnOk result (Appends (E.written err.old) (E.written err.new)
         (malformed_line fault.now)) }

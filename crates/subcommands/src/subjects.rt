@@ -5,6 +5,7 @@ ghost use Rattle.std.specs.Io.KnownBytes.{Appends};
 ghost use Rattle.base.specs.Device.{CountsFaults};
 ghost use Rattle.btor2.specs.declared.item.Body.{Body};
 ghost use Rattle.btor2.specs.Lists.{places};
+ghost use Rattle.subcommands.specs.Asked.{claim_said};
 ghost use Rattle.subcommands.specs.Subjects.{bad_item_said, bad_name_said, bad_said, first_said, firsts_said, frame_said, item_line, lifted_said, line_said, name_said, numbered_item, said_by_name, says, says_item, says_name, subject_said, symbol_said, where_named};
 
 use aiger::{Circuit, Section};
@@ -76,14 +77,14 @@ fn tell_item<E: Sink>(kind: &[u8], number: u64, item: &Item, err: &mut E) -> Res
 }
 
 /// The place with a number among some.
-fn place_at(list: &[usize], number: u64) -> Option<usize>
+pub(crate) fn place_at(list: &[usize], number: u64) -> Option<usize>
     ensures { result ≡ slice_get list.now number }
 {
     list.get(number as usize).copied()
 }
 
 /// The item at a place.
-fn item_at(items: &[Item], place: usize) -> Option<&Item>
+pub(crate) fn item_at(items: &[Item], place: usize) -> Option<&Item>
     ensures { option_copied result ≡ slice_get items.now place }
 {
     items.get(place)
@@ -327,7 +328,57 @@ pub fn tell_by_name<E: Sink>(
     }
 }
 
+/// Says the same of a judgement where a witness is to claim a bad property, and does or does not: of an accepted witness that
+/// does not claim it which one that is.
+fn tell_claim_said<E: Sink>(
+    subject: Subject<'_>,
+    judgement: &Judgement,
+    firsts: &FirstRises,
+    claim: usize,
+    claimed: bool,
+    err: &mut E,
+) -> Result<(), DeviceFault>
+    ensures written { OnOk result (Appends (E.written err.old) (E.written err.new)
+        (claim_said (subject_said subject.entry) (bad_said subject.entry) firsts.now claim claimed
+        judgement.now)) }
+    ensures counted { CountsFaults result (E.failures err.old) (E.failures err.new) }
+{
+    match judgement {
+        Judgement::Accepted { .. } => {
+            if claimed {
+                tell_by_name(subject, judgement, firsts, err)
+            } else {
+                tell_bad_said(subject, claim as u64, err)
+            }
+        }
+        _ => tell_by_name(subject, judgement, firsts, err),
+    }
+}
+
 /// Says the same, where names are asked for.
+pub(crate) fn tell_claim_where_named<E: Sink>(
+    named: bool,
+    subject: Subject<'_>,
+    judgement: &Judgement,
+    firsts: &FirstRises,
+    claim: usize,
+    claimed: bool,
+    err: &mut E,
+) -> Result<(), DeviceFault>
+    ensures written { OnOk result (Appends (E.written err.old) (E.written err.new)
+        (where_named named (claim_said (subject_said subject.entry) (bad_said subject.entry)
+        firsts.now claim claimed judgement.now))) }
+    ensures quiet { named ≡ false → err.new ≡ err.old }
+    ensures counted { CountsFaults result (E.failures err.old) (E.failures err.new) }
+{
+    if !named {
+        return Ok(());
+    }
+    tell_claim_said(subject, judgement, firsts, claim, claimed, err)
+}
+
+/// Says what a judgement is about, and of an acceptance in which frames the claims are reached first, where names are asked
+/// for.
 pub fn tell_where_named<E: Sink>(
     named: bool,
     subject: Subject<'_>,

@@ -32,8 +32,8 @@ const PROOFS: [Explanation; 7] = [
     Explanation {
         number: 162,
         name: "BadVariable",
-        when: "a literal's variable is none of the formula's",
-        remedy: "take the proof of this formula",
+        when: "a literal's variable is none of the formula's: another formula's, or one that the solver made",
+        remedy: "take the proof of this formula; let the solver make no variables: `--no-factor` in Kissat, and in CaDiCaL where it has that option, `--bva 0` in CryptoMiniSat; no extended resolution",
     },
     Explanation {
         number: 163,

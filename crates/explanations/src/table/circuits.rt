@@ -50,12 +50,12 @@ const ENGINES: [Explanation; 6] = [
         number: 145,
         name: "NoBad",
         when: "there is no bad property",
-        remedy: "circuits from before AIGER 1.9 or from ABC have outputs as properties: `aig-convert --outputs` makes each a bad one; of an empty or cut file, see whether its writer failed",
+        remedy: "circuits from before AIGER 1.9 or from ABC have outputs as properties: `aig-convert --outputs` makes each a bad one; in a model write a `bad` line; of an empty or cut file, see whether its writer failed",
     },
     Explanation {
         number: 142,
         name: "NoSuchBad",
-        when: "there is no bad property at the chosen position",
+        when: "there is no bad property at the chosen position, or of the name",
         remedy: "count bad properties from 0; the last line of `hwtool show` counts a model's, B in the header a circuit's",
     },
     Explanation {

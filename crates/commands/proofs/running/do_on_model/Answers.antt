@@ -1,8 +1,8 @@
-use Rattle.std.proofs.Common.{rules, ◌≡◌, true, false}
+use Rattle.std.proofs.Common.{rules, ◌≡◌}
 use Rattle.invocation.specs.declared.tasks.ModelTask.TheVariants as model
-use Rattle.commands.specs.Done.{Answers}
+use Rattle.commands.specs.Done.{Answers, is_quiet}
 use Rattle.commands.specs.Refusals.{RefusesTask}
-use Rattle.commands.proofs.TaskLemmas.{done_so}
+use Rattle.commands.proofs.TaskLemmas.{done_so, not_named}
 use Rattle.commands.proofs.running.do_on_model.Goals as goal
 
 pub returns-in-LowerForEngines-clause-done : goal.returns-in-LowerForEngines-clause-done
@@ -16,32 +16,6 @@ unfolding RefusesTask
 returns-in-LowerForEngines-clause-refused g c = λ known text.
     let is : c.args.task ≡ (model.LowerForEngines c.in-LowerForEngines.choice) = search rules in
     rw is (c.lower_for_engines.ensures.refused known text)
-
-pub returns-in-CheckBtor-clause-done : goal.returns-in-CheckBtor-clause-done
-unfolding Answers
-returns-in-CheckBtor-clause-done g c = λ known third text.
-    let is : c.args.task ≡ model.CheckBtor = search rules in
-    let named : c.args.order.now.named ≡ true = search rules in
-    rw (is, named) (c.check_model_by_name.ensures.done known text)
-
-pub returns-in-CheckBtor-clause-refused : goal.returns-in-CheckBtor-clause-refused
-unfolding RefusesTask
-returns-in-CheckBtor-clause-refused g c = λ known text.
-    let is : c.args.task ≡ model.CheckBtor = search rules in
-    rw is (c.check_model_by_name.ensures.refused known text)
-
-pub returns-in-CheckBtor-2-clause-done : goal.returns-in-CheckBtor-2-clause-done
-unfolding Answers
-returns-in-CheckBtor-2-clause-done g c = λ known third text.
-    let is : c.args.task ≡ model.CheckBtor = search rules in
-    let named : c.args.order.now.named ≡ false = search rules in
-    rw (is, named) (c.check_model.ensures.done known text)
-
-pub returns-in-CheckBtor-2-clause-refused : goal.returns-in-CheckBtor-2-clause-refused
-unfolding RefusesTask
-returns-in-CheckBtor-2-clause-refused g c = λ known text.
-    let is : c.args.task ≡ model.CheckBtor = search rules in
-    rw is (c.check_model.ensures.refused known text)
 
 pub returns-in-Show-clause-done : goal.returns-in-Show-clause-done
 unfolding Answers
@@ -102,3 +76,19 @@ unfolding RefusesTask
 returns-in-Wave-clause-refused g c = λ known text.
     let is : c.args.task ≡ (model.Wave c.in-Wave.shown) = search rules in
     rw is (c.dump_witness.ensures.refused known text)
+
+pub returns-in-CheckBtor-clause-done : goal.returns-in-CheckBtor-clause-done
+returns-in-CheckBtor-clause-done g c = λ known third text.
+    let is : c.args.task ≡ model.CheckBtor = search rules in
+    rw is (c.judge_on_model.ensures.done known third text)
+
+pub returns-in-CheckBtor-clause-refused : goal.returns-in-CheckBtor-clause-refused
+returns-in-CheckBtor-clause-refused g c = λ known text.
+    let is : c.args.task ≡ model.CheckBtor = search rules in
+    rw is (c.judge_on_model.ensures.refused known text)
+
+pub returns-in-CheckBtor-clause-quiet : goal.returns-in-CheckBtor-clause-quiet
+unfolding is_quiet
+returns-in-CheckBtor-clause-quiet g c = λ quiet.
+    let is : c.args.task ≡ model.CheckBtor = search rules in
+    c.judge_on_model.ensures.quiet (not_named c.args.order.now.named (rw is at quiet))

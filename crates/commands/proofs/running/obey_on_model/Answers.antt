@@ -6,7 +6,7 @@ use Rattle.commands.proofs.running.obey_on_model.Goals as goal
 pub returns-in_err-model-clause-refused : goal.returns-in_err-model-clause-refused
 returns-in_err-model-clause-refused g c =
     let same : c.from_residual.result ≡ Err c.in_err-model.field-0.0 = search rules in
-    rw same (refuses_no_model c.args.task (g.A.Source.to_come c.args.first.now) c.in_err-model.field-0.0 c.in_err-model.ensures.refused)
+    rw same (refuses_no_model c.args.task _ (g.A.Source.to_come c.args.first.now) c.in_err-model.field-0.0 c.in_err-model.ensures.refused)
 
 pub returns-clause-done : goal.returns-clause-done
 returns-clause-done g c = λ third. c.do_on_model.ensures.done (g.A.Source.to_come c.args.first.now) third c.in_ok-model.ensures.read

@@ -1,8 +1,9 @@
 use Rattle.std.proofs.Common.{rules, ◌≡◌, Err, OnOk, List, ℕ, subst}
 use Rattle.std.specs.Io.KnownBytes.{Appends}
 use Rattle.subcommands.specs.Subjects.{holds_said, where_named}
-use Rattle.subcommands.proofs.CertificateLemmas.{certified}
+use Rattle.subcommands.proofs.CertificateLemmas.{certified, not_certifiable}
 use Rattle.subcommands.proofs.CountLemmas.{all_handed_on, as_is, as_was, ends_all, ends_all_as, idle, no_second, unfailed, unrefused}
+use Rattle.subcommands.specs.declared.refusals.Refusal.TheVariants as refusal
 use Rattle.subcommands.proofs.certifying.check_over.Goals as goal
 
 pub returns-in_err-judgement-clause-ends : goal.returns-in_err-judgement-clause-ends
@@ -25,3 +26,8 @@ pub returns-clause-ends : goal.returns-clause-ends
 returns-clause-ends g c =
     let before = c.in_ok-judgement.ensures.ends.counted 0 0 0 in
     ends_all_as as_is (unfailed before.0.1) (unfailed before.1) as_was as_was (ends_all (unrefused c.tell_verdict.ensures.ends))
+
+pub returns-in_err-claim-clause-refused : goal.returns-in_err-claim-clause-refused
+returns-in_err-claim-clause-refused g c = λ given known gives.
+    let is : c.from_residual.result ≡ Err (refusal.Input c.in_err-claim.field-0.0) = search rules in
+    rw is (not_certifiable c.args.by given c.args.choice known c.args.circuit.now c.in_err-claim.field-0.0 gives c.in_err-claim.ensures.unclaimed)

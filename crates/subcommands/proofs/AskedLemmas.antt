@@ -1,0 +1,140 @@
+-- What a command has done that judges whether a witness is accepted for a bad property that a word asks for.
+use Rattle.std.proofs.Common.{◌≡◌, ℕ, ◌<◌, Bool, true, false, List, Option, Some, None, IfSome, Result, Ok, Err, IfOk, OnOk, length, option_and_then, slice_get, refl, sym, ap, ◌∙◌, arith}
+use Rattle.std.specs.Io.KnownBytes.{Appends}
+use Rattle.base.specs.Decimals.{number_of}
+use Rattle.btor2.specs.declared.item.Item.{Item}
+use Rattle.btor2.specs.Items.{is_bad}
+use Rattle.btor2.specs.Check.{IsWellFormed}
+use Rattle.btor2.specs.Lists.{places, first_init_without_next}
+use Rattle.btor2.specs.Reachability.{nodes_of}
+use Rattle.btor2.specs.Trace.{Frame}
+use Rattle.btor2text.specs.Spelling.{IsModelOf}
+use Rattle.aiger.specs.Circuit.{Circuit, IsCircuit}
+use Rattle.aigertext.specs.Spelling.{IsCircuitText}
+use Rattle.base.specs.Literal.{Valuation}
+use Rattle.witness.specs.declared.judgement.Judgement.{Judgement}
+use Rattle.witness.specs.declared.judgement.Judgement.TheVariants as judgement
+use Rattle.witness.specs.Judgements.{Judges}
+use Rattle.witness.specs.BitJudgements.{BitJudges}
+use Rattle.witness.specs.ClosedWords.{IsClosedTrace}
+use Rattle.witness.specs.Reached.{word_claimed, bit_claimed, IsClosedBitTrace}
+use Rattle.witness.proofs.FrameLemmas.{bad_names, length-nodes}
+use Rattle.rises.specs.FirstRises.{word_first_rises, bit_first_rises, AreBitFirstRises}
+use Rattle.reached.specs.Accepted.{Reaches, ReachesInCircuit}
+use Rattle.subcommands.specs.declared.answers.Answer.{Answer}
+use Rattle.subcommands.specs.declared.refusals.Refusal.{Refusal}
+use Rattle.subcommands.specs.Asked.{IsAskedBy, IsJudgedFor, IsJudgedOverFor, IsSoFor, claim_line, claim_said, is_name, is_name_of, is_noted, is_symbol_of}
+use Rattle.subcommands.specs.Done.{IsAccepted}
+use Rattle.subcommands.specs.Subjects.{bad_item_said, bad_name_said, item_line, name_said, where_named}
+use Rattle.subcommands.proofs.SubjectLemmas.{each_reached, numbered}
+
+-- the entry of a list of first rises
+abbrev entry : List (Option ℕ) → ℕ → Option ℕ
+entry firsts k = option_and_then (λ first. first) (slice_get firsts k)
+
+-- a first frame is noted of an accepted text exactly where it claims the bad property
+noted_so : (claimed : Bool) (firsts : List (Option ℕ)) (k : ℕ) → (claimed ≡ true → (first : ℕ) × (slice_get firsts k ≡ Some (Some first))) → (claimed ≡ false → slice_get firsts k ≡ Some None) → is_noted (entry firsts k) ≡ claimed
+noted_so true firsts k some none = let h = some refl in ap (λ (o : Option (Option ℕ)). is_noted (option_and_then (λ first. first) o)) h.1
+noted_so false firsts k some none = ap (λ (o : Option (Option ℕ)). is_noted (option_and_then (λ first. first) o)) (none refl)
+
+noted_words : (witness : Option (List ℕ)) (items : List Item) (verdict : Judgement) (firsts : List (Option ℕ)) (k : ℕ) → IsWellFormed items → k < length (places is_bad 0 items)
+    → IfSome witness (λ text. Judges items text verdict) → IfSome witness (λ text. (fs : List Frame) → IsClosedTrace items text fs → firsts ≡ word_first_rises items text fs)
+    → ((items : List Item) (text : List ℕ) → IsWellFormed items → (fs : List Frame) × IsClosedTrace items text fs)
+    → ((items : List Item) (text : List ℕ) (fs : List Frame) (frames k : ℕ) → IsWellFormed items → Judges items text (judgement.Accepted frames) → IsClosedTrace items text fs → word_claimed items text k ≡ true
+    → (first : ℕ) × ((slice_get (word_first_rises items text fs) k ≡ Some (Some first)) × (first < frames)))
+    → ((items : List Item) (text : List ℕ) (fs : List Frame) (k : ℕ) → word_claimed items text k ≡ false → k < length (nodes_of is_bad items) → slice_get (word_first_rises items text fs) k ≡ Some None)
+    → IfSome witness (λ text. IsAccepted verdict → is_noted (entry firsts k) ≡ word_claimed items text k)
+noted_words None items verdict firsts k valid there is rises exists claimed others = tt
+noted_words (Some text) items (judgement.Accepted frames) firsts k valid there is rises exists claimed others = λ yes.
+    let trace = exists items text valid in
+    ap (λ (l : List (Option ℕ)). is_noted (entry l k)) (rises trace.0 trace.1)
+    ∙ noted_so (word_claimed items text k) (word_first_rises items text trace.0) k (λ so. let h = claimed items text trace.0 frames k valid is trace.1 so in (h.0, h.1.0)) (λ so. others items text trace.0 k so (omega (arith, there, length-nodes is_bad items bad_names)))
+noted_words (Some text) items _ firsts k valid there is rises exists claimed others = λ no. absurd no
+
+noted_bits : (witness : Option (List ℕ)) (c : Circuit) (verdict : Judgement) (firsts : List (Option ℕ)) (k : ℕ) → IsCircuit c → k < length c.bads
+    → IfSome witness (λ text. BitJudges c text verdict) → IfSome witness (λ text. AreBitFirstRises c text firsts)
+    → ((c : Circuit) (text : List ℕ) → IsCircuit c → (vs : List Valuation) × IsClosedBitTrace c text vs)
+    → ((c : Circuit) (text : List ℕ) (vs : List Valuation) (frames k : ℕ) → IsCircuit c → BitJudges c text (judgement.Accepted frames) → IsClosedBitTrace c text vs → bit_claimed c text k ≡ true
+    → (first : ℕ) × ((slice_get (bit_first_rises c text vs) k ≡ Some (Some first)) × (first < frames)))
+    → ((c : Circuit) (text : List ℕ) (vs : List Valuation) (k : ℕ) → bit_claimed c text k ≡ false → k < length c.bads → slice_get (bit_first_rises c text vs) k ≡ Some None)
+    → IfSome witness (λ text. IsAccepted verdict → is_noted (entry firsts k) ≡ bit_claimed c text k)
+noted_bits None c verdict firsts k valid there is rises exists claimed others = tt
+noted_bits (Some text) c (judgement.Accepted frames) firsts k valid there is rises exists claimed others = λ yes.
+    let trace = exists c text valid in
+    ap (λ (l : List (Option ℕ)). is_noted (entry l k)) (rises trace.0 trace.1)
+    ∙ noted_so (bit_claimed c text k) (bit_first_rises c text trace.0) k (λ so. let h = claimed c text trace.0 frames k valid is trace.1 so in (h.0, h.1.0)) (λ so. others c text trace.0 k so there)
+noted_bits (Some text) c _ firsts k valid there is rises exists claimed others = λ no. absurd no
+
+-- a bad property that is asked for is there
+asked_there : (position : Option ℕ) (count : ℕ) (called : ℕ → Bool) (k : ℕ) → IsAskedBy position count called k → k < count
+asked_there (Some n) count called k is = omega (arith, is.0, is.1)
+asked_there None count called k is = is.0
+
+pub judged_for : (r : Result Answer Refusal) (named : Bool) (word : List ℕ) (known witness before now told told' : Option (List ℕ)) (items : List Item) (verdict : Judgement) (firsts : List (Option ℕ)) (k : ℕ) (claimed : Bool)
+    → IsModelOf known items → IsWellFormed items → first_init_without_next items items ≡ None → IsAskedBy (number_of word) (length (places is_bad 0 items)) (is_symbol_of items word) k
+    → IfSome witness (λ text. Judges items text verdict) → ((text : List ℕ) → Judges items text verdict → Reaches items text verdict)
+    → IfSome witness (λ text. (fs : List Frame) → IsClosedTrace items text fs → firsts ≡ word_first_rises items text fs)
+    → ((items : List Item) (text : List ℕ) → IsWellFormed items → (fs : List Frame) × IsClosedTrace items text fs)
+    → ((items : List Item) (text : List ℕ) (fs : List Frame) (frames k : ℕ) → IsWellFormed items → Judges items text (judgement.Accepted frames) → IsClosedTrace items text fs → word_claimed items text k ≡ true
+    → (first : ℕ) × ((slice_get (word_first_rises items text fs) k ≡ Some (Some first)) × (first < frames)))
+    → ((items : List Item) (text : List ℕ) (fs : List Frame) (k : ℕ) → word_claimed items text k ≡ false → k < length (nodes_of is_bad items) → slice_get (word_first_rises items text fs) k ≡ Some None)
+    → claimed ≡ is_noted (entry firsts k)
+    → OnOk r (Appends before now (claim_line verdict k claimed)) → OnOk r (Appends told told' (where_named named (claim_said (item_line items) (bad_item_said items) firsts k claimed verdict))) → IfOk r (λ a. IsSoFor a claimed verdict)
+    → IfOk r (IsJudgedFor named word known witness before now told told')
+judged_for (Ok a) named word known witness before now told told' items verdict firsts k claimed text valid each asked is reaches rises exists some none noted line subject so = record {
+  items = items;
+  claim = k;
+  verdict = verdict;
+  claimed = claimed;
+  text = text;
+  well_formed = valid;
+  each_has_next_or_is_free = each;
+  asked = asked;
+  judged = is;
+  reached = each_reached witness is reaches;
+  claims = rw noted (noted_words witness items verdict firsts k valid (asked_there (number_of word) (length (places is_bad 0 items)) (is_symbol_of items word) k asked) is rises exists some none);
+  firsts = firsts;
+  rises = rises;
+  line = line;
+  subject = subject;
+  so = so;
+}
+judged_for (Err e) named word known witness before now told told' items verdict firsts k claimed text valid each asked is reaches rises exists some none noted line subject so = tt
+
+pub judged_over_for : (r : Result Answer Refusal) (named : Bool) (word : List ℕ) (known witness before now told told' : Option (List ℕ)) (c : Circuit) (verdict : Judgement) (firsts : List (Option ℕ)) (k : ℕ) (claimed : Bool)
+    → IsCircuitText known c → IsCircuit c → IsAskedBy (number_of word) (length c.bads) (is_name_of c word) k
+    → IfSome witness (λ text. BitJudges c text verdict) → ((text : List ℕ) → BitJudges c text verdict → ReachesInCircuit c text verdict)
+    → IfSome witness (λ text. AreBitFirstRises c text firsts)
+    → ((c : Circuit) (text : List ℕ) → IsCircuit c → (vs : List Valuation) × IsClosedBitTrace c text vs)
+    → ((c : Circuit) (text : List ℕ) (vs : List Valuation) (frames k : ℕ) → IsCircuit c → BitJudges c text (judgement.Accepted frames) → IsClosedBitTrace c text vs → bit_claimed c text k ≡ true
+    → (first : ℕ) × ((slice_get (bit_first_rises c text vs) k ≡ Some (Some first)) × (first < frames)))
+    → ((c : Circuit) (text : List ℕ) (vs : List Valuation) (k : ℕ) → bit_claimed c text k ≡ false → k < length c.bads → slice_get (bit_first_rises c text vs) k ≡ Some None)
+    → claimed ≡ is_noted (entry firsts k)
+    → OnOk r (Appends before now (claim_line verdict k claimed)) → OnOk r (Appends told told' (where_named named (claim_said (name_said c) (bad_name_said c) firsts k claimed verdict))) → IfOk r (λ a. IsSoFor a claimed verdict)
+    → IfOk r (IsJudgedOverFor named word known witness before now told told')
+judged_over_for (Ok a) named word known witness before now told told' c verdict firsts k claimed text valid asked is reaches rises exists some none noted line subject so = record {
+  value = c;
+  claim = k;
+  verdict = verdict;
+  claimed = claimed;
+  is_circuit = valid;
+  text = text;
+  asked = asked;
+  judged = is;
+  reached = each_reached witness is reaches;
+  claims = rw noted (noted_bits witness c verdict firsts k valid (asked_there (number_of word) (length c.bads) (is_name_of c word) k asked) is rises exists some none);
+  firsts = firsts;
+  rises = rises;
+  line = line;
+  subject = subject;
+  so = so;
+}
+judged_over_for (Err e) named word known witness before now told told' c verdict firsts k claimed text valid asked is reaches rises exists some none noted line subject so = tt
+
+-- ---- the symbol of the bad property at a position
+
+pub symbol_there : (items : List Item) (list word : List ℕ) (k place : ℕ) (x : Item) → list ≡ places is_bad 0 items → slice_get list k ≡ Some place → slice_get items place ≡ Some x → is_name word x.symbol ≡ is_symbol_of items word k
+symbol_there items list word k place x e at own = sym (ap (λ (o : Option Item). is_name word (option_and_then (λ x. x.symbol) o)) (numbered is_bad items list k e ∙ ap (option_and_then (slice_get items)) at ∙ own))
+
+pub symbol_nowhere : (items : List Item) (list word : List ℕ) (k : ℕ) (o : Option ℕ) → list ≡ places is_bad 0 items → slice_get list k ≡ o → option_and_then (slice_get items) o ≡ None → false ≡ is_symbol_of items word k
+symbol_nowhere items list word k o e at none = sym (ap (λ (o : Option Item). is_name word (option_and_then (λ x. x.symbol) o)) (numbered is_bad items list k e ∙ ap (option_and_then (slice_get items)) at ∙ none))

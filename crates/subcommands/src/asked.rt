@@ -1,0 +1,140 @@
+//! The bad property that a word of the command line asks for.
+
+ghost use Rattle.std.specs.Prelude.{◌≡◌, ℕ, Bool, Option, ◌<◌, ◌≤◌, true, false, None, IfOk, IfErr, IfSome, length, option_and_then, slice_get};
+ghost use Rattle.base.specs.Decimals.{number_of};
+ghost use Rattle.subcommands.specs.Asked.{IsAskedBy, IsUnaskedBy, IsUnknown, bad_count, is_called, is_name, is_name_of, is_noted, is_symbol_of};
+
+use crate::refusals::Fault;
+use crate::subjects::{Subject, item_at, place_at};
+use aiger::{Circuit, Section};
+use base::decimal;
+use btor2::{Model, Symbol};
+use engine_form::EngineFault;
+use rises::FirstRises;
+
+/// How many bad properties there are.
+fn bad_count(subject: Subject<'_>) -> usize
+    ensures { result ≡ bad_count subject.entry }
+{
+    match subject {
+        Subject::Model(model) | Subject::Lowered(model, _) => model.bads().len(),
+        Subject::Circuit(circuit) => circuit.bads().len(),
+    }
+}
+
+/// Whether there is a symbol, and a word is that.
+fn is_symbol(symbol: &Option<Symbol>, word: &[u8]) -> bool
+    ensures { result ≡ is_name word.now symbol.now }
+{
+    match symbol {
+        Some(symbol) => symbol.bytes() == word,
+        None => false,
+    }
+}
+
+/// Whether the bad property of a model at a position has a word as its symbol.
+fn is_symbol_of(model: &Model, word: &[u8], position: usize) -> bool
+    ensures { result ≡ is_symbol_of model.now word.now position }
+{
+    match place_at(model.bads(), position as u64) {
+        Some(place) => match item_at(model.items(), place) {
+            Some(item) => is_symbol(&item.symbol, word),
+            None => false,
+        },
+        None => false,
+    }
+}
+
+/// Whether that of a circuit has it as its name.
+fn is_name_of(circuit: &Circuit, word: &[u8], position: usize) -> bool
+    ensures { result ≡ is_name_of circuit.now word.now position }
+{
+    match circuit.name(Section::Bad, position) {
+        Some(name) => name == word,
+        None => false,
+    }
+}
+
+/// Whether the bad property at a position is called by a word.
+fn is_called(subject: Subject<'_>, word: &[u8], position: usize) -> bool
+    ensures { result ≡ is_called subject.entry word.now position }
+{
+    match subject {
+        Subject::Model(model) | Subject::Lowered(model, _) => is_symbol_of(model, word, position),
+        Subject::Circuit(circuit) => is_name_of(circuit, word, position),
+    }
+}
+
+/// The first bad property from a position on that is called by a word, where there is one.
+fn first_called(subject: Subject<'_>, word: &[u8], from: usize) -> Option<usize>
+    ensures there { IfSome result (λ k. (from ≤ k) × (k < bad_count subject.entry)
+        × (is_called subject.entry word.now k ≡ true)) }
+    ensures before { IfSome result (λ k. (j : ℕ) → from ≤ j → j < k
+        → is_called subject.entry word.now j ≡ false) }
+    ensures nowhere { result ≡ None → (j : ℕ) → from ≤ j → j < bad_count subject.entry
+        → is_called subject.entry word.now j ≡ false }
+{
+    for position in from..bad_count(subject) {
+        if is_called(subject, word, position) {
+            return Some(position);
+        }
+    }
+    None
+}
+
+/// What speaks against a bad property that is not there, by how many there are.
+fn no_such_bad(count: usize) -> Fault
+    ensures { (position : Option ℕ) (called : ℕ → Bool) → IsUnknown position count called
+        → IsUnaskedBy position count called result }
+{
+    if count == 0 {
+        Fault::Engine(EngineFault::NoBad)
+    } else {
+        Fault::Engine(EngineFault::NoSuchBad)
+    }
+}
+
+/// The only bad property that is called by a word.
+fn called(subject: Subject<'_>, word: &[u8]) -> Result<usize, Fault>
+    requires { number_of word.now ≡ None }
+    ensures asked { IfOk result (IsAskedBy None (bad_count subject.entry)
+        (is_called subject.entry word.now)) }
+    ensures unasked { IfErr result (IsUnaskedBy None (bad_count subject.entry)
+        (is_called subject.entry word.now)) }
+{
+    let count = bad_count(subject);
+    let first = match first_called(subject, word, 0) {
+        Some(first) => first,
+        None => return Err(no_such_bad(count)),
+    };
+    match first_called(subject, word, first + 1) {
+        Some(second) => Err(Fault::SameName(first as u64, second as u64)),
+        None => Ok(first),
+    }
+}
+
+/// The bad property that a word asks for: the one at the position that it writes, or the only one of that name.
+pub(crate) fn asked(subject: Subject<'_>, word: &[u8]) -> Result<usize, Fault>
+    ensures asked { IfOk result (IsAskedBy (number_of word.now) (bad_count subject.entry)
+        (is_called subject.entry word.now)) }
+    ensures unasked { IfErr result (IsUnaskedBy (number_of word.now) (bad_count subject.entry)
+        (is_called subject.entry word.now)) }
+{
+    let count = bad_count(subject);
+    match decimal(word) {
+        Some(position) if position < count as u64 => Ok(position as usize),
+        Some(_) => Err(no_such_bad(count)),
+        None => called(subject, word),
+    }
+}
+
+/// Whether a first frame is noted of a bad property.
+pub(crate) fn is_noted(firsts: &FirstRises, position: usize) -> bool
+    ensures { result
+        ≡ is_noted (option_and_then (λ first. first) (slice_get firsts.now position)) }
+{
+    match firsts.frame(position) {
+        Some(_) => true,
+        None => false,
+    }
+}
