@@ -7,8 +7,8 @@ import operator
 import os
 from typing import List, NoReturn, Optional, Sequence, SupportsIndex, Tuple, Union
 
-from ._answers import Cost, Dump, Kind, Lifted, ProofKind, ProofVerdict, Restored, Verdict
-from ._library import DONE, MODEL_REFUSED, NO_MEMORY, SECOND_REFUSED, TEXT_REFUSED, RawRefusal, RawVerdict, call, library_version, written
+from ._answers import Claim, Cost, Dump, Kind, Lifted, ProofKind, ProofVerdict, Restored, Verdict
+from ._library import DONE, MODEL_REFUSED, NO_MEMORY, SECOND_REFUSED, TEXT_REFUSED, RawClaim, RawRefusal, RawVerdict, call, claimed, library_version, written
 from ._refusals import Refused, name
 
 Text = Union[bytes, bytearray, memoryview, str, "os.PathLike[str]", "os.PathLike[bytes]"]
@@ -62,6 +62,11 @@ def _position(bad: SupportsIndex) -> int:
     return position
 
 
+def _choice(bad: Optional[SupportsIndex]) -> List[object]:
+    """A bad property that may be chosen."""
+    return [bad is not None, 0 if bad is None else _position(bad)]
+
+
 def _refuse(status: int, raw: RawRefusal, kind: str, first: _Given, second: Optional[_Given] = None, second_kind: str = "invariant") -> NoReturn:
     """Tells why a call is not done."""
     if status == NO_MEMORY:
@@ -80,12 +85,13 @@ def _refuse(status: int, raw: RawRefusal, kind: str, first: _Given, second: Opti
     raise RuntimeError(f"hwtool: the library answered the status {status}")
 
 
-def _verdict(raw: RawVerdict, of_circuit: bool) -> Verdict:
-    """What is said of a witness."""
+def _verdict(raw: RawVerdict, of_circuit: bool, claims: Sequence[RawClaim]) -> Verdict:
+    """What is said of a witness, with the claims of an acceptance."""
     kind, first, second = Kind(raw.kind), raw.first, raw.second
     if kind is Kind.ACCEPTED:
-        return Verdict(kind, frames=first, of_circuit=of_circuit)
-    if kind is Kind.NOT_REACHED:
+        told = tuple(Claim(claim.bad, claim.frame) for claim in claims)
+        return Verdict(kind, frames=first, of_circuit=of_circuit, claims=told)
+    if kind in (Kind.NOT_REACHED, Kind.NOT_CLAIMED):
         return Verdict(kind, claim=first, of_circuit=of_circuit)
     if kind is Kind.VIOLATED:
         return Verdict(kind, frame=first, constraint=second, of_circuit=of_circuit)
@@ -96,27 +102,31 @@ def _verdict(raw: RawVerdict, of_circuit: bool) -> Verdict:
     return Verdict(kind, of_circuit=of_circuit)
 
 
-def _judged(call_name: str, kind: str, text: Text, witness: Text) -> Verdict:
-    """Judges a witness."""
-    first, second, verdict = _Given(text), _Given(witness), RawVerdict()
-    status, refusal = call(call_name, [*first.words, *second.words], ctypes.byref(verdict))
+def _judged(kind: str, first: _Given, witness: bytes, bad: Optional[SupportsIndex] = None) -> Tuple[RawVerdict, List[RawClaim]]:
+    """Judges a witness of a model or of a circuit, of a bad property where one is asked for."""
+    verdict, call_name = RawVerdict(), "hwtool_check_aig_claims" if kind == "circuit" else "hwtool_check_btor_claims"
+    status, refusal, claims = claimed(call_name, [*first.words, *_choice(bad), witness, len(witness)], verdict)
     if status != DONE:
         _refuse(status, refusal, kind, first)
-    return _verdict(verdict, kind == "circuit")
+    return verdict, claims
 
 
-def check_btor(model: Text, witness: Text) -> Verdict:
-    """Judges a witness of a BTOR2 model.
+def check_btor(model: Text, witness: Text, *, bad: Optional[SupportsIndex] = None) -> Verdict:
+    """Judges a witness of a BTOR2 model; with `bad` one that is to claim the bad property at this position, from 0.
 
-    Raises Refused where the model is none, or has a state with an init and no next; a witness that is none is judged as
-    malformed. Raises MemoryError where memory is wanting, and OSError where a file can't be read, as all calls do.
+    Raises Refused where the model is none, or has a state with an init and no next, or no bad property at that position; a
+    witness that is none is judged as malformed. Raises MemoryError where memory is wanting, and OSError where a file can't be
+    read, as all calls do.
     """
-    return _judged("hwtool_check_btor", "model", model, witness)
+    verdict, claims = _judged("model", _Given(model), _Given(witness).bytes, bad)
+    return _verdict(verdict, False, claims)
 
 
-def check_aig(circuit: Text, witness: Text) -> Verdict:
-    """Judges a witness of an AIGER circuit of either form. Raises Refused where the circuit is none."""
-    return _judged("hwtool_check_aig", "circuit", circuit, witness)
+def check_aig(circuit: Text, witness: Text, *, bad: Optional[SupportsIndex] = None) -> Verdict:
+    """Judges a witness of an AIGER circuit of either form; with `bad` one that is to claim the bad property at this position, from
+    0. Raises Refused where the circuit is none, has no bad property at that position, or none at all but outputs."""
+    verdict, claims = _judged("circuit", _Given(circuit), _Given(witness).bytes, bad)
+    return _verdict(verdict, True, claims)
 
 
 def lower(model: Text, *, binary: bool = False) -> bytes:
@@ -151,11 +161,6 @@ def convert(circuit: Text, *, binary: bool = False) -> bytes:
     return text
 
 
-def _choice(bad: Optional[SupportsIndex]) -> List[object]:
-    """A bad property that may be chosen."""
-    return [bad is not None, 0 if bad is None else _position(bad)]
-
-
 def engine_form(circuit: Text, *, bad: Optional[SupportsIndex] = None, binary: bool = False) -> bytes:
     """The engine form of an AIGER circuit, which every model checker reads alike: all latches begin with 0, and it has no
     constraints and no names. With all its bad properties, or with the one at position `bad`, from 0, alone.
@@ -173,12 +178,16 @@ def engine_form(circuit: Text, *, bad: Optional[SupportsIndex] = None, binary: b
 def _with_verdict(
     call_name: str, given: List[object], kind: str, first: _Given, witness: _Given, of_circuit: bool
 ) -> Tuple[Verdict, bytes]:
-    """Judges a witness and writes what is made of it."""
+    """Judges a witness and writes what is made of it. The claims of an acceptance are those of the witness of the model or circuit:
+    the one that is written, or the one that is dumped."""
     verdict = RawVerdict()
     status, refusal, text = written(call_name, given, first.room + witness.room, ctypes.byref(verdict))
     if status != DONE:
         _refuse(status, refusal, kind, first)
-    return _verdict(verdict, of_circuit), text
+    if Kind(verdict.kind) is not Kind.ACCEPTED:
+        return _verdict(verdict, of_circuit, ()), text
+    claims = _judged(kind, first, text if of_circuit else witness.bytes)[1]
+    return _verdict(verdict, of_circuit, claims), text
 
 
 def lift(model: Text, witness: Text) -> Lifted:
