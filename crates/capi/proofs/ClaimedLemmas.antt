@@ -1,5 +1,5 @@
 -- The claims that are told of a witness, by the first rises of all bad properties.
-use Rattle.std.proofs.Common.{arith, nat_lt, ◌==◌, ◌≡◌, ◌<◌, ◌+◌, ◌++◌, ◌∷◌, ◌∙◌, ℕ, zero, suc, Bool, true, false, List, [], length, drop, Option, Some, None, Result, Ok, Err, IfOk, is_some, option_and_then, slice_get, append_assoc, append-nil, refl, sym, ap, subst, if◌then◌else◌}
+use Rattle.std.proofs.Common.{arith, nat_lt, ◌==◌, ◌&&◌, ◌≡◌, ◌<◌, ◌+◌, ◌++◌, ◌∷◌, ◌∙◌, ℕ, zero, suc, Bool, true, false, List, [], length, drop, Option, Some, None, Result, Ok, Err, IfOk, is_some, option_and_then, slice_get, append_assoc, refl, sym, ap, subst, if◌then◌else◌}
 use Rattle.std.proofs.lemmas.Bool.Decides.{nat_tests}
 use Rattle.btor2.specs.declared.item.Item.{Item}
 use Rattle.btor2.specs.Check.{IsWellFormed}
@@ -18,7 +18,7 @@ use Rattle.witness.specs.Judgements.{Judges}
 use Rattle.witness.specs.Reached.{word_claimed, IsClosedBitTrace, bit_claimed}
 use Rattle.witness.specs.declared.judgement.Judgement.{Judgement}
 use Rattle.witness.specs.declared.judgement.Judgement.TheVariants as judgement
-use Rattle.capi.specs.Claimed.{IsBitClaim, IsWordClaim, asked_verdict, bad_refusal, claim_of, claims_from, is_risen, not_claimed, told_claims}
+use Rattle.capi.specs.Claimed.{IsBitClaim, IsWordClaim, asked_verdict, bad_refusal, circuit_refusal, claim_of, claims_from, is_risen, not_claimed, told_claims}
 use Rattle.capi.specs.Judged.{verdict_of}
 use Rattle.capi.specs.declared.answers.Claim.{Claim}
 use Rattle.capi.specs.declared.answers.Stop.{Stop}
@@ -39,16 +39,6 @@ claims_next k firsts before all there is =
     let next : suc k ≡ k + 1 = omega arith in
     subst (λ (n : ℕ). (before ++ claim_of k (option_and_then (λ first. first) (slice_get firsts k))) ++ claims_from n (drop n firsts) ≡ all) next
     (append_assoc before (claim_of k (option_and_then (λ first. first) (slice_get firsts k))) (claims_from (suc k) (drop (suc k) firsts)) ∙ ap (λ (l : List Claim). before ++ l) (sym (claims_step k k firsts there)) ∙ is)
-
-claims_none : (k n : ℕ) (firsts : List (Option ℕ)) → length firsts < suc k → claims_from n (drop k firsts) ≡ []
-claims_none zero n [] few = refl
-claims_none (suc k) n [] few = refl
-claims_none zero n (x ∷ xs) few = absurd (omega (arith, few))
-claims_none (suc k) n (x ∷ xs) few = claims_none k n xs (omega (arith, few))
-
--- behind the last bad property there are no more
-pub claims_end : (k : ℕ) (firsts : List (Option ℕ)) (before all : List Claim) → length firsts < suc k → before ++ claims_from k (drop k firsts) ≡ all → before ≡ all
-claims_end k firsts before all few is = sym (append-nil before) ∙ ap (λ (l : List Claim). before ++ l) (sym (claims_none k k firsts few)) ∙ is
 
 -- ---- the verdict
 
@@ -141,3 +131,11 @@ pub asked_is_there : (bads k : ℕ) (choice : Option ℕ) → bad_refusal bads c
 asked_is_there bads k choice accepted chosen =
     let there : nat_lt k bads ≡ true = lesser (bads == 0) (nat_lt k bads) (ap (bad_refusal bads) (sym chosen) ∙ accepted) in
     grind (arith, nat_tests)
+
+behind : {A : Type 0} (outputs_alone : Bool) (fault : A) (other : Option A) → (if outputs_alone then Some fault else other) ≡ None → other ≡ None
+behind true fault other accepted = absurd cc
+behind false fault other accepted = accepted
+
+pub asked_is_there_over : (c : Circuit) (k : ℕ) (choice : Option ℕ) → circuit_refusal c choice ≡ None → choice ≡ Some k → k < length c.bads
+asked_is_there_over c k choice accepted chosen =
+    asked_is_there (length c.bads) k choice (behind ((length c.bads == 0) && nat_lt 0 (length c.outputs)) engine.NoBad (bad_refusal (length c.bads) choice) accepted) chosen
