@@ -195,7 +195,10 @@ def answer(command, flags, bad, names, texts):
     if command == "lift" and "--engine" in flags:
         return called(library.hwtool_lift_engine, (*first, *choice, by_name, *second), True, 1, circuit, file)
     if command == "lift":
-        return called(library.hwtool_lift, (*first, *second), True, 1, circuit, file)
+        # a model whose circuit has outputs alone is refused by judging over that
+        lowered = called(library.hwtool_lower, (*first, binary), False, 1, circuit, file)
+        alone = lowered if lowered[0] else checked(library.hwtool_check_aig, library.hwtool_check_aig_claims, of(lowered[1]), choice, second, circuit, file, False)
+        return alone if alone[0] == 2 else called(library.hwtool_lift, (*first, *second), True, 1, circuit, file)
     if command == "wave":
         title = f"{names[0]} {names[1]}".encode()
         every = ctypes.c_bool("--all" in flags)

@@ -190,11 +190,24 @@ def _with_verdict(
     return _verdict(verdict, of_circuit, claims), text
 
 
+def _refuse_outputs_alone(first: _Given) -> None:
+    """Refuses a model whose circuit has outputs and no bad property, of which no witness can claim one."""
+    status, refusal, circuit = written("hwtool_lower", [*first.words, True], first.room)
+    if status == DONE:
+        status, refusal, _ = claimed("hwtool_check_aig_claims", [circuit, len(circuit), *_choice(None), b"", 0], RawVerdict())
+    if status != DONE:
+        _refuse(status, refusal, "model", first)
+
+
 def lift(model: Text, witness: Text) -> Lifted:
     """Judges a witness of the circuit that `lower` makes of a BTOR2 model, and lifts it to one of the model, which has the same
-    verdict. Raises Refused as `lower` does."""
+    verdict. Raises Refused as `lower` does, and where the model has outputs and no bad property."""
     first, second = _Given(model), _Given(witness)
-    return Lifted(*_with_verdict("hwtool_lift", [*first.words, *second.words], "model", first, second, True))
+    verdict, text = _with_verdict("hwtool_lift", [*first.words, *second.words], "model", first, second, True)
+    # without a bad property no other verdict comes
+    if verdict.kind in (Kind.MALFORMED, Kind.NO_CLAIM):
+        _refuse_outputs_alone(first)
+    return Lifted(verdict, text)
 
 
 def lift_engine(model: Text, witness: Text, *, bad: Optional[SupportsIndex] = None, names: bool = False) -> Lifted:

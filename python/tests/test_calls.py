@@ -379,6 +379,13 @@ class Refusals(unittest.TestCase):
                     call, EITHER_OUTPUT, **rest, line="circuit: 145 NoBad", number=145, name="NoBad", kind="circuit", unit=None,
                     place=None, remedy="`aig-convert --outputs` makes each a bad one",
                 )  # fmt: skip
+        # so is a model whose circuit is such
+        for witness in (b"1\nb0\n\n1\n.\n", b"2\n", b""):
+            self.refused(
+                hwtool.lift, b"1 sort bitvec 1\n2 input 1\n3 output 2\n", witness, line="model: 145 NoBad", number=145, name="NoBad",
+                kind="model", unit=None, place=None, remedy="`aig-convert --outputs` makes each a bad one",
+            )  # fmt: skip
+        self.assertEqual(str(hwtool.lift(b"1 sort bitvec 1\n2 input 1\n", b"1\nb0\n\n1\n.\n").verdict), "malformed line 2: 111 BadClaim")
         # without outputs nothing else may be meant
         self.assertEqual(str(hwtool.check_aig(b"aag 1 1 0 0 0\n2\n", b"1\nb0\n\n1\n.\n")), "malformed line 2: 111 BadClaim")
 

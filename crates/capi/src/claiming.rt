@@ -126,7 +126,8 @@ fn claims_over_model(
     ensures done { (text : List ℕ) → StandsFor text model.now
         → IfOk result (λ told. IsWordClaim text choice witness.now told.verdict told.claims.items) }
     ensures refused { (text : List ℕ) → StandsFor text model.now
-        → IfErr result (IsStop (λ _. ⊥) (IsUnjudged text)) }
+        → IfErr result (IsStop (λ _. ⊥)
+        (λ refusal. AsksForNone text choice refusal ⊎ IsUnjudged text refusal)) }
 {
     judged_claims_are_reached();
     accepted_claims_rise();

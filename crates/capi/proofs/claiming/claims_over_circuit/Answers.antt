@@ -15,5 +15,5 @@ returns-in-Ok-clause-done c = λ text spells.
     spells valid judged (c.judged_claims_are_reached.ensures.circuit circuit witness c.in-Ok.judgement valid judged)
     c.in-Ok.ensures.rises (c.exactly_one_bit_list.ensures.exists circuit witness valid)
     (λ vs frames k accepted trace claimed. rises.claimed circuit witness vs frames k valid (subst (λ (j : Judgement). BitJudges circuit witness j) accepted judged) trace claimed)
-    (λ vs k chosen other. rises.others circuit witness vs k other (asked_is_there_over circuit k c.args.choice c.requires chosen))
+    (λ vs k chosen other. rises.others circuit witness vs k other (asked_is_there_over circuit k c.args.choice c.requires.there chosen))
     c.told_of.ensures.done c.told_of.ensures.claims

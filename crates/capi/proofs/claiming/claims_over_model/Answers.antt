@@ -19,5 +19,5 @@ returns-in-Ok-clause-done c = λ text stands.
     c.in-Ok.ensures.rises (c.exactly_one_list.ensures.exists items witness well)
     (λ fs frames k accepted trace claimed. rises.claimed items witness fs frames k well (subst (λ (j : Judgement). Judges items witness j) accepted judged) trace claimed)
     (λ fs k chosen other.
-    rises.others items witness fs k other (subst (λ (n : ℕ). k < n) (sym (length-nodes is_bad items bad_names)) (asked_is_there (length (places is_bad 0 items)) k c.args.choice c.requires chosen)))
+    rises.others items witness fs k other (subst (λ (n : ℕ). k < n) (sym (length-nodes is_bad items bad_names)) (asked_is_there (length (places is_bad 0 items)) k c.args.choice c.requires.there chosen)))
     c.told_of.ensures.done c.told_of.ensures.claims
