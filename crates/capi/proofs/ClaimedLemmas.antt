@@ -89,8 +89,8 @@ word_claim (Ok told) known witness items choice j firsts stands well each judged
       judged = judged;
       reached = reached;
       told = verdict ∙ verdict_by_rises (word_claimed items witness) firsts choice j
-      (λ frames k accepted it. subst (λ (l : List (Option ℕ)). (first : ℕ) × ((slice_get l k ≡ Some (Some first)) × (first < frames))) is (claimed trace.0 frames k accepted trace.1 it))
-      (λ k chosen it. subst (λ (l : List (Option ℕ)). slice_get l k ≡ Some None) is (other trace.0 k chosen it));
+          (λ frames k accepted it. subst (λ (l : List (Option ℕ)). (first : ℕ) × ((slice_get l k ≡ Some (Some first)) × (first < frames))) is (claimed trace.0 frames k accepted trace.1 it))
+          (λ k chosen it. subst (λ (l : List (Option ℕ)). slice_get l k ≡ Some None) is (other trace.0 k chosen it));
       firsts = λ fs closed. claims ∙ ap (told_claims told.verdict) (rises fs closed);
     }
 
@@ -114,8 +114,8 @@ bit_claim (Ok told) known witness c choice j firsts spells valid judged reached 
       judged = judged;
       reached = reached;
       told = verdict ∙ verdict_by_rises (bit_claimed c witness) firsts choice j
-      (λ frames k accepted it. subst (λ (l : List (Option ℕ)). (first : ℕ) × ((slice_get l k ≡ Some (Some first)) × (first < frames))) is (claimed trace.0 frames k accepted trace.1 it))
-      (λ k chosen it. subst (λ (l : List (Option ℕ)). slice_get l k ≡ Some None) is (other trace.0 k chosen it));
+          (λ frames k accepted it. subst (λ (l : List (Option ℕ)). (first : ℕ) × ((slice_get l k ≡ Some (Some first)) × (first < frames))) is (claimed trace.0 frames k accepted trace.1 it))
+          (λ k chosen it. subst (λ (l : List (Option ℕ)). slice_get l k ≡ Some None) is (other trace.0 k chosen it));
       firsts = λ vs closed. claims ∙ ap (told_claims told.verdict) (rises vs closed);
     }
 

@@ -1,4 +1,4 @@
-use Rattle.std.proofs.Common.{length, subst}
+use Rattle.std.proofs.Common.{subst}
 use Rattle.witness.specs.BitJudgements.{BitJudges}
 use Rattle.witness.specs.declared.judgement.Judgement.{Judgement}
 use Rattle.capi.proofs.ClaimedLemmas.{asked_is_there_over, bit_claim}
