@@ -196,8 +196,9 @@ def answer(command, flags, bad, names, texts):
         return called(library.hwtool_lift_engine, (*first, *choice, by_name, *second), True, 1, circuit, file)
     if command == "lift":
         # a model whose circuit has outputs alone is refused by judging over that
-        lowered = called(library.hwtool_lower, (*first, binary), False, 1, circuit, file)
-        alone = lowered if lowered[0] else checked(library.hwtool_check_aig, library.hwtool_check_aig_claims, of(lowered[1]), choice, second, circuit, file, False)
+        status, lowered, _ = called(library.hwtool_lower, (*first, binary), False, 1, circuit, file)
+        given = (*of(lowered), *choice, *second)
+        alone = called(library.hwtool_check_aig_claims, given, True, CLAIM, circuit, file) if status == 0 else (0, b"", b"")
         return alone if alone[0] == 2 else called(library.hwtool_lift, (*first, *second), True, 1, circuit, file)
     if command == "wave":
         title = f"{names[0]} {names[1]}".encode()

@@ -8,7 +8,20 @@ import os
 from typing import List, NoReturn, Optional, Sequence, SupportsIndex, Tuple, Union
 
 from ._answers import Claim, Cost, Dump, Kind, Lifted, ProofKind, ProofVerdict, Restored, Verdict
-from ._library import DONE, MODEL_REFUSED, NO_MEMORY, SECOND_REFUSED, TEXT_REFUSED, RawClaim, RawRefusal, RawVerdict, call, claimed, library_version, written
+from ._library import (
+    DONE,
+    MODEL_REFUSED,
+    NO_MEMORY,
+    SECOND_REFUSED,
+    TEXT_REFUSED,
+    RawClaim,
+    RawRefusal,
+    RawVerdict,
+    call,
+    claimed,
+    library_version,
+    written,
+)
 from ._refusals import Refused, name
 
 Text = Union[bytes, bytearray, memoryview, str, "os.PathLike[str]", "os.PathLike[bytes]"]

@@ -371,8 +371,9 @@ class Refusals(unittest.TestCase):
         """A circuit that has outputs and no bad property is refused with what to do, and its witness is not blamed."""
         for call, rest in (
             (hwtool.check_aig, {"witness": b"1\nb0\n\n1\n.\n"}), (hwtool.check_aig, {"witness": b"2\n", "bad": 0}),
-            (hwtool.engine_form, {}), (hwtool.restore, {"witness": b"1\nb0\n0\n1\n.\n"}), (hwtool.restore_abc, {"bad": 0, "found": b"0\n1\n"}),
-            (hwtool.obligation_aig, {"bad": 0, "invariant": NO_CUBE}), (hwtool.check_proof_aig, {"bad": 0, "invariant": NO_CUBE, "proof": b""}),
+            (hwtool.engine_form, {}), (hwtool.restore, {"witness": b"1\nb0\n0\n1\n.\n"}),
+            (hwtool.restore_abc, {"bad": 0, "found": b"0\n1\n"}), (hwtool.obligation_aig, {"bad": 0, "invariant": NO_CUBE}),
+            (hwtool.check_proof_aig, {"bad": 0, "invariant": NO_CUBE, "proof": b""}),
         ):  # fmt: skip
             with self.subTest(call.__name__):
                 self.refused(

@@ -21,8 +21,8 @@ FILES = {
 }  # fmt: skip
 # the flags of commands, beside the two forms of circuits, that a call answers to
 FLAGS = {
-    "check-btor": {"--names"}, "check-aig": {"--names"}, "wave": {"--all"}, "aig-convert": {"--engine"}, "lift": {"--engine", "--abc", "--names"}, "restore": {"--abc"},
-    "obligation": {"--aiger"}, "check-proof": {"--aiger"},
+    "check-btor": {"--names"}, "check-aig": {"--names"}, "wave": {"--all"}, "aig-convert": {"--engine"},
+    "lift": {"--engine", "--abc", "--names"}, "restore": {"--abc"}, "obligation": {"--aiger"}, "check-proof": {"--aiger"},
 }  # fmt: skip
 # the forms of commands that calls of their own answer to
 FORMS = {
