@@ -18,6 +18,10 @@ CUT_ROWS = 4
 CLAIM = 16
 # What the program says by name of a claim of an accepted witness.
 REACHED = re.compile(rb"(?m)^b\d+ is reached in frame \d+\n")
+# What it says behind a judgement of an engine form whose making the words do not tell.
+TAKEN = re.compile(rb"(?m)^taken as made for [^\n]*\n")
+# A position as the program reads it; any other word is a name.
+POSITION = re.compile(r"0|[1-9]\d*")
 
 
 class Verdict(ctypes.Structure):
@@ -131,6 +135,13 @@ def checked(plain, with_claims, first, choice, second, circuit, file, by_name):
     return status, out, told if by_name else refused
 
 
+def without_property(call, given, circuit, file):
+    """What the program says of a first text without a bad property where one is meant, which a call that tells claims refuses as the
+    program does; nothing where it has one."""
+    told = called(call, given, True, CLAIM, circuit, file)
+    return told if told[2].endswith(b": 145 NoBad\n") else None
+
+
 def cost(first, file):
     gates, variables, refusal = ctypes.c_uint64(), ctypes.c_uint64(), Refusal()
     status = library.hwtool_cost(*of(first), ctypes.byref(gates), ctypes.byref(variables), ctypes.byref(refusal))
@@ -162,7 +173,7 @@ def asked(words):
     if len(names) != files or len(set(flags)) != len(flags) or not set(known).issuperset(flags) or any("/" in name for name in names):
         return None
     # calls take a bad property by its position
-    if bad is not None and not bad.isdecimal():
+    if bad is not None and not POSITION.fullmatch(bad):
         return None
     bad = None if bad is None else int(bad)
     # what is printed by name of a witness of the circuit itself has no call
@@ -195,15 +206,19 @@ def answer(command, flags, bad, names, texts):
     if command == "lift" and "--engine" in flags:
         return called(library.hwtool_lift_engine, (*first, *choice, by_name, *second), True, 1, circuit, file)
     if command == "lift":
-        # a model whose circuit has outputs alone is refused by judging over that
-        status, lowered, _ = called(library.hwtool_lower, (*first, binary), False, 1, circuit, file)
-        given = (*of(lowered), *choice, *second)
-        alone = called(library.hwtool_check_aig_claims, given, True, CLAIM, circuit, file) if status == 0 else (0, b"", b"")
-        return alone if alone[0] == 2 else called(library.hwtool_lift, (*first, *second), True, 1, circuit, file)
+        lowered = called(library.hwtool_lower, (*first, binary), False, 1, circuit, file)
+        given = (*of(lowered[1]), *choice, *second)
+        refused = without_property(library.hwtool_check_aig_claims, given, circuit, file) if lowered[0] == 0 else None
+        return refused or called(library.hwtool_lift, (*first, *second), True, 1, circuit, file)
     if command == "wave":
         title = f"{names[0]} {names[1]}".encode()
         every = ctypes.c_bool("--all" in flags)
         return called(library.hwtool_wave, (*first, every, *of(title), *second), True, 1, circuit, file)
+    if "--circuit" in flags:
+        with_claims = library.hwtool_check_aig_claims if circuit else library.hwtool_check_btor_claims
+        refused = without_property(with_claims, (*first, ctypes.c_bool(True), position, *second), circuit, file)
+        if refused:
+            return refused
     if command == "obligation" and "--circuit" in flags:
         return called(library.hwtool_obligation_circuit, (*first, *over, position, *second), False, 1, circuit, file, names[1])
     if command == "check-proof" and "--circuit" in flags:
@@ -228,11 +243,11 @@ def printed(program, words, names, texts, folder):
 
 
 def without_names(command, flags, told):
-    """What the program tells, without the lines that say what a judgement is about, which no call does; of a witness that is
-    checked with those that say when claims are reached."""
-    status, out, err = told
+    """What the program tells, without the lines that say what a judgement is about, or what a form is taken for, which no call does;
+    of a witness that is checked with those that say when claims are reached."""
+    status, out, err = told[0], told[1], TAKEN.sub(b"", told[2])
     if "--names" not in flags or status == 2:
-        return told
+        return status, out, err
     return status, out, b"".join(REACHED.findall(err)) if command.startswith("check") else err.split(b"\n")[0] + b"\n"
 
 

@@ -27,11 +27,18 @@ from ._refusals import Refused, name
 Text = Union[bytes, bytearray, memoryview, str, "os.PathLike[str]", "os.PathLike[bytes]"]
 """A text: its bytes, or the path of its file. A `str` is a path."""
 
+# The calls that judge a witness of each kind of text.
+_JUDGES = {"model": "hwtool_check_btor_claims", "circuit": "hwtool_check_aig_claims"}
+
 # The refusal of an obligation that is too big, which is told of the invariant as a whole.
 _TOO_MANY_CUBES = 196
 
-# The refusals of a witness circuit as a whole.
+# The refusals of a witness circuit as a whole; and that for a property that is not there.
 _NO_TEST = range(210, 217)
+_NO_PROPERTY = 215
+
+# The refusal of a text without any bad property.
+_NO_BAD = 145
 
 
 class _Given:
@@ -80,11 +87,18 @@ def _choice(bad: Optional[SupportsIndex]) -> List[object]:
     return [bad is not None, 0 if bad is None else _position(bad)]
 
 
+def _has_no_bad(kind: str, first: _Given) -> bool:
+    """Whether a model or circuit has no bad property at all."""
+    return claimed(_JUDGES[kind], [*first.words, *_choice(0), b"", 0], RawVerdict())[1].number == _NO_BAD
+
+
 def _refuse(status: int, raw: RawRefusal, kind: str, first: _Given, second: Optional[_Given] = None, second_kind: str = "invariant") -> NoReturn:
     """Tells why a call is not done."""
     if status == NO_MEMORY:
         raise MemoryError("hwtool: no memory")
     number, place = raw.number, raw.place
+    if status == MODEL_REFUSED and number == _NO_PROPERTY and _has_no_bad(kind, first):
+        number = _NO_BAD
     if status == TEXT_REFUSED:
         raise Refused(number, name(number), kind, "byte" if kind == "circuit" else "line", place, first.file)
     if second is not None and status == SECOND_REFUSED and second_kind == "invariant":
@@ -117,8 +131,8 @@ def _verdict(raw: RawVerdict, of_circuit: bool, claims: Sequence[RawClaim]) -> V
 
 def _judged(kind: str, first: _Given, witness: bytes, bad: Optional[SupportsIndex] = None) -> Tuple[RawVerdict, List[RawClaim]]:
     """Judges a witness of a model or of a circuit, of a bad property where one is asked for."""
-    verdict, call_name = RawVerdict(), "hwtool_check_aig_claims" if kind == "circuit" else "hwtool_check_btor_claims"
-    status, refusal, claims = claimed(call_name, [*first.words, *_choice(bad), witness, len(witness)], verdict)
+    verdict = RawVerdict()
+    status, refusal, claims = claimed(_JUDGES[kind], [*first.words, *_choice(bad), witness, len(witness)], verdict)
     if status != DONE:
         _refuse(status, refusal, kind, first)
     return verdict, claims
@@ -207,7 +221,7 @@ def _refuse_outputs_alone(first: _Given) -> None:
     """Refuses a model whose circuit has outputs and no bad property, of which no witness can claim one."""
     status, refusal, circuit = written("hwtool_lower", [*first.words, True], first.room)
     if status == DONE:
-        status, refusal, _ = claimed("hwtool_check_aig_claims", [circuit, len(circuit), *_choice(None), b"", 0], RawVerdict())
+        status, refusal, _ = claimed(_JUDGES["circuit"], [circuit, len(circuit), *_choice(None), b"", 0], RawVerdict())
     if status != DONE:
         _refuse(status, refusal, "model", first)
 

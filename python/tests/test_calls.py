@@ -374,6 +374,8 @@ class Refusals(unittest.TestCase):
             (hwtool.engine_form, {}), (hwtool.restore, {"witness": b"1\nb0\n0\n1\n.\n"}),
             (hwtool.restore_abc, {"bad": 0, "found": b"0\n1\n"}), (hwtool.obligation_aig, {"bad": 0, "invariant": NO_CUBE}),
             (hwtool.check_proof_aig, {"bad": 0, "invariant": NO_CUBE, "proof": b""}),
+            (hwtool.obligation_circuit, {"bad": 0, "witness": EITHER, "aiger": True}),
+            (hwtool.check_proof_circuit, {"bad": 1, "witness": EITHER, "proof": b"", "aiger": True}),
         ):  # fmt: skip
             with self.subTest(call.__name__):
                 self.refused(

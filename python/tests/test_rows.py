@@ -31,6 +31,10 @@ FORMS = {
 }  # fmt: skip
 # what the program says by name of a claim of an accepted witness
 REACHED = re.compile(rb"(?m)^b\d+ is reached in frame \d+\n")
+# what it says behind a judgement of an engine form whose making the words do not tell
+TAKEN = re.compile(rb"(?m)^taken as made for [^\n]*\n")
+# a position as the program reads it; any other word is a name
+POSITION = re.compile(r"0|[1-9]\d*")
 
 
 def reached(verdict, flags):
@@ -91,7 +95,7 @@ def asked(words):
     if command not in FILES or not known.issuperset(flags) or len(names) != FILES[command] or any("/" in name for name in names):
         return None
     # calls take a bad property by its position
-    if bad is not None and not bad.isdecimal():
+    if bad is not None and not POSITION.fullmatch(bad):
         return None
     bad = None if bad is None else int(bad)
     # of a witness of the circuit itself no call lifts the names
@@ -127,7 +131,7 @@ class Rows(unittest.TestCase):
                         answer(command, flags, bad, names, names)
                     continue
                 # of what is said by name calls say when claims are reached
-                err = row.err
+                err = TAKEN.sub(b"", row.err)
                 if "--names" in flags and row.status != 2:
                     line = b"" if command.startswith("check") else err.split(b"\n")[0] + b"\n"
                     err = line + b"".join(REACHED.findall(err))
