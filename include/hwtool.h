@@ -116,8 +116,8 @@ uint32_t hwtool_convert(const uint8_t *circuit, size_t circuit_length, bool bina
 uint32_t hwtool_engine_form(const uint8_t *circuit, size_t circuit_length, bool chosen, size_t bad, bool binary,
                             uint8_t *buffer, size_t buffer_length, size_t *needed, struct hwtool_refusal *refusal);
 
-/* Judges a witness of the circuit that a BTOR2 model lowers to, and lifts it to the model's. Answers DONE and TOO_SMALL with
- * `verdict` and `needed`, TEXT_REFUSED, MODEL_REFUSED, NO_MEMORY. */
+/* Judges a witness of the circuit that a BTOR2 model lowers to, and lifts it to the model's. Of a model without bad properties each
+ * claim is malformed. Answers DONE and TOO_SMALL with `verdict` and `needed`, TEXT_REFUSED, MODEL_REFUSED, NO_MEMORY. */
 uint32_t hwtool_lift(const uint8_t *model, size_t model_length, const uint8_t *witness, size_t witness_length,
                      struct hwtool_verdict *verdict, uint8_t *buffer, size_t buffer_length, size_t *needed,
                      struct hwtool_refusal *refusal);
