@@ -5,6 +5,8 @@ byte too small, and then with one that fits. The first rows of each command are 
 and compared with what the program prints and answers then. The last line tells how many were tried, and how many were wrong."""
 import ctypes
 import os
+import re
+import struct
 import subprocess
 import sys
 import tempfile
@@ -12,6 +14,14 @@ import tempfile
 import rows
 
 CUT_ROWS = 4
+# What the bytes of a text are for calls that answer claims: as many make a claim.
+CLAIM = 16
+# What the program says by name of a claim of an accepted witness.
+REACHED = re.compile(rb"(?m)^b\d+ is reached in frame \d+\n")
+# What it says behind a judgement of an engine form whose making the words do not tell.
+TAKEN = re.compile(rb"(?m)^taken as made for [^\n]*\n")
+# A position as the program reads it; any other word is a name.
+POSITION = re.compile(r"0|[1-9]\d*")
 
 
 class Verdict(ctypes.Structure):
@@ -51,6 +61,7 @@ def judgement(verdict):
         3: f"initial value differs at {verdict.first}",
         4: f"malformed line {verdict.first}: {numbered(verdict.why) if verdict.kind == 4 else ''}",
         5: "no claim",
+        8: f"not claimed: b{verdict.first}",
     }[verdict.kind] + "\n"
 
 
@@ -71,28 +82,33 @@ def place_of(status, refusal, circuit):
     return f"item {refusal.place}: " if refusal.place else ""
 
 
-def filled(call, given, behind, room):
-    """A call with a buffer of so many bytes: its status, how many bytes it needs, its refusal and the text. What is to stay of
-    the buffer does: behind the text, and all of it where there is none."""
+def filled(call, given, behind, room, unit):
+    """A call with a buffer of so many bytes, or of so many units of bytes: its status, how many it needs, its refusal and the text.
+    What is to stay of the buffer does: behind the text, and all of it where there is none."""
     refusal, needed = Refusal(), size(0)
-    before = (b"\x00\xff\x5a\n" * (room // 4 + 3))[: room + 8]
+    before = (b"\x00\xff\x5a\n" * (unit * room // 4 + 3))[: unit * room + 8]
     buffer = ctypes.create_string_buffer(before, len(before))
     status = call(*given, *behind, buffer, size(room), ctypes.byref(needed), ctypes.byref(refusal))
-    text = buffer.raw[: needed.value] if status == 0 else b""
-    assert len(text) <= room and buffer.raw[len(text) :] == before[len(text) :], "bytes that are to stay are written"
+    text = buffer.raw[: unit * needed.value] if status == 0 else b""
+    assert len(text) <= unit * room and buffer.raw[len(text) :] == before[len(text) :], "bytes that are to stay are written"
     return status, needed.value, refusal, text
 
 
-def called(call, given, verdict, text, circuit, file, invariant=None, bad=None):
-    """What the program would answer, by a call: status, standard output, standard error. A call that answers a text is made with
-    buffers that are too small, that are as long as it, and that are longer."""
+def reached(claims):
+    """The lines that the program prints for claims."""
+    return b"".join(b"b%d is reached in frame %d\n" % claim for claim in struct.iter_unpack("QQ", claims))
+
+
+def called(call, given, verdict, unit, circuit, file, invariant=None, bad=None):
+    """What the program would answer, by a call: status, standard output, standard error. A call that answers a text, or units of so
+    many bytes, is made with buffers that are too small, that are as long as it, and that are longer."""
     found, refusal, result = Verdict(), Refusal(), b""
     behind = [ctypes.byref(found)] if verdict else []
-    if text:
-        status, needed, refusal, result = filled(call, given, behind, 0)
+    if unit:
+        status, needed, refusal, result = filled(call, given, behind, 0, unit)
         for room in (needed - 1, needed + 7, needed) if status in (0, 1) else ():
             if room >= 0:
-                status, again, refusal, result = filled(call, given, behind, room)
+                status, again, refusal, result = filled(call, given, behind, room, unit)
                 assert (status, again) == (1 if room < needed else 0, needed), "a text is told as too long, or as another one"
     else:
         status = call(*given, *behind, ctypes.byref(refusal))
@@ -106,7 +122,24 @@ def called(call, given, verdict, text, circuit, file, invariant=None, bad=None):
     assert status == 0, f"status {status}"
     told = b"" if not verdict else (judgement(found) if bad is None else proof_judgement(found, bad)).encode()
     code = 0 if not verdict or found.kind == 0 else 1
-    return (code, result, told) if text else (code, told, b"")
+    return (code, told, reached(result)) if unit == CLAIM else (code, result, told) if unit else (code, told, b"")
+
+
+def checked(plain, with_claims, first, choice, second, circuit, file, by_name):
+    """What the library answers in place of the program of a witness, with its claims by name. Where no bad property is chosen, both
+    calls say the same, but of circuits that have outputs alone."""
+    status, out, told = called(with_claims, (*first, *choice, *second), True, CLAIM, circuit, file)
+    refused = told if status == 2 else b""
+    if not choice[0].value and not refused.endswith(b": 145 NoBad\n"):
+        assert called(plain, (*first, *second), True, 0, circuit, file) == (status, out, refused), "two calls differ"
+    return status, out, told if by_name else refused
+
+
+def without_property(call, given, circuit, file):
+    """What the program says of a first text without a bad property where one is meant, which a call that tells claims refuses as the
+    program does; nothing where it has one."""
+    told = called(call, given, True, CLAIM, circuit, file)
+    return told if told[2].endswith(b": 145 NoBad\n") else None
 
 
 def cost(first, file):
@@ -119,8 +152,9 @@ def cost(first, file):
 
 # The flags that commands have in rows that the library has a call for, and how many files.
 FLAGS = {
-    "check-btor": ((), 2), "check-aig": ((), 2), "lower": (("--ascii", "--binary"), 1), "aig-convert": (("--ascii", "--binary"), 1),
-    "lift": (("--engine", "--abc", "--names"), 2), "restore": (("--abc",), 2), "wave": (("--all",), 2), "cost": ((), 1),
+    "check-btor": (("--names",), 2), "check-aig": (("--names",), 2), "lower": (("--ascii", "--binary"), 1),
+    "aig-convert": (("--ascii", "--binary"), 1), "lift": (("--engine", "--abc", "--names"), 2), "restore": (("--abc",), 2),
+    "wave": (("--all",), 2), "cost": ((), 1),
     "obligation": (("--aiger", "--circuit", "--engine"), 2), "check-proof": (("--aiger", "--circuit", "--engine"), 3),
 }  # fmt: skip
 
@@ -130,7 +164,7 @@ def asked(words):
     command, flags, names, bad, rest = words[0], [], [], None, iter(words[1:])
     for word in rest:
         if word == "--bad":
-            bad = int(next(rest))
+            bad = next(rest)
         elif word.startswith("-"):
             flags.append(word)
         else:
@@ -138,6 +172,10 @@ def asked(words):
     known, files = FLAGS.get(command, ((), None))
     if len(names) != files or len(set(flags)) != len(flags) or not set(known).issuperset(flags) or any("/" in name for name in names):
         return None
+    # calls take a bad property by its position
+    if bad is not None and not POSITION.fullmatch(bad):
+        return None
+    bad = None if bad is None else int(bad)
     # what is printed by name of a witness of the circuit itself has no call
     if {"--ascii", "--binary"}.issubset(flags) or (command == "lift" and flags and "--engine" not in flags):
         return None
@@ -152,39 +190,46 @@ def answer(command, flags, bad, names, texts):
     # without a choice the only one is meant
     over = ctypes.c_bool("--aiger" in flags), ctypes.c_bool("--engine" in flags)
     position, choice = size(bad or 0), (ctypes.c_bool(bad is not None), size(bad or 0))
-    if command == "check-btor":
-        return called(library.hwtool_check_btor, (*first, *second), True, False, circuit, file)
-    if command == "check-aig":
-        return called(library.hwtool_check_aig, (*first, *second), True, False, circuit, file)
+    if command in ("check-btor", "check-aig"):
+        plain, with_claims = (getattr(library, f"hwtool_{command.replace('-', '_')}{behind}") for behind in ("", "_claims"))
+        return checked(plain, with_claims, first, choice, second, circuit, file, by_name.value)
     if command == "lower":
-        return called(library.hwtool_lower, (*first, binary), False, True, circuit, file)
+        return called(library.hwtool_lower, (*first, binary), False, 1, circuit, file)
     if command == "aig-convert":
-        return called(library.hwtool_convert, (*first, binary), False, True, circuit, file)
+        return called(library.hwtool_convert, (*first, binary), False, 1, circuit, file)
     if command == "restore" and "--abc" in flags:
-        return called(library.hwtool_restore_abc, (*first, position, *second), True, True, circuit, file)
+        return called(library.hwtool_restore_abc, (*first, position, *second), True, 1, circuit, file)
     if command == "restore":
-        return called(library.hwtool_restore, (*first, *choice, *second), True, True, circuit, file)
+        return called(library.hwtool_restore, (*first, *choice, *second), True, 1, circuit, file)
     if command == "lift" and "--abc" in flags:
-        return called(library.hwtool_lift_engine_abc, (*first, position, by_name, *second), True, True, circuit, file)
+        return called(library.hwtool_lift_engine_abc, (*first, position, by_name, *second), True, 1, circuit, file)
     if command == "lift" and "--engine" in flags:
-        return called(library.hwtool_lift_engine, (*first, *choice, by_name, *second), True, True, circuit, file)
+        return called(library.hwtool_lift_engine, (*first, *choice, by_name, *second), True, 1, circuit, file)
     if command == "lift":
-        return called(library.hwtool_lift, (*first, *second), True, True, circuit, file)
+        lowered = called(library.hwtool_lower, (*first, binary), False, 1, circuit, file)
+        given = (*of(lowered[1]), *choice, *second)
+        refused = without_property(library.hwtool_check_aig_claims, given, circuit, file) if lowered[0] == 0 else None
+        return refused or called(library.hwtool_lift, (*first, *second), True, 1, circuit, file)
     if command == "wave":
         title = f"{names[0]} {names[1]}".encode()
         every = ctypes.c_bool("--all" in flags)
-        return called(library.hwtool_wave, (*first, every, *of(title), *second), True, True, circuit, file)
+        return called(library.hwtool_wave, (*first, every, *of(title), *second), True, 1, circuit, file)
+    if "--circuit" in flags:
+        with_claims = library.hwtool_check_aig_claims if circuit else library.hwtool_check_btor_claims
+        refused = without_property(with_claims, (*first, ctypes.c_bool(True), position, *second), circuit, file)
+        if refused:
+            return refused
     if command == "obligation" and "--circuit" in flags:
-        return called(library.hwtool_obligation_circuit, (*first, *over, position, *second), False, True, circuit, file, names[1])
+        return called(library.hwtool_obligation_circuit, (*first, *over, position, *second), False, 1, circuit, file, names[1])
     if command == "check-proof" and "--circuit" in flags:
         given = (*first, *over, position, *second, *third)
-        return called(library.hwtool_check_proof_circuit, given, True, False, circuit, file, names[1], bad or 0)
+        return called(library.hwtool_check_proof_circuit, given, True, 0, circuit, file, names[1], bad or 0)
     if command == "obligation":
         call = library.hwtool_obligation_aig if circuit else library.hwtool_obligation
-        return called(call, (*first, position, *second), False, True, circuit, file, names[1])
+        return called(call, (*first, position, *second), False, 1, circuit, file, names[1])
     if command == "check-proof":
         call = library.hwtool_check_proof_aig if circuit else library.hwtool_check_proof
-        return called(call, (*first, position, *second, *third), True, False, circuit, file, names[1], bad or 0)
+        return called(call, (*first, position, *second, *third), True, 0, circuit, file, names[1], bad or 0)
     return cost(texts[0], file)
 
 
@@ -197,10 +242,13 @@ def printed(program, words, names, texts, folder):
     return done.returncode, done.stdout, done.stderr
 
 
-def without_names(flags, told):
-    """What the program tells, without the lines behind a judgement that say what it is about, which no call does."""
-    status, out, err = told
-    return (status, out, err.split(b"\n")[0] + b"\n") if "--names" in flags else told
+def without_names(command, flags, told):
+    """What the program tells, without the lines that say what a judgement is about, or what a form is taken for, which no call does;
+    of a witness that is checked with those that say when claims are reached."""
+    status, out, err = told[0], told[1], TAKEN.sub(b"", told[2])
+    if "--names" not in flags or status == 2:
+        return status, out, err
+    return status, out, b"".join(REACHED.findall(err)) if command.startswith("check") else err.split(b"\n")[0] + b"\n"
 
 
 def main():
@@ -225,7 +273,7 @@ def main():
             texts = row.files[: len(names)]
             if None in texts:
                 continue
-            compare(" ".join(words), without_names(flags, (row.status, row.out, row.err)), answer(*found, texts))
+            compare(" ".join(words), without_names(command, flags, (row.status, row.out, row.err)), answer(*found, texts))
             kind = command, *sorted(set(flags) & {"--abc", "--engine", "--aiger"})
             if cut.setdefault(kind, 0) == CUT_ROWS or max(map(len, texts)) > 600:
                 continue
@@ -237,7 +285,7 @@ def main():
                     # a shorter text may have several bad properties, and then the words leave it open
                     if told[0] == 4:
                         continue
-                    compare(f"{words}, file {which + 1} cut after {end}", without_names(flags, told), answer(*found, shorter))
+                    compare(f"{words}, file {which + 1} cut after {end}", without_names(command, flags, told), answer(*found, shorter))
     print(f"rows and cuts: {tried} tried, {wrong} wrong")
     return wrong != 0
 

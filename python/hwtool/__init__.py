@@ -5,6 +5,7 @@
     verdict = hwtool.check_btor("queue.btor2", "queue.witness")
     print(verdict)                # accepted 7 frames
     if verdict.accepted: ...
+    print(verdict.claims)         # (Claim(bad=0, frame=6),)
 
     circuit = hwtool.lower(b"1 sort bitvec 1\\n2 input 1\\n3 bad 2\\n", binary=True)
 
@@ -20,7 +21,7 @@ The library is the one that HWTOOL_LIBRARY names; without it the one that was in
 the repository that the package stands in, or the system's.
 """
 
-from ._answers import Cost, Dump, Kind, Lifted, ProofKind, ProofVerdict, Restored, Verdict
+from ._answers import Claim, Cost, Dump, Kind, Lifted, ProofKind, ProofVerdict, Restored, Verdict
 from ._calls import (
     Text,
     check_aig,
@@ -52,6 +53,7 @@ Refused.__module__ = __name__
 
 __all__ = [
     "Case",
+    "Claim",
     "Cost",
     "Dump",
     "Kind",

@@ -4,7 +4,7 @@ from __future__ import annotations
 
 import enum
 from dataclasses import dataclass, field
-from typing import Optional
+from typing import NamedTuple, Optional, Tuple
 
 from ._refusals import remedy_of
 
@@ -24,6 +24,8 @@ class Kind(enum.Enum):
     """A line is faulty."""
     NO_CLAIM = 5
     """It claims nothing."""
+    NOT_CLAIMED = 8
+    """It is accepted, and does not claim the bad property that is asked for."""
 
 
 class ProofKind(enum.Enum):
@@ -39,6 +41,13 @@ class ProofKind(enum.Enum):
     """It ends before anything is shown."""
 
 
+class Claim(NamedTuple):
+    """A claim of an accepted witness: the position of the bad property, and the first frame in which it is reached, both from 0."""
+
+    bad: int
+    frame: int
+
+
 @dataclass(frozen=True)
 class Verdict:
     """What is said of a witness. `str` of it is the line that the program prints. It is true where it is accepted.
@@ -50,7 +59,7 @@ class Verdict:
     frames: Optional[int] = None
     """How many frames an accepted witness has."""
     claim: Optional[int] = None
-    """The first claimed bad property that is not reached, from 0."""
+    """The first claimed bad property that is not reached, or the one asked for that is not claimed, from 0."""
     frame: Optional[int] = None
     """The first frame in which a constraint does not hold, from 0."""
     constraint: Optional[int] = None
@@ -65,6 +74,8 @@ class Verdict:
     """The name of what is wrong with it."""
     of_circuit: bool = field(default=False, compare=False, repr=False)
     """Whether the witness is one of a circuit."""
+    claims: Optional[Tuple[Claim, ...]] = None
+    """The claims of an accepted witness, in file order of the bad properties."""
 
     @property
     def accepted(self) -> bool:
@@ -87,6 +98,7 @@ class Verdict:
             Kind.INIT_DIFFERS: f"initial value differs at {self.state}",
             Kind.MALFORMED: f"malformed line {self.line}: {self.why} {self.why_name}",
             Kind.NO_CLAIM: "no claim",
+            Kind.NOT_CLAIMED: f"not claimed: b{self.claim}",
         }[self.kind]
 
 

@@ -7,18 +7,38 @@ import operator
 import os
 from typing import List, NoReturn, Optional, Sequence, SupportsIndex, Tuple, Union
 
-from ._answers import Cost, Dump, Kind, Lifted, ProofKind, ProofVerdict, Restored, Verdict
-from ._library import DONE, MODEL_REFUSED, NO_MEMORY, SECOND_REFUSED, TEXT_REFUSED, RawRefusal, RawVerdict, call, library_version, written
+from ._answers import Claim, Cost, Dump, Kind, Lifted, ProofKind, ProofVerdict, Restored, Verdict
+from ._library import (
+    DONE,
+    MODEL_REFUSED,
+    NO_MEMORY,
+    SECOND_REFUSED,
+    TEXT_REFUSED,
+    RawClaim,
+    RawRefusal,
+    RawVerdict,
+    call,
+    claimed,
+    library_version,
+    written,
+)
 from ._refusals import Refused, name
 
 Text = Union[bytes, bytearray, memoryview, str, "os.PathLike[str]", "os.PathLike[bytes]"]
 """A text: its bytes, or the path of its file. A `str` is a path."""
 
+# The calls that judge a witness of each kind of text.
+_JUDGES = {"model": "hwtool_check_btor_claims", "circuit": "hwtool_check_aig_claims"}
+
 # The refusal of an obligation that is too big, which is told of the invariant as a whole.
 _TOO_MANY_CUBES = 196
 
-# The refusals of a witness circuit as a whole.
+# The refusals of a witness circuit as a whole; and that for a property that is not there.
 _NO_TEST = range(210, 217)
+_NO_PROPERTY = 215
+
+# The refusal of a text without any bad property.
+_NO_BAD = 145
 
 
 class _Given:
@@ -62,11 +82,23 @@ def _position(bad: SupportsIndex) -> int:
     return position
 
 
+def _choice(bad: Optional[SupportsIndex]) -> List[object]:
+    """A bad property that may be chosen."""
+    return [bad is not None, 0 if bad is None else _position(bad)]
+
+
+def _has_no_bad(kind: str, first: _Given) -> bool:
+    """Whether a model or circuit has no bad property at all."""
+    return claimed(_JUDGES[kind], [*first.words, *_choice(0), b"", 0], RawVerdict())[1].number == _NO_BAD
+
+
 def _refuse(status: int, raw: RawRefusal, kind: str, first: _Given, second: Optional[_Given] = None, second_kind: str = "invariant") -> NoReturn:
     """Tells why a call is not done."""
     if status == NO_MEMORY:
         raise MemoryError("hwtool: no memory")
     number, place = raw.number, raw.place
+    if status == MODEL_REFUSED and number == _NO_PROPERTY and _has_no_bad(kind, first):
+        number = _NO_BAD
     if status == TEXT_REFUSED:
         raise Refused(number, name(number), kind, "byte" if kind == "circuit" else "line", place, first.file)
     if second is not None and status == SECOND_REFUSED and second_kind == "invariant":
@@ -80,12 +112,13 @@ def _refuse(status: int, raw: RawRefusal, kind: str, first: _Given, second: Opti
     raise RuntimeError(f"hwtool: the library answered the status {status}")
 
 
-def _verdict(raw: RawVerdict, of_circuit: bool) -> Verdict:
-    """What is said of a witness."""
+def _verdict(raw: RawVerdict, of_circuit: bool, claims: Sequence[RawClaim]) -> Verdict:
+    """What is said of a witness, with the claims of an acceptance."""
     kind, first, second = Kind(raw.kind), raw.first, raw.second
     if kind is Kind.ACCEPTED:
-        return Verdict(kind, frames=first, of_circuit=of_circuit)
-    if kind is Kind.NOT_REACHED:
+        told = tuple(Claim(claim.bad, claim.frame) for claim in claims)
+        return Verdict(kind, frames=first, of_circuit=of_circuit, claims=told)
+    if kind in (Kind.NOT_REACHED, Kind.NOT_CLAIMED):
         return Verdict(kind, claim=first, of_circuit=of_circuit)
     if kind is Kind.VIOLATED:
         return Verdict(kind, frame=first, constraint=second, of_circuit=of_circuit)
@@ -96,27 +129,31 @@ def _verdict(raw: RawVerdict, of_circuit: bool) -> Verdict:
     return Verdict(kind, of_circuit=of_circuit)
 
 
-def _judged(call_name: str, kind: str, text: Text, witness: Text) -> Verdict:
-    """Judges a witness."""
-    first, second, verdict = _Given(text), _Given(witness), RawVerdict()
-    status, refusal = call(call_name, [*first.words, *second.words], ctypes.byref(verdict))
+def _judged(kind: str, first: _Given, witness: bytes, bad: Optional[SupportsIndex] = None) -> Tuple[RawVerdict, List[RawClaim]]:
+    """Judges a witness of a model or of a circuit, of a bad property where one is asked for."""
+    verdict = RawVerdict()
+    status, refusal, claims = claimed(_JUDGES[kind], [*first.words, *_choice(bad), witness, len(witness)], verdict)
     if status != DONE:
         _refuse(status, refusal, kind, first)
-    return _verdict(verdict, kind == "circuit")
+    return verdict, claims
 
 
-def check_btor(model: Text, witness: Text) -> Verdict:
-    """Judges a witness of a BTOR2 model.
+def check_btor(model: Text, witness: Text, *, bad: Optional[SupportsIndex] = None) -> Verdict:
+    """Judges a witness of a BTOR2 model; with `bad` one that is to claim the bad property at this position, from 0.
 
-    Raises Refused where the model is none, or has a state with an init and no next; a witness that is none is judged as
-    malformed. Raises MemoryError where memory is wanting, and OSError where a file can't be read, as all calls do.
+    Raises Refused where the model is none, or has a state with an init and no next, or no bad property at that position; a
+    witness that is none is judged as malformed. Raises MemoryError where memory is wanting, and OSError where a file can't be
+    read, as all calls do.
     """
-    return _judged("hwtool_check_btor", "model", model, witness)
+    verdict, claims = _judged("model", _Given(model), _Given(witness).bytes, bad)
+    return _verdict(verdict, False, claims)
 
 
-def check_aig(circuit: Text, witness: Text) -> Verdict:
-    """Judges a witness of an AIGER circuit of either form. Raises Refused where the circuit is none."""
-    return _judged("hwtool_check_aig", "circuit", circuit, witness)
+def check_aig(circuit: Text, witness: Text, *, bad: Optional[SupportsIndex] = None) -> Verdict:
+    """Judges a witness of an AIGER circuit of either form; with `bad` one that is to claim the bad property at this position, from
+    0. Raises Refused where the circuit is none, has no bad property at that position, or none at all but outputs."""
+    verdict, claims = _judged("circuit", _Given(circuit), _Given(witness).bytes, bad)
+    return _verdict(verdict, True, claims)
 
 
 def lower(model: Text, *, binary: bool = False) -> bytes:
@@ -151,11 +188,6 @@ def convert(circuit: Text, *, binary: bool = False) -> bytes:
     return text
 
 
-def _choice(bad: Optional[SupportsIndex]) -> List[object]:
-    """A bad property that may be chosen."""
-    return [bad is not None, 0 if bad is None else _position(bad)]
-
-
 def engine_form(circuit: Text, *, bad: Optional[SupportsIndex] = None, binary: bool = False) -> bytes:
     """The engine form of an AIGER circuit, which every model checker reads alike: all latches begin with 0, and it has no
     constraints and no names. With all its bad properties, or with the one at position `bad`, from 0, alone.
@@ -173,19 +205,36 @@ def engine_form(circuit: Text, *, bad: Optional[SupportsIndex] = None, binary: b
 def _with_verdict(
     call_name: str, given: List[object], kind: str, first: _Given, witness: _Given, of_circuit: bool
 ) -> Tuple[Verdict, bytes]:
-    """Judges a witness and writes what is made of it."""
+    """Judges a witness and writes what is made of it. The claims of an acceptance are those of the witness of the model or circuit:
+    the one that is written, or the one that is dumped."""
     verdict = RawVerdict()
     status, refusal, text = written(call_name, given, first.room + witness.room, ctypes.byref(verdict))
     if status != DONE:
         _refuse(status, refusal, kind, first)
-    return _verdict(verdict, of_circuit), text
+    if Kind(verdict.kind) is not Kind.ACCEPTED:
+        return _verdict(verdict, of_circuit, ()), text
+    claims = _judged(kind, first, text if of_circuit else witness.bytes)[1]
+    return _verdict(verdict, of_circuit, claims), text
+
+
+def _refuse_outputs_alone(first: _Given) -> None:
+    """Refuses a model whose circuit has outputs and no bad property, of which no witness can claim one."""
+    status, refusal, circuit = written("hwtool_lower", [*first.words, True], first.room)
+    if status == DONE:
+        status, refusal, _ = claimed(_JUDGES["circuit"], [circuit, len(circuit), *_choice(None), b"", 0], RawVerdict())
+    if status != DONE:
+        _refuse(status, refusal, "model", first)
 
 
 def lift(model: Text, witness: Text) -> Lifted:
     """Judges a witness of the circuit that `lower` makes of a BTOR2 model, and lifts it to one of the model, which has the same
-    verdict. Raises Refused as `lower` does."""
+    verdict. Raises Refused as `lower` does, and where the model has outputs and no bad property."""
     first, second = _Given(model), _Given(witness)
-    return Lifted(*_with_verdict("hwtool_lift", [*first.words, *second.words], "model", first, second, True))
+    verdict, text = _with_verdict("hwtool_lift", [*first.words, *second.words], "model", first, second, True)
+    # without a bad property no other verdict comes
+    if verdict.kind in (Kind.MALFORMED, Kind.NO_CLAIM):
+        _refuse_outputs_alone(first)
+    return Lifted(verdict, text)
 
 
 def lift_engine(model: Text, witness: Text, *, bad: Optional[SupportsIndex] = None, names: bool = False) -> Lifted:

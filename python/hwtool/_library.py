@@ -32,15 +32,27 @@ class RawRefusal(ctypes.Structure):
     _fields_ = [("number", ctypes.c_uint32), ("place", ctypes.c_uint64)]
 
 
+class RawClaim(ctypes.Structure):
+    """`struct hwtool_claim`."""
+
+    _fields_ = [("bad", ctypes.c_uint64), ("frame", ctypes.c_uint64)]
+
+
+# As many claims as a witness has most often at most.
+_FEW_CLAIMS = 1024
+
 _TEXT = [ctypes.c_char_p, ctypes.c_size_t]
 _BUFFER = [ctypes.c_void_p, ctypes.c_size_t, ctypes.POINTER(ctypes.c_size_t)]
 _VERDICT = [ctypes.POINTER(RawVerdict)]
 _REFUSAL = [ctypes.POINTER(RawRefusal)]
+_CLAIMS = [ctypes.POINTER(RawClaim), ctypes.c_size_t, ctypes.POINTER(ctypes.c_size_t)]
 _COUNT = [ctypes.POINTER(ctypes.c_uint64)]
 
 _CALLS = {
     "hwtool_check_btor": [*_TEXT, *_TEXT, *_VERDICT, *_REFUSAL],
     "hwtool_check_aig": [*_TEXT, *_TEXT, *_VERDICT, *_REFUSAL],
+    "hwtool_check_btor_claims": [*_TEXT, ctypes.c_bool, ctypes.c_size_t, *_TEXT, *_VERDICT, *_CLAIMS, *_REFUSAL],
+    "hwtool_check_aig_claims": [*_TEXT, ctypes.c_bool, ctypes.c_size_t, *_TEXT, *_VERDICT, *_CLAIMS, *_REFUSAL],
     "hwtool_lower": [*_TEXT, ctypes.c_bool, *_BUFFER, *_REFUSAL],
     "hwtool_cost": [*_TEXT, *_COUNT, *_COUNT, *_REFUSAL],
     "hwtool_convert": [*_TEXT, ctypes.c_bool, *_BUFFER, *_REFUSAL],
@@ -106,6 +118,16 @@ def call(name: str, given: List[object], *answers: object) -> Tuple[int, RawRefu
     refusal = RawRefusal()
     status = getattr(LIBRARY, name)(*given, *answers, ctypes.byref(refusal))
     return status, refusal
+
+
+def claimed(name: str, given: List[object], verdict: RawVerdict) -> Tuple[int, RawRefusal, List[RawClaim]]:
+    """A call that answers claims: its status, its refusal and the claims. It is made a second time where they are many."""
+    refusal, needed, claims = RawRefusal(), ctypes.c_size_t(), (RawClaim * _FEW_CLAIMS)()
+    while True:
+        status = getattr(LIBRARY, name)(*given, ctypes.byref(verdict), claims, len(claims), ctypes.byref(needed), ctypes.byref(refusal))
+        if status != TOO_SMALL:
+            return status, refusal, claims[: needed.value]
+        claims = (RawClaim * needed.value)()
 
 
 def _room(length: int) -> mmap.mmap:

@@ -16,7 +16,7 @@ if not os.environ.get("HWTOOL_TEST_INSTALLED"):
     sys.path.insert(0, str(HERE.parent))
 
 import hwtool  # noqa: E402
-from hwtool import Kind, ProofKind, ProofVerdict, Refused, Verdict  # noqa: E402
+from hwtool import Claim, Kind, ProofKind, ProofVerdict, Refused, Verdict  # noqa: E402
 
 EXAMPLES = HERE.parents[1] / "examples"
 
@@ -35,6 +35,10 @@ FREE_LATCH = b"aag 1 0 1 0 0 1\n2 2 2\n2\n"
 KEPT_STATE = b"1 sort bitvec 1\n2 state 1 kept\n3 next 1 2 2\n4 bad 2\n"
 # An input that is bad where it is 1, and where it is 0.
 EITHER = b"aag 1 1 0 0 0 2\n2\n2\n3\n"
+# The same before AIGER 1.9, with outputs as its properties.
+EITHER_OUTPUT = b"aag 1 1 0 2 0\n2\n2\n3\n"
+# An input that is bad where it is 1, and where it is 0, and a third bad property that never rises.
+THREE_BADS = b"1 sort bitvec 1\n2 input 1\n3 not 1 2\n4 zero 1\n5 bad 2\n6 bad 3\n7 bad 4\n"
 # The circuit of the state that begins with 0 and is kept.
 KEPT_LATCH = b"aag 1 0 1 0 0 1\n2 2\n2\n"
 # An input that is seen and bad where it is 1, and that is constrained to be 0.
@@ -53,9 +57,52 @@ class Witnesses(unittest.TestCase):
         self.assertEqual(bool(verdict), verdict.accepted)
 
     def test_accepted(self):
-        self.judged(hwtool.check_btor(TOGGLER, TOGGLER_WITNESS), "accepted 2 frames", kind=Kind.ACCEPTED, frames=2)
-        self.judged(hwtool.check_aig(TWICE, TWICE_WITNESS), "accepted 2 frames", kind=Kind.ACCEPTED, frames=2)
-        self.assertEqual(hwtool.check_btor(TOGGLER, TOGGLER_WITNESS), Verdict(Kind.ACCEPTED, frames=2))
+        told = {"kind": Kind.ACCEPTED, "frames": 2, "claims": ((0, 1),)}
+        self.judged(hwtool.check_btor(TOGGLER, TOGGLER_WITNESS), "accepted 2 frames", **told)
+        self.judged(hwtool.check_aig(TWICE, TWICE_WITNESS), "accepted 2 frames", **told)
+        self.assertEqual(hwtool.check_btor(TOGGLER, TOGGLER_WITNESS), Verdict(Kind.ACCEPTED, frames=2, claims=(Claim(bad=0, frame=1),)))
+
+    def test_claims(self):
+        # by the order of the bad properties, however they are claimed, and each with the first of its frames
+        for claims, frames, found in (
+            (b"b0 b1", b"01", [(0, 1), (1, 0)]), (b"b1 b0", b"011", [(0, 1), (1, 0)]), (b"b1", b"110", [(1, 2)]), (b"b0", b"101", [(0, 0)]),
+        ):  # fmt: skip
+            with self.subTest(claims=claims, frames=frames):
+                steps = b"".join(b"@%d\n0 %c\n" % step for step in enumerate(frames))
+                verdict = hwtool.check_btor(THREE_BADS, b"sat\n%s\n%s.\n" % (claims, steps))
+                self.judged(verdict, f"accepted {len(frames)} frames", kind=Kind.ACCEPTED, frames=len(frames), claims=tuple(found))
+        self.assertEqual(hwtool.check_aig(EITHER, b"1\nb1\n\n1\n0\n0\n.\n").claims, ((1, 1),))
+        self.assertIsNone(hwtool.check_aig(EITHER, b"1\nb1\n\n1\n.\n").claims)
+
+    def test_many_claims(self):
+        bads = b"".join(b"%d bad 2\n" % line for line in range(3, 5003))
+        claims = b" ".join(b"b%d" % number for number in range(5000))
+        verdict = hwtool.check_btor(b"1 sort bitvec 1\n2 input 1\n" + bads, b"sat\n%s\n@0\n0 0\n@1\n0 1\n.\n" % claims)
+        self.assertEqual(verdict.claims, tuple((number, 1) for number in range(5000)))
+
+    def test_asked_for(self):
+        """A witness is accepted for a bad property only where it claims it; what else is said of it stays."""
+        both = b"sat\nb0 b1\n@0\n0 0\n@1\n0 1\n.\n"
+        first = b"sat\nb0\n@0\n0 0\n@1\n0 1\n.\n"
+        for bad in (0, 1):
+            self.assertEqual(hwtool.check_btor(THREE_BADS, both, bad=bad), hwtool.check_btor(THREE_BADS, both))
+        self.judged(hwtool.check_btor(THREE_BADS, first, bad=1), "not claimed: b1", kind=Kind.NOT_CLAIMED, claim=1)
+        self.judged(hwtool.check_btor(THREE_BADS, both, bad=2), "not claimed: b2", kind=Kind.NOT_CLAIMED, claim=2)
+        self.judged(hwtool.check_aig(EITHER, b"1\nb0\n\n1\n.\n", bad=1), "not claimed: b1", kind=Kind.NOT_CLAIMED, claim=1)
+        self.assertEqual(str(hwtool.check_aig(EITHER, b"1\nb1\n\n0\n.\n", bad=1)), "accepted 1 frames")
+        self.assertEqual(str(hwtool.check_btor(THREE_BADS, b"sat\nb2\n@0\n0 0\n.\n", bad=0)), "not reached: b2")
+        self.assertEqual(str(hwtool.check_btor(THREE_BADS, b"unsat\n", bad=0)), "no claim")
+        self.assertEqual(str(hwtool.check_aig(EITHER, b"1\nb2\n", bad=0)), "malformed line 2: 111 BadClaim")
+
+    def test_claims_of_what_is_made(self):
+        """Each acceptance has its claims: over the model or circuit that the written or dumped witness is one of."""
+        self.assertEqual(hwtool.lift(TOGGLER, b"1\nb0\n0\n\n\n\n.\n").verdict.claims, ((0, 1),))
+        self.assertEqual(hwtool.wave(TOGGLER, TOGGLER_WITNESS).verdict.claims, ((0, 1),))
+        self.assertEqual(hwtool.restore(EITHER, b"1\nb0\n0\n1\n0\n.\n", bad=1).verdict.claims, ((1, 1),))
+        self.assertEqual(hwtool.restore_abc(EITHER, 0, b"0\n0\n0\n1\n").verdict.claims, ((0, 2),))
+        self.assertEqual(hwtool.lift_engine(KEPT_STATE, b"1\nb0\n00\n1\n.\n").verdict.claims, ((0, 0),))
+        self.assertEqual(hwtool.lift_engine_abc(KEPT_STATE, 0, b"00\n1\n", names=True).verdict.claims, ((0, 0),))
+        self.assertIsNone(hwtool.lift(TOGGLER, b"1\nb0\n0\n\n.\n").verdict.claims)
 
     def test_not_reached(self):
         self.judged(hwtool.check_btor(TOGGLER, b"sat\nb0\n@0\n.\n"), "not reached: b0", kind=Kind.NOT_REACHED, claim=0)
@@ -94,14 +141,14 @@ class Witnesses(unittest.TestCase):
         # as docs/FORMATS.md has it
         lifted = hwtool.lift(TOGGLER, b"1\nb0\n0\n\n\n.\n")
         self.assertEqual(lifted.text, b"sat\nb0\n#0\n0 0\n@0\n@1\n.\n")
-        self.judged(lifted.verdict, "accepted 2 frames", kind=Kind.ACCEPTED, frames=2)
+        self.judged(lifted.verdict, "accepted 2 frames", kind=Kind.ACCEPTED, frames=2, claims=((0, 1),))
         self.assertTrue(lifted)
         empty = hwtool.lift(TOGGLER, b"2\n")
         self.assertEqual((str(empty.verdict), empty.text, bool(empty)), ("no claim", b"", False))
 
     def test_wave(self):
         dump = hwtool.wave(TOGGLER, TOGGLER_WITNESS, title=b"a title")
-        self.judged(dump.verdict, "accepted 2 frames", kind=Kind.ACCEPTED, frames=2)
+        self.judged(dump.verdict, "accepted 2 frames", kind=Kind.ACCEPTED, frames=2, claims=((0, 1),))
         self.assertTrue(dump)
         lines = dump.text.split(b"\n")
         self.assertIn(b"$comment a title $end", lines)
@@ -301,6 +348,8 @@ class Refusals(unittest.TestCase):
 
     def test_whole(self):
         for call, given, kind in (
+            (hwtool.check_btor, {"model": KEPT, "bad": 1, "witness": b""}, "model"),
+            (hwtool.check_aig, {"circuit": TWICE, "bad": 2**64 - 1, "witness": b""}, "circuit"),
             (hwtool.engine_form, {"circuit": TWICE, "bad": 1}, "circuit"),
             (hwtool.engine_form, {"circuit": TWICE, "bad": 2**64 - 1}, "circuit"),
             (hwtool.obligation, {"model": KEPT, "bad": 1, "invariant": NEVER_ONE}, "model"),
@@ -317,6 +366,31 @@ class Refusals(unittest.TestCase):
                     call, **given, line=f"{kind}: 142 NoSuchBad", number=142, name="NoSuchBad", kind=kind, unit=None, place=None,
                     remedy="count bad properties from 0",
                 )  # fmt: skip
+
+    def test_outputs_alone(self):
+        """A circuit that has outputs and no bad property is refused with what to do, and its witness is not blamed."""
+        for call, rest in (
+            (hwtool.check_aig, {"witness": b"1\nb0\n\n1\n.\n"}), (hwtool.check_aig, {"witness": b"2\n", "bad": 0}),
+            (hwtool.engine_form, {}), (hwtool.restore, {"witness": b"1\nb0\n0\n1\n.\n"}),
+            (hwtool.restore_abc, {"bad": 0, "found": b"0\n1\n"}), (hwtool.obligation_aig, {"bad": 0, "invariant": NO_CUBE}),
+            (hwtool.check_proof_aig, {"bad": 0, "invariant": NO_CUBE, "proof": b""}),
+            (hwtool.obligation_circuit, {"bad": 0, "witness": EITHER, "aiger": True}),
+            (hwtool.check_proof_circuit, {"bad": 1, "witness": EITHER, "proof": b"", "aiger": True}),
+        ):  # fmt: skip
+            with self.subTest(call.__name__):
+                self.refused(
+                    call, EITHER_OUTPUT, **rest, line="circuit: 145 NoBad", number=145, name="NoBad", kind="circuit", unit=None,
+                    place=None, remedy="`aig-convert --outputs` makes each a bad one",
+                )  # fmt: skip
+        # so is a model whose circuit is such
+        for witness in (b"1\nb0\n\n1\n.\n", b"2\n", b""):
+            self.refused(
+                hwtool.lift, b"1 sort bitvec 1\n2 input 1\n3 output 2\n", witness, line="model: 145 NoBad", number=145, name="NoBad",
+                kind="model", unit=None, place=None, remedy="`aig-convert --outputs` makes each a bad one",
+            )  # fmt: skip
+        self.assertEqual(str(hwtool.lift(b"1 sort bitvec 1\n2 input 1\n", b"1\nb0\n\n1\n.\n").verdict), "malformed line 2: 111 BadClaim")
+        # without outputs nothing else may be meant
+        self.assertEqual(str(hwtool.check_aig(b"aag 1 1 0 0 0\n2\n", b"1\nb0\n\n1\n.\n")), "malformed line 2: 111 BadClaim")
 
     def test_invariants(self):
         for call, first, rest in (
@@ -399,6 +473,8 @@ class Texts(unittest.TestCase):
     def test_positions(self):
         for bad in (-1, 2**64, -(2**64)):
             for call in (
+                lambda: hwtool.check_btor(KEPT, b"", bad=bad),
+                lambda: hwtool.check_aig(TWICE, b"", bad=bad),
                 lambda: hwtool.engine_form(TWICE, bad=bad),
                 lambda: hwtool.obligation(KEPT, bad, NEVER_ONE),
                 lambda: hwtool.check_proof(KEPT, bad, NEVER_ONE, b""),

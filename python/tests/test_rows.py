@@ -2,6 +2,7 @@
 
 import os
 import pathlib
+import re
 import sys
 import tempfile
 import unittest
@@ -20,14 +21,26 @@ FILES = {
 }  # fmt: skip
 # the flags of commands, beside the two forms of circuits, that a call answers to
 FLAGS = {
-    "wave": {"--all"}, "aig-convert": {"--engine"}, "lift": {"--engine", "--abc", "--names"}, "restore": {"--abc"},
-    "obligation": {"--aiger"}, "check-proof": {"--aiger"},
+    "check-btor": {"--names"}, "check-aig": {"--names"}, "wave": {"--all"}, "aig-convert": {"--engine"},
+    "lift": {"--engine", "--abc", "--names"}, "restore": {"--abc"}, "obligation": {"--aiger"}, "check-proof": {"--aiger"},
 }  # fmt: skip
 # the forms of commands that calls of their own answer to
 FORMS = {
     ("lift",), ("lift", "--engine"), ("lift", "--abc", "--engine"), ("restore",), ("restore", "--abc"), ("obligation",),
     ("obligation", "--aiger"), ("check-proof",), ("check-proof", "--aiger"),
 }  # fmt: skip
+# what the program says by name of a claim of an accepted witness
+REACHED = re.compile(rb"(?m)^b\d+ is reached in frame \d+\n")
+# what it says behind a judgement of an engine form whose making the words do not tell
+TAKEN = re.compile(rb"(?m)^taken as made for [^\n]*\n")
+# a position as the program reads it; any other word is a name
+POSITION = re.compile(r"0|[1-9]\d*")
+
+
+def reached(verdict, flags):
+    """The lines that the program prints for the claims of a verdict, where names are asked for."""
+    claims = verdict.claims or () if "--names" in flags else ()
+    return "".join(f"b{claim.bad} is reached in frame {claim.frame}\n" for claim in claims)
 
 
 def answer(command, flags, bad, files, names):
@@ -35,8 +48,8 @@ def answer(command, flags, bad, files, names):
     binary = "--binary" in flags
     try:
         if command in ("check-btor", "check-aig"):
-            verdict = (hwtool.check_btor if command == "check-btor" else hwtool.check_aig)(*files)
-            return 0 if verdict.accepted else 1, f"{verdict}\n".encode(), b""
+            verdict = (hwtool.check_btor if command == "check-btor" else hwtool.check_aig)(*files, bad=bad)
+            return 0 if verdict.accepted else 1, f"{verdict}\n".encode(), reached(verdict, flags).encode()
         # without a choice the only bad property is meant
         if command == "check-proof":
             call = hwtool.check_proof_aig if "--aiger" in flags else hwtool.check_proof
@@ -58,7 +71,7 @@ def answer(command, flags, bad, files, names):
                 told = hwtool.lift_engine(*files, bad=bad, names="--names" in flags)
             else:
                 told = hwtool.lift(*files)
-            return 0 if told else 1, told.text, f"{told.verdict}\n".encode()
+            return 0 if told else 1, told.text, f"{told.verdict}\n{reached(told.verdict, flags)}".encode()
         if command == "aig-convert" and "--engine" in flags:
             return 0, hwtool.engine_form(files[0], bad=bad, binary=binary), b""
         if command == "aig-convert":
@@ -73,7 +86,7 @@ def asked(words):
     command, flags, names, bad, rest = words[0], [], [], None, iter(words[1:])
     for word in rest:
         if word == "--bad":
-            bad = int(next(rest))
+            bad = next(rest)
         elif word.startswith("-"):
             flags.append(word)
         else:
@@ -81,6 +94,10 @@ def asked(words):
     known = {"--binary", "--ascii"} | FLAGS.get(command, set())
     if command not in FILES or not known.issuperset(flags) or len(names) != FILES[command] or any("/" in name for name in names):
         return None
+    # calls take a bad property by its position
+    if bad is not None and not POSITION.fullmatch(bad):
+        return None
+    bad = None if bad is None else int(bad)
     # of a witness of the circuit itself no call lifts the names
     if command == "lift" and "--names" in flags and "--engine" not in flags:
         return None
@@ -113,8 +130,11 @@ class Rows(unittest.TestCase):
                     with self.assertRaises(FileNotFoundError):
                         answer(command, flags, bad, names, names)
                     continue
-                # what is said behind a judgement by name, no call says
-                err = row.err.split(b"\n")[0] + b"\n" if "--names" in flags else row.err
+                # of what is said by name calls say when claims are reached
+                err = TAKEN.sub(b"", row.err)
+                if "--names" in flags and row.status != 2:
+                    line = b"" if command.startswith("check") else err.split(b"\n")[0] + b"\n"
+                    err = line + b"".join(REACHED.findall(err))
                 expected = row.status, row.out, err
                 self.assertEqual(answer(command, flags, bad, names, names), expected)
                 of_bytes = answer(command, flags, bad, texts, names)

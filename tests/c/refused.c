@@ -33,6 +33,7 @@ struct answer {
     uint64_t gates, variables;
     size_t needed;
     uint8_t buffer[1 << 16];
+    struct hwtool_claim claims[4];
 };
 
 /* A witness and a counterexample over the engine form of the circuit of the model, and an invariant over that of the circuit. */
@@ -43,10 +44,17 @@ struct answer {
 #define OF(text) texts[text].bytes, texts[text].length
 #define LITERAL(text) (const uint8_t *)text, sizeof text - 1
 #define INTO a->buffer, sizeof a->buffer, &a->needed, &a->refusal
+#define CLAIMS_INTO a->claims, sizeof a->claims / sizeof *a->claims, &a->needed, &a->refusal
 
 static void check_btor(struct answer *a) { a->status = hwtool_check_btor(OF(MODEL), OF(WITNESS), &a->verdict, &a->refusal); }
 static void check_aig(struct answer *a) {
     a->status = hwtool_check_aig(OF(CIRCUIT), OF(CIRCUIT_WITNESS), &a->verdict, &a->refusal);
+}
+static void check_btor_claims(struct answer *a) {
+    a->status = hwtool_check_btor_claims(OF(MODEL), true, 0, OF(WITNESS), &a->verdict, CLAIMS_INTO);
+}
+static void check_aig_claims(struct answer *a) {
+    a->status = hwtool_check_aig_claims(OF(CIRCUIT), false, 0, OF(CIRCUIT_WITNESS), &a->verdict, CLAIMS_INTO);
 }
 static void lower(struct answer *a) { a->status = hwtool_lower(OF(MODEL), false, INTO); }
 static void cost(struct answer *a) { a->status = hwtool_cost(OF(MODEL), &a->gates, &a->variables, &a->refusal); }
@@ -96,7 +104,8 @@ static const struct {
     {"obligation", obligation}, {"check_proof", check_proof}, {"restore", restore}, {"restore_abc", restore_abc},
     {"lift_engine", lift_engine}, {"lift_engine_abc", lift_engine_abc}, {"obligation_aig", obligation_aig},
     {"check_proof_aig", check_proof_aig}, {"obligation_circuit", obligation_circuit},
-    {"check_proof_circuit", check_proof_circuit},
+    {"check_proof_circuit", check_proof_circuit}, {"check_btor_claims", check_btor_claims},
+    {"check_aig_claims", check_aig_claims},
 };
 
 static struct answer ample, before, now;

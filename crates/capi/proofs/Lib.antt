@@ -1,3 +1,4 @@
+pub mod ClaimedLemmas
 pub mod GuardedLemmas
 pub mod HoldsLemmas
 pub mod LiftedLemmas

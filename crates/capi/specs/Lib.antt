@@ -4,6 +4,7 @@ pub mod Judged
 pub mod Written
 pub mod Lifted
 pub mod Certified
+pub mod Claimed
 pub mod CircuitCertified
 pub mod Restored
 pub mod EngineLifted

@@ -20,17 +20,17 @@ use Rattle.capi.specs.declared.answers.Stop.TheVariants as stop
 
 -- ---- into the caller's buffer
 
--- some bytes that are so stand at the front of a buffer, behind them it is as it was, and their number is told
-pub record Fills (IsSo : List ℕ → Type 0) (old new : List ℕ) (needed : ℕ) : Type 0 where
-  pub bytes : List ℕ
+-- some bytes, or other things, that are so stand at the front of a buffer, behind them it is as it was, and their number is told
+pub record Fills {T : Type 0} (IsSo : List T → Type 0) (old new : List T) (needed : ℕ) : Type 0 where
+  pub bytes : List T
   pub is_so : IsSo bytes
   pub number : needed ≡ length bytes
   pub room : length bytes ≤ length old
   pub filled : new ≡ bytes ++ drop (length bytes) old
 
--- some bytes that are so are more than a buffer has room for, which stays as it was, and their number is told
-pub record Needs (IsSo : List ℕ → Type 0) (old new : List ℕ) (needed : ℕ) : Type 0 where
-  pub bytes : List ℕ
+-- some bytes, or other things, that are so are more than a buffer has room for, which stays as it was, and their number is told
+pub record Needs {T : Type 0} (IsSo : List T → Type 0) (old new : List T) (needed : ℕ) : Type 0 where
+  pub bytes : List T
   pub is_so : IsSo bytes
   pub number : needed ≡ length bytes
   pub small : length old < length bytes

@@ -1,6 +1,7 @@
 //! What the exported calls answer.
 ghost use Rattle.std.specs.Prelude.{◌≡◌};
 ghost use Rattle.capi.specs.Certified.{proof_verdict_of};
+ghost use Rattle.capi.specs.Claimed.{not_claimed};
 ghost use Rattle.capi.specs.Judged.{CallTells, verdict_of};
 ghost use Rattle.capi.specs.Restored.{fault_verdict_of};
 
@@ -8,7 +9,8 @@ use restore::RestoreFault;
 use witness::Judgement;
 
 /// What is said of a witness: `kind` is 0 accepted, 1 not reached, 2 violated, 3 an initial value differs, 4 malformed, 5 no
-/// claim. Of a proof: 0 the property holds, 4 malformed, 6 a step is not implied, 7 it ends before anything is shown.
+/// claim, 8 the bad property that is asked for is not claimed. Of a proof: 0 the property holds, 4 malformed, 6 a step is not
+/// implied, 7 it ends before anything is shown.
 #[repr(C)]
 #[derive(Clone, Copy)]
 pub struct Verdict {
@@ -17,8 +19,8 @@ pub struct Verdict {
     /// The number of what is wrong with a line, where it is malformed, else 0.
     pub why: u32,
     /// How many frames it has, the claim that is not reached, the frame that violates a constraint, the state whose initial
-    /// value differs, or the malformed line, from 1. Of a proof the line with which all is shown, 0 where nothing was to be
-    /// shown, or of the step that is not implied.
+    /// value differs, the malformed line, from 1, or the bad property that is not claimed. Of a proof the line with which all is
+    /// shown, 0 where nothing was to be shown, or of the step that is not implied.
     pub first: u64,
     /// The constraint that is violated, else 0.
     pub second: u64,
@@ -42,6 +44,20 @@ impl Verdict {
             why,
             first,
             second,
+        }
+    }
+}
+
+impl Verdict {
+    /// That an acceptance does not claim the bad property that is asked for.
+    pub(crate) fn not_claimed(bad: u64) -> Verdict
+        ensures { result ≡ not_claimed bad }
+    {
+        Verdict {
+            kind: 8,
+            why: 0,
+            first: bad,
+            second: 0,
         }
     }
 }
@@ -78,6 +94,16 @@ impl Verdict {
             second: 0,
         }
     }
+}
+
+/// A claim of an accepted witness.
+#[repr(C)]
+#[derive(Clone, Copy)]
+pub struct Claim {
+    /// The position of the bad property, from 0.
+    pub bad: u64,
+    /// The first frame in which it is 1, from 0.
+    pub frame: u64,
 }
 
 /// What speaks against a text or its model.

@@ -6,6 +6,7 @@ mod answers;
 mod buffers;
 mod certifying;
 mod circuit_certificates;
+mod claiming;
 mod engine_lifting;
 mod engines;
 mod guarding;
@@ -16,4 +17,4 @@ mod names;
 mod reading;
 mod restoring;
 
-pub use answers::{Refusal, Verdict};
+pub use answers::{Claim, Refusal, Verdict};
