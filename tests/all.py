@@ -50,6 +50,7 @@ CHECKS = [
     Check("sources", ["tests/sources.py"]),
     Check("definitions", ["tools/definitions.py"]),
     Check("documents", ["tests/documents.py"]),
+    Check("blocks", ["tests/blocks.py", PROGRAM], has_library=True),
     Check("program", ["tests/program.sh", PROGRAM]),
     Check("rows", ["tests/rows.py", PROGRAM]),
     Check("hostile", ["tests/hostile.py", PROGRAM]),
