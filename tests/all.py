@@ -53,6 +53,7 @@ CHECKS = [
     Check("blocks", ["tests/blocks.py", PROGRAM], has_library=True),
     Check("program", ["tests/program.sh", PROGRAM]),
     Check("rows", ["tests/rows.py", PROGRAM]),
+    Check("judging", ["tests/judging.py", PROGRAM]),
     Check("hostile", ["tests/hostile.py", PROGRAM]),
     Check("dumps", ["tests/dumps.py", PROGRAM]),
     Check("restored_cuts", ["tests/restored_cuts.py", PROGRAM]),

@@ -119,7 +119,7 @@ class Place:
         (programs / "hwtool").symlink_to(program)
         self.at = self.top / PLACES.get(page, ".")
         self.program = program
-        self.environment = {**os.environ, "LC_ALL": "C.UTF-8", "PYTHONDONTWRITEBYTECODE": "1"}
+        self.environment = {**os.environ, "LC_ALL": "C.UTF-8", "HOME": str(folder), "PYTHONDONTWRITEBYTECODE": "1"}
         self.environment["HWTOOL_LIBRARY"] = str(Path(os.environ.get("HWTOOL_LIBRARY") or TOP / "release/libhwtool.so").resolve())
         self.environment["PATH"] = os.pathsep.join([str(programs), str(self.top / "tools"), os.environ["PATH"]])
 
