@@ -6,6 +6,7 @@
 
 The one source is the table of commands in the crate `command_line`, as `--help` shows it; and of a script what reads its words.
 """
+import argparse
 import importlib.machinery
 import importlib.util
 import pathlib
@@ -18,17 +19,21 @@ import typing
 TOP = pathlib.Path(__file__).resolve().parent.parent
 # The scripts, each with the file that has its function `parser`.
 SCRIPTS = {"hwtool-flow": "tools/flow/command_line.py", "hwtool-judge": "tools/hwtool-judge"}
+# How roff is told marks that it would take for others.
+MARKS = {"\\": r"\e", "-": r"\-", "`": r"\(ga", "^": r"\(ha", "~": r"\(ti"}
 # The values that are files.
 FILE_VALUES = ("FILE", "FOLDER", "LIST", "PROGRAM", "SCRIPT")
 
 
 class Option(typing.NamedTuple):
-    """An option: its letter, its word (one of them may be empty), the name of its value (empty where it has none), what it does."""
+    """An option: its letter, its word (one of them may be empty), the name of its value (empty where it has none), what it does, and
+    whether it may be said again."""
 
     letter: str
     word: str
     value: str
     help: str
+    is_repeated: bool = False
 
     @property
     def names(self) -> list[str]:
@@ -147,7 +152,7 @@ def script_tool(name):
         value = "" if it.nargs == 0 else it.metavar or it.dest.upper()
         if it.option_strings:
             letter, word = (next((given.strip("-") for given in it.option_strings if re.match(front, given)), "") for front in ("-[^-]", "--"))
-            options.append(Option(letter, word, value, text))
+            options.append(Option(letter, word, value, text, isinstance(it, argparse._AppendAction)))
         else:
             arguments.append((value, text))
             usage.append(value + " ..." * (it.nargs in ("+", "*")))
@@ -161,14 +166,16 @@ def script_tool(name):
 
 
 def roff(text):
-    """A text for roff: no `-` is a hyphen, no line is long, and none begins with a mark."""
-    lines = textwrap.wrap(text.replace("\\", r"\e").replace("-", r"\-"), 78, break_long_words=False, break_on_hyphens=False)
+    """A text for roff: marks stand for themselves, no line is long, and none begins with a mark."""
+    for mark, name in MARKS.items():
+        text = text.replace(mark, name)
+    lines = textwrap.wrap(text, 78, break_long_words=False, break_on_hyphens=False)
     return "\n".join(re.sub(r"^([.'])", r"\\&\1", it) for it in lines)
 
 
 def sentence(text):
-    """A text for roff that ends with a full stop."""
-    return roff(text.rstrip(".") + ".")
+    """A text for roff as a sentence."""
+    return roff(text[:1].upper() + text[1:].rstrip(".") + ".")
 
 
 def option_names(it):
@@ -183,7 +190,7 @@ def page(tool, date):
     lines += [".SH NAME", roff(f"{tool.name} - {tool.title}"), ".SH SYNOPSIS"]
     for it in tool.commands:
         name = f"{tool.name} {it.word}".strip()
-        lines += [rf"\fB{roff(name)}\fR {roff(it.usage.removeprefix(name))}", ".br"]
+        lines += [rf"\fB{roff(name)}\fR {roff(it.usage.removeprefix(name).strip())}", ".br"]
     lines[-1:] = [".SH DESCRIPTION", roff(tool.about), f".SH {'COMMANDS' if len(tool.commands) > 1 else 'OPTIONS'}"]
     for it in tool.commands:
         if it.word:
@@ -248,8 +255,9 @@ def in_zsh(tool):
         """An option as zsh takes it."""
         value = f":{each.value}:{'_files' if each.value in FILE_VALUES else ''}" if each.value else ""
         text = re.sub(r"([\[\]:])", r"\\\1", each.help)
-        names = f"'({' '.join(each.names)})'{{{','.join(each.names)}}}" if len(each.names) > 1 else each.names[0]
-        return names + quoted(f"[{text}]{value}")
+        again = "*" if each.is_repeated else f"({' '.join(each.names)})" if len(each.names) > 1 else ""
+        names = f"{{{','.join(each.names)}}}" if len(each.names) > 1 else each.names[0]
+        return quoted(again) * bool(again) + names + quoted(f"[{text}]{value}")
 
     lines = [f"#compdef {tool.name}", f"# Completions of {tool.name} for zsh, made from what it says of its words."]
     rules = {it.word: f"_arguments {' '.join(map(spec, it.options))} '*:file:_files'" for it in tool.commands}
