@@ -33,18 +33,18 @@ SECONDS = 300
 DIAGRAM = "a diagram"
 TOOLCHAIN = "the gate and the checks want the toolchain"
 LAYOUT = "a layout, whose places tests/documents.py looks for"
-# What is not run, by its page and its first line, or that of a command; and why.
+# What is not run, by its page and how its first line begins, or that of a command; and why.
 LEFT_OUT = {
     ("README.md", "./.ci/run"): TOOLCHAIN,
-    ("README.md", "model --lower--> circuit --engine form--> engine --> counterexample --restore, lift--> witness --check-btor--> accepted: it can rise"): DIAGRAM,
-    ("docs/ARCHITECTURE.md", "BTOR2 text --btor2text--> Model --blast, gates--> Circuit --aigertext--> AIGER text"): DIAGRAM,
+    ("README.md", "model --lower--> circuit"): DIAGRAM,
+    ("docs/ARCHITECTURE.md", "BTOR2 text --btor2text--> Model"): DIAGRAM,
     ("docs/ARCHITECTURE.md", "a witness as tools write it --tidy--> a witness"): DIAGRAM,
-    ("docs/DEVELOPING.md", "crates/NAME/src/         the code, with the contracts"): LAYOUT,
+    ("docs/DEVELOPING.md", "crates/NAME/src/ "): LAYOUT,
     ("docs/DEVELOPING.md", "cd crates/NAME"): TOOLCHAIN,
 }
 # The tools that some commands need besides themselves.
 NEEDED = {"hwtool-flow": ["yosys", "berkeley-abc", "cadical"], "yosys-smtbmc": ["z3"]}
-TOOLS = ["yosys", "berkeley-abc", "cadical", "z3", "parallel", "cc", *NEEDED]
+TOOLS = ["yosys", "berkeley-abc", "cadical", "z3", "parallel", *NEEDED]
 
 
 class Left(Exception):
@@ -62,9 +62,13 @@ class Block:
     before: str
 
     @property
-    def is_session(self) -> bool:
-        """Whether it shows commands with what they say."""
-        return self.kind == "text" and self.text.startswith("$ ")
+    def check(self) -> str:
+        """The name of what checks it."""
+        return "session" if self.kind == "text" and self.text.startswith("$ ") else self.kind
+
+    def left(self, line: str) -> Optional[Tuple[str, str]]:
+        """By which row of LEFT_OUT a line is not run, if it is not."""
+        return next((it for it in LEFT_OUT if it[0] == self.page and line.startswith(it[1])), None)
 
 
 def blocks_of(page: str) -> Iterator[Block]:
@@ -94,7 +98,7 @@ def commands_of(text: str) -> Iterator[Tuple[str, str]]:
     while lines:
         command = lines.pop(0).removeprefix("$ ")
         here = re.search(r"<<'?(\w+)'?", command)
-        while here and lines and (command.splitlines()[-1] != here[1] or "\n" not in command.rstrip("\n")):
+        while here and lines and command.splitlines()[-1] != here[1]:
             command += lines.pop(0)
         said = ""
         while lines and not lines[0].startswith("$ "):
@@ -152,7 +156,7 @@ def session(block: Block, place: Place) -> Iterator[str]:
 def shell(block: Block, place: Place) -> Iterator[str]:
     """Which line of commands does not do well; pip has an environment of its own, and no network."""
     for line in block.text.splitlines():
-        if (block.page, line.split("  #")[0].rstrip()) in LEFT_OUT:
+        if block.left(line):
             continue
         if line.startswith("pip "):
             own = place.top / "environment"
@@ -222,7 +226,8 @@ def judged_by(command: str, ending: str) -> Callable[[Block, Place], Iterator[st
 
 def edit(block: Block, place: Place) -> Iterator[str]:
     """Whether a wrong body is one of those that are kept."""
-    if not any(block.text.strip() in it.read_text() for it in [*TOP.glob("crates/*/must-fail/*.edit"), *TOP.glob("tests/wrong-bodies/*/*.edit")]):
+    kept = [*TOP.glob("crates/*/must-fail/*.edit"), *TOP.glob("tests/wrong-bodies/*/*.edit")]
+    if not any(block.text.strip() in it.read_text() for it in kept):
         yield "no crate has this wrong body"
 
 
@@ -260,30 +265,32 @@ class Run:
 
     def block(self, block: Block, place: Place) -> None:
         """Tries a block."""
-        kind = "session" if block.is_session else block.kind
-        named = {(block.page, it.split("  #")[0].rstrip()) for it in block.text.splitlines()} & set(LEFT_OUT)
-        self.used |= named
-        if named and (kind != "sh" or block.text.splitlines()[0] in {it for _, it in named}):
-            self.left.append(f"{block.page}:{block.line}: {LEFT_OUT[min(named)]}")
-            return
+        lines = block.text.splitlines()
+        self.used.update(filter(None, map(block.left, lines)))
+        row = block.left(lines[0])
         missing = lacking(block.text)
-        self.blocks += 1
         try:
-            if missing:
-                raise Left(f"no {', '.join(missing)}")
-            if kind not in CHECKS:
-                self.wrong.append(f"{block.page}:{block.line}: a block of {kind} that is neither run nor left out")
-                return
-            self.commands += len(list(commands_of(block.text))) if kind == "session" else 1
-            self.wrong += [f"{block.page}:{block.line}: {it}" for it in CHECKS[kind](block, place)]
+            if row or missing:
+                raise Left(LEFT_OUT[row] if row else f"no {', '.join(missing)}")
+            if block.check in CHECKS:
+                found = list(CHECKS[block.check](block, place))
+            else:
+                found = [f"a block of {block.kind} that is neither run nor left out"]
         except Left as why:
-            self.blocks -= 1
             self.left.append(f"{block.page}:{block.line}: {why}")
+            return
+        self.blocks += 1
+        self.commands += len(list(commands_of(block.text))) if block.check == "session" else 1
+        self.wrong += [f"{block.page}:{block.line}: {it}" for it in found]
 
     def page(self, page: str, folder: Path) -> None:
         """Tries all blocks of a page, in order, in one folder."""
         found = list(blocks_of(page))
-        missing = lacking("".join(it.text for it in found[:1])) if page in PLACES else []
+        fences = re.findall(r"^\s*(?:```|~~~)", (TOP / page).read_text(encoding="utf-8"), re.M)
+        if len(fences) != 2 * len(found):
+            self.wrong.append(f"{page}: of {len(fences)} fences only {2 * len(found)} are those of blocks that begin at the line's start")
+        # its first block needs what the others go on from
+        missing = lacking(found[0].text) if page in PLACES else []
         if missing:
             self.left.append(f"{page}: no {', '.join(missing)}")
         elif found:

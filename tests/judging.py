@@ -30,12 +30,13 @@ LINES: List[Any] = [
     ("check-btor never.btor2 violates.witness", 1, "violated: frame 0, constraint 0",
      {"verdict": "violated", "frame": 0, "constraint": 0}),
     ("check-btor counter.btor2 twice.witness", 1, "malformed line 1: 110 BadHeader",
-     {"verdict": "malformed", "text_line": 1, "number": 110, "name": "BadHeader"}),
+     {"verdict": "malformed", "unit": "line", "place": 1, "number": 110, "name": "BadHeader"}),
     ("check-btor counter.btor2 unknown.witness", 1, "no claim", {"verdict": "no claim"}),
     ("check-proof wraps.btor2 wraps.invariant wraps.proof", 0, "holds: b0", {"verdict": "holds", "bad": 0}),
     ("check-proof --aiger --circuit ring.aag ring-witness.aag ring.proof", 0, "holds: b0", {"verdict": "holds", "bad": 0}),
     ("check-proof guarded.btor2 guarded.invariant nothing", 1, "not derived", {"verdict": "not derived"}),
-    ("check-proof followers.btor2 followers.invariant says-1.proof", 1, "not implied line 1", {"verdict": "not implied", "text_line": 1}),
+    ("check-proof followers.btor2 followers.invariant says-1.proof", 1, "not implied line 1",
+     {"verdict": "not implied", "unit": "line", "place": 1}),
     ("check-btor no-next.btor2 counter.witness", 2, "no-next.btor2: item 3: 70 NoNext",
      {"verdict": "refused", "file": "no-next.btor2", "unit": "item", "place": 3, "number": 70, "name": "NoNext"}),
     ("check-btor twice.aag counter.witness", 2, "twice.aag: line 1: 20 BadToken",
@@ -77,12 +78,15 @@ class Trials:
         self.tried += 1
         if wanted != got:
             self.wrong += 1
-            print(f"{what}:\n" + "".join(f"{it}\n" for it in difflib.ndiff(pprint.pformat(wanted).splitlines(), pprint.pformat(got).splitlines()) if it[0] != " "))
+            lines = difflib.ndiff(pprint.pformat(wanted).splitlines(), pprint.pformat(got).splitlines())
+            print(f"{what}:\n" + "".join(f"{it}\n" for it in lines if it[0] != " "))
 
     def call(self, *words: str, given: str = "", program: Optional[Path] = None) -> "subprocess.CompletedProcess[str]":
         """What hwtool-judge says."""
         command = [sys.executable, str(TOOL), "--hwtool", str(program or self.program), *words]
-        return subprocess.run(command, cwd=self.folder, input=given, capture_output=True, encoding="utf-8", errors="surrogateescape", timeout=120)
+        return subprocess.run(
+            command, cwd=self.folder, input=given, capture_output=True, encoding="utf-8", errors="surrogateescape", timeout=120
+        )
 
     def script(self, name: str, text: str) -> Path:
         """A program in the place of hwtool."""
@@ -102,7 +106,8 @@ def verdicts(trials: Trials) -> None:
     text = "".join(f"# {at}\n\n{line}\n" for at, (line, *_) in enumerate(LINES))
     for jobs in "1", "2", "9":
         said = trials.call("-j", jobs, "-", given=text)
-        trials.same(f"lines, -j {jobs}", (4, numbered([it[2] for it in LINES]) + SUMMARY + "\n", ""), (said.returncode, said.stdout, said.stderr))
+        printed = numbered([it[2] for it in LINES]) + SUMMARY + "\n"
+        trials.same(f"lines, -j {jobs}", (4, printed, ""), (said.returncode, said.stdout, said.stderr))
         said = trials.call("--json", "-j", jobs, "-", given=text)
         wanted: List[Dict[str, Any]] = [
             {"line": 3 * at, "words": line.split(), "status": status, **more} for at, (line, status, _, more) in enumerate(LINES, 1)
@@ -122,9 +127,11 @@ def lists(trials: Trials) -> None:
     trials.same("an empty list", (0, "0 judgements: 0 accepted or hold, 0 not, 0 refused, 0 failed\n"), (said.returncode, said.stdout))
     (trials.folder / "list").write_text("check-btor --names counter.btor2 counter.witness")
     said = trials.call("list")
-    wanted = "line 1: accepted 4 frames\nline 1: b0 is reached in frame 3\nline 1: b0 is line 10\n1 judgements: 1 accepted or hold, 0 not, 0 refused, 0 failed\n"
+    wanted = "line 1: accepted 4 frames\nline 1: b0 is reached in frame 3\nline 1: b0 is line 10\n"
+    wanted += "1 judgements: 1 accepted or hold, 0 not, 0 refused, 0 failed\n"
     trials.same("a last line without its end, and names", (0, wanted), (said.returncode, said.stdout))
-    trials.same("a list that is not there", (3, "hwtool-judge: nothere: No such file or directory\n"), (trials.call("nothere").returncode, trials.call("nothere").stderr))
+    said = trials.call("nothere")
+    trials.same("a list that is not there", (3, "hwtool-judge: nothere: No such file or directory\n"), (said.returncode, said.stderr))
     trials.same("a folder as list", 3, trials.call(".").returncode)
     said = trials.call("-", given="check-btor \udcff.btor2 x\n")
     trials.same("a name that is no text", (4, True), (said.returncode, "line 1: " in said.stdout))
@@ -140,7 +147,8 @@ def stand_ins(trials: Trials) -> None:
     trials.same("the order of the list", [0.6, 0.3, 0, 0], [float(it.split()[3]) for it in said.stdout.splitlines()[:4]])
     dies = trials.script("dies", 'case $2 in die) kill -KILL $$ ;; quiet) exit 1 ;; hang) sleep 600 ;; esac; echo "accepted 1 frames"\n')
     said = trials.call("-", given="check-btor die x\ncheck-btor quiet x\ncheck-btor good x\n", program=dies)
-    wanted = "line 1: hwtool was ended by signal 9\nline 2: hwtool said nothing\nline 3: accepted 1 frames\n3 judgements: 1 accepted or hold, 1 not, 0 refused, 1 failed\n"
+    wanted = "line 1: hwtool was ended by signal 9\nline 2: hwtool said nothing\nline 3: accepted 1 frames\n"
+    wanted += "3 judgements: 1 accepted or hold, 1 not, 0 refused, 1 failed\n"
     trials.same("a program that dies, and one that says nothing", (3, wanted), (said.returncode, said.stdout))
     (trials.folder / "list").write_text("check-btor good x\n" + "check-btor hang x\n" * 5)
     for number in (signal.SIGINT, signal.SIGTERM, signal.SIGHUP):

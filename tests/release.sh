@@ -160,7 +160,8 @@ if command -v fish >/dev/null; then
 fi
 for script in hwtool-flow hwtool-judge; do
     for option in $("$prefix/bin/$script" --help | grep -o -- '--[a-z][a-z-]*' | sort -u | grep -vx -- --help); do
-        for file in "man/man1/$script.1" "bash-completion/completions/$script" "zsh/site-functions/_$script" "fish/vendor_completions.d/$script.fish"; do
+        for file in "man/man1/$script.1" "bash-completion/completions/$script" "zsh/site-functions/_$script" \
+            "fish/vendor_completions.d/$script.fish"; do
             tr -d '\\' <"$prefix/share/$file" | grep -q -- "${option#--}" || same "$option in $file" there missing
         done
         tried=$((tried + 1))

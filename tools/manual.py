@@ -137,7 +137,8 @@ def parser_of(name):
     file = TOP / SCRIPTS[name]
     sys.dont_write_bytecode = True
     sys.path.insert(0, str(TOP / "tools"))
-    loader = importlib.machinery.SourceFileLoader(".".join(file.relative_to(TOP / "tools").with_suffix("").parts).replace("-", "_"), str(file))
+    module_name = ".".join(file.relative_to(TOP / "tools").with_suffix("").parts).replace("-", "_")
+    loader = importlib.machinery.SourceFileLoader(module_name, str(file))
     module = importlib.util.module_from_spec(importlib.util.spec_from_loader(loader.name, loader))
     loader.exec_module(module)
     return module.parser()
@@ -151,7 +152,8 @@ def script_tool(name):
         text = ((it.help or "") % {**vars(it), "prog": name}).replace("\n", " ")
         value = "" if it.nargs == 0 else it.metavar or it.dest.upper()
         if it.option_strings:
-            letter, word = (next((given.strip("-") for given in it.option_strings if re.match(front, given)), "") for front in ("-[^-]", "--"))
+            words = it.option_strings
+            letter, word = (next((given.strip("-") for given in words if re.match(front, given)), "") for front in ("-[^-]", "--"))
             options.append(Option(letter, word, value, text, isinstance(it, argparse._AppendAction)))
         else:
             arguments.append((value, text))
@@ -159,7 +161,8 @@ def script_tool(name):
     about = reader.description.replace("\n", " ")
     title = re.split(r"[:.]", about)[0]
     statuses = re.findall(r"(\d+) (.*?)(?:; (?=\d)|$)", (reader.epilog or "").replace("\n", " ").partition("exit statuses: ")[2])
-    return Tool(name, title[0].lower() + title[1:], "hwtool", about, [Command("", about, " ".join(usage), arguments, options)], [], statuses)
+    command = Command("", about, " ".join(usage), arguments, options)
+    return Tool(name, title[0].lower() + title[1:], "hwtool", about, [command], [], statuses)
 
 
 # ---- the manual page
@@ -212,7 +215,8 @@ def page(tool, date):
 
 def in_bash(tool):
     """The completions of a tool for bash."""
-    values = "|".join(sorted({name for it in tool.commands for each in it.options if each.value and each.value not in FILE_VALUES for name in each.names}))
+    valued = [each for it in tool.commands for each in it.options if each.value and each.value not in FILE_VALUES]
+    values = "|".join(sorted({name for it in valued for name in it.names}))
     function = "_" + tool.name.replace("-", "_")
     options = {it.word: " ".join(f"--{each.word}" for each in it.options if each.word) for it in tool.commands}
     if "" in options:
