@@ -157,7 +157,7 @@ def script_tool(name):
             options.append(Option(letter, word, value, text, isinstance(it, argparse._AppendAction)))
         else:
             arguments.append((value, text))
-            usage.append(value + " ..." * (it.nargs in ("+", "*")))
+            usage.append({"+": f"{value} ...", "*": f"[{value} ...]"}.get(it.nargs, value))
     about = reader.description.replace("\n", " ")
     title = re.split(r"[:.]", about)[0]
     statuses = re.findall(r"(\d+) (.*?)(?:; (?=\d)|$)", (reader.epilog or "").replace("\n", " ").partition("exit statuses: ")[2])
