@@ -1,6 +1,6 @@
 """Makes the wheel of the package, for pip (PEP 517 and 660). It needs the standard library alone, leaves nothing in its folder,
-and takes along the library that the repository has released, or the one that HWTOOL_LIBRARY names. The same files make the same
-wheel."""
+and takes along the library that the repository has released, or the one that HWTOOL_LIBRARY names, with the terms of what is in it. The
+same files make the same wheel."""
 
 import base64
 import hashlib
@@ -22,7 +22,7 @@ class UnsupportedOperation(Exception):
 
 
 def _library():
-    """The library that the wheel takes along, and the platform that it is of."""
+    """The library that the wheel takes along, the terms of what is in it, and the platform that it is of."""
     file = pathlib.Path(os.environ.get("HWTOOL_LIBRARY") or HERE.parent / "release" / "libhwtool.so")
     if not file.is_file():
         raise SystemExit(f"hwtool: {file} is not there; set HWTOOL_LIBRARY to the libhwtool.so that is to be installed")
@@ -30,7 +30,10 @@ def _library():
     platform = PLATFORMS.get(int.from_bytes(library[18:20], "little"))
     if library[:4] != b"\x7fELF" or platform is None:
         raise SystemExit(f"hwtool: {file} is no library of {' or '.join(PLATFORMS.values())}")
-    return library, platform
+    notices = next((it for it in (file.parent / "NOTICES", HERE.parent / "release" / "NOTICES") if it.is_file()), None)
+    if notices is None:
+        raise SystemExit(f"hwtool: no NOTICES, the terms of what is in {file}, stands beside it")
+    return library, notices.read_bytes(), platform
 
 
 def _metadata(tag):
@@ -71,9 +74,9 @@ def _write(folder, tag, files):
 
 def build_wheel(wheel_directory, config_settings=None, metadata_directory=None):
     """The package, with the library beside it."""
-    library, platform = _library()
+    library, notices, platform = _library()
     sources = sorted(it for it in PACKAGE.iterdir() if it.suffix == ".py" or it.name == "py.typed")
-    files = [*((f"hwtool/{it.name}", it.read_bytes()) for it in sources), ("hwtool/libhwtool.so", library)]
+    files = [*((f"hwtool/{it.name}", it.read_bytes()) for it in sources), ("hwtool/libhwtool.so", library), ("hwtool/NOTICES", notices)]
     return _write(wheel_directory, f"py3-none-{platform}", files)
 
 

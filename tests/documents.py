@@ -1,5 +1,5 @@
 #!/usr/bin/env python3
-"""Reads README.md and docs/, and tells what they name that is not there, links that lead nowhere, and sentences that are too long.
+"""Reads README.md, docs/ and python/README.md, and tells what they name that is not there, links that lead nowhere, and sentences that are too long.
 
 What is looked for in the sources: files and folders, also by the end of their paths; crates, and what is said to be of a crate or of
 a type; names of several words; the commands of hwtool with their options, the options of hwtool-flow and of scripts; the targets of
@@ -15,7 +15,7 @@ import subprocess
 import sys
 
 TOP = pathlib.Path(__file__).resolve().parent.parent
-PAGES = [TOP / "README.md", *sorted((TOP / "docs").glob("*.md"))]
+PAGES = [TOP / "README.md", *sorted((TOP / "docs").glob("*.md")), TOP / "python/README.md"]
 # The most words of a sentence.
 MOST = 30
 # The theorem, which is one sentence.
@@ -127,9 +127,10 @@ def wrong_calls(code):
     """What is wrong with the commands in some code."""
     for found in re.finditer(r"(?:^|[|;&(`$]) *(?:\./|release/)?hwtool +([a-z][a-z-]*)([^|;&>#\n]*)", code, re.M):
         yield from wrong_words(found[1], found[2])
-    for words in re.findall(r"(?<![\w/.-])(?:tools/)?hwtool-flow\b([^|;&>#\n]*)", re.sub("'[^']*'", "", code)):
-        known = read(TOP / "tools/flow/command_line.py") + '"--help"'
-        yield from (f"no option {it} of hwtool-flow" for it in re.findall(r"(?<!\S)--[a-z][\w-]*", words) if f'"{it}"' not in known)
+    for tool, file in (("hwtool-flow", "tools/flow/command_line.py"), ("hwtool-judge", "tools/hwtool-judge")):
+        for words in re.findall(rf"(?<![\w/.-])(?:tools/)?{tool}\b([^|;&>#\n]*)", re.sub("'[^']*'", "", code)):
+            known = read(TOP / file) + '"--help"'
+            yield from (f"no option {it} of {tool}" for it in re.findall(r"(?<!\S)--[a-z][\w-]*", words) if f'"{it}"' not in known)
     for script, words in re.findall(r"(?<![\w/])((?:tests|tools|bench)/[\w.-]+\.(?:py|sh))\b([^|;&>#\n]*)", code):
         if (TOP / script).is_file():
             yield from (f"no option {it} of {script}" for it in re.findall(r"(?<!\S)--[a-z][\w-]*", words) if it not in read(TOP / script))

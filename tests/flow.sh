@@ -1,7 +1,7 @@
 #!/bin/sh
 # From a design in Verilog to a counterexample or a proof that is judged, where yosys, berkeley-abc, cadical and z3 are installed
-# (Debian: apt-get install yosys berkeley-abc cadical z3): each command of docs/FLOW.md is run, and says what stands there; and
-# each bad property of each model of examples/ is looked for by ABC in its engine form. What is found is restored and lifted,
+# (Debian: apt-get install yosys berkeley-abc cadical z3): tests/blocks.py runs each block of docs/FLOW.md, which says what stands
+# there; and each bad property of each model of examples/ is looked for by ABC in its engine form. What is found is restored and lifted,
 # and judged anew; what is proved is proved by CaDiCaL from ABC's invariant, and judged, also with a cube less. Witness circuits are
 # made of that invariant, and of inductions over each property, and judged whole and spoilt. What is kept in examples/ is judged too,
 # and where GTKWave is installed (gtkwave, xvfb) the dumps of witnesses are opened. tests/witness_circuits.py and tests/flow_tool.py
@@ -32,24 +32,14 @@ tell() {
     failed=$((failed + 1))
 }
 
-# the commands of the recipe, in the folder of its example: behind each stands what it says on both streams
-cp -r "$top/examples/flow" "$folder/flow"
-cd "$folder/flow" || exit 1
-awk '/^```/ { inside = !inside; next } inside' "$top/docs/FLOW.md" >"$folder/lines"
-: >"$folder/said"
-while IFS= read -r line; do
-    case $line in
-    "\$ "*)
-        printf '%s\n' "$line"
-        sh -c "${line#\$ }" 2>&1 </dev/null
-        ;;
-    esac
-done <"$folder/lines" >"$folder/said"
-count=$((count + $(grep -c '^\$ ' "$folder/lines")))
-if ! diff "$folder/lines" "$folder/said" >"$folder/differ"; then
-    cat "$folder/differ"
+# the page, whose folder is kept
+flow=$folder/pages/docs-FLOW/hwtool/examples/flow
+if ! python3 "$top/tests/blocks.py" --folder "$folder/pages" "$program" docs/FLOW.md >"$folder/said"; then
+    cat "$folder/said"
     tell "docs/FLOW.md says otherwise"
 fi
+count=$((count + $(sed -n 's/.* with \([0-9]*\) commands.*/\1/p' "$folder/said")))
+cd "$flow" || exit 1
 
 # clocks WANTED NAME ITEMS: whether one-clock.ys stops Yosys at a design with these items, or lets it go on
 clocks() {
@@ -208,7 +198,7 @@ for witness in "$top"/examples/*.witness; do
     model=$(echo "${witness%.witness}" | sed 's/-short$//').btor2
     [ ! -f "$model" ] || opens "$model" "$witness"
 done
-for model in "$top"/examples/*.btor2 "$folder"/flow/*.btor2; do
+for model in "$top"/examples/*.btor2 "$flow"/*.btor2; do
     hwtool lower -o circuit.aag "$model" 2>/dev/null || continue
     bads=$(hwtool show "$model" | sed -n 's/^; .* \([0-9]*\) bad, .*/\1/p')
     k=0

@@ -107,21 +107,69 @@ if python3 -m venv "$work/venv" >/dev/null 2>&1; then
 else
     left+=("pip install: no venv")
 fi
-if command -v groff >/dev/null; then
-    same "the page" "" "$(groff -man -Tutf8 -ww "$prefix/share/man/man1/hwtool.1" 2>&1 >/dev/null)"
-else
-    left+=("the page: no groff")
-fi
-good "completions of bash" bash -c '. '"$prefix"'/share/bash-completion/completions/hwtool; COMP_WORDS=(hwtool low) COMP_CWORD=1; _hwtool; [ "${COMPREPLY[*]}" = lower ]'
-for shell in zsh fish; do
-    if command -v "$shell" >/dev/null; then
-        good "completions of $shell" "$shell" -n "$(find "$prefix" -name _hwtool -o -name hwtool.fish | grep "$shell")"
+good "hwtool-judge" bash -c "echo check-btor examples/toggler.btor2 examples/toggler.witness | $prefix/bin/hwtool-judge -"
+good "hwtool-flow" "$prefix/bin/hwtool-flow" --help
+good "witness-circuit.py" "$prefix/bin/witness-circuit.py" --induction 1 -o "$work/induction.aag" examples/ring.aag
+good "yw-witness.py" "$prefix/bin/yw-witness.py" --help
+good "one-clock.ys" cmp examples/flow/one-clock.ys "$prefix/share/hwtool/one-clock.ys"
+
+# ---- pages and completions
+
+for page in "$prefix"/share/man/man1/*.1; do
+    name=$(basename "$page")
+    if command -v groff >/dev/null; then
+        same "$name" "" "$(groff -man -Tutf8 -ww "$page" 2>&1 >/dev/null)"
     else
-        left+=("completions of $shell: it is not installed")
+        left+=("$name: no groff")
     fi
+    if command -v man >/dev/null; then
+        same "$name, 50 columns wide" "" "$(MANROFFSEQ='' MANWIDTH=50 man --warnings -E UTF-8 -l -Tutf8 -Z "$page" 2>&1 >/dev/null)"
+    else
+        left+=("$name, 50 columns wide: no man")
+    fi
+    if command -v mandoc >/dev/null; then
+        same "$name by mandoc" "" "$(mandoc -T lint "$page")"
+    else
+        left+=("$name by mandoc: it is not installed")
+    fi
+done
+
+# completes FUNCTION WANTED WORD ..: what bash completes of the last of some words
+completes() {
+    # the words are those of the other shell
+    # shellcheck disable=SC2016
+    bash -c 'for it in "$0"/*; do . "$it"; done; COMP_WORDS=("${@:3}") COMP_CWORD=$(($# - 3)); "$1"; [ "${COMPREPLY[*]}" = "$2" ]' \
+        "$prefix/share/bash-completion/completions" "$@"
+}
+good "completions of bash" completes _hwtool lower hwtool low
+good "completions of hwtool-flow for bash" completes _hwtool_flow --clocked-resets hwtool-flow --clo
+good "no completion of a number" completes _hwtool_flow "" hwtool-flow --depth ""
+good "completions of hwtool-judge for bash" completes _hwtool_judge --json hwtool-judge -j 2 --js
+for shell in zsh fish; do
+    for file in $(find "$prefix" -name '_hwtool*' -o -name '*.fish' | grep "$shell"); do
+        if command -v "$shell" >/dev/null; then
+            good "completions of $shell, $(basename "$file")" "$shell" -n "$file"
+        else
+            left+=("completions of $shell, $(basename "$file"): it is not installed")
+        fi
+    done
+done
+if command -v fish >/dev/null; then
+    same "completions of hwtool-flow for fish" --clocked-resets \
+        "$(HOME=$work fish -c "source $prefix/share/fish/vendor_completions.d/hwtool-flow.fish; complete -C 'hwtool-flow --clo'" | cut -f1)"
+fi
+for script in hwtool-flow hwtool-judge; do
+    for option in $("$prefix/bin/$script" --help | grep -o -- '--[a-z][a-z-]*' | sort -u | grep -vx -- --help); do
+        for file in "man/man1/$script.1" "bash-completion/completions/$script" "zsh/site-functions/_$script" \
+            "fish/vendor_completions.d/$script.fish"; do
+            tr -d '\\' <"$prefix/share/$file" | grep -q -- "${option#--}" || same "$option in $file" there missing
+        done
+        tried=$((tried + 1))
+    done
 done
 good "make uninstall" make uninstall PREFIX="$prefix"
 same "what it leaves" "" "$(find "$prefix" -type f -o -type l)"
+good "make uninstall again" make uninstall PREFIX="$prefix"
 
 # ---- a plain Debian userland
 

@@ -380,7 +380,7 @@ def models(trials):
     case = trials.case
     lower = ["lower"]
     section = (TOP / "docs/FORMATS.md").read_text().split("### Init values that are no constants\n")[1].split("\n#")[0]
-    pair, kept = (it.encode() for it in re.findall(r"```text\n(.*?)```", section, re.S))
+    pair, kept = (it.encode() for it in re.findall(r"```btor2\n(.*?)```", section, re.S))
     case(11, "the lines of docs/FORMATS.md", lower, pair, kept, True)
     free = pair.replace(b"5 init 2 4 3\n", b"")
     trials.control("an init that is left out", pair, free)

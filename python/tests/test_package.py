@@ -3,6 +3,7 @@
 import csv
 import hashlib
 import base64
+import inspect
 import io
 import os
 import pathlib
@@ -22,6 +23,24 @@ if not os.environ.get("HWTOOL_TEST_INSTALLED"):
 
 import hwtool  # noqa: E402
 from hwtool import _library, _remedies  # noqa: E402
+
+
+class Readme(unittest.TestCase):
+    def test_calls(self):
+        """The table of README has each call of the package as it is made, and no other."""
+        rows = re.findall(r"^\| (`\w+\(.*?) \|", (SOURCES / "README.md").read_text(encoding="utf-8"), re.M)
+        public = {name: getattr(hwtool, name) for name in hwtool.__all__ if inspect.isfunction(getattr(hwtool, name))}
+        calls = [
+            f"{name}{inspect.Signature([it.replace(annotation=it.empty) for it in inspect.signature(call).parameters.values()])}"
+            for name, call in public.items()
+        ]  # fmt: skip
+        self.assertEqual(sorted(re.findall(r"`(.*?)`", " ".join(rows))), sorted(re.sub(r"b''", 'b""', it) for it in calls))
+
+    def test_answers(self):
+        """It names each type of an answer."""
+        text = (SOURCES / "README.md").read_text(encoding="utf-8")
+        types = [it for it in hwtool.__all__ if inspect.isclass(getattr(hwtool, it)) and it not in ("Kind", "ProofKind", "Case")]
+        self.assertEqual([it for it in types if not re.search(rf"\b{it}\b", text)], [])
 
 
 class Remedies(unittest.TestCase):
@@ -167,6 +186,7 @@ class Wheel(unittest.TestCase):
                 self.assertEqual(digest, "sha256=" + base64.urlsafe_b64encode(hashlib.sha256(content).digest()).decode().rstrip("="))
                 self.assertEqual(int(length), len(content))
             self.assertTrue({"hwtool/__init__.py", "hwtool/py.typed", "hwtool/libhwtool.so"} <= set(names))
+            self.assertEqual(wheel.read("hwtool/NOTICES"), (TOP / "release" / "NOTICES").read_bytes())
             wheel.extractall(self.folder / "site")
         environment = {name: value for name, value in os.environ.items() if name not in ("HWTOOL_LIBRARY", "PYTHONPATH")}
         code = (

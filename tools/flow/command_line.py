@@ -40,8 +40,8 @@ YOSYS_HELP = """steps of Yosys in place of those that hwtool-flow chooses; it re
 model last"""
 
 
-def words_of(arguments: List[str]) -> argparse.Namespace:
-    """What the words say."""
+def parser() -> Words:
+    """What reads the words, of which tools/manual.py makes the manual page."""
     it = Words(prog="hwtool-flow", description=ABOUT, epilog=STATUSES)
     it.add_argument("design", nargs="+", type=Path, help="files of Verilog (.v, .sv), or one of BTOR2 (.btor2) or AIGER (.aig, .aag)")
     it.add_argument("--top", metavar="MODULE", help="the top module of a design in Verilog")
@@ -49,9 +49,7 @@ def words_of(arguments: List[str]) -> argparse.Namespace:
     it.add_argument("--depth", type=whole, default=100, metavar="N", help="how many frames are searched for counterexamples (100)")
     it.add_argument("--timeout", type=seconds, default=60.0, metavar="SECONDS", help="what engines and solver have for each property (60)")
     processors = len(os.sched_getaffinity(0))
-    it.add_argument(
-        "-j", "--jobs", type=whole, default=processors, metavar="N", help=f"how many properties side by side ({processors} here)"
-    )
+    it.add_argument("-j", "--jobs", type=whole, default=processors, metavar="N", help="how many properties side by side (as processors)")
     it.add_argument("--engine", action="append", metavar="ENGINE", help=ENGINE_HELP)
     it.add_argument("--solver", metavar="SOLVER", help=SOLVER_HELP)
     it.add_argument("--yosys", type=Path, metavar="SCRIPT", help=YOSYS_HELP)
@@ -64,7 +62,12 @@ def words_of(arguments: List[str]) -> argparse.Namespace:
     it.add_argument("-o", "--output", type=Path, metavar="FOLDER", help="the folder of results (NAME.flow)")
     it.add_argument("--json", action="store_true", help="print results.json, and all else on standard error")
     it.add_argument("--hwtool", metavar="PROGRAM", help="the program that checks; else the one beside hwtool-flow, or on the path")
-    return it.parse_args(arguments)
+    return it
+
+
+def words_of(arguments: List[str]) -> argparse.Namespace:
+    """What the words say."""
+    return parser().parse_args(arguments)
 
 
 def whole(word: str) -> int:
