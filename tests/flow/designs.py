@@ -34,6 +34,7 @@ DESIGNS = {
     "drains.btor2": [HOLDS],
     "ring.aag": [HOLDS],
     "twice.aag": [1],
+}
 
 
 def try_designs(place):

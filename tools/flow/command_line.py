@@ -9,10 +9,10 @@ from typing import List, NoReturn
 
 from . import engines
 from .engines import InputRefused, WordsRefused
-from .program import Broke, Stopped
-from .results import Folder
-from .run import Run, Status, Tools
-from .running import Runner
+from .folders import Folder
+from .program import Broke
+from .run import Run, Status, Tools, inputs_of
+from .running import Runner, Stopped
 
 
 class Words(argparse.ArgumentParser):
@@ -92,7 +92,7 @@ def obey_signals(runner: Runner) -> List[int]:
 
     def stop(number: int, _frame: object) -> None:
         seen.append(number)
-        runner.stopping.set()
+        runner.stop()
 
     for number in (signal.SIGINT, signal.SIGTERM, signal.SIGHUP):
         signal.signal(number, stop)
@@ -102,12 +102,14 @@ def obey_signals(runner: Runner) -> List[int]:
 def status_of(words: argparse.Namespace, runner: Runner) -> int:
     """Does all that the words ask for."""
     there = Tools.found(words)
-    folder = Folder(folder_named(words))
+    folder = Folder(folder_named(words), inputs_of(words))
     try:
-        runner.settle(folder.path)
         return Run(words, runner, folder, there).status()
     finally:
+        runner.end_strays()
         folder.end()
+        for line in folder.notes:
+            fault(line, Status.BROKE)
 
 
 def main(arguments: List[str]) -> int:

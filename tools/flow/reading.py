@@ -134,7 +134,7 @@ class Reader:
 
     def make(self, *words: str) -> Path:
         """The file that a command makes; refused in the words of `hwtool` where it makes none."""
-        said = self.program.call(*words, "-o", f"{self.work.name}/made", aside=self.work)
+        said = self.program.call(*words, "-o", f"{self.work.name}/made")
         if said.status != 0:
             raise NotTaken(self.wanted.files[0], said.line)
         return self.work / "made"
