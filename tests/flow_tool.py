@@ -15,7 +15,7 @@ import tempfile
 import time
 
 from flow import designs, devices, engines, folders, page, stops
-from flow.common import TOP, Place, tally
+from flow.common import MARK, TOP, Place, tally
 
 # The groups of tries, by name.
 GROUPS = {
@@ -45,6 +45,7 @@ def main() -> None:
     if words.only not in (None, *groups):
         words.error(f"--only is one of {', '.join(groups)}")
     with tempfile.TemporaryDirectory() as folder:
+        os.environ[MARK] = os.path.realpath(folder)
         place = Place(os.path.realpath(folder), os.path.abspath(words.program))
         for name, group in groups.items():
             if words.only in (None, name):

@@ -136,11 +136,11 @@ class Run:
 
     def adopted(self, model: Model) -> Dict[int, Dict[str, Any]]:
         """What an earlier run told of each property of the same model; of another one all that was made is removed."""
+        keys = [it.key for it in model.properties]
+        self.folder.claim([RESULTS, CHECK, REPORT, model.name, *keys, *(f"{key}/{name}" for key in keys for name in FILES)])
         told = told_before(self.folder, model)
         if told is None:
             self.folder.clear()
-        keys = [it.key for it in model.properties]
-        self.folder.claim([RESULTS, CHECK, REPORT, model.name, *keys, *(f"{key}/{name}" for key in keys for name in FILES)])
         self.folder.write(model.held)
         return told or {}
 
