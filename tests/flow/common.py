@@ -31,6 +31,11 @@ class Tally:
             self.wrong += 1
             print(f"{what}: wanted {wanted!r}, got {got!r}", flush=True)
 
+    def untouched(self, what, before, now):
+        """What was there before is there now, and nothing else."""
+        names = sorted(it for it in {*before, *now} if before.get(it) != now.get(it))
+        self.same(what, [], [(it, before.get(it), now.get(it)) for it in names])
+
     def true(self, what, is_so, why=""):
         """Something is so."""
         self.tried += 1

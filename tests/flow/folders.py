@@ -75,7 +75,7 @@ def refused(place, what, folder, watched, design="holds.btor2"):
     done = place.run(design, "-o", folder)
     told = done.returncode == WORDS and "by -o" in done.stderr
     tally.true(f"{what}: refused", told, f"{done.returncode} {done.stderr}")
-    tally.same(f"{what}: nothing is touched", before, seen(watched))
+    tally.untouched(f"{what}: nothing is touched", before, seen(watched))
 
 
 def try_going_over(place):
@@ -98,13 +98,13 @@ def try_going_over(place):
     (at / "b0").symlink_to(precious / "b0")
     for design, wanted in (("fails.btor2", ONE_FAILS), ("holds.btor2", ALL_HOLD)):
         tally.same(f"a link in place of b0, {design}", wanted, place.run(design, "-o", "over").returncode)
-    tally.same("what links led to", before, seen(precious))
+    tally.untouched("what links led to", before, seen(precious))
     (at / MARK).write_text(FIRST_LINE + f"../precious/b0\n{precious}/results.json\nb9/../../precious/check.sh\n.\n..\n\nb0\n")
     for it in ("results.json", "check.sh", "report.html", "model.btor2"):
         (at / it).unlink()
     shutil.rmtree(at / "b0")
     tally.same("a mark that lists what is elsewhere", ONE_FAILS, place.run("fails.btor2", "-o", "over").returncode)
-    tally.same("what it listed", before, seen(precious))
+    tally.untouched("what it listed", before, seen(precious))
 
 
 def try_in_the_way(place):
@@ -151,7 +151,7 @@ def try_each_place(stranger):
         done = stranger.run("queue.v", *words)
         what = f"{' '.join(map(str, words)) or 'no -o'}"
         tally.true(f"{what}: refused", done.returncode == WORDS and "by -o" in done.stderr, f"{done.returncode} {done.stderr}")
-        tally.same(f"{what}: nothing is touched", before, seen(stranger.folder))
+        tally.untouched(f"{what}: nothing is touched", before, seen(stranger.folder))
     for empty in ("home/project/design", "home/other-home"):
         (stranger.folder / empty).mkdir()
     shutil.move(stranger.project / "queue.v", stranger.project / "design")
@@ -161,9 +161,8 @@ def try_each_place(stranger):
     for folder in ("design", stranger.folder / "home/other-home"):
         done = stranger.run("design/queue.v", "-o", folder, env=environment)
         tally.true(f"{folder}: refused", done.returncode == WORDS and "by -o" in done.stderr, f"{done.returncode} {done.stderr}")
-        tally.same(f"{folder}: nothing is touched", before, seen(stranger.folder))
+        tally.untouched(f"{folder}: nothing is touched", before, seen(stranger.folder))
     done = stranger.run("design/queue.v", "-o", "results")
     tally.same("a folder of its own", ONE_FAILS, done.returncode)
-    new = {it: what for it, what in seen(stranger.folder, [stranger.project / "results"]).items() if before.get(it) != what}
-    tally.same("what is touched outside of it", {}, new)
+    tally.untouched("what is touched outside of it", before, seen(stranger.folder, [stranger.project / "results"]))
     stranger.no_one_left("folders")

@@ -86,12 +86,16 @@ class Folder:
             raise
         return []
 
-    def _listed(self) -> List[str]:
-        """What the mark lists; a folder without one is refused."""
-        lines: List[str] = []
+    def _lines(self) -> List[str]:
+        """The lines of the mark, which is a plain file of this user; none where it is not."""
         with contextlib.suppress(OSError), os.fdopen(open_plain(MARK, self.at), encoding="utf-8", errors="replace") as file:
             if os.fstat(file.fileno()).st_uid == os.geteuid():
-                lines = file.read().split("\n")
+                return file.read().split("\n")
+        return []
+
+    def _listed(self) -> List[str]:
+        """What the mark lists and is there; a folder without one is refused."""
+        lines = self._lines()
         if lines[:1] != [FIRST_LINE]:
             raise WordsRefused(
                 f"{self.path}: is there, and is no folder of results, since it has no mark ({MARK}) of this user; "
@@ -274,7 +278,8 @@ class Folder:
         names = [it for it in self._names if self._is_there(it)]
         with contextlib.suppress(OSError):
             if names:
-                self._write_mark(names)
+                if self._lines() != [FIRST_LINE, *names, ""]:
+                    self._write_mark(names)
             else:
                 self._remove_if_new()
         os.close(self.at)

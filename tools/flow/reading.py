@@ -220,7 +220,7 @@ class Reader:
             [] if READS.search("\n".join(steps)) else [str(it) if re.match(r"[\w/.]", str(it)) else f"./{it}" for it in self.wanted.files]
         )
         words = ["yosys", "-q", "-f", frontend, "-b", backend, "-o", os.path.abspath(into), "-s", os.path.abspath(script), *files]
-        ended = self.runner.run(words, Path.cwd(), log, None, None, None)
+        ended = self.runner.run(words, Path.cwd(), log, None, None, None, self.work)
         if ended.how is Ending.STOPPED:
             raise Stopped
         if ended.status != 0:
