@@ -14,7 +14,7 @@ import sys
 import tempfile
 import time
 
-from flow import designs, devices, engines, folders, page, stops
+from flow import designs, devices, engines, folders, hostile, page, signals, stops
 from flow.common import MARK, TOP, Place, tally
 
 # The groups of tries, by name.
@@ -23,10 +23,12 @@ GROUPS = {
     "words": designs.try_words,
     "names": designs.try_names,
     "folders": folders.try_folders,
+    "hostile": hostile.try_hostile,
     "lies": engines.try_lies,
     "other_forms": engines.try_other_forms,
     "going_on": stops.try_going_on,
     "stopped": stops.try_stopped,
+    "signals": signals.try_signals,
     "many": stops.try_many,
     "devices": devices.try_devices,
     "missing": devices.try_missing,

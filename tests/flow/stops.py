@@ -7,7 +7,7 @@ import signal
 import subprocess
 import time
 
-from .common import BROKE, EXAMPLES, HOLDS, ONE_FAILS, WORDS, counter_model, lasting, left_over, liar, tally, wait_for
+from .common import ALL_HOLD, BROKE, EXAMPLES, HOLDS, ONE_FAILS, WORDS, counter_model, lasting, left_over, liar, tally, wait_for
 
 
 # How often a run is stopped at a chance time, in each of two ways.
@@ -82,7 +82,7 @@ def try_held(place):
     process.wait()
     wait_for(lambda: not left_over(place), 5)
     tally.same("what is left of a run that was killed", [], left_over(place))
-    tally.same("the next run", ONE_FAILS, place.run("queue.v", "-o", "held.flow").returncode)
+    tally.same("the next run", ALL_HOLD, place.run("queue.v", "-o", "held.flow").returncode)
 
 
 def try_stopped(place):
