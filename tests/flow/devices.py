@@ -1,5 +1,6 @@
 """Devices that fail, tools that are not there, a program that is broken, and what is installed."""
 import os
+import pathlib
 import shutil
 import subprocess
 import sys
