@@ -120,7 +120,7 @@ class Runner:
         """
         ours, theirs = os.pipe()
         try:
-            around = [sys.executable, "-I", "-S", "-c", WARDEN, str(most_bytes or 0), str(theirs), *words]
+            around = [sys.executable, "-I", "-S", "-B", "-c", WARDEN, str(most_bytes or 0), str(theirs), *words]
             environment = {**os.environ, "HOME": str(home)} if home else None
             ended = self._run(around, folder, out, err, seconds, subprocess.PIPE, None, [theirs], environment)
             self.end_strays()
