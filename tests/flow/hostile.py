@@ -61,7 +61,7 @@ def try_way(stranger, way, told):
     shutil.copy(stranger.program, program)
     stranger.give()
     precious, places = seen(stranger.home / "precious"), lies_of(stranger)
-    words = ["queue.v", "--engine", f"liar={stranger.lie(way, *(places[it] for it in told))}"]
+    words = ["queue.v", "--engine", f"liar={stranger.hostile(way, [places[it] for it in told])}"]
     done = stranger.run(*words, *HONEST, seconds=MOST_SECONDS)
     tally.true(f"{way}: it ends", done.returncode is not None, f"after {done.seconds:.0f} s")
     stranger.no_one_left(way)
@@ -90,7 +90,7 @@ def try_no_memory_of_it(stranger):
     at = stranger.project / "queue.flow"
     for way in ("no_rights", "pipes_for_all", "folders_for_all"):
         told = [at] if way != "no_rights" else []
-        stranger.run("queue.v", "--engine", f"liar={stranger.lie(way, *told)}", "--timeout", "10", seconds=MOST_SECONDS)
+        stranger.run("queue.v", "--engine", f"liar={stranger.hostile(way, told)}", "--timeout", "10", seconds=MOST_SECONDS)
         done = stranger.run("queue.v", *HONEST, seconds=MOST_SECONDS)
         tally.true(f"a run behind {way}", done.returncode == ONE_FAILS and done.seconds < SOON, f"{done.returncode} {done.stderr}")
         tally.same(f"a run behind {way}: check.sh", (0, "3 confirmed, 0 not"), stranger.checked("queue.flow"))

@@ -58,7 +58,8 @@ def make_tree(stranger):
     """A root directory with Python, hwtool and hwtool-flow; and at its top, in the home and beside a design, what looks like results."""
     root = stranger.folder / "root"
     python = pathlib.Path(PYTHON).resolve()
-    library = pathlib.Path(subprocess.run([PYTHON, "-c", "import os; print(os.path.dirname(os.__file__))"], capture_output=True, text=True).stdout.strip())
+    where = subprocess.run([PYTHON, "-c", "import os; print(os.path.dirname(os.__file__))"], capture_output=True, text=True, check=True)
+    library = pathlib.Path(where.stdout.strip())
     ignored = shutil.ignore_patterns("dist-packages", "test", "idlelib", "ensurepip", "lib2to3", "tkinter", "config-*")
     shutil.copytree(library, root / library.relative_to("/"), ignore=ignored)
     for it in [python, *libraries(python, stranger.program, *library.glob("lib-dynload/*.so"))]:
