@@ -24,6 +24,7 @@ def try_hostile(place):
     try:
         for way in WAYS:
             try_way(Stranger(place, way), way, WAYS[way])
+        try_wiped(Stranger(place, "wiped"))
         try_no_memory_of_it(Stranger(place, "again"))
     finally:
         end_all()
@@ -83,6 +84,16 @@ def try_way(stranger, way, told):
     stranger.no_one_left(f"{way}, alone")
     tally.true(f"{way}, alone: nothing is confirmed", alone.returncode in ALONE, f"{alone.returncode} {alone.stdout} {alone.stderr}")
     tally.untouched(f"{way}, alone: files of the user", precious, seen(stranger.home / "precious"))
+
+
+def try_wiped(stranger):
+    """An engine that removes what others work on: that may cost them their time, and neither the run nor the truth."""
+    done = stranger.run("queue.v", "--engine", f"liar={stranger.hostile('wipe_places', [])}", *HONEST, seconds=MOST_SECONDS)
+    tally.true("others wiped: what is said", done.returncode in (ONE_FAILS, OPEN), f"{done.returncode} {done.stdout} {done.stderr}")
+    kept = [(it["number"], (it["verdict"], it["frame"])) for it in stranger.results("queue.flow")["properties"]]
+    tally.same("others wiped: false verdicts", [], [it for it in kept if it[1] not in (TRUE[it[0]], ("open", None))])
+    stranger.no_one_left("others wiped")
+    stranger.nothing_left("others wiped")
 
 
 def try_no_memory_of_it(stranger):
