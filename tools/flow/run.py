@@ -13,9 +13,9 @@ from typing import Any, Dict, Iterator, List, Optional
 from . import engines
 from .engines import Engine, WordsRefused
 from .model import Model, Property, Verdict
-from .program import HANDED, Broke, Program
+from .program import Broke, Program
 from .check_script import script
-from .files import place_of_work, sum_of_file
+from .files import HANDED, place_of_work, sum_of_file
 from .folders import Folder
 from .proving import FILES, Prover
 from .reading import Reader, Wanted
@@ -149,7 +149,7 @@ class Run:
         told = told_before(self.folder, model)
         if told is None:
             self.folder.clear()
-        self.folder.write(model.held)
+        self.folder.write(model.held, for_good=True)
         return told or {}
 
     def chosen(self, model: Model) -> List[Property]:
