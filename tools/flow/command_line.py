@@ -9,10 +9,10 @@ from typing import List, NoReturn
 
 from . import engines
 from .engines import InputRefused, WordsRefused
-from .program import Broke, Stopped
-from .results import Folder
-from .run import Run, Status, Tools
-from .running import Runner
+from .folders import Folder
+from .program import Broke
+from .run import Run, Status, Tools, inputs_of
+from .running import Runner, Stopped
 
 
 class Words(argparse.ArgumentParser):
@@ -89,28 +89,39 @@ def folder_named(words: argparse.Namespace) -> Path:
     return words.output or Path(f"{words.design[0].stem}.flow")
 
 
+SIGNALS = (signal.SIGINT, signal.SIGTERM, signal.SIGHUP)
+
+
 def obey_signals(runner: Runner) -> List[int]:
     """Has a signal stop all that runs; the list that is answered then has its number."""
     seen: List[int] = []
 
     def stop(number: int, _frame: object) -> None:
         seen.append(number)
-        runner.stopping.set()
+        runner.stop()
 
-    for number in (signal.SIGINT, signal.SIGTERM, signal.SIGHUP):
+    for number in SIGNALS:
         signal.signal(number, stop)
     return seen
+
+
+def pass_over_signals() -> None:
+    """Has no further signal change how this ends."""
+    for number in SIGNALS:
+        signal.signal(number, signal.SIG_IGN)
 
 
 def status_of(words: argparse.Namespace, runner: Runner) -> int:
     """Does all that the words ask for."""
     there = Tools.found(words)
-    folder = Folder(folder_named(words))
+    folder = Folder(folder_named(words), inputs_of(words))
     try:
-        runner.settle(folder.path)
         return Run(words, runner, folder, there).status()
     finally:
+        runner.end_strays()
         folder.end()
+        for line in folder.notes:
+            fault(line, Status.BROKE)
 
 
 def main(arguments: List[str]) -> int:
@@ -129,6 +140,8 @@ def main(arguments: List[str]) -> int:
         return fault(str(why), Status.INPUT_REFUSED)
     except (Broke, OSError) as why:
         return fault(str(why), Status.BROKE)
+    finally:
+        pass_over_signals()
 
 
 def fault(line: str, status: int) -> int:

@@ -1,8 +1,10 @@
 """What is proved of: a model in BTOR2 or a circuit in AIGER, and its bad properties."""
 import enum
-from dataclasses import dataclass, field
+from dataclasses import dataclass, field, replace
 from pathlib import Path
 from typing import List, Optional
+
+from .files import Held, open_whole
 
 
 class Kind(enum.Enum):
@@ -69,6 +71,20 @@ class Model:
     steps: List[str] = field(default_factory=list)
     # the names of a circuit's inputs
     inputs: List[str] = field(default_factory=list)
+    # its text, once all that checks it reads nothing else
+    text: Optional[Held] = None
+
+    @property
+    def held(self) -> Held:
+        """Its text, which no other process can change."""
+        if self.text is None:
+            raise ValueError(f"{self.path}: is not held yet")
+        return self.text
+
+    def taken(self) -> "Model":
+        """The same with its text, as that stands in its file now."""
+        with open_whole(self.path) as file:
+            return replace(self, text=Held.of_file(self.name, file.fileno()))
 
     @property
     def name(self) -> str:

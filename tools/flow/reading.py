@@ -134,7 +134,7 @@ class Reader:
 
     def make(self, *words: str) -> Path:
         """The file that a command makes; refused in the words of `hwtool` where it makes none."""
-        said = self.program.call(*words, "-o", f"{self.work.name}/made", aside=self.work)
+        said = self.program.call(*words, "-o", f"{self.work.name}/made")
         if said.status != 0:
             raise NotTaken(self.wanted.files[0], said.line)
         return self.work / "made"
@@ -220,7 +220,7 @@ class Reader:
             [] if READS.search("\n".join(steps)) else [str(it) if re.match(r"[\w/.]", str(it)) else f"./{it}" for it in self.wanted.files]
         )
         words = ["yosys", "-q", "-f", frontend, "-b", backend, "-o", os.path.abspath(into), "-s", os.path.abspath(script), *files]
-        ended = self.runner.run(words, Path.cwd(), log, None, None, None)
+        ended = self.runner.run(words, Path.cwd(), log, None, None, None, self.work)
         if ended.how is Ending.STOPPED:
             raise Stopped
         if ended.status != 0:

@@ -37,12 +37,15 @@ def beside(name: str) -> str:
     return Path(__file__).with_name(name).read_text(encoding="utf-8")
 
 
+STYLE, SCRIPT = beside("page.css"), beside("page.js")
+
+
 def page(results: Results, folder: Path) -> str:
     """The page of all that a run came to, whose files stand in a folder."""
     head = [
         '<meta charset="utf-8">\n<meta name="viewport" content="width=device-width, initial-scale=1">\n',
         tag("title", text(f"{results.design}: properties")),
-        tag("style", "\n", beside("page.css")),
+        tag("style", "\n", STYLE),
     ]
     sections = [section(it, results, folder, place < MOST_OPEN) for place, it in enumerate(results.outcomes)]
     body = [
@@ -51,7 +54,7 @@ def page(results: Results, folder: Path) -> str:
         tag("h2", "Property by property"),
         *sections,
         trust(results),
-        tag("script", "\n", beside("page.js")),
+        tag("script", "\n", SCRIPT),
     ]
     return "<!DOCTYPE html>\n" + tag("html", tag("head", *head), "\n", tag("body", "\n", "\n".join(body)), lang="en") + "\n"
 
@@ -186,10 +189,10 @@ def trust(results: Results) -> str:
     """What the page says of trust, and how the model came to be."""
     model = results.model
     said = [
-        f"Each verdict here is the exit status and the words of one call of {text(results.program)}, over ",
+        f"Each verdict here is the exit status and the words of one call of {text(results.program.version)}, over ",
         tag("code", model.name),
         " (SHA-256 ",
-        tag("code", results.sum),
+        tag("code", results.model.held.sum),
         "). Of engines and solvers nothing is trusted, and of hwtool-flow that it hands on these words: ",
         tag("code", "sh check.sh"),
         " makes all the calls again, by hwtool alone.",

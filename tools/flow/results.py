@@ -1,21 +1,17 @@
-"""What is kept in NAME.flow: results.json, check.sh, and what an earlier run left of the same model."""
-import fcntl
-import hashlib
+"""What a run came to: the outcome of each property, and results.json, which tells it."""
 import json
-import os
-import re
 import shlex
-import shutil
 from dataclasses import asdict, dataclass, field
 from pathlib import Path
 from typing import Any, Dict, List, Optional, Sequence
 
-from .engines import WordsRefused
-from .model import Kind, Model, Property, Verdict
-from .program import Broke
+from .files import Held, sum_of_file
+from .folders import Folder
+from .model import Model, Property, Verdict
 
-RESULTS, CHECK, REPORT, WORK = "results.json", "check.sh", "report.html", "work"
-MODELS = [f"model.{kind.value}" for kind in Kind]
+RESULTS, CHECK, REPORT = "results.json", "check.sh", "report.html"
+# Larger ones are none of a run.
+MOST_RESULTS = 1 << 28
 
 
 @dataclass
@@ -67,6 +63,8 @@ class Outcome:
     command: Sequence[str] = ()
     said: str = ""
     tries: List[Try] = field(default_factory=list)
+    # the sum of each of its files
+    files: Dict[str, str] = field(default_factory=dict)
     # why a program that is relied on, or a device, stopped it
     broke: str = ""
 
@@ -82,7 +80,7 @@ class Outcome:
             for claim in one["claims"]:
                 claim["verdict"] = claim["verdict"].value
         first = ["number", "name", "place", "verdict", "frame", "engine", "seconds", "check", "command", "said"]
-        return {key: it[key] for key in [*first, "tries", "broke"]}
+        return {key: it[key] for key in [*first, "files", "tries", "broke"]}
 
     def confirming_line(self) -> str:
         """The line that its check says, which names the property."""
@@ -90,129 +88,75 @@ class Outcome:
         return f"{key} is reached in frame {self.frame}" if self.verdict is Verdict.FAILS else f"holds: {key}"
 
 
-CHECK_HEAD = """#!/bin/sh
-# Confirms each verdict of results.json anew, by hwtool alone: sh check.sh [PROGRAM]. The status is 0 where all are confirmed.
-hwtool=$(command -v "${1:-hwtool}") || { echo "check.sh: no ${1:-hwtool}" >&2; exit 3; }
-case $hwtool in /*) ;; *) hwtool=$PWD/$hwtool ;; esac
-cd "$(dirname "$0")" || exit 3
-confirmed=0
-wrong=0
+@dataclass(frozen=True)
+class Source:
+    """A file that the model was made of, and its sum when it was read."""
 
-# confirm LINE WORDS ..: the call does well, and says this line
-confirm() {
-    line=$1
-    shift
-    if said=$("$hwtool" "$@" 2>&1) && printf '%s\\n' "$said" | grep -Fqx -e "$line"; then
-        confirmed=$((confirmed + 1))
-        echo "$line"
-    else
-        wrong=$((wrong + 1))
-        printf 'not so: %s\\n%s\\n' "$line" "$said"
-    fi
-}
+    path: Path
+    sum: str
 
-"""
-CHECK_END = """
-echo "$confirmed confirmed, $wrong not"
-[ "$wrong" = 0 ]
-"""
+    @staticmethod
+    def of(path: Path) -> "Source":
+        """A file as it is now."""
+        return Source(path, sum_of_file(path))
 
-
-class Folder:
-    """The folder of results, which one run has at a time."""
-
-    def __init__(self, path: Path) -> None:
-        self.path, self.work, self.sum = path, path / WORK, ""
-        if path.is_dir() and os.listdir(path) and not any((path / it).exists() for it in [RESULTS, WORK, *MODELS]):
-            raise WordsRefused(f"{path}: is there, and is no folder of results")
-        path.mkdir(exist_ok=True)
-        self._lock = os.open(path, os.O_RDONLY)
+    def is_as_it_was(self) -> bool:
+        """Whether it is what was read."""
         try:
-            fcntl.flock(self._lock, fcntl.LOCK_EX | fcntl.LOCK_NB)
-        except BlockingIOError:
-            raise Broke(f"{path}: another run of hwtool-flow goes on there") from None
-        shutil.rmtree(self.work, ignore_errors=True)
-        self.work.mkdir()
-
-    def adopt(self, model: Model) -> Dict[int, Dict[str, Any]]:
-        """Takes a model in. Answers what an earlier run told of each property of the same model; else all of it is removed."""
-        place = self.path / model.name
-        self.sum = sum_of(model.path)
-        same = place.exists() and sum_of(place) == self.sum
-        told = self._told() if same else None
-        if told is None:
-            self._clear()
-            os.replace(model.path, place)
-        return told or {}
-
-    def _told(self) -> Optional[Dict[int, Dict[str, Any]]]:
-        """The properties of results.json, by number, where it is of the model of this run."""
-        try:
-            results = json.loads((self.path / RESULTS).read_text(encoding="utf-8"))
-            return {it["number"]: it for it in results["properties"]} if results["sum"] == self.sum else None
-        except (OSError, ValueError, KeyError, TypeError):
-            return None
-
-    def _clear(self) -> None:
-        """Removes what an earlier run left; what names it first."""
-        for name in [RESULTS, CHECK, REPORT, *MODELS]:
-            (self.path / name).unlink(missing_ok=True)
-        for it in self.path.iterdir():
-            if re.fullmatch(r"b\d+", it.name):
-                shutil.rmtree(it)
-
-    def write(self, name: str, text: str, executable: bool = False) -> None:
-        """Writes a file, whole or not at all."""
-        part = self.work / f"{name}.part"
-        part.write_bytes(text.encode("utf-8", "backslashreplace"))
-        if executable:
-            part.chmod(0o755)
-        os.replace(part, self.path / name)
-
-    def end(self) -> None:
-        """Removes what only the run needed."""
-        shutil.rmtree(self.work, ignore_errors=True)
-        os.close(self._lock)
-        if not os.listdir(self.path):
-            self.path.rmdir()
+            return sum_of_file(self.path) == self.sum
+        except OSError:
+            return False
 
 
-def sum_of(path: Path) -> str:
-    """The sum (SHA-256) of a file."""
-    found = hashlib.sha256()
-    with open(path, "rb") as file:
-        for piece in iter(lambda: file.read(1 << 20), b""):
-            found.update(piece)
-    return found.hexdigest()
+@dataclass(frozen=True)
+class Tool:
+    """A program of a run: its name there, its file with the sum of that, and its version by its own word."""
+
+    name: str
+    program: str
+    sum: str
+    version: str = ""
 
 
 @dataclass
 class Results:
-    """All that a run came to: the design, the model that was made of it, and the outcome of each property."""
+    """All that a run came to: the design, the model that was made of it, the programs, and the outcome of each property."""
 
     design: str
-    program: str
+    sources: List[Source]
+    program: Tool
+    tools: List[Tool]
     model: Model
-    sum: str
     outcomes: List[Outcome]
 
     def as_json(self) -> str:
         """The text of results.json."""
         front = {
             "design": self.design,
+            "sources": [{"name": str(it.path), "sum": it.sum} for it in self.sources],
             "model": self.model.name,
-            "sum": self.sum,
+            "sum": self.model.held.sum,
             "reading": self.model.notes,
             "steps": self.model.steps,
-            "program": self.program,
+            "program": self.program.version,
+            "tools": [asdict(it) for it in [self.program, *self.tools]],
         }
         return json.dumps({**front, "properties": [it.as_json() for it in self.outcomes]}, indent=1) + "\n"
 
-    def as_check(self) -> str:
-        """The text of check.sh."""
-        checked = [it for it in self.outcomes if it.verdict is not Verdict.OPEN]
-        lines = [shlex.join(["confirm", it.confirming_line(), *it.command]) for it in checked]
-        return CHECK_HEAD + "\n".join(lines) + CHECK_END
+
+def told_before(folder: Folder, model: Model) -> Optional[Dict[int, Dict[str, Any]]]:
+    """What results.json tells of each property by its number, where an earlier run wrote it of the same model."""
+    try:
+        text = b"".join(folder.read(RESULTS, MOST_RESULTS).pieces())
+        results = json.loads(text)
+        return {it["number"]: it for it in results["properties"]} if results["sum"] == model.held.sum else None
+    except (OSError, ValueError, KeyError, TypeError, RecursionError):
+        return None
+
+
+def written(name: str, text: str) -> Held:
+    """A text that is to be written under a name."""
+    return Held.of_bytes(name, text.encode("utf-8", "surrogateescape"))
 
 
 def count_of(outcomes: Sequence[Outcome], verdict: Verdict) -> int:

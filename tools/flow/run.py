@@ -1,22 +1,26 @@
 """A run: what is there for it, its properties side by side, and what is told and kept of them."""
 import argparse
 import concurrent.futures
+import contextlib
 import enum
 import os
 import shutil
 import sys
 from dataclasses import dataclass
 from pathlib import Path
-from typing import Any, Dict, List, Optional
+from typing import Any, Dict, Iterator, List, Optional
 
 from . import engines
 from .engines import Engine, WordsRefused
 from .model import Model, Property, Verdict
 from .program import Broke, Program
-from .proving import Prover
+from .check_script import script
+from .files import HANDED, place_of_work, sum_of_file
+from .folders import Folder
+from .proving import FILES, Prover
 from .reading import Reader, Wanted
 from .report import page
-from .results import CHECK, REPORT, RESULTS, Folder, Outcome, Results, count_of
+from .results import CHECK, REPORT, RESULTS, Outcome, Results, Source, Tool, count_of, told_before, written
 from .running import Runner
 from .telling import Teller, counted, summary
 
@@ -70,36 +74,83 @@ class Tools:
             raise Broke("; ".join(missing))
         return Tools(program_named(words.hwtool), there, solver, missing)
 
+    def told(self, runner: Runner, by_yosys: bool) -> List[Tool]:
+        """What results.json tells of the engines and the solver, and of Yosys where that made the model."""
+        used = [(it.name, engines.program_of(it)) for it in [*self.engines, *([self.solver] if self.solver else [])]]
+        used += [("yosys", shutil.which("yosys"))] if by_yosys else []
+        versions = {program: engines.version_of(program, runner) for program in {it for _, it in used if it}}
+        return [Tool(name, program, sum_if_readable(program), versions[program]) for name, program in used if program]
+
+
+def sum_if_readable(program: str) -> str:
+    """The sum of a program, which may be one that can be run and not read."""
+    try:
+        return sum_of_file(program)
+    except OSError:
+        return ""
+
+
+def inputs_of(words: argparse.Namespace) -> List[Path]:
+    """The files that a run reads."""
+    return [*words.design, *([words.yosys] if words.yosys else [])]
+
 
 class Run:
     """One run over a design, in its folder of results."""
 
     def __init__(self, words: argparse.Namespace, runner: Runner, folder: Folder, tools: Tools) -> None:
         self.words, self.runner, self.folder, self.tools = words, runner, folder, tools
-        self.program = Program(tools.program, folder.path, runner, words.timeout)
+        self.program = Program(tools.program, runner, words.timeout)
         # with --json standard output is for that alone
         self.into = sys.stderr if words.json else sys.stdout
         self.design = " ".join(map(str, words.design))
+        self.sources = [Source.of(it) for it in inputs_of(words)]
+        self.parts = [Source.of(it) for it in sorted(Path(__file__).parent.glob("*.*"))]
 
     def status(self) -> Status:
         """Reads the design, works on its properties, and tells and keeps what came of it."""
         for line in self.tools.missing:
-            print(f"hwtool-flow: {line}", file=sys.stderr, flush=True)
-        version = self.program.version(self.folder.work)
-        wanted = Wanted(self.words.design, self.words.top, self.words.yosys, self.words.clocked_resets, self.words.zero_undefined)
-        model = Reader(wanted, self.program, self.runner, self.folder.work).model()
+            self.note(line)
+        program = Tool("hwtool", self.program.path, self.program.sum, self.program.version())
+        model = self.model()
         properties = self.chosen(model)
         teller = Teller(self.into, [str(it) for it in properties])
         teller.say(f"reading    {self.design} {', '.join([model.notes[0], counted(len(model.properties)), *model.notes[1:]])}")
-        told = self.folder.adopt(model)
-        results = Results(self.design, version, model, self.folder.sum, [Outcome(it) for it in model.properties])
-        self.work(results, properties, told, teller)
-        self.folder.write(REPORT, page(results, self.folder.path))
+        tools = self.tools.told(self.runner, bool(model.steps))
+        results = Results(self.design, self.sources, program, tools, model, [Outcome(it) for it in model.properties])
+        self.work(results, properties, teller)
         if self.words.json:
             sys.stdout.write(results.as_json())
         outcomes = [results.outcomes[it.number] for it in properties]
         teller.say(summary(outcomes, str(self.folder.path)))
         return self.status_of(outcomes)
+
+    def note(self, line: str) -> None:
+        """Tells something beside the results."""
+        print(f"hwtool-flow: {line}", file=sys.stderr, flush=True)
+
+    def model(self) -> Model:
+        """The model of the design. From here on nothing is read of it but what this holds."""
+        words = self.words
+        wanted = Wanted(words.design, words.top, words.yosys, words.clocked_resets, words.zero_undefined)
+        with place_of_work(self.runner.stopping.is_set, self.note) as place, self.runner.at_once():
+            work = place.path / "reading"
+            work.mkdir()
+            model = Reader(wanted, self.program.within(place.path), self.runner, work).model().taken()
+        for it in self.sources:
+            if not it.is_as_it_was():
+                raise Broke(f"{it.path}: was changed while it was read")
+        return model
+
+    def adopted(self, model: Model) -> Dict[int, Dict[str, Any]]:
+        """What an earlier run told of each property of the same model; of another one all that was made is removed."""
+        keys = [it.key for it in model.properties]
+        self.folder.claim([RESULTS, CHECK, REPORT, model.name, *keys, *(f"{key}/{name}" for key in keys for name in FILES)])
+        told = told_before(self.folder, model)
+        if told is None:
+            self.folder.clear()
+        self.folder.write(model.held, for_good=True)
+        return told or {}
 
     def chosen(self, model: Model) -> List[Property]:
         """The properties that the words name, or all."""
@@ -110,49 +161,89 @@ class Run:
                 raise WordsRefused(f"no property {word}; there are {', '.join(map(str, model.properties))}")
         return [it for it in model.properties if any(it.is_named(word) for word in self.words.property)]
 
-    def work(self, results: Results, properties: List[Property], told: Dict[int, Dict[str, Any]], teller: Teller) -> None:
-        """Confirms again what an earlier run found, and then works on the others, so many side by side."""
+    def work(self, results: Results, properties: List[Property], teller: Teller) -> None:
+        """Confirms again what an earlier run found, works on the others, so many side by side, and keeps what came of it."""
         tools, words = self.tools, self.words
+        told = self.adopted(results.model)
         prover = Prover(results.model, self.folder, self.program, self.runner, tools.engines, tools.solver, words.depth, words.timeout)
-        with Pool(words.jobs) as pool:
+        # until the checks have answered, results.json stays as it is
+        self.confirm_again(prover, results, told)
+        try:
+            self.keep(results)
+            self.prove(prover, results, properties, teller)
+        finally:
+            teller.clear()
+            self.settle(results)
+        with self.runner.at_once():
+            self.folder.write(written(REPORT, page(results, Path(f"{HANDED}{self.folder.at}"))))
+
+    @contextlib.contextmanager
+    def workers(self) -> Iterator[Pool]:
+        """What works on so many properties side by side. Whatever goes wrong, nothing goes on behind it."""
+        with Pool(self.words.jobs) as pool:
             try:
-                self.confirm_again(pool, prover, results, told)
-                self.prove(pool, prover, results, properties, teller)
+                yield pool
             except BaseException:
-                # whatever went wrong here, nothing goes on behind it
                 self.runner.stopping.set()
                 raise
-            finally:
-                teller.clear()
 
-    def confirm_again(self, pool: Pool, prover: Prover, results: Results, told: Dict[int, Dict[str, Any]]) -> None:
-        """Asks the checks about all that an earlier run found. Until they have answered, what that kept stays as it is."""
+    def confirm_again(self, prover: Prover, results: Results, told: Dict[int, Dict[str, Any]]) -> None:
+        """Asks the checks about all that an earlier run found."""
         known = [it for it in results.model.properties if it.number in told]
-        for outcome in pool.map(lambda it: prover.confirm_again(it, told[it.number]), known):
-            if outcome:
-                results.outcomes[outcome.property.number] = outcome
-        self.keep(results)
+        with self.workers() as pool:
+            for outcome in pool.map(lambda it: prover.confirm_again(it, told[it.number]), known):
+                if outcome:
+                    results.outcomes[outcome.property.number] = outcome
 
-    def prove(self, pool: Pool, prover: Prover, results: Results, properties: List[Property], teller: Teller) -> None:
+    def prove(self, prover: Prover, results: Results, properties: List[Property], teller: Teller) -> None:
         """Works on the properties that are open, and keeps and tells what comes of them."""
         is_open = {it.number for it in properties if results.outcomes[it.number].verdict is Verdict.OPEN}
         for it in properties:
             if it.number not in is_open:
                 teller.done(results.outcomes[it.number])
-        waiting = {pool.submit(prover.prove, it) for it in properties if it.number in is_open}
-        while waiting:
-            done, waiting = concurrent.futures.wait(waiting, REDRAWN, concurrent.futures.FIRST_COMPLETED)
-            for outcome in [it.result() for it in done]:
-                results.outcomes[outcome.property.number] = outcome
-                teller.done(outcome)
-            if done:
-                self.keep(results)
-            teller.show(prover.shown(), len(waiting))
+
+        def proved(it: Property) -> Outcome:
+            """What comes of a property, which is noted also where all is to stop."""
+            results.outcomes[it.number] = prover.prove(it)
+            return results.outcomes[it.number]
+
+        with self.workers() as pool:
+            waiting = {pool.submit(proved, it) for it in properties if it.number in is_open}
+            while waiting:
+                done, waiting = concurrent.futures.wait(waiting, REDRAWN, concurrent.futures.FIRST_COMPLETED)
+                for outcome in [it.result() for it in done]:
+                    teller.done(outcome)
+                if done:
+                    self.keep(results)
+                self.tell_notes(teller)
+                teller.show(prover.shown(), len(waiting))
 
     def keep(self, results: Results) -> None:
         """Writes what came of all properties so far."""
-        self.folder.write(RESULTS, results.as_json())
-        self.folder.write(CHECK, results.as_check(), executable=True)
+        self.folder.write(written(RESULTS, results.as_json()))
+        self.folder.write(written(CHECK, script(results, self.folder.path)), executable=True)
+
+    def settle(self, results: Results) -> None:
+        """Once nothing else runs: has what is kept be what was judged, and withdraws a verdict of which that cannot be had."""
+        self.runner.end_strays()
+        lost = self.folder.settle()
+        for it in list(results.outcomes):
+            spoilt = [name for name in lost if name in it.files]
+            if spoilt:
+                broke = f"{spoilt[0]}: another process spoilt what was judged"
+                results.outcomes[it.property.number] = Outcome(it.property, tries=it.tries, broke=broke)
+        self.keep(results)
+        for it in [*self.sources, *self.parts]:
+            if not it.is_as_it_was():
+                self.folder.notes.append(f"{it.path}: was changed while this went on; the verdicts are of what was read before")
+        if not self.program.is_as_it_was():
+            self.folder.notes.append(f"{self.program.path}: was changed while this went on; the verdicts are by what it was before")
+
+    def tell_notes(self, teller: Teller) -> None:
+        """Tells what other processes spoilt."""
+        while self.folder.notes:
+            teller.clear()
+            self.note(self.folder.notes.pop(0))
 
     def status_of(self, outcomes: List[Outcome]) -> Status:
         """The exit status."""
