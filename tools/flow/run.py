@@ -14,11 +14,12 @@ from .engines import Engine, WordsRefused
 from .model import Model, Property, Verdict
 from .program import Broke, Program
 from .proving import Prover
-from .reading import Reader, Wanted
+from .reading import Reader
 from .report import page
 from .results import CHECK, REPORT, RESULTS, Folder, Outcome, Results, count_of
 from .running import Runner
 from .telling import Teller, counted, summary
+from .verilog import Wanted
 
 Pool = concurrent.futures.ThreadPoolExecutor
 
