@@ -7,6 +7,8 @@ from typing import Dict, Iterator, List, Sequence, Tuple, Union
 Bit = Union[Tuple[str, int], str]
 # Ports of Yosys's own cells that drive.
 OUTPUTS = {"\\Y", "\\Q", "\\RD_DATA", "\\X", "\\CO"}
+# What stands before the module of an array of parts, with how many there are.
+ARRAY = "$array:"
 PLACES = re.compile(r"\[(-?\d+)(?::(-?\d+))?\]\Z")
 
 
@@ -24,7 +26,12 @@ class Cell:
     @property
     def is_own(self) -> bool:
         """Whether it is one of Yosys's, and no part of the design that stayed a part."""
-        return self.kind.startswith("$")
+        return self.kind.startswith("$") and not self.kind.startswith(ARRAY)
+
+    @property
+    def part(self) -> str:
+        """The module of a part, or of an array of parts."""
+        return self.kind.split(":", 2)[-1] if self.kind.startswith(ARRAY) else self.kind
 
     def parameter(self, name: str, default: str = "") -> str:
         """The digits of a parameter, highest first."""

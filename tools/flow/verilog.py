@@ -130,7 +130,7 @@ class Bridge:
                 raise WordsRefused(f"--top {printable(wanted)}: no such module; there are {listed(sorted(own))}")
             top, how = wanted, "by --top"
         else:
-            parts = {name: {cell.kind[1:] for cell in it.cells if not cell.is_own} for name, it in own.items()}
+            parts = {name: {cell.part[1:] for cell in it.cells if not cell.is_own} for name, it in own.items()}
             roots = [name for name in own if not any(name in below for other, below in parts.items() if other != name)]
             if len(roots) != 1:
                 said = f"several modules are part of no other: {listed(sorted(roots))}; choose one by --top"

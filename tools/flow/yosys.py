@@ -12,8 +12,10 @@ from .program import Broke, Stopped
 from .running import Ended, Ending, Runner, tail_of
 
 WARNING = re.compile(r"((?:\S+:\d+: )?)Warning: (.*)")
-# Warnings of steps that select what a design need not have.
+# What is no warning of the design: steps that select what it need not have.
 OF_STEPS = re.compile(r"did not match any|^Selection ")
+# A warning of what Yosys made itself, of which the design knows nothing: words of a memory beyond its last one.
+OF_YOSYS = re.compile(r"No driver for signal \$")
 # Warnings of what makes the model another design's.
 REFUSED = re.compile(r"multiple conflicting drivers|found logic loop|Driver-driver conflict|is driving constant bits")
 # Assertions that this Yosys does not read, in a text that it found at fault.
@@ -70,7 +72,7 @@ class Yosys:
     def _warn(self, log: Iterator[str]) -> None:
         """Keeps the warnings of a run; those that say that the model is another design's are refusals."""
         for found, more in warnings_in(log):
-            if OF_STEPS.search(found[2]):
+            if OF_STEPS.search(found[2]) or OF_YOSYS.match(found[2]):
                 continue
             text = self.names.told(" ".join([found[1] + found[2].rstrip(), *more]))
             if REFUSED.search(text):
