@@ -9,9 +9,12 @@ import re
 import shlex
 import shutil
 from dataclasses import dataclass
+from pathlib import Path
 from typing import Dict, List, Optional, Sequence
 
+from .files import nameless
 from .model import Evidence, Verdict
+from .running import Runner, head_of
 
 
 class WordsRefused(Exception):
@@ -120,6 +123,18 @@ SOLVERS = [
 # By which names a program may be on the path.
 NAMES = {"berkeley-abc": ["berkeley-abc", "abc", "yosys-abc"]}
 
+# The words by which a program of the tables tells its version.
+VERSIONS = {
+    "yosys": ["-V"],
+    "berkeley-abc": ["-q", "version"],
+    "abc": ["-q", "version"],
+    "yosys-abc": ["-q", "version"],
+    "cadical": ["--version"],
+    "kissat": ["--version"],
+}
+# How long a program has for that, in seconds.
+VERSION_SECONDS = 10.0
+
 # The Debian package that has a program.
 PACKAGES = {"yosys": "yosys", "berkeley-abc": "berkeley-abc", "cadical": "cadical"}
 
@@ -173,3 +188,14 @@ def missing_line(program: str) -> str:
     """What to say of a program that is not there."""
     package = PACKAGES.get(program)
     return f"{program}: not on the path" + (f"; Debian has it as {package}: apt-get install {package}" if package else "")
+
+
+def version_of(program: str, runner: Runner) -> str:
+    """The version of a program of the tables by its own word, in its last line; of another program nothing is asked."""
+    words = VERSIONS.get(os.path.basename(program))
+    if words is None:
+        return ""
+    with nameless() as said:
+        ended = runner.run_own([program, *words], Path("/"), said.fileno(), said.fileno(), VERSION_SECONDS)
+        lines = head_of(said.fileno()).split("\n")
+    return next((it.strip() for it in reversed(lines) if it.strip()), "") if ended.status == 0 else ""

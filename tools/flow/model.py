@@ -1,8 +1,10 @@
 """What is proved of: texts of a model in BTOR2 or of a circuit in AIGER with their bad properties, and the design that they are of."""
 import enum
-from dataclasses import dataclass, field
+from dataclasses import dataclass, field, replace
 from pathlib import Path
-from typing import List, Optional, Sequence
+from typing import List, Optional
+
+from .files import Held, open_whole
 
 
 class Kind(enum.Enum):
@@ -95,6 +97,20 @@ class Model:
     inputs: List[str] = field(default_factory=list)
     # how many constraints it has
     constraints: int = 0
+    # its text, once all that checks it reads nothing else
+    text: Optional[Held] = None
+
+    @property
+    def held(self) -> Held:
+        """Its text, which no other process can change."""
+        if self.text is None:
+            raise ValueError(f"{self.path}: is not held yet")
+        return self.text
+
+    def taken(self) -> "Model":
+        """The same with its text, as that stands in its file now."""
+        with open_whole(self.path) as file:
+            return replace(self, text=Held.of_file(self.name, file.fileno()))
 
     @property
     def name(self) -> str:
@@ -139,6 +155,19 @@ class Design:
     hint: str = ""
     # the steps of Yosys by which it was made
     steps: List[str] = field(default_factory=list)
+    # modules of the source that are not in it
+    left_out: List[str] = field(default_factory=list)
+
+    def taken(self) -> "Design":
+        """The same with its texts, as they stand in their files now."""
+        held = {it.role: it.taken() for it in self.texts}
+        return replace(
+            self,
+            model=held[Role.MODEL],
+            covers=held.get(Role.COVER),
+            enables=held.get(Role.ENABLES),
+            frames=held.get(Role.FRAMES),
+        )
 
     @property
     def texts(self) -> List[Model]:
@@ -154,8 +183,3 @@ class Design:
 def counted(count: int, one: str, many: str = "") -> str:
     """So many of something."""
     return f"{count} {one if count == 1 else many or one + 's'}"
-
-
-def names_of(said: Sequence[Said]) -> str:
-    """Statements in a row."""
-    return ", ".join(map(str, said))

@@ -5,8 +5,6 @@ is told by the name of the user.
 """
 import os
 import re
-import shutil
-import tempfile
 from pathlib import Path
 from typing import Dict
 
@@ -22,24 +20,14 @@ def printable(name: str) -> str:
     return "".join(it if it.isprintable() else "?" for it in os.fsencode(name).decode("utf-8", "replace"))
 
 
-def private_folder() -> Path:
-    """A new folder whose name is plain."""
-    for above in (tempfile.gettempdir(), "/tmp", "/var/tmp", "/dev/shm"):
-        if PLAIN.match(above) and os.access(above, os.W_OK):
-            return Path(tempfile.mkdtemp(prefix="hwtool-flow-", dir=above)).resolve()
-    raise Broke("no folder for what is temporary whose name has only letters, digits and _ . / + -; name one by TMPDIR")
-
-
 class Names:
-    """Plain names for files and folders, in a private folder that goes with it."""
+    """Plain names for files and folders, in a private folder."""
 
-    def __init__(self) -> None:
-        self.folder = private_folder()
+    def __init__(self, folder: Path) -> None:
+        if not PLAIN.match(str(folder)):
+            raise Broke(f"{folder}: the folder for what is temporary has signs that Yosys takes apart; name another one by TMPDIR")
+        self.folder = folder.resolve()
         self._links: Dict[str, str] = {}
-
-    def end(self) -> None:
-        """Removes the folder."""
-        shutil.rmtree(self.folder, ignore_errors=True)
 
     def own(self, name: str) -> str:
         """A file in the private folder."""

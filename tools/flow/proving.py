@@ -1,17 +1,18 @@
 """One property: engines are tried in order, and what they claim is checked. Who claims what is not confirmed costs its time."""
-import os
-import shutil
+import contextlib
 import threading
 import time
 from dataclasses import dataclass, field
 from pathlib import Path
-from typing import Any, Dict, Iterator, List, Optional, Tuple
+from typing import Any, BinaryIO, ContextManager, Dict, Iterator, List, Optional, Tuple
 
 from .engines import Engine, Gives, Handed
+from .files import Held, Place, nameless, place_of_work
+from .folders import Folder
 from .model import Evidence, Kind, Model, Property, Verdict
-from .program import Broke, Judged, Program, Said, Stopped
-from .results import Claim, Folder, Outcome, Try, tries_of_json
-from .running import Ended, Ending, Runner, tail_of
+from .program import HANDED, Broke, Judged, Program, Said
+from .results import Claim, Outcome, Try, tries_of_json, written
+from .running import Ended, Ending, Runner, Stopped, tail_of
 from .waves import read_dump, saved_file, shown
 
 # What an engine, and what a solver, may write into one file.
@@ -21,6 +22,8 @@ SOLVER_BYTES = 4 << 30
 MOST_WORDS = 200
 FORM, DUMP, SAVED, FORMULA, PROOF = "form.aig", "dump.vcd", "dump.gtkw", "formula.cnf", "proof"
 WITNESS = Evidence.WITNESS.value
+# The files of a property.
+FILES = [FORM, DUMP, SAVED, FORMULA, PROOF, *(it.value for it in Evidence)]
 
 
 @dataclass
@@ -30,13 +33,18 @@ class Running:
     property: Property
     began: float = field(default_factory=time.monotonic)
     engine: Optional[Engine] = None
-    log: Optional[Path] = None
+    log: Optional[BinaryIO] = None
 
     def how_far(self) -> str:
         """By what it is being worked on, for how long, and in which frame that is."""
         if self.engine is None:
             return f"{time.monotonic() - self.began:.0f} s"
-        frame = self.engine.frame_in(tail_of(self.log)) if self.log else None
+        log = self.log
+        try:
+            frame = self.engine.frame_in(tail_of(log.fileno())) if log else None
+        except ValueError:
+            # it was closed meanwhile
+            frame = None
         return f"{self.engine.name}, {time.monotonic() - self.began:.0f} s" + (f", frame {frame}" if frame is not None else "")
 
 
@@ -52,6 +60,8 @@ class Prover:
     solver: Optional[Engine]
     depth: int
     timeout: float
+    # the design's one clock, of which a picture says no more than its frames
+    clock: str = ""
     # what is being worked on, by number, for whoever shows it
     running: Dict[int, Running] = field(default_factory=dict)
     lock: threading.Lock = field(default_factory=threading.Lock)
@@ -68,7 +78,6 @@ class Prover:
         finally:
             with self.lock:
                 del self.running[it.number]
-            shutil.rmtree(job.aside, ignore_errors=True)
 
     def shown(self) -> List[Running]:
         """The properties that are being worked on, in order."""
@@ -78,24 +87,17 @@ class Prover:
     def confirm_again(self, it: Property, told: Dict[str, Any]) -> Optional[Outcome]:
         """What an earlier run told of a property, where its check says so now; nothing where it does not."""
         job = Job(self, it)
-        job.aside.mkdir(exist_ok=True)
-        evidence = next((one for one in Evidence if one.shows.value == told.get("verdict") and job.is_kept(one)), None)
-        if evidence is None:
-            return None
-        try:
-            judged = job.judge(evidence)
-        except Broke:
-            return None
-        if not judged.confirmed:
-            return None
         seconds = told.get("seconds")
         seconds = seconds if isinstance(seconds, float) else 0.0
-        return confirmed(it, evidence.shows, judged, str(told.get("engine")), seconds, tries_of_json(told))
-
-
-def confirmed(it: Property, verdict: Verdict, judged: Judged, engine: str, seconds: float, tries: List[Try]) -> Outcome:
-    """The outcome of a property whose verdict a check has confirmed."""
-    return Outcome(it, verdict, judged.frame, engine, seconds, judged.check, judged.command, judged.line, tries)
+        try:
+            for evidence in [one for one in Evidence if one.shows.value == told.get("judged")]:
+                grounds = job.kept_before(evidence)
+                judged = job.judge(grounds) if grounds else None
+                if grounds and judged and judged.confirmed:
+                    return job.confirmed(grounds, judged, str(told.get("engine")), seconds, tries_of_json(told))
+        except Broke:
+            pass
+        return None
 
 
 @dataclass
@@ -104,6 +106,16 @@ class Attempt:
 
     what: Try
     judged: Optional[Judged] = None
+    grounds: Optional["Grounds"] = None
+
+
+@dataclass(frozen=True)
+class Grounds:
+    """What shows a verdict, as a check reads it: a witness, or a certificate with its proof."""
+
+    evidence: Evidence
+    text: Held
+    proof: Optional[Held] = None
 
 
 class NotMade(Exception):
@@ -115,56 +127,58 @@ class NotMade(Exception):
 
 
 class Job:
-    """The work on one property: `kept` is its folder of results, `aside` what goes with the work."""
+    """The work on one property. What checks read is held where no engine can change it, and written into the results at the end."""
 
     def __init__(self, prover: Prover, it: Property) -> None:
-        self.prover, self.property = prover, it
-        self.kept = prover.folder.path / it.key
-        self.aside = prover.folder.work / it.key
+        self.prover, self.property, self.program, self.model = prover, it, prover.program, prover.model
         self.shown = Running(it)
 
     def name(self, file: str) -> str:
-        """A file of results as `hwtool` is told it, in the folder of results."""
+        """A file of its results."""
         return f"{self.property.key}/{file}"
-
-    def name_aside(self, file: str) -> str:
-        """A file beside the results as `hwtool` is told it."""
-        return f"{self.prover.folder.work.name}/{self.property.key}/{file}"
 
     def outcome(self) -> Outcome:
         """Tries the engines, each for its part of the time that is left, until a check confirms what one claims."""
         began, tries = time.monotonic(), []
         try:
-            self.begin()
+            form = self.form()
             for engine, seconds in self.shares(began + self.prover.timeout):
-                done = self.attempt(engine, seconds, began + self.prover.timeout)
+                done = self.attempt(engine, form, seconds, began + self.prover.timeout)
                 tries.append(done.what)
-                if done.judged:
-                    verdict = done.what.claims[-1].verdict
-                    return confirmed(self.property, verdict, done.judged, engine.name, time.monotonic() - began, tries)
-            return Outcome(self.property, seconds=time.monotonic() - began, tries=tries)
+                if done.judged and done.grounds:
+                    return self.confirmed(done.grounds, done.judged, engine.name, time.monotonic() - began, tries)
+            files = self.prover.folder.keep(self.property.key, [form])
+            return Outcome(self.property, seconds=time.monotonic() - began, tries=tries, files=files)
         except Broke as fault:
             return Outcome(self.property, seconds=time.monotonic() - began, tries=tries, broke=str(fault))
 
-    def begin(self) -> None:
-        """Makes its folders anew, with the engine form."""
-        for folder in (self.kept, self.aside):
-            shutil.rmtree(folder, ignore_errors=True)
-            folder.mkdir()
-        said = self.prover.program.form(self.prover.model, self.property.number, self.name(FORM), self.aside)
-        if said.status != 0:
+    def confirmed(self, grounds: Grounds, judged: Judged, engine: str, seconds: float, tries: List[Try]) -> Outcome:
+        """The outcome of a property whose verdict a check has confirmed, with its files written."""
+        files = self.prover.folder.keep(self.property.key, [self.form(), *self.beside(grounds)])
+        verdict = grounds.evidence.shows
+        return Outcome(self.property, verdict, judged.frame, engine, seconds, judged.check, judged.command, judged.line, tries, files)
+
+    def form(self) -> Held:
+        """The engine form."""
+        said = self.program.form(self.model, self.property.number, self.name(FORM))
+        if said.made is None:
             raise Broke(said.line)
+        return said.made
 
-    def is_kept(self, evidence: Evidence) -> bool:
-        """Whether all that a check reads is kept."""
-        names = [evidence.value, *([PROOF] if evidence.shows is Verdict.HOLDS else [])]
-        return all((self.kept / it).is_file() for it in names)
+    def beside(self, grounds: Grounds) -> List[Held]:
+        """What shows a verdict, with what is there to look at: the frames of a witness, or the formula that a proof refutes."""
+        if grounds.proof is None:
+            return [grounds.text, *self.drawn(grounds.text)]
+        formula = self.program.formula(self.model, self.property.number, grounds.evidence, grounds.text, self.name(FORMULA)).made
+        return [grounds.text, grounds.proof, *([formula] if formula else [])]
 
-    def forget(self) -> None:
-        """Removes what was made of a claim that no check confirmed."""
-        for it in self.kept.iterdir():
-            if it.name != FORM:
-                it.unlink()
+    def kept_before(self, evidence: Evidence) -> Optional[Grounds]:
+        """What an earlier run kept to show a verdict, if all of it is there."""
+        folder = self.prover.folder
+        with contextlib.suppress(OSError):
+            proof = folder.read(self.name(PROOF), SOLVER_BYTES) if evidence.shows is Verdict.HOLDS else None
+            return Grounds(evidence, folder.read(self.name(evidence.value), ENGINE_BYTES), proof)
+        return None
 
     def shares(self, deadline: float) -> Iterator[Tuple[Engine, float]]:
         """The engines, each with its part of the time that is left when its turn comes."""
@@ -176,121 +190,120 @@ class Job:
 
     # ---- an engine
 
-    def attempt(self, engine: Engine, seconds: float, deadline: float) -> Attempt:
+    def attempt(self, engine: Engine, form: Held, seconds: float, deadline: float) -> Attempt:
         """Runs an engine, and has each of its claims checked."""
-        work = self.aside / "engine"
-        shutil.rmtree(work, ignore_errors=True)
-        work.mkdir()
-        ended = self.run_engine(engine, seconds, work)
-        end = tail_of(work / "log")
-        done = Attempt(Try(engine.name, why(ended, end), ended.seconds, engine.frame_in(end)))
-        for gives in engine.gives() or [engine.says()]:
-            found = work / (gives.value if engine.gives() else "log")
-            is_claim = gives.claims is Verdict.FAILS or engine.proves in tail_of(work / "log")
-            if is_claim and is_plain(found) and found.stat().st_size > 0:
-                judged = self.check(gives, found, deadline)
-                done.what.claims.append(Claim(gives.claims, judged.check, judged.line, judged.confirmed))
-                if judged.confirmed:
-                    done.judged = judged
-                    break
-                self.forget()
+        with self.place(engine.name) as place, nameless(is_large=True) as log:
+            ended = self.run_engine(engine, form, seconds, place, log)
+            end = tail_of(log.fileno())
+            done = Attempt(Try(engine.name, why(ended, end), ended.seconds, engine.frame_in(end)))
+            for gives in engine.gives() or [engine.says()]:
+                is_claim = gives.claims is Verdict.FAILS or engine.proves in end
+                found = self.found(engine, gives, place, log) if is_claim else None
+                if found:
+                    judged = self.check(gives, found, deadline, done)
+                    done.what.claims.append(Claim(gives.claims, judged.check, judged.line, judged.confirmed))
+                    if judged.confirmed:
+                        done.judged = judged
+                        break
         return done
 
-    def run_engine(self, engine: Engine, seconds: float, work: Path) -> Ended:
+    def place(self, of: str) -> ContextManager[Place]:
+        """A folder of work for an engine or a solver."""
+        notes = self.prover.folder.notes
+        return place_of_work(self.prover.runner.stopping.is_set, lambda left: notes.append(f"{of} on {self.property.key}: {left}"))
+
+    def run_engine(self, engine: Engine, form: Held, seconds: float, place: Place, log: BinaryIO) -> Ended:
         """Runs an engine in a folder of its own, with copies of what it is handed."""
-        model = self.prover.model
         values = {it.value: it.value for it in Gives}
-        values.update({Handed.FORM.value: FORM, Handed.MODEL.value: model.name, Handed.BAD.value: str(self.property.number)})
+        values.update({Handed.FORM.value: FORM, Handed.MODEL.value: self.model.name, Handed.BAD.value: str(self.property.number)})
         values.update({Handed.DEPTH.value: str(self.prover.depth), Handed.SECONDS.value: str(max(1, int(seconds)))})
         if Handed.FORM.value in engine.placeholders():
-            shutil.copyfile(self.kept / FORM, work / FORM)
+            place.put(FORM, form)
         if Handed.MODEL.value in engine.placeholders():
-            shutil.copyfile(self.prover.folder.path / model.name, work / model.name)
-        self.shown.engine, self.shown.log = engine, work / "log"
-        err = None if engine.gives() else work / "log.err"
-        ended = self.prover.runner.run(engine.filled(values), work, work / "log", err, seconds, ENGINE_BYTES)
+            place.put(self.model.name, self.model.held)
+        self.shown.engine, self.shown.log = engine, log
+        with nameless(is_large=True) as aside:
+            err = None if engine.gives() else aside.fileno()
+            ended = self.prover.runner.run(engine.filled(values), place.path, log.fileno(), err, seconds, ENGINE_BYTES)
+        self.shown.log = None
         if ended.how is Ending.STOPPED:
             raise Stopped
         return ended
 
+    def found(self, engine: Engine, gives: Gives, place: Place, log: BinaryIO) -> Optional[Held]:
+        """What an engine wrote, if it is a plain file with something in it."""
+        if engine.gives():
+            found = place.take(gives.value, gives.value, ENGINE_BYTES)
+        else:
+            found = Held.of_file(gives.value, log.fileno())
+        return found if found and found.size else None
+
     # ---- what it claims
 
-    def check(self, gives: Gives, found: Path, deadline: float) -> Judged:
+    def check(self, gives: Gives, found: Held, deadline: float, done: Attempt) -> Judged:
         """Has a claim checked; where what a check would read cannot be made, the call that does not make it stands for the check."""
         try:
             if gives.claims is Verdict.HOLDS:
-                return self.judge_certificate(gives.evidence, found, deadline)
-            judged = self.judge_found(gives, found)
-            if judged.confirmed:
-                self.draw()
-            return judged
-        except NotMade as why:
-            return Judged([why.call], False, str(why))
+                done.grounds = self.with_proof(gives.evidence, found, deadline)
+            else:
+                done.grounds = Grounds(Evidence.WITNESS, self.witness_of(gives, found))
+            return self.judge(done.grounds)
+        except NotMade as why_not:
+            return Judged([why_not.call], False, str(why_not))
 
-    def made(self, said: Said) -> None:
-        """Goes on where a call has made what it should."""
-        if said.status != 0:
+    def made(self, said: Said) -> Held:
+        """What a call has made."""
+        if said.made is None:
             raise NotMade(said.words[0], said.line)
+        return said.made
 
-    def judge_found(self, gives: Gives, found: Path) -> Judged:
-        """Makes a witness of the model of what an engine found, and has it judged."""
-        program, model, place = self.prover.program, self.prover.model, self.place_of(found)
+    def witness_of(self, gives: Gives, found: Held) -> Held:
+        """A witness of the model, made of what an engine found."""
         if gives is not Gives.ABC_COUNTEREXAMPLE:
-            tidied = self.name(WITNESS) if gives is Gives.MODEL_WITNESS else self.name_aside("tidied")
-            self.made(program.tidied(place, tidied, self.aside))
-            place = tidied
+            found = self.made(self.program.tidied(found, self.name(WITNESS)))
         if gives is not Gives.MODEL_WITNESS:
             by_abc = gives is Gives.ABC_COUNTEREXAMPLE
-            self.made(program.witness(model, self.property.number, place, by_abc, self.name(WITNESS), self.aside))
-        return self.judge(Evidence.WITNESS)
+            found = self.made(self.program.witness(self.model, self.property.number, found, by_abc, self.name(WITNESS)))
+        return found
 
-    def judge_certificate(self, evidence: Evidence, found: Path, deadline: float) -> Judged:
-        """Has a solver refute what an invariant or a witness circuit owes, and the proof judged."""
-        program, model, solver = self.prover.program, self.prover.model, self.prover.solver
+    def with_proof(self, evidence: Evidence, found: Held, deadline: float) -> Grounds:
+        """An invariant or a witness circuit with the proof by which a solver refutes what it owes."""
+        solver = self.prover.solver
         if solver is None:
             raise NotMade("check-proof", "there is no solver that could make a proof")
-        certificate = self.name(evidence.value)
-        shutil.copyfile(found, self.kept / evidence.value)
-        self.made(program.formula(model, self.property.number, evidence, certificate, self.name(FORMULA), self.aside))
-        work = self.aside / "solver"
-        shutil.rmtree(work, ignore_errors=True)
-        work.mkdir()
-        shutil.copyfile(self.kept / FORMULA, work / FORMULA)
+        certificate = found.named(self.name(evidence.value))
+        formula = self.made(self.program.formula(self.model, self.property.number, evidence, certificate, self.name(FORMULA)))
         seconds = max(0.0, deadline - time.monotonic())
         values = {Handed.FORMULA.value: FORMULA, Handed.PROOF.value: PROOF, Handed.SECONDS.value: str(max(1, int(seconds)))}
-        ended = self.prover.runner.run(solver.filled(values), work, work / "log", None, seconds, SOLVER_BYTES)
-        if ended.how is Ending.STOPPED:
-            raise Stopped
-        if not is_plain(work / PROOF):
+        with self.place(solver.name) as place, nameless(is_large=True) as log:
+            place.put(FORMULA, formula)
+            ended = self.prover.runner.run(solver.filled(values), place.path, log.fileno(), None, seconds, SOLVER_BYTES)
+            if ended.how is Ending.STOPPED:
+                raise Stopped
+            proof = place.take(PROOF, self.name(PROOF), SOLVER_BYTES)
+        if proof is None:
             raise NotMade(solver.name, f"it wrote no proof: {ended}")
-        os.replace(work / PROOF, self.kept / PROOF)
-        return self.judge(evidence)
+        return Grounds(evidence, certificate, proof)
 
-    def judge(self, evidence: Evidence) -> Judged:
-        """Has what is kept of a property judged. This call alone makes a verdict."""
-        program, model, number = self.prover.program, self.prover.model, self.property.number
-        if evidence is Evidence.WITNESS:
-            return program.judge_failure(model, number, self.name(WITNESS), self.aside)
-        return program.judge_holding(model, number, evidence, self.name(evidence.value), self.name(PROOF), self.aside)
+    def judge(self, grounds: Grounds) -> Judged:
+        """Has what shows a verdict judged. This call alone makes a verdict."""
+        if grounds.proof is None:
+            return self.program.judge_failure(self.model, self.property.number, grounds.text)
+        return self.program.judge_holding(self.model, self.property.number, grounds.evidence, grounds.text, grounds.proof)
 
-    def draw(self) -> None:
-        """Writes the frames of a witness of a model for GTKWave, and which signals are to be seen first."""
-        model = self.prover.model
-        if model.kind is Kind.WORDS and self.prover.program.dump(model, self.name(WITNESS), self.name(DUMP), self.aside).status == 0:
-            seen = shown(read_dump(self.kept / DUMP), self.property, model.clock or "")
-            (self.kept / SAVED).write_text(saved_file(DUMP, seen), encoding="utf-8")
-
-    def place_of(self, found: Path) -> str:
-        """A file beside the results, as `hwtool` is told it."""
-        return str(found.relative_to(self.prover.folder.path))
+    def drawn(self, witness: Held) -> List[Held]:
+        """The frames of a witness of a model for GTKWave, and which signals are to be seen first."""
+        if self.model.kind is not Kind.WORDS:
+            return []
+        dump = self.program.dump(self.model, witness, self.name(DUMP)).made
+        if dump is None:
+            return []
+        with dump.opened() as file:
+            seen = shown(read_dump(Path(f"{HANDED}{file}")), self.property, self.prover.clock)
+        return [dump, written(self.name(SAVED), saved_file(DUMP, seen))]
 
 
 def why(ended: Ended, log: str) -> str:
     """How an engine ended, and its last words where that was not well."""
     words = [line.strip() for line in log.splitlines() if line.strip()][-1:] if ended.status > 0 else []
     return ": ".join([str(ended), *("".join(filter(str.isprintable, it))[:MOST_WORDS] for it in words)])
-
-
-def is_plain(path: Path) -> bool:
-    """Whether there is a plain file: no link, pipe or device."""
-    return path.is_file() and not path.is_symlink()

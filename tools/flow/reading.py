@@ -34,6 +34,19 @@ RESETS_HINT = (
 AS_ZERO = "undefined bits are 0 (--zero-undefined): x, what nothing drives, what is out of range, and a division by zero"
 
 
+def is_verilog(files: Sequence[Path]) -> bool:
+    """Whether files are in Verilog, by the ends of their names."""
+    return {it.suffix.lower() for it in files} <= VERILOG
+
+
+def script_reads(script: Path) -> bool:
+    """Whether a script of Yosys has a step that reads files."""
+    try:
+        return any(map(READS.match, script.read_text(encoding="utf-8", errors="replace").splitlines()))
+    except OSError:
+        return False
+
+
 @dataclass(frozen=True)
 class Remedy:
     """What Yosys may do at the end, so that a model is taken: its steps, and what to say of it."""
@@ -87,7 +100,7 @@ class Reader:
         for it in [*self.wanted.files, *filter(None, [self.wanted.read, self.wanted.script])]:
             if not it.is_file():
                 raise Broke(f"{it}: no such file")
-        if self.wanted.read or ends <= VERILOG:
+        if self.wanted.read or is_verilog(self.wanted.files):
             return self.having(self.of_verilog(), "Verilog")
         if len(self.wanted.files) == 1 and ends <= BTOR2:
             return self.having(self.of_text(self.taken(self.copied(Kind.WORDS), Kind.WORDS), ["as BTOR2"]), "BTOR2")
@@ -158,7 +171,7 @@ class Reader:
 
     def make(self, of: Path, *words: str) -> Path:
         """The file that a command makes of a text; refused in the words of `hwtool` where it makes none."""
-        said = self.program.call(*words, "-o", f"{self.work.name}/made", aside=self.work)
+        said = self.program.call(*words, "-o", f"{self.work.name}/made")
         if said.status != 0:
             raise NotTaken(self.wanted.name, said.line, None if self.is_own(of) else of)
         return self.work / "made"
@@ -175,16 +188,13 @@ class Reader:
 
     def of_verilog(self) -> Design:
         """The texts that Yosys makes, with the remedies for what `hwtool` refuses."""
-        names = Names()
-        try:
-            yosys = Yosys(self.runner, names, self.wanted.name, self.slow)
-            if self.wanted.script:
-                return self.by_own_steps(self.wanted.script, yosys, names)
-            bridge = Bridge(self.wanted, yosys, names)
-            timing = bridge.flatten()
-            return self.remedied(lambda remedy: self.bridged(bridge, timing, remedy), names)
-        finally:
-            names.end()
+        names = Names(self.work)
+        yosys = Yosys(self.runner, names, self.wanted.name, self.slow)
+        if self.wanted.script:
+            return self.by_own_steps(self.wanted.script, yosys, names)
+        bridge = Bridge(self.wanted, yosys, names)
+        timing = bridge.flatten()
+        return self.remedied(lambda remedy: self.bridged(bridge, timing, remedy), names)
 
     def remedied(self, made_with: Callable[[Remedy], Design], names: Names) -> Design:
         """What is made without a remedy, or with the first one that makes it go."""
@@ -202,12 +212,12 @@ class Reader:
         """The texts of a design by the recipe, each bad property tied to its statement."""
         paths = bridge.write(timing, remedy.steps)
         account, ahead = bridge.account, int(timing.in_steps)
-        model = self.tied(self.moved(paths["model"], Role.MODEL), account, Says.ASSERT)
+        model = self.tied(self.taken(paths["model"], Kind.WORDS), account, Says.ASSERT)
         account.count_constraints(model.constraints)
-        covers = self.tied(self.moved(paths["cover"], Role.COVER), account, Says.COVER)
-        enables = self.tied(self.moved(paths["enables"], Role.ENABLES), account, Says.ASSERT)
+        covers = self.tied(self.taken(paths["cover"], Kind.WORDS, Role.COVER), account, Says.COVER)
+        enables = self.tied(self.taken(paths["enables"], Kind.WORDS, Role.ENABLES), account, Says.ASSERT)
         undefined, meaning = bridge.undefined, list(bridge.notes)
-        if undefined and self.wanted.zero_undefined:
+        if self.wanted.zero_undefined:
             meaning.append(AS_ZERO)
         as_what = [f"undefined bits as {'0' if self.wanted.zero_undefined else 'any'}"] if undefined else []
         return Design(
@@ -224,13 +234,8 @@ class Reader:
             ahead,
             RESETS_HINT if timing.resets_open else "",
             bridge.told_steps(timing, remedy.steps),
+            bridge.left_out(),
         )
-
-    def moved(self, path: Path, role: Role) -> Model:
-        """A text that Yosys wrote, in the folder of work, as `hwtool` takes it."""
-        into = self.work / f"{role.value}.{Kind.WORDS.value}"
-        shutil.copyfile(path, into)
-        return self.taken(into, Kind.WORDS, role)
 
     @staticmethod
     def tied(model: Model, account: Account, says: Says) -> Model:
@@ -242,7 +247,7 @@ class Reader:
     def by_own_steps(self, script: Path, yosys: Yosys, names: Names) -> Design:
         """The texts that a script of one's own makes, which the flow cannot look into."""
         steps = script.read_text(encoding="utf-8", errors="surrogateescape").splitlines()
-        reads = [] if any(map(READS.match, steps)) else reading_steps(self.wanted, names, False)
+        reads = [] if script_reads(script) else reading_steps(self.wanted, names, False)
         return self.remedied(lambda remedy: self.scripted([*reads, *steps, *remedy.steps], script, remedy, yosys, names), names)
 
     def scripted(self, steps: List[str], script: Path, remedy: Remedy, yosys: Yosys, names: Names) -> Design:
@@ -251,7 +256,7 @@ class Reader:
         yosys.run("own", [*steps, f"write_btor {paths[0]}", f"write_btor -c {paths[1]}"])
         for it in paths:
             Path(it).write_text(names.told(text_of(Path(it))), "utf-8", "surrogateescape")
-        model, covers = (self.moved(Path(it), role) for it, role in zip(paths, (Role.MODEL, Role.COVER)))
+        model, covers = (self.taken(Path(it), Kind.WORDS, role) for it, role in zip(paths, (Role.MODEL, Role.COVER)))
         notes = [f"by yosys and {script.name}", *filter(None, [remedy.note])]
         meaning, told = [BY_OWN_STEPS.format(script.name)], [names.told(it) for it in [*steps, "write_btor"]]
         covers_asked = covers if covers.properties else None

@@ -1,21 +1,17 @@
-"""What is kept in NAME.flow: results.json, check.sh, and what an earlier run left of the same model."""
-import fcntl
-import hashlib
+"""What a run came to: what was judged over each text of a design, and by which programs."""
 import json
-import os
-import re
 import shlex
-import shutil
 from dataclasses import asdict, dataclass, field
 from pathlib import Path
 from typing import Any, Dict, List, Optional, Sequence
 
-from .engines import WordsRefused
-from .model import Kind, Model, Property, Verdict
-from .program import Broke
+from .files import Held, sum_of_file
+from .folders import Folder
+from .model import Design, Property, Role, Verdict
 
-RESULTS, CHECK, REPORT, WORK = "results.json", "check.sh", "report.html", "work"
-MODELS = [f"model.{kind.value}" for kind in Kind]
+RESULTS, CHECK, REPORT = "results.json", "check.sh", "report.html"
+# Larger ones are none of a run.
+MOST_RESULTS = 1 << 28
 
 
 @dataclass
@@ -67,154 +63,96 @@ class Outcome:
     command: Sequence[str] = ()
     said: str = ""
     tries: List[Try] = field(default_factory=list)
+    # the sum of each of its files
+    files: Dict[str, str] = field(default_factory=dict)
     # why a program that is relied on, or a device, stopped it
     broke: str = ""
 
     def as_json(self) -> Dict[str, Any]:
-        """The object of results.json."""
+        """The object of results.json: what was judged over a text."""
         it = asdict(self)
-        it.update(it.pop("property"))
+        it["key"] = self.property.key
+        it["number"] = self.property.number
         it["seconds"] = round(self.seconds, 3)
-        it["verdict"] = self.verdict.value
+        it["judged"], it["judged_frame"] = self.verdict.value, self.frame
         it["command"] = shlex.join(["hwtool", *self.command]) if self.command else ""
         for one in it["tries"]:
             one["seconds"] = round(one["seconds"], 3)
             for claim in one["claims"]:
                 claim["verdict"] = claim["verdict"].value
-        first = ["number", "name", "place", "verdict", "frame", "engine", "seconds", "check", "command", "said"]
-        return {key: it[key] for key in [*first, "tries", "broke"]}
+        first = ["key", "number", "judged", "judged_frame", "engine", "seconds", "check", "command", "said"]
+        return {key: it[key] for key in [*first, "files", "tries", "broke"]}
 
     def confirming_line(self) -> str:
-        """The line that its check says, which names the property."""
-        key = self.property.key
+        """The line that its check says, which names the property by its number in the text."""
+        key = f"b{self.property.number}"
         return f"{key} is reached in frame {self.frame}" if self.verdict is Verdict.FAILS else f"holds: {key}"
 
 
-CHECK_HEAD = """#!/bin/sh
-# Confirms each verdict of results.json anew, by hwtool alone: sh check.sh [PROGRAM]. The status is 0 where all are confirmed.
-hwtool=$(command -v "${1:-hwtool}") || { echo "check.sh: no ${1:-hwtool}" >&2; exit 3; }
-case $hwtool in /*) ;; *) hwtool=$PWD/$hwtool ;; esac
-cd "$(dirname "$0")" || exit 3
-confirmed=0
-wrong=0
+@dataclass(frozen=True)
+class Source:
+    """A file that the model was made of, and its sum when it was read."""
 
-# confirm LINE WORDS ..: the call does well, and says this line
-confirm() {
-    line=$1
-    shift
-    if said=$("$hwtool" "$@" 2>&1) && printf '%s\\n' "$said" | grep -Fqx -e "$line"; then
-        confirmed=$((confirmed + 1))
-        echo "$line"
-    else
-        wrong=$((wrong + 1))
-        printf 'not so: %s\\n%s\\n' "$line" "$said"
-    fi
-}
+    path: Path
+    sum: str
 
-"""
-CHECK_END = """
-echo "$confirmed confirmed, $wrong not"
-[ "$wrong" = 0 ]
-"""
+    @staticmethod
+    def of(path: Path) -> "Source":
+        """A file as it is now."""
+        return Source(path, sum_of_file(path))
 
-
-class Folder:
-    """The folder of results, which one run has at a time."""
-
-    def __init__(self, path: Path) -> None:
-        self.path, self.work, self.sum = path, path / WORK, ""
-        if path.is_dir() and os.listdir(path) and not any((path / it).exists() for it in [RESULTS, WORK, *MODELS]):
-            raise WordsRefused(f"{path}: is there, and is no folder of results")
-        path.mkdir(exist_ok=True)
-        self._lock = os.open(path, os.O_RDONLY)
+    def is_as_it_was(self) -> bool:
+        """Whether it is what was read."""
         try:
-            fcntl.flock(self._lock, fcntl.LOCK_EX | fcntl.LOCK_NB)
-        except BlockingIOError:
-            raise Broke(f"{path}: another run of hwtool-flow goes on there") from None
-        shutil.rmtree(self.work, ignore_errors=True)
-        self.work.mkdir()
-
-    def adopt(self, model: Model) -> Dict[int, Dict[str, Any]]:
-        """Takes a model in. Answers what an earlier run told of each property of the same model; else all of it is removed."""
-        place = self.path / model.name
-        self.sum = sum_of(model.path)
-        same = place.exists() and sum_of(place) == self.sum
-        told = self._told() if same else None
-        if told is None:
-            self._clear()
-            os.replace(model.path, place)
-        return told or {}
-
-    def _told(self) -> Optional[Dict[int, Dict[str, Any]]]:
-        """The properties of results.json, by number, where it is of the model of this run."""
-        try:
-            results = json.loads((self.path / RESULTS).read_text(encoding="utf-8"))
-            return {it["number"]: it for it in results["properties"]} if results["sum"] == self.sum else None
-        except (OSError, ValueError, KeyError, TypeError):
-            return None
-
-    def _clear(self) -> None:
-        """Removes what an earlier run left; what names it first."""
-        for name in [RESULTS, CHECK, REPORT, *MODELS]:
-            (self.path / name).unlink(missing_ok=True)
-        for it in self.path.iterdir():
-            if re.fullmatch(r"b\d+", it.name):
-                shutil.rmtree(it)
-
-    def write(self, name: str, text: str, executable: bool = False) -> None:
-        """Writes a file, whole or not at all."""
-        part = self.work / f"{name}.part"
-        part.write_bytes(text.encode("utf-8", "backslashreplace"))
-        if executable:
-            part.chmod(0o755)
-        os.replace(part, self.path / name)
-
-    def end(self) -> None:
-        """Removes what only the run needed."""
-        shutil.rmtree(self.work, ignore_errors=True)
-        os.close(self._lock)
-        if not os.listdir(self.path):
-            self.path.rmdir()
+            return sum_of_file(self.path) == self.sum
+        except OSError:
+            return False
 
 
-def sum_of(path: Path) -> str:
-    """The sum (SHA-256) of a file."""
-    found = hashlib.sha256()
-    with open(path, "rb") as file:
-        for piece in iter(lambda: file.read(1 << 20), b""):
-            found.update(piece)
-    return found.hexdigest()
+@dataclass(frozen=True)
+class Tool:
+    """A program of a run: its name there, its file with the sum of that, and its version by its own word."""
+
+    name: str
+    program: str
+    sum: str
+    version: str = ""
 
 
 @dataclass
 class Results:
-    """All that a run came to: the design, the model that was made of it, and the outcome of each property."""
+    """All that a run came to: the design and its texts, the programs, and what was judged over each text, by key."""
 
-    design: str
-    program: str
-    model: Model
-    sum: str
-    outcomes: List[Outcome]
+    name: str
+    sources: List[Source]
+    program: Tool
+    tools: List[Tool]
+    design: Design
+    outcomes: Dict[str, Outcome]
+    # for how many frames the assumptions are to hold
+    frames: int = 0
 
-    def as_json(self) -> str:
-        """The text of results.json."""
-        front = {
-            "design": self.design,
-            "model": self.model.name,
-            "sum": self.sum,
-            "reading": self.model.notes,
-            "steps": self.model.steps,
-            "program": self.program,
-        }
-        return json.dumps({**front, "properties": [it.as_json() for it in self.outcomes]}, indent=1) + "\n"
-
-    def as_check(self) -> str:
-        """The text of check.sh."""
-        checked = [it for it in self.outcomes if it.verdict is not Verdict.OPEN]
-        lines = [shlex.join(["confirm", it.confirming_line(), *it.command]) for it in checked]
-        return CHECK_HEAD + "\n".join(lines) + CHECK_END
+    def judged(self) -> List[Outcome]:
+        """What was judged, in the order of texts and numbers."""
+        roles = list(Role)
+        return sorted(self.outcomes.values(), key=lambda it: (roles.index(it.property.role), it.property.number))
 
 
-def count_of(outcomes: Sequence[Outcome], verdict: Verdict) -> int:
-    """How many properties have a verdict."""
-    return sum(it.verdict is verdict for it in outcomes)
+def told_before(folder: Folder, design: Design) -> Optional[Dict[str, Dict[str, Any]]]:
+    """What results.json tells of each property by its key, where an earlier run wrote it of the same texts."""
+    try:
+        results = json.loads(b"".join(folder.read(RESULTS, MOST_RESULTS).pieces()))
+        told = {it["key"]: it for it in [*results["properties"], *results["beside"]]}
+        return told if results["texts"] == texts_of(design) else None
+    except (OSError, ValueError, KeyError, TypeError, RecursionError):
+        return None
+
+
+def texts_of(design: Design) -> Dict[str, str]:
+    """The sum of each text, by its name."""
+    return {it.name: it.held.sum for it in design.texts}
+
+
+def written(name: str, text: str) -> Held:
+    """A text that is to be written under a name."""
+    return Held.of_bytes(name, text.encode("utf-8", "surrogateescape"))

@@ -31,7 +31,7 @@ class Cell:
     @property
     def part(self) -> str:
         """The module of a part, or of an array of parts."""
-        return self.kind.split(":", 2)[-1] if self.kind.startswith(ARRAY) else self.kind
+        return self.kind.rsplit(":", 1)[-1] if self.kind.startswith(ARRAY) else self.kind
 
     def parameter(self, name: str, default: str = "") -> str:
         """The digits of a parameter, highest first."""

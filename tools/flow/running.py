@@ -1,32 +1,36 @@
-"""Processes: each in a session of its own, bounded in time and in what it writes, and ended with all its children."""
+"""Processes: each in a session of its own, bounded in time and in what it writes, and ended with all that came of it."""
+import contextlib
 import enum
 import math
 import os
 import select
 import signal
 import subprocess
+import sys
 import threading
 import time
-import uuid
 from dataclasses import dataclass
 from pathlib import Path
-from typing import Dict, Optional, Sequence
+from typing import Iterator, Optional, Sequence, Set, Union
 
-# What stands around each process. Its standard input is a pipe that only hwtool-flow could write to and never does: where
-# hwtool-flow is gone, whatever ended it, the pipe ends, and the whole session is killed. $1 bounds each file that is written.
-AROUND = """ulimit -c 0; [ "$1" = unlimited ] || ulimit -f "$1"; shift
-exec 3<&0 </dev/null
-(read -r _ <&3; kill -KILL 0) & exec 3<&-
-exec "$@"
-"""
-# The unit of `ulimit -f`.
-BLOCK = 512
-# The variable that marks the processes of a run, so that one which has left its session is found.
-MARK = "HWTOOL_FLOW_RUN"
+from .files import open_plain
+from .warden import PR_SET_CHILD_SUBREAPER, PR_SET_DUMPABLE, below, kill, parents, set_process
+
+# The text of what stands around each program, read before any of them runs.
+WARDEN = Path(__file__).with_name("warden.py").read_text(encoding="utf-8")
 # How often it is looked at whether all is to stop, in seconds.
 LONGEST_NAP = 0.05
-# How often processes that have left their session are looked for: what is killed may take a while to be gone.
-MOST_ROUNDS = 100
+# How long it is waited for a warden to end all that it stands around.
+GRACE = 3.0
+# How often processes that nobody stands around are looked for: what is killed may take a while to be gone.
+MOST_ROUNDS = 200
+
+# Where a process writes: a file that is made anew, or one that is open.
+Output = Union[Path, int]
+
+
+class Stopped(Exception):
+    """All is to stop."""
 
 
 class Ending(enum.Enum):
@@ -58,55 +62,97 @@ class Runner:
 
     def __init__(self) -> None:
         self.stopping = threading.Event()
-        self._life, self._held = os.pipe()
-        self._home = ""
+        self._lock = threading.Lock()
+        self._known: Set[int] = set()
+        self._breaks = False
+        # what has lost its parent comes here, where it is found; and no other process of this user looks into this one
+        set_process(PR_SET_CHILD_SUBREAPER, 1)
+        set_process(PR_SET_DUMPABLE, 0)
 
-    def settle(self, folder: Path) -> None:
-        """Says in which folder of results this goes on, which no other run has: what a run that was killed has left is ended."""
-        self._home = f"{folder.resolve()}|"
-        kill_marked(self._home)
+    # ---- signals
 
-    def run_own(self, words: Sequence[str], folder: Path, out: Path, err: Path, seconds: Optional[float]) -> Ended:
-        """Runs a program of ours in a folder, with its output in files, for so many seconds at most."""
-        return self._run(words, folder, out, err, seconds, subprocess.DEVNULL, dict(os.environ))
+    def stop(self) -> None:
+        """Has all stop; what the main thread does by itself stops too."""
+        self.stopping.set()
+        if self._breaks:
+            self._breaks = False
+            raise Stopped
+
+    @contextlib.contextmanager
+    def at_once(self) -> Iterator[None]:
+        """What the main thread does here is broken off where all is to stop."""
+        self._breaks = True
+        try:
+            if self.stopping.is_set():
+                raise Stopped
+            yield
+        finally:
+            self._breaks = False
+
+    # ---- processes
+
+    def run_own(
+        self,
+        words: Sequence[str],
+        folder: Path,
+        out: Output,
+        err: Output,
+        seconds: Optional[float],
+        program: Optional[str] = None,
+        handed: Sequence[int] = (),
+    ) -> Ended:
+        """Runs a program of ours in a folder, which is handed some open files, for so many seconds at most."""
+        return self._run(words, folder, out, err, seconds, subprocess.DEVNULL, program, handed)
 
     def run(
-        self, words: Sequence[str], folder: Path, out: Path, err: Optional[Path], seconds: Optional[float], most_bytes: Optional[int]
+        self, words: Sequence[str], folder: Path, out: Output, err: Optional[Output], seconds: Optional[float], most_bytes: Optional[int]
     ) -> Ended:
-        """Runs a program that nothing is known of: its children end with it, and none of its files gets larger than is said."""
-        limit = "unlimited" if most_bytes is None else str(max(1, most_bytes // BLOCK))
-        mark = self._home + uuid.uuid4().hex
-        around = ["/bin/sh", "-c", AROUND, "sh", limit, *words]
-        ended = self._run(around, folder, out, err, seconds, self._life, {**os.environ, MARK: mark})
-        kill_marked(mark)
-        return ended
+        """Runs a program that nothing is known of: all that came of it ends with it, and none of its files gets larger than is said."""
+        ours, theirs = os.pipe()
+        try:
+            around = [sys.executable, "-I", "-S", "-c", WARDEN, str(most_bytes or 0), str(theirs), *words]
+            ended = self._run(around, folder, out, err, seconds, subprocess.PIPE, None, [theirs])
+            self.end_strays()
+            os.set_blocking(ours, False)
+            with contextlib.suppress(BlockingIOError, ValueError):
+                return Ended(ended.how, os.waitstatus_to_exitcode(int(os.read(ours, 32))), ended.seconds)
+            return ended
+        finally:
+            os.close(ours)
+            os.close(theirs)
 
     def _run(
         self,
         words: Sequence[str],
         folder: Path,
-        out: Path,
-        err: Optional[Path],
+        out: Output,
+        err: Optional[Output],
         seconds: Optional[float],
         source: int,
-        environment: Dict[str, str],
+        program: Optional[str],
+        handed: Sequence[int],
     ) -> Ended:
-        """Runs a command in a session of its own, and kills what is left of that."""
+        """Runs a command in a session of its own, and ends what is left of it."""
         began = time.monotonic()
-        with open(out, "wb") as to_out, open(err or os.devnull, "wb") as to_err:
-            process = subprocess.Popen(
-                words,
-                cwd=folder,
-                stdin=source,
-                stdout=to_out,
-                stderr=to_err if err else subprocess.STDOUT,
-                start_new_session=True,
-                env=environment,
-            )
-        how = self._wait(process.pid, math.inf if seconds is None else began + seconds)
-        # the group is killed before its leader is reaped, so that its number is still its own
-        os.killpg(process.pid, signal.SIGKILL)
-        process.wait()
+        if self.stopping.is_set():
+            return Ended(Ending.STOPPED, 0, 0.0)
+        with opened(out) as to_out, opened(subprocess.STDOUT if err is None else err) as to_err:
+            with self._lock:
+                process = subprocess.Popen(
+                    words,
+                    executable=program,
+                    cwd=folder,
+                    stdin=source,
+                    stdout=to_out,
+                    stderr=to_err,
+                    start_new_session=True,
+                    pass_fds=handed,
+                )
+                self._known.add(process.pid)
+        try:
+            how = self._wait(process.pid, math.inf if seconds is None else began + seconds)
+        finally:
+            self._end(process)
         return Ended(how, process.returncode, time.monotonic() - began)
 
     def _wait(self, pid: int, deadline: float) -> Ending:
@@ -124,44 +170,74 @@ class Runner:
         finally:
             os.close(end)
 
+    def _end(self, process: subprocess.Popen) -> None:
+        """Ends a process: a warden by its standard input, so that it ends what it stands around, and else by a signal."""
+        if process.stdin:
+            process.stdin.close()
+            with contextlib.suppress(subprocess.TimeoutExpired):
+                process.wait(GRACE)
+        if process.returncode is None:
+            # the group is killed before its leader is reaped, so that its number is still its own
+            os.killpg(process.pid, signal.SIGKILL)
+            process.wait()
+        with self._lock:
+            self._known.discard(process.pid)
 
-def kill_marked(mark: str) -> None:
-    """Kills the processes that were started with a mark, or one that begins so, and have left their session."""
-    wanted = os.fsencode(f"{MARK}={mark}")
-    for _ in range(MOST_ROUNDS):
-        found = [pid for pid in map(int, filter(str.isdigit, os.listdir("/proc"))) if wanted in environment_of(pid)]
-        if not found:
-            return
-        for pid in found:
-            try:
-                os.kill(pid, signal.SIGKILL)
-            except ProcessLookupError:
-                pass
-        time.sleep(LONGEST_NAP / 10)
+    def end_strays(self) -> None:
+        """Kills what has come to this process since nobody stands around it any more."""
+        for _ in range(MOST_ROUNDS):
+            with self._lock:
+                strays = {pid for pid, parent in parents().items() if parent == os.getpid()} - self._known
+                kill(below(strays))
+                for it in strays:
+                    with contextlib.suppress(ChildProcessError):
+                        os.waitpid(it, os.WNOHANG)
+            if not strays:
+                return
+            time.sleep(LONGEST_NAP / 10)
 
 
-def environment_of(pid: int) -> bytes:
-    """The environment that a process was started with; nothing where it is gone or another's."""
+@contextlib.contextmanager
+def opened(where: Output) -> Iterator[int]:
+    """An open file to write to."""
+    if isinstance(where, int):
+        yield where
+        return
+    found = os.open(where, os.O_WRONLY | os.O_CREAT | os.O_TRUNC | os.O_NOFOLLOW | os.O_NONBLOCK | os.O_CLOEXEC, 0o600)
     try:
-        return Path(f"/proc/{pid}/environ").read_bytes()
-    except OSError:
-        return b""
+        yield found
+    finally:
+        os.close(found)
 
 
-def head_of(path: Path, most: int = 1 << 16) -> str:
+@contextlib.contextmanager
+def readable(where: Output) -> Iterator[int]:
+    """An open file to read from."""
+    if isinstance(where, int):
+        yield where
+        return
+    found = open_plain(where)
+    try:
+        yield found
+    finally:
+        os.close(found)
+
+
+def head_of(where: Output, most: int = 1 << 16) -> str:
     """The beginning of what a process wrote, as text; nothing where there is no such file."""
-    try:
-        with open(path, "rb") as file:
-            return file.read(most).decode("utf-8", "replace")
-    except OSError:
-        return ""
+    return part_of(where, most, False)
 
 
-def tail_of(path: Path, most: int = 4096) -> str:
+def tail_of(where: Output, most: int = 4096) -> str:
     """The end of what a process has written so far, as text; nothing where there is no such file."""
+    return part_of(where, most, True)
+
+
+def part_of(where: Output, most: int, at_end: bool) -> str:
+    """A part of a file, from its beginning or up to its end."""
     try:
-        with open(path, "rb") as file:
-            file.seek(max(0, file.seek(0, os.SEEK_END) - most))
-            return file.read(most).decode("utf-8", "replace")
+        with readable(where) as file:
+            begins = max(0, os.fstat(file).st_size - most) if at_end else 0
+            return os.pread(file, most, begins).decode("utf-8", "replace")
     except OSError:
         return ""

@@ -244,7 +244,7 @@ class Bridge:
 
     def left_out(self) -> List[str]:
         """The modules of the source that are not below the top."""
-        return sorted({name[1:] for name in self.modules} - self.below)
+        return sorted({printable(name[1:]) for name in self.modules} - self.below)
 
     def not_judged(self) -> List[NotJudged]:
         """What of the source is not judged."""

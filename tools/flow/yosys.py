@@ -8,8 +8,8 @@ from typing import Callable, Iterator, List, Optional, Sequence, Tuple
 
 from .engines import InputRefused, missing_line
 from .names import PLACE_END, Names
-from .program import Broke, Stopped
-from .running import Ended, Ending, Runner, tail_of
+from .program import Broke
+from .running import Ended, Ending, Runner, Stopped, tail_of
 
 WARNING = re.compile(r"((?:\S+:\d+: )?)Warning: (.*)")
 # What is no warning of the design: steps that select what it need not have.
