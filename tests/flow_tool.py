@@ -14,12 +14,13 @@ import sys
 import tempfile
 import time
 
-from flow import designs, devices, engines, folders, page, stops
+from flow import designs, devices, engines, folders, page, stops, verilog
 from flow.common import TOP, Place, tally
 
 # The groups of tries, by name.
 GROUPS = {
     "designs": designs.try_designs,
+    "truths": verilog.try_truths,
     "words": designs.try_words,
     "names": designs.try_names,
     "folders": folders.try_folders,
