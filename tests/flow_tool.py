@@ -14,8 +14,8 @@ import sys
 import tempfile
 import time
 
-from flow import designs, devices, engines, folders, page, stops, verilog
-from flow.common import TOP, Place, tally
+from flow import designs, devices, engines, folders, hostile, page, signals, stops, verilog
+from flow.common import MARK, TOP, Place, tally
 
 # The groups of tries, by name.
 GROUPS = {
@@ -24,10 +24,12 @@ GROUPS = {
     "words": designs.try_words,
     "names": designs.try_names,
     "folders": folders.try_folders,
+    "hostile": hostile.try_hostile,
     "lies": engines.try_lies,
     "other_forms": engines.try_other_forms,
     "going_on": stops.try_going_on,
     "stopped": stops.try_stopped,
+    "signals": signals.try_signals,
     "many": stops.try_many,
     "devices": devices.try_devices,
     "missing": devices.try_missing,
@@ -46,6 +48,7 @@ def main() -> None:
     if words.only not in (None, *groups):
         words.error(f"--only is one of {', '.join(groups)}")
     with tempfile.TemporaryDirectory() as folder:
+        os.environ[MARK] = os.path.realpath(folder)
         place = Place(os.path.realpath(folder), os.path.abspath(words.program))
         for name, group in groups.items():
             if words.only in (None, name):

@@ -31,6 +31,11 @@ class Tally:
             self.wrong += 1
             print(f"{what}: wanted {wanted!r}, got {got!r}", flush=True)
 
+    def untouched(self, what, before, now):
+        """What was there before is there now, and nothing else."""
+        names = sorted(it for it in {*before, *now} if before.get(it) != now.get(it))
+        self.same(what, [], [(it, before.get(it), now.get(it)) for it in names])
+
     def true(self, what, is_so, why=""):
         """Something is so."""
         self.tried += 1
@@ -80,7 +85,7 @@ class Place:
         tools = self.folder / "tools"
         if not tools.exists():
             tools.mkdir()
-            for it in ("sh", "grep", "dirname"):
+            for it in ("sh", "grep", "dirname", "sha256sum"):
                 (tools / it).symlink_to(shutil.which(it))
             (tools / "hwtool").symlink_to(self.program)
         done = subprocess.run(
@@ -98,15 +103,20 @@ def lasting(results):
     ]
 
 
+# What all processes of these tries have in their environment, but for those that were started without it.
+MARK = "HWTOOL_FLOW_TRIES"
+
+
 def left_over(place, words=""):
-    """The processes that engines of runs in a place have left, with some words among theirs."""
-    mark, found = b"HWTOOL_FLOW_RUN=" + os.fsencode(place.folder), []
+    """The processes that engines of runs in a place have left, with some words among theirs; without words also what stands around one."""
+    mark, found = os.fsencode(f"{MARK}={os.environ[MARK]}"), []
     for it in filter(str.isdigit, os.listdir("/proc")):
         try:
-            seen, environment = (pathlib.Path(f"/proc/{it}/{what}").read_bytes() for what in ("cmdline", "environ"))
+            seen, environment = (pathlib.Path(f"/proc/{it}/{what}").read_bytes().split(b"\0") for what in ("cmdline", "environ"))
         except OSError:
             continue
-        if mark in environment and words.encode() in seen:
+        is_own = os.fsencode(TOOL) in seen or words and b"-I" in seen
+        if mark in environment and not is_own and words.encode() in b"\0".join(seen):
             found.append(int(it))
     return found
 

@@ -7,7 +7,7 @@ import signal
 import subprocess
 import time
 
-from .common import BROKE, EXAMPLES, HOLDS, ONE_FAILS, counter_model, lasting, left_over, liar, tally, wait_for
+from .common import ALL_HOLD, BROKE, EXAMPLES, HOLDS, ONE_FAILS, WORDS, counter_model, lasting, left_over, liar, tally, wait_for
 
 
 # How often a run is stopped at a chance time, in each of two ways.
@@ -30,13 +30,18 @@ def try_going_on(place):
     at = place.folder / "queue.flow"
     told = place.results("queue.flow")
     told["properties"][2].update(verdict="holds", command="hwtool --version", said="holds: b2")
+    (at / "results.json").write_text(json.dumps(told))
     for it in ("invariant", "proof"):
         shutil.copyfile(at / "b1" / it, at / "b2" / it)
-    (at / "results.json").write_text(json.dumps(told))
+    done = place.run("queue.v")
+    tally.true("files in the way that no run made", done.returncode == WORDS and "b2/proof" in done.stderr, done.stderr)
+    for it in ("invariant", "proof"):
+        tally.same("they stay", (at / "b1" / it).read_text(), (at / "b2" / it).read_text())
+        (at / "b2" / it).unlink()
     place.run("queue.v")
     tally.same("results that were changed by hand", lasting(first), lasting(place.results("queue.flow")))
     (at / "b2/witness").write_text((at / "b0/witness").read_text())
-    tally.same("check.sh over a witness that was changed", (1, "2 confirmed, 1 not"), place.checked("queue.flow"))
+    tally.same("check.sh over a witness that was changed", (1, "2 confirmed, 1 not, 1 differing"), place.checked("queue.flow"))
     place.run("queue.v")
     tally.same("a witness that was changed by hand", lasting(first), lasting(place.results("queue.flow")))
     for rubbish in (
@@ -75,11 +80,9 @@ def try_held(place):
     process = held("hang_and_leave", SLEEPS)
     process.kill()
     process.wait()
-    wait_for(lambda: not left_over(place, "lying_engine.py"), 5)
-    tally.same("an engine of a run that was killed", [], left_over(place, "lying_engine.py"))
-    tally.same("its child in another session", 1, len(left_over(place, SLEEPS)))
-    place.run("queue.v", "-o", "held.flow")
-    tally.same("the same behind the next run", [], left_over(place, SLEEPS))
+    wait_for(lambda: not left_over(place), 5)
+    tally.same("what is left of a run that was killed", [], left_over(place))
+    tally.same("the next run", ALL_HOLD, place.run("queue.v", "-o", "held.flow").returncode)
 
 
 def try_stopped(place):

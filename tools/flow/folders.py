@@ -24,6 +24,8 @@ FIRST_LINE = "hwtool-flow folder of results 1"
 # A name in the list: a file, a folder, or a file in a folder.
 NAME = re.compile(r"[A-Za-z0-9][\w.-]*(/[A-Za-z0-9][\w.-]*)?", re.ASCII)
 ANOTHER = "name another folder by -o"
+# How a file cannot be written where another process spoils the folder, and not the device.
+SPOILT = {errno.EACCES, errno.EEXIST, errno.EISDIR, errno.ELOOP, errno.ENOENT, errno.ENOTDIR, errno.ENOTEMPTY, errno.EPERM}
 
 
 def above(path: Path) -> List[Path]:
@@ -73,6 +75,7 @@ class Folder:
         except BlockingIOError:
             raise Broke(f"{path}: another run of hwtool-flow goes on there") from None
         self._mode = stat.S_IMODE(os.fstat(self.at).st_mode)
+        self._is_settled = False
         self._names = self._listed() if os.listdir(self.at) else self._begun()
 
     # ---- the mark
@@ -86,12 +89,16 @@ class Folder:
             raise
         return []
 
-    def _listed(self) -> List[str]:
-        """What the mark lists; a folder without one is refused."""
-        lines: List[str] = []
+    def _lines(self) -> List[str]:
+        """The lines of the mark, which is a plain file of this user; none where it is not."""
         with contextlib.suppress(OSError), os.fdopen(open_plain(MARK, self.at), encoding="utf-8", errors="replace") as file:
             if os.fstat(file.fileno()).st_uid == os.geteuid():
-                lines = file.read().split("\n")
+                return file.read().split("\n")
+        return []
+
+    def _listed(self) -> List[str]:
+        """What the mark lists and is there; a folder without one is refused."""
+        lines = self._lines()
         if lines[:1] != [FIRST_LINE]:
             raise WordsRefused(
                 f"{self.path}: is there, and is no folder of results, since it has no mark ({MARK}) of this user; "
@@ -174,16 +181,21 @@ class Folder:
             return Held.of_file(name, file.fileno(), most)
 
     def write(self, what: Held, executable: bool = False) -> None:
-        """Writes a file under its name, whole or not at all."""
+        """Writes a file under its name, whole or not at all. Where another process is in the way it is written once that is gone."""
         self.claim([it for it in (os.path.dirname(what.name), what.name) if it])
         mode = 0o755 if executable else 0o644
-        self._put(what.name, what.pieces(), mode)
         self._kept[what.name] = what, mode
+        try:
+            self._put(what.name, what.pieces(), mode)
+        except OSError as why:
+            if self._is_settled or why.errno not in SPOILT:
+                raise
 
     def _put(self, name: str, pieces: Iterable[bytes], mode: int) -> None:
         """Writes a file beside, and then gives it its name."""
         folder, leaf = os.path.split(name)
         with self._lock:
+            self._restore()
             self._clear_way(self.at, PART)
             into = os.open(PART, os.O_WRONLY | os.O_CREAT | os.O_EXCL | os.O_NOFOLLOW | os.O_CLOEXEC, mode, dir_fd=self.at)
             try:
@@ -234,8 +246,8 @@ class Folder:
 
         Answers the names of those that cannot be written anew.
         """
-        if stat.S_IMODE(os.fstat(self.at).st_mode) != self._mode:
-            os.fchmod(self.at, self._mode)
+        self._is_settled = True
+        self._restore()
         for name in sorted(self._names, key=lambda it: "/" not in it):
             if name not in self._kept:
                 self._remove(name)
@@ -243,6 +255,11 @@ class Folder:
         if not self._has_its_name():
             self.notes.append(f"{self.path}: was moved or replaced by another process while this went on")
         return lost
+
+    def _restore(self) -> None:
+        """Gives the folder the rights that it had."""
+        if stat.S_IMODE(os.fstat(self.at).st_mode) != self._mode:
+            os.fchmod(self.at, self._mode)
 
     def _stands(self, held: Held, mode: int) -> bool:
         """Whether a file is what was kept, if need be since it was written anew."""
@@ -274,7 +291,8 @@ class Folder:
         names = [it for it in self._names if self._is_there(it)]
         with contextlib.suppress(OSError):
             if names:
-                self._write_mark(names)
+                if self._lines() != [FIRST_LINE, *names, ""]:
+                    self._write_mark(names)
             else:
                 self._remove_if_new()
         os.close(self.at)

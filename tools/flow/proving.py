@@ -22,6 +22,8 @@ SOLVER_BYTES = 4 << 30
 MOST_WORDS = 200
 FORM, DUMP, SAVED, FORMULA, PROOF = "form.aig", "dump.vcd", "dump.gtkw", "formula.cnf", "proof"
 WITNESS = Evidence.WITNESS.value
+# How the first frame of a dump begins.
+FIRST_FRAME = b"\n#"
 # The files of a property.
 FILES = [FORM, DUMP, SAVED, FORMULA, PROOF, *(it.value for it in Evidence)]
 
@@ -298,9 +300,19 @@ class Job:
         dump = self.program.dump(self.model, witness, self.name(DUMP)).made
         if dump is None:
             return []
-        with dump.opened() as file:
+        with Held.of_bytes(DUMP, head_of_dump(dump)).opened() as file:
             seen = shown(read_dump(Path(f"{HANDED}{file}")), self.property, self.prover.clock)
         return [dump, written(self.name(SAVED), saved_file(DUMP, seen))]
+
+
+def head_of_dump(dump: Held) -> bytes:
+    """What stands in a dump in front of its frames: the names of signals."""
+    head = b""
+    for piece in dump.pieces():
+        head += piece
+        if FIRST_FRAME in head:
+            break
+    return head.partition(FIRST_FRAME)[0] + b"\n"
 
 
 def why(ended: Ended, log: str) -> str:

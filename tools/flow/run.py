@@ -162,12 +162,11 @@ class Run:
 
     def adopted(self, design: Design) -> Dict[str, Dict[str, Any]]:
         """What an earlier run told of each property of the same texts; of others all that was made is removed."""
+        keys, texts = [it.key for it in design.properties], [it.name for it in design.texts]
+        self.folder.claim([RESULTS, CHECK, REPORT, *texts, *keys, *(f"{key}/{name}" for key in keys for name in FILES)])
         told = told_before(self.folder, design)
         if told is None:
             self.folder.clear()
-        keys = [it.key for it in design.properties]
-        texts = [it.name for it in design.texts]
-        self.folder.claim([RESULTS, CHECK, REPORT, *texts, *keys, *(f"{key}/{name}" for key in keys for name in FILES)])
         for it in design.texts:
             self.folder.write(it.held)
         return told or {}

@@ -11,7 +11,7 @@ import threading
 import time
 from dataclasses import dataclass
 from pathlib import Path
-from typing import Iterator, Optional, Sequence, Set, Union
+from typing import Dict, Iterator, Optional, Sequence, Set, Union
 
 from .files import open_plain
 from .warden import PR_SET_CHILD_SUBREAPER, PR_SET_DUMPABLE, below, kill, parents, set_process
@@ -105,13 +105,24 @@ class Runner:
         return self._run(words, folder, out, err, seconds, subprocess.DEVNULL, program, handed)
 
     def run(
-        self, words: Sequence[str], folder: Path, out: Output, err: Optional[Output], seconds: Optional[float], most_bytes: Optional[int]
+        self,
+        words: Sequence[str],
+        folder: Path,
+        out: Output,
+        err: Optional[Output],
+        seconds: Optional[float],
+        most_bytes: Optional[int],
+        home: Optional[Path] = None,
     ) -> Ended:
-        """Runs a program that nothing is known of: all that came of it ends with it, and none of its files gets larger than is said."""
+        """Runs a program that nothing is known of: all that came of it ends with it, and none of its files gets larger than is said.
+
+        With `home` that is its home folder, where it may keep what it likes.
+        """
         ours, theirs = os.pipe()
         try:
             around = [sys.executable, "-I", "-S", "-c", WARDEN, str(most_bytes or 0), str(theirs), *words]
-            ended = self._run(around, folder, out, err, seconds, subprocess.PIPE, None, [theirs])
+            environment = {**os.environ, "HOME": str(home)} if home else None
+            ended = self._run(around, folder, out, err, seconds, subprocess.PIPE, None, [theirs], environment)
             self.end_strays()
             os.set_blocking(ours, False)
             with contextlib.suppress(BlockingIOError, ValueError):
@@ -131,6 +142,7 @@ class Runner:
         source: int,
         program: Optional[str],
         handed: Sequence[int],
+        environment: Optional[Dict[str, str]] = None,
     ) -> Ended:
         """Runs a command in a session of its own, and ends what is left of it."""
         began = time.monotonic()
@@ -147,6 +159,7 @@ class Runner:
                     stderr=to_err,
                     start_new_session=True,
                     pass_fds=handed,
+                    env=environment,
                 )
                 self._known.add(process.pid)
         try:

@@ -49,7 +49,7 @@ class Yosys:
         script, log = Path(self.names.own(f"{name}.ys")), Path(self.names.own(f"{name}.log"))
         script.write_text("\n".join(steps) + "\n", encoding="utf-8", errors="surrogateescape")
         with self._told_where_slow(name):
-            ended = self.runner.run(["yosys", "-QT", "-s", str(script)], Path.cwd(), log, None, None, None)
+            ended = self.runner.run(["yosys", "-QT", "-s", str(script)], Path.cwd(), log, None, None, None, self.names.folder)
         if ended.how is Ending.STOPPED:
             raise Stopped
         if ended.status != 0:
