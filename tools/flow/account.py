@@ -4,10 +4,10 @@ Each formal cell gets a name of its own before a model is written, and is tied t
 """
 import re
 from dataclasses import dataclass
-from typing import Callable, Dict, Iterator, List, Optional, Sequence, Set
+from typing import Callable, Dict, Iterator, List, Sequence, Set
 
 from .engines import InputRefused
-from .recipe import CLOCKED, IN_RESET
+from .recipe import IN_RESET
 from .rtlil import Cell, Module
 from .statements import CELLS, Says, Statement, line_of
 
@@ -22,13 +22,11 @@ WHY_AWAY = "it is generated away (under a condition that is constant), or in a t
 
 @dataclass(frozen=True)
 class Formal:
-    """A formal cell of the flat design: its name in the account, what it says, its statement's place, and what is known of it."""
+    """A formal cell of the flat design: its name in the account, what it says, its statement's place, and what is to be told of it."""
 
     name: str
     says: Says
     place: str
-    clocked: bool = False
-    always_asked: bool = False
     note: str = ""
 
 
@@ -102,8 +100,7 @@ class Account:
     def _formal(cell: Cell, says: Says, name: str, place: str, is_said: bool) -> Formal:
         """What is known of a formal cell."""
         note = "of Yosys: the drivers of a net do not clash" if OF_DRIVERS in cell.name else "" if is_said else "its text was not read"
-        clocked = any(it.lstrip("\\") == CLOCKED for it in cell.attributes)
-        return Formal(name, says, place, clocked, cell.ports.get("\\EN", []) == ["1'1"], note)
+        return Formal(name, says, place, note)
 
     # ---- what came of it
 
@@ -160,8 +157,3 @@ def name_of(cell: Cell, says: Says, place: str) -> str:
     above = re.match(r"\$flatten(.*?)\$", cell.name)
     kind = "drivers" if OF_DRIVERS in cell.name else says.value
     return f"{above[1].replace(chr(92), '') if above else ''}{kind}_{line_of(place)}"
-
-
-def counted_by(statements: Sequence[Statement], says: Says, module: Optional[str] = None) -> int:
-    """How many statements of a kind there are, in a module or at all."""
-    return sum(it.says is says and module in (None, it.module) for it in statements)

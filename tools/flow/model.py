@@ -69,7 +69,7 @@ class Property:
     role: Role = Role.MODEL
     # what is to be said of it beside its verdict
     note: str = ""
-    # whether it is asked in every frame, so that it cannot hold for want of being asked
+    # whether it is asked in every frame, as far as its text shows, so that it cannot hold for want of being asked
     always_asked: bool = True
 
     @property

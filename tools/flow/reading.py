@@ -2,12 +2,12 @@
 import os
 import re
 import shutil
-from dataclasses import dataclass
+from dataclasses import dataclass, replace
 from pathlib import Path
-from typing import Callable, Dict, List, Optional, Sequence, Tuple
+from typing import Callable, List, Optional, Sequence, Set
 
 from . import recipe, vacuity
-from .account import Account, Formal
+from .account import Account
 from .clocks import Timing
 from .engines import InputRefused, WordsRefused
 from .model import Design, Kind, Model, Property, Role, Said
@@ -133,9 +133,12 @@ class Reader:
     def of_words(self, path: Path, place: str, role: Role) -> Model:
         """A text in BTOR2, in the one spelling that `show` gives, with the places that Yosys noted."""
         shown = self.made(path, "show", place)
-        lines = re.findall(r"^(\d+) bad \d+(?: (\S+))?$", shown, flags=re.M)
+        lines = re.findall(r"^(\d+) bad (\d+)(?: (\S+))?$", shown, flags=re.M)
         places = dict(re.findall(r"^(\d+) bad .*; (\S.*?)\s*$", path.read_text(encoding="utf-8", errors="replace"), flags=re.M))
-        properties = [Property(number, name, places.get(line, ""), role) for number, (line, name) in enumerate(lines)]
+        always = nodes_of_one(shown) if role is Role.ENABLES else set()
+        properties = [
+            Property(number, name, places.get(line, ""), role, always_asked=node in always) for number, (line, node, name) in enumerate(lines)
+        ]
         return Model(Kind.WORDS, path, properties, role, constraints=len(re.findall(r"^\d+ constraint ", shown, flags=re.M)))
 
     def of_names(self, path: Path, place: str, role: Role) -> Model:
@@ -215,7 +218,10 @@ class Reader:
         model = self.tied(self.taken(paths["model"], Kind.WORDS), account, Says.ASSERT)
         account.count_constraints(model.constraints)
         covers = self.tied(self.taken(paths["cover"], Kind.WORDS, Role.COVER), account, Says.COVER)
-        enables = self.tied(self.taken(paths["enables"], Kind.WORDS, Role.ENABLES), account, Says.ASSERT)
+        enables = self.taken(paths["enables"], Kind.WORDS, Role.ENABLES)
+        always = {it.name for it in enables.properties if it.always_asked}
+        account.tied(Says.ASSERT, [it.name for it in enables.properties])
+        model = replace(model, properties=[replace(it, always_asked=it.name in always) for it in model.properties])
         undefined, meaning = bridge.undefined, list(bridge.notes)
         if self.wanted.zero_undefined:
             meaning.append(AS_ZERO)
@@ -241,8 +247,8 @@ class Reader:
     def tied(model: Model, account: Account, says: Says) -> Model:
         """A text whose properties have what the account knows of them."""
         formals = account.tied(says, [it.name for it in model.properties])
-        properties = [of_formal(it, formal) for it, formal in zip(model.properties, formals)]
-        return Model(model.kind, model.path, properties, model.role, model.inputs, model.constraints)
+        named = zip(model.properties, formals)
+        return replace(model, properties=[replace(it, name=one.name, place=one.place, note=one.note) for it, one in named])
 
     def by_own_steps(self, script: Path, yosys: Yosys, names: Names) -> Design:
         """The texts that a script of one's own makes, which the flow cannot look into."""
@@ -263,6 +269,12 @@ class Reader:
         return Design(model, covers_asked, None, self.frames_of(model, 0), notes, meaning, yosys.warnings, steps=told)
 
 
-def of_formal(it: Property, formal: Formal) -> Property:
-    """A bad property, with what the account knows of its cell."""
-    return Property(it.number, formal.name, formal.place, it.role, formal.note, formal.always_asked)
+def nodes_of_one(shown: str) -> Set[str]:
+    """The nodes of a text, by their numbers, that are the bit 1 as they stand."""
+    found: Set[str] = set()
+    for line in shown.splitlines():
+        words = line.split()
+        is_one = words[1:2] == ["one"] or words[1:2] == ["const"] and words[3:4] == ["1"]
+        if is_one or words[1:2] == ["and"] and set(words[3:5]) <= found:
+            found.add(words[0])
+    return found

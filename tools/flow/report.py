@@ -12,7 +12,7 @@ from .proving import DUMP, FORMULA, PROOF, SAVED, WITNESS
 from .results import Outcome, Results
 from .summary import findings, known_of, text_name
 from .telling import in_vain
-from .waves import read_bits, read_dump, shown
+from .waves import in_own_frame, read_bits, read_dump, shown
 
 # Sections that stand open at first.
 MOST_OPEN = 16
@@ -189,7 +189,7 @@ def drawn(it: Finding, rises: int, results: Results, folder: Path) -> str:
             signals = read_dump(at / DUMP)
         else:
             signals = read_bits(at / WITNESS, design.model.inputs, it.property, judged)
-        seen = shown(signals, it.property, design.clock)
+        seen = shown(in_own_frame(signals, judged - rises), it.property, design.clock)
         svg = picture(seen, rises, f"the frames of {it.property} up to frame {rises}")
     except (OSError, ValueError, IndexError, KeyError) as fault:
         return tag("p", text(f"There is no picture: {fault}"), class_="soft")

@@ -1,7 +1,7 @@
 """The frames of a witness, signal by signal: as `hwtool wave` dumps them of a model, or as the witness of a circuit has them."""
 import enum
 import re
-from dataclasses import dataclass, field
+from dataclasses import dataclass, field, replace
 from pathlib import Path
 from typing import Dict, List, Sequence, Tuple
 
@@ -105,6 +105,14 @@ def shown(signals: Sequence[Signal], of: Property, clock: str) -> List[Signal]:
     rest = [it for it in signals if it.scope in order[2:] and it.is_named and not (it.scope is Scope.INPUT and it.name == clock)]
     front = [it for it in signals if it.scope is Scope.ASSUMPTION]
     return [*front, own, *sorted(rest, key=lambda it: order.index(it.scope))]
+
+
+def in_own_frame(signals: Sequence[Signal], ahead: int) -> List[Signal]:
+    """Signals, in which what is asked and assumed of a frame stands there, and not so many frames later as the model looks at it."""
+    if not ahead:
+        return list(signals)
+    later = (Scope.PROPERTY, Scope.ASSUMPTION)
+    return [replace(it, words=it.words[ahead:] if it.scope in later else it.words[:-ahead]) for it in signals]
 
 
 def joined(signals: Sequence[Signal]) -> List[Signal]:
