@@ -86,6 +86,19 @@ class Property:
 
 
 @dataclass(frozen=True)
+class Said:
+    """A statement of the design beside its properties: what it says, its name and place, and why it is not judged, if it is not."""
+
+    says: str
+    name: str
+    place: str
+    why: str = ""
+
+    def __str__(self) -> str:
+        return f"{self.says} {self.name}" + (f" ({self.place})" if self.place else "")
+
+
+@dataclass(frozen=True)
 class Model:
     """A text that `hwtool` takes, and the properties in it."""
 
@@ -95,8 +108,8 @@ class Model:
     role: Role = Role.MODEL
     # the names of a circuit's inputs
     inputs: List[str] = field(default_factory=list)
-    # how many constraints it has
-    constraints: int = 0
+    # its constraints, by their names in the text
+    constraints: List[Said] = field(default_factory=list)
     # its text, once all that checks it reads nothing else
     text: Optional[Held] = None
 
@@ -116,19 +129,6 @@ class Model:
     def name(self) -> str:
         """The name of its file in the folder of results."""
         return f"{self.role.value}.{self.kind.value}"
-
-
-@dataclass(frozen=True)
-class Said:
-    """A statement of the design beside its properties: what it says, its name and place, and why it is not judged, if it is not."""
-
-    says: str
-    name: str
-    place: str
-    why: str = ""
-
-    def __str__(self) -> str:
-        return f"{self.says} {self.name}" + (f" ({self.place})" if self.place else "")
 
 
 @dataclass(frozen=True)
@@ -157,6 +157,8 @@ class Design:
     steps: List[str] = field(default_factory=list)
     # modules of the source that are not in it
     left_out: List[str] = field(default_factory=list)
+    # whose steps made it, if they were not looked at
+    own_steps: str = ""
 
     def taken(self) -> "Design":
         """The same with its texts, as they stand in their files now."""

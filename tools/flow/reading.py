@@ -22,6 +22,8 @@ VERILOG, BTOR2, AIGER = {".v", ".vh"} | SYSTEM_VERILOG, {".btor2", ".btor"}, {".
 # A step of Yosys that reads files.
 READS = re.compile(r"\s*(read|read_\w+|verific)\b")
 
+# A constraint of a model in the one spelling: its number, and its name if it has one.
+CONSTRAINT = r"^(\d+) constraint \d+(?: (\S+))?$"
 WRITE_ONE = {
     "Verilog": "as in `always @* has_room: assert (count <= 4);`",
     "BTOR2": "as in `10 bad 9`, of a node of one bit",
@@ -139,20 +141,22 @@ class Reader:
         properties = [
             Property(number, name, places.get(line, ""), role, always_asked=node in always) for number, (line, node, name) in enumerate(lines)
         ]
-        return Model(Kind.WORDS, path, properties, role, constraints=len(re.findall(r"^\d+ constraint ", shown, flags=re.M)))
+        assumed = [Said("assume", name or f"constraint {line}", "") for line, name in re.findall(CONSTRAINT, shown, flags=re.M)]
+        return Model(Kind.WORDS, path, properties, role, constraints=assumed)
 
     def of_names(self, path: Path, place: str, role: Role) -> Model:
         """A circuit, its bad properties and the names of its inputs, by its header and its table of names."""
         shown = self.made(path, "aig-convert", place)
         header = [int(it) for it in shown.split("\n", 1)[0].split()[1:]] + [0] * 4
-        names = dict(re.findall(r"^([bi]\d+) (.*)$", shown, flags=re.M))
+        names = dict(re.findall(r"^([bci]\d+) (.*)$", shown, flags=re.M))
         properties = [Property(number, names.get(f"b{number}", ""), "", role) for number in range(header[5])]
         inputs = [names.get(f"i{number}", f"i{number}") for number in range(header[1])]
-        return Model(Kind.CIRCUIT, path, properties, role, inputs, header[6])
+        assumed = [Said("assume", names.get(f"c{number}", f"constraint {number}"), "") for number in range(header[6])]
+        return Model(Kind.CIRCUIT, path, properties, role, inputs, assumed)
 
     def of_text(self, model: Model, notes: List[str]) -> Design:
         """A design that is one text, with that about its assumptions."""
-        return Design(model, frames=self.frames_of(model, 0), notes=notes)
+        return Design(model, frames=self.frames_of(model, 0), notes=notes, assumptions=model.constraints)
 
     def of_circuit(self) -> Design:
         """A circuit, of which the outputs are the properties where there are no others."""
@@ -216,7 +220,7 @@ class Reader:
         paths = bridge.write(timing, remedy.steps)
         account, ahead = bridge.account, int(timing.in_steps)
         model = self.tied(self.taken(paths["model"], Kind.WORDS), account, Says.ASSERT)
-        account.count_constraints(model.constraints)
+        account.count_constraints(len(model.constraints))
         covers = self.tied(self.taken(paths["cover"], Kind.WORDS, Role.COVER), account, Says.COVER)
         enables = self.taken(paths["enables"], Kind.WORDS, Role.ENABLES)
         always = {it.name for it in enables.properties if it.always_asked}
@@ -265,8 +269,18 @@ class Reader:
         model, covers = (self.taken(Path(it), Kind.WORDS, role) for it, role in zip(paths, (Role.MODEL, Role.COVER)))
         notes = [f"by yosys and {script.name}", *filter(None, [remedy.note])]
         meaning, told = [BY_OWN_STEPS.format(script.name)], [names.told(it) for it in [*steps, "write_btor"]]
-        covers_asked = covers if covers.properties else None
-        return Design(model, covers_asked, None, self.frames_of(model, 0), notes, meaning, yosys.warnings, steps=told)
+        return Design(
+            model,
+            covers if covers.properties else None,
+            None,
+            self.frames_of(model, 0),
+            notes,
+            meaning,
+            yosys.warnings,
+            model.constraints,
+            steps=told,
+            own_steps=script.name,
+        )
 
 
 def nodes_of_one(shown: str) -> Set[str]:

@@ -225,18 +225,18 @@ class Run:
 
     def prove(self, asker: Asker, results: Results, properties: List[Property], teller: Teller) -> None:
         """Asks about the assumptions first, and about properties, and keeps and tells what comes of them."""
-        tasks: List[Callable[[], Callable[[], None]]] = [lambda: self.assumptions_asked(asker, results, teller)]
-        tasks += [lambda it=it: self.property_asked(it, asker, results, teller) for it in properties]
         with self.workers() as pool:
-            first = pool.submit(tasks[0])
-            waiting = {first, *(pool.submit(it) for it in tasks[1:])}
+            first = pool.submit(self.assumptions_asked, asker, results, teller)
+            waiting = {first, *(pool.submit(self.property_asked, it, asker, results, teller) for it in properties)}
             later: List[Callable[[], None]] = []
             while waiting:
                 done, waiting = concurrent.futures.wait(waiting, REDRAWN, concurrent.futures.FIRST_COMPLETED)
-                # what a property comes to is told once it is known what the assumptions do
-                later += [it.result() for it in sorted(done, key=lambda it: it is not first)]
-                while later and first.done():
-                    later.pop(0)()
+                # what a property comes to is told behind what the assumptions do
+                later = [it.result() for it in done if it is first] + later + [it.result() for it in done if it is not first]
+                if first not in waiting:
+                    for tell in later:
+                        tell()
+                    later = []
                 if done:
                     self.keep(results)
                 self.tell_notes(teller)

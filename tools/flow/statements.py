@@ -47,8 +47,8 @@ class Statement:
 
 
 def line_of(place: str) -> str:
-    """The line of a place FILE:LINE.COLUMN-LINE.COLUMN."""
-    return place.rsplit(":", 1)[-1].split("-")[0].split(".")[0]
+    """The last line of a place FILE:LINE.COLUMN-LINE.COLUMN, since it may begin on the line of what stands before it."""
+    return place.rsplit(":", 1)[-1].split("-")[-1].split(".")[0]
 
 
 def statements_in(log: Iterable[str]) -> List[Statement]:

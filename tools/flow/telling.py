@@ -89,7 +89,7 @@ def head_lines(name: str, design: Design) -> List[str]:
     asked = len(design.model.properties)
     count = f"{counted(asked, 'assertion')}, {counted(covers, 'cover')}" if covers else counted(asked, "property", "properties")
     lines = [f"reading    {name} {', '.join([design.notes[0], count, *design.notes[1:]])}"]
-    lines += [f"assuming   {it.name} ({it.place})" for it in design.assumptions]
+    lines += [f"assuming   {it.name}" + (f" ({it.place})" if it.place else "") for it in design.assumptions]
     lines += [f"left out   {', '.join(design.left_out)}: not below the top"] if design.left_out else []
     lines += [f"not judged {it}: {it.why}" for it in design.not_judged]
     lines += [f"warning    {it}" for it in design.warnings]
@@ -104,7 +104,8 @@ def summary(told: List[Finding], results: Results, is_whole: bool, folder: str) 
     counts = [f"{holds} hold{'s' * (holds == 1)}", f"{fails} fail{'s' * (fails == 1)}", f"{left} open"]
     counts += [f"{count} {it.value}" for it, count in others if count] + ([f"{apart} not judged"] if apart else [])
     all_said = not left and not apart and is_settled(known_of(results))
-    checked = "all checked" if all_said else "all others checked" if len(told) > left else "nothing checked"
+    whole = f"all checked that {results.design.own_steps} wrote" if results.design.own_steps else "all checked"
+    checked = whole if all_said else "all others checked" if len(told) > left else "nothing checked"
     return f"{counted(len(told), 'property', 'properties')}: {', '.join(counts)}; {checked}; results in {folder}/"
 
 
