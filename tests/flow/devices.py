@@ -1,5 +1,6 @@
 """Devices that fail, tools that are not there, a program that is broken, and what is installed."""
 import os
+import pathlib
 import shutil
 import subprocess
 import sys
@@ -13,10 +14,38 @@ def try_devices(place):
     place = place.sub("devices")
     shutil.copyfile(EXAMPLES / "flow/queue.v", place.folder / "queue.v")
     try_closed_folder(place)
+    try_lacking_memory(place)
     text, wanted = counter_model(24, 14)
     (place.folder / "counter.btor2").write_text(text)
     try_full_disk(place, "queue.v", [0, HOLDS, 5], (4, 12, 24, 36, 48, 64, 80, 100))
     try_full_disk(place, "counter.btor2", wanted, (40, 60, 80, 100, 130, 160, 200, 240))
+
+
+# What takes from a system that files in memory are sealed, or run.
+LACKS = {
+    "no files in memory": "import os; del os.memfd_create",
+    "nothing run from memory": """
+import subprocess
+class Refused(subprocess.Popen):
+    def __init__(self, words, executable=None, **more):
+        if executable:
+            raise PermissionError(13, executable)
+        super().__init__(words, **more)
+subprocess.Popen = Refused
+""",
+}
+
+
+def try_lacking_memory(place):
+    """Where files in memory cannot be sealed, or not be run, the verdicts are the same."""
+    for what, lack in LACKS.items():
+        start = f"{lack}\nimport runpy, sys\nsys.argv = sys.argv[1:]\nrunpy.run_path(sys.argv[0], run_name='__main__')"
+        command = [sys.executable, "-c", start, *place.words("queue.v")[1:]]
+        done = subprocess.run(command, cwd=place.folder, capture_output=True, text=True, check=False)
+        tally.same(f"{what}: status", (ONE_FAILS, ""), (done.returncode, done.stderr))
+        tally.same(f"{what}: verdicts", [0, HOLDS, 5], place.verdicts("queue.flow"))
+        tally.same(f"{what}: check.sh", (0, "3 confirmed, 0 not"), place.checked("queue.flow"))
+        shutil.rmtree(place.folder / "queue.flow")
 
 
 def try_closed_folder(place):

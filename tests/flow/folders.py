@@ -41,7 +41,9 @@ def try_taken(place):
     (place.folder / "empty").mkdir()
     for it in ("new", "empty"):
         tally.same(f"a refused design, {it}", REFUSED, place.run("none.btor2", "-o", it).returncode)
-    tally.same("what is left of it", (False, []), ((place.folder / "new").exists(), os.listdir(place.folder / "empty")))
+    tally.same("what is left of it", ["empty"], [it.name for it in sorted(place.folder.glob("[en][me]*")) if it.is_dir()])
+    (place.folder / "empty").mkdir(exist_ok=True)
+    tally.same("what is left in it", [], os.listdir(place.folder / "empty"))
     for it in ("new", "empty", "new", "empty"):
         tally.same(f"a folder that is {it}", ALL_HOLD, place.run("holds.btor2", "-o", it).returncode)
     marks = {

@@ -76,7 +76,7 @@ class Folder:
             raise Broke(f"{path}: another run of hwtool-flow goes on there") from None
         self._mode = stat.S_IMODE(os.fstat(self.at).st_mode)
         self._is_settled = False
-        self._names = self._listed() if os.listdir(self.at) else self._begun()
+        self._names = dict.fromkeys(self._listed() if os.listdir(self.at) else self._begun())
 
     # ---- the mark
 
@@ -121,7 +121,7 @@ class Folder:
                     )
             if new:
                 self._write_mark([*self._names, *new])
-                self._names += new
+                self._names.update(dict.fromkeys(new))
 
     # ---- what is there
 
@@ -217,7 +217,7 @@ class Folder:
     def keep(self, folder: str, files: Sequence[Held]) -> Dict[str, str]:
         """Writes the files of a folder, in which no other file of ours stays; answers their sums."""
         names = {it.name for it in files}
-        for it in [it for it in self._names if os.path.dirname(it) == folder and it not in names]:
+        for it in [it for it in self._names if it.startswith(f"{folder}/") and it not in names]:
             self._remove(it)
         for held in files:
             self.write(held)

@@ -134,6 +134,7 @@ class Job:
     def __init__(self, prover: Prover, it: Property) -> None:
         self.prover, self.property, self.program, self.model = prover, it, prover.program, prover.model
         self.shown = Running(it)
+        self._form: Optional[Held] = None
 
     def name(self, file: str) -> str:
         """A file of its results."""
@@ -161,11 +162,13 @@ class Job:
         return Outcome(self.property, verdict, judged.frame, engine, seconds, judged.check, judged.command, judged.line, tries, files)
 
     def form(self) -> Held:
-        """The engine form."""
-        said = self.program.form(self.model, self.property.number, self.name(FORM))
-        if said.made is None:
-            raise Broke(said.line)
-        return said.made
+        """The engine form, which is made once."""
+        if self._form is None:
+            said = self.program.form(self.model, self.property.number, self.name(FORM))
+            if said.made is None:
+                raise Broke(said.line)
+            self._form = said.made
+        return self._form
 
     def beside(self, grounds: Grounds) -> List[Held]:
         """What shows a verdict, with what is there to look at: the frames of a witness, or the formula that a proof refutes."""
