@@ -21,6 +21,7 @@ from flow.common import MARK, TOP, Place, tally
 GROUPS = {
     "designs": designs.try_designs,
     "truths": verilog.try_truths,
+    "reading": verilog.try_reading,
     "words": designs.try_words,
     "names": designs.try_names,
     "folders": folders.try_folders,
