@@ -10,6 +10,7 @@ import re
 import shlex
 import shutil
 import subprocess
+import sys
 
 from .common import ALL_HOLD, HOLDS, ONE_FAILS, OPEN, REFUSED, TOP, WORDS, tally
 
@@ -132,6 +133,11 @@ def try_notes(place):
     tally.true("the top and why", "top b (by --top)" in done.stdout and "left out   a: not below the top" in done.stdout, done.stdout)
     tally.true("what is not judged", "not judged assert bad_one" in done.stdout and "1 not judged; all others checked" in done.stdout, done.stdout)
     tally.same("its status", OPEN, done.returncode)
+    hurry = "import sys\nfrom flow import command_line, yosys\nyosys.SLOW_SECONDS = 0.01\nsys.exit(command_line.main(sys.argv[1:]))\n"
+    words = [sys.executable, "-c", hurry, *place.words("--timeout", "10", design("late.v"))[2:]]
+    environment = {**os.environ, "PYTHONPATH": str(TOP / "tools"), "PYTHONDONTWRITEBYTECODE": "1"}
+    done = subprocess.run(words, cwd=place.folder, env=environment, capture_output=True, text=True, check=False)
+    tally.true("a hint where Yosys is slow", done.stderr.startswith("hwtool-flow: yosys (reading) has taken"), done.stderr)
     done = place.run(design("async-reset.v"), "--engine", "bmc3", "--depth", "3")
     tally.true("a hint where resets keep it open", done.stdout.count("--clocked-resets makes a smaller model") == 2, done.stdout)
 
@@ -146,6 +152,8 @@ def try_own_reading(place):
         "a line that a shell runs": "!touch was_run\nread_verilog late.v\n",
         "a step that changes the design": "read_verilog late.v\nproc\n",
         "a line that goes on": "read_verilog late.v \\\n; exec -- touch was_run\n",
+        "assertions left out": "read_verilog -noassert late.v\n",
+        "defaults cleared": "verilog_defaults -clear\nread_verilog late.v\n",
         "a text in the script": "read_verilog <<EOT\nmodule m; endmodule\nEOT\n",
     }.items():
         (place.folder / "bad.ys").write_text(text)

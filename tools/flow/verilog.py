@@ -19,6 +19,8 @@ MACRO = re.compile(r"[A-Za-z_]\w*(=[\w'.+-]*)?\Z", re.ASCII)
 PARAMETER_VALUE = re.compile(r"""(-?\d+|\d*'s?[bodhBODH][0-9a-fA-F_]+|"[\w .+-]*")\Z""", re.ASCII)
 # Steps of Yosys that read and define, and do nothing else.
 READING = {"read", "read_verilog", "read_rtlil", "read_ilang", "read_json", "verilog_defines", "verilog_defaults"}
+# Words of such steps by which statements would be lost without a word, or defaults that the flow sets.
+LOSING = {"-noassert", "-noassume", "-norestrict", "-defer", "-clear", "-push", "-pop"}
 IMPLICIT = re.compile(r"Identifier `\\(\S+)' is implicitly declared")
 # A name of Yosys for a module with parameters.
 WITH_PARAMETERS = re.compile(r"\$paramod(?:\$\w+)?\\([^\\]+)")
@@ -84,8 +86,8 @@ def steps_of(script: Path) -> List[str]:
         if line.strip().endswith("\\"):
             raise WordsRefused(f"--read {printable(str(script))}: a line that goes on in the next")
         for step in filter(None, map(str.strip, line.split(";"))):
-            if step.split()[0] not in READING or "<<" in step:
-                raise WordsRefused(f"--read {printable(str(script))}: `{printable(step)}` is not a step that only reads")
+            if step.split()[0] not in READING or "<<" in step or LOSING & set(step.split()):
+                raise WordsRefused(f"--read {printable(str(script))}: `{printable(step)}` is not a step that only reads, and reads all")
     return steps
 
 
