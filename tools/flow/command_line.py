@@ -80,7 +80,8 @@ def refuse_without_effect(parser: Words, words: argparse.Namespace) -> None:
     """Refuses words that would have no effect."""
     if bool(words.design) == bool(words.read):
         parser.error("files of a design, or --read SCRIPT")
-    of_recipe = {"--top": words.top, "--param": words.param, "--clocked-resets": words.clocked_resets, "--zero-undefined": words.zero_undefined}
+    of_recipe = {"--top": words.top, "--param": words.param}
+    of_recipe.update({"--clocked-resets": words.clocked_resets, "--zero-undefined": words.zero_undefined})
     of_verilog = {**of_recipe, "-I": words.include, "-D": words.define, "--read": words.read}
     without = {}
     if words.yosys:

@@ -15,7 +15,7 @@ from .names import Names
 from .program import Broke, Program
 from .running import Runner
 from .statements import Says
-from .verilog import SYSTEM_VERILOG, Bridge, Wanted, language_of, reading_steps
+from .verilog import SYSTEM_VERILOG, Bridge, Wanted, reading_steps
 from .yosys import Yosys, text_of
 
 VERILOG, BTOR2, AIGER = {".v", ".vh"} | SYSTEM_VERILOG, {".btor2", ".btor"}, {".aig", ".aag"}
@@ -31,7 +31,8 @@ WRITE_ONE = {
 }
 BY_OWN_STEPS = "the steps of {} were not looked at: whether all that the source says is in the model, in its own frame, is theirs"
 RESETS_HINT = (
-    "where resets and latches change with the edges of the one clock alone, --clocked-resets makes a smaller model, in which that is assumed"
+    "where resets and latches change with the edges of the one clock alone, --clocked-resets makes a smaller model, "
+    "in which that is assumed"
 )
 AS_ZERO = "undefined bits are 0 (--zero-undefined): x, what nothing drives, what is out of range, and a division by zero"
 
@@ -139,7 +140,8 @@ class Reader:
         places = dict(re.findall(r"^(\d+) bad .*; (\S.*?)\s*$", path.read_text(encoding="utf-8", errors="replace"), flags=re.M))
         always = nodes_of_one(shown) if role is Role.ENABLES else set()
         properties = [
-            Property(number, name, places.get(line, ""), role, always_asked=node in always) for number, (line, node, name) in enumerate(lines)
+            Property(number, name, places.get(line, ""), role, always_asked=node in always)
+            for number, (line, node, name) in enumerate(lines)
         ]
         assumed = [Said("assume", name or f"constraint {line}", "") for line, name in re.findall(CONSTRAINT, shown, flags=re.M)]
         return Model(Kind.WORDS, path, properties, role, constraints=assumed)

@@ -13,7 +13,14 @@ WITH_X = "t:$shiftx t:$div t:$mod t:$divfloor t:$modfloor %u %u %u %u"
 OF_FORMAL = "w:$formal$*_EN w:$formal$*_CHECK %u"
 
 # What merges equal cells and drops unused ones, once; no formal cell is merged, and no register without an initial value.
-SMALLER_ONCE = ["opt_expr -keepdc", "opt_clean", "opt_muxtree", "opt_reduce", f"select -set formal {FORMAL}", "opt_merge -keepdc @formal %n"]
+SMALLER_ONCE = [
+    "opt_expr -keepdc",
+    "opt_clean",
+    "opt_muxtree",
+    "opt_reduce",
+    f"select -set formal {FORMAL}",
+    "opt_merge -keepdc @formal %n",
+]
 SMALLER = [*SMALLER_ONCE, *SMALLER_ONCE, "opt_expr -keepdc", "opt_clean"]
 
 

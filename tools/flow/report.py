@@ -118,7 +118,8 @@ def row_not_judged(it: Said) -> str:
     """A line of the table about what is not judged, and why."""
     sign, kind = SIGNS[Verdict.NOT_JUDGED]
     verdict = tag("td", f"{sign} not judged", class_=f"verdict {kind}")
-    return tag("tr", tag("td", text(f"{it.says} "), *named(it.name, it.place)), verdict, tag("td", text(it.why), colspan=3), class_="unjudged")
+    what, why = tag("td", text(f"{it.says} "), *named(it.name, it.place)), tag("td", text(it.why), colspan=3)
+    return tag("tr", what, verdict, why, class_="unjudged")
 
 
 def named(name: str, place: str) -> List[str]:
@@ -199,7 +200,8 @@ def drawn(it: Finding, rises: int, results: Results, folder: Path) -> str:
     notes += [f"{len(seen) - MOST_ROWS} more signals are in {DUMP}"] if len(seen) > MOST_ROWS else []
     what = "is reached" if it.verdict is Verdict.REACHED else "fails"
     steps = [f" {STEPS.format(frame=rises, judged=judged)}"] if judged != rises else []
-    caption = tag("figcaption", f"Frame {rises} is marked, in which ", tag("code", text(name)), text(f" {what}; {'; '.join(notes)}."), *steps)
+    said = text(f" {what}; {'; '.join(notes)}.")
+    caption = tag("figcaption", f"Frame {rises} is marked, in which ", tag("code", text(name)), said, *steps)
     buttons = [tag("button", sign, type="button", data_key=key, title=title, aria_label=title) for key, sign, title in BUTTONS]
     return tag("figure", tag("div", *buttons, class_="tools"), tag("div", svg, class_="wide"), caption, class_="frames-of", tabindex=0)
 

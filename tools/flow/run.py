@@ -288,4 +288,5 @@ class Run:
             return Status.BROKE
         known = known_of(results)
         left = count_of(told, Verdict.OPEN, Verdict.VACUOUS, Verdict.NEVER)
-        return Status.SOME_OPEN if left or known and not known.is_settled or self.is_whole() and results.design.not_judged else Status.ALL_HOLD
+        apart = self.is_whole() and results.design.not_judged
+        return Status.SOME_OPEN if left or apart or known and not known.is_settled else Status.ALL_HOLD

@@ -50,13 +50,15 @@ def property_json(it: Finding, design: Design) -> Dict[str, Any]:
     """The object of a property: what is known of it, and what was judged over its text."""
     says = "cover" if it.property.role is Role.COVER else "assert"
     front = {"name": it.property.name, "place": it.property.place, "says": says, "verdict": it.verdict.value, "frame": it.frame}
-    because = {"over": text_name(it.property, design), "because": it.because.property.key if it.because else "", "notes": notes_of(it, design)}
-    return {**front, **because, **it.outcome.as_json()}
+    because = it.because.property.key if it.because else ""
+    more = {"over": text_name(it.property, design), "because": because, "notes": notes_of(it, design)}
+    return {**front, **more, **it.outcome.as_json()}
 
 
 def said_json(it: Said) -> Dict[str, Any]:
     """The object of a statement that is not judged, and why."""
-    return {"key": "", "name": it.name, "place": it.place, "says": it.says, "verdict": Verdict.NOT_JUDGED.value, "frame": None, "notes": [it.why]}
+    front = {"key": "", "name": it.name, "place": it.place, "says": it.says}
+    return {**front, "verdict": Verdict.NOT_JUDGED.value, "frame": None, "notes": [it.why]}
 
 
 def assumptions_json(results: Results) -> Dict[str, Any]:

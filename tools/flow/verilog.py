@@ -27,6 +27,9 @@ WITH_PARAMETERS = re.compile(r"\$paramod(?:\$\w+)?\\([^\\]+)")
 # Cells whose word Verilog leaves x for some operands; and what Yosys makes undefined by itself.
 MAY_GIVE_X = {"$shiftx", "$div", "$mod", "$divfloor", "$modfloor"}
 OF_YOSYS = re.compile(r"\$(formal|memwr)\$")
+# A line that connects something to a constant with z, and a constant.
+WITH_Z = re.compile(r"^\s*connect .*\d'[01xzm-]*z.*$", re.M)
+CONSTANT = re.compile(r"\d'[01xzm-]*")
 ALL_AT_ONCE = {"$allconst", "$allseq"}
 # How many names of a kind are told.
 MOST_NAMES = 8
@@ -34,7 +37,10 @@ MOST_NAMES = 8
 DRIVEN_PIN = "is an input and driven inside (a pin that the design drives: write an output, and an input beside it)"
 FREE_Z = "z, where nothing drives, is any bit in each frame"
 DELAYS = "delays (#..) are dropped"
-CLOCK_INSIDE = "a clock that the design makes ({}): its registers take what stood before the edge, and a simulation may read what the same edge wrote"
+CLOCK_INSIDE = (
+    "a clock that the design makes ({}): its registers take what stood before the edge, "
+    "and a simulation may read what the same edge wrote"
+)
 FIRST_STEP = "with several clocks $initstate and `initial` are about the first step, which need not be an edge"
 
 
@@ -116,7 +122,8 @@ class Bridge:
         code = code_of(lines_of(log))
         bind = binds_in(code)
         if bind:
-            raise InputRefused(f"{self.design}: `{bind} ..`: a `bind`, which this Yosys drops without a word; write the instance into the module")
+            why = "a `bind`, which this Yosys drops without a word; write the instance into the module"
+            raise InputRefused(f"{self.design}: `{bind} ..`: {why}")
         if has_delays(code):
             self.notes.append(DELAYS)
         self.top, self.how = self._chosen()
@@ -204,18 +211,20 @@ class Bridge:
             real = [it for it in by if not is_loose(it, drivers)]
             if len(real) > 1:
                 pin = any(it.kind == "input" for it in real)
-                raise InputRefused(f"{self.design}: {module.spelt(bit)} {DRIVEN_PIN if pin else f'has {len(real)} drivers'}")
+                said = DRIVEN_PIN if pin else f"has {len(real)} drivers"
+                raise InputRefused(f"{self.design}: {module.spelt(bit)} {said}")
         free = names_of_free(module, modules, drivers)
         implicit = {it for text in self.yosys.warnings for it in IMPLICIT.findall(text)}
         lost = [it for it in free if any(it == name or it.endswith(f".{name}") for name in implicit)]
         if lost:
-            raise InputRefused(f"{self.design}: {listed(lost)}: neither declared nor driven (names of what stands in other modules are not read)")
+            why = "neither declared nor driven (names of what stands in other modules are not read)"
+            raise InputRefused(f"{self.design}: {listed(lost)}: {why}")
         if free:
             self.notes.append(f"not driven, so any bit in each frame: {listed(free)}")
 
     def _without_z(self, text: str) -> str:
         """The text without z, which has no words in a model: where buffers of three states did not take it, it is any bit."""
-        found = re.sub(r"(?m)^(\s*connect .*\d'[01xzm-]*z.*)$", lambda line: re.sub(r"\d'[01xzm-]*", lambda it: it[0].replace("z", "x"), line[0]), text)
+        found = WITH_Z.sub(lambda line: CONSTANT.sub(lambda it: it[0].replace("z", "x"), line[0]), text)
         if found != text:
             self.notes.append(FREE_Z)
         return found
