@@ -65,15 +65,15 @@ class Account:
         self.design, self.statements, self.modules = design, statements, modules
         self.formals: List[Formal] = []
 
-    def take(self, module: Module, text: str, told: Told) -> str:
-        """Takes in the formal cells of a flat module; answers its text, in which each has a name of its own."""
+    def take(self, module: Module, text: str, told: Told, below: Set[str]) -> str:
+        """Takes in the formal cells of a flat module, with the modules below it; answers its text, in which each has a name of its own."""
         lines, namer = text.split("\n"), Namer(module)
         at_place: Dict[str, List[Statement]] = {}
         for it in self.statements:
             at_place.setdefault(it.place, []).append(it)
         for cell in sorted((it for it in module.cells if it.kind in CELLS), key=lambda it: it.line):
             says = CELLS[cell.kind]
-            own = self._statements(cell, says, at_place, told)
+            own = self._statements(cell, says, at_place, told, below)
             place = own[0].place if own else next(iter(places_in(cell, told)), "?:0")
             name = namer.name(name_of(cell, says, place))
             if IN_RESET in {it.lstrip("\\") for it in cell.attributes}:
@@ -88,12 +88,14 @@ class Account:
         return "\n".join(lines)
 
     @staticmethod
-    def _statements(cell: Cell, says: Says, at_place: Dict[str, List[Statement]], told: Told) -> List[Statement]:
-        """The statements of which a cell came: of the places that flattening puts together, the statement's own."""
+    def _statements(cell: Cell, says: Says, at_place: Dict[str, List[Statement]], told: Told, below: Set[str]) -> List[Statement]:
+        """The statements of which a cell came: of the places that flattening puts together, the statement's own.
+
+        One file may be included in several modules, of which some may not be below the top."""
         for place in places_in(cell, told):
             found = [it for it in at_place.get(place, []) if it.says is says]
             if found:
-                return found
+                return [it for it in found if it.module in below] or found
         return []
 
     @staticmethod
@@ -129,9 +131,11 @@ class Account:
         """What is not judged: cells of liveness and fairness, and statements of which no cell came."""
         for says, why in ((Says.LIVE, WHY_LIVE), (Says.FAIR, WHY_FAIR)):
             yield from (NotJudged(it.name, says, it.place, why) for it in self.named(says))
+        names = {it.name for it in self.formals}
         for it in self.statements:
             if not it.cells:
-                yield NotJudged(it.name, it.says, it.place, self._why(it, top, below))
+                name = f"{it.module}.{it.name}" if it.name in names else it.name
+                yield NotJudged(name, it.says, it.place, self._why(it, top, below))
 
     def _why(self, it: Statement, top: str, below: Set[str]) -> str:
         """Why no cell came of a statement."""

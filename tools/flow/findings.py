@@ -25,15 +25,20 @@ class Assumed:
         return max(0, self.reached.property.number + 1 - self.ahead) if self.reached else 0
 
     @property
+    def fewest(self) -> Optional[int]:
+        """For how many frames they never hold, if that is so."""
+        return max(1, self.never.property.number + 1 - self.ahead) if self.never else None
+
+    @property
     def is_settled(self) -> bool:
         """Whether nothing is open."""
         return self.never is not None or self.most >= self.wanted
 
     def __str__(self) -> str:
         if self.never:
-            frames = max(1, self.never.property.number + 1 - self.ahead)
-            can = f"; for {counted(self.most, 'frame')} they can" if self.most else ""
-            return f"the assumptions never hold for {counted(frames, 'frame')}{can}"
+            if not self.most:
+                return "the assumptions never hold" + ("" if self.fewest == 1 else f" for {counted(self.fewest, 'frame')}")
+            return f"the assumptions never hold for {counted(self.fewest, 'frame')}; for {counted(self.most, 'frame')} they can"
         if self.is_settled:
             return f"the assumptions can hold for {counted(self.wanted, 'frame')}"
         known = f"; for {counted(self.most, 'frame')} they can" if self.most else ""

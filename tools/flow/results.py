@@ -139,12 +139,15 @@ class Results:
 
 
 def told_before(folder: Folder, design: Design) -> Optional[Dict[str, Dict[str, Any]]]:
-    """What results.json tells of each property by its key, where an earlier run wrote it of the same texts."""
+    """What results.json tells of each property by its key, where an earlier run wrote it of the same text; nothing of another model."""
     try:
         results = json.loads(b"".join(folder.read(RESULTS, MOST_RESULTS).pieces()))
         told = {it["key"]: it for it in [*results["properties"], *results["beside"]]}
-        return told if results["texts"] == texts_of(design) else None
-    except (OSError, ValueError, KeyError, TypeError, RecursionError):
+        before, now = results["texts"], texts_of(design)
+        same = [it for it in design.texts if before.get(it.name) == now[it.name]]
+        keys = {one.key for it in same for one in it.properties}
+        return {key: it for key, it in told.items() if key in keys} if design.model in same else None
+    except (OSError, ValueError, KeyError, TypeError, AttributeError, RecursionError):
         return None
 
 

@@ -68,8 +68,7 @@ def assumptions_json(results: Results) -> Dict[str, Any]:
     told: Dict[str, Any] = {"statements": statements, "asked": results.frames}
     if known is None:
         return {**told, "hold_for": None, "never_for": None, "said": "no assumptions"}
-    never = max(1, known.never.property.number + 1 - known.ahead) if known.never else None
-    return {**told, "hold_for": known.most, "never_for": never, "said": str(known)}
+    return {**told, "hold_for": known.most, "never_for": known.fewest, "said": str(known)}
 
 
 def text_name(it: Property, design: Design) -> str:
