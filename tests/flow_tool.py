@@ -14,7 +14,7 @@ import sys
 import tempfile
 import time
 
-from flow import designs, devices, engines, folders, hostile, page, signals, stops, verilog
+from flow import designs, devices, engines, folders, hostile, page, rooted, signals, stops, verilog
 from flow.common import MARK, TOP, Place, tally
 
 # The groups of tries, by name.
@@ -25,6 +25,7 @@ GROUPS = {
     "words": designs.try_words,
     "names": designs.try_names,
     "folders": folders.try_folders,
+    "rooted": rooted.try_rooted,
     "hostile": hostile.try_hostile,
     "lies": engines.try_lies,
     "other_forms": engines.try_other_forms,

@@ -12,6 +12,7 @@ import time
 TOP = pathlib.Path(__file__).resolve().parent.parent.parent
 TOOL = TOP / "tools/hwtool-flow"
 LIAR = TOP / "tests/lying_engine.py"
+HOSTILE = TOP / "tests/hostile_engine.py"
 MAKER = TOP / "tools/witness-circuit.py"
 EXAMPLES = TOP / "examples"
 HOLDS = "holds"

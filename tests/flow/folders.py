@@ -17,7 +17,8 @@ def looks_like_results(folder):
     """Makes a folder that looks like one of results, with files of the user in it."""
     for it in ("work/mine", "b0/deep", "b17"):
         (folder / it).mkdir(parents=True)
-    for it in ("work/precious", "work/mine/precious", "b0/witness", "b0/deep/precious", "b17/notes", "results.json", "model.btor2", "check.sh"):
+    files = ("work/precious", "work/mine/precious", "b0/witness", "b0/deep/precious", "b17/notes")
+    for it in (*files, "results.json", "model.btor2", "check.sh"):
         (folder / it).write_text(f"of the user: {it}\n")
 
 
@@ -147,11 +148,11 @@ def try_each_place(stranger):
     (stranger.home / "to-root").symlink_to("/")
     stranger.give()
     before = seen(stranger.folder)
-    folders = [[], ["-o", "out"], ["-o", "."], ["-o", ".."], ["-o", stranger.home], ["-o", "../project"], ["-o", "link"], ["-o", "link/"]]
-    folders += [["-o", "/"], ["-o", "../to-root"], ["-o", "out/../out"], ["-o", stranger.folder], ["-o", stranger.folder / "tmp"], ["-o", "/tmp"]]
-    for words in folders:
-        done = stranger.run("queue.v", *words)
-        what = f"{' '.join(map(str, words)) or 'no -o'}"
+    folders = ["", "out", ".", "..", stranger.home, "../project", "link", "link/", "out/../out", stranger.folder, stranger.folder / "tmp"]
+    folders += ["/", "../to-root", "/tmp"]
+    for folder in folders:
+        done = stranger.run("queue.v", *(["-o", folder] if folder else []))
+        what = f"-o {folder}" if folder else "no -o"
         tally.true(f"{what}: refused", done.returncode == WORDS and "by -o" in done.stderr, f"{done.returncode} {done.stderr}")
         tally.untouched(f"{what}: nothing is touched", before, seen(stranger.folder))
     for empty in ("home/project/design", "home/other-home"):

@@ -24,6 +24,7 @@ def try_hostile(place):
     try:
         for way in WAYS:
             try_way(Stranger(place, way), way, WAYS[way])
+        try_wiped(Stranger(place, "wiped"))
         try_no_memory_of_it(Stranger(place, "again"))
     finally:
         end_all()
@@ -61,7 +62,7 @@ def try_way(stranger, way, told):
     shutil.copy(stranger.program, program)
     stranger.give()
     precious, places = seen(stranger.home / "precious"), lies_of(stranger)
-    words = ["queue.v", "--engine", f"liar={stranger.lie(way, *(places[it] for it in told))}"]
+    words = ["queue.v", "--engine", f"liar={stranger.hostile(way, [places[it] for it in told])}"]
     done = stranger.run(*words, *HONEST, seconds=MOST_SECONDS)
     tally.true(f"{way}: it ends", done.returncode is not None, f"after {done.seconds:.0f} s")
     stranger.no_one_left(way)
@@ -77,7 +78,7 @@ def try_way(stranger, way, told):
     tally.same(f"{way}: verdicts", TRUE, kept)
     wanted = (1, "4 confirmed, 0 not, 1 differing") if way == "false_everything" else (0, "4 confirmed, 0 not")
     tally.same(f"{way}: check.sh", wanted, stranger.checked(at.name))
-    mark = (at / MARK).read_text()
+    mark = (at / MARK).read_text() if (at / MARK).is_file() else ""
     tally.true(f"{way}: the mark", mark.startswith(FIRST_LINE) and "precious" not in mark, mark)
     alone = stranger.run(*words, "-o", "alone", "--property", "2", "--timeout", "10", seconds=MOST_SECONDS)
     stranger.no_one_left(f"{way}, alone")
@@ -85,12 +86,22 @@ def try_way(stranger, way, told):
     tally.untouched(f"{way}, alone: files of the user", precious, seen(stranger.home / "precious"))
 
 
+def try_wiped(stranger):
+    """An engine that removes what others work on: that may cost them their time, and neither the run nor the truth."""
+    done = stranger.run("queue.v", "--engine", f"liar={stranger.hostile('wipe_places', [])}", *HONEST, seconds=MOST_SECONDS)
+    tally.true("others wiped: what is said", done.returncode in (ONE_FAILS, OPEN), f"{done.returncode} {done.stdout} {done.stderr}")
+    kept = [(it["number"], (it["verdict"], it["frame"])) for it in stranger.results("queue.flow")["properties"]]
+    tally.same("others wiped: false verdicts", [], [it for it in kept if it[1] not in (TRUE[it[0]], ("open", None))])
+    stranger.no_one_left("others wiped")
+    stranger.nothing_left("others wiped")
+
+
 def try_no_memory_of_it(stranger):
     """The run behind one whose engine left folders without rights and pipes does what it would have done without it."""
     at = stranger.project / "queue.flow"
     for way in ("no_rights", "pipes_for_all", "folders_for_all"):
         told = [at] if way != "no_rights" else []
-        stranger.run("queue.v", "--engine", f"liar={stranger.lie(way, *told)}", "--timeout", "10", seconds=MOST_SECONDS)
+        stranger.run("queue.v", "--engine", f"liar={stranger.hostile(way, told)}", "--timeout", "10", seconds=MOST_SECONDS)
         done = stranger.run("queue.v", *HONEST, seconds=MOST_SECONDS)
         tally.true(f"a run behind {way}", done.returncode == ONE_FAILS and done.seconds < SOON, f"{done.returncode} {done.stderr}")
         tally.same(f"a run behind {way}: check.sh", (0, "4 confirmed, 0 not"), stranger.checked("queue.flow"))

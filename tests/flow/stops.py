@@ -1,7 +1,9 @@
 """Runs that go on where an earlier one was stopped, many properties side by side, and two runs in one folder."""
 import json
+import os
 import pathlib
 import random
+import shlex
 import shutil
 import signal
 import subprocess
@@ -72,6 +74,12 @@ def try_held(place):
         wait_for(lambda: left_over(place, until))
         return process
 
+    words = shlex.join(place.words("queue.v", "-o", "job.flow"))
+    job = subprocess.run(["sh", "-c", f"sleep 3641 >/dev/null & exec {words} >&2"], cwd=place.folder, capture_output=True, check=False)
+    mine = left_over(place, "sleep\x003641")
+    tally.same("a job of the shell that it was started from", (ALL_HOLD, 1), (job.returncode, len(mine)))
+    for it in mine:
+        os.kill(it, signal.SIGKILL)
     process = held("hang", "lying_engine.py")
     tally.same("two runs in one folder", BROKE, place.run("queue.v", "-o", "held.flow").returncode)
     process.send_signal(signal.SIGINT)

@@ -10,7 +10,7 @@ import subprocess
 import tempfile
 import time
 
-from .common import EXAMPLES, LIAR, TOOL, Place, tally, wait_for
+from .common import EXAMPLES, HOSTILE, LIAR, TOOL, Place, tally, wait_for
 
 # A number that no user has.
 USER = 47831
@@ -42,7 +42,7 @@ def of_user():
 
 
 class Stranger(Place):
-    """A folder of the user, with copies of the tool, the program and the lying engine, a home and a folder for work in it."""
+    """A folder of the user, with copies of the tool, the program and the hostile engine, a home and a folder for work in it."""
 
     def __init__(self, place, name):
         super().__init__(place.folder / name, str(place.folder / name / "bin/hwtool"))
@@ -51,9 +51,9 @@ class Stranger(Place):
                 it.chmod(0o755)
         for it in ("bin", "home/project", "tmp"):
             (self.folder / it).mkdir(parents=True)
-        self.home, self.project, self.liar = self.folder / "home", self.folder / "home/project", self.folder / "bin" / LIAR.name
+        self.home, self.project, self.engine = self.folder / "home", self.folder / "home/project", self.folder / "bin" / HOSTILE.name
         shutil.copytree(TOOL.parent / "flow", self.folder / "bin/flow", ignore=shutil.ignore_patterns("__pycache__"))
-        for it in (TOOL, LIAR):
+        for it in (TOOL, LIAR, HOSTILE):
             shutil.copy(it, self.folder / "bin")
         shutil.copy(place.program, self.folder / "bin/hwtool")
         shutil.copy(EXAMPLES / "flow/queue.v", self.project)
@@ -87,9 +87,9 @@ class Stranger(Place):
         done.seconds = time.monotonic() - began
         return done
 
-    def lie(self, way, *files, handed="{form}", gives="{invariant}"):
-        """The command of an engine that lies in a way. It is told where all stands that it might spoil."""
-        return " ".join(map(str, [PYTHON, self.liar, way, *files, gives, "--", handed]))
+    def hostile(self, way, files):
+        """The command of an engine that is hostile in a way. It is told where all stands that it might spoil."""
+        return " ".join(map(str, [PYTHON, "-B", self.engine, way, *files, "{invariant}", "--", "{form}"]))
 
     def checked(self, name):
         """The status of check.sh, and its last line."""

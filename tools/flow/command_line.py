@@ -112,6 +112,9 @@ def folder_named(words: argparse.Namespace) -> Path:
     return words.output or Path(f"{(words.design or [words.read])[0].stem}.flow")
 
 
+SIGNALS = (signal.SIGINT, signal.SIGTERM, signal.SIGHUP)
+
+
 def obey_signals(runner: Runner) -> List[int]:
     """Has a signal stop all that runs; the list that is answered then has its number."""
     seen: List[int] = []
@@ -120,9 +123,15 @@ def obey_signals(runner: Runner) -> List[int]:
         seen.append(number)
         runner.stop()
 
-    for number in (signal.SIGINT, signal.SIGTERM, signal.SIGHUP):
+    for number in SIGNALS:
         signal.signal(number, stop)
     return seen
+
+
+def pass_over_signals() -> None:
+    """Has no further signal change how this ends."""
+    for number in SIGNALS:
+        signal.signal(number, signal.SIG_IGN)
 
 
 def status_of(words: argparse.Namespace, runner: Runner) -> int:
@@ -154,6 +163,8 @@ def main(arguments: List[str]) -> int:
         return fault(str(why), Status.INPUT_REFUSED)
     except (Broke, OSError) as why:
         return fault(str(why), Status.BROKE)
+    finally:
+        pass_over_signals()
 
 
 def fault(line: str, status: int) -> int:

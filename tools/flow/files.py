@@ -14,6 +14,8 @@ from typing import BinaryIO, Callable, Iterator, Optional, Union
 
 FOLDER_FLAGS = os.O_RDONLY | os.O_DIRECTORY | os.O_NOFOLLOW | os.O_CLOEXEC
 SEALS = fcntl.F_SEAL_WRITE | fcntl.F_SEAL_SHRINK | fcntl.F_SEAL_GROW | fcntl.F_SEAL_SEAL
+# How something fails where another process spoils a folder, and not the device.
+SPOILT = {errno.EACCES, errno.EEXIST, errno.EISDIR, errno.ELOOP, errno.ENOENT, errno.ENOTDIR, errno.ENOTEMPTY, errno.EPERM}
 # What is read or written at once.
 PIECE = 1 << 20
 # Up to this size bytes are kept without a file, and from that size on not in memory.
@@ -268,6 +270,9 @@ class Place:
             return ""
         except OutOfTime:
             return f"{self.path}: holds too much to be removed at once; what is left there may be removed by hand"
+        except FileNotFoundError:
+            # it is gone already
+            return ""
         except OSError as why:
             return f"{self.path}: cannot be removed: {why.strerror or why}"
         finally:

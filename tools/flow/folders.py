@@ -16,7 +16,7 @@ from pathlib import Path
 from typing import Dict, Iterable, Iterator, List, Optional, Sequence, Tuple
 
 from .engines import WordsRefused
-from .files import FOLDER_FLAGS, Held, open_folder, open_plain, sum_of, write_all
+from .files import FOLDER_FLAGS, SPOILT, Held, open_folder, open_plain, sum_of, write_all
 from .program import Broke
 
 MARK, PART = ".hwtool-flow", ".hwtool-flow.part"
@@ -24,8 +24,7 @@ FIRST_LINE = "hwtool-flow folder of results 1"
 # A name in the list: a file, a folder, or a file in a folder.
 NAME = re.compile(r"[A-Za-z0-9][\w.-]*(/[A-Za-z0-9][\w.-]*)?", re.ASCII)
 ANOTHER = "name another folder by -o"
-# How a file cannot be written where another process spoils the folder, and not the device.
-SPOILT = {errno.EACCES, errno.EEXIST, errno.EISDIR, errno.ELOOP, errno.ENOENT, errno.ENOTDIR, errno.ENOTEMPTY, errno.EPERM}
+
 
 
 def above(path: Path) -> List[Path]:

@@ -7,7 +7,7 @@ from pathlib import Path
 from typing import Any, BinaryIO, ContextManager, Dict, Iterator, List, Optional, Tuple
 
 from .engines import Engine, Gives, Handed
-from .files import Held, Place, nameless, place_of_work
+from .files import SPOILT, Held, Place, nameless, place_of_work
 from .folders import Folder
 from .model import Evidence, Kind, Model, Property, Verdict
 from .program import HANDED, Broke, Judged, Program, Said
@@ -196,7 +196,17 @@ class Job:
     # ---- an engine
 
     def attempt(self, engine: Engine, form: Held, seconds: float, deadline: float) -> Attempt:
-        """Runs an engine, and has each of its claims checked."""
+        """Runs an engine, and has each of its claims checked. One whose folder another process spoils costs its time alone."""
+        began = time.monotonic()
+        try:
+            return self.run_and_check(engine, form, seconds, deadline)
+        except OSError as why_not:
+            if why_not.errno not in SPOILT:
+                raise
+            return Attempt(Try(engine.name, f"could not be run: {why_not}", time.monotonic() - began))
+
+    def run_and_check(self, engine: Engine, form: Held, seconds: float, deadline: float) -> Attempt:
+        """Runs an engine in a place of work, and has each of its claims checked."""
         with self.place(engine.name) as place, nameless(is_large=True) as log:
             ended = self.run_engine(engine, form, seconds, place, log)
             end = tail_of(log.fileno())

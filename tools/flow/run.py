@@ -84,7 +84,15 @@ class Tools:
         used = [(it.name, engines.program_of(it)) for it in [*self.engines, *([self.solver] if self.solver else [])]]
         used += [("yosys", shutil.which("yosys"))] if by_yosys else []
         versions = {program: engines.version_of(program, runner) for program in {it for _, it in used if it}}
-        return [Tool(name, program, sum_of_file(program), versions[program]) for name, program in used if program]
+        return [Tool(name, program, sum_if_readable(program), versions[program]) for name, program in used if program]
+
+
+def sum_if_readable(program: str) -> str:
+    """The sum of a program, which may be one that can be run and not read."""
+    try:
+        return sum_of_file(program)
+    except OSError:
+        return ""
 
 
 def inputs_of(words: argparse.Namespace) -> List[Path]:

@@ -11,7 +11,7 @@ import threading
 import time
 from dataclasses import dataclass
 from pathlib import Path
-from typing import Dict, Iterator, Optional, Sequence, Set, Union
+from typing import Dict, Iterator, Optional, Sequence, Union
 
 from .files import open_plain
 from .warden import PR_SET_CHILD_SUBREAPER, PR_SET_DUMPABLE, below, kill, parents, set_process
@@ -63,7 +63,8 @@ class Runner:
     def __init__(self) -> None:
         self.stopping = threading.Event()
         self._lock = threading.Lock()
-        self._known: Set[int] = set()
+        # processes that are not strays: those that were children of this one before, and those that it starts
+        self._known = {pid for pid, parent in parents().items() if parent == os.getpid()}
         self._breaks = False
         # what has lost its parent comes here, where it is found; and no other process of this user looks into this one
         set_process(PR_SET_CHILD_SUBREAPER, 1)
@@ -120,7 +121,7 @@ class Runner:
         """
         ours, theirs = os.pipe()
         try:
-            around = [sys.executable, "-I", "-S", "-c", WARDEN, str(most_bytes or 0), str(theirs), *words]
+            around = [sys.executable, "-I", "-S", "-B", "-c", WARDEN, str(most_bytes or 0), str(theirs), *words]
             environment = {**os.environ, "HOME": str(home)} if home else None
             ended = self._run(around, folder, out, err, seconds, subprocess.PIPE, None, [theirs], environment)
             self.end_strays()
@@ -197,10 +198,10 @@ class Runner:
             self._known.discard(process.pid)
 
     def end_strays(self) -> None:
-        """Kills what has come to this process since nobody stands around it any more."""
+        """Kills what has come to this process since nobody stands around it any more. What is in its own session came of nothing here."""
         for _ in range(MOST_ROUNDS):
             with self._lock:
-                strays = {pid for pid, parent in parents().items() if parent == os.getpid()} - self._known
+                strays = {it for it, parent in parents().items() if parent == os.getpid() and it not in self._known and is_apart(it)}
                 kill(below(strays))
                 for it in strays:
                     with contextlib.suppress(ChildProcessError):
@@ -208,6 +209,14 @@ class Runner:
             if not strays:
                 return
             time.sleep(LONGEST_NAP / 10)
+
+
+def is_apart(pid: int) -> bool:
+    """Whether a process is in another session than this one."""
+    try:
+        return os.getsid(pid) != os.getsid(0)
+    except OSError:
+        return False
 
 
 @contextlib.contextmanager
