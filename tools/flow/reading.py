@@ -176,6 +176,8 @@ class Reader:
         shown = self.made(model.path, "show" if of_words else "aig-convert", place)
         path = self.work / f"{Role.FRAMES.value}.{model.kind.value}"
         path.write_text((vacuity.over_words if of_words else vacuity.over_bits)(shown, self.frames + ahead), encoding="utf-8")
+        if not of_words:
+            os.replace(self.make(path, "aig-convert", "--binary", f"{self.work.name}/{path.name}"), path)
         return self.taken(path, model.kind, Role.FRAMES)
 
     def make(self, of: Path, *words: str) -> Path:

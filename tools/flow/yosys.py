@@ -31,8 +31,10 @@ AROUND = 3
 MOST_LINES = 4
 # When a run is told as slow.
 SLOW_SECONDS = 60
-SLOW = """yosys ({name}) has taken {seconds} s so far. Memories become registers, a word each, and multipliers and dividers are
-large: smaller parameters (--param) make a smaller model"""
+SLOW = (
+    "yosys ({name}) has taken {seconds} s so far: a memory becomes a register for each word, and multipliers and dividers are large; "
+    "smaller parameters (--param) make a smaller model"
+)
 
 
 class Yosys:
