@@ -252,7 +252,8 @@ class Bridge:
     def told_steps(self, timing: Timing, remedy: Sequence[str]) -> List[str]:
         """All steps from the source to the model, with the names of the user."""
         steps = [*reading_steps(self.wanted, self.names, False), *self.flattening(), *self.steps(timing, remedy), "write_btor model.btor2"]
-        return [printable(self.names.told(it)) for it in steps]
+        maps = f"{recipe.beside('bits.v').parent}/"
+        return [printable(self.names.told(it)).replace(maps, "") for it in steps]
 
     def left_out(self) -> List[str]:
         """The modules of the source that are not below the top."""
