@@ -95,7 +95,7 @@ OWN = {
     "edges.v": (
         "module edges(input clk);\nreg a = 0, b = 0;\nalways @(posedge clk) a <= !a;\nalways @(negedge clk) b <= a;\n"
         "always @* both: assert (!(a && b));\nendmodule\n",
-        ["by yosys", "2 clocks (falling clk, clk), by clk2fflogic"],
+        ["by yosys", "2 clocks (clk, falling clk), by clk2fflogic"],
         [2],
     ),
     # what is read of a clock where it rises is what it was before
