@@ -1,7 +1,7 @@
 """Engines that write wherever their user may, and leave what they can: no false verdict comes of one, and no other one loses by it."""
 import shutil
 
-from .common import ONE_FAILS, OPEN, REFUSED, tally
+from .common import BROKE, ONE_FAILS, OPEN, REFUSED, tally
 from .folders import FIRST_LINE, MARK, looks_like_results
 from .stranger import Stranger, end_all, seen, why_not
 
@@ -25,6 +25,7 @@ def try_hostile(place):
         for way in WAYS:
             try_way(Stranger(place, way), way, WAYS[way])
         try_wiped(Stranger(place, "wiped"))
+        try_large(Stranger(place, "large"))
         try_no_memory_of_it(Stranger(place, "again"))
     finally:
         end_all()
@@ -94,6 +95,18 @@ def try_wiped(stranger):
     tally.same("others wiped: false verdicts", [], [it for it in kept if it[1] not in (TRUE[it[0]], ("open", None))])
     stranger.no_one_left("others wiped")
     stranger.nothing_left("others wiped")
+
+
+def try_large(stranger):
+    """A proof that is too large to be held is spoilt behind its check: its verdict is withdrawn, and that is told."""
+    words = "'cadical -q --no-binary {formula} own >&2; yes \"1 -1 0\" | head -n 60000 >{proof}; cat own >>{proof}'"
+    proof = stranger.project / "queue.flow/b1/proof"
+    engines = ["--engine", 'pdr_alone=berkeley-abc -q "read_aiger {form}; strash; pdr -d -I {invariant}"']
+    engines += ["--engine", f"liar={stranger.hostile('spoil_when_there', [proof])}"]
+    done = stranger.run("queue.v", "-j", "3", *engines, "--solver", f"large=sh -c {words}", seconds=MOST_SECONDS)
+    tally.true("a large proof that is spoilt: what is told", "b1/proof: was spoilt" in done.stderr, f"{done.returncode} {done.stderr}")
+    tally.same("a large proof that is spoilt: status", BROKE, done.returncode)
+    tally.same("a large proof that is spoilt: check.sh", (OPEN, "0 confirmed, 0 not, 3 open"), stranger.checked("queue.flow"))
 
 
 def try_no_memory_of_it(stranger):

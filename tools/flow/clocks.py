@@ -88,7 +88,7 @@ class Looker:
         elif any(it.bit in self.read for it in self.edges):
             why = "one clock, which is read too"
         elif self.asynchronous and not clocked_resets:
-            why = f"{'one clock, ' if self.edges else ''}resets or latches that do not wait for {'it' if self.edges else 'a clock'}"
+            why = f"{'one' if self.edges else 'no'} clock, resets or latches that do not wait for it"
         return Timing(clocks, sorted(map(self._spelt, inside)), why, self.asynchronous, clocked_resets)
 
     def _first(self, bit: Bit) -> Driver:

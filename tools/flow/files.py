@@ -16,10 +16,12 @@ FOLDER_FLAGS = os.O_RDONLY | os.O_DIRECTORY | os.O_NOFOLLOW | os.O_CLOEXEC
 SEALS = fcntl.F_SEAL_WRITE | fcntl.F_SEAL_SHRINK | fcntl.F_SEAL_GROW | fcntl.F_SEAL_SEAL
 # How something fails where another process spoils a folder, and not the device.
 SPOILT = {errno.EACCES, errno.EEXIST, errno.EISDIR, errno.ELOOP, errno.ENOENT, errno.ENOTDIR, errno.ENOTEMPTY, errno.EPERM}
+# Where a process finds a file that it was handed open.
+HANDED = "/proc/self/fd/"
 # What is read or written at once.
 PIECE = 1 << 20
 # Up to this size bytes are kept without a file, and from that size on not in memory.
-SMALL, LARGE = 1 << 18, 256 << 20
+SMALL, LARGE = 1 << 18, 64 << 20
 # How long one folder of work is removed at most, and how long once all is to stop, in seconds.
 REMOVED_FOR, REMOVED_FOR_IN_HASTE = 60.0, 0.5
 
@@ -159,7 +161,7 @@ def allow(at: int, name: str) -> None:
     """Gives the owner all rights on a folder, which is not followed where it is a link."""
     found = os.open(name, os.O_PATH | os.O_DIRECTORY | os.O_NOFOLLOW | os.O_CLOEXEC, dir_fd=at)
     try:
-        os.chmod(f"/proc/self/fd/{found}", 0o700)
+        os.chmod(f"{HANDED}{found}", 0o700)
     finally:
         os.close(found)
 

@@ -12,11 +12,12 @@ import re
 import secrets
 import stat
 import threading
+from dataclasses import dataclass
 from pathlib import Path
-from typing import Dict, Iterable, Iterator, List, Optional, Sequence, Tuple
+from typing import Dict, Iterable, Iterator, List, Optional, Sequence
 
 from .engines import WordsRefused
-from .files import FOLDER_FLAGS, SPOILT, Held, open_folder, open_plain, sum_of, write_all
+from .files import FOLDER_FLAGS, SMALL, SPOILT, Held, open_folder, open_plain, sum_of, write_all
 from .program import Broke
 
 MARK, PART = ".hwtool-flow", ".hwtool-flow.part"
@@ -52,6 +53,15 @@ def refuse_unfit(path: Path, inputs: Sequence[Path]) -> None:
             raise WordsRefused(f"{path}: is {what}; {ANOTHER}")
 
 
+@dataclass(frozen=True)
+class Kept:
+    """What a run wrote: its sum, the rights of its file, and, if it is not large or is wanted for good, what it holds."""
+
+    sum: str
+    mode: int
+    text: Optional[Held] = None
+
+
 class Folder:
     """The folder of results, which one run has at a time. All goes by its descriptor, so that it is the same one whatever its name is."""
 
@@ -59,8 +69,8 @@ class Folder:
         """Takes a folder that is new, empty, or of earlier runs; any other is refused, and so is one that holds what the run reads."""
         refuse_unfit(path, inputs)
         self.path, self._lock = path, threading.RLock()
-        # what this run kept, by name, each with the rights of its file
-        self._kept: Dict[str, Tuple[Held, int]] = {}
+        # what this run wrote, by name
+        self._kept: Dict[str, Kept] = {}
         # what is to be said of files that another process spoilt
         self.notes: List[str] = []
         self._is_new = not path.exists()
@@ -179,11 +189,14 @@ class Folder:
         with self._inside(folder) as at, os.fdopen(open_plain(leaf, at), "rb") as file:
             return Held.of_file(name, file.fileno(), most)
 
-    def write(self, what: Held, executable: bool = False) -> None:
-        """Writes a file under its name, whole or not at all. Where another process is in the way it is written once that is gone."""
+    def write(self, what: Held, executable: bool = False, for_good: bool = False) -> None:
+        """Writes a file under its name, whole or not at all. Where another process is in the way it is written once that is gone.
+
+        What is large can be written anew then only if it is held for good.
+        """
         self.claim([it for it in (os.path.dirname(what.name), what.name) if it])
         mode = 0o755 if executable else 0o644
-        self._kept[what.name] = what, mode
+        self._kept[what.name] = Kept(what.sum, mode, what if for_good or what.size <= SMALL else None)
         try:
             self._put(what.name, what.pieces(), mode)
         except OSError as why:
@@ -250,7 +263,7 @@ class Folder:
         for name in sorted(self._names, key=lambda it: "/" not in it):
             if name not in self._kept:
                 self._remove(name)
-        lost = [it for it in sorted(self._kept) if not self._stands(*self._kept[it])]
+        lost = [name for name, kept in sorted(self._kept.items()) if not self._stands(name, kept)]
         if not self._has_its_name():
             self.notes.append(f"{self.path}: was moved or replaced by another process while this went on")
         return lost
@@ -260,22 +273,25 @@ class Folder:
         if stat.S_IMODE(os.fstat(self.at).st_mode) != self._mode:
             os.fchmod(self.at, self._mode)
 
-    def _stands(self, held: Held, mode: int) -> bool:
+    def _stands(self, name: str, kept: Kept) -> bool:
         """Whether a file is what was kept, if need be since it was written anew."""
         try:
-            folder, leaf = os.path.split(held.name)
+            folder, leaf = os.path.split(name)
             with self._inside(folder) as at, os.fdopen(open_plain(leaf, at), "rb") as file:
-                if sum_of(file.fileno()) == held.sum:
+                if sum_of(file.fileno()) == kept.sum:
                     return True
         except OSError:
             pass
+        spoilt = f"{self.path / name}: was spoilt by another process"
         try:
-            self._put(held.name, held.pieces(), mode)
-            self.notes.append(f"{self.path / held.name}: was spoilt by another process, and is written anew")
+            if kept.text is None:
+                raise OSError("it is large")
+            self._put(name, kept.text.pieces(), kept.mode)
+            self.notes.append(f"{spoilt}, and is written anew")
             return True
         except OSError as why:
-            self.notes.append(f"{self.path / held.name}: was spoilt by another process, and cannot be written anew: {why.strerror or why}")
-            del self._kept[held.name]
+            self.notes.append(f"{spoilt}, and cannot be written anew: {why.strerror or why}")
+            self._remove(name)
             return False
 
     def _has_its_name(self) -> bool:

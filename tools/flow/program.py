@@ -7,7 +7,7 @@ from dataclasses import dataclass
 from pathlib import Path
 from typing import BinaryIO, Callable, List, Optional, Sequence, Union
 
-from .files import PIECE, Changed, Held, is_sealed, nameless, open_whole, pieces, sum_of, sum_of_file, write_all
+from .files import HANDED, PIECE, Changed, Held, is_sealed, nameless, open_whole, pieces, sum_of, sum_of_file, write_all
 from .model import Evidence, Kind, Model
 from .running import Ended, Ending, Runner, Stopped, head_of
 
@@ -16,8 +16,6 @@ LEAST_SECONDS = 60.0
 DEVICE_FAILED = 3
 # How a program of the machine begins, and one that a shell reads does not.
 MACHINE_CODE = b"\x7fELF"
-# Where a process finds a file that it was handed open.
-HANDED = "/proc/self/fd/"
 # How a value change dump begins.
 TITLE = b"$comment "
 

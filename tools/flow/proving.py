@@ -7,10 +7,10 @@ from pathlib import Path
 from typing import Any, BinaryIO, ContextManager, Dict, Iterator, List, Optional, Tuple
 
 from .engines import Engine, Gives, Handed
-from .files import SPOILT, Held, Place, nameless, place_of_work
+from .files import HANDED, SPOILT, Held, Place, nameless, place_of_work
 from .folders import Folder
 from .model import Evidence, Kind, Model, Property, Verdict
-from .program import HANDED, Broke, Judged, Program, Said
+from .program import Broke, Judged, Program, Said
 from .results import Claim, Outcome, Try, tries_of_json, written
 from .running import Ended, Ending, Runner, Stopped, tail_of
 from .waves import read_dump, saved_file, shown

@@ -14,12 +14,12 @@ from . import engines
 from .engines import Engine, WordsRefused
 from .asking import Asker
 from .check_script import script
-from .files import place_of_work, sum_of_file
+from .files import HANDED, place_of_work, sum_of_file
 from .findings import Finding, count_of
 from .folders import Folder
 from .model import Design, Property, Role, Verdict
 from .names import printable
-from .program import HANDED, Broke, Program
+from .program import Broke, Program
 from .proving import FILES, Prover
 from .reading import Reader
 from .report import page
@@ -176,7 +176,7 @@ class Run:
         if told is None:
             self.folder.clear()
         for it in design.texts:
-            self.folder.write(it.held)
+            self.folder.write(it.held, for_good=True)
         return told or {}
 
     def chosen(self, design: Design) -> List[Property]:

@@ -13,7 +13,7 @@ from dataclasses import dataclass
 from pathlib import Path
 from typing import Dict, Iterator, Optional, Sequence, Union
 
-from .files import open_plain
+from .files import HANDED, is_sealed, nameless, open_plain, write_all
 from .warden import PR_SET_CHILD_SUBREAPER, PR_SET_DUMPABLE, below, kill, parents, set_process
 
 # The text of what stands around each program, read before any of them runs.
@@ -66,6 +66,10 @@ class Runner:
         # processes that are not strays: those that were children of this one before, and those that it starts
         self._known = {pid for pid, parent in parents().items() if parent == os.getpid()}
         self._breaks = False
+        # what stands around each program, where no other process can change it
+        self._warden = nameless()
+        write_all(self._warden.fileno(), WARDEN.encode())
+        is_sealed(self._warden)
         # what has lost its parent comes here, where it is found; and no other process of this user looks into this one
         set_process(PR_SET_CHILD_SUBREAPER, 1)
         set_process(PR_SET_DUMPABLE, 0)
@@ -121,9 +125,10 @@ class Runner:
         """
         ours, theirs = os.pipe()
         try:
-            around = [sys.executable, "-I", "-S", "-B", "-c", WARDEN, str(most_bytes or 0), str(theirs), *words]
+            warden = self._warden.fileno()
+            around = [sys.executable, "-I", "-S", "-B", f"{HANDED}{warden}", str(most_bytes or 0), str(theirs), *words]
             environment = {**os.environ, "HOME": str(home)} if home else None
-            ended = self._run(around, folder, out, err, seconds, subprocess.PIPE, None, [theirs], environment)
+            ended = self._run(around, folder, out, err, seconds, subprocess.PIPE, None, [theirs, warden], environment)
             self.end_strays()
             os.set_blocking(ours, False)
             with contextlib.suppress(BlockingIOError, ValueError):

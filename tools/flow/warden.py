@@ -1,8 +1,8 @@
 """What stands around a program of which nothing is known: it ends all that came of that program.
 
-It is run by running.py, as a process of its own: MOST STATUS WORD .. are the bytes that a file may get, or 0 where any number is
-allowed, where to write how the program ended, and the program's words. All ends when the program does, or when standard input ends:
-hwtool-flow holds its other end, and lets it go to stop this, or when it is no more, whatever ended it.
+It is run by running.py, as a process of its own, by the words MOST STATUS WORD ..: the bytes that a file may get, or 0 where any
+number is allowed; where to write how the program ended; and the program's words. All ends when the program does, or when standard
+input ends. Its other end is held by hwtool-flow, which lets it go to stop this, or when it is no more, whatever ended it.
 """
 import ctypes
 import os
@@ -15,6 +15,8 @@ PR_SET_PDEATHSIG, PR_SET_DUMPABLE, PR_SET_CHILD_SUBREAPER = 1, 4, 36
 # How long ended children are left unburied, and how long it is waited between two looks for what is to be killed, in milliseconds
 # and in seconds.
 UNBURIED, NAP = 500, 0.002
+# Above all that is open here.
+MOST_OPEN = 4096
 
 
 def set_process(what: int, value: int) -> bool:
@@ -66,6 +68,7 @@ def started(most: int, words: List[str]) -> int:
         if most:
             resource.setrlimit(resource.RLIMIT_FSIZE, (most, most))
         os.dup2(os.open(os.devnull, os.O_RDONLY), 0)
+        os.closerange(3, MOST_OPEN)
         os.execvp(words[0], words)
     except (OSError, ValueError) as why:
         os.write(2, f"{words[0]}: {why}\n".encode("utf-8", "backslashreplace"))
@@ -102,7 +105,6 @@ def end_children() -> None:
 def main(most: int, status: int, words: List[str]) -> None:
     """Runs the program, and ends all that came of it."""
     set_process(PR_SET_CHILD_SUBREAPER, 1)
-    os.set_inheritable(status, False)
     program = started(most, words)
     waited = select.poll()
     waited.register(0, select.POLLIN)
