@@ -7,7 +7,7 @@ from .results import Outcome
 
 NEVER_ASSUMED = "holds only since the assumptions never do"
 NEVER_ASKED = "holds only since it is never asked"
-NEVER_COVERED = "is not reached, but the assumptions never hold either"
+NEVER_COVERED = "is never reached, but only since the assumptions never hold"
 
 
 @dataclass(frozen=True)

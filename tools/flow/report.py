@@ -22,7 +22,7 @@ MEANS = {
     Verdict.HOLDS: "It fails in no frame up to which the assumptions hold, from any initial state, under every input sequence.",
     Verdict.FAILS: "There is a run from an initial state, in which all assumptions hold and the property fails in frame {frame}.",
     Verdict.OPEN: "Nothing is known of it: no engine claimed what a check confirmed.",
-    Verdict.VACUOUS: "It fails in no frame, but that says nothing of the design: it {why}.",
+    Verdict.VACUOUS: "That says nothing of the design: it {why}.",
     Verdict.REACHED: "There is a run from an initial state, in which all assumptions hold and the cover is reached in frame {frame}.",
     Verdict.NEVER: "It is reached in no frame up to which the assumptions hold, from any initial state, under any input sequence.",
 }
