@@ -68,7 +68,7 @@ def try_truth(place, file):
     there.folder.rmdir()
     there.folder.symlink_to(place.folder / "designs")
     name = f"../{file.name}.flow"
-    done = there.run("-j", "1", "--depth", "20", "--timeout", "30", "-o", name, *words, file.name)
+    done = there.run("-j", "1", "--depth", "20", "--timeout", "120", "-o", name, *words, file.name)
     if truth.startswith("refused:"):
         tally.true(f"{file.name}: refused", done.returncode in (REFUSED, WORDS) and truth[8:].strip() in done.stderr, done.stderr)
         tally.true(f"{file.name}: leaves no folder", not (place.folder / f"{file.name}.flow").exists())
@@ -116,7 +116,7 @@ def try_notes(place):
         "x-words.sv": "not driven, so any bit in each frame: u",
         "initstate-clocks.v": "with several clocks $initstate",
     }.items():
-        done = place.run("--timeout", "10", "--depth", "10", design(name))
+        done = place.run("--depth", "10", design(name))
         notes = [line for line in done.stdout.splitlines() if line.startswith("note [")]
         verdicts = [line for line in done.stdout.splitlines() if " checked " in line and not line.startswith("assumed")]
         tally.true(f"{name}: a note", any(wanted in it for it in notes), done.stdout)
@@ -136,7 +136,7 @@ def try_notes(place):
     tally.true("what is not judged", said, done.stdout)
     tally.same("its status", OPEN, done.returncode)
     hurry = "import sys\nfrom flow import command_line, yosys\nyosys.SLOW_SECONDS = 0.01\nsys.exit(command_line.main(sys.argv[1:]))\n"
-    words = [sys.executable, "-c", hurry, *place.words("--timeout", "10", design("late.v"))[2:]]
+    words = [sys.executable, "-c", hurry, *place.words(design("late.v"))[2:]]
     environment = {**os.environ, "PYTHONPATH": str(TOP / "tools"), "PYTHONDONTWRITEBYTECODE": "1"}
     done = subprocess.run(words, cwd=place.folder, env=environment, capture_output=True, text=True, check=False)
     tally.true("a hint where Yosys is slow", done.stderr.startswith("hwtool-flow: yosys (reading) has taken"), done.stderr)
@@ -147,7 +147,7 @@ def try_notes(place):
 def try_own_reading(place):
     """A script that reads in place of files, with all that follows; and none that does more."""
     (place.folder / "read.ys").write_text(f"# the source\nverilog_defines -DTOP=9; read_verilog -formal {design('late.v')}\n")
-    done = place.run("--read", "read.ys", "--timeout", "10")
+    done = place.run("--read", "read.ys")
     tally.same("a script that reads", (ONE_FAILS, [4]), (done.returncode, place.verdicts("read.flow")))
     for why, text in {
         "a command": "read_verilog late.v; exec -- touch was_run\n",
@@ -167,7 +167,7 @@ def try_own_reading(place):
 def try_own_steps(place):
     """Steps in place of the recipe: what was not looked at stands beside each verdict, and the last line does not say that all is."""
     (place.folder / "own.ys").write_text("prep -flatten -top late\ndffunmap\n")
-    done = place.run("--yosys", "own.ys", design("late.v"), "--timeout", "10")
+    done = place.run("--yosys", "own.ys", design("late.v"))
     tally.true("what was not looked at", "note [1]   the steps of own.ys were not looked at" in done.stdout, done.stdout)
     tally.true("beside the verdict", re.search(r"^b0 a_not_4 .* \[1\]$", done.stdout, flags=re.M), done.stdout)
     tally.true("the last line", "all checked that own.ys wrote" in done.stdout, done.stdout)
@@ -208,7 +208,7 @@ def try_names(place):
     for name in [*odd, os.fsdecode(b"latin-\xe9.v")]:
         (place.folder / name).write_text(text)
         done = subprocess.run(
-            [os.fsencode(it) for it in place.words("-o", "odd.flow", "--timeout", "10", "--", name)],
+            [os.fsencode(it) for it in place.words("-o", "odd.flow", "--", name)],
             cwd=place.folder,
             capture_output=True,
             check=False,
@@ -223,11 +223,11 @@ def try_names(place):
     above.mkdir()
     (above / "beside.v").write_text((HERE / "beside.v").read_text())
     (above / "beside.vh").write_text((HERE / "beside.vh").read_text())
-    tally.same("an include beside, in a folder with such a name", ALL_HOLD, place.run(above / "beside.v", "--timeout", "10").returncode)
+    tally.same("an include beside, in a folder with such a name", ALL_HOLD, place.run(above / "beside.v").returncode)
     (place.folder / "include.v").write_text(text.replace("module", '`include "beside.vh"\nmodule', 1))
-    tally.same("-I of such a folder", ALL_HOLD, place.run("include.v", "-I", above, "--timeout", "10").returncode)
+    tally.same("-I of such a folder", ALL_HOLD, place.run("include.v", "-I", above).returncode)
     (place.folder / "bytes.v").write_bytes(text.encode() + b"// \xff\xfe\xe9 no UTF-8\n")
-    tally.same("bytes that are no UTF-8", ALL_HOLD, place.run("bytes.v", "--timeout", "10").returncode)
+    tally.same("bytes that are no UTF-8", ALL_HOLD, place.run("bytes.v").returncode)
     for words in (
         ["--top", "name\n!touch was_run"],
         ["--top", "name; exec -- touch was_run"],
@@ -294,7 +294,7 @@ def try_undefined(place):
         "x-index.v": {"a_bit": HOLDS, "a_part": HOLDS, "a_inside": HOLDS, "a_param": HOLDS, "a_mem": HOLDS},
         "x-divide.v": {"a_q": 0, "a_r": 0, "a_s": 0, "a_fine": HOLDS},
     }.items():
-        done = place.run("--zero-undefined", design(name), "--timeout", "20")
+        done = place.run("--zero-undefined", design(name))
         results = place.results(f"{name.split('.')[0]}.flow")
         got = {it["name"]: it["frame"] if it["frame"] is not None else it["verdict"] for it in results["properties"]}
         tally.same(f"{name} with 0", wanted, got)
@@ -303,7 +303,7 @@ def try_undefined(place):
 
 def try_pages(place):
     """The page has what is not judged, the assumptions, one row for a word of 80 bits, and the frame of the design."""
-    place.run(design("wide-words.v"), "--timeout", "20")
+    place.run(design("wide-words.v"))
     page = (place.folder / "wide-words.flow/report.html").read_text()
     tally.true("a word of 80 bits in one row", "<title>w[79:0]</title>" in page and "<title>w[0]</title>" not in page)
     tally.true("in hexadecimal", "00000000000000000004" in page)
