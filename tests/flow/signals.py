@@ -8,7 +8,7 @@ import time
 from .common import EXAMPLES, left_over, liar, tally, wait_for
 
 # How long a run may go on behind a signal, in seconds.
-SOON = 3.0
+SOON = 5.0
 # What stands for a program in a phase: it says that it has begun, and does not go on for long.
 SLOW = """#!/bin/sh
 case " $* " in
