@@ -57,7 +57,7 @@ def property_json(it: Finding, design: Design) -> Dict[str, Any]:
 
 def said_json(it: Said) -> Dict[str, Any]:
     """The object of a statement that is not judged, and why."""
-    front = {"key": "", "name": it.name, "place": it.place, "says": it.says}
+    front = {"key": "", "number": None, "name": it.name, "place": it.place, "says": it.says}
     return {**front, "verdict": Verdict.NOT_JUDGED.value, "frame": None, "notes": [it.why]}
 
 
