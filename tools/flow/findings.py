@@ -7,6 +7,7 @@ from .results import Outcome
 
 NEVER_ASSUMED = "holds only since the assumptions never do"
 NEVER_ASKED = "holds only since it is never asked"
+ASKED_OPEN = "whether it is ever asked is open"
 NEVER_COVERED = "is never reached, but only since the assumptions never hold"
 
 
@@ -87,7 +88,8 @@ def finding(it: Property, design: Design, outcomes: Dict[str, Outcome], known: O
     asked = outcomes.get(asked_key(it, design))
     if asked and asked.verdict is Verdict.HOLDS:
         return Finding(it, outcome, Verdict.VACUOUS, None, asked, NEVER_ASKED)
-    return Finding(it, outcome, Verdict.NEVER if is_cover else Verdict.HOLDS)
+    unknown = asked and asked.verdict is Verdict.OPEN
+    return Finding(it, outcome, Verdict.NEVER if is_cover else Verdict.HOLDS, why=ASKED_OPEN if unknown else "")
 
 
 def asked_key(it: Property, design: Design) -> str:
