@@ -283,6 +283,10 @@ def try_assumptions(place):
     done = place.run(design("vacuous-later.v"), "--engine", "bmc3", "--frames", "6", "-o", "open.flow")
     said = "whether the assumptions can hold for 6 frames is open" in done.stdout
     tally.true("open assumptions", done.returncode == ONE_FAILS and said, done.stdout)
+    proofs = 'proofs=berkeley-abc -q "read_aiger {form}; strash; pdr -d -I {invariant}"'
+    done = place.run(design("vacuous-antecedent.v"), "--engine", proofs, "--property", "a_asked")
+    said = "whether it is ever asked is open" in done.stdout and "all others checked" in done.stdout
+    tally.true("open whether it is asked", done.returncode == OPEN and said, done.stdout)
     again = place.run(design("vacuous-later.v"), "-o", "later.flow", "--frames", "60")
     tally.true("a second run", "the assumptions never hold for 5 frames; for 4 frames they can, checked" in again.stdout, again.stdout)
 

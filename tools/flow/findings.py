@@ -68,6 +68,11 @@ class Finding:
     why: str = ""
 
     @property
+    def is_settled(self) -> bool:
+        """Whether nothing about it is open."""
+        return self.verdict is not Verdict.OPEN and self.why != ASKED_OPEN
+
+    @property
     def words(self) -> str:
         """The verdict in words."""
         if self.frame is not None:

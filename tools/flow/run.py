@@ -295,6 +295,6 @@ class Run:
         if count_of(told, Verdict.OPEN) and (self.tools.missing or any(it.outcome.broke for it in told)):
             return Status.BROKE
         known = known_of(results)
-        left = count_of(told, Verdict.OPEN, Verdict.VACUOUS, Verdict.NEVER)
+        left = count_of(told, Verdict.VACUOUS, Verdict.NEVER) or not all(it.is_settled for it in told)
         apart = self.is_whole() and results.design.not_judged
         return Status.SOME_OPEN if left or apart or known and not known.is_settled else Status.ALL_HOLD

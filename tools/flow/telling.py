@@ -103,7 +103,7 @@ def summary(told: List[Finding], results: Results, is_whole: bool, folder: str) 
     apart = len(results.design.not_judged) if is_whole else 0
     counts = [f"{holds} hold{'s' * (holds == 1)}", f"{fails} fail{'s' * (fails == 1)}", f"{left} open"]
     counts += [f"{count} {it.value}" for it, count in others if count] + ([f"{apart} not judged"] if apart else [])
-    all_said = not left and not apart and is_settled(known_of(results))
+    all_said = all(it.is_settled for it in told) and not apart and is_settled(known_of(results))
     whole = f"all checked that {results.design.own_steps} wrote" if results.design.own_steps else "all checked"
     checked = whole if all_said else "all others checked" if len(told) > left else "nothing checked"
     return f"{counted(len(told), 'property', 'properties')}: {', '.join(counts)}; {checked}; results in {folder}/"
