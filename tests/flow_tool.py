@@ -14,12 +14,14 @@ import sys
 import tempfile
 import time
 
-from flow import designs, devices, engines, folders, hostile, page, rooted, signals, stops
+from flow import designs, devices, engines, folders, hostile, page, rooted, signals, stops, verilog
 from flow.common import MARK, TOP, Place, tally
 
 # The groups of tries, by name.
 GROUPS = {
     "designs": designs.try_designs,
+    "truths": verilog.try_truths,
+    "reading": verilog.try_reading,
     "words": designs.try_words,
     "names": designs.try_names,
     "folders": folders.try_folders,

@@ -75,7 +75,12 @@ class Place:
     def verdicts(self, name):
         """What is kept of each property, as DESIGNS has it; None where it is open."""
         known = {"fails": lambda it: it["frame"], "holds": lambda it: HOLDS, "open": lambda it: None}
-        return [known[it["verdict"]](it) for it in self.results(name)["properties"]]
+        return [known.get(it["verdict"], lambda it: it["verdict"])(it) for it in self.results(name)["properties"]]
+
+    def judged(self, name):
+        """How many judgements are kept: of properties, of whether they are asked, and of the assumptions."""
+        results = self.results(name)
+        return sum(it["judged"] != "open" for it in [*results["properties"], *results["beside"]] if it["key"])
 
     def verdict(self, name, number):
         """What is kept of one property; that there is nothing is none of these."""

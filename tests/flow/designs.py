@@ -46,7 +46,7 @@ def try_designs(place):
         tally.same(f"{design}: verdicts", wanted, place.verdicts(name))
         tally.same(f"{design}: status", ONE_FAILS if any(it != HOLDS for it in wanted) else ALL_HOLD, done.returncode)
         tally.same(f"{design}: errors", "", done.stderr)
-        tally.same(f"{design}: check.sh", (0, f"{len(wanted)} confirmed, 0 not"), place.checked(name))
+        tally.same(f"{design}: check.sh", (0, f"{place.judged(name)} confirmed, 0 not"), place.checked(name))
         tally.true(
             f"{design}: the last line", done.stdout.splitlines()[-1].endswith(f"0 open; all checked; results in {name}/"), done.stdout
         )
@@ -56,11 +56,11 @@ def try_designs(place):
 def try_steps(place):
     """What is seen in a design, and said of it; and words that say otherwise."""
     reading = {
-        "queue": ["by yosys", "one clock"],
-        "two-clocks": ["by yosys", "2 clocks (see_clk, send_clk), by clk2fflogic"],
-        "reset": ["by yosys", "one clock, resets or latches that do not wait for it, by clk2fflogic"],
-        "undefined": ["by yosys", "no clock", "undefined bits as any"],
-        "wide": ["by yosys", "one clock", "wide words as bits"],
+        "queue": ["by yosys", "top queue (the only root)", "one clock"],
+        "two-clocks": ["by yosys", "top two_clocks (the only root)", "2 clocks (see_clk, send_clk), by clk2fflogic"],
+        "reset": ["by yosys", "top reset (the only root)", "one clock, resets or latches that do not wait for it, by clk2fflogic"],
+        "undefined": ["by yosys", "top undefined (the only root)", "no clock", "undefined bits as any"],
+        "wide": ["by yosys", "top wide (the only root)", "one clock", "words as bits"],
     }
     for name, wanted in reading.items():
         tally.same(f"{name}: what is said of it", wanted, place.results(f"{name}.flow")["reading"])
@@ -95,7 +95,7 @@ OWN = {
     "edges.v": (
         "module edges(input clk);\nreg a = 0, b = 0;\nalways @(posedge clk) a <= !a;\nalways @(negedge clk) b <= a;\n"
         "always @* both: assert (!(a && b));\nendmodule\n",
-        ["by yosys", "2 clocks (falling clk, clk), by clk2fflogic"],
+        ["by yosys", "2 clocks (clk, falling clk), by clk2fflogic"],
         [2],
     ),
     # what is read of a clock where it rises is what it was before
@@ -145,7 +145,7 @@ def try_own_designs(place):
         tally.true(f"{name}: status", done.returncode == (ONE_FAILS if wanted != [HOLDS] else ALL_HOLD), f"{done.returncode} {done.stderr}")
         if (place.folder / folder).exists():
             by_name = dict(zip([it["name"] for it in place.results(folder)["properties"]], place.verdicts(folder)))
-            tally.same(f"{name}: what is said", said, place.results(folder)["reading"])
+            tally.same(f"{name}: what is said", said, place.results(folder)["reading"][:1] + place.results(folder)["reading"][2:])
             tally.same(f"{name}: verdicts", wanted, [by_name[it] for it in sorted(by_name)])
     files = ["part.v", "whole.v"]
     for file, text in zip(files, OWN["parts.v"][0].split("module whole")):
@@ -237,5 +237,5 @@ def try_names(place):
             tally.same(f"{name}: status", (ONE_FAILS, ""), (done.returncode, done.stderr))
             if done.returncode == ONE_FAILS:
                 tally.same(f"{name}: verdicts", wanted, place.verdicts(folder))
-                tally.same(f"{name}: check.sh", (0, f"{len(wanted)} confirmed, 0 not"), place.checked(f"./{folder}"))
+                tally.same(f"{name}: check.sh", (0, f"{place.judged(folder)} confirmed, 0 not"), place.checked(f"./{folder}"))
             shutil.rmtree(place.folder / folder, ignore_errors=True)

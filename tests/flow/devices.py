@@ -44,7 +44,7 @@ def try_lacking_memory(place):
         done = subprocess.run(command, cwd=place.folder, capture_output=True, text=True, check=False)
         tally.same(f"{what}: status", (ONE_FAILS, ""), (done.returncode, done.stderr))
         tally.same(f"{what}: verdicts", [0, HOLDS, 5], place.verdicts("queue.flow"))
-        tally.same(f"{what}: check.sh", (0, "3 confirmed, 0 not"), place.checked("queue.flow"))
+        tally.same(f"{what}: check.sh", (0, "4 confirmed, 0 not"), place.checked("queue.flow"))
         shutil.rmtree(place.folder / "queue.flow")
 
 
@@ -84,7 +84,7 @@ def try_full_disk(place, design, wanted, sizes):
         subprocess.run(["mount", "-o", "remount,size=4m", disk], check=True)
         place.run(design, "-o", name)
         tally.same(f"{design} with room again", wanted, place.verdicts(name))
-        tally.same("its check.sh", (0, f"{len(wanted)} confirmed, 0 not"), place.checked(name))
+        tally.same("its check.sh", (0, f"{place.judged(name)} confirmed, 0 not"), place.checked(name))
     finally:
         subprocess.run(["umount", disk], check=False)
 

@@ -77,7 +77,7 @@ def try_way(stranger, way, told):
         return
     kept = {it["number"]: (it["verdict"], it["frame"]) for it in stranger.results(at.name)["properties"]}
     tally.same(f"{way}: verdicts", TRUE, kept)
-    wanted = (1, "3 confirmed, 0 not, 1 differing") if way == "false_everything" else (0, "3 confirmed, 0 not")
+    wanted = (1, "4 confirmed, 0 not, 1 differing") if way == "false_everything" else (0, "4 confirmed, 0 not")
     tally.same(f"{way}: check.sh", wanted, stranger.checked(at.name))
     mark = (at / MARK).read_text() if (at / MARK).is_file() else ""
     tally.true(f"{way}: the mark", mark.startswith(FIRST_LINE) and "precious" not in mark, mark)
@@ -117,5 +117,5 @@ def try_no_memory_of_it(stranger):
         stranger.run("queue.v", "--engine", f"liar={stranger.hostile(way, told)}", "--timeout", "10", seconds=MOST_SECONDS)
         done = stranger.run("queue.v", *HONEST, seconds=MOST_SECONDS)
         tally.true(f"a run behind {way}", done.returncode == ONE_FAILS, f"{done.returncode} {done.stderr}")
-        tally.same(f"a run behind {way}: check.sh", (0, "3 confirmed, 0 not"), stranger.checked("queue.flow"))
+        tally.same(f"a run behind {way}: check.sh", (0, "4 confirmed, 0 not"), stranger.checked("queue.flow"))
         shutil.rmtree(at)

@@ -39,7 +39,7 @@ def try_signals(place):
     (place.folder / "tmp").mkdir()
     for call, known in CALLS.items():
         try_stop(place, f"hwtool {call}", COUNTERS, [], known, slow=("hwtool", call))
-    try_stop(place, "yosys", EXAMPLES / "flow/queue.v", [], None, slow=("yosys", "-q"))
+    try_stop(place, "yosys", EXAMPLES / "flow/queue.v", [], None, slow=("yosys", "-QT"))
     engine = ["--engine", "bmc3", "--engine", f"hang={liar('hang', '{counterexample}')}"]
     for number in (signal.SIGINT, signal.SIGTERM, signal.SIGHUP):
         try_stop(place, "an engine", COUNTERS, engine, [7, None], number=number, until="lying_engine.py")

@@ -31,7 +31,7 @@ def try_going_on(place):
     tally.same("a second run", (ONE_FAILS, lasting(first), False), (done.returncode, lasting(place.results("queue.flow")), mark.exists()))
     at = place.folder / "queue.flow"
     told = place.results("queue.flow")
-    told["properties"][2].update(verdict="holds", command="hwtool --version", said="holds: b2")
+    told["properties"][2].update(verdict="holds", judged="holds", command="hwtool --version", said="holds: b2")
     (at / "results.json").write_text(json.dumps(told))
     for it in ("invariant", "proof"):
         shutil.copyfile(at / "b1" / it, at / "b2" / it)
@@ -43,7 +43,7 @@ def try_going_on(place):
     place.run("queue.v")
     tally.same("results that were changed by hand", lasting(first), lasting(place.results("queue.flow")))
     (at / "b2/witness").write_text((at / "b0/witness").read_text())
-    tally.same("check.sh over a witness that was changed", (1, "2 confirmed, 1 not, 1 differing"), place.checked("queue.flow"))
+    tally.same("check.sh over a witness that was changed", (1, "3 confirmed, 1 not, 1 differing"), place.checked("queue.flow"))
     place.run("queue.v")
     tally.same("a witness that was changed by hand", lasting(first), lasting(place.results("queue.flow")))
     for rubbish in (
@@ -60,7 +60,7 @@ def try_going_on(place):
     (place.folder / "queue.v").write_text(text.replace("push && !full", "push && count < 4").replace("reg full;", "reg full = 0;"))
     place.run("queue.v")
     tally.same("another design", [HOLDS, HOLDS, HOLDS], place.verdicts("queue.flow"))
-    tally.same("its check.sh", (0, "3 confirmed, 0 not"), place.checked("queue.flow"))
+    tally.same("its check.sh", (0, "4 confirmed, 0 not"), place.checked("queue.flow"))
     try_held(place)
 
 

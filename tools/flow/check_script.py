@@ -4,8 +4,10 @@ import shlex
 from pathlib import Path
 from typing import List
 
-from .model import Verdict
-from .results import Outcome, Results, Source, count_of
+from .findings import count_of
+from .model import Design, Verdict
+from .results import Outcome, Results, Source
+from .summary import findings, shown_by
 
 HEAD = r"""#!/bin/sh
 # Confirms each verdict of results.json anew, by hwtool alone: sh check.sh [PROGRAM]. Statuses: 0 all properties have verdicts, and all
@@ -51,16 +53,17 @@ was_read() {
     fi
 }
 
-# confirm LINE WORDS ..: the call does well, and says this line
+# confirm TEXT LINE WORDS ..: the call does well, and says this line; TEXT is told before it, where it is over another than the model
 confirm() {
-    line=$1
-    shift
+    over=$1
+    line=$2
+    shift 2
     if said=$("$hwtool" "$@" 2>&1 </dev/null) && printf '%s\n' "$said" | grep -Fqx -e "$line"; then
         confirmed=$((confirmed + 1))
-        echo "$line"
+        echo "$over$line"
     else
         wrong=$((wrong + 1))
-        printf 'not so: %s\n%s\n' "$line" "$said"
+        printf 'not so: %s%s\n%s\n' "$over" "$line" "$said"
     fi
 }
 
@@ -86,10 +89,10 @@ def calls(word: str, *rest: str) -> str:
     return shlex.join([word, *rest])
 
 
-def lines_of(it: Outcome) -> List[str]:
-    """The lines about one property: that its files are those that were judged, and its check."""
+def lines_of(it: Outcome, design: Design) -> List[str]:
+    """The lines about one judgement: that its files are those that were judged, and its check."""
     files = [calls("judged", it.files[name], name) for name in it.command if name in it.files]
-    return [*files, calls("confirm", it.confirming_line(), *it.command)]
+    return [*files, calls("confirm", shown_by(it, design), it.confirming_line(), *it.command)]
 
 
 def source_line(source: Source, folder: Path) -> str:
@@ -99,11 +102,11 @@ def source_line(source: Source, folder: Path) -> str:
 
 def script(results: Results, folder: Path) -> str:
     """The text of check.sh, which stands in a folder."""
-    lines = [f"open={count_of(results.outcomes, Verdict.OPEN)}"]
+    lines = [f"open={count_of(findings(results), Verdict.OPEN)}"]
     note = calls("echo", f"check.sh: not the program of the run, which was {results.program.version}") + " >&2"
     lines.append(calls("is", results.program.sum) + f' "$hwtool" || {note}')
     lines += [source_line(it, folder) for it in results.sources]
-    lines.append(calls("judged", results.model.held.sum, results.model.name))
-    for it in results.outcomes:
-        lines += lines_of(it) if it.verdict is not Verdict.OPEN else []
+    lines += [calls("judged", it.held.sum, it.name) for it in results.design.texts]
+    for it in results.judged():
+        lines += lines_of(it, results.design) if it.verdict is not Verdict.OPEN else []
     return HEAD + "\n".join(lines) + "\n" + END

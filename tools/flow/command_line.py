@@ -11,6 +11,7 @@ from . import engines
 from .engines import InputRefused, WordsRefused
 from .folders import Folder
 from .program import Broke
+from .reading import is_verilog, script_reads
 from .run import Run, Status, Tools, inputs_of
 from .running import Runner, Stopped
 
@@ -29,13 +30,14 @@ proofs of each property; what they claim counts only where check-btor, check-aig
 NAME.flow/: the model, witnesses, dumps, certificates, proofs, results.json, report.html, and check.sh, which confirms all
 verdicts again by hwtool alone. A second run goes on where the first was stopped."""
 STATUSES = """exit statuses: 0 all hold, checked; 1 one fails; 2 an input is refused; 3 a tool is missing or broke, or a device failed;
-4 the words are refused; 5 some are open"""
+4 the words are refused; 5 something is open, vacuous, never reached or not judged"""
 ENGINE_HELP = f"""engines to try, in this order: {', '.join(it.name for it in engines.ENGINES)}, or NAME=COMMAND. A COMMAND is
 handed {{form}}, the engine form of one property in AIGER, or {{model}}, and {{bad}}, {{depth}}, {{seconds}}. It writes
 {{counterexample}} as ABC does, {{witness}} of the form, {{model_witness}}, {{invariant}}, or {{witness_circuit}} of the form; if it
 names none of these, its standard output is the witness"""
 SOLVER_HELP = f"""what makes proofs in ascii DRAT: {', '.join(it.name for it in engines.SOLVERS)}, or NAME=COMMAND with {{formula}} and
 {{proof}}"""
+READ_HELP = """steps of Yosys that read the source and do nothing else, in place of files; all that follows is done as for files"""
 YOSYS_HELP = """steps of Yosys in place of those that hwtool-flow chooses; it reads the files first, where no step does, and writes the
 model last"""
 
@@ -43,10 +45,15 @@ model last"""
 def parser() -> Words:
     """What reads the words, of which tools/manual.py makes the manual page."""
     it = Words(prog="hwtool-flow", description=ABOUT, epilog=STATUSES)
-    it.add_argument("design", nargs="+", type=Path, help="files of Verilog (.v, .sv), or one of BTOR2 (.btor2) or AIGER (.aig, .aag)")
+    it.add_argument("design", nargs="*", type=Path, help="files of Verilog (.v, .sv), or one of BTOR2 (.btor2) or AIGER (.aig, .aag)")
     it.add_argument("--top", metavar="MODULE", help="the top module of a design in Verilog")
+    it.add_argument("-I", "--include", action="append", default=[], type=Path, metavar="FOLDER", help="where files of `include stand too")
+    it.add_argument("-D", "--define", action="append", default=[], metavar="NAME[=VALUE]", help="a macro of the source")
+    it.add_argument("--param", action="append", default=[], metavar="NAME=VALUE", help="a parameter of the top module")
+    it.add_argument("--read", type=Path, metavar="SCRIPT", help=READ_HELP)
     it.add_argument("--property", action="append", metavar="K", help="only this property, by its number or name; may be said again")
     it.add_argument("--depth", type=whole, default=100, metavar="N", help="how many frames are searched for counterexamples (100)")
+    it.add_argument("--frames", type=whole, metavar="N", help="for how many frames the assumptions have to be able to hold (as --depth)")
     it.add_argument("--timeout", type=seconds, default=60.0, metavar="SECONDS", help="what engines and solver have for each property (60)")
     processors = len(os.sched_getaffinity(0))
     it.add_argument("-j", "--jobs", type=whole, default=processors, metavar="N", help="how many properties side by side (as processors)")
@@ -67,7 +74,27 @@ def parser() -> Words:
 
 def words_of(arguments: List[str]) -> argparse.Namespace:
     """What the words say."""
-    return parser().parse_args(arguments)
+    it = parser()
+    words = it.parse_args(arguments)
+    refuse_without_effect(it, words)
+    return words
+
+
+def refuse_without_effect(parser: Words, words: argparse.Namespace) -> None:
+    """Refuses words that would have no effect."""
+    if bool(words.design) == bool(words.read):
+        parser.error("files of a design, or --read SCRIPT")
+    of_recipe = {"--top": words.top, "--param": words.param}
+    of_recipe.update({"--clocked-resets": words.clocked_resets, "--zero-undefined": words.zero_undefined})
+    of_verilog = {**of_recipe, "-I": words.include, "-D": words.define, "--read": words.read}
+    without = {}
+    if words.yosys:
+        without = {**of_recipe, "--read": words.read, **({"-I": words.include, "-D": words.define} if script_reads(words.yosys) else {})}
+    elif words.design and not is_verilog(words.design):
+        without = of_verilog
+    for name, value in without.items():
+        if value:
+            parser.error(f"{name} has no effect {'beside --yosys SCRIPT' if words.yosys else 'on a design that is not in Verilog'}")
 
 
 def whole(word: str) -> int:
@@ -86,7 +113,7 @@ def seconds(word: str) -> float:
 
 def folder_named(words: argparse.Namespace) -> Path:
     """The folder of results."""
-    return words.output or Path(f"{words.design[0].stem}.flow")
+    return words.output or Path(f"{(words.design or [words.read])[0].stem}.flow")
 
 
 SIGNALS = (signal.SIGINT, signal.SIGTERM, signal.SIGHUP)

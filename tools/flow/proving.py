@@ -62,6 +62,8 @@ class Prover:
     solver: Optional[Engine]
     depth: int
     timeout: float
+    # the design's one clock, of which a picture says no more than its frames
+    clock: str = ""
     # what is being worked on, by number, for whoever shows it
     running: Dict[int, Running] = field(default_factory=dict)
     lock: threading.Lock = field(default_factory=threading.Lock)
@@ -90,7 +92,7 @@ class Prover:
         seconds = told.get("seconds")
         seconds = seconds if isinstance(seconds, float) else 0.0
         try:
-            for evidence in [one for one in Evidence if one.shows.value == told.get("verdict")]:
+            for evidence in [one for one in Evidence if one.shows.value == told.get("judged")]:
                 grounds = job.kept_before(evidence)
                 judged = job.judge(grounds) if grounds else None
                 if grounds and judged and judged.confirmed:
@@ -312,7 +314,7 @@ class Job:
         if dump is None:
             return []
         with Held.of_bytes(DUMP, head_of_dump(dump)).opened() as file:
-            seen = shown(read_dump(Path(f"{HANDED}{file}")), self.property, self.model.clock or "")
+            seen = shown(read_dump(Path(f"{HANDED}{file}")), self.property, self.prover.clock)
         return [dump, written(self.name(SAVED), saved_file(DUMP, seen))]
 
 

@@ -1,97 +1,121 @@
-"""A design as a model that `hwtool` takes: Verilog by Yosys, with the steps that docs/FLOW.md has for it; BTOR2; AIGER."""
-import json
+"""A design as the texts that `hwtool` takes: Verilog by Yosys, with the steps that docs/FLOW.md has for it; BTOR2; AIGER."""
 import os
 import re
 import shutil
-from dataclasses import dataclass
+from dataclasses import dataclass, replace
 from pathlib import Path
-from typing import List, Optional, Sequence, Tuple
+from typing import Callable, List, Optional, Sequence, Set
 
-from .engines import InputRefused, WordsRefused, missing_line
-from .model import Kind, Model, Property
-from .program import Broke, Program, Stopped
-from .running import Ended, Ending, Runner, tail_of
-from .seeing import Seen, seen_in
+from . import recipe, vacuity
+from .account import Account
+from .clocks import Timing
+from .engines import InputRefused, WordsRefused
+from .model import Design, Kind, Model, Property, Role, Said
+from .names import Names
+from .program import Broke, Program
+from .running import Runner
+from .statements import Says
+from .verilog import SYSTEM_VERILOG, Bridge, Wanted, reading_steps
+from .yosys import Yosys, text_of
 
-VERILOG, SYSTEM_VERILOG, BTOR2, AIGER = {".v", ".vh"}, {".sv", ".svh"}, {".btor2", ".btor"}, {".aig", ".aag"}
+VERILOG, BTOR2, AIGER = {".v", ".vh"} | SYSTEM_VERILOG, {".btor2", ".btor"}, {".aig", ".aag"}
 # A step of Yosys that reads files.
 READS = re.compile(r"\s*(read|read_\w+|verific)\b")
 
+# A constraint of a model in the one spelling: its number, and its name if it has one.
+CONSTRAINT = r"^(\d+) constraint \d+(?: (\S+))?$"
 WRITE_ONE = {
     "Verilog": "as in `always @* has_room: assert (count <= 4);`",
     "BTOR2": "as in `10 bad 9`, of a node of one bit",
     "AIGER": "a bad property (the header's number behind outputs, latches and gates), or an output",
 }
+BY_OWN_STEPS = "the steps of {} were not looked at: whether all that the source says is in the model, in its own frame, is theirs"
+RESETS_HINT = (
+    "where resets and latches change with the edges of the one clock alone, --clocked-resets makes a smaller model, "
+    "in which that is assumed"
+)
+AS_ZERO = "undefined bits are 0 (--zero-undefined): x, what nothing drives, what is out of range, and a division by zero"
+
+
+def is_verilog(files: Sequence[Path]) -> bool:
+    """Whether files are in Verilog, by the ends of their names."""
+    return {it.suffix.lower() for it in files} <= VERILOG
+
+
+def script_reads(script: Path) -> bool:
+    """Whether a script of Yosys has a step that reads files."""
+    try:
+        return any(map(READS.match, script.read_text(encoding="utf-8", errors="replace").splitlines()))
+    except OSError:
+        return False
 
 
 @dataclass(frozen=True)
 class Remedy:
-    """What Yosys may do at the end, so that a model is taken: its steps, what is written, and what to say of it."""
+    """What Yosys may do at the end, so that a model is taken: its steps, and what to say of it."""
 
     steps: Sequence[str]
     note: str = ""
-    kind: Kind = Kind.WORDS
 
 
-BACKENDS = {Kind.WORDS: "btor", Kind.CIRCUIT: "aiger -zinit"}
-PLAIN = Remedy([])
-BY_BITS = Remedy(["setundef -undriven -anyseq", "techmap", "aigmap"], "as a circuit", Kind.CIRCUIT)
-# By the number of the refusal, what to try in order; a circuit always goes.
-REMEDIES = {
-    5: [
-        Remedy(["setundef -undriven -anyseq", "setattr -unset keep", "opt_clean -purge"], "wide words without names dropped"),
-        Remedy(["techmap", "simplemap", "splitnets -ports"], "wide words as bits"),
-        BY_BITS,
-    ],
-    11: [Remedy(["simplemap t:$dff t:$ff", "splitnets"], "registers as bits"), BY_BITS],
-}
+def remedies_of(number: int, names: Names) -> List[Remedy]:
+    """What to try in order where `hwtool` refuses a model by this number; what is of bits alone always goes."""
+    bits = names.plain(recipe.beside("bits.v"))
+    split = [f"techmap -max_iter 1 -map {bits} t:$anyseq t:$anyconst %u", "techmap", "simplemap", "splitnets -ports", "opt_clean"]
+    by_bits = Remedy(["setundef -undriven -anyseq", *split], "words as bits")
+    unnamed = Remedy(["setundef -undriven -anyseq", "setattr -unset keep", "opt_clean -purge"], "wide words without names dropped")
+    table = {5: [unnamed, by_bits], 11: [Remedy(["simplemap t:$dff t:$ff", "splitnets"], "registers as bits"), by_bits]}
+    return table.get(number, [])
 
 
-@dataclass(frozen=True)
-class Recipe:
-    """The steps of Yosys for a design; what to say of them; and its one clock, if each frame is an edge of that."""
+class NotTaken(InputRefused):
+    """A text that `hwtool` refuses, with the number of the refusal; a line is told as that of the text, with its place in the source."""
 
-    steps: List[str]
-    notes: List[str]
-    clock: Optional[str] = None
+    def __init__(self, design: str, line: str, path: Optional[Path] = None) -> None:
+        found = re.search(r": (\d+) [A-Z]\w+$", line)
+        self.number = int(found[1]) if found else 0
+        said = line.split(": ", 1)[-1]
+        where = f"{path.name}: " if path else ""
+        remedy = f"; hwtool explain {self.number} says what to do" if found else ""
+        super().__init__(f"{design}: {where}{said}{line_told(path, said)}{remedy}")
 
 
-@dataclass(frozen=True)
-class Wanted:
-    """What the words of the command line say of a design."""
-
-    files: List[Path]
-    top: Optional[str] = None
-    script: Optional[Path] = None
-    clocked_resets: bool = False
-    zero_undefined: bool = False
+def line_told(path: Optional[Path], said: str) -> str:
+    """The line of a text that a refusal names, and the place in the source that Yosys noted on it or on the next one that has one."""
+    found = re.match(r"line (\d+): ", said)
+    if path is None or found is None:
+        return ""
+    lines = path.read_text(encoding="utf-8", errors="replace").splitlines()[int(found[1]) - 1 :]
+    places = [re.search(r"; (\S+:\d+\.\d+-\d+\.\d+)\s*$", line) for line in lines]
+    place = next((f", of {it[1]} or near it" for it in places if it), "")
+    return f", in `{lines[0].strip()}`{place}" if lines else ""
 
 
 class Reader:
-    """Makes a model of a design, in the folder `work`; its models are judged readable by `hwtool` alone."""
+    """Makes the texts of a design, in the folder `work`; they are judged readable by `hwtool` alone."""
 
-    def __init__(self, wanted: Wanted, program: Program, runner: Runner, work: Path) -> None:
-        self.wanted, self.program, self.runner, self.work = wanted, program, runner, work
+    def __init__(self, wanted: Wanted, program: Program, runner: Runner, work: Path, frames: int, slow: Callable[[str], None]) -> None:
+        self.wanted, self.program, self.runner, self.work, self.frames, self.slow = wanted, program, runner, work, frames, slow
 
-    def model(self) -> Model:
-        """The model, with its properties; refused where there is none, or it has none."""
+    def design(self) -> Design:
+        """The design; refused where there is none, or it asks nothing."""
         ends = {it.suffix.lower() for it in self.wanted.files}
-        for it in self.wanted.files:
+        for it in [*self.wanted.files, *filter(None, [self.wanted.read, self.wanted.script])]:
             if not it.is_file():
                 raise Broke(f"{it}: no such file")
-        if ends <= VERILOG | SYSTEM_VERILOG:
-            return self.having(self.of_verilog(bool(ends & SYSTEM_VERILOG)), "Verilog")
+        if self.wanted.read or is_verilog(self.wanted.files):
+            return self.having(self.of_verilog(), "Verilog")
         if len(self.wanted.files) == 1 and ends <= BTOR2:
-            return self.having(self.taken(self.copied(Kind.WORDS), Kind.WORDS, ["as BTOR2"]), "BTOR2")
+            return self.having(self.of_text(self.taken(self.copied(Kind.WORDS), Kind.WORDS), ["as BTOR2"]), "BTOR2")
         if len(self.wanted.files) == 1 and ends <= AIGER:
             return self.having(self.of_circuit(), "AIGER")
         raise WordsRefused("a design is files of Verilog (.v, .sv), or one of BTOR2 (.btor2, .btor) or AIGER (.aig, .aag)")
 
-    def having(self, model: Model, language: str) -> Model:
-        """A model that has a property."""
-        if not model.properties:
-            raise InputRefused(f"{self.wanted.files[0]}: it has no property; write one, {WRITE_ONE[language]}")
-        return model
+    def having(self, design: Design, language: str) -> Design:
+        """A design that asks something."""
+        if not design.properties and not any(it.says in (Says.LIVE.value, Says.ASSERT.value) for it in design.not_judged):
+            raise InputRefused(f"{self.wanted.name}: it has no property; write one, {WRITE_ONE[language]}")
+        return design
 
     def copied(self, kind: Kind) -> Path:
         """The file of the design, in the folder of work."""
@@ -99,150 +123,176 @@ class Reader:
         shutil.copyfile(self.wanted.files[0], into)
         return into
 
-    # ---- models and circuits
+    # ---- texts
 
-    def taken(self, path: Path, kind: Kind, notes: List[str], clock: Optional[str] = None, steps: Sequence[str] = ()) -> Model:
-        """A model that `hwtool` takes, with its properties; refused in its words where it does not."""
+    def taken(self, path: Path, kind: Kind, role: Role = Role.MODEL) -> Model:
+        """A text that `hwtool` takes, with its properties; refused in its words where it does not."""
         place = f"{self.work.name}/{path.name}"
-        properties, inputs = (self.of_model(path, place), []) if kind is Kind.WORDS else self.of_names(place)
-        if properties:
-            self.make("lower" if kind is Kind.WORDS else "aig-convert", "--engine", "--binary", "--bad", "0", place)
-        return Model(kind, path, properties, notes, clock, list(steps), inputs)
-
-    def of_model(self, path: Path, place: str) -> List[Property]:
-        """The bad properties of a model in BTOR2, in the one spelling that `show` gives, with the places that Yosys noted."""
-        shown = self.made("show", place)
-        lines = re.findall(r"^(\d+) bad \d+(?: (\S+))?$", shown, flags=re.M)
-        places = dict(re.findall(r"^(\d+) bad .*; (\S.*?)\s*$", path.read_text(encoding="utf-8", errors="replace"), flags=re.M))
-        return [Property(number, name, places.get(line, "")) for number, (line, name) in enumerate(lines)]
-
-    def of_circuit(self) -> Model:
-        """A circuit, of which the outputs are the properties where there are no others."""
-        model = self.taken(self.copied(Kind.CIRCUIT), Kind.CIRCUIT, ["as AIGER"])
+        model = self.of_words(path, place, role) if kind is Kind.WORDS else self.of_names(path, place, role)
         if model.properties:
-            return model
-        os.replace(self.make("aig-convert", "--outputs", "--binary", f"{self.work.name}/{model.path.name}"), model.path)
-        return self.taken(model.path, Kind.CIRCUIT, ["as AIGER", "its outputs as properties"])
+            self.make(path, "lower" if kind is Kind.WORDS else "aig-convert", "--engine", "--binary", "--bad", "0", place)
+        return model
 
-    def of_names(self, place: str) -> Tuple[List[Property], List[str]]:
-        """The bad properties of a circuit, and the names of its inputs, by its header and its table of names."""
-        shown = self.made("aig-convert", place)
-        header = [int(it) for it in shown.split("\n", 1)[0].split()[1:]]
-        names = dict(re.findall(r"^([bi]\d+) (.*)$", shown, flags=re.M))
-        properties = [Property(number, names.get(f"b{number}", "")) for number in range(header[5] if len(header) > 5 else 0)]
-        return properties, [names.get(f"i{number}", f"i{number}") for number in range(header[1])]
+    def of_words(self, path: Path, place: str, role: Role) -> Model:
+        """A text in BTOR2, in the one spelling that `show` gives, with the places that Yosys noted."""
+        shown = self.made(path, "show", place)
+        lines = re.findall(r"^(\d+) bad (\d+)(?: (\S+))?$", shown, flags=re.M)
+        places = dict(re.findall(r"^(\d+) bad .*; (\S.*?)\s*$", path.read_text(encoding="utf-8", errors="replace"), flags=re.M))
+        always = nodes_of_one(shown) if role is Role.ENABLES else set()
+        properties = [
+            Property(number, name, places.get(line, ""), role, always_asked=node in always)
+            for number, (line, node, name) in enumerate(lines)
+        ]
+        assumed = [Said("assume", name or f"constraint {line}", "") for line, name in re.findall(CONSTRAINT, shown, flags=re.M)]
+        return Model(Kind.WORDS, path, properties, role, constraints=assumed)
 
-    def make(self, *words: str) -> Path:
-        """The file that a command makes; refused in the words of `hwtool` where it makes none."""
+    def of_names(self, path: Path, place: str, role: Role) -> Model:
+        """A circuit, its bad properties and the names of its inputs, by its header and its table of names."""
+        shown = self.made(path, "aig-convert", place)
+        header = [int(it) for it in shown.split("\n", 1)[0].split()[1:]] + [0] * 4
+        names = dict(re.findall(r"^([bci]\d+) (.*)$", shown, flags=re.M))
+        properties = [Property(number, names.get(f"b{number}", ""), "", role) for number in range(header[5])]
+        inputs = [names.get(f"i{number}", f"i{number}") for number in range(header[1])]
+        assumed = [Said("assume", names.get(f"c{number}", f"constraint {number}"), "") for number in range(header[6])]
+        return Model(Kind.CIRCUIT, path, properties, role, inputs, assumed)
+
+    def of_text(self, model: Model, notes: List[str]) -> Design:
+        """A design that is one text, with that about its assumptions."""
+        return Design(model, frames=self.frames_of(model, 0), notes=notes, assumptions=model.constraints)
+
+    def of_circuit(self) -> Design:
+        """A circuit, of which the outputs are the properties where there are no others."""
+        model = self.taken(self.copied(Kind.CIRCUIT), Kind.CIRCUIT)
+        if model.properties:
+            return self.of_text(model, ["as AIGER"])
+        os.replace(self.make(model.path, "aig-convert", "--outputs", "--binary", f"{self.work.name}/{model.path.name}"), model.path)
+        return self.of_text(self.taken(model.path, Kind.CIRCUIT), ["as AIGER", "its outputs as properties"])
+
+    def frames_of(self, model: Model, ahead: int) -> Optional[Model]:
+        """The text about the assumptions of a model, where it has any: for how many frames they can hold."""
+        if not model.constraints:
+            return None
+        of_words, place = model.kind is Kind.WORDS, f"{self.work.name}/{model.path.name}"
+        shown = self.made(model.path, "show" if of_words else "aig-convert", place)
+        path = self.work / f"{Role.FRAMES.value}.{model.kind.value}"
+        path.write_text((vacuity.over_words if of_words else vacuity.over_bits)(shown, self.frames + ahead), encoding="utf-8")
+        if not of_words:
+            os.replace(self.make(path, "aig-convert", "--binary", f"{self.work.name}/{path.name}"), path)
+        return self.taken(path, model.kind, Role.FRAMES)
+
+    def make(self, of: Path, *words: str) -> Path:
+        """The file that a command makes of a text; refused in the words of `hwtool` where it makes none."""
         said = self.program.call(*words, "-o", f"{self.work.name}/made")
         if said.status != 0:
-            raise NotTaken(self.wanted.files[0], said.line)
+            raise NotTaken(self.wanted.name, said.line, None if self.is_own(of) else of)
         return self.work / "made"
 
-    def made(self, *words: str) -> str:
+    def is_own(self, path: Path) -> bool:
+        """Whether a text is the design's own file."""
+        return path.stem == Role.MODEL.value and self.wanted.files[:1] != [] and self.wanted.files[0].suffix.lower() in BTOR2 | AIGER
+
+    def made(self, of: Path, *words: str) -> str:
         """The text that a command makes."""
-        return self.make(*words).read_text(encoding="utf-8", errors="replace")
+        return self.make(of, *words).read_text(encoding="utf-8", errors="replace")
 
     # ---- Verilog
 
-    def of_verilog(self, system: bool) -> Model:
-        """A model by Yosys, with the steps for what the design has, and the remedies for what `hwtool` refuses."""
-        frontend = "verilog -formal -sv" if system else "verilog -formal"
-        if shutil.which("yosys") is None:
-            raise Broke(missing_line("yosys"))
-        recipe = self.own_recipe(self.wanted.script) if self.wanted.script else self.recipe(self.seen(frontend))
+    def of_verilog(self) -> Design:
+        """The texts that Yosys makes, with the remedies for what `hwtool` refuses."""
+        names = Names(self.work)
+        yosys = Yosys(self.runner, names, self.wanted.name, self.slow)
+        if self.wanted.script:
+            return self.by_own_steps(self.wanted.script, yosys, names)
+        bridge = Bridge(self.wanted, yosys, names)
+        timing = bridge.flatten()
+        return self.remedied(lambda remedy: self.bridged(bridge, timing, remedy), names)
+
+    def remedied(self, made_with: Callable[[Remedy], Design], names: Names) -> Design:
+        """What is made without a remedy, or with the first one that makes it go."""
         try:
-            return self.made_by(frontend, recipe, PLAIN)
+            return made_with(Remedy([]))
         except NotTaken as fault:
-            for remedy in REMEDIES.get(fault.number, []):
+            for remedy in remedies_of(fault.number, names):
                 try:
-                    return self.made_by(frontend, recipe, remedy)
+                    return made_with(remedy)
                 except NotTaken:
                     pass
             raise
 
-    def made_by(self, frontend: str, recipe: Recipe, remedy: Remedy) -> Model:
-        """The model that Yosys makes by a recipe, with a remedy at its end."""
-        path = self.work / f"model.{remedy.kind.value}"
-        steps, backend = [*recipe.steps, *remedy.steps], BACKENDS[remedy.kind]
-        self.yosys(frontend, steps, backend, path)
-        told = [*([] if reads_files(steps) else [f"read_{frontend} {' '.join(map(str, self.wanted.files))}"]), *steps, f"write_{backend}"]
-        return self.taken(path, remedy.kind, [*recipe.notes, *filter(None, [remedy.note])], recipe.clock, told)
-
-    def own_recipe(self, script: Path) -> Recipe:
-        """The steps of a script."""
-        return Recipe(script.read_text(encoding="utf-8").splitlines(), [f"by yosys and {script.name}"])
-
-    def top(self) -> str:
-        """The step that makes one module of the design."""
-        return f"prep -flatten -top {self.wanted.top}" if self.wanted.top else "prep -flatten -auto-top"
-
-    def seen(self, frontend: str) -> Seen:
-        """What the flat design has."""
-        path = self.work / "seen.json"
-        self.yosys(frontend, [self.top(), "memory_map"], "json", path)
-        found = seen_in(json.loads(path.read_text(encoding="utf-8")))
-        path.unlink()
-        return found
-
-    def recipe(self, seen: Seen) -> Recipe:
-        """The steps of Yosys for what a design has."""
-        timing = self.timing(seen)
-        notes, end = ["by yosys", *timing.notes], ["dffunmap"]
-        if seen.undefined and self.wanted.zero_undefined:
-            notes, end = [*notes, "undefined bits as 0"], ["dffunmap", "setundef -undriven -zero"]
-        elif seen.undefined:
-            notes = [*notes, "undefined bits as any"]
-        return Recipe([self.top(), *timing.steps, *end], notes, timing.clock)
-
-    def timing(self, seen: Seen) -> Recipe:
-        """The steps for clocks, resets, latches and memories."""
-        in_any_step = ["clk2fflogic", "memory_map -formal"]
-        if len(seen.clocks) > 1 or seen.memories:
-            return Recipe(in_any_step, [f"{len(seen.clocks)} clocks ({', '.join(map(str, sorted(seen.clocks)))}), by clk2fflogic"])
-        one, clock = ("one clock", str(min(seen.clocks))) if seen.clocks else ("no clock", None)
-        if seen.reads_clock:
-            return Recipe(in_any_step, [f"{one}, which is read too, by clk2fflogic"])
-        if not seen.asynchronous:
-            return Recipe(["memory_map"], [one], clock)
-        if self.wanted.clocked_resets:
-            return Recipe(["memory_map", "async2sync"], [f"{one}, resets and latches with it, by async2sync"], clock)
-        return Recipe(in_any_step, [f"{one}, resets or latches that do not wait for it, by clk2fflogic"])
-
-    def yosys(self, frontend: str, steps: List[str], backend: str, into: Path) -> None:
-        """Runs steps of Yosys over the files of the design, and writes what comes of it. Names stand where nothing takes them apart.
-
-        Where the steps of a script read files themselves, the design's are not read before."""
-        script = self.work / "steps.ys"
-        script.write_text("\n".join(steps) + "\n", encoding="utf-8")
-        log = self.work / "yosys.log"
-        files = (
-            [] if READS.search("\n".join(steps)) else [str(it) if re.match(r"[\w/.]", str(it)) else f"./{it}" for it in self.wanted.files]
+    def bridged(self, bridge: Bridge, timing: Timing, remedy: Remedy) -> Design:
+        """The texts of a design by the recipe, each bad property tied to its statement."""
+        paths = bridge.write(timing, remedy.steps)
+        account, ahead = bridge.account, int(timing.in_steps)
+        model = self.tied(self.taken(paths["model"], Kind.WORDS), account, Says.ASSERT)
+        account.count_constraints(len(model.constraints))
+        covers = self.tied(self.taken(paths["cover"], Kind.WORDS, Role.COVER), account, Says.COVER)
+        enables = self.taken(paths["enables"], Kind.WORDS, Role.ENABLES)
+        always = {it.name for it in enables.properties if it.always_asked}
+        account.tied(Says.ASSERT, [it.name for it in enables.properties])
+        model = replace(model, properties=[replace(it, always_asked=it.name in always) for it in model.properties])
+        undefined, meaning = bridge.undefined, list(bridge.notes)
+        if self.wanted.zero_undefined:
+            meaning.append(AS_ZERO)
+        as_what = [f"undefined bits as {'0' if self.wanted.zero_undefined else 'any'}"] if undefined else []
+        return Design(
+            model,
+            covers if covers.properties else None,
+            enables if enables.properties else None,
+            self.frames_of(model, ahead),
+            ["by yosys", f"top {bridge.top} ({bridge.how})", str(timing), *as_what, *filter(None, [remedy.note])],
+            meaning,
+            bridge.yosys.warnings,
+            [Said(it.says.value, it.name, it.place) for it in bridge.assumed()],
+            [Said(it.says.value, it.name, it.place, it.why) for it in bridge.not_judged()],
+            timing.clock,
+            ahead,
+            RESETS_HINT if timing.resets_open else "",
+            bridge.told_steps(timing, remedy.steps),
+            bridge.left_out(),
         )
-        words = ["yosys", "-q", "-f", frontend, "-b", backend, "-o", os.path.abspath(into), "-s", os.path.abspath(script), *files]
-        ended = self.runner.run(words, Path.cwd(), log, None, None, None, self.work)
-        if ended.how is Ending.STOPPED:
-            raise Stopped
-        if ended.status != 0:
-            raise fault_of(ended, tail_of(log), self.wanted.files[0])
+
+    @staticmethod
+    def tied(model: Model, account: Account, says: Says) -> Model:
+        """A text whose properties have what the account knows of them."""
+        formals = account.tied(says, [it.name for it in model.properties])
+        named = zip(model.properties, formals)
+        return replace(model, properties=[replace(it, name=one.name, place=one.place, note=one.note) for it, one in named])
+
+    def by_own_steps(self, script: Path, yosys: Yosys, names: Names) -> Design:
+        """The texts that a script of one's own makes, which the flow cannot look into."""
+        steps = script.read_text(encoding="utf-8", errors="surrogateescape").splitlines()
+        reads = [] if script_reads(script) else reading_steps(self.wanted, names, False)
+        return self.remedied(lambda remedy: self.scripted([*reads, *steps, *remedy.steps], script, remedy, yosys, names), names)
+
+    def scripted(self, steps: List[str], script: Path, remedy: Remedy, yosys: Yosys, names: Names) -> Design:
+        """The texts behind such steps."""
+        paths = [names.own(f"{it.value}.btor2") for it in (Role.MODEL, Role.COVER)]
+        yosys.run("own", [*steps, f"write_btor {paths[0]}", f"write_btor -c {paths[1]}"])
+        for it in paths:
+            Path(it).write_text(names.told(text_of(Path(it))), "utf-8", "surrogateescape")
+        model, covers = (self.taken(Path(it), Kind.WORDS, role) for it, role in zip(paths, (Role.MODEL, Role.COVER)))
+        notes = [f"by yosys and {script.name}", *filter(None, [remedy.note])]
+        meaning, told = [BY_OWN_STEPS.format(script.name)], [names.told(it) for it in [*steps, "write_btor"]]
+        return Design(
+            model,
+            covers if covers.properties else None,
+            None,
+            self.frames_of(model, 0),
+            notes,
+            meaning,
+            yosys.warnings,
+            model.constraints,
+            steps=told,
+            own_steps=script.name,
+        )
 
 
-class NotTaken(InputRefused):
-    """A model that `hwtool` refuses, with the number of the refusal."""
-
-    def __init__(self, design: Path, line: str) -> None:
-        found = re.search(r": (\d+) [A-Z]\w+$", line)
-        self.number = int(found[1]) if found else 0
-        remedy = f"; hwtool explain {self.number} says what to do" if found else ""
-        super().__init__(f"{design}: {line.split(': ', 1)[-1]}{remedy}")
-
-
-def reads_files(steps: Sequence[str]) -> bool:
-    """Whether some step reads files of a design."""
-    return any(map(READS.match, steps))
-
-
-def fault_of(ended: Ended, log: str, design: Path) -> Exception:
-    """What to say of a run of Yosys that did not do well: refused where it says why."""
-    errors = re.findall(r"^.*ERROR: .*", log, flags=re.M)
-    return InputRefused(f"{design}: yosys: {errors[-1]}") if errors and ended.status > 0 else Broke(f"yosys: {ended}: {log.strip()[-200:]}")
+def nodes_of_one(shown: str) -> Set[str]:
+    """The nodes of a text, by their numbers, that are the bit 1 as they stand."""
+    found: Set[str] = set()
+    for line in shown.splitlines():
+        words = line.split()
+        is_one = words[1:2] == ["one"] or words[1:2] == ["const"] and words[3:4] == ["1"]
+        if is_one or words[1:2] == ["and"] and set(words[3:5]) <= found:
+            found.add(words[0])
+    return found

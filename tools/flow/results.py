@@ -1,4 +1,4 @@
-"""What a run came to: the outcome of each property, and results.json, which tells it."""
+"""What a run came to: what was judged over each text of a design, and by which programs."""
 import json
 import shlex
 from dataclasses import asdict, dataclass, field
@@ -7,7 +7,7 @@ from typing import Any, Dict, List, Optional, Sequence
 
 from .files import Held, sum_of_file
 from .folders import Folder
-from .model import Model, Property, Verdict
+from .model import Design, Property, Role, Verdict
 
 RESULTS, CHECK, REPORT = "results.json", "check.sh", "report.html"
 # Larger ones are none of a run.
@@ -69,22 +69,23 @@ class Outcome:
     broke: str = ""
 
     def as_json(self) -> Dict[str, Any]:
-        """The object of results.json."""
+        """The object of results.json: what was judged over a text."""
         it = asdict(self)
-        it.update(it.pop("property"))
+        it["key"] = self.property.key
+        it["number"] = self.property.number
         it["seconds"] = round(self.seconds, 3)
-        it["verdict"] = self.verdict.value
+        it["judged"], it["judged_frame"] = self.verdict.value, self.frame
         it["command"] = shlex.join(["hwtool", *self.command]) if self.command else ""
         for one in it["tries"]:
             one["seconds"] = round(one["seconds"], 3)
             for claim in one["claims"]:
                 claim["verdict"] = claim["verdict"].value
-        first = ["number", "name", "place", "verdict", "frame", "engine", "seconds", "check", "command", "said"]
+        first = ["key", "number", "judged", "judged_frame", "engine", "seconds", "check", "command", "said"]
         return {key: it[key] for key in [*first, "files", "tries", "broke"]}
 
     def confirming_line(self) -> str:
-        """The line that its check says, which names the property."""
-        key = self.property.key
+        """The line that its check says, which names the property by its number in the text."""
+        key = f"b{self.property.number}"
         return f"{key} is reached in frame {self.frame}" if self.verdict is Verdict.FAILS else f"holds: {key}"
 
 
@@ -120,45 +121,41 @@ class Tool:
 
 @dataclass
 class Results:
-    """All that a run came to: the design, the model that was made of it, the programs, and the outcome of each property."""
+    """All that a run came to: the design and its texts, the programs, and what was judged over each text, by key."""
 
-    design: str
+    name: str
     sources: List[Source]
     program: Tool
     tools: List[Tool]
-    model: Model
-    outcomes: List[Outcome]
+    design: Design
+    outcomes: Dict[str, Outcome]
+    # for how many frames the assumptions are to hold
+    frames: int = 0
 
-    def as_json(self) -> str:
-        """The text of results.json."""
-        front = {
-            "design": self.design,
-            "sources": [{"name": str(it.path), "sum": it.sum} for it in self.sources],
-            "model": self.model.name,
-            "sum": self.model.held.sum,
-            "reading": self.model.notes,
-            "steps": self.model.steps,
-            "program": self.program.version,
-            "tools": [asdict(it) for it in [self.program, *self.tools]],
-        }
-        return json.dumps({**front, "properties": [it.as_json() for it in self.outcomes]}, indent=1) + "\n"
+    def judged(self) -> List[Outcome]:
+        """What was judged, in the order of texts and numbers."""
+        roles = list(Role)
+        return sorted(self.outcomes.values(), key=lambda it: (roles.index(it.property.role), it.property.number))
 
 
-def told_before(folder: Folder, model: Model) -> Optional[Dict[int, Dict[str, Any]]]:
-    """What results.json tells of each property by its number, where an earlier run wrote it of the same model."""
+def told_before(folder: Folder, design: Design) -> Optional[Dict[str, Dict[str, Any]]]:
+    """What results.json tells of each property by its key, where an earlier run wrote it of the same text; nothing of another model."""
     try:
-        text = b"".join(folder.read(RESULTS, MOST_RESULTS).pieces())
-        results = json.loads(text)
-        return {it["number"]: it for it in results["properties"]} if results["sum"] == model.held.sum else None
-    except (OSError, ValueError, KeyError, TypeError, RecursionError):
+        results = json.loads(b"".join(folder.read(RESULTS, MOST_RESULTS).pieces()))
+        told = {it["key"]: it for it in [*results["properties"], *results["beside"]]}
+        before, now = results["texts"], texts_of(design)
+        same = [it for it in design.texts if before.get(it.name) == now[it.name]]
+        keys = {one.key for it in same for one in it.properties}
+        return {key: it for key, it in told.items() if key in keys} if design.model in same else None
+    except (OSError, ValueError, KeyError, TypeError, AttributeError, RecursionError):
         return None
+
+
+def texts_of(design: Design) -> Dict[str, str]:
+    """The sum of each text, by its name."""
+    return {it.name: it.held.sum for it in design.texts}
 
 
 def written(name: str, text: str) -> Held:
     """A text that is to be written under a name."""
     return Held.of_bytes(name, text.encode("utf-8", "surrogateescape"))
-
-
-def count_of(outcomes: Sequence[Outcome], verdict: Verdict) -> int:
-    """How many properties have a verdict."""
-    return sum(it.verdict is verdict for it in outcomes)

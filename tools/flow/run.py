@@ -8,21 +8,26 @@ import shutil
 import sys
 from dataclasses import dataclass
 from pathlib import Path
-from typing import Any, Dict, Iterator, List, Optional
+from typing import Any, Callable, Dict, Iterator, List, Optional
 
 from . import engines
 from .engines import Engine, WordsRefused
-from .model import Model, Property, Verdict
-from .program import Broke, Program
+from .asking import Asker
 from .check_script import script
 from .files import HANDED, place_of_work, sum_of_file
+from .findings import Finding, count_of
 from .folders import Folder
+from .model import Design, Property, Role, Verdict
+from .names import printable
+from .program import Broke, Program
 from .proving import FILES, Prover
-from .reading import Reader, Wanted
+from .reading import Reader
 from .report import page
-from .results import CHECK, REPORT, RESULTS, Outcome, Results, Source, Tool, count_of, told_before, written
+from .results import CHECK, REPORT, RESULTS, Outcome, Results, Source, Tool, told_before, written
 from .running import Runner
-from .telling import Teller, counted, summary
+from .summary import as_json, found, known_of
+from .telling import Teller, head_lines, summary
+from .verilog import Wanted
 
 Pool = concurrent.futures.ThreadPoolExecutor
 
@@ -92,7 +97,22 @@ def sum_if_readable(program: str) -> str:
 
 def inputs_of(words: argparse.Namespace) -> List[Path]:
     """The files that a run reads."""
-    return [*words.design, *([words.yosys] if words.yosys else [])]
+    return [*words.design, *filter(None, [words.yosys, words.read])]
+
+
+def wanted_of(words: argparse.Namespace) -> Wanted:
+    """What the words say of a design."""
+    return Wanted(
+        words.design,
+        words.top,
+        words.yosys,
+        words.read,
+        words.include,
+        words.define,
+        words.param,
+        words.clocked_resets,
+        words.zero_undefined,
+    )
 
 
 class Run:
@@ -101,9 +121,10 @@ class Run:
     def __init__(self, words: argparse.Namespace, runner: Runner, folder: Folder, tools: Tools) -> None:
         self.words, self.runner, self.folder, self.tools = words, runner, folder, tools
         self.program = Program(tools.program, runner, words.timeout)
+        self.frames = words.frames or words.depth
         # with --json standard output is for that alone
         self.into = sys.stderr if words.json else sys.stdout
-        self.design = " ".join(map(str, words.design))
+        self.name = " ".join(printable(str(it)) for it in words.design or [words.read])
         self.sources = [Source.of(it) for it in inputs_of(words)]
         self.parts = [Source.of(it) for it in sorted(Path(__file__).parent.glob("*.*"))]
 
@@ -112,65 +133,80 @@ class Run:
         for line in self.tools.missing:
             self.note(line)
         program = Tool("hwtool", self.program.path, self.program.sum, self.program.version())
-        model = self.model()
-        properties = self.chosen(model)
+        design = self.design()
+        properties = self.chosen(design)
         teller = Teller(self.into, [str(it) for it in properties])
-        teller.say(f"reading    {self.design} {', '.join([model.notes[0], counted(len(model.properties)), *model.notes[1:]])}")
-        tools = self.tools.told(self.runner, bool(model.steps))
-        results = Results(self.design, self.sources, program, tools, model, [Outcome(it) for it in model.properties])
+        for line in head_lines(self.name, design):
+            teller.say(line)
+        tools = self.tools.told(self.runner, bool(design.steps))
+        outcomes = {it.key: Outcome(it) for it in design.properties}
+        results = Results(self.name, self.sources, program, tools, design, outcomes, self.frames)
         self.work(results, properties, teller)
         if self.words.json:
-            sys.stdout.write(results.as_json())
-        outcomes = [results.outcomes[it.number] for it in properties]
-        teller.say(summary(outcomes, str(self.folder.path)))
-        return self.status_of(outcomes)
+            sys.stdout.write(as_json(results))
+        told = [found(it, results) for it in properties]
+        teller.say(summary(told, results, self.is_whole(), str(self.folder.path)))
+        return self.status_of(told, results)
+
+    def is_whole(self) -> bool:
+        """Whether all of the design is asked about."""
+        return not self.words.property
 
     def note(self, line: str) -> None:
         """Tells something beside the results."""
         print(f"hwtool-flow: {line}", file=sys.stderr, flush=True)
 
-    def model(self) -> Model:
-        """The model of the design. From here on nothing is read of it but what this holds."""
-        words = self.words
-        wanted = Wanted(words.design, words.top, words.yosys, words.clocked_resets, words.zero_undefined)
+    def design(self) -> Design:
+        """The design. From here on nothing is read of it but what this holds."""
         with place_of_work(self.runner.stopping.is_set, self.note) as place, self.runner.at_once():
             work = place.path / "reading"
             work.mkdir()
-            model = Reader(wanted, self.program.within(place.path), self.runner, work).model().taken()
+            program = self.program.within(place.path)
+            design = Reader(wanted_of(self.words), program, self.runner, work, self.frames, self.note).design().taken()
         for it in self.sources:
             if not it.is_as_it_was():
                 raise Broke(f"{it.path}: was changed while it was read")
-        return model
+        return design
 
-    def adopted(self, model: Model) -> Dict[int, Dict[str, Any]]:
-        """What an earlier run told of each property of the same model; of another one all that was made is removed."""
-        keys = [it.key for it in model.properties]
-        self.folder.claim([RESULTS, CHECK, REPORT, model.name, *keys, *(f"{key}/{name}" for key in keys for name in FILES)])
-        told = told_before(self.folder, model)
+    def adopted(self, design: Design) -> Dict[str, Dict[str, Any]]:
+        """What an earlier run told of each property of the same texts; of others all that was made is removed."""
+        keys, texts = [it.key for it in design.properties], [it.name for it in design.texts]
+        self.folder.claim([RESULTS, CHECK, REPORT, *texts, *keys, *(f"{key}/{name}" for key in keys for name in FILES)])
+        told = told_before(self.folder, design)
         if told is None:
             self.folder.clear()
-        self.folder.write(model.held, for_good=True)
+        for it in design.texts:
+            self.folder.write(it.held, for_good=True)
         return told or {}
 
-    def chosen(self, model: Model) -> List[Property]:
+    def chosen(self, design: Design) -> List[Property]:
         """The properties that the words name, or all."""
         if not self.words.property:
-            return model.properties
+            return design.properties
         for word in self.words.property:
-            if not any(it.is_named(word) for it in model.properties):
-                raise WordsRefused(f"no property {word}; there are {', '.join(map(str, model.properties))}")
-        return [it for it in model.properties if any(it.is_named(word) for word in self.words.property)]
+            if not any(it.is_named(word) for it in design.properties):
+                raise WordsRefused(f"no property {word}; there are {', '.join(map(str, design.properties))}")
+        return [it for it in design.properties if any(it.is_named(word) for word in self.words.property)]
+
+    def provers(self, design: Design) -> Dict[Role, Prover]:
+        """What works on the properties of each text."""
+        tools, words, found = self.tools, self.words, {}
+        for it in design.texts:
+            depth = max(words.depth, self.frames + design.ahead) if it.role is Role.FRAMES else words.depth + design.ahead
+            found[it.role] = Prover(
+                it, self.folder, self.program, self.runner, tools.engines, tools.solver, depth, words.timeout, design.clock
+            )
+        return found
 
     def work(self, results: Results, properties: List[Property], teller: Teller) -> None:
         """Confirms again what an earlier run found, works on the others, so many side by side, and keeps what came of it."""
-        tools, words = self.tools, self.words
-        told = self.adopted(results.model)
-        prover = Prover(results.model, self.folder, self.program, self.runner, tools.engines, tools.solver, words.depth, words.timeout)
+        told = self.adopted(results.design)
+        asker = Asker(results.design, self.provers(results.design), results.outcomes)
         # until the checks have answered, results.json stays as it is
-        self.confirm_again(prover, results, told)
+        self.confirm_again(asker, results, told)
         try:
             self.keep(results)
-            self.prove(prover, results, properties, teller)
+            self.prove(asker, results, properties, teller)
         finally:
             teller.clear()
             self.settle(results)
@@ -187,51 +223,58 @@ class Run:
                 self.runner.stopping.set()
                 raise
 
-    def confirm_again(self, prover: Prover, results: Results, told: Dict[int, Dict[str, Any]]) -> None:
+    def confirm_again(self, asker: Asker, results: Results, told: Dict[str, Dict[str, Any]]) -> None:
         """Asks the checks about all that an earlier run found."""
-        known = [it for it in results.model.properties if it.number in told]
+        known = [it for text in results.design.texts for it in text.properties if it.key in told]
         with self.workers() as pool:
-            for outcome in pool.map(lambda it: prover.confirm_again(it, told[it.number]), known):
+            for outcome in pool.map(lambda it: asker.provers[it.role].confirm_again(it, told[it.key]), known):
                 if outcome:
-                    results.outcomes[outcome.property.number] = outcome
+                    results.outcomes[outcome.property.key] = outcome
 
-    def prove(self, prover: Prover, results: Results, properties: List[Property], teller: Teller) -> None:
-        """Works on the properties that are open, and keeps and tells what comes of them."""
-        is_open = {it.number for it in properties if results.outcomes[it.number].verdict is Verdict.OPEN}
-        for it in properties:
-            if it.number not in is_open:
-                teller.done(results.outcomes[it.number])
-
-        def proved(it: Property) -> Outcome:
-            """What comes of a property, which is noted also where all is to stop."""
-            results.outcomes[it.number] = prover.prove(it)
-            return results.outcomes[it.number]
-
+    def prove(self, asker: Asker, results: Results, properties: List[Property], teller: Teller) -> None:
+        """Asks about the assumptions first, and about properties, and keeps and tells what comes of them."""
         with self.workers() as pool:
-            waiting = {pool.submit(proved, it) for it in properties if it.number in is_open}
+            first = pool.submit(self.assumptions_asked, asker, results, teller)
+            waiting = {first, *(pool.submit(self.property_asked, it, asker, results, teller) for it in properties)}
+            later: List[Callable[[], None]] = []
             while waiting:
                 done, waiting = concurrent.futures.wait(waiting, REDRAWN, concurrent.futures.FIRST_COMPLETED)
-                for outcome in [it.result() for it in done]:
-                    teller.done(outcome)
+                # what a property comes to is told behind what the assumptions do
+                later = [it.result() for it in done if it is first] + later + [it.result() for it in done if it is not first]
+                if first not in waiting:
+                    for tell in later:
+                        tell()
+                    later = []
                 if done:
                     self.keep(results)
                 self.tell_notes(teller)
-                teller.show(prover.shown(), len(waiting))
+                teller.show(asker.shown(), len(waiting))
+
+    def assumptions_asked(self, asker: Asker, results: Results, teller: Teller) -> Callable[[], None]:
+        """Asks about the assumptions; what tells of it."""
+        asker.assumptions(self.frames)
+        known = known_of(results)
+        return lambda: teller.assumed(known) if known else None
+
+    def property_asked(self, it: Property, asker: Asker, results: Results, teller: Teller) -> Callable[[], None]:
+        """Asks about a property; what tells of it."""
+        asker.property(it)
+        return lambda: teller.done(found(it, results), results.design)
 
     def keep(self, results: Results) -> None:
         """Writes what came of all properties so far."""
-        self.folder.write(written(RESULTS, results.as_json()))
+        self.folder.write(written(RESULTS, as_json(results)))
         self.folder.write(written(CHECK, script(results, self.folder.path)), executable=True)
 
     def settle(self, results: Results) -> None:
         """Once nothing else runs: has what is kept be what was judged, and withdraws a verdict of which that cannot be had."""
         self.runner.end_strays()
         lost = self.folder.settle()
-        for it in list(results.outcomes):
+        for it in list(results.outcomes.values()):
             spoilt = [name for name in lost if name in it.files]
             if spoilt:
                 broke = f"{spoilt[0]}: another process spoilt what was judged"
-                results.outcomes[it.property.number] = Outcome(it.property, tries=it.tries, broke=broke)
+                results.outcomes[it.property.key] = Outcome(it.property, tries=it.tries, broke=broke)
         self.keep(results)
         for it in [*self.sources, *self.parts]:
             if not it.is_as_it_was():
@@ -245,10 +288,13 @@ class Run:
             teller.clear()
             self.note(self.folder.notes.pop(0))
 
-    def status_of(self, outcomes: List[Outcome]) -> Status:
+    def status_of(self, told: List[Finding], results: Results) -> Status:
         """The exit status."""
-        if count_of(outcomes, Verdict.FAILS):
+        if count_of(told, Verdict.FAILS):
             return Status.ONE_FAILS
-        if not count_of(outcomes, Verdict.OPEN):
-            return Status.ALL_HOLD
-        return Status.BROKE if self.tools.missing or any(it.broke for it in outcomes) else Status.SOME_OPEN
+        if count_of(told, Verdict.OPEN) and (self.tools.missing or any(it.outcome.broke for it in told)):
+            return Status.BROKE
+        known = known_of(results)
+        left = count_of(told, Verdict.VACUOUS, Verdict.NEVER) or not all(it.is_settled for it in told)
+        apart = self.is_whole() and results.design.not_judged
+        return Status.SOME_OPEN if left or apart or known and not known.is_settled else Status.ALL_HOLD

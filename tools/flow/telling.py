@@ -1,9 +1,11 @@
 """The lines on the terminal: one for each property that is done, and, on a terminal, one for each that runs."""
-from typing import List, TextIO
+from typing import List, Optional, TextIO
 
-from .model import Property, Verdict
+from .findings import Assumed, Finding, count_of
+from .model import Design, Property, Verdict, counted
 from .proving import Running
-from .results import Outcome, count_of
+from .results import Outcome, Results
+from .summary import known_of
 
 WIDEST_NAME = 40
 # How many running properties are shown at once.
@@ -22,13 +24,18 @@ class Teller:
         self.clear()
         print(line, file=self.into, flush=True)
 
-    def done(self, it: Outcome) -> None:
+    def done(self, it: Finding, design: Design) -> None:
         """Writes what came of a property, and what was claimed of it in vain."""
-        said = {Verdict.HOLDS: "holds", Verdict.FAILS: f"fails in frame {it.frame}", Verdict.OPEN: "open"}[it.verdict]
         checked = "-" if it.verdict is Verdict.OPEN else "checked"
-        self.say(f"{self.padded(it.property)}   {said:18}  {checked:8}  {it.engine or '-':9}  {it.seconds:.1f} s")
-        for line in in_vain(it):
+        marks = "".join(f" [{place}]" for place in range(1, len(design.meaning) + 1))
+        seconds = it.outcome.seconds
+        self.say(f"{self.padded(it.property)}   {it.words:18}  {checked:8}  {it.outcome.engine or '-':9}  {seconds:.1f} s{marks}")
+        for line in beside(it, design):
             self.say(f"    {line}")
+
+    def assumed(self, known: Assumed) -> None:
+        """Writes what is known of the assumptions."""
+        self.say(f"assumed    {known}{', checked' if known.is_settled else ''}")
 
     def padded(self, it: Property) -> str:
         """A property, with blanks behind it."""
@@ -70,14 +77,38 @@ def in_vain(it: Outcome) -> List[str]:
     return [*lines, *filter(None, [it.broke])]
 
 
-def counted(count: int) -> str:
-    """So many properties."""
-    return f"{count} property" if count == 1 else f"{count} properties"
+def beside(it: Finding, design: Design) -> List[str]:
+    """What is to be said beside a verdict, other than what is said of each."""
+    own = [*filter(None, [it.why, it.property.note])]
+    return [*own, *in_vain(it.outcome), *([design.hint] if design.hint and it.verdict is Verdict.OPEN else [])]
 
 
-def summary(outcomes: List[Outcome], folder: str) -> str:
+def head_lines(name: str, design: Design) -> List[str]:
+    """What is told of a design before any verdict."""
+    covers = len(design.covers.properties) if design.covers else 0
+    asked = len(design.model.properties)
+    count = f"{counted(asked, 'assertion')}, {counted(covers, 'cover')}" if covers else counted(asked, "property", "properties")
+    lines = [f"reading    {name} {', '.join([design.notes[0], count, *design.notes[1:]])}"]
+    lines += [f"assuming   {it.name}" + (f" ({it.place})" if it.place else "") for it in design.assumptions]
+    lines += [f"left out   {', '.join(design.left_out)}: not below the top"] if design.left_out else []
+    lines += [f"not judged {it}: {it.why}" for it in design.not_judged]
+    lines += [f"warning    {it}" for it in design.warnings]
+    return lines + [f"note [{place + 1}]   {it}" for place, it in enumerate(design.meaning)]
+
+
+def summary(told: List[Finding], results: Results, is_whole: bool, folder: str) -> str:
     """The last line."""
-    holds, fails, left = (count_of(outcomes, it) for it in (Verdict.HOLDS, Verdict.FAILS, Verdict.OPEN))
-    checked = "all checked" if not left else "all others checked" if holds + fails else "nothing checked"
-    counts = f"{holds} hold{'s' * (holds == 1)}, {fails} fail{'s' * (fails == 1)}, {left} open"
-    return f"{counted(len(outcomes))}: {counts}; {checked}; results in {folder}/"
+    holds, fails, left = (count_of(told, it) for it in (Verdict.HOLDS, Verdict.FAILS, Verdict.OPEN))
+    others = [(it, count_of(told, it)) for it in (Verdict.VACUOUS, Verdict.REACHED, Verdict.NEVER)]
+    apart = len(results.design.not_judged) if is_whole else 0
+    counts = [f"{holds} hold{'s' * (holds == 1)}", f"{fails} fail{'s' * (fails == 1)}", f"{left} open"]
+    counts += [f"{count} {it.value}" for it, count in others if count] + ([f"{apart} not judged"] if apart else [])
+    all_said = all(it.is_settled for it in told) and not apart and is_settled(known_of(results))
+    whole = f"all checked that {results.design.own_steps} wrote" if results.design.own_steps else "all checked"
+    checked = whole if all_said else "all others checked" if len(told) > left else "nothing checked"
+    return f"{counted(len(told), 'property', 'properties')}: {', '.join(counts)}; {checked}; results in {folder}/"
+
+
+def is_settled(known: Optional[Assumed]) -> bool:
+    """Whether nothing about the assumptions is open."""
+    return known is None or known.is_settled

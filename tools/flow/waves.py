@@ -1,11 +1,14 @@
 """The frames of a witness, signal by signal: as `hwtool wave` dumps them of a model, or as the witness of a circuit has them."""
 import enum
 import re
-from dataclasses import dataclass, field
+from dataclasses import dataclass, field, replace
 from pathlib import Path
-from typing import Dict, List, Sequence
+from typing import Dict, List, Sequence, Tuple
 
 from .model import Property
+
+# The name of a bit of a word that was taken apart.
+BIT = re.compile(r"(.+)\[(\d+)\]")
 
 
 class Scope(enum.Enum):
@@ -27,6 +30,8 @@ class Signal:
     name: str
     width: int
     words: List[str] = field(default_factory=list)
+    # where it is a word of bits that stand alone in the dump, these from the highest on
+    bits: List["Signal"] = field(default_factory=list)
 
     @property
     def label(self) -> str:
@@ -93,6 +98,7 @@ def read_bits(path: Path, inputs: Sequence[str], of: Property, rises: int) -> Li
 
 def shown(signals: Sequence[Signal], of: Property, clock: str) -> List[Signal]:
     """What is shown of a failing property: the assumptions, itself, and what has a name; not the clock, of which each frame is an edge."""
+    signals = joined(signals)
     ones = [it for it in signals if it.scope is Scope.PROPERTY]
     own = ones[of.number] if len(ones) > of.number else ones[0]
     order = list(Scope)
@@ -101,9 +107,47 @@ def shown(signals: Sequence[Signal], of: Property, clock: str) -> List[Signal]:
     return [*front, own, *sorted(rest, key=lambda it: order.index(it.scope))]
 
 
+def in_own_frame(signals: Sequence[Signal], ahead: int) -> List[Signal]:
+    """Signals, in which what is asked and assumed of a frame stands there, and not so many frames later as the model looks at it."""
+    if not ahead:
+        return list(signals)
+    later = (Scope.PROPERTY, Scope.ASSUMPTION)
+    return [replace(it, words=it.words[ahead:] if it.scope in later else it.words[:-ahead]) for it in signals]
+
+
+def joined(signals: Sequence[Signal]) -> List[Signal]:
+    """Signals, in which bits of one name, `word[0]` and on, are one word."""
+    found: Dict[Tuple[Scope, str], Dict[int, Signal]] = {}
+    for it in signals:
+        bit = BIT.fullmatch(it.name)
+        if bit and it.width == 1 and it.scope is not Scope.PROPERTY:
+            found.setdefault((it.scope, bit[1]), {})[int(bit[2])] = it
+    words = {key: bits for key, bits in found.items() if len(bits) > 1 and sorted(bits) == list(range(len(bits)))}
+    made: List[Signal] = []
+    for it in signals:
+        bit = BIT.fullmatch(it.name)
+        bits = words.get((it.scope, bit[1])) if bit and it.width == 1 else None
+        if bits is None:
+            made.append(it)
+        elif bits and not any(one.bits and one.bits[-1] is bits[0] for one in made):
+            made.append(word_of(bit[1], [bits[place] for place in reversed(range(len(bits)))]))
+    return made
+
+
+def word_of(name: str, bits: List[Signal]) -> Signal:
+    """The word of some bits, from the highest on."""
+    words = ["".join(digits) for digits in zip(*(it.words for it in bits))]
+    return Signal(bits[0].scope, name, len(bits), words, bits)
+
+
 def saved_file(dump: str, signals: Sequence[Signal]) -> str:
     """What GTKWave saves of a view: the signals that are shown, bits in binary and words in hexadecimal."""
     lines = [f'[dumpfile] "{dump}"', "[timestart] 0", "*-1.500000 0 -1 -1"]
     for it in signals:
-        lines += ["@28" if it.width == 1 else "@22", it.in_gtkwave]
+        lines += ["@28" if it.width == 1 else "@22", it.in_gtkwave if not it.bits else bits_in_gtkwave(it)]
     return "\n".join(lines) + "\n"
+
+
+def bits_in_gtkwave(it: Signal) -> str:
+    """A word of bits that stand alone, as GTKWave's saved files have it."""
+    return " ".join([f"#{{{it.scope.value}.{it.name}[{it.width - 1}:0]}}", *(one.in_gtkwave for one in it.bits)])

@@ -1,0 +1,1 @@
+always @* a_low: assert (!q);
