@@ -28,7 +28,7 @@ extern "C" {
 #endif
 
 /* The version of the library that this header goes with. */
-#define HWTOOL_VERSION "0.4.4"
+#define HWTOOL_VERSION "0.5.0"
 
 /* The statuses. */
 enum {

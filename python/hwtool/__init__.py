@@ -46,7 +46,7 @@ from ._calls import (
 )
 from ._refusals import Case, Refused, explain, name
 
-__version__ = "0.4.4"
+__version__ = "0.5.0"
 
 # so is it told where nobody catches it
 Refused.__module__ = __name__
