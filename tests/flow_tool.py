@@ -51,6 +51,10 @@ def main() -> None:
         words.error(f"--only is one of {', '.join(groups)}")
     with tempfile.TemporaryDirectory() as folder:
         os.environ[MARK] = os.path.realpath(folder)
+        # what runs leave that are killed is removed with the rest
+        os.environ["TMPDIR"] = os.path.join(os.path.realpath(folder), "tmp")
+        os.mkdir(os.environ["TMPDIR"])
+        os.chmod(os.environ["TMPDIR"], 0o1777)
         place = Place(os.path.realpath(folder), os.path.abspath(words.program))
         for name, group in groups.items():
             if words.only in (None, name):
