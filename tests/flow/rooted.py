@@ -93,7 +93,7 @@ def try_rooted(place):
     words = json.dumps([["-o", it, *engine] for it in folders])
     enter = ["unshare", "--user", "--map-root-user", "--mount", "--pid", "--fork", "--propagation", "private", "sh", "-c", ENTER, "sh"]
     process = stranger.as_user([*enter, root, words])
-    out, err = process.communicate(timeout=120)
+    out, err = process.communicate(timeout=600)
     if process.returncode != 0:
         print(f"left out: root in a root directory of its own, since it cannot be had here: {err.strip().splitlines()[-1:]}")
         return

@@ -1,6 +1,7 @@
 """Files that another process may try to spoil: bytes that nobody can change, plain files that are opened without following or waiting,
 folders of work with names that nobody can guess, and their removal, whatever is left in them."""
 import contextlib
+import copy
 import errno
 import fcntl
 import hashlib
@@ -153,8 +154,9 @@ class Held:
 
     def named(self, name: str) -> "Held":
         """The same bytes under another name."""
-        with self.opened() as file:
-            return Held.of_file(name, file)
+        found = copy.copy(self)
+        found.name = name
+        return found
 
 
 def allow(at: int, name: str) -> None:
