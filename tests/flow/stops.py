@@ -75,7 +75,7 @@ def try_held(place):
         return process
 
     words = shlex.join(place.words("queue.v", "-o", "job.flow"))
-    job = subprocess.run(["sh", "-c", f"sleep 3641 >/dev/null & exec {words} >&2"], cwd=place.folder, capture_output=True, check=False)
+    job = subprocess.run(["sh", "-c", f"sleep 3641 >/dev/null 2>&1 & exec {words}"], cwd=place.folder, capture_output=True, check=False)
     mine = left_over(place, "sleep\x003641")
     tally.same("a job of the shell that it was started from", (ALL_HOLD, 1), (job.returncode, len(mine)))
     for it in mine:
