@@ -1,4 +1,4 @@
 use Rattle.vcd.proofs.waver.Waver.finish.Goals as goal
 
 pub returns : goal.returns
-returns c = c.finish.ensures.judged
+returns c = rw (← c.self.view_is) c.finish.ensures.judged
