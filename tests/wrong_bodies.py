@@ -51,6 +51,7 @@ BLOCK = re.compile(r"^(?:pub )?(impl|trait)\b([^{;]*)\{", re.M)
 # What the prover says of a goal that stays open, of a written answer that does not fit, and of a text that it cannot read.
 OPEN = re.compile(r"^note: \S+: it is not proved that (.*?)(?:;.*)?$", re.M)
 UNFIT = re.compile(r"^(?:\./)?(proofs/\S+): error: (.*)$", re.M)
+REFUSED_TEXT = re.compile(r"(?:\./)?src/\S+: error")
 UNREAD = re.compile(r"^(?:\./)?(?:src|specs)/\S+: error: (?!`).*$", re.M)
 
 
@@ -173,7 +174,7 @@ def judge_otherwise(edit, running):
     by, words = edit.refused_by
     texts, functions = edit.texts()
     said = told_of_sources(edit, texts) if by == "sources" else checks(edit, texts, functions or [("",)], running)[2]
-    told = said.splitlines() if by == "sources" else [it[0] for it in UNREAD.finditer(said)]
+    told = said.splitlines() if by == "sources" else [it for it in said.splitlines() if REFUSED_TEXT.match(it)]
     found = next((it for it in told if words in it), None)
     return (by, "", found) if found else ("PROVED", "", f"nothing says {words}: {said.rpartition(chr(10))[2]}")
 
