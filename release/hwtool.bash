@@ -1,4 +1,4 @@
-# Completions of hwtool for bash, made from its table of commands.
+# Completions of hwtool for bash, made from what it says of its words.
 _hwtool() {
     local word=${COMP_WORDS[COMP_CWORD]} before=${COMP_WORDS[COMP_CWORD - 1]} words=
     COMPREPLY=()
@@ -11,11 +11,11 @@ _hwtool() {
     esac
     case ${COMP_WORDS[1]} in
         lower) words='--quiet --output --ascii --binary --engine --bad --help' ;;
-        check-btor) words='--quiet --names --help' ;;
+        check-btor) words='--quiet --names --bad --help' ;;
         show) words='--quiet --output --help' ;;
         cost) words='--quiet --help' ;;
         aig-convert) words='--quiet --output --ascii --binary --outputs --engine --bad --help' ;;
-        check-aig) words='--quiet --names --help' ;;
+        check-aig) words='--quiet --names --bad --help' ;;
         lift) words='--quiet --output --names --engine --abc --bad --help' ;;
         restore) words='--quiet --output --abc --bad --help' ;;
         wave) words='--quiet --output --all --help' ;;

@@ -1,4 +1,4 @@
-# Completions of hwtool for fish, made from its table of commands.
+# Completions of hwtool for fish, made from what it says of its words.
 complete -c hwtool -n __fish_use_subcommand -f -a lower -d 'Lower a BTOR2 model to an AIGER circuit on standard output'
 complete -c hwtool -n '__fish_seen_subcommand_from lower' -l quiet -d 'Do not tell on a terminal how far work is that takes more than two seconds'
 complete -c hwtool -n '__fish_seen_subcommand_from lower' -l output -s o -r -F -d 'Write to this file, or to what it leads to as a link, which is made or replaced only when all is written; a run that is killed may leave FILE.PROCESS.part beside it, which may be removed; - is standard output'
@@ -10,6 +10,7 @@ complete -c hwtool -n '__fish_seen_subcommand_from lower' -l help -s h -d 'Print
 complete -c hwtool -n __fish_use_subcommand -f -a check-btor -d 'Judge a BTOR2 witness over a model'
 complete -c hwtool -n '__fish_seen_subcommand_from check-btor' -l quiet -d 'Do not tell on a terminal how far work is that takes more than two seconds'
 complete -c hwtool -n '__fish_seen_subcommand_from check-btor' -l names -d 'Say on standard error which line of the model the judgement is about, by its symbol and its id; of an accepted witness, in which frame each claim is reached first'
+complete -c hwtool -n '__fish_seen_subcommand_from check-btor' -l bad -x -d 'Accept only a witness that claims the bad property at this position, from 0, or of this symbol'
 complete -c hwtool -n '__fish_seen_subcommand_from check-btor' -l help -s h -d 'Print help'
 complete -c hwtool -n __fish_use_subcommand -f -a show -d 'Write a BTOR2 model in the one spelling that this program gives'
 complete -c hwtool -n '__fish_seen_subcommand_from show' -l quiet -d 'Do not tell on a terminal how far work is that takes more than two seconds'
@@ -30,6 +31,7 @@ complete -c hwtool -n '__fish_seen_subcommand_from aig-convert' -l help -s h -d 
 complete -c hwtool -n __fish_use_subcommand -f -a check-aig -d 'Judge an AIGER witness over a circuit'
 complete -c hwtool -n '__fish_seen_subcommand_from check-aig' -l quiet -d 'Do not tell on a terminal how far work is that takes more than two seconds'
 complete -c hwtool -n '__fish_seen_subcommand_from check-aig' -l names -d 'Say on standard error which name the judgement is about; of an accepted witness, in which frame each claim is reached first'
+complete -c hwtool -n '__fish_seen_subcommand_from check-aig' -l bad -x -d 'Accept only a witness that claims the bad property at this position, from 0, or of this name'
 complete -c hwtool -n '__fish_seen_subcommand_from check-aig' -l help -s h -d 'Print help'
 complete -c hwtool -n __fish_use_subcommand -f -a lift -d 'Lift an AIGER witness of a model'\''s circuit to a BTOR2 witness on standard output'
 complete -c hwtool -n '__fish_seen_subcommand_from lift' -l quiet -d 'Do not tell on a terminal how far work is that takes more than two seconds'

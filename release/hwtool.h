@@ -5,14 +5,16 @@
  *   - no pointer is null, also that of an empty text or buffer; a text or buffer of n bytes is n bytes that can be read or
  *     written, and n is below 2^63;
  *   - a `bool` is 0 or 1;
- *   - what a call writes (buffer, needed, verdict, refusal, gates, variables) overlaps neither what it reads nor each other;
+ *   - what a call writes (buffer, claims, needed, verdict, refusal, gates, variables) overlaps neither what it reads nor each
+ *     other;
  *   - a stack of 256 KB at least;
  *   - `malloc`, `realloc` and `free` are those of one allocator, and no call is made from a signal handler or from the forked
  *     child of a process with threads. Calls of several threads are free of each other.
  *
  * Every call answers a status. A call that answers a text puts it at the front of the caller's buffer and tells its length in
  * `needed`; the bytes of the buffer behind it stay as they were. Where the buffer is too small all of it stays, and `needed` is
- * told, so a call with a buffer of one byte asks for the length, as `snprintf` does. With any other status both stay.
+ * told, so a call with a buffer of one byte asks for the length, as `snprintf` does. With any other status both stay. A list of
+ * claims goes into an array of the caller's in the same way, and `needed` and lengths count claims then.
  */
 #ifndef HWTOOL_H
 #define HWTOOL_H
@@ -26,7 +28,7 @@ extern "C" {
 #endif
 
 /* The version of the library that this header goes with. */
-#define HWTOOL_VERSION "0.4.4"
+#define HWTOOL_VERSION "0.5.0"
 
 /* The statuses. */
 enum {
@@ -47,7 +49,8 @@ enum {
     HWTOOL_MALFORMED = 4,     /* line `first`, from 1, is faulty; `why` is the number of why */
     HWTOOL_NO_CLAIM = 5,      /* the witness claims nothing */
     HWTOOL_NOT_IMPLIED = 6,   /* the step of a proof that ends in line `first` is not implied */
-    HWTOOL_NOT_DERIVED = 7    /* a proof ends before anything is shown */
+    HWTOOL_NOT_DERIVED = 7,   /* a proof ends before anything is shown */
+    HWTOOL_NOT_CLAIMED = 8    /* the witness is accepted, and does not claim the chosen bad property, at position `first` */
 };
 
 /* What is said of a witness or of a proof. Fields that the kind does not name are 0. */
@@ -56,6 +59,12 @@ struct hwtool_verdict {
     uint32_t why;
     uint64_t first;
     uint64_t second;
+};
+
+/* A claim of an accepted witness: the position of the bad property, and the first frame in which it is reached, both from 0. */
+struct hwtool_claim {
+    uint64_t bad;
+    uint64_t frame;
 };
 
 /* Why a text or its model is refused: the number of the refusal, and its place: the line of a model's or an invariant's text,
@@ -73,6 +82,20 @@ uint32_t hwtool_check_btor(const uint8_t *model, size_t model_length, const uint
 /* Judges a witness of an AIGER circuit of either form. Answers DONE with `verdict`, TEXT_REFUSED, NO_MEMORY. */
 uint32_t hwtool_check_aig(const uint8_t *circuit, size_t circuit_length, const uint8_t *witness, size_t witness_length,
                           struct hwtool_verdict *verdict, struct hwtool_refusal *refusal);
+
+/* Judges a witness of a BTOR2 model, and tells the claims of one that is accepted, in file order of the bad properties. Where
+ * `chosen`, only a witness that claims the bad property at position `bad` is accepted. Answers DONE and TOO_SMALL with `verdict`
+ * and `needed`, which is 0 without an acceptance, TEXT_REFUSED, MODEL_REFUSED (there is no such bad property, or a state has an
+ * init and no next), NO_MEMORY. What hwtool_lift and hwtool_lift_engine write, and what hwtool_wave dumps, are such witnesses. */
+uint32_t hwtool_check_btor_claims(const uint8_t *model, size_t model_length, bool chosen, size_t bad, const uint8_t *witness,
+                                  size_t witness_length, struct hwtool_verdict *verdict, struct hwtool_claim *claims,
+                                  size_t claims_length, size_t *needed, struct hwtool_refusal *refusal);
+
+/* The same of an AIGER circuit of either form. It is also MODEL_REFUSED where the circuit has outputs and no bad property, of which
+ * hwtool_check_aig judges each claim as malformed. What hwtool_restore writes is such a witness. */
+uint32_t hwtool_check_aig_claims(const uint8_t *circuit, size_t circuit_length, bool chosen, size_t bad, const uint8_t *witness,
+                                 size_t witness_length, struct hwtool_verdict *verdict, struct hwtool_claim *claims,
+                                 size_t claims_length, size_t *needed, struct hwtool_refusal *refusal);
 
 /* Lowers a BTOR2 model to an AIGER circuit, binary or ascii. Answers DONE and TOO_SMALL with `needed`, TEXT_REFUSED,
  * MODEL_REFUSED, NO_MEMORY. */
@@ -93,8 +116,8 @@ uint32_t hwtool_convert(const uint8_t *circuit, size_t circuit_length, bool bina
 uint32_t hwtool_engine_form(const uint8_t *circuit, size_t circuit_length, bool chosen, size_t bad, bool binary,
                             uint8_t *buffer, size_t buffer_length, size_t *needed, struct hwtool_refusal *refusal);
 
-/* Judges a witness of the circuit that a BTOR2 model lowers to, and lifts it to the model's. Answers DONE and TOO_SMALL with
- * `verdict` and `needed`, TEXT_REFUSED, MODEL_REFUSED, NO_MEMORY. */
+/* Judges a witness of the circuit that a BTOR2 model lowers to, and lifts it to the model's. Of a model without bad properties each
+ * claim is malformed. Answers DONE and TOO_SMALL with `verdict` and `needed`, TEXT_REFUSED, MODEL_REFUSED, NO_MEMORY. */
 uint32_t hwtool_lift(const uint8_t *model, size_t model_length, const uint8_t *witness, size_t witness_length,
                      struct hwtool_verdict *verdict, uint8_t *buffer, size_t buffer_length, size_t *needed,
                      struct hwtool_refusal *refusal);
