@@ -822,7 +822,7 @@ CASES: Dict[int, Tuple[Tuple[str, str, str, str], ...]] = {
         (
             'Engine forms',
             'NoSuchBad',
-            'there is no bad property at the chosen position',
+            'there is no bad property at the chosen position, or of the name',
             "count bad properties from 0; the last line of `hwtool show` counts a model's, B in the header a circuit's",
         ),
     ),
@@ -847,7 +847,7 @@ CASES: Dict[int, Tuple[Tuple[str, str, str, str], ...]] = {
             'Engine forms',
             'NoBad',
             'there is no bad property',
-            'circuits from before AIGER 1.9 or from ABC have outputs as properties: `aig-convert --outputs` makes each a bad one; of an empty or cut file, see whether its writer failed',
+            'circuits from before AIGER 1.9 or from ABC have outputs as properties: `aig-convert --outputs` makes each a bad one; in a model write a `bad` line; of an empty or cut file, see whether its writer failed',
         ),
     ),
     150: (
@@ -926,8 +926,8 @@ CASES: Dict[int, Tuple[Tuple[str, str, str, str], ...]] = {
         (
             'Formulas and proofs',
             'BadVariable',
-            "a literal's variable is none of the formula's",
-            'take the proof of this formula',
+            "a literal's variable is none of the formula's: another formula's, or one that the solver made",
+            'take the proof of this formula; let the solver make no variables: `--no-factor` in Kissat, and in CaDiCaL where it has that option, `--bva 0` in CryptoMiniSat; no extended resolution',
         ),
     ),
     163: (
