@@ -65,13 +65,16 @@ def head(name, count, other):
     return f"| {' | '.join(cells)} |\n|{'---|' * len(cells)}"
 
 
-def row(name, count, other, arguments, status=0):
-    """The row of a table: the least time and the greatest memory of each program, in turns, with these arguments and status."""
+def row(name, count, other, arguments, status=0, others=None):
+    """The row of a table: the least time and the greatest memory of each program, in turns, with these arguments and status.
+
+    `others` are the arguments of the other program, where it takes others.
+    """
     best, taken, rounds = {}, 0, 0
     while rounds < ROUNDS or taken < ENOUGH:
         rounds += 1
-        for program in [ours()] + ([other] if other else []):
-            seconds, memory = measure([program, *arguments], status)
+        for program, given in [(ours(), arguments)] + ([(other, others or arguments)] if other else []):
+            seconds, memory = measure([program, *given], status)
             taken += seconds
             least, most = best.get(program, (seconds, memory))
             best[program] = (min(least, seconds), max(most, memory))

@@ -1,5 +1,6 @@
 /* The library of hwtool for C programs: judgements of witnesses, lowering, lifting, restoring, dumps and certificates, over
- * whole texts in memory. What each call answers is proved (docs/PROVED.md, "capi").
+ * whole texts in memory. What each call answers is proved (docs/PROVED.md, "capi"), but that 4 comes only where memory was
+ * wanting: that is tested.
  *
  * What the caller owes, which nothing checks:
  *   - no pointer is null, also that of an empty text or buffer; a text or buffer of n bytes is n bytes that can be read or
@@ -28,7 +29,7 @@ extern "C" {
 #endif
 
 /* The version of the library that this header goes with. */
-#define HWTOOL_VERSION "0.5.0"
+#define HWTOOL_VERSION "0.6.0"
 
 /* The statuses. */
 enum {

@@ -3,7 +3,7 @@ _hwtool() {
     local word=${COMP_WORDS[COMP_CWORD]} before=${COMP_WORDS[COMP_CWORD - 1]} words=
     COMPREPLY=()
     if [ "$COMP_CWORD" = 1 ]; then
-        mapfile -t COMPREPLY < <(compgen -W 'lower check-btor show cost aig-convert check-aig lift restore wave obligation check-proof tidy-witness vectors explain help --help --version' -- "$word")
+        mapfile -t COMPREPLY < <(compgen -W 'lower check-btor show cost aig-convert check-aig lift restore wave obligation check-proof tidy-witness vectors judge explain help --help --version' -- "$word")
         return
     fi
     case $before in
@@ -11,18 +11,19 @@ _hwtool() {
     esac
     case ${COMP_WORDS[1]} in
         lower) words='--quiet --output --ascii --binary --engine --bad --help' ;;
-        check-btor) words='--quiet --names --bad --help' ;;
+        check-btor) words='--quiet --names --bad --json --help' ;;
         show) words='--quiet --output --help' ;;
         cost) words='--quiet --help' ;;
         aig-convert) words='--quiet --output --ascii --binary --outputs --engine --bad --help' ;;
-        check-aig) words='--quiet --names --bad --help' ;;
+        check-aig) words='--quiet --names --bad --json --help' ;;
         lift) words='--quiet --output --names --engine --abc --bad --help' ;;
         restore) words='--quiet --output --abc --bad --help' ;;
         wave) words='--quiet --output --all --help' ;;
         obligation) words='--quiet --output --aiger --circuit --engine --bad --help' ;;
-        check-proof) words='--quiet --names --aiger --circuit --engine --bad --help' ;;
+        check-proof) words='--quiet --names --aiger --circuit --engine --bad --json --help' ;;
         tidy-witness) words='--quiet --output --pick --help' ;;
         vectors) words='--quiet --help' ;;
+        judge) words='--json --help' ;;
         explain) words='--help' ;;
     esac
     if [[ $word == -* ]]; then

@@ -216,7 +216,9 @@ def answer(command, flags, bad, names, texts):
         return called(library.hwtool_wave, (*first, every, *of(title), *second), True, 1, circuit, file)
     if "--circuit" in flags:
         with_claims = library.hwtool_check_aig_claims if circuit else library.hwtool_check_btor_claims
-        refused = without_property(with_claims, (*first, ctypes.c_bool(True), position, *second), circuit, file)
+        # the program lowers a model before it looks for the property
+        is_lowered = circuit or called(library.hwtool_lower, (*first, binary), False, 1, circuit, file)[0] == 0
+        refused = without_property(with_claims, (*first, ctypes.c_bool(True), position, *second), circuit, file) if is_lowered else None
         if refused:
             return refused
     if command == "obligation" and "--circuit" in flags:
@@ -252,7 +254,7 @@ def without_names(command, flags, told):
 
 
 def main():
-    program = sys.argv[2]
+    program = os.path.abspath(sys.argv[2])
     tried, wrong, cut = 0, 0, {}
 
     def compare(about, expected, got):

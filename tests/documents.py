@@ -101,14 +101,13 @@ def types():
 @functools.lru_cache(None)
 def commands():
     """The commands of hwtool, each with its options."""
-    text = read(TOP / "crates/command_line/src/command_table.rt")
-    names = dict(re.findall(r'const (\w+): &str = "([\w-]+)"', text))
-    options = {}
-    for word, name, kind, letter in re.findall(r"const (\w+): Word = Word \{\s*name: ([^,]*),\s*kind: Kind::(\w+)(?:\('(\w)')?", text):
-        options[word] = [] if kind == "File" else ["--" + names.get(name, name.strip('"'))] + ["-" + letter] * bool(letter)
+    text = read(TOP / "crates/wordings/specs/Table.antt")
+    words = dict(re.findall(r'^word_of verb\.(\w+) = codes "([\w-]+)"', text, re.M))
     every = {"--help", "-h"}
-    rows = re.findall(r'word: "([\w-]+)",.*?words: &\[(.*?)\]', text, re.S)
-    found = {word: every | {it for name in re.findall(r"\w+", said) for it in options.get(name, [])} for word, said in rows}
+    found = {}
+    for verb, said in re.findall(r"^words_of verb\.(\w+) =(.*?)∷ \[\]", text, re.S | re.M):
+        options = [name for name, kind in re.findall(r'codes "([\w-]+)", kind\.(\w+)', said) if kind != "File"]
+        found[words[verb]] = every | {f"--{it}" for it in options} | ({"-o"} if "output" in options else set())
     return {"help": every, "explain": every, **found}
 
 

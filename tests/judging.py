@@ -19,36 +19,38 @@ from typing import Any, Dict, List, Optional, Sequence
 TOP = Path(__file__).resolve().parent.parent
 TOOL = TOP / "tools/hwtool-judge"
 NEVER = "1 sort bitvec 1\n2 zero 1\n3 state 1 s\n4 init 1 3 2\n5 next 1 3 3\n6 bad 3 never\n7 not 1 3\n8 constraint 3 risen\n"
-# A line of a list, its status, what stands behind its number, and what its object has besides line, words and status.
+# A line of a list, its status, what stands behind its number, and what its object has besides line and status.
 LINES: List[Any] = [
     ("check-btor counter.btor2 counter.witness", 0, "accepted 4 frames",
-     {"verdict": "accepted", "frames": 4, "claims": [{"bad": 0, "frame": 3}]}),
+     {"verdict": "accepted", "frames": 4, "claims": [{"bad": 0, "frame": 3, "id": 10}]}),
     ("  check-aig\ttwice.aag twice.witness ", 0, "accepted 2 frames",
      {"verdict": "accepted", "frames": 2, "claims": [{"bad": 0, "frame": 1, "symbol": "twice"}]}),
-    ("check-btor counter.btor2 counter-short.witness", 1, "not reached: b0", {"verdict": "not reached", "bad": 0}),
-    ("check-btor never.btor2 begins-high.witness", 1, "initial value differs at 0", {"verdict": "initial value differs", "state": 0}),
+    ("check-btor counter.btor2 counter-short.witness", 1, "not reached: b0", {"verdict": "not reached", "bad": 0, "id": 10}),
+    ("check-btor never.btor2 begins-high.witness", 1, "initial value differs at 0",
+     {"verdict": "initial value differs", "state": 0, "id": 3, "symbol": "s"}),
     ("check-btor never.btor2 violates.witness", 1, "violated: frame 0, constraint 0",
-     {"verdict": "violated", "frame": 0, "constraint": 0}),
+     {"verdict": "violated", "frame": 0, "constraint": 0, "id": 8, "symbol": "risen"}),
     ("check-btor counter.btor2 twice.witness", 1, "malformed line 1: 110 BadHeader",
      {"verdict": "malformed", "unit": "line", "place": 1, "number": 110, "name": "BadHeader"}),
     ("check-btor counter.btor2 unknown.witness", 1, "no claim", {"verdict": "no claim"}),
-    ("check-proof wraps.btor2 wraps.invariant wraps.proof", 0, "holds: b0", {"verdict": "holds", "bad": 0}),
-    ("check-proof --aiger --circuit ring.aag ring-witness.aag ring.proof", 0, "holds: b0", {"verdict": "holds", "bad": 0}),
-    ("check-proof guarded.btor2 guarded.invariant nothing", 1, "not derived", {"verdict": "not derived"}),
+    ("check-proof wraps.btor2 wraps.invariant wraps.proof", 0, "holds: b0", {"verdict": "holds", "bad": 0, "id": 11}),
+    ("check-proof --aiger --circuit ring.aag ring-witness.aag ring.proof", 0, "holds: b0",
+     {"verdict": "holds", "bad": 0, "symbol": "two"}),
+    ("check-proof guarded.btor2 guarded.invariant nothing", 1, "not derived", {"verdict": "not derived", "bad": 0, "id": 10}),
     ("check-proof followers.btor2 followers.invariant says-1.proof", 1, "not implied line 1",
-     {"verdict": "not implied", "unit": "line", "place": 1}),
+     {"verdict": "not implied", "bad": 0, "id": 13, "unit": "line", "place": 1}),
     ("check-btor no-next.btor2 counter.witness", 2, "no-next.btor2: item 3: 70 NoNext",
      {"verdict": "refused", "file": "no-next.btor2", "unit": "item", "place": 3, "number": 70, "name": "NoNext"}),
     ("check-btor twice.aag counter.witness", 2, "twice.aag: line 1: 20 BadToken",
      {"verdict": "refused", "file": "twice.aag", "unit": "line", "place": 1, "number": 20, "name": "BadToken"}),
     ("check-btor nothere.btor2 counter.witness", 3, "nothere.btor2: device: no such file",
-     {"verdict": "failed", "file": "nothere.btor2", "why": "no such file"}),
+     {"verdict": "failed", "why": "nothere.btor2: device: no such file"}),
     ("check-btor m\u00fcller.btor2 x", 3, "m\u00fcller.btor2: device: no such file",
-     {"verdict": "failed", "file": "m\u00fcller.btor2", "why": "no such file"}),
-    ("lower counter.btor2", 4, "words: lower is no command that judges: check-btor, check-aig, check-proof",
-     {"verdict": "refused", "why": "words: lower is no command that judges: check-btor, check-aig, check-proof"}),
+     {"verdict": "failed", "why": "m\u00c3\u00bcller.btor2: device: no such file"}),
+    ("lower counter.btor2", 4, "words: a line of a list has the words of check-btor, check-aig or check-proof",
+     {"verdict": "failed", "why": "words: a line of a list has the words of check-btor, check-aig or check-proof"}),
     ("check-btor counter.btor2 -", 4, "words: no line of a list reads standard input",
-     {"verdict": "refused", "why": "words: no line of a list reads standard input"}),
+     {"verdict": "failed", "why": "words: no line of a list reads standard input"}),
 ]
 COUNTS = {"judgements": 17, "accepted": 4, "not_accepted": 7, "refused": 4, "failed": 2, "status": 4}
 SUMMARY = "17 judgements: 4 accepted or hold, 7 not, 4 refused, 2 failed"
@@ -110,7 +112,7 @@ def verdicts(trials: Trials) -> None:
         trials.same(f"lines, -j {jobs}", (4, printed, ""), (said.returncode, said.stdout, said.stderr))
         said = trials.call("--json", "-j", jobs, "-", given=text)
         wanted: List[Dict[str, Any]] = [
-            {"line": 3 * at, "words": line.split(), "status": status, **more} for at, (line, status, _, more) in enumerate(LINES, 1)
+            {"line": 3 * at, "status": status, **more} for at, (_, status, _, more) in enumerate(LINES, 1)
         ]
         trials.same(f"objects, -j {jobs}", [*wanted, COUNTS], [json.loads(it) for it in said.stdout.splitlines()])
     for line, status, words, _ in LINES:
@@ -142,13 +144,14 @@ def lists(trials: Trials) -> None:
 
 def stand_ins(trials: Trials) -> None:
     """Programs that are slow, die, or say nothing."""
-    slow = trials.script("slow", 'sleep "$2"; echo "accepted $2 frames"\n')
+    slow = trials.script("slow", 'read -r _ time _; sleep "$time"; echo "line 1: accepted $time frames"; echo "1 judgements"\n')
     said = trials.call("-j", "4", "-", given="".join(f"check-btor {it} x\n" for it in (0.6, 0.3, 0, 0)), program=slow)
     trials.same("the order of the list", [0.6, 0.3, 0, 0], [float(it.split()[3]) for it in said.stdout.splitlines()[:4]])
-    dies = trials.script("dies", 'case $2 in die) kill -KILL $$ ;; quiet) exit 1 ;; hang) sleep 600 ;; esac; echo "accepted 1 frames"\n')
+    dies = trials.script("dies", 'read -r _ what _; case $what in die) kill -KILL $$ ;; quiet) exit 1 ;; hang) sleep 600 ;; esac\n'
+                         'echo "line 1: accepted 1 frames"; echo "1 judgements"\n')
     said = trials.call("-", given="check-btor die x\ncheck-btor quiet x\ncheck-btor good x\n", program=dies)
     wanted = "line 1: hwtool was ended by signal 9\nline 2: hwtool said nothing\nline 3: accepted 1 frames\n"
-    wanted += "3 judgements: 1 accepted or hold, 1 not, 0 refused, 1 failed\n"
+    wanted += "3 judgements: 1 accepted or hold, 0 not, 0 refused, 2 failed\n"
     trials.same("a program that dies, and one that says nothing", (3, wanted), (said.returncode, said.stdout))
     (trials.folder / "list").write_text("check-btor good x\n" + "check-btor hang x\n" * 5)
     for number in (signal.SIGINT, signal.SIGTERM, signal.SIGHUP):
@@ -162,7 +165,7 @@ def stand_ins(trials: Trials) -> None:
         running.wait(timeout=60)
         trials.same(f"stopped by {number.name}", ("line 1: accepted 1 frames\n", 128 + number), (first, running.returncode))
         trials.same(f"at once, {number.name}", True, time.monotonic() - began < 5)
-        hanging = subprocess.run(["pgrep", "-f", f"^/bin/sh {dies} check-btor hang"], capture_output=True, text=True).stdout
+        hanging = subprocess.run(["pgrep", "-f", f"^/bin/sh {dies} judge"], capture_output=True, text=True).stdout
         trials.same(f"nothing is left, {number.name}", "", hanging)
         running.stdout.close()
 

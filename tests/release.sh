@@ -2,9 +2,9 @@
 # Tries what is released as those have it who have no toolchain: tests/release.sh, beside the gate. It takes what is committed
 # into a folder of its own, without `rt` on the path and without anything built there; runs README's first command and the
 # launcher, also as another user in a folder that can't be written; runs the program's tests, hostile texts and the rows of the
-# gate; installs into an empty prefix, and compiles and runs the examples from there, in C, C++ and Python; looks at the names
-# that the libraries give out, the page and the completions; and runs the program in a plain Debian userland, where debootstrap
-# is installed. The status is 0 where all is as it should be, else 1.
+# gate; tells which versions of glibc its files ask for; installs into an empty prefix, and compiles and runs the examples from
+# there, in C, C++ and Python; looks at the names that the libraries give out, the page and the completions; and runs the program in
+# the plain userland of Debian 11, where debootstrap is installed. The status is 0 where all is as it should be, else 1.
 set -uo pipefail
 top=$(cd "$(dirname "$(readlink -f "${BASH_SOURCE[0]}")")/.." && pwd)
 work=$(mktemp -d)
@@ -70,10 +70,25 @@ good "tests/hostile.py" python3 tests/hostile.py "$released/hwtool"
 good "tests/rows.py" python3 tests/rows.py "$released/hwtool"
 good "tests/dumps.py" python3 tests/dumps.py "$released/hwtool"
 good "tests/restored_cuts.py" python3 tests/restored_cuts.py "$released/hwtool"
+good "tests/start.py" python3 tests/start.py "$released/hwtool"
+
+# ---- what is asked of glibc
+
+# asked FILE: the versions of glibc that a file asks for, newest first, with the names that ask for each
+asked() {
+    objdump -T "$1" | sed -n 's/.*(GLIBC_\([0-9.]*\)) *\(.*\)/\1 \2/p' | sort -k1,1Vr -k2 |
+        awk '$1 != version { if (version) print version ":" names; version = $1; names = "" } { names = names " " $2 } END { print version ":" names }'
+}
+for file in hwtool libhwtool.so; do
+    asked "$released/$file" | sed -e "s/^/$file asks for glibc /" -e '/ 2.2.5: /s/:.*/ for the rest/'
+    same "the newest version of glibc that $file asks for is 2.17 at most" 2.17 "$(asked "$released/$file" | sed -n '1s/:.*//p' | cat - <(echo 2.17) | sort -V | tail -n 1)"
+done
 
 # ---- the libraries
 
 same "names that are given out" "" "$(nm -D --defined-only "$released/libhwtool.so" | awk '$3 !~ /^hwtool_/')"
+same "names that the archive gives out" "$(nm -D --defined-only "$released/libhwtool.so" | awk '{ print $3 }' | sort)" \
+    "$(nm -g --defined-only "$released/libhwtool.a" | awk 'NF == 3 { print $3 }' | sort)"
 same "names of the header" "$(grep -o 'hwtool_[a-z_]*(' include/hwtool.h | tr -d '(' | sort -u)" "$(nm -D --defined-only "$released/libhwtool.so" | awk '{ print $3 }' | sort -u)"
 same "the SONAME" "libhwtool.so.1" "$(objdump -p "$released/libhwtool.so" | awk '$1 == "SONAME" { print $2 }')"
 good "the rows by the library" python3 tests/c_library.py "$released/libhwtool.so" "$released/hwtool"
@@ -171,17 +186,16 @@ good "make uninstall" make uninstall PREFIX="$prefix"
 same "what it leaves" "" "$(find "$prefix" -type f -o -type l)"
 good "make uninstall again" make uninstall PREFIX="$prefix"
 
-# ---- a plain Debian userland
+# ---- the plain userland of Debian 11, with glibc 2.31
 
-if [ "$(id -u)" = 0 ] && command -v debootstrap >/dev/null && debootstrap --variant=minbase bookworm "$work/debian" >"$work/said" 2>&1; then
+if [ "$(id -u)" = 0 ] && command -v debootstrap >/dev/null && debootstrap --variant=minbase bullseye "$work/debian" >"$work/said" 2>&1; then
     cp -r release examples "$work/debian/"
-    same "a plain Debian userland" "$toggler" "$(chroot "$work/debian" /release/hwtool lower /examples/toggler.btor2)"
-    if [ -x "$work/judge-a" ]; then
-        cp "$work/judge-a" "$work/debian/judge"
-        same "the example there" "accepted 2 frames" "$(chroot "$work/debian" /judge /examples/toggler.btor2 /examples/toggler.witness)"
-    fi
+    same "Debian 11" "$toggler" "$(chroot "$work/debian" /release/hwtool lower /examples/toggler.btor2)"
+    same "a result in a file there" "$toggler" "$(chroot "$work/debian" /release/hwtool lower -o /made /examples/toggler.btor2 && cat "$work/debian/made")"
+    same "a judgement there" "accepted 2 frames" "$(chroot "$work/debian" /release/hwtool check-btor /examples/toggler.btor2 /examples/toggler.witness)"
+    good "the library there" chroot "$work/debian" /lib64/ld-linux-x86-64.so.2 --list /release/libhwtool.so
 else
-    left+=("a plain Debian userland: no debootstrap, no root, or no packages")
+    left+=("the plain userland of Debian 11: no debootstrap, no root, or no packages")
 fi
 
 echo "release: $tried tried, $wrong wrong"

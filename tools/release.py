@@ -6,9 +6,9 @@
     tools/release.py --libraries FOLDER   makes the libraries for C programs alone, of the sources as they stand
 
 Crates are proved as `tools/build.py` proves them; what it keeps is taken from there, but with --check nothing is, which works in
-a folder of its own. All is linked by the toolchain's own linker, without symbols of its own, dates or names of folders, so that
-who has the toolchain makes the same bytes of the same sources. `PROVED.txt` says of which. The status is 0 where all is made, or
-is the same.
+a folder of its own. All is linked by the toolchain's own linker, the program with `tools/start.c`, without symbols of its own,
+dates or names of folders, so that who has the toolchain makes the same bytes of the same sources. `PROVED.txt` says of which. The
+status is 0 where all is made, or is the same.
 """
 import hashlib
 import os
@@ -42,6 +42,13 @@ def sum_of(path):
 # ---- what is linked
 
 
+def compile_start(into):
+    """Compiles what the released program begins with, by the toolchain, without a header of the system."""
+    words = ["--no-default-config", "--target=x86_64-unknown-linux-gnu", "-std=c11", "-O2", "-ffreestanding", "-nostdinc", "-fPIE"]
+    words += ["-mno-red-zone", "-fno-ident", "-Wall", "-Wextra", "-Werror"]
+    run([TOOLS / "bin/clang", *words, "-c", TOP / "tools/start.c", "-o", into])
+
+
 def link_program(into, more=()):
     """Links the program as the toolchain's `rattle-link` does, with these words more."""
     library = TOOLS / "lib"
@@ -57,14 +64,19 @@ def link_program(into, more=()):
 
 
 def make_libraries(into):
-    """Makes the library for C programs: an archive that has the toolchain's heap in it, and a shared one."""
+    """Makes the library for C programs: an archive that has the toolchain's heap in it, and a shared one. Both give out the
+    names of the header alone."""
     archive = into / "libhwtool.a"
     with tempfile.TemporaryDirectory() as parts:
-        for it in [build.crates_of(TOP / "crates.txt")[LIBRARY].made, build.KIT / "c/liblibc_c.a"]:
-            run([TOOLS / "bin/llvm-ar", "x", it], cwd=parts)
+        made = build.crates_of(TOP / "crates.txt")[LIBRARY].made
+        linked = [TOOLS / "bin/ld.lld", "-m", "elf_x86_64", "-r", "--threads=1", "-o", "linked.o", "--whole-archive", made]
+        run([*linked, "--no-whole-archive", build.KIT / "c/liblibc_c.a"], cwd=parts)
+        # the toolchain's compiler is each of LLVM's tools, by the name that it is called by
+        copied = ["llvm-objcopy", "--wildcard", "--keep-global-symbol=hwtool_*", "linked.o", "hwtool.o"]
+        run(copied, executable=TOOLS / "bin/clang", cwd=parts)
         archive.unlink(missing_ok=True)
         # without dates and owners
-        run([TOOLS / "bin/llvm-ar", "rcsD", archive, *sorted(os.listdir(parts))], cwd=parts)
+        run([TOOLS / "bin/llvm-ar", "rcsD", archive, "hwtool.o"], cwd=parts)
     with tempfile.TemporaryDirectory() as folder:
         names = pathlib.Path(folder) / "names"
         names.write_text("{ global: hwtool_*; local: *; };\n")
@@ -171,7 +183,8 @@ def make(folder):
         link_program(there + "/hwtool")
         if sum_of(pathlib.Path(there) / "hwtool") != sum_of(made_program(made)):
             sys.exit("release: the toolchain links otherwise than this script")
-    link_program(folder / "hwtool", ["--strip-all"])
+        compile_start(there + "/start.o")
+        link_program(folder / "hwtool", [there + "/start.o", "--strip-all"])
     make_libraries(folder)
     version = manual.said(folder / "hwtool", "--version").split()[1]
     shutil.copyfile(TOP / "include/hwtool.h", folder / "hwtool.h")

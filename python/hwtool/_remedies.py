@@ -962,6 +962,22 @@ CASES: Dict[int, Tuple[Tuple[str, str, str, str], ...]] = {
             'add memory',
         ),
     ),
+    167: (
+        (
+            'Formulas and proofs',
+            'BadId',
+            'a step with hints has an id that is not above those before; by the library `drup` alone',
+            'number the clauses in their order, those of the formula from 1',
+        ),
+    ),
+    168: (
+        (
+            'Formulas and proofs',
+            'NoClause',
+            'a hint names a clause that does not stand; by the library `drup` alone',
+            'name clauses that were given and not taken away',
+        ),
+    ),
     170: (
         (
             'Dumps',

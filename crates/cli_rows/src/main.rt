@@ -38,6 +38,7 @@ mod command_lines;
 mod cuts;
 mod escapes;
 mod held;
+mod named_texts;
 mod on_disk;
 mod progress;
 mod results;
@@ -56,6 +57,7 @@ use command_lines::CommandLine;
 use cuts::tells_cuts;
 use held::fault_of_held;
 use invocation::{Order, Stop};
+use named_texts::gives_on_names;
 use on_disk::gives_on_disk;
 use progress::fault_of_progress;
 use results::fault_of_results;
@@ -185,7 +187,7 @@ fn fault_of_words(
     wanted: Answer<'_>,
 ) -> io::Result<Fault> {
     match order(rt.alloc(), words) {
-        Ok(order) => fault_of_order(rt, &order, row, wanted),
+        Ok(order) => fault_of_order(rt, words, &order, row, wanted),
         Err(stop) => Ok(fault_of_stop(rt.alloc(), &stop, wanted)),
     }
 }
@@ -221,6 +223,7 @@ fn files<'a>(order: &Order<'_>, row: &'a Row) -> Option<Files<'a>> {
 /// What of a row with a command is not as it should be.
 fn fault_of_order(
     rt: &HostRuntime,
+    words: &[String],
     order: &Order<'_>,
     row: &Row,
     wanted: Answer<'_>,
@@ -230,8 +233,11 @@ fn fault_of_order(
         return Ok(Some("the answer"));
     }
     match files(order, row) {
-        Some(files) if !gives_on_disk(rt, order, files, wanted)? => {
+        Some(files) if !gives_on_disk(rt, words, files, wanted)? => {
             Ok(Some("the answer on files that are opened"))
+        }
+        Some(files) if !gives_on_names(rt, words, files, wanted) => {
+            Ok(Some("the answer on texts of names"))
         }
         Some(files) => Ok(fault_of_devices(alloc, order, files, row, wanted)?),
         None => Ok(None),

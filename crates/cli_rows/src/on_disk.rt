@@ -1,35 +1,13 @@
 //! Rows whose files lie in a folder, and whose commands open them by their names.
 
 use crate::answers::{Answer, Files};
-use base::VecSink;
-use commands::{Surroundings, run_on_files};
+use base::{Sink, VecSink};
+use command_line::order;
+use commands::{SystemFiles, run_on_files};
 use invocation::Order;
-use std::alloc::Global;
-use std::cell::Cell;
 use std::fs;
-use std::io::{self, Write};
-
-/// Standard output that keeps what it is given.
-#[derive(Clone, Copy)]
-pub(crate) struct Kept<'a> {
-    /// What it was given.
-    pub(crate) bytes: &'a Cell<Option<Vec<u8>>>,
-}
-
-impl Write for Kept<'_> {
-    fn write(&mut self, bytes: &[u8]) -> io::Result<usize> {
-        let mut kept = self.bytes.replace(None);
-        if let Some(text) = &mut kept {
-            let _ = text.extend_from_slice(bytes);
-        }
-        self.bytes.set(kept);
-        Ok(bytes.len())
-    }
-
-    fn flush(&mut self) -> io::Result<()> {
-        Ok(())
-    }
-}
+use std::io;
+use subcommands::Progress;
 
 /// Puts a text where a command will look for it; what is on standard input stays there.
 fn put(rt: &HostRuntime, name: &str, text: &[u8]) -> io::Result<()> {
@@ -40,7 +18,7 @@ fn put(rt: &HostRuntime, name: &str, text: &[u8]) -> io::Result<()> {
 }
 
 /// What is on standard input.
-fn input<'a>(order: &Order<'_>, files: Files<'a>) -> &'a [u8] {
+pub(crate) fn input<'a>(order: &Order<'_>, files: Files<'a>) -> &'a [u8] {
     if order.first == "-" {
         return files.first;
     }
@@ -51,39 +29,35 @@ fn input<'a>(order: &Order<'_>, files: Files<'a>) -> &'a [u8] {
 }
 
 /// The status of a command on files that it opens by their names.
-pub(crate) fn status_on_disk(
+pub(crate) fn status_on_disk<'a, O: Sink, E: Sink>(
     rt: &HostRuntime,
-    order: &Order<'_>,
+    files: &'a SystemFiles<'a, HostRuntime>,
+    order: &Order<'a>,
     input: &[u8],
-    output: Kept<'_>,
-    err: &mut VecSink,
+    out: &mut O,
+    err: &mut E,
 ) -> u8 {
-    let alloc: Global = rt.alloc();
-    let around = Surroundings {
-        input,
-        output,
-        terminal: rt.stderr(),
-        is_shown: false,
-        process: 1,
-    };
-    run_on_files(rt, alloc, order, around, err)
+    let progress = Progress::new(rt, Some(rt.stderr()));
+    let (status, _) = run_on_files(files, rt.alloc(), order, input, out, err, &progress);
+    status
 }
 
 /// What stands where the result of a command goes: in its file, or on standard output.
-fn result(rt: &HostRuntime, order: &Order<'_>, output: Kept<'_>) -> io::Result<Option<Vec<u8>>> {
+fn is_result(rt: &HostRuntime, order: &Order<'_>, out: &VecSink, wanted: &[u8]) -> bool {
     match order.output {
         Some(name) => match fs::read(rt, name) {
-            Ok(text) => Ok(Some(text)),
-            Err(_) => Ok(None),
+            Ok(text) => text.as_slice() == wanted,
+            Err(_) => false,
         },
-        None => Ok(output.bytes.replace(None)),
+        None => out.bytes() == wanted,
     }
 }
 
 /// Whether a command gives an answer on files that it opens by their names.
-pub(crate) fn gives_on_disk(
+fn gives<'a>(
     rt: &HostRuntime,
-    order: &Order<'_>,
+    system: &'a SystemFiles<'a, HostRuntime>,
+    order: &Order<'a>,
     files: Files<'_>,
     wanted: Answer<'_>,
 ) -> io::Result<bool> {
@@ -94,13 +68,24 @@ pub(crate) fn gives_on_disk(
     if let Some(name) = order.third {
         put(rt, name, files.third)?;
     }
-    let bytes = Cell::new(Some(Vec::new(rt.alloc())));
-    let output = Kept { bytes: &bytes };
+    let mut out = VecSink::new(rt.alloc());
     let mut err = VecSink::new(rt.alloc());
-    let status = status_on_disk(rt, order, input(order, files), output, &mut err);
+    let input = input(order, files);
+    let status = status_on_disk(rt, system, order, input, &mut out, &mut err);
     let is_told = status == wanted.status && err.bytes() == wanted.err;
-    match result(rt, order, output)? {
-        Some(text) => Ok(is_told && text.as_slice() == wanted.out),
-        None => Ok(false),
+    Ok(is_told && is_result(rt, order, &out, wanted.out))
+}
+
+/// The same of a command by its words.
+pub(crate) fn gives_on_disk(
+    rt: &HostRuntime,
+    words: &[String],
+    files: Files<'_>,
+    wanted: Answer<'_>,
+) -> io::Result<bool> {
+    let system = SystemFiles::new(rt, 1);
+    match order(rt.alloc(), words) {
+        Ok(order) => gives(rt, &system, &order, files, wanted),
+        Err(_) => Ok(false),
     }
 }

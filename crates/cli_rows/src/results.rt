@@ -1,10 +1,10 @@
 //! Files that results go to, and files that can't be opened: what `-o` promises, and the reasons that are told.
 
 use crate::Fault;
-use crate::on_disk::{Kept, status_on_disk};
+use crate::on_disk::status_on_disk;
 use base::VecSink;
 use command_line::order;
-use std::cell::Cell;
+use commands::SystemFiles;
 use std::os::unix::fs::{PermissionsExt, symlink};
 use std::{fs, io};
 
@@ -19,12 +19,12 @@ const WHO_MAY: u32 = 0o777;
 
 /// Whether a command of these words ends with a status and tells this.
 fn tells(rt: &HostRuntime, words: &[&str], status: u8, told: &str) -> bool {
-    let bytes = Cell::new(Some(Vec::new(rt.alloc())));
+    let mut out = VecSink::new(rt.alloc());
     let mut err = VecSink::new(rt.alloc());
+    let files = SystemFiles::new(rt, 1);
     match order(rt.alloc(), words) {
         Ok(order) => {
-            let output = Kept { bytes: &bytes };
-            let ended = status_on_disk(rt, &order, b"", output, &mut err);
+            let ended = status_on_disk(rt, &files, &order, b"", &mut out, &mut err);
             ended == status && err.bytes() == told.as_bytes()
         }
         Err(_) => false,

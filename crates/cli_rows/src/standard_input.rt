@@ -1,7 +1,7 @@
 //! Standard input in place of each file of each command.
 
-use command_line::{CommandFiles, command_at, order};
-use invocation::STANDARD_INPUT;
+use command_line::{CommandFiles, command_at, request};
+use invocation::{Request, STANDARD_INPUT};
 use std::alloc::{AllocError, Global};
 
 /// The names of the files of a command.
@@ -24,8 +24,16 @@ fn name_of(files: usize, place: usize, one: usize, other: usize) -> Option<&'sta
     }
 }
 
+/// Whether these are the files that are read.
+fn is_read(request: &Request<'_>, first: &str, second: Option<&str>, third: Option<&str>) -> bool {
+    match request {
+        Request::One(order) => order.first == first && order.second == second && order.third == third,
+        Request::Many(list) => list.list == first && second.is_none() && third.is_none(),
+    }
+}
+
 /// Whether a command with `-` at two places, from 0, is what is owed: where both are places of files, and two of them, refused
-/// words, and else an order with these files.
+/// words, and else what reads these files.
 fn is_right(
     alloc: Global,
     command: CommandFiles,
@@ -41,13 +49,14 @@ fn is_right(
         }
     }
     let is_twice = one != other && one < files && other < files;
-    match order(alloc, words.as_slice()) {
-        Ok(order) => Ok(
-            !is_twice
-                && name_of(files, 0, one, other) == Some(order.first)
-                && name_of(files, 1, one, other) == order.second
-                && name_of(files, 2, one, other) == order.third,
-        ),
+    match request(alloc, words.as_slice()) {
+        Ok(request) => Ok(!is_twice
+            && is_read(
+                &request,
+                name_of(files, 0, one, other).unwrap_or(""),
+                name_of(files, 1, one, other),
+                name_of(files, 2, one, other),
+            )),
         Err(stop) => Ok(is_twice && stop.status == 4),
     }
 }

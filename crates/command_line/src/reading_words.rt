@@ -1,25 +1,21 @@
 //! The command line: the words that the program is given, and what they ask for.
 
-ghost use Rattle.std.specs.Prelude.{◌≡◌, IfOk, false, option_map};
-ghost use Rattle.invocation.specs.Files.{names_standard_input, reads_input_twice};
+ghost use Rattle.std.specs.Prelude.{◌≡◌, ◌⊎◌, IfErr, IfOk, map};
+ghost use Rattle.invocation.specs.declared.tasks.Order.{Order};
+ghost use Rattle.invocation.specs.declared.tasks.Request.{Request};
+ghost use Rattle.wordings.specs.Orders.{Says, SaysRequest};
 
-use crate::command_table::{
-    ALL, ASCII, BINARY, Kind, NAMES, OUTPUT, OUTPUTS, PICK, QUIET, ROWS, Row, Word, row_of,
-};
-use crate::engine_words::{asked_of, engine_properties, with_engine};
-use aigertext::Form;
-use base::decimal;
+use crate::help_table::{about, help, value_name};
+use crate::refused_words::{CIRCUIT, ENGINE, OUTPUT, TWO_READINGS, refusal_of};
 use clap::error::ErrorKind;
 use clap::{Arg, ArgAction, ArgMatches, Command, Error};
 use explanations::{Sought, explain, refusal_table};
-use invocation::{
-    CircuitTask, ModelTask, Order, STANDARD_INPUT, STANDARD_OUTPUT, Stop, Task, TextTask, version,
-};
+use invocation::{Order, Request, Stop, version};
 use std::alloc::{AllocError, AllocGlobal, Global};
 use std::convert::AsStr;
 use std::env::Env;
 use std::{env, io};
-use vcd::Shown;
+use wordings::{Kind, Verb, Word, order_said, request_said, verb_of, verbs, word_of, words_of};
 
 /// The program's name, with which each usage line begins.
 const PROGRAM: &str = "hwtool";
@@ -45,47 +41,52 @@ Exit statuses:
 /// What is told of words that are no text.
 const NO_TEXT: &str = "words: not UTF-8\n";
 
-/// What is told of words that name standard input twice.
-const INPUT_TWICE: &str = "words: standard input is read once, so - stands for one file\n";
-
-/// What is told of words that pick no witness.
-const NO_NUMBER: &str = "words: --pick takes the number of a witness in its file, from 1\n";
-
-/// What is told of words that choose both forms of a circuit.
-const TWO_FORMS: &str = "words: choose one form\n";
-
 /// The word that asks what refusals mean, and the name of the number or the name that may stand behind it.
 const EXPLAIN: &str = "explain";
 
 const REFUSAL: &str = "REFUSAL";
 
+/// What is told of words that ask what a refusal means and name none.
+const NO_REFUSAL: &str =
+    "words: no number and no name of a refusal is given; hwtool explain tells all\n";
+
+/// The letter of the option for the file that a result goes to.
+const OUTPUT_LETTER: char = 'o';
+
 /// What a word of a command is to the parser.
-fn arg_of<'a>(alloc: Global, word: &'a Word) -> Result<Arg<'a>, AllocError> {
-    let arg = Arg::new(alloc, word.name).help(word.help);
+fn arg_of<'a>(alloc: Global, verb: Verb, word: &'a Word) -> Result<Arg<'a>, AllocError> {
+    let arg = Arg::new(alloc, word.name).help(help(verb, word.name));
     match word.kind {
         Kind::File => Ok(arg.required(true).action(ArgAction::Set)),
         Kind::Flag => Ok(arg.long(word.name).action(ArgAction::SetTrue)),
-        Kind::FlagWith(other) => arg
-            .long(word.name)
-            .action(ArgAction::SetTrue)
-            .requires_arg(other),
-        Kind::Value(value) => Ok(arg.long(word.name).value_name(value).action(ArgAction::Set)),
-        Kind::Letter(letter, value) => Ok(
-            arg.short(letter)
-                .long(word.name)
-                .value_name(value)
-                .action(ArgAction::Set),
-        ),
+        Kind::FlagWithCircuit => flag_with(arg, word.name, CIRCUIT),
+        Kind::FlagWithEngine => flag_with(arg, word.name, ENGINE),
+        Kind::Text if word.name == OUTPUT => Ok(option(arg, word.name).short(OUTPUT_LETTER)),
+        _ => Ok(option(arg, word.name)),
     }
 }
 
-/// The words of a command.
-fn command_of<'a>(alloc: Global, row: &'a Row) -> Result<Command<'a>, AllocError> {
-    let mut command = Command::new(alloc, row.word)
-        .about(row.about)
+/// A flag that goes with another.
+fn flag_with<'a>(arg: Arg<'a>, name: &'a str, other: &'a str) -> Result<Arg<'a>, AllocError> {
+    arg.long(name)
+        .action(ArgAction::SetTrue)
+        .requires_arg(other)
+}
+
+/// An option with a value.
+fn option<'a>(arg: Arg<'a>, name: &'a str) -> Arg<'a> {
+    arg.long(name)
+        .value_name(value_name(name))
+        .action(ArgAction::Set)
+}
+
+/// A command with its words.
+fn command_of<'a>(alloc: Global, verb: Verb, words: &'a [Word]) -> Result<Command<'a>, AllocError> {
+    let mut command = Command::new(alloc, word_of(verb))
+        .about(about(verb))
         .after_help(HELP_END);
-    for word in row.words {
-        command = command.arg(arg_of(alloc, word)?)?;
+    for word in words {
+        command = command.arg(arg_of(alloc, verb, word)?)?;
     }
     Ok(command)
 }
@@ -121,15 +122,19 @@ fn program<'a>(alloc: Global) -> Result<Command<'a>, AllocError> {
 fn with_command<'a>(
     alloc: Global,
     commands: Command<'a>,
-    row: &'a Row,
+    verb: Verb,
+    words: &'a [Word],
 ) -> Result<Command<'a>, AllocError> {
-    commands.subcommand(command_of(alloc, row)?)
+    commands.subcommand(command_of(alloc, verb, words)?)
 }
 
 /// The program with the command that a word names alone, which is all that is read or told of then, or with all commands.
 fn program_for<'a>(alloc: Global, word: &str) -> Result<Command<'a>, AllocError> {
-    match row_of(word) {
-        Some(row) => with_command(alloc, program(alloc)?.disable_help_subcommand(true), row),
+    match verb_of(word) {
+        Some(verb) => {
+            let alone = program(alloc)?.disable_help_subcommand(true);
+            with_command(alloc, alone, verb, words_of(verb))
+        }
         None => all_commands(alloc),
     }
 }
@@ -137,104 +142,10 @@ fn program_for<'a>(alloc: Global, word: &str) -> Result<Command<'a>, AllocError>
 /// The program with all commands.
 fn all_commands<'a>(alloc: Global) -> Result<Command<'a>, AllocError> {
     let mut commands = program(alloc)?;
-    for row in &ROWS {
-        commands = with_command(alloc, commands, row)?;
+    for verb in verbs() {
+        commands = with_command(alloc, commands, *verb, words_of(*verb))?;
     }
     commands.subcommand(explain_command(alloc)?)
-}
-
-/// The name of the file that a result goes to. Without one, and where it is `-`, it goes to standard output.
-fn output_of<'a>(words: &ArgMatches<'a>) -> Option<&'a str> {
-    match words.get_str(OUTPUT) {
-        Some(STANDARD_OUTPUT) => None,
-        name => name,
-    }
-}
-
-/// The name of the file at a place among those of a command, from 0, where it has so many.
-fn file_of<'a>(row: &Row, words: &ArgMatches<'a>, place: usize) -> Option<&'a str> {
-    words.get_str(row.file(place)?)
-}
-
-/// A command, where outputs are to be bad properties the one that makes them so.
-fn with_outputs(task: Task, words: &ArgMatches<'_>) -> Task {
-    match task {
-        Task::Circuit(CircuitTask::AigConvert) if words.get_flag(OUTPUTS) => {
-            Task::Circuit(CircuitTask::ConvertOutputs)
-        }
-        task => task,
-    }
-}
-
-/// The number of the witness that words pick; the first one where they pick none.
-///
-/// Errors: what is told of words that pick so.
-fn picked(words: &ArgMatches<'_>) -> Result<u64, &'static str> {
-    match words.get_str(PICK) {
-        None => Ok(1),
-        Some(word) => match decimal(word.as_bytes()) {
-            None | Some(0) => Err(NO_NUMBER),
-            Some(number) => Ok(number),
-        },
-    }
-}
-
-/// The command that words ask for, with the engine form and the witness that they ask for.
-fn task_of(task: Task, words: &ArgMatches<'_>, engine: Option<Option<usize>>, pick: u64) -> Task {
-    match with_engine(with_outputs(task, words), words, engine) {
-        Task::Text(TextTask::TidyWitness(_)) => Task::Text(TextTask::TidyWitness(pick)),
-        Task::Model(ModelTask::Wave(_)) if words.get_flag(ALL) => {
-            Task::Model(ModelTask::Wave(Shown::All))
-        }
-        task => task,
-    }
-}
-
-/// The order that the words of a command name, with the engine form and the witness that they ask for.
-fn order_of<'a>(
-    word: &str,
-    words: &ArgMatches<'a>,
-    engine: Option<Option<usize>>,
-    pick: u64,
-) -> Option<Order<'a>> {
-    let row = row_of(word)?;
-    Some(Order {
-        task: task_of(row.task, words, engine, pick),
-        named: words.get_flag(NAMES),
-        asked: asked_of(row.task, words),
-        form: if words.get_flag(BINARY) {
-            Form::Binary
-        } else {
-            Form::Ascii
-        },
-        first: file_of(row, words, 0)?,
-        second: file_of(row, words, 1),
-        third: file_of(row, words, 2),
-        output: output_of(words),
-        tells_progress: !words.get_flag(QUIET),
-    })
-}
-
-/// Whether there is a name of a file, and it stands for standard input.
-fn names_standard_input(name: Option<&str>) -> bool
-    ensures { result ≡ names_standard_input (option_map (λ name. name.now) name.entry) }
-{
-    match name {
-        Some(name) => name == STANDARD_INPUT,
-        None => false,
-    }
-}
-
-/// Whether a command would read standard input twice.
-fn reads_input_twice(order: &Order<'_>) -> bool
-    ensures { result ≡ reads_input_twice order.now.first.now
-        (option_map (λ name. name.now) order.now.second)
-        (option_map (λ name. name.now) order.now.third) }
-{
-    let first = order.first == STANDARD_INPUT;
-    let second = names_standard_input(order.second);
-    let third = names_standard_input(order.third);
-    (first && (second || third)) || (second && third)
 }
 
 /// What stands in place of a command where words are refused with a line of this program's own.
@@ -245,34 +156,27 @@ pub(crate) fn refused(alloc: Global, line: &str) -> Stop {
     }
 }
 
-/// The order that the words of a command give, or what stands in its place.
-fn order_or_stop<'a>(alloc: Global, word: &str, words: &ArgMatches<'a>) -> Result<Order<'a>, Stop>
-    ensures { IfOk result (λ order. reads_input_twice order.first.now
-        (option_map (λ name. name.now) order.second) (option_map (λ name. name.now) order.third)
-        ≡ false) }
-{
+/// What stands in place of a command where words ask what refusals mean.
+fn stop_of_explain(alloc: Global, words: &ArgMatches<'_>) -> Stop {
+    let sought = match words.get_strs(REFUSAL) {
+        Some(words) => Sought::by_words(words),
+        None => Some(Sought::all()),
+    };
+    match sought {
+        Some(sought) => explain(alloc, &refusal_table(), sought),
+        None => refused(alloc, NO_REFUSAL),
+    }
+}
+
+/// What stands in place of what words ask for, where the parser takes the words of a command that say nothing: the text of
+/// `explain`, or the line that says why they are refused.
+fn stop_of_command(alloc: Global, word: &str, words: &ArgMatches<'_>) -> Stop {
     if word == EXPLAIN {
-        let sought = match words.get_strs(REFUSAL) {
-            Some(words) => Sought::by_words(words),
-            None => Sought::all(),
-        };
-        return Err(explain(alloc, &refusal_table(), sought));
+        return stop_of_explain(alloc, words);
     }
-    if words.get_flag(ASCII) && words.get_flag(BINARY) {
-        return Err(refused(alloc, TWO_FORMS));
-    }
-    let engine = match engine_properties(word, words) {
-        Ok(engine) => engine,
-        Err(line) => return Err(refused(alloc, line)),
-    };
-    let pick = match picked(words) {
-        Ok(pick) => pick,
-        Err(line) => return Err(refused(alloc, line)),
-    };
-    match order_of(word, words, engine, pick) {
-        Some(order) if reads_input_twice(&order) => Err(refused(alloc, INPUT_TWICE)),
-        Some(order) => Ok(order),
-        None => Err(Stop::no_memory(alloc)),
+    match verb_of(word) {
+        Some(verb) => refused(alloc, refusal_of(verb, words)),
+        None => refused(alloc, TWO_READINGS),
     }
 }
 
@@ -322,40 +226,56 @@ pub fn given_words<R: Env + AllocGlobal>(rt: &R) -> Result<Vec<String>, Stop> {
     }
 }
 
-/// Reads the words after the program's name. Without any it is `lower` on standard input.
+/// What stands in place of what words ask for, where they say nothing.
+fn stop_of_words<S: AsStr>(alloc: Global, words: &[S]) -> Stop {
+    let Some(first) = words.first() else {
+        return refused(alloc, TWO_READINGS);
+    };
+    let command = match program_for(alloc, first.as_str()) {
+        Ok(command) => command.no_binary_name(true),
+        Err(_) => return Stop::no_memory(alloc),
+    };
+    match command.try_get_matches_from(words) {
+        Ok(matches) => match matches.subcommand() {
+            Some((word, words)) => stop_of_command(alloc, word, words),
+            None => Stop::no_memory(alloc),
+        },
+        Err(error) => stop_of(alloc, &error),
+    }
+}
+
+/// What the words after the program's name ask for: one order, or the judgements of a list. Without any word it is `lower` on
+/// standard input.
 ///
 /// Errors: a `Stop` with status 0 and the text of help, of the version or of what refusals mean; with 4 where the words
 /// are no command, also where they name standard input twice, which can be read once, choose both forms of a circuit, or a
 /// bad property of no engine form;
 /// with 3 where there was no memory.
-pub fn order<'a, S: AsStr>(alloc: Global, words: &'a [S]) -> Result<Order<'a>, Stop>
-    // standard input is read once
-    ensures { IfOk result (λ order. reads_input_twice order.first.now
-        (option_map (λ name. name.now) order.second) (option_map (λ name. name.now) order.third)
-        ≡ false) }
+pub fn request<'a, S: AsStr>(alloc: Global, words: &'a [S]) -> Result<Request<'a>, Stop>
+    ensures says { IfOk result (SaysRequest (map S.text words.now)) }
+    // words that say what is asked for are understood
+    ensures understood { IfErr result (λ stop. (stop.status ≡ 3)
+        ⊎ ((r : Request) → ¬ SaysRequest (map S.text words.now) r)) }
 {
-    let Some(first) = words.first() else {
-        return Ok(Order {
-            task: Task::Text(TextTask::Lower),
-            named: false,
-            asked: None,
-            form: Form::Ascii,
-            first: STANDARD_INPUT,
-            second: None,
-            third: None,
-            output: None,
-            tells_progress: true,
-        });
-    };
-    let command = match program_for(alloc, first.as_str()) {
-        Ok(command) => command.no_binary_name(true),
-        Err(_) => return Err(Stop::no_memory(alloc)),
-    };
-    match command.try_get_matches_from(words) {
-        Ok(matches) => match matches.subcommand() {
-            Some((word, words)) => order_or_stop(alloc, word, words),
-            None => Err(Stop::no_memory(alloc)),
-        },
-        Err(error) => Err(stop_of(alloc, &error)),
+    match request_said(alloc, words) {
+        Ok(Some(request)) => Ok(request),
+        Ok(None) => Err(stop_of_words(alloc, words)),
+        Err(_) => Err(Stop::no_memory(alloc)),
+    }
+}
+
+/// The order that words give, as those of a line of a list.
+///
+/// Errors: those of `request`; a `Stop` with status 4 also where the words ask for the judgements of a list.
+pub fn order<'a, S: AsStr>(alloc: Global, words: &'a [S]) -> Result<Order<'a>, Stop>
+    ensures says { IfOk result (Says (map S.text words.now)) }
+    // words that say an order are understood
+    ensures understood { IfErr result (λ stop. (stop.status ≡ 3)
+        ⊎ ((o : Order) → ¬ Says (map S.text words.now) o)) }
+{
+    match order_said(alloc, words) {
+        Ok(Some(order)) => Ok(order),
+        Ok(None) => Err(stop_of_words(alloc, words)),
+        Err(_) => Err(Stop::no_memory(alloc)),
     }
 }

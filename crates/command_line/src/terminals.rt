@@ -1,11 +1,14 @@
 //! Words that are given at a terminal.
 
-ghost use Rattle.std.specs.Prelude.{◌≡◌, IfOk, true, false, length, option_map};
-ghost use Rattle.invocation.specs.Files.{reads_input_twice, shows_binary};
+ghost use Rattle.std.specs.Prelude.{◌≡◌, ◌&&◌, ◌⊎◌, Bool, IfErr, IfOk, true, false, length, map, option_map};
+ghost use Rattle.invocation.specs.Files.{shows_binary};
+ghost use Rattle.invocation.specs.declared.tasks.Request.{Request as RequestSaid};
+ghost use Rattle.wordings.specs.Orders.{SaysRequest};
+ghost use Rattle.command_line.specs.Requests.{IfOne, with_progress};
 
-use crate::reading_words::{order, refused};
+use crate::reading_words::{refused, request};
 use aigertext::Form;
-use invocation::{Order, Stop};
+use invocation::{Order, Request, Stop};
 use std::alloc::Global;
 use std::convert::AsStr;
 
@@ -26,7 +29,7 @@ pub struct Terminals {
 
 /// The help of the program, in place of a command.
 fn help(alloc: Global) -> Stop {
-    match order(alloc, &["--help"]) {
+    match request(alloc, &["--help"]) {
         Ok(_) => Stop::no_memory(alloc),
         Err(stop) => stop,
     }
@@ -40,34 +43,53 @@ fn shows_binary(order: &Order<'_>) -> bool
     order.form == Form::Binary && order.output.is_none()
 }
 
-/// Reads the words after the program's name, as `order` does, for standard streams of which some are terminals. Without any
-/// word, a model is not waited for at a terminal: help is told. Where standard error is no terminal it is not told how far
-/// work is.
+/// An order for standard streams of which some are terminals.
+fn order_at<'a>(alloc: Global, order: Order<'a>, terminals: Terminals) -> Result<Order<'a>, Stop>
+    ensures same { IfOk result (λ found. found ≡ record order.entry {
+      tells_progress = order.entry.tells_progress && terminals.error;
+    }) }
+    ensures binary { terminals.output ≡ true → IfOk result (λ found. shows_binary found.form
+        (option_map (λ name. name.now) found.output) ≡ false) }
+    ensures taken { terminals.output ≡ false → IfErr result (λ _. ⊥) }
+{
+    if terminals.output && shows_binary(&order) {
+        return Err(refused(alloc, TERMINAL));
+    }
+    let mut found = order;
+    found.tells_progress = found.tells_progress && terminals.error;
+    Ok(found)
+}
+
+/// What the words after the program's name ask for, as `request` has it, for standard streams of which some are terminals.
+/// Without any word, a model is not waited for at a terminal: help is told. Where standard error is no terminal it is not told
+/// how far work is.
 ///
-/// Errors: those of `order`; a `Stop` with status 4 also where the binary form of a circuit would go to a terminal.
-pub fn order_at<'a, S: AsStr>(
+/// Errors: those of `request`; a `Stop` with status 4 also where the binary form of a circuit would go to a terminal.
+pub fn request_at<'a, S: AsStr>(
     alloc: Global,
     words: &'a [S],
     terminals: Terminals,
-) -> Result<Order<'a>, Stop>
-    // standard input is read once
-    ensures once { IfOk result (λ order. reads_input_twice order.first.now
-        (option_map (λ name. name.now) order.second) (option_map (λ name. name.now) order.third)
-        ≡ false) }
-    ensures binary { terminals.output ≡ true
-        → IfOk result (λ order. shows_binary order.form (option_map (λ name. name.now) order.output)
-        ≡ false) }
+) -> Result<Request<'a>, Stop>
+    // the words say what is asked for, but for whether it is told how far work is
+    ensures says { IfOk result (λ request. (told : Bool)
+        × SaysRequest (map S.text words.now) (with_progress told request)) }
+    ensures binary { terminals.output ≡ true → IfOk result (λ request. IfOne request
+        (λ order. shows_binary order.form (option_map (λ name. name.now) order.output) ≡ false)) }
     ensures progress { terminals.error ≡ false
-        → IfOk result (λ order. order.tells_progress ≡ false) }
+        → IfOk result (λ request. IfOne request (λ order. order.tells_progress ≡ false)) }
+    // at a terminal it is told, unless the words leave it out
+    ensures heard { terminals.error ≡ true → IfOk result (SaysRequest (map S.text words.now)) }
     ensures bare { terminals.input ≡ true → length words.now ≡ 0 → IfOk result (λ _. ⊥) }
+    // where neither is a terminal, words that say what is asked for are understood
+    ensures understood { terminals.input ≡ false → terminals.output ≡ false
+        → IfErr result (λ stop. (stop.status ≡ 3)
+        ⊎ ((r : RequestSaid) → ¬ SaysRequest (map S.text words.now) r)) }
 {
     if terminals.input && words.is_empty() {
         return Err(help(alloc));
     }
-    let mut order = order(alloc, words)?;
-    order.tells_progress = order.tells_progress && terminals.error;
-    if terminals.output && shows_binary(&order) {
-        return Err(refused(alloc, TERMINAL));
+    match request(alloc, words)? {
+        Request::One(order) => Ok(Request::One(order_at(alloc, order, terminals)?)),
+        Request::Many(list) => Ok(Request::Many(list)),
     }
-    Ok(order)
 }

@@ -1,5 +1,5 @@
 -- Failures that are told.
-use Rattle.std.proofs.Common.{◌≡◌, ◌<◌, ◌⊎◌, ℕ, zero, suc, List, Option, Result, Ok, Err, OnOk, inl, inr, codes, refl, sym, subst, ◌∙◌, arith}
+use Rattle.std.proofs.Common.{◌≡◌, ◌<◌, ◌⊎◌, ℕ, zero, suc, List, Option, None, Result, Ok, Err, OnOk, inl, inr, codes, refl, sym, subst, ◌∙◌, arith}
 use Rattle.std.specs.Io.KnownBytes.{Appends}
 use Rattle.base.specs.Device.{CountsFaults, HasRisen}
 use Rattle.base.specs.declared.device.DeviceFault.{DeviceFault}
@@ -69,3 +69,12 @@ answered_by Answered (suc (suc n)) few done other = absurd (omega (arith, few))
 pub told_or_failed : (r : Result ℕ DeviceFault) (before after : Option (List ℕ)) (line : List ℕ) (e m e' : ℕ) → m ≡ e → OnOk r (Appends before after line) → CountsFaults r m e' → HasRisen e e' ⊎ Appends before after line
 told_or_failed (Ok x) before after line e m e' same told counted = inr told
 told_or_failed (Err x) before after line e m e' same told counted = inl (subst (λ (n : ℕ). HasRisen n e') same counted)
+
+-- it was told that memory was wanting, or standard error failed
+pub no_memory_told : (r : Result ℕ DeviceFault) (file : List ℕ) (second third output told told' : Option (List ℕ)) (e e' : ℕ) → OnOk r (Appends told told' (codes "no memory\n")) → CountsFaults r e e' → HasFailed file second third output told told' 0 0 0 0 0 0 0 0 e e'
+no_memory_told (Ok x) file second third output told told' e e' line counted = inr (record { why = refusal.NoMemory; reason = None; is_told = tt; counted = ((refl, refl, refl, counted), refl); line = line })
+no_memory_told (Err x) file second third output told told' e e' line counted = inl counted
+
+pub over_second : {A B C : Type 0} → (B → C) → A ⊎ B → A ⊎ C
+over_second f (inl a) = inl a
+over_second f (inr b) = inr (f b)

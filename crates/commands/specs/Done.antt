@@ -1,9 +1,9 @@
 -- What the exit statuses 0 and 1 of a command say.
-use Rattle.std.specs.Prelude.{◌≡◌, ℕ, Bool, true, false, not, List, ◌++◌, length, Option, None, Some, IfSome}
+use Rattle.std.specs.Prelude.{◌≡◌, ℕ, Bool, true, false, not, List, ◌++◌, length, Option, None, Some, IfSome, option_map}
+use Rattle.std.specs.Borrow.{Bor}
 use Rattle.std.specs.Io.KnownBytes.{Appends}
 use Rattle.btor2.specs.declared.item.Item.{Item}
 use Rattle.aiger.specs.Circuit.{Circuit}
-use Rattle.aigertext.specs.declared.forms.Form.{Form}
 use Rattle.blast.specs.Conversion.{Converts}
 use Rattle.blast.specs.Lowering.{Lowers}
 use Rattle.engine_form.specs.EngineForm.{input_count, IsEngineFormOf}
@@ -19,10 +19,10 @@ use Rattle.lift.specs.Lifted.{lifted_with}
 use Rattle.lift.specs.Verdicts.{KeepsVerdictIn}
 use Rattle.subcommands.specs.declared.answers.Answer.{Answer}
 use Rattle.subcommands.specs.declared.answers.Answer.TheVariants as answer
-use Rattle.subcommands.specs.Asked.{IsJudgedFor, IsJudgedOverFor}
+use Rattle.subcommands.specs.Asked.{ChecksCircuit, ChecksModel}
 use Rattle.subcommands.specs.Certificates.{CertifiesWith, WritesOwed}
 use Rattle.subcommands.specs.Assumed.{assumed_said}
-use Rattle.subcommands.specs.Done.{Compares, ConvertsForEngines, IsDumped, IsFormRestored, IsJudged, IsJudgedByName, IsJudgedOver, IsJudgedOverByName, Judged, LowersForEngines, Restores, Rewrites, ShowsModel, TellsCost, TellsRestored, Tidies, judgement_line}
+use Rattle.subcommands.specs.Done.{Compares, ConvertsForEngines, IsDumped, IsFormRestored, Judged, LowersForEngines, Restores, Rewrites, ShowsModel, TellsCost, TellsRestored, Tidies, judgement_line}
 use Rattle.subcommands.specs.Outputs.{ConvertsOutputs, ConvertsOutputsForEngines}
 use Rattle.subcommands.specs.Subjects.{bad_item_said, lifted_said, said_by_name, where_named}
 use Rattle.btor2text.specs.Spelling.{IsModelOf}
@@ -30,6 +30,7 @@ use Rattle.subcommands.specs.Claims.{CanBeClaimed, IsClaim}
 use Rattle.invocation.specs.declared.tasks.CertificateTask.TheVariants as certificate
 use Rattle.invocation.specs.declared.tasks.CircuitTask.TheVariants as circuit
 use Rattle.invocation.specs.declared.tasks.ModelTask.TheVariants as model
+use Rattle.invocation.specs.declared.tasks.Order.{Order}
 use Rattle.invocation.specs.declared.tasks.TextTask.TheVariants as text
 use Rattle.invocation.specs.declared.tasks.Task.{Task}
 use Rattle.invocation.specs.declared.tasks.Task.TheVariants as task
@@ -84,33 +85,45 @@ pub record IsFormLifted (named : Bool) (choice : Option ℕ) (model found before
   pub rises : named ≡ true → IfSome found (λ text. AreBitFirstRises lowered (form_restored_text lowered choice form text) firsts)
   pub lines : Appends told told' ((judgement_line verdict ++ lifting_said named items lowered firsts verdict) ++ assumed_said choice (length lowered.bads))
 
--- what a command has done that answers so, where it asks for the claim of a bad property or not. Of `first`, `second` and `third` each, all bytes that were to come are known, or none are; `before` and `now` stand on standard output, `told` and `told'` on standard error
-unfoldable pub Answers : Bool → Task → Option (List ℕ) → Form → Answer → Option (List ℕ) → Option (List ℕ) → Option (List ℕ) → Option (List ℕ) → Option (List ℕ) → Option (List ℕ) → Option (List ℕ) → Type 0
-Answers named (task.Text text.Lower) asked form answer.Done first second third before now told told' = Converts first form (Appends before now)
-Answers named (task.Model (model.LowerForEngines choice)) asked form answer.Done first second third before now told told' = LowersForEngines first before now form choice
-Answers named (task.Model model.CheckBtor) (Some word) form a first second third before now told told' = IsJudgedFor named word first second before now told told' a
-Answers false (task.Model model.CheckBtor) None form a first second third before now told told' = Judged (IsJudged first second before now) a
-Answers true (task.Model model.CheckBtor) None form a first second third before now told told' = Judged (IsJudgedByName first second before now told told') a
-Answers named (task.Model model.Show) asked form answer.Done first second third before now told told' = ShowsModel first before now
-Answers named (task.Model model.Cost) asked form answer.Done first second third before now told told' = TellsCost first before now
-Answers named (task.Circuit circuit.AigConvert) asked form answer.Done first second third before now told told' = Rewrites first before now form
-Answers named (task.Circuit (circuit.ConvertForEngines choice)) asked form answer.Done first second third before now told told' = ConvertsForEngines first before now form choice
-Answers named (task.Circuit circuit.ConvertOutputs) asked form answer.Done first second third before now told told' = ConvertsOutputs first before now form
-Answers named (task.Circuit (circuit.ConvertOutputsForEngines choice)) asked form answer.Done first second third before now told told' = ConvertsOutputsForEngines first before now form choice
-Answers named (task.Text (text.TidyWitness pick)) asked form answer.Done first second third before now told told' = Tidies pick first before now
-Answers named (task.Circuit circuit.CheckAig) (Some word) form a first second third before now told told' = IsJudgedOverFor named word first second before now told told' a
-Answers false (task.Circuit circuit.CheckAig) None form a first second third before now told told' = Judged (IsJudgedOver first second before now) a
-Answers true (task.Circuit circuit.CheckAig) None form a first second third before now told told' = Judged (IsJudgedOverByName first second before now told told') a
-Answers named (task.Model model.Lift) asked form a first second third before now told told' = Judged (IsLifted named first second before now told told') a
-Answers named (task.Model (model.Wave shown)) asked form a first second third before now told told' = Judged (IsDumped shown first second before now told told') a
-Answers named (task.Circuit (circuit.Restore choice)) asked form a first second third before now told told' = Restores choice first second before now told told' a
-Answers named (task.Circuit (circuit.RestoreForm choice)) asked form a first second third before now told told' = Judged (IsFormRestored choice first second before now told told') a
-Answers named (task.Model (model.LiftFound choice)) asked form a first second third before now told told' = LiftsFound named choice first second before now told told' a
-Answers named (task.Model (model.LiftForm choice)) asked form a first second third before now told told' = Judged (IsFormLifted named choice first second before now told told') a
-Answers named (task.Text text.Vectors) asked form a first second third before now told told' = Compares first before now a
-Answers named (task.Certificate (certificate.Obligation g by choice)) asked form answer.Done first second third before now told told' = WritesOwed g by choice first second before now
-Answers named (task.Certificate (certificate.CheckProof g by choice)) asked form a first second third before now told told' = CertifiesWith named g by choice first second third before now told told' a
-Answers named _ asked form a first second third before now told told' = ⊥
+-- a name, where there is one
+abbrev pub name_of : Option (Bor (List ℕ)) → Option (List ℕ)
+name_of = option_map (λ name. name.now)
+
+-- the word by which a command asks for a bad property
+abbrev pub asked_of : Order → Option (List ℕ)
+asked_of o = name_of o.asked
+
+-- of a judgement only its line is written, without names or a bad property that is asked for
+abbrev pub is_plain_as : Bool → Bool → Option (Bor (List ℕ)) → Bool
+is_plain_as false false None = true
+is_plain_as named as_json asked = false
+
+abbrev pub is_plain : Order → Bool
+is_plain o = is_plain_as o.named o.as_json o.asked
+
+-- what a command has done of a task that answers so, as an order asks for it. Of `first`, `second` and `third` each, all bytes that were to come are known, or none are; `before` and `now` stand on standard output, `told` and `told'` on standard error
+unfoldable pub Answers : Order → Task → Answer → Option (List ℕ) → Option (List ℕ) → Option (List ℕ) → Option (List ℕ) → Option (List ℕ) → Option (List ℕ) → Option (List ℕ) → Type 0
+Answers o (task.Text text.Lower) answer.Done first second third before now told told' = Converts first o.form (Appends before now)
+Answers o (task.Model (model.LowerForEngines choice)) answer.Done first second third before now told told' = LowersForEngines first before now o.form choice
+Answers o (task.Model model.CheckBtor) a first second third before now told told' = ChecksModel o.named o.as_json (asked_of o) first second before now told told' a
+Answers o (task.Model model.Show) answer.Done first second third before now told told' = ShowsModel first before now
+Answers o (task.Model model.Cost) answer.Done first second third before now told told' = TellsCost first before now
+Answers o (task.Circuit circuit.AigConvert) answer.Done first second third before now told told' = Rewrites first before now o.form
+Answers o (task.Circuit (circuit.ConvertForEngines choice)) answer.Done first second third before now told told' = ConvertsForEngines first before now o.form choice
+Answers o (task.Circuit circuit.ConvertOutputs) answer.Done first second third before now told told' = ConvertsOutputs first before now o.form
+Answers o (task.Circuit (circuit.ConvertOutputsForEngines choice)) answer.Done first second third before now told told' = ConvertsOutputsForEngines first before now o.form choice
+Answers o (task.Text (text.TidyWitness pick)) answer.Done first second third before now told told' = Tidies pick first before now
+Answers o (task.Circuit circuit.CheckAig) a first second third before now told told' = ChecksCircuit o.named o.as_json (asked_of o) first second before now told told' a
+Answers o (task.Model model.Lift) a first second third before now told told' = Judged (IsLifted o.named first second before now told told') a
+Answers o (task.Model (model.Wave shown)) a first second third before now told told' = Judged (IsDumped shown first second before now told told') a
+Answers o (task.Circuit (circuit.Restore choice)) a first second third before now told told' = Restores choice first second before now told told' a
+Answers o (task.Circuit (circuit.RestoreForm choice)) a first second third before now told told' = Judged (IsFormRestored choice first second before now told told') a
+Answers o (task.Model (model.LiftFound choice)) a first second third before now told told' = LiftsFound o.named choice first second before now told told' a
+Answers o (task.Model (model.LiftForm choice)) a first second third before now told told' = Judged (IsFormLifted o.named choice first second before now told told') a
+Answers o (task.Text text.Vectors) a first second third before now told told' = Compares first before now a
+Answers o (task.Certificate (certificate.Obligation g by choice)) answer.Done first second third before now told told' = WritesOwed g by choice first second before now
+Answers o (task.Certificate (certificate.CheckProof g by choice)) a first second third before now told told' = CertifiesWith o.named o.as_json g by choice first second third before now told told' a
+Answers o _ a first second third before now told told' = ⊥
 
 -- a command has one file
 unfoldable pub has_one_file : Task → Bool

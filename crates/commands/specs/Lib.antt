@@ -3,3 +3,4 @@ pub mod Done
 pub mod Files
 pub mod Refusals
 pub mod Statuses
+pub mod Results

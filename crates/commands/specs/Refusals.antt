@@ -1,5 +1,5 @@
 -- What a command says that is not done: the fault that its input has, and what lifting does not give.
-use Rattle.std.specs.Prelude.{ℕ, List, Option, Some, None}
+use Rattle.std.specs.Prelude.{ℕ, List, Option}
 use Rattle.lift.specs.declared.fault.LiftFault.{LiftFault}
 use Rattle.lift.specs.declared.fault.LiftFault.TheVariants as lift
 use Rattle.invocation.specs.declared.tasks.CertificateTask.TheVariants as certificate
@@ -14,7 +14,7 @@ use Rattle.subcommands.specs.declared.refusals.Device.TheVariants as device
 use Rattle.subcommands.specs.declared.refusals.Fault.{Fault}
 use Rattle.subcommands.specs.declared.refusals.Refusal.{Refusal}
 use Rattle.subcommands.specs.declared.refusals.Refusal.TheVariants as refusal
-use Rattle.subcommands.specs.Asked.{IsNotJudgedFor, IsNotJudgedOverFor}
+use Rattle.subcommands.specs.Asked.{IsNotJudgedOverWith, IsNotJudgedWith}
 use Rattle.subcommands.specs.Refusals.{IsFaultyCertificate, IsNoCircuit, IsNoModel, IsNoVectorList, IsNotCertifiable, IsNotClaimable, IsNotClaimed, IsNotForEngines, IsNotJudged, IsNotLowered}
 use Rattle.subcommands.specs.Outputs.{IsNotWithOutputs, IsNotWithOutputsForEngines}
 
@@ -22,16 +22,14 @@ use Rattle.subcommands.specs.Outputs.{IsNotWithOutputs, IsNotWithOutputsForEngin
 unfoldable pub RefusesTask : Task → Option (List ℕ) → Option (List ℕ) → Fault → Type 0
 RefusesTask (task.Text text.Lower) asked known f = IsNotLowered known f
 RefusesTask (task.Model (model.LowerForEngines choice)) asked known f = IsNotForEngines given.Model choice known f
-RefusesTask (task.Model model.CheckBtor) None known f = IsNotJudged known f
-RefusesTask (task.Model model.CheckBtor) (Some word) known f = IsNotJudgedFor word known f
+RefusesTask (task.Model model.CheckBtor) asked known f = IsNotJudgedWith asked known f
 RefusesTask (task.Model model.Show) asked known f = IsNoModel known f
 RefusesTask (task.Model model.Cost) asked known f = IsNoModel known f
 RefusesTask (task.Circuit circuit.AigConvert) asked known f = IsNoCircuit known f
 RefusesTask (task.Circuit (circuit.ConvertForEngines choice)) asked known f = IsNotForEngines given.Circuit choice known f
 RefusesTask (task.Circuit circuit.ConvertOutputs) asked known f = IsNotWithOutputs known f
 RefusesTask (task.Circuit (circuit.ConvertOutputsForEngines choice)) asked known f = IsNotWithOutputsForEngines choice known f
-RefusesTask (task.Circuit circuit.CheckAig) None known f = IsNotClaimable given.Circuit known f
-RefusesTask (task.Circuit circuit.CheckAig) (Some word) known f = IsNotJudgedOverFor word known f
+RefusesTask (task.Circuit circuit.CheckAig) asked known f = IsNotJudgedOverWith asked known f
 RefusesTask (task.Model model.Lift) asked known f = IsNotClaimable given.Model known f
 RefusesTask (task.Circuit (circuit.Restore choice)) asked known f = IsNotClaimed claimed.Found given.Circuit choice known f
 RefusesTask (task.Circuit (circuit.RestoreForm choice)) asked known f = IsNotForEngines given.Circuit choice known f

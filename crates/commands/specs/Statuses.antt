@@ -3,40 +3,45 @@ use Rattle.std.specs.Prelude.{◌≡◌, ℕ, List, Option, Err, ◌⊎◌}
 use Rattle.std.specs.Io.KnownBytes.{Appends}
 use Rattle.base.specs.Device.{HasRisen}
 use Rattle.base.specs.declared.reasons.Reason.{Reason}
-use Rattle.invocation.specs.declared.tasks.Task.{Task}
+use Rattle.invocation.specs.declared.tasks.Order.{Order}
 use Rattle.subcommands.specs.declared.refusals.Device.TheVariants as device
 use Rattle.subcommands.specs.declared.refusals.Fault.{Fault}
 use Rattle.subcommands.specs.declared.refusals.Refusal.{Refusal}
 use Rattle.subcommands.specs.declared.refusals.Refusal.TheVariants as refusal
 use Rattle.subcommands.specs.declared.answers.Answer.{Answer}
 use Rattle.subcommands.specs.Refusals.{device_line, fault_line, output_name, refusal_line, second_name, status_of_fault}
+use Rattle.subcommands.specs.Objects.{refusal_written}
 use Rattle.subcommands.specs.Statuses.{CountsAll}
+use Rattle.commands.specs.Done.{asked_of, name_of}
 use Rattle.commands.specs.Refusals.{RefusesTask, RefusesSecond}
 
--- the first text has a fault for which the command refuses it, and the line that tells that fault of the first file was written
-pub record IsFirstRefused (task : Task) (asked : Option (List ℕ)) (file : List ℕ) (first told told' : Option (List ℕ)) : Type 0 where
+-- the first text has a fault for which a command refuses it; the line that tells that fault of the first file was written to standard error, and an object that tells it to standard output where one is asked for
+pub record IsFirstRefused (o : Order) (first before now told told' : Option (List ℕ)) : Type 0 where
   pub fault : Fault
-  pub has : RefusesTask task asked first fault
+  pub has : RefusesTask o.task (asked_of o) first fault
   pub status : status_of_fault fault ≡ 2
-  pub line : Appends told told' (fault_line file fault)
+  pub written : Appends before now (refusal_written o.as_json o.first.now fault)
+  pub line : Appends told told' (fault_line o.first.now fault)
 
--- the second text has one, and the line that tells that fault of the second file was written
-pub record IsSecondRefused (task : Task) (file : List ℕ) (first second told told' : Option (List ℕ)) : Type 0 where
+-- the same of the second text, and of the second file
+pub record IsSecondRefused (o : Order) (first second before now told told' : Option (List ℕ)) : Type 0 where
   pub fault : Fault
-  pub has : RefusesSecond task first second fault
+  pub has : RefusesSecond o.task first second fault
   pub status : status_of_fault fault ≡ 2
-  pub line : Appends told told' (fault_line file fault)
+  pub written : Appends before now (refusal_written o.as_json (second_name (name_of o.second)) fault)
+  pub line : Appends told told' (fault_line (second_name (name_of o.second)) fault)
 
 -- Status 2: the first file is refused, or the second one; the line names the file that it is about.
-abbrev pub IsRefused : Task → Option (List ℕ) → List ℕ → Option (List ℕ) → Option (List ℕ) → Option (List ℕ) → Option (List ℕ) → Option (List ℕ) → Type 0
-IsRefused task asked file name first second told told' = IsFirstRefused task asked file first told told' ⊎ IsSecondRefused task (second_name name) first second told told'
+abbrev pub IsRefused : Order → Option (List ℕ) → Option (List ℕ) → Option (List ℕ) → Option (List ℕ) → Option (List ℕ) → Option (List ℕ) → Type 0
+IsRefused o first second before now told told' = IsFirstRefused o first before now told told' ⊎ IsSecondRefused o first second before now told told'
 
--- Status 4: words leave open which bad property of the first text is claimed, or ask for one by a name that two have, and the line that says so was written.
-pub record IsLeftOpen (task : Task) (asked : Option (List ℕ)) (file : List ℕ) (first told told' : Option (List ℕ)) : Type 0 where
+-- Status 4: words leave open which bad property of the first text is claimed, or ask for one by a name that two have, and the line that says so was written, and an object where one is asked for.
+pub record IsLeftOpen (o : Order) (first before now told told' : Option (List ℕ)) : Type 0 where
   pub fault : Fault
-  pub has : RefusesTask task asked first fault
+  pub has : RefusesTask o.task (asked_of o) first fault
   pub status : status_of_fault fault ≡ 4
-  pub line : Appends told told' (fault_line file fault)
+  pub written : Appends before now (refusal_written o.as_json o.first.now fault)
+  pub line : Appends told told' (fault_line o.first.now fault)
 
 -- a refusal is none of an input, and standard error did not fail
 abbrev pub IsTold : Refusal → Type 0

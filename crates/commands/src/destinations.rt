@@ -1,19 +1,18 @@
-//! Where results go: to standard output, to what stands at a name and is no file, or beside the file whose place they take.
+//! The files of the system: those that are read, and results, which go to what stands at a name and is no file, or beside the
+//! file whose place they take.
 
-ghost use Rattle.std.specs.Prelude.{◌≡◌, false, true, IfOk, OnOk, is_none, option_map};
+ghost use Rattle.std.specs.Prelude.{◌≡◌, None, Some, false, IfOk, OnOk};
 ghost use Rattle.std.specs.String.{string_bytes};
 ghost use Rattle.base.specs.Device.{CountsFaults};
-ghost use Rattle.commands.specs.Files.{part_name};
-ghost use Rattle.subcommands.specs.Files.{is_standard};
+ghost use Rattle.commands.specs.Files.{of_output, part_name};
 
-use crate::result_names::ResultName;
-use base::{DeviceFault, Reason, Sink, ToWriter};
+use base::{DeviceFault, FromReader, Reason, Sink, ToWriter};
 use std::alloc::{AllocError, Global};
 use std::fs::{self, Metadata, OpenFile, OpenOptions};
 use std::io::{self, ErrorKind, Write};
 use std::path::{Path, PathBuf};
 use std::rt::Files;
-use subcommands::{NoFile, Stream};
+use subcommands::{NamedFiles, NoFile, ResultName};
 
 /// The most bytes of a file's last name that stand in that of its part. A file system takes 255.
 const MOST_OF_NAME: usize = 200;
@@ -40,7 +39,7 @@ struct Part<F: Drop> {
 /// What a result needs to have its name.
 #[derive(Drop)]
 enum Place<F: Drop> {
-    /// Nothing: it goes to standard output, or to what stands at its name, as a device or a pipe.
+    /// Nothing: it goes to what stands at its name, as a device or a pipe.
     AsItStands,
     /// It takes the place of a file.
     Beside(Part<F>),
@@ -48,14 +47,32 @@ enum Place<F: Drop> {
     Nowhere(Option<Reason>),
 }
 
-/// The name of a result that goes to a file, or of one that needs none.
+/// What a result of the system is written to.
+#[derive(Drop)]
+pub enum FileOutput<F: Write + Drop> {
+    /// What was opened.
+    File(ToWriter<F>),
+    /// Nothing could be opened.
+    Missing(NoFile),
+}
+
+/// The name of a result that goes to a file of the system.
 #[derive(Drop)]
 pub struct FileName<'a, R: Files> {
     rt: &'a R,
+    name: String,
     place: Place<R::File>,
     is_given: bool,
     failures: u128,
     reason: Option<Reason>,
+}
+
+/// The files of the system, of whose bytes nothing can be told.
+#[derive(Clone, Copy)]
+pub struct SystemFiles<'a, R: Files> {
+    rt: &'a R,
+    // the number of the process, by which parts are named
+    process: u32,
 }
 
 /// The name of a part: in the folder of its file, with a beginning, the number of the process, and a number from 1 where others
@@ -219,14 +236,34 @@ impl<F: OpenFile + Drop> Part<F> {
     }
 }
 
+impl<F: Write + Drop> Sink for FileOutput<F> {
+    ghost failures = { of_output ⟦<ToWriter<F> as Sink>⟧.failures ⟦<NoFile as Sink>⟧.failures };
+
+    fn write(&mut self, bytes: &[u8]) -> Result<usize, DeviceFault> {
+        match self {
+            FileOutput::File(file) => file.write(bytes),
+            FileOutput::Missing(missing) => missing.write(bytes),
+        }
+    }
+
+    fn reason(&self) -> Option<Reason> {
+        match self {
+            FileOutput::File(file) => file.reason(),
+            FileOutput::Missing(missing) => Sink::reason(missing),
+        }
+    }
+}
+
 impl<'a, R: Files> FileName<'a, R> {
     /// A name that was not given yet.
-    fn new(rt: &'a R, place: Place<R::File>) -> FileName<'a, R>
-        ensures given { ⟦<FileName<'a, R> as ResultName>⟧.is_given result ≡ false }
-        ensures failures { ⟦<FileName<'a, R> as ResultName>⟧.failures result ≡ 0 }
+    fn new(rt: &'a R, name: String, place: Place<R::File>) -> FileName<'a, R>
+        ensures name { result.name ≡ name }
+        ensures given { result.is_given ≡ false }
+        ensures failures { result.failures ≡ 0 }
     {
         FileName {
             rt,
+            name,
             place,
             is_given: false,
             failures: 0,
@@ -238,6 +275,7 @@ impl<'a, R: Files> FileName<'a, R> {
     fn fail(&mut self, reason: Option<Reason>) -> Result<(), DeviceFault>
         ensures is_err { OnOk result ⊥ }
         ensures given { self.new.is_given ≡ self.old.is_given }
+        ensures name { self.new.name ≡ self.old.name }
         ensures counted { CountsFaults result self.old.failures self.new.failures }
     {
         self.failures = self.failures.saturating_add(1);
@@ -247,6 +285,8 @@ impl<'a, R: Files> FileName<'a, R> {
 }
 
 impl<R: Files> ResultName for FileName<'_, R> {
+    ghost name = { λ n. Some (string_bytes n.name) };
+
     ghost is_given = { λ n. n.is_given };
 
     ghost failures = { λ n. n.failures };
@@ -283,45 +323,48 @@ impl<R: Files> ResultName for FileName<'_, R> {
     }
 }
 
-/// What a result goes to and the name that it gets: standard output where there is none; else what stands at the name, where
-/// that is no file; else a new file beside that of the name, or beside that to which the name leads as a link.
-///
-/// Where nothing can be opened every write fails, and so does giving the name, for the reason that the system told.
-///
-/// Error: a growth was refused.
-pub fn open_output<'a, R: Files, S: Write + Drop>(
-    rt: &'a R,
-    alloc: Global,
-    standard: S,
-    name: Option<&str>,
-    process: u32,
-) -> Result<(Stream<ToWriter<S>, ToWriter<R::File>>, FileName<'a, R>), AllocError>
-    ensures standard { IfOk result (λ opened. is_standard opened.0
-        ≡ is_none (option_map (λ name. name.now) name.entry)) }
-    ensures bytes { IfOk result (λ opened. is_standard opened.0 ≡ true
-        → ⟦<Stream<ToWriter<S>, ToWriter<R::File>> as Sink>⟧.written opened.0
-        ≡ S.contents standard) }
-    ensures failures { IfOk result
-        (λ opened. ⟦<Stream<ToWriter<S>, ToWriter<R::File>> as Sink>⟧.failures opened.0 ≡ 0) }
-    ensures given { IfOk result (λ opened. ⟦<FileName<'a, R> as ResultName>⟧.is_given opened.1
-        ≡ false) }
-    ensures name_failures { IfOk result
-        (λ opened. ⟦<FileName<'a, R> as ResultName>⟧.failures opened.1 ≡ 0) }
-{
-    let Some(name) = name else {
-        let out = Stream::Standard(ToWriter::new(standard));
-        return Ok((out, FileName::new(rt, Place::AsItStands)));
-    };
-    match open_named(rt, alloc, name, process) {
-        Ok((file, place)) => {
-            let out = Stream::File(ToWriter::new(file));
-            Ok((out, FileName::new(rt, place)))
+impl<'a, R: Files> SystemFiles<'a, R> {
+    /// Those of this system, for the process of this number.
+    pub fn new(rt: &'a R, process: u32) -> SystemFiles<'a, R> {
+        SystemFiles { rt, process }
+    }
+}
+
+impl<'a, R: Files> NamedFiles for SystemFiles<'a, R> {
+    type File = FromReader<R::File>;
+
+    type Output = FileOutput<R::File>;
+
+    type Name = FileName<'a, R>;
+
+    ghost text = { λ _ _. None };
+
+    fn open(&self, name: &str) -> Result<FromReader<R::File>, Option<Reason>> {
+        match fs::open(self.rt, name) {
+            Ok(file) => Ok(FromReader::new(file)),
+            Err(error) => Err(Reason::of(&error)),
         }
-        Err(error) if error.kind() == ErrorKind::OutOfMemory => Err(AllocError),
-        Err(error) => {
-            let reason = Reason::of(&error);
-            let out = Stream::Missing(NoFile::new(reason));
-            Ok((out, FileName::new(rt, Place::Nowhere(reason))))
+    }
+
+    /// A result goes to what stands at the name, where that is no file; else to a new file beside that of the name, or beside
+    /// that to which the name leads as a link.
+    fn create(
+        &self,
+        alloc: Global,
+        name: &str,
+    ) -> Result<(FileOutput<R::File>, FileName<'a, R>), AllocError> {
+        let own = String::from_str(alloc, name)?;
+        match open_named(self.rt, alloc, name, self.process) {
+            Ok((file, place)) => {
+                let out = FileOutput::File(ToWriter::new(file));
+                Ok((out, FileName::new(self.rt, own, place)))
+            }
+            Err(error) if error.kind() == ErrorKind::OutOfMemory => Err(AllocError),
+            Err(error) => {
+                let reason = Reason::of(&error);
+                let out = FileOutput::Missing(NoFile::new(reason));
+                Ok((out, FileName::new(self.rt, own, Place::Nowhere(reason))))
+            }
         }
     }
 }

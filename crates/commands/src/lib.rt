@@ -7,11 +7,11 @@ mod form_lifting;
 mod lifting;
 mod on_files;
 mod outputs;
-mod result_names;
+#[cfg(test)]
+mod tests;
 mod running;
 
-pub use destinations::{FileName, open_output};
-pub use on_files::{Surroundings, run_on_files};
+pub use destinations::{FileName, FileOutput, SystemFiles};
+pub use on_files::run_on_files;
 pub use outputs::run_to_file;
-pub use result_names::ResultName;
 pub use running::run;

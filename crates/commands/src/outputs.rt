@@ -1,17 +1,16 @@
 //! Commands whose result gets a name once all of it is written.
 
-ghost use Rattle.std.specs.Prelude.{◌≡◌, ◌≢◌, ◌≤◌, ◌⊎◌, true, false, option_map};
+ghost use Rattle.std.specs.Prelude.{◌≡◌, ◌≢◌, ◌≤◌, ◌⊎◌, true, false};
 ghost use Rattle.subcommands.specs.declared.answers.Answer.TheVariants as answer;
-ghost use Rattle.commands.specs.Done.{Answers, has_one_file, has_three_files, is_quiet};
+ghost use Rattle.commands.specs.Done.{Answers, has_one_file, has_three_files, is_quiet, name_of};
 ghost use Rattle.commands.specs.Statuses.{HasFailed, IsLeftOpen, IsRefused, IsUnnamed};
 
-use crate::result_names::ResultName;
 use crate::running::run;
 use base::{Sink, Source};
 use blast::Watch;
 use invocation::{DEVICE, NOT_ACCEPTED, Order};
 use std::alloc::Global;
-use subcommands::tell_output;
+use subcommands::{ResultName, tell_output};
 
 /// Does a command, gives its result its name, and answers the exit status, as `run` does.
 ///
@@ -28,34 +27,35 @@ pub fn run_to_file<A: Source, B: Source, T: Source, O: Sink, N: ResultName, E: S
     err: &mut E,
     watch: &mut W,
 ) -> u8
-    ensures done { result ≡ 0 → Answers order.now.named order.now.task (option_map (λ word. word.now) order.now.asked) order.now.form answer.Done
+    ensures done { result ≡ 0 → Answers order.now order.now.task answer.Done
         (A.to_come first.old) (B.to_come second.old) (T.to_come third.old) (O.written out.old)
         (O.written out.new) (E.written err.old) (E.written err.new) }
     ensures not_accepted { result ≡ 1
-        → Answers order.now.named order.now.task (option_map (λ word. word.now) order.now.asked) order.now.form answer.NotAccepted
+        → Answers order.now order.now.task answer.NotAccepted
         (A.to_come first.old) (B.to_come second.old) (T.to_come third.old) (O.written out.old)
         (O.written out.new) (E.written err.old) (E.written err.new) }
     // the name is given to a result that is done, and to no other
     ensures named { result ≤ 1 → N.is_given name.new ≡ true }
     ensures unnamed { ¬ (result ≤ 1) → N.is_given name.new ≡ N.is_given name.old }
-    ensures refused { result ≡ 2 → IsRefused order.now.task (option_map (λ word. word.now) order.now.asked) order.now.first.now
-        (option_map (λ name. name.now) order.now.second) (A.to_come first.old)
-        (B.to_come second.old) (E.written err.old) (E.written err.new) }
-    ensures left_open { result ≡ 4
-        → IsLeftOpen order.now.task (option_map (λ word. word.now) order.now.asked) order.now.first.now (A.to_come first.old) (E.written err.old)
+    ensures refused { result ≡ 2 → IsRefused order.now (A.to_come first.old)
+        (B.to_come second.old) (O.written out.old) (O.written out.new) (E.written err.old)
         (E.written err.new) }
-    ensures unwritten { result ≡ 2 → out.new ≡ out.old }
-    ensures unwritten_words { result ≡ 4 → out.new ≡ out.old }
+    ensures left_open { result ≡ 4
+        → IsLeftOpen order.now (A.to_come first.old) (O.written out.old) (O.written out.new)
+        (E.written err.old) (E.written err.new) }
+    ensures unwritten { result ≡ 2 → order.now.as_json ≡ false → out.new ≡ out.old }
+    ensures unwritten_words { result ≡ 4 → order.now.as_json ≡ false → out.new ≡ out.old }
+    ensures same_name { N.name name.new ≡ N.name name.old }
     ensures failed { result ≡ 3
-        → HasFailed order.now.first.now (option_map (λ name. name.now) order.now.second)
-        (option_map (λ name. name.now) order.now.third)
-        (option_map (λ name. name.now) order.now.output) (E.written err.old) (E.written err.new)
+        → HasFailed order.now.first.now (name_of order.now.second)
+        (name_of order.now.third)
+        (name_of order.now.output) (E.written err.old) (E.written err.new)
         (A.failures first.old) (A.failures first.new) (B.failures second.old)
         (B.failures second.new) (T.failures third.old) (T.failures third.new) (O.failures out.old)
         (O.failures out.new) (E.failures err.old) (E.failures err.new)
-        ⊎ IsUnnamed (Answers order.now.named order.now.task (option_map (λ word. word.now) order.now.asked) order.now.form) (A.to_come first.old)
+        ⊎ IsUnnamed (Answers order.now order.now.task) (A.to_come first.old)
         (B.to_come second.old) (T.to_come third.old) (O.written out.old) (O.written out.new)
-        (option_map (λ name. name.now) order.now.output) (E.written err.old) (E.written err.new)
+        (name_of order.now.output) (E.written err.old) (E.written err.new)
         (A.failures first.old) (A.failures first.new) (B.failures second.old)
         (B.failures second.new) (T.failures third.old) (T.failures third.new) (O.failures out.old)
         (O.failures out.new) (E.failures err.old) (E.failures err.new) (N.failures name.old)

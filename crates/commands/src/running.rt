@@ -1,17 +1,20 @@
 //! Doing a command.
 
-ghost use Rattle.std.specs.Prelude.{◌≡◌, ◌≢◌, ◌≤◌, ℕ, List, Option, true, false, IfOk, IfErr, option_map};
+ghost use Rattle.std.specs.Prelude.{◌≡◌, ◌≢◌, ◌≤◌, ℕ, List, Option, true, false, IfOk, IfErr};
 ghost use Rattle.subcommands.specs.declared.answers.Answer.TheVariants as answer;
 ghost use Rattle.btor2text.specs.Spelling.{IsModelOf};
 ghost use Rattle.aigertext.specs.Spelling.{IsCircuitText};
 ghost use Rattle.invocation.specs.declared.tasks.CircuitTask.TheVariants as circuit_is;
 ghost use Rattle.invocation.specs.declared.tasks.ModelTask.TheVariants as model_is;
 ghost use Rattle.invocation.specs.declared.tasks.Task.TheVariants as task_is;
-ghost use Rattle.commands.specs.Done.{Answers, has_one_file, has_three_files, is_quiet};
+ghost use Rattle.commands.specs.Done.{Answers, asked_of, has_one_file, has_three_files, is_plain, is_quiet, name_of};
 ghost use Rattle.commands.specs.Refusals.{RefusesTask, RefusesSecond};
-ghost use Rattle.subcommands.specs.Statuses.{Ends, EndsAll, IfInput, IfSecond};
+ghost use Rattle.std.specs.Io.KnownBytes.{Appends};
+ghost use Rattle.subcommands.specs.Refusals.{second_name};
+ghost use Rattle.subcommands.specs.Statuses.{CountsAll, Ends, EndsAll, ErrUntold, IfInput, IfSecond};
 ghost use Rattle.subcommands.specs.Statuses.Use.{Unused, Used};
 ghost use Rattle.commands.specs.Statuses.{HasFailed, IsLeftOpen, IsRefused};
+ghost use Rattle.subcommands.specs.Objects.{refusal_written};
 
 use crate::engine_lifting::lift_counterexample;
 use crate::form_lifting::lift_form_witness;
@@ -23,11 +26,11 @@ use btor2::Model;
 use invocation::{CertificateTask, CircuitTask, DEVICE, ModelTask, Order, Task, TextTask};
 use std::alloc::Global;
 use subcommands::{
-    Answer, Device, Refusal, check_circuit, check_circuit_by_name, check_circuit_for, check_model,
-    check_model_by_name, check_model_for, check_proof, compare_vectors, convert_circuit,
-    convert_for_engines, convert_outputs, convert_outputs_for_engines, dump_witness,
-    lower_for_engines, lower_model, read_circuit, read_model, restore_counterexample,
-    restore_witness, show, tell, tell_cost, tidy_witness, write_obligation,
+    Answer, Device, Refusal, check_circuit, check_circuit_with, check_model, check_model_with,
+    check_proof, compare_vectors, convert_circuit, convert_for_engines, convert_outputs,
+    convert_outputs_for_engines, dump_witness, lower_for_engines, lower_model, read_circuit,
+    read_model, restore_counterexample, restore_witness, show, tell, tell_cost, tidy_witness,
+    write_obligation, write_refusal,
 };
 
 /// Does a command, and answers the exit status: 0 done or accepted, 1 not accepted, 2 input refused, 3 device or memory, 4
@@ -49,8 +52,8 @@ use subcommands::{
 /// - 1: the witness is judged and not accepted, or does not claim the bad property that is asked for, and the line of its judgement, or what it is lifted or restored to, was
 ///   written; or a line of a counterexample is faulty, and what those before it are restored to was; or the lines of
 ///   vectors that differ were; or the line was that tells why a certificate does not hold.
-/// - 2: the first file is refused, or, where it is a certificate, the second. Nothing was written to `out`, no device
-///   failed, and the line on `err` names the file and tells the first fault of its text, or the first that speaks against
+/// - 2: the first file is refused, or, where it is a certificate, the second. Nothing was written to `out`, or an object that
+///   tells it where one is asked for; no device failed, and the line on `err` names the file and tells the first fault of its text, or the first that speaks against
 ///   its model, or against an obligation of its cubes, or a test of its circuit.
 /// - 3: a device failed, and the line on `err` names it, or `err` itself failed; or memory was wanting, and no device
 ///   failed.
@@ -66,26 +69,26 @@ pub fn run<A: Source, B: Source, T: Source, O: Sink, E: Sink, W: Watch>(
     err: &mut E,
     watch: &mut W,
 ) -> u8
-    ensures done { result ≡ 0 → Answers order.now.named order.now.task (option_map (λ word. word.now) order.now.asked) order.now.form answer.Done
+    ensures done { result ≡ 0 → Answers order.now order.now.task answer.Done
         (A.to_come first.old) (B.to_come second.old) (T.to_come third.old) (O.written out.old)
         (O.written out.new) (E.written err.old) (E.written err.new) }
     ensures not_accepted { result ≡ 1
-        → Answers order.now.named order.now.task (option_map (λ word. word.now) order.now.asked) order.now.form answer.NotAccepted
+        → Answers order.now order.now.task answer.NotAccepted
         (A.to_come first.old) (B.to_come second.old) (T.to_come third.old) (O.written out.old)
         (O.written out.new) (E.written err.old) (E.written err.new) }
-    ensures refused { result ≡ 2 → IsRefused order.now.task (option_map (λ word. word.now) order.now.asked) order.now.first.now
-        (option_map (λ name. name.now) order.now.second) (A.to_come first.old)
-        (B.to_come second.old) (E.written err.old) (E.written err.new) }
-    ensures left_open { result ≡ 4
-        → IsLeftOpen order.now.task (option_map (λ word. word.now) order.now.asked) order.now.first.now (A.to_come first.old) (E.written err.old)
+    ensures refused { result ≡ 2 → IsRefused order.now (A.to_come first.old)
+        (B.to_come second.old) (O.written out.old) (O.written out.new) (E.written err.old)
         (E.written err.new) }
-    // nothing is written of an input that is refused, and nothing where the words are
-    ensures unwritten { result ≡ 2 → out.new ≡ out.old }
-    ensures unwritten_words { result ≡ 4 → out.new ≡ out.old }
+    ensures left_open { result ≡ 4
+        → IsLeftOpen order.now (A.to_come first.old) (O.written out.old) (O.written out.new)
+        (E.written err.old) (E.written err.new) }
+    // without objects nothing is written of an input that is refused, and nothing where the words are
+    ensures unwritten { result ≡ 2 → order.now.as_json ≡ false → out.new ≡ out.old }
+    ensures unwritten_words { result ≡ 4 → order.now.as_json ≡ false → out.new ≡ out.old }
     ensures failed { result ≡ 3
-        → HasFailed order.now.first.now (option_map (λ name. name.now) order.now.second)
-        (option_map (λ name. name.now) order.now.third)
-        (option_map (λ name. name.now) order.now.output) (E.written err.old) (E.written err.new)
+        → HasFailed order.now.first.now (name_of order.now.second)
+        (name_of order.now.third)
+        (name_of order.now.output) (E.written err.old) (E.written err.new)
         (A.failures first.old) (A.failures first.new) (B.failures second.old)
         (B.failures second.new) (T.failures third.old) (T.failures third.new) (O.failures out.old)
         (O.failures out.new) (E.failures err.old) (E.failures err.new) }
@@ -101,7 +104,7 @@ pub fn run<A: Source, B: Source, T: Source, O: Sink, E: Sink, W: Watch>(
     ensures no_third { has_three_files order.now.task ≡ false → third.new ≡ third.old }
     ensures statuses { result ≤ 4 }
 {
-    match obey(alloc, order, first, second, third, out, err, watch) {
+    match obey_and_object(alloc, order, first, second, third, out, err, watch) {
         Ok(answer) => answer.status(),
         Err(refusal) => {
             let reason = reason_of(&refusal, first, second, third, out);
@@ -130,6 +133,47 @@ fn reason_of<A: Source, B: Source, T: Source, O: Sink>(
     }
 }
 
+/// Does a command, and of a refused file writes the object that tells it, where one is asked for.
+fn obey_and_object<A: Source, B: Source, T: Source, O: Sink, E: Sink, W: Watch>(
+    alloc: Global,
+    order: &Order<'_>,
+    first: &mut A,
+    second: &mut B,
+    third: &mut T,
+    out: &mut O,
+    err: &mut E,
+    watch: &mut W,
+) -> Result<Answer, Refusal>
+    ensures done { IfOk result
+        (λ answer. Answers order.now order.now.task answer
+        (A.to_come first.old) (B.to_come second.old) (T.to_come third.old) (O.written out.old)
+        (O.written out.new) (E.written err.old) (E.written err.new)) }
+    ensures refused { IfErr result (IfInput (λ f. RefusesTask order.now.task (asked_of order.now)
+        (A.to_come first.old) f × Appends (O.written out.old) (O.written out.new)
+        (refusal_written order.now.as_json order.now.first.now f))) }
+    ensures refused_second { IfErr result (IfSecond (λ f. RefusesSecond order.now.task
+        (A.to_come first.old) (B.to_come second.old) f
+        × Appends (O.written out.old) (O.written out.new)
+        (refusal_written order.now.as_json (second_name (name_of order.now.second)) f))) }
+    ensures counted { CountsAll result (A.failures first.old) (A.failures first.new)
+        (B.failures second.old) (B.failures second.new) (T.failures third.old)
+        (T.failures third.new) (O.failures out.old) (O.failures out.new) (E.failures err.old)
+        (E.failures err.new) }
+    ensures untold { ErrUntold result (err.new ≡ err.old) }
+    ensures unwritten { order.now.as_json ≡ false
+        → IfErr result (IfInput (λ _. out.new ≡ out.old)) }
+    ensures unwritten_second { order.now.as_json ≡ false
+        → IfErr result (IfSecond (λ _. out.new ≡ out.old)) }
+    ensures quiet { is_quiet order.now.named order.now.task ≡ true → err.new ≡ err.old }
+    ensures one_file { has_one_file order.now.task ≡ true → second.new ≡ second.old }
+    ensures no_third { has_three_files order.now.task ≡ false → third.new ≡ third.old }
+{
+    match obey(alloc, order, first, second, third, out, err, watch) {
+        Ok(answer) => Ok(answer),
+        Err(refusal) => Err(write_refusal(order, refusal, out)),
+    }
+}
+
 /// Does a command, and tells no refusal.
 #[tactic(auto, unfolding(crate::specs::Done::has_one_file, crate::specs::Done::has_three_files))]
 fn obey<A: Source, B: Source, T: Source, O: Sink, E: Sink, W: Watch>(
@@ -143,10 +187,10 @@ fn obey<A: Source, B: Source, T: Source, O: Sink, E: Sink, W: Watch>(
     watch: &mut W,
 ) -> Result<Answer, Refusal>
     ensures done { IfOk result
-        (λ answer. Answers order.now.named order.now.task (option_map (λ word. word.now) order.now.asked) order.now.form answer
+        (λ answer. Answers order.now order.now.task answer
         (A.to_come first.old) (B.to_come second.old) (T.to_come third.old) (O.written out.old)
         (O.written out.new) (E.written err.old) (E.written err.new)) }
-    ensures refused { IfErr result (IfInput (RefusesTask order.now.task (option_map (λ word. word.now) order.now.asked) (A.to_come first.old))) }
+    ensures refused { IfErr result (IfInput (RefusesTask order.now.task (asked_of order.now) (A.to_come first.old))) }
     ensures refused_second { IfErr result
         (IfSecond (RefusesSecond order.now.task (A.to_come first.old) (B.to_come second.old))) }
     ensures ends { EndsAll result (Used A.failures first.old first.new)
@@ -180,11 +224,11 @@ fn obey_on_certificate<A: Source, B: Source, T: Source, O: Sink, E: Sink, W: Wat
     watch: &mut W,
 ) -> Result<Answer, Refusal>
     ensures done { IfOk result
-        (λ answer. Answers order.now.named (task_is.Certificate task) (option_map (λ word. word.now) order.now.asked) order.now.form answer
+        (λ answer. Answers order.now (task_is.Certificate task) answer
         (A.to_come first.old) (B.to_come second.old) (T.to_come third.old) (O.written out.old)
         (O.written out.new) (E.written err.old) (E.written err.new)) }
     ensures refused { IfErr result
-        (IfInput (RefusesTask (task_is.Certificate task) (option_map (λ word. word.now) order.now.asked) (A.to_come first.old))) }
+        (IfInput (RefusesTask (task_is.Certificate task) (asked_of order.now) (A.to_come first.old))) }
     ensures refused_second { IfErr result
         (IfSecond (RefusesSecond (task_is.Certificate task) (A.to_come first.old)
         (B.to_come second.old))) }
@@ -200,7 +244,7 @@ fn obey_on_certificate<A: Source, B: Source, T: Source, O: Sink, E: Sink, W: Wat
         }
         CertificateTask::CheckProof(given, by, choice) => check_proof(
             alloc,
-            order.named,
+            order,
             given,
             by,
             choice,
@@ -225,10 +269,10 @@ fn obey_on_text<A: Source, O: Sink, W: Watch>(
     watch: &mut W,
 ) -> Result<Answer, Refusal>
     ensures done { (second third told : Option (List ℕ))
-        → IfOk result (λ answer. Answers order.now.named (task_is.Text task) (option_map (λ word. word.now) order.now.asked) order.now.form answer
+        → IfOk result (λ answer. Answers order.now (task_is.Text task) answer
         (A.to_come first.old) second third (O.written out.old) (O.written out.new) told told) }
     ensures refused { IfErr result
-        (IfInput (RefusesTask (task_is.Text task) (option_map (λ word. word.now) order.now.asked) (A.to_come first.old))) }
+        (IfInput (RefusesTask (task_is.Text task) (asked_of order.now) (A.to_come first.old))) }
     ensures ends { Ends result (Used A.failures first.old first.new) Unused
         (Used O.failures out.old out.new) Unused }
 {
@@ -251,11 +295,11 @@ fn obey_on_model<A: Source, B: Source, O: Sink, E: Sink, W: Watch>(
     watch: &mut W,
 ) -> Result<Answer, Refusal>
     ensures done { (third : Option (List ℕ))
-        → IfOk result (λ answer. Answers order.now.named (task_is.Model task) (option_map (λ word. word.now) order.now.asked) order.now.form answer
+        → IfOk result (λ answer. Answers order.now (task_is.Model task) answer
         (A.to_come first.old) (B.to_come second.old) third (O.written out.old) (O.written out.new)
         (E.written err.old) (E.written err.new)) }
     ensures refused { IfErr result
-        (IfInput (RefusesTask (task_is.Model task) (option_map (λ word. word.now) order.now.asked) (A.to_come first.old))) }
+        (IfInput (RefusesTask (task_is.Model task) (asked_of order.now) (A.to_come first.old))) }
     ensures ends { Ends result (Used A.failures first.old first.new)
         (Used B.failures second.old second.new) (Used O.failures out.old out.new)
         (Used E.failures err.old err.new) }
@@ -279,11 +323,11 @@ fn do_on_model<B: Source, O: Sink, E: Sink, W: Watch>(
     watch: &mut W,
 ) -> Result<Answer, Refusal>
     ensures done { (known third : Option (List ℕ)) → IsModelOf known model.now
-        → IfOk result (λ answer. Answers order.now.named (task_is.Model task) (option_map (λ word. word.now) order.now.asked) order.now.form answer
+        → IfOk result (λ answer. Answers order.now (task_is.Model task) answer
         known (B.to_come second.old) third (O.written out.old) (O.written out.new)
         (E.written err.old) (E.written err.new)) }
     ensures refused { (known : Option (List ℕ)) → IsModelOf known model.now
-        → IfErr result (IfInput (RefusesTask (task_is.Model task) (option_map (λ word. word.now) order.now.asked) known)) }
+        → IfErr result (IfInput (RefusesTask (task_is.Model task) (asked_of order.now) known)) }
     ensures ends { Ends result Unused (Used B.failures second.old second.new)
         (Used O.failures out.old out.new) (Used E.failures err.old err.new) }
     ensures quiet { is_quiet order.now.named (task_is.Model task) ≡ true → err.new ≡ err.old }
@@ -307,6 +351,16 @@ fn do_on_model<B: Source, O: Sink, E: Sink, W: Watch>(
     }
 }
 
+/// Whether of a judgement only its line is written, without names or a bad property that is asked for.
+fn is_plain(order: &Order<'_>) -> bool
+    ensures { result ≡ is_plain order.now }
+{
+    match order.asked {
+        Some(_) => false,
+        None => !order.named && !order.as_json,
+    }
+}
+
 /// Judges a witness over a model that was read.
 #[tactic(auto, unfolding(crate::specs::Done::Answers, crate::specs::Done::is_quiet, crate::specs::Refusals::RefusesTask))]
 fn judge_on_model<B: Source, O: Sink, E: Sink>(
@@ -318,22 +372,20 @@ fn judge_on_model<B: Source, O: Sink, E: Sink>(
     err: &mut E,
 ) -> Result<Answer, Refusal>
     ensures done { (known third : Option (List ℕ)) → IsModelOf known model.now
-        → IfOk result (λ answer. Answers order.now.named (task_is.Model model_is.CheckBtor)
-        (option_map (λ word. word.now) order.now.asked) order.now.form answer known
+        → IfOk result (λ answer. Answers order.now (task_is.Model model_is.CheckBtor) answer known
         (B.to_come second.old) third (O.written out.old) (O.written out.new)
         (E.written err.old) (E.written err.new)) }
     ensures refused { (known : Option (List ℕ)) → IsModelOf known model.now
         → IfErr result (IfInput (RefusesTask (task_is.Model model_is.CheckBtor)
-        (option_map (λ word. word.now) order.now.asked) known)) }
+        (asked_of order.now) known)) }
     ensures ends { Ends result Unused (Used B.failures second.old second.new)
         (Used O.failures out.old out.new) (Used E.failures err.old err.new) }
     ensures quiet { order.now.named ≡ false → err.new ≡ err.old }
 {
-    match order.asked {
-        Some(word) => check_model_for(alloc, order.named, model, word, second, out, err),
-        None if order.named => check_model_by_name(alloc, model, second, out, err),
-        None => check_model(alloc, model, second, out),
+    if is_plain(order) {
+        return check_model(alloc, model, second, out);
     }
+    check_model_with(alloc, order, model, second, out, err)
 }
 
 /// Reads a circuit, and does a command on it.
@@ -347,11 +399,10 @@ fn obey_on_circuit<A: Source, B: Source, O: Sink, E: Sink>(
     err: &mut E,
 ) -> Result<Answer, Refusal>
     ensures done { (third : Option (List ℕ))
-        → IfOk result (λ answer. Answers order.now.named (task_is.Circuit task) (option_map (λ word. word.now) order.now.asked) order.now.form
-        answer (A.to_come first.old) (B.to_come second.old) third (O.written out.old)
+        → IfOk result (λ answer. Answers order.now (task_is.Circuit task) answer (A.to_come first.old) (B.to_come second.old) third (O.written out.old)
         (O.written out.new) (E.written err.old) (E.written err.new)) }
     ensures refused { IfErr result
-        (IfInput (RefusesTask (task_is.Circuit task) (option_map (λ word. word.now) order.now.asked) (A.to_come first.old))) }
+        (IfInput (RefusesTask (task_is.Circuit task) (asked_of order.now) (A.to_come first.old))) }
     ensures ends { Ends result (Used A.failures first.old first.new)
         (Used B.failures second.old second.new) (Used O.failures out.old out.new)
         (Used E.failures err.old err.new) }
@@ -374,11 +425,10 @@ fn do_on_circuit<B: Source, O: Sink, E: Sink>(
     err: &mut E,
 ) -> Result<Answer, Refusal>
     ensures done { (known third : Option (List ℕ)) → IsCircuitText known circuit.now
-        → IfOk result (λ answer. Answers order.now.named (task_is.Circuit task) (option_map (λ word. word.now) order.now.asked) order.now.form
-        answer known (B.to_come second.old) third (O.written out.old) (O.written out.new)
+        → IfOk result (λ answer. Answers order.now (task_is.Circuit task) answer known (B.to_come second.old) third (O.written out.old) (O.written out.new)
         (E.written err.old) (E.written err.new)) }
     ensures refused { (known : Option (List ℕ)) → IsCircuitText known circuit.now
-        → IfErr result (IfInput (RefusesTask (task_is.Circuit task) (option_map (λ word. word.now) order.now.asked) known)) }
+        → IfErr result (IfInput (RefusesTask (task_is.Circuit task) (asked_of order.now) known)) }
     ensures ends { Ends result Unused (Used B.failures second.old second.new)
         (Used O.failures out.old out.new) (Used E.failures err.old err.new) }
     ensures quiet { is_quiet order.now.named (task_is.Circuit task) ≡ true → err.new ≡ err.old }
@@ -414,20 +464,18 @@ fn judge_on_circuit<B: Source, O: Sink, E: Sink>(
     err: &mut E,
 ) -> Result<Answer, Refusal>
     ensures done { (known third : Option (List ℕ)) → IsCircuitText known circuit.now
-        → IfOk result (λ answer. Answers order.now.named (task_is.Circuit circuit_is.CheckAig)
-        (option_map (λ word. word.now) order.now.asked) order.now.form answer known
+        → IfOk result (λ answer. Answers order.now (task_is.Circuit circuit_is.CheckAig) answer known
         (B.to_come second.old) third (O.written out.old) (O.written out.new)
         (E.written err.old) (E.written err.new)) }
     ensures refused { (known : Option (List ℕ)) → IsCircuitText known circuit.now
         → IfErr result (IfInput (RefusesTask (task_is.Circuit circuit_is.CheckAig)
-        (option_map (λ word. word.now) order.now.asked) known)) }
+        (asked_of order.now) known)) }
     ensures ends { Ends result Unused (Used B.failures second.old second.new)
         (Used O.failures out.old out.new) (Used E.failures err.old err.new) }
     ensures quiet { order.now.named ≡ false → err.new ≡ err.old }
 {
-    match order.asked {
-        Some(word) => check_circuit_for(alloc, order.named, circuit, word, second, out, err),
-        None if order.named => check_circuit_by_name(alloc, circuit, second, out, err),
-        None => check_circuit(alloc, circuit, second, out),
+    if is_plain(order) {
+        return check_circuit(alloc, circuit, second, out);
     }
+    check_circuit_with(alloc, order, circuit, second, out, err)
 }

@@ -6,7 +6,7 @@ use Rattle.std.proofs.lemmas.Bool.{cases_eq}
 use Rattle.std.proofs.lemmas.List.{set-get_or}
 use Rattle.std.proofs.lemmas.List.Sums.{sum_by-cons}
 use Rattle.std.proofs.lemmas.Bool.Decides.{nat_tests}
-use Rattle.drup.specs.Flat.{standing, AgreeAt}
+use Rattle.drup.specs.Flat.{standing}
 use Rattle.drup.specs.Without.{times, AreSameClause, NoneAlikeFrom, IsLastAlike, IsWithout}
 use Rattle.drup.specs.Without.IsWithout.{last, none}
 use Rattle.drup.proofs.StandingLemmas.{stood, place_inside}
@@ -141,39 +141,12 @@ pub some_length : (xs : List ℕ) → false ≡ (length xs == 0) → 0 < length 
 some_length [] h = let never : false ≡ true = h in absurd (cc)
 some_length (x ∷ xs) h = omega arith
 
--- clauses of one length that agree at each place are alike
-alike_or : (one other whole whole' : List ℕ) → length one ≡ length other
-    → ((i : ℕ) → i < length one → get_or one i 0 ≢ get_or other i 0 → (times (get_or one i 0) whole ≡ times (get_or one i 0) whole') × (times (get_or other i 0) whole ≡ times (get_or other i 0) whole'))
-    → (l : ℕ) → (times l one ≡ times l other) ⊎ (times l whole ≡ times l whole')
-alike_or [] [] whole whole' n h l = inl refl
-alike_or [] (y ∷ ys) whole whole' n h l = absurd (omega (arith, n))
-alike_or (x ∷ xs) [] whole whole' n h l = absurd (omega (arith, n))
-alike_or (x ∷ xs) (y ∷ ys) whole whole' n h l =
-    let rest = alike_or xs ys whole whole' (omega (arith, n)) (λ i low. h (suc i) (omega (arith, low))) l in
-    ⊎_elim
-    (λ (e : x ≡ y).
-    ⊎_elim
-    (λ (same : times l xs ≡ times l ys).
-    inl (⊎_elim
-    (λ (f : x ≡ l). times_here l x xs f ∙ ap (λ (n : ℕ). 1 + n) same ∙ sym (times_here l y ys (sym e ∙ f)))
-    (λ (ne : x ≢ l). times_behind l x xs ne ∙ same ∙ sym (times_behind l y ys (λ f. ne (e ∙ f))))
-    (cases_eq x l)))
-    (λ (all : times l whole ≡ times l whole'). inr all)
-    rest)
-    (λ (differ : x ≢ y).
-    ⊎_elim
-    (λ (f : x ≡ l). inr (subst (λ (z : ℕ). times z whole ≡ times z whole') f (h 0 (omega arith) differ).0))
-    (λ (ne : x ≢ l).
-    ⊎_elim
-    (λ (f : y ≡ l). inr (subst (λ (z : ℕ). times z whole ≡ times z whole') f (h 0 (omega arith) differ).1))
-    (λ (ne' : y ≢ l).
-    ⊎_elim
-    (λ (same : times l xs ≡ times l ys). inl (times_behind l x xs ne ∙ same ∙ sym (times_behind l y ys ne')))
-    (λ (all : times l whole ≡ times l whole'). inr all)
-    rest)
-    (cases_eq y l))
-    (cases_eq x l))
-    (cases_eq x y)
-
-pub alike_by_places : (one other : List ℕ) → length one ≡ length other → ((i : ℕ) → i < length one → AgreeAt one other i) → AreSameClause one other
-alike_by_places one other n h l = ⊎_elim (λ (e : times l one ≡ times l other). e) (λ (e : times l one ≡ times l other). e) (alike_or one other one other n h l)
+-- what is left of clauses without one is left without one that is alike to it
+pub without_alike : (clauses : List (List ℕ)) (one other : List ℕ) (left : List (List ℕ)) → AreSameClause one other → IsWithout clauses other left → IsWithout clauses one left
+without_alike clauses one other left same (last k l is) =
+    last k (record {
+      inside = l.inside;
+      alike = λ x. same x ∙ l.alike x;
+      later = λ j low high a. l.later j low high (λ x. sym (same x) ∙ a x);
+    }) is
+without_alike clauses one other left same (none n is) = none (λ j low high a. n j low high (λ x. sym (same x) ∙ a x)) is

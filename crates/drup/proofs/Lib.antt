@@ -12,6 +12,7 @@ pub mod FormulaLemmas
 pub mod FormulaTextLemmas
 pub mod WorkedLemmas
 pub mod AlikeLemmas
+pub mod OrderedLemmas
 pub mod PlacesLemmas
 pub mod SweepLemmas
 pub mod TakenLemmas
@@ -25,3 +26,6 @@ pub mod TextJudgeLemmas
 pub mod NumberLemmas
 pub mod BytesLemmas
 pub mod ProofJudgeLemmas
+pub mod HintLemmas
+pub mod HintedLemmas
+pub mod HintSoundLemmas

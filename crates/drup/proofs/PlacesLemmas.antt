@@ -1,41 +1,28 @@
 -- The places of clauses by their sums.
-use Rattle.std.proofs.Common.{◌≡◌, ◌≢◌, ℕ, suc, ◌+◌, ◌%◌, ◌<◌, ◌≤◌, inl, inr, ⊎_elim, Bool, true, false, cond, List, [], ◌∷◌, ◌++◌, length, get_or, set, refl, sym, ap, subst, ◌∙◌, arith, length-append}
+use Rattle.std.proofs.Common.{◌≡◌, ◌≢◌, ℕ, suc, ◌+◌, ◌<◌, ◌≤◌, inl, inr, ⊎_elim, Bool, true, false, List, [], ◌∷◌, ◌++◌, length, get_or, set, refl, sym, ap, subst, ◌∙◌, arith, length-append}
 use Rattle.std.proofs.lemmas.Bool.{cases_eq, cases_lt}
 use Rattle.std.proofs.lemmas.List.{get_or-set_same, get_or-set_other, length-set, get_or_append_left}
 use Rattle.std.proofs.Math.Seq.{get_or-append_seam}
-use Rattle.std.proofs.lemmas.List.Sums.{sum_by-cons, sum_by-remove}
 use Rattle.std.proofs.lemmas.Bool.Decides.{nat_tests}
-use Rattle.std.specs.Prelude.{◌==◌, ◌&&◌, if◌then◌else◌}
-use Rattle.std.specs.List.{sum_by, remove}
-use Rattle.drup.specs.Places.{mixed, clause_sum, last_at, HasSum, IsLatest, AreLinked, IsLink, IsLinkedBehind, IsUnlinked}
+use Rattle.std.specs.Prelude.{◌==◌, ◌&&◌, if◌then◌else◌, fold}
+use Rattle.drup.specs.Ordered.{RiseFrom}
+use Rattle.std.specs.Hash.DefaultHasher as sip
+use Rattle.drup.specs.Places.{with_literal, sum_in_order, clause_sum, last_at, HasSum, IsLatest, AreLinked, IsLink, IsLinkedBehind, IsUnlinked}
 use Rattle.drup.specs.declared.places.Places.{Places}
-use Rattle.drup.specs.Without.{times, AreSameClause, NoneAlikeFrom}
-use Rattle.drup.proofs.AlikeLemmas.{occurs, some_literal, times_here}
+use Rattle.drup.specs.Without.{AreSameClause, NoneAlikeFrom}
+use Rattle.drup.proofs.AlikeLemmas.{some_literal}
+use Rattle.drup.proofs.OrderedLemmas.{ordered-alike, order_is}
 use Rattle.drup.proofs.StandingLemmas.{place_inside}
 
 -- ---- clauses with the same literals have one sum
 
-abbrev one_where : ℕ → ℕ → ℕ
-one_where l y = cond (y == l) 1 0
-
-sum_alike : (f : ℕ → ℕ) (one other : List ℕ) → AreSameClause one other → sum_by f one ≡ sum_by f other
-sum_alike f [] [] a = refl
-sum_alike f [] (y ∷ ys) a = absurd (omega (arith, some_literal (y ∷ ys) [] (λ l. sym (a l)) (omega arith)))
-sum_alike f (x ∷ xs) other a =
-    ⊎_elim
-    (λ (own : (i : ℕ) × (i < length other) × (get_or other i 0 ≡ x)).
-    let rest : AreSameClause xs (remove other own.0) =
-    (λ l.
-    let removed = sum_by-remove (one_where l) other own.0 0 own.1 in
-    let first = ap (one_where l) own.2 in
-    omega (arith, removed, first, a l, sum_by-cons (one_where l) x xs)) in
-    let gone = sum_by-remove f other own.0 0 own.1 in
-    omega (arith, gone, ap f own.2, sum_by-cons f x xs, sum_alike f xs (remove other own.0) rest))
-    (λ (z : times x other ≡ 0). absurd (omega (arith, z, a x, times_here x x xs refl)))
-    (occurs x other)
-
 pub clause_sum-alike : (one other : List ℕ) → AreSameClause one other → clause_sum one ≡ clause_sum other
-clause_sum-alike one other a = ap (λ (n : ℕ). n % 4294967296) (sum_alike mixed one other a)
+clause_sum-alike one other a = ap sum_in_order (ordered-alike one other a)
+
+-- the sum of literals that rise
+pub sum_rising : (clause : List ℕ) → RiseFrom 0 clause → sip.finish (fold with_literal sip.initial clause) ≡ clause_sum clause
+unfolding sum_in_order
+sum_rising clause up = ap sum_in_order (order_is clause clause (λ l. refl) up)
 
 -- a clause that is alike to one with a literal has its sum
 pub has_sum_alike : (clauses : List (List ℕ)) (clause : List ℕ) (s j : ℕ) → s ≡ clause_sum clause → 0 < length clause → AreSameClause clause (get_or clauses j []) → HasSum clauses s j

@@ -1,7 +1,6 @@
 -- Clauses in one flat list of literals, each with the place of its start and its end. A clause that was taken away is empty there, and stands no longer.
 use Rattle.drup.specs.declared.clauses.Clauses.TheInside.{Inside}
-use Rattle.drup.specs.Without.{times}
-use Rattle.std.specs.Prelude.{◌≢◌, ◌≡◌, ℕ, ◌<◌, ◌≤◌, List, [], ◌∷◌, length, slice_index, slice_range}
+use Rattle.std.specs.Prelude.{◌≡◌, ℕ, ◌<◌, ◌≤◌, List, [], ◌∷◌, length, slice_index, slice_range}
 
 -- the clauses, by their places
 abbrev pub cut : List ℕ → List ℕ → List ℕ → List (List ℕ)
@@ -26,9 +25,3 @@ clauses_of c = cut c.literals.items c.starts.items c.ends.items
 
 abbrev pub AreClauses : Inside → Type 0
 AreClauses c = AreStartsAndEnds (length c.literals.items) c.starts.items c.ends.items
-
--- two clauses have one literal at a place, or each of the two there stands as often in one as in the other
-abbrev pub AgreeAt : List ℕ → List ℕ → ℕ → Type 0
-AgreeAt one other i =
-    slice_index one i ≢ slice_index other i
-    → (times (slice_index one i) one ≡ times (slice_index one i) other) × (times (slice_index other i) one ≡ times (slice_index other i) other)

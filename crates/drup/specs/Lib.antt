@@ -18,6 +18,7 @@ pub mod Watched
 pub mod Added
 pub mod Swept
 pub mod Worked
+pub mod Ordered
 pub mod Places
 pub mod StepJudges
 pub mod Words
@@ -25,3 +26,6 @@ pub mod StepReaders
 pub mod TextJudges
 pub mod Numbers
 pub mod ProofJudges
+pub mod Hints
+pub mod Named
+pub mod HintedJudges

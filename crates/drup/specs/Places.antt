@@ -1,17 +1,24 @@
--- The places of clauses by their sums: a sum is the same in any order of a clause's literals, so clauses with the same literals have one sum.
-use Rattle.std.specs.Prelude.{◌≡◌, ℕ, ◌*◌, ◌/◌, ◌%◌, ◌<◌, ◌≤◌, ◌⊎◌, ◌++◌, ◌∷◌, ◌==◌, ◌&&◌, if◌then◌else◌, List, [], Option, Some, None, length, nat_eq, slice_index, slice_index_or, slice_set}
+-- The places of clauses by their sums: a sum goes by the literals in rising order, so clauses with the same literals have one sum.
+use Rattle.std.specs.Prelude.{◌≡◌, ℕ, fold, ◌<◌, ◌≤◌, ◌⊎◌, ◌++◌, ◌∷◌, ◌==◌, ◌&&◌, if◌then◌else◌, List, [], Option, Some, None, length, nat_eq, slice_index, slice_index_or, slice_set}
 use Rattle.std.specs.HashMap.{get}
-use Rattle.std.specs.List.{sum_by}
+use Rattle.std.specs.Hash as fed
+use Rattle.std.specs.Hash.DefaultHasher as sip
+use Rattle.std.specs.declared.hash.DefaultHasher.{DefaultHasher}
 use Rattle.std.specs.Vec.{vec_len, vec_capacity}
 use Rattle.indexmap.specs.IndexMap.{spare}
+use Rattle.drup.specs.Ordered.{ordered}
 use Rattle.drup.specs.declared.places.Places.{Places}
 
--- what a literal gives to the sum of its clause
-unfoldable pub mixed : ℕ → ℕ
-mixed l = let x : ℕ = (l * 2654435761) % 4294967296 in (x * (x / 32768)) % 4294967296
+-- the sum of literals in an order: that of SipHash-1-3, to which each literal is given
+abbrev pub with_literal : DefaultHasher → ℕ → DefaultHasher
+with_literal state l = sip.write state (fed.le_bytes 4 l)
 
+unfoldable pub sum_in_order : List ℕ → ℕ
+sum_in_order literals = sip.finish (fold with_literal sip.initial literals)
+
+-- the sum of a clause is that of its literals in rising order
 abbrev pub clause_sum : List ℕ → ℕ
-clause_sum clause = sum_by mixed clause % 4294967296
+clause_sum clause = sum_in_order (ordered clause)
 
 -- a place, or the number that stands for none
 abbrev pub or_none : Option ℕ → ℕ

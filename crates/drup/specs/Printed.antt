@@ -11,6 +11,8 @@ proof_why_number why.BadWord = 161
 proof_why_number why.BadVariable = 162
 proof_why_number why.CutOff = 163
 proof_why_number why.TooLong = 164
+proof_why_number why.BadId = 167
+proof_why_number why.NoClause = 168
 
 -- the name of a why
 abbrev pub proof_why_name : Why → List ℕ
@@ -18,6 +20,8 @@ proof_why_name why.BadWord = codes "BadWord"
 proof_why_name why.BadVariable = codes "BadVariable"
 proof_why_name why.CutOff = codes "CutOff"
 proof_why_name why.TooLong = codes "TooLong"
+proof_why_name why.BadId = codes "BadId"
+proof_why_name why.NoClause = codes "NoClause"
 
 -- the number of a why, a space and its name
 abbrev pub proof_why_text : Why → List ℕ

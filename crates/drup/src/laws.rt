@@ -11,6 +11,7 @@ ghost use Rattle.drup.specs.FormulaTexts.{formula_text};
 ghost use Rattle.drup.specs.Proofs.{ended, addition, deletion};
 ghost use Rattle.drup.specs.ProofForms.{is_binary_proof, read_proof};
 ghost use Rattle.drup.specs.Judgements.{JudgesProof};
+ghost use Rattle.drup.specs.Hints.{HintedReading, judge_hinted, addition as hinted, deletion as unhinted, ended as at};
 ghost use Rattle.drup.specs.Without.{IsWithout};
 ghost use Rattle.drup.specs.StepJudges.{StepJudge, BeginsSteps, StandsForSteps};
 ghost use Rattle.drup.specs.Propagator.{State, Extended, in_list};
@@ -40,6 +41,12 @@ pub fn models_stay()
 pub fn derived_is_unsatisfiable()
     ensures { (formula : Formula) (text : List ℕ) (line : ℕ)
         → JudgesProof formula text (judgement.Derived line) → IsUnsatisfiable formula }
+{}
+
+/// A law: where steps with hints are judged as a proof, nothing satisfies the formula.
+pub fn hinted_is_unsatisfiable()
+    ensures { (formula : Formula) (reading : HintedReading) (line : ℕ)
+        → judge_hinted formula reading ≡ judgement.Derived line → IsUnsatisfiable formula }
 {}
 
 /// A law: over a formula a text is judged in one way at most.
@@ -174,4 +181,23 @@ pub fn worked_without()
     ensures last { IsWithout ((2 ∷ 4 ∷ []) ∷ (4 ∷ 2 ∷ []) ∷ (6 ∷ []) ∷ []) (2 ∷ 4 ∷ [])
         ((2 ∷ 4 ∷ []) ∷ (6 ∷ []) ∷ []) }
     ensures none { IsWithout ((2 ∷ 2 ∷ 4 ∷ []) ∷ []) (2 ∷ 4 ∷ []) ((2 ∷ 2 ∷ 4 ∷ []) ∷ []) }
+{}
+
+/// Worked rows: all eight clauses of three variables are refuted by four steps with hints; not where a hint is missing, where
+/// one names no clause, also one that was taken away, or where an id is not above all before.
+pub fn worked_hints()
+    ensures derived { judge_hinted eight (record { steps = at 1 (hinted 9 (2 ∷ 4 ∷ []) (1 ∷ 2 ∷ []))
+        ∷ at 2 (hinted 10 (2 ∷ []) (9 ∷ 3 ∷ 4 ∷ [])) ∷ at 3 (hinted 11 (4 ∷ []) (10 ∷ 5 ∷ 6 ∷ []))
+        ∷ at 4 (hinted 12 [] (10 ∷ 11 ∷ 7 ∷ 8 ∷ [])) ∷ []; fault = None }) ≡ judgement.Derived 4 }
+    ensures too_few { judge_hinted eight (record { steps = at 1 (hinted 9 (2 ∷ 4 ∷ []) (1 ∷ [])) ∷ []; fault = None })
+        ≡ judgement.NotImplied 1 }
+    ensures two_open { judge_hinted eight (record { steps = at 1 (hinted 9 (2 ∷ []) (1 ∷ [])) ∷ []; fault = None })
+        ≡ judgement.NotImplied 1 }
+    ensures no_clause { judge_hinted eight (record { steps = at 1 (hinted 9 (2 ∷ 4 ∷ []) (9 ∷ [])) ∷ []; fault = None })
+        ≡ judgement.Malformed 1 why.NoClause }
+    ensures taken_away { judge_hinted eight (record { steps = at 1 (unhinted 1)
+        ∷ at 2 (hinted 9 (2 ∷ 4 ∷ []) (1 ∷ 2 ∷ [])) ∷ []; fault = None }) ≡ judgement.Malformed 2 why.NoClause }
+    ensures low_id { judge_hinted eight (record { steps = at 1 (hinted 8 (2 ∷ 4 ∷ []) (1 ∷ 2 ∷ [])) ∷ []; fault = None })
+        ≡ judgement.Malformed 1 why.BadId }
+    ensures not_derived { judge_hinted eight (record { steps = []; fault = None }) ≡ judgement.NotDerived }
 {}

@@ -1,42 +1,47 @@
 //! The places of clauses by their sums, which do not go by the order of literals.
 ghost use Rattle.std.specs.Prelude.{◌≡◌, ℕ, ◌+◌, ◌<◌, [], ◌==◌, if◌then◌else◌, IfOk, MatchOption, length};
 ghost use Rattle.drup.specs.Without.{NoneAlikeFrom, IsLastAlike};
-ghost use Rattle.drup.specs.Places.{mixed, clause_sum, last_at, HasRoom, IsLink, AreLinked, IsLinkedBehind, IsUnlinked};
+ghost use Rattle.drup.specs.Ordered.{RiseFrom};
+ghost use Rattle.drup.specs.Places.{clause_sum, last_at, HasRoom, IsLink, AreLinked, IsLinkedBehind, IsUnlinked};
 
-use crate::alike::are_alike;
+use crate::alike::{are_alike, in_order};
 use crate::clauses::Clauses;
 use crate::fault::ClauseFault;
 use indexmap::IndexMap;
 use std::alloc::Global;
+use std::hash::{DefaultHasher, Hash, Hasher};
 
 /// What stands for no place.
 const NO_PLACE: u32 = 4294967295;
 
-/// What a literal gives to the sum of its clause.
-#[tactic(auto, unfolding(crate::specs::Places::mixed))]
-fn mixed(literal: u32) -> u32
-    ensures { result ≡ mixed literal }
+/// The sum of a clause whose literals rise, each given to SipHash-1-3 in turn. One that went by each literal alone, or
+/// kept 64 bits between two, would be the same for thousands of clauses that an input can find by a few relations among
+/// literals; of this no way is known to many clauses of one sum. Its keys are fixed, so an input may still search for sums that share
+/// a bucket, at a cost of as many tries as there are buckets for each.
+pub(crate) fn rising_sum(clause: &[u32]) -> u64
+    requires { RiseFrom 0 clause.now }
+    ensures { result ≡ clause_sum clause.now }
 {
-    let scaled = literal.wrapping_mul(2654435761);
-    scaled.wrapping_mul(scaled / 32768)
+    let mut state = DefaultHasher::new();
+    for literal in clause {
+        literal.hash(&mut state);
+    }
+    state.finish()
 }
 
 /// The sum of a clause, which is the same in any order of its literals.
-pub(crate) fn clause_sum(clause: &[u32]) -> u32
-    ensures { result ≡ clause_sum clause.now }
+pub(crate) fn clause_sum(alloc: Global, clause: &[u32]) -> Result<u64, ClauseFault>
+    ensures { IfOk result (λ s. s ≡ clause_sum clause.now) }
 {
-    let mut sum: u32 = 0;
-    for literal in clause {
-        sum = sum.wrapping_add(mixed(*literal));
-    }
-    sum
+    let literals = in_order(alloc, clause)?;
+    Ok(rising_sum(&literals))
 }
 
 /// For each sum the last place of a clause that has it, and for each place the one before it of the same sum; clauses that
 /// were taken away have none.
 #[derive(Drop)]
 pub(crate) struct Places {
-    lasts: IndexMap<u32, u32>,
+    lasts: IndexMap<u64, u32>,
     before: Vec<u32>,
 }
 
@@ -53,7 +58,7 @@ impl Places {
     }
 
     /// The last place of a sum, or what stands for none.
-    fn last(&self, sum: u32) -> u32
+    fn last(&self, sum: u64) -> u32
         ensures { result ≡ last_at self.now sum }
     {
         match self.lasts.get(&sum) {
@@ -76,7 +81,7 @@ impl Places {
     }
 
     /// Puts a place with a sum behind the others, where there is room.
-    pub(crate) fn link(&mut self, sum: u32, place: u32)
+    pub(crate) fn link(&mut self, sum: u64, place: u32)
         requires { HasRoom self.old }
         ensures { IsLinkedBehind self.old sum place self.new }
     {
@@ -92,7 +97,7 @@ impl Places {
     }
 
     /// Lets a place be the last one of a sum that has one, or none be it.
-    fn set_last(&mut self, sum: u32, place: u32)
+    fn set_last(&mut self, sum: u64, place: u32)
         requires { last_at self.old sum ≡ 4294967295 → ⊥ }
         ensures last { (s : ℕ) → last_at self.new s
             ≡ (if s == sum then place else last_at self.old s) }
@@ -109,7 +114,7 @@ impl Places {
     }
 
     /// Takes a place with a sum away, where the link to it stands at another, or behind all of so many.
-    pub(crate) fn unlink(&mut self, count: usize, sum: u32, place: usize, behind: usize)
+    pub(crate) fn unlink(&mut self, count: usize, sum: u64, place: usize, behind: usize)
         requires inside { place < length self.old.before.items }
         requires others { count ≡ length self.old.before.items }
         requires behind { behind < count + 1 }
@@ -126,15 +131,18 @@ impl Places {
     }
 }
 
-/// The place of the last clause that has the same literals as one with a literal, and where the link to it stands.
+/// The place of the last clause that has the same literals as one with a literal, which stand in rising order there, and where
+/// the link to it stands. Clauses of one sum that differ are as good as none, so it takes as long as the clause.
 pub(crate) fn last_alike(
+    alloc: Global,
     clauses: &Clauses,
     places: &Places,
-    sum: u32,
+    sum: u64,
     clause: &[u32],
 ) -> Option<(usize, usize)>
     requires linked { AreLinked clauses.now
         (last_at places.now) places.now.before.items }
+    requires order { RiseFrom 0 clause.now }
     requires sum { sum ≡ clause_sum clause.now }
     requires some { 0 < length clause.now }
     ensures { MatchOption result
@@ -146,7 +154,7 @@ pub(crate) fn last_alike(
     let mut behind = clauses.len();
     let mut place = places.last(sum) as usize;
     while place < behind {
-        if are_alike(clause, clauses.clause(place)) {
+        if are_alike(alloc, clause, clauses.clause(place)) {
             return Some((place, behind));
         }
         behind = place;

@@ -10,15 +10,17 @@ ghost use Rattle.std.specs.Vec.{vec_len, vec_capacity};
 ghost use Rattle.drup.specs.Without.{IsWithout};
 ghost use Rattle.drup.specs.Added.{Added, Unchanged};
 ghost use Rattle.drup.specs.Flat.{standing};
+ghost use Rattle.drup.specs.Ordered.{RiseFrom};
 ghost use Rattle.drup.specs.Places.{clause_sum, last_at, IsLinkedBehind};
 
+use crate::alike::put_in_order;
 use crate::clauses::Clauses;
 use crate::fault::ClauseFault;
 use crate::lists::Lists;
 use crate::literal::negation;
 use crate::passes::{open_literal, open_other};
-use crate::places::{Places, clause_sum, last_alike};
-use crate::sweep::without_dead;
+use crate::places::{Places, clause_sum, last_alike, rising_sum};
+use crate::sweep::{is_due, without_dead};
 use crate::trail::Trail;
 use crate::watches::propagate;
 use std::alloc::Global;
@@ -182,6 +184,7 @@ fn push_in_room(numbers: &mut Vec<u32>, number: u32)
 
 /// Puts a clause behind the others.
 pub(crate) fn put(
+    alloc: Global,
     clauses: &mut Clauses,
     watched: &mut Vec<u32>,
     lists: &mut Lists,
@@ -209,11 +212,12 @@ pub(crate) fn put(
     }
     watched.reserve(2)?;
     places.make_room()?;
+    let sum = clause_sum(alloc, clause)?;
     list_watches(lists, first, second, 2 * count as u32)?;
     clauses.push(clause)?;
     push_in_room(watched, first);
     push_in_room(watched, second);
-    places.link(clause_sum(clause), count as u32);
+    places.link(sum, count as u32);
     Ok(())
 }
 
@@ -318,6 +322,7 @@ impl Propagator {
                 Ok(true)
             }
             Ok(Some((first, second))) => match put(
+                self.alloc,
                 &mut self.clauses,
                 &mut self.watched,
                 &mut self.lists,
@@ -336,21 +341,22 @@ impl Propagator {
     }
 
     /// Takes away the last clause that has the same literals as a clause, each as often, in whatever order; where none has,
-    /// nothing is changed. What followed stays.
-    pub fn delete(&mut self, clause: &[u32])
-        ensures left { IsWithout self.old.clauses clause.now self.new.clauses }
+    /// nothing is changed. What followed stays. The clause's literals are put in rising order.
+    pub fn delete(&mut self, clause: &mut [u32])
+        ensures left { IsWithout self.old.clauses clause.old self.new.clauses }
         ensures followed { (self.new.followed ≡ self.old.followed)
             × (self.new.limit ≡ self.old.limit) }
     {
+        put_in_order(clause);
         self.take_away(clause);
         self.sweep();
     }
 
-    /// Puts the clauses that stand together anew where those that were taken away had as many literals, if there is memory.
+    /// Puts the clauses that stand together anew, if that is due and there is memory.
     fn sweep(&mut self)
         ensures { self.new ≡ self.old }
     {
-        if self.dead <= self.clauses.held() / 2 {
+        if !is_due(self.dead, self.clauses.held(), self.lists.limit()) {
             return;
         }
         self.dead = 0;
@@ -371,8 +377,9 @@ impl Propagator {
         }
     }
 
-    /// Takes away the last clause that has the same literals, and leaves its place empty.
+    /// Takes away the last clause that has the same literals, which rise, and leaves its place empty.
     fn take_away(&mut self, clause: &[u32])
+        requires { RiseFrom 0 clause.now }
         ensures left { IsWithout self.old.clauses clause.now self.new.clauses }
         ensures followed { (self.new.followed ≡ self.old.followed)
             × (self.new.limit ≡ self.old.limit) }
@@ -381,8 +388,8 @@ impl Propagator {
         if clause.is_empty() {
             return;
         }
-        let sum = clause_sum(clause);
-        match last_alike(&self.clauses, &self.places, sum, clause) {
+        let sum = rising_sum(clause);
+        match last_alike(self.alloc, &self.clauses, &self.places, sum, clause) {
             None => {}
             Some((place, behind)) => {
                 self.places.unlink(count, sum, place, behind);

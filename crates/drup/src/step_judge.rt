@@ -106,10 +106,10 @@ impl StepJudge {
         }
     }
 
-    /// Takes a step that takes a clause away and ends in a line, likewise.
-    pub fn delete(&mut self, clause: &[u32], line: u64)
+    /// Takes a step that takes a clause away and ends in a line, likewise. The clause's literals are put in rising order.
+    pub fn delete(&mut self, clause: &mut [u32], line: u64)
         ensures stands { (f : Formula) (steps : List Ended) → StandsForSteps f steps self.old
-            → StandsForSteps f (steps ++ ended line (deletion clause.now) ∷ []) self.new }
+            → StandsForSteps f (steps ++ ended line (deletion clause.old) ∷ []) self.new }
         ensures limit { self.new.propagator.limit ≡ self.old.propagator.limit }
     {
         let _ = line;

@@ -16,10 +16,10 @@ use crate::word::Token;
 use std::alloc::Global;
 
 /// Judges a step that has ended, which takes its clause away or adds it.
-fn judge_step(judge: &mut StepJudge, deleting: bool, clause: &[u32], line: u64)
-    requires { All (λ l. l < judge.old.propagator.limit) clause.now }
+fn judge_step(judge: &mut StepJudge, deleting: bool, clause: &mut [u32], line: u64)
+    requires { All (λ l. l < judge.old.propagator.limit) clause.old }
     ensures stands { (f : Formula) (steps : List Ended) → StandsForSteps f steps judge.old
-        → StandsForSteps f (steps ++ ended line (step_of deleting clause.now) ∷ []) judge.new }
+        → StandsForSteps f (steps ++ ended line (step_of deleting clause.old) ∷ []) judge.new }
     ensures limit { judge.new.propagator.limit ≡ judge.old.propagator.limit }
 {
     if deleting {
@@ -30,7 +30,7 @@ fn judge_step(judge: &mut StepJudge, deleting: bool, clause: &[u32], line: u64)
 }
 
 /// Whether a clause has no literals.
-fn is_nothing(clause: &[u32]) -> bool
+pub(crate) fn is_nothing(clause: &[u32]) -> bool
     ensures { result ≡ is_nothing clause.now }
 {
     clause.is_empty()
@@ -106,7 +106,7 @@ impl StepReader {
             → StandsForWords f self.new (marks ++ mark line ends ∷ []) }
         ensures limit { self.new.judge.propagator.limit ≡ self.old.judge.propagator.limit }
     {
-        judge_step(&mut self.judge, self.deleting, &self.clause, line);
+        judge_step(&mut self.judge, self.deleting, &mut self.clause, line);
         self.clause.clear();
         self.deleting = false;
     }

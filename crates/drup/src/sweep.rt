@@ -1,5 +1,5 @@
 //! The clauses that stand, put together anew without those that were taken away.
-ghost use Rattle.std.specs.Prelude.{◌≡◌, ℕ, ◌<◌, ◌++◌, ◌∷◌, [], List, All, IfOk, length};
+ghost use Rattle.std.specs.Prelude.{◌≡◌, ℕ, ◌+◌, ◌*◌, ◌<◌, ◌≤◌, ◌++◌, ◌∷◌, [], List, All, IfOk, MatchBool, length};
 ghost use Rattle.drup.specs.Flat.{standing};
 ghost use Rattle.drup.specs.Marked.{Marked};
 ghost use Rattle.drup.specs.Propagator.{KeepsPropagator};
@@ -13,6 +13,15 @@ use crate::places::Places;
 use crate::propagator::put;
 use crate::trail::Trail;
 use std::alloc::Global;
+
+/// Whether a sweep is due. It goes over the literals that are held, each clause of which has one, and over the lists of all
+/// literals below the limit: these are at most twice the literals of the clauses that were taken away since the last one. So
+/// what it costs is paid by these, however few literals are held and however many variables there are.
+pub(crate) fn is_due(dead: usize, held: usize, limit: usize) -> bool
+    ensures { MatchBool result (held + limit ≤ 2 * dead) (2 * dead ≤ held + limit + 2) }
+{
+    dead > held / 2 + limit / 2
+}
 
 /// Clauses with what they watch and where those of each sum stand.
 #[derive(Drop)]
@@ -40,7 +49,13 @@ impl Swept {
     }
 
     /// Takes a clause with the two literals that it watches, where it has a literal.
-    fn take(&mut self, clause: &[u32], first: u32, second: u32) -> Result<(), ClauseFault>
+    fn take(
+        &mut self,
+        alloc: Global,
+        clause: &[u32],
+        first: u32,
+        second: u32,
+    ) -> Result<(), ClauseFault>
         requires first { 0 < length clause.now → first < length self.old.lists }
         requires second { 0 < length clause.now → second < length self.old.lists }
         ensures { IfOk result (λ _. (clauses : List (List ℕ)) (trail : Marked)
@@ -53,6 +68,7 @@ impl Swept {
             return Ok(());
         }
         match put(
+            alloc,
             &mut self.clauses,
             &mut self.watched,
             &mut self.lists,
@@ -81,7 +97,7 @@ pub(crate) fn without_dead(
     let _ = trail.len();
     let mut swept = Swept::new(alloc, lists.limit())?;
     for k in 0..clauses.len() {
-        swept.take(clauses.clause(k), watched[2 * k], watched[2 * k + 1])?;
+        swept.take(alloc, clauses.clause(k), watched[2 * k], watched[2 * k + 1])?;
     }
     Ok(swept)
 }

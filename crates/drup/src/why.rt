@@ -17,6 +17,10 @@ pub enum Why {
     CutOff,
     /// There are more than 2^62 lines, or steps in the binary form.
     TooLong,
+    /// In a proof with hints, the id of a step is not above all before it.
+    BadId,
+    /// In a proof with hints, a hint names no clause that stands.
+    NoClause,
 }
 
 impl Why {
@@ -29,6 +33,8 @@ impl Why {
             Why::BadVariable => 162,
             Why::CutOff => 163,
             Why::TooLong => 164,
+            Why::BadId => 167,
+            Why::NoClause => 168,
         }
     }
 
@@ -41,6 +47,8 @@ impl Why {
             Why::BadVariable => "BadVariable",
             Why::CutOff => "CutOff",
             Why::TooLong => "TooLong",
+            Why::BadId => "BadId",
+            Why::NoClause => "NoClause",
         }
     }
 }

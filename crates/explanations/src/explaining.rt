@@ -1,6 +1,6 @@
 //! What is told of refusals that are asked for.
 
-ghost use Rattle.std.specs.Prelude.{◌≡◌, ◌++◌, ◌⊎◌, Bool, [], IfOk, OnOk, option_map};
+ghost use Rattle.std.specs.Prelude.{◌≡◌, ◌||◌, ◌++◌, ◌⊎◌, Bool, true, [], IfOk, IfSome, OnOk, is_some, option_map};
 ghost use Rattle.std.specs.String.{string_bytes};
 ghost use Rattle.explanations.specs.Explanations.{explained, has_name, has_sought_number, is_of_first_line, is_of_line, is_same, is_sought, is_told, row_lines, told_part, told_parts, told_row};
 
@@ -37,8 +37,11 @@ impl<'a> Sought<'a> {
     }
 
     /// What words seek, as they are given or as a line of this program has them: a number, a name, or both at the end of a
-    /// line, which may say before it that it is about a line of a file.
-    pub fn by_words(words: &[&'a str]) -> Sought<'a> {
+    /// line, which may say before it that it is about a line of a file. None where they name nothing.
+    pub fn by_words(words: &[&'a str]) -> Option<Sought<'a>>
+        // what names nothing does not seek all
+        ensures { IfSome result (λ sought. (is_some sought.number || is_some sought.name) ≡ true) }
+    {
         let mut reading = Reading {
             sought: Sought::all(),
             is_behind_line: false,
@@ -46,7 +49,12 @@ impl<'a> Sought<'a> {
         for word in words {
             reading.take(word);
         }
-        reading.sought
+        let sought = reading.sought;
+        if sought.number.is_some() || sought.name.is_some() {
+            Some(sought)
+        } else {
+            None
+        }
     }
 
     /// What is sought with a word more: a number, behind `line` a line's, or a name, which goes with the number before it.

@@ -2,14 +2,14 @@
 #![tactic(auto)]
 
 use base::ToWriter;
-use command_line::{Terminals, given_words, order_at};
-use commands::{Surroundings, run_on_files};
-use invocation::{Order, Stop};
+use command_line::{Terminals, given_words};
+use commands::SystemFiles;
+use requests::{Surroundings, run_on_words};
 use std::fs;
 use std::io::{self, IsTerminal, Read, Stdin};
 use std::os::fd::AsRawFd;
 use std::process::{self, ExitCode};
-use subcommands::{Progress, Watched, end};
+use subcommands::{Progress, Watched, Work, end};
 
 /// The error of the system that a stream is closed.
 const CLOSED: i32 = 9;
@@ -49,37 +49,30 @@ fn main(rt: HostRuntime) -> ExitCode {
         output: rt.stdout().is_terminal(),
         error: rt.stderr().is_terminal(),
     };
+    // nothing is told of what is written to a terminal
+    let written = if terminals.output {
+        None
+    } else {
+        Some(Work::Written)
+    };
+    let silent = Progress::new(&rt, None);
+    let mut out = Watched::new(ToWriter::new(rt.stdout()), written, silent.again());
+    let mut err = Watched::new(ToWriter::new(rt.stderr()), None, silent);
     let status = match given_words(&rt) {
-        Ok(words) => match order_at(rt.alloc(), words.as_slice(), terminals) {
-            Ok(order) => obey(&rt, &order, terminals, input),
-            Err(stop) => stand_in(&rt, &stop),
-        },
-        Err(stop) => stand_in(&rt, &stop),
+        Ok(words) => run_on_words(
+            &SystemFiles::new(&rt, process::id(rt.process())),
+            rt.alloc(),
+            words.as_slice(),
+            Surroundings {
+                terminals,
+                input,
+                clock: &rt,
+                terminal: rt.stderr(),
+            },
+            &mut out,
+            &mut err,
+        ),
+        Err(stop) => end(&stop, &mut out, &mut err),
     };
     ExitCode::from(status)
-}
-
-/// Tells what stands in place of a command, and answers the status.
-fn stand_in(rt: &HostRuntime, stop: &Stop) -> u8 {
-    let mut out = ToWriter::new(rt.stdout());
-    end(stop, &mut out, &mut ToWriter::new(rt.stderr()))
-}
-
-/// Does a command on the files that it names, and answers the status.
-fn obey<'a>(rt: &'a HostRuntime, order: &Order<'a>, terminals: Terminals, input: Input) -> u8 {
-    let around = Surroundings {
-        input,
-        output: rt.stdout(),
-        terminal: rt.stderr(),
-        is_shown: terminals.output,
-        process: process::id(rt.process()),
-    };
-    let hidden = if order.tells_progress {
-        Some(rt.stderr())
-    } else {
-        None
-    };
-    let err = ToWriter::new(rt.stderr());
-    let mut err = Watched::new(err, None, Progress::new(rt, hidden));
-    run_on_files(rt, rt.alloc(), order, around, &mut err)
 }

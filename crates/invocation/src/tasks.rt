@@ -118,6 +118,8 @@ pub struct Order<'a> {
     pub task: Task,
     /// Whether a command that judges says by name what the judgement is about, or one that lifts writes names behind words too.
     pub named: bool,
+    /// Whether a command that judges writes an object of JSON in place of its line, also of what it refuses.
+    pub as_json: bool,
     /// The bad property that a witness is to claim, for a command that judges one: its position, or its name.
     pub asked: Option<&'a str>,
     /// The form of a circuit that is written.
@@ -132,6 +134,24 @@ pub struct Order<'a> {
     pub output: Option<&'a str>,
     /// Whether it is told how far work is that takes long.
     pub tells_progress: bool,
+}
+
+/// A list of judgements, which are made one behind the other.
+#[derive(Clone, Copy)]
+pub struct ListOrder<'a> {
+    /// The name of the file that has a command that judges on each line; `-` is standard input.
+    pub list: &'a str,
+    /// Whether each judgement is told as an object of JSON.
+    pub as_json: bool,
+}
+
+/// What the words of a command line ask for.
+#[derive(Clone, Copy)]
+pub enum Request<'a> {
+    /// One command on its files.
+    One(Order<'a>),
+    /// The judgements of a list.
+    Many(ListOrder<'a>),
 }
 
 /// What stands in place of a command: help or the version, refused words, or want of memory while the words are read.

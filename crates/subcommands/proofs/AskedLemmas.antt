@@ -1,5 +1,5 @@
 -- What a command has done that judges whether a witness is accepted for a bad property that a word asks for.
-use Rattle.std.proofs.Common.{◌≡◌, ℕ, ◌<◌, Bool, true, false, List, Option, Some, None, IfSome, Result, Ok, Err, IfOk, OnOk, length, option_and_then, slice_get, refl, sym, ap, ◌∙◌, arith}
+use Rattle.std.proofs.Common.{◌≡◌, ℕ, ◌<◌, Bool, true, false, List, Option, Some, None, IfSome, Result, Ok, Err, IfOk, OnOk, length, option_and_then, slice_get, refl, sym, ap, subst, ◌∙◌, arith}
 use Rattle.std.specs.Io.KnownBytes.{Appends}
 use Rattle.base.specs.Decimals.{number_of}
 use Rattle.btor2.specs.declared.item.Item.{Item}
@@ -22,9 +22,12 @@ use Rattle.witness.proofs.FrameLemmas.{bad_names, length-nodes}
 use Rattle.rises.specs.FirstRises.{word_first_rises, bit_first_rises, AreBitFirstRises}
 use Rattle.reached.specs.Accepted.{Reaches, ReachesInCircuit}
 use Rattle.subcommands.specs.declared.answers.Answer.{Answer}
+use Rattle.subcommands.specs.declared.outcomes.Outcome.{Outcome}
 use Rattle.subcommands.specs.declared.refusals.Refusal.{Refusal}
-use Rattle.subcommands.specs.Asked.{IsAskedBy, IsJudgedFor, IsJudgedOverFor, IsSoFor, claim_line, claim_said, is_name, is_name_of, is_noted, is_symbol_of}
+use Rattle.subcommands.specs.Asked.{AsksFor, IsAskedBy, IsJudgedOverWith, IsJudgedWith, IsSoOf, is_claim_noted, is_claimed, is_name, is_name_of, is_noted, is_symbol_of, outcome, outcome_said, outcome_written}
+use Rattle.subcommands.specs.Claims.{CanBeClaimed}
 use Rattle.subcommands.specs.Done.{IsAccepted}
+use Rattle.subcommands.specs.Objects.{circuit_names, model_names}
 use Rattle.subcommands.specs.Subjects.{bad_item_said, bad_name_said, item_line, name_said, where_named}
 use Rattle.subcommands.proofs.SubjectLemmas.{each_reached, numbered}
 
@@ -70,71 +73,96 @@ asked_there : (position : Option ℕ) (count : ℕ) (called : ℕ → Bool) (k :
 asked_there (Some n) count called k is = omega (arith, is.0, is.1)
 asked_there None count called k is = is.0
 
-pub judged_for : (r : Result Answer Refusal) (named : Bool) (word : List ℕ) (known witness before now told told' : Option (List ℕ)) (items : List Item) (verdict : Judgement) (firsts : List (Option ℕ)) (k : ℕ) (claimed : Bool)
-    → IsModelOf known items → IsWellFormed items → first_init_without_next items items ≡ None → IsAskedBy (number_of word) (length (places is_bad 0 items)) (is_symbol_of items word) k
+claim_there : (word : Option (List ℕ)) (count : ℕ) (called : List ℕ → ℕ → Bool) (k : ℕ) → AsksFor word count called (Some k) → k < count
+claim_there None count called k is = absurd (cc)
+claim_there (Some word) count called k is =
+    let some : Some k ≡ Some is.0 = is.1.0 in
+    let same : k ≡ is.0 = cc in
+    subst (λ (n : ℕ). n < count) (sym same) (asked_there (number_of word) count (called word) is.0 is.1.1)
+
+-- what is noted of an accepted text is what it claims of what is asked for
+claimed_words : (claim : Option ℕ) (word witness : Option (List ℕ)) (items : List Item) (verdict : Judgement) (firsts : List (Option ℕ)) → IsWellFormed items → AsksFor word (length (places is_bad 0 items)) (is_symbol_of items) claim
+    → IfSome witness (λ text. Judges items text verdict) → IfSome witness (λ text. (fs : List Frame) → IsClosedTrace items text fs → firsts ≡ word_first_rises items text fs)
+    → ((items : List Item) (text : List ℕ) → IsWellFormed items → (fs : List Frame) × IsClosedTrace items text fs)
+    → ((items : List Item) (text : List ℕ) (fs : List Frame) (frames k : ℕ) → IsWellFormed items → Judges items text (judgement.Accepted frames) → IsClosedTrace items text fs → word_claimed items text k ≡ true
+    → (first : ℕ) × ((slice_get (word_first_rises items text fs) k ≡ Some (Some first)) × (first < frames)))
+    → ((items : List Item) (text : List ℕ) (fs : List Frame) (k : ℕ) → word_claimed items text k ≡ false → k < length (nodes_of is_bad items) → slice_get (word_first_rises items text fs) k ≡ Some None)
+    → IfSome witness (λ text. IsAccepted verdict → is_claim_noted claim firsts ≡ is_claimed claim (word_claimed items text))
+claimed_words None word None items verdict firsts valid asked is rises exists some none = tt
+claimed_words None word (Some text) items verdict firsts valid asked is rises exists some none = λ yes. refl
+claimed_words (Some k) word witness items verdict firsts valid asked is rises exists some none =
+    noted_words witness items verdict firsts k valid (claim_there word (length (places is_bad 0 items)) (is_symbol_of items) k asked) is rises exists some none
+
+claimed_bits : (claim : Option ℕ) (word witness : Option (List ℕ)) (c : Circuit) (verdict : Judgement) (firsts : List (Option ℕ)) → IsCircuit c → AsksFor word (length c.bads) (is_name_of c) claim
+    → IfSome witness (λ text. BitJudges c text verdict) → IfSome witness (λ text. AreBitFirstRises c text firsts)
+    → ((c : Circuit) (text : List ℕ) → IsCircuit c → (vs : List Valuation) × IsClosedBitTrace c text vs)
+    → ((c : Circuit) (text : List ℕ) (vs : List Valuation) (frames k : ℕ) → IsCircuit c → BitJudges c text (judgement.Accepted frames) → IsClosedBitTrace c text vs → bit_claimed c text k ≡ true
+    → (first : ℕ) × ((slice_get (bit_first_rises c text vs) k ≡ Some (Some first)) × (first < frames)))
+    → ((c : Circuit) (text : List ℕ) (vs : List Valuation) (k : ℕ) → bit_claimed c text k ≡ false → k < length c.bads → slice_get (bit_first_rises c text vs) k ≡ Some None)
+    → IfSome witness (λ text. IsAccepted verdict → is_claim_noted claim firsts ≡ is_claimed claim (bit_claimed c text))
+claimed_bits None word None c verdict firsts valid asked is rises exists some none = tt
+claimed_bits None word (Some text) c verdict firsts valid asked is rises exists some none = λ yes. refl
+claimed_bits (Some k) word witness c verdict firsts valid asked is rises exists some none =
+    noted_bits witness c verdict firsts k valid (claim_there word (length c.bads) (is_name_of c) k asked) is rises exists some none
+
+pub judged_with : (r : Result Answer Refusal) (named as_json : Bool) (word known witness before now told told' : Option (List ℕ)) (items : List Item) (verdict : Judgement) (firsts : List (Option ℕ)) (claim : Option ℕ) (o : Outcome)
+    → IsModelOf known items → IsWellFormed items → first_init_without_next items items ≡ None → AsksFor word (length (places is_bad 0 items)) (is_symbol_of items) claim
     → IfSome witness (λ text. Judges items text verdict) → ((text : List ℕ) → Judges items text verdict → Reaches items text verdict)
     → IfSome witness (λ text. (fs : List Frame) → IsClosedTrace items text fs → firsts ≡ word_first_rises items text fs)
     → ((items : List Item) (text : List ℕ) → IsWellFormed items → (fs : List Frame) × IsClosedTrace items text fs)
     → ((items : List Item) (text : List ℕ) (fs : List Frame) (frames k : ℕ) → IsWellFormed items → Judges items text (judgement.Accepted frames) → IsClosedTrace items text fs → word_claimed items text k ≡ true
     → (first : ℕ) × ((slice_get (word_first_rises items text fs) k ≡ Some (Some first)) × (first < frames)))
     → ((items : List Item) (text : List ℕ) (fs : List Frame) (k : ℕ) → word_claimed items text k ≡ false → k < length (nodes_of is_bad items) → slice_get (word_first_rises items text fs) k ≡ Some None)
-    → claimed ≡ is_noted (entry firsts k)
-    → OnOk r (Appends before now (claim_line verdict k claimed)) → OnOk r (Appends told told' (where_named named (claim_said (item_line items) (bad_item_said items) firsts k claimed verdict))) → IfOk r (λ a. IsSoFor a claimed verdict)
-    → IfOk r (IsJudgedFor named word known witness before now told told')
-judged_for (Ok a) named word known witness before now told told' items verdict firsts k claimed text valid each asked is reaches rises exists some none noted line subject so = record {
+    → o ≡ outcome claim (is_claim_noted claim firsts) verdict
+    → OnOk r (Appends before now (outcome_written as_json (model_names items) firsts o)) → OnOk r (Appends told told' (where_named named (outcome_said (item_line items) (bad_item_said items) firsts o))) → IfOk r (λ a. IsSoOf a o)
+    → IfOk r (IsJudgedWith named as_json word known witness before now told told')
+judged_with (Ok a) named as_json word known witness before now told told' items verdict firsts claim o text valid each asked is reaches rises exists some none same written subject so = record {
   items = items;
-  claim = k;
+  claim = claim;
   verdict = verdict;
-  claimed = claimed;
+  claimed = is_claim_noted claim firsts;
+  firsts = firsts;
   text = text;
   well_formed = valid;
   each_has_next_or_is_free = each;
   asked = asked;
   judged = is;
   reached = each_reached witness is reaches;
-  claims = rw noted (noted_words witness items verdict firsts k valid (asked_there (number_of word) (length (places is_bad 0 items)) (is_symbol_of items word) k asked) is rises exists some none);
-  firsts = firsts;
+  claims = claimed_words claim word witness items verdict firsts valid asked is rises exists some none;
   rises = rises;
-  line = line;
-  subject = subject;
-  so = so;
+  written = subst (λ (o : Outcome). Appends before now (outcome_written as_json (model_names items) firsts o)) same written;
+  subject = subst (λ (o : Outcome). Appends told told' (where_named named (outcome_said (item_line items) (bad_item_said items) firsts o))) same subject;
+  so = subst (IsSoOf a) same so;
 }
-judged_for (Err e) named word known witness before now told told' items verdict firsts k claimed text valid each asked is reaches rises exists some none noted line subject so = tt
+judged_with (Err e) named as_json word known witness before now told told' items verdict firsts claim o text valid each asked is reaches rises exists some none same written subject so = tt
 
-pub judged_over_for : (r : Result Answer Refusal) (named : Bool) (word : List ℕ) (known witness before now told told' : Option (List ℕ)) (c : Circuit) (verdict : Judgement) (firsts : List (Option ℕ)) (k : ℕ) (claimed : Bool)
-    → IsCircuitText known c → IsCircuit c → IsAskedBy (number_of word) (length c.bads) (is_name_of c word) k
+pub judged_over_with : (r : Result Answer Refusal) (named as_json : Bool) (word known witness before now told told' : Option (List ℕ)) (c : Circuit) (verdict : Judgement) (firsts : List (Option ℕ)) (claim : Option ℕ) (o : Outcome)
+    → IsCircuitText known c → IsCircuit c → CanBeClaimed c → AsksFor word (length c.bads) (is_name_of c) claim
     → IfSome witness (λ text. BitJudges c text verdict) → ((text : List ℕ) → BitJudges c text verdict → ReachesInCircuit c text verdict)
     → IfSome witness (λ text. AreBitFirstRises c text firsts)
     → ((c : Circuit) (text : List ℕ) → IsCircuit c → (vs : List Valuation) × IsClosedBitTrace c text vs)
     → ((c : Circuit) (text : List ℕ) (vs : List Valuation) (frames k : ℕ) → IsCircuit c → BitJudges c text (judgement.Accepted frames) → IsClosedBitTrace c text vs → bit_claimed c text k ≡ true
     → (first : ℕ) × ((slice_get (bit_first_rises c text vs) k ≡ Some (Some first)) × (first < frames)))
     → ((c : Circuit) (text : List ℕ) (vs : List Valuation) (k : ℕ) → bit_claimed c text k ≡ false → k < length c.bads → slice_get (bit_first_rises c text vs) k ≡ Some None)
-    → claimed ≡ is_noted (entry firsts k)
-    → OnOk r (Appends before now (claim_line verdict k claimed)) → OnOk r (Appends told told' (where_named named (claim_said (name_said c) (bad_name_said c) firsts k claimed verdict))) → IfOk r (λ a. IsSoFor a claimed verdict)
-    → IfOk r (IsJudgedOverFor named word known witness before now told told')
-judged_over_for (Ok a) named word known witness before now told told' c verdict firsts k claimed text valid asked is reaches rises exists some none noted line subject so = record {
+    → o ≡ outcome claim (is_claim_noted claim firsts) verdict
+    → OnOk r (Appends before now (outcome_written as_json (circuit_names c) firsts o)) → OnOk r (Appends told told' (where_named named (outcome_said (name_said c) (bad_name_said c) firsts o))) → IfOk r (λ a. IsSoOf a o)
+    → IfOk r (IsJudgedOverWith named as_json word known witness before now told told')
+judged_over_with (Ok a) named as_json word known witness before now told told' c verdict firsts claim o text valid claimable asked is reaches rises exists some none same written subject so = record {
   value = c;
-  claim = k;
+  claim = claim;
   verdict = verdict;
-  claimed = claimed;
+  claimed = is_claim_noted claim firsts;
+  firsts = firsts;
   is_circuit = valid;
   text = text;
+  claimable = claimable;
   asked = asked;
   judged = is;
   reached = each_reached witness is reaches;
-  claims = rw noted (noted_bits witness c verdict firsts k valid (asked_there (number_of word) (length c.bads) (is_name_of c word) k asked) is rises exists some none);
-  firsts = firsts;
+  claims = claimed_bits claim word witness c verdict firsts valid asked is rises exists some none;
   rises = rises;
-  line = line;
-  subject = subject;
-  so = so;
+  written = subst (λ (o : Outcome). Appends before now (outcome_written as_json (circuit_names c) firsts o)) same written;
+  subject = subst (λ (o : Outcome). Appends told told' (where_named named (outcome_said (name_said c) (bad_name_said c) firsts o))) same subject;
+  so = subst (IsSoOf a) same so;
 }
-judged_over_for (Err e) named word known witness before now told told' c verdict firsts k claimed text valid asked is reaches rises exists some none noted line subject so = tt
-
--- ---- the symbol of the bad property at a position
-
-pub symbol_there : (items : List Item) (list word : List ℕ) (k place : ℕ) (x : Item) → list ≡ places is_bad 0 items → slice_get list k ≡ Some place → slice_get items place ≡ Some x → is_name word x.symbol ≡ is_symbol_of items word k
-symbol_there items list word k place x e at own = sym (ap (λ (o : Option Item). is_name word (option_and_then (λ x. x.symbol) o)) (numbered is_bad items list k e ∙ ap (option_and_then (slice_get items)) at ∙ own))
-
-pub symbol_nowhere : (items : List Item) (list word : List ℕ) (k : ℕ) (o : Option ℕ) → list ≡ places is_bad 0 items → slice_get list k ≡ o → option_and_then (slice_get items) o ≡ None → false ≡ is_symbol_of items word k
-symbol_nowhere items list word k o e at none = sym (ap (λ (o : Option Item). is_name word (option_and_then (λ x. x.symbol) o)) (numbered is_bad items list k e ∙ ap (option_and_then (slice_get items)) at ∙ none))
+judged_over_with (Err e) named as_json word known witness before now told told' c verdict firsts claim o text valid claimable asked is reaches rises exists some none same written subject so = tt

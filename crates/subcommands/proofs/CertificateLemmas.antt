@@ -41,7 +41,7 @@ use Rattle.subcommands.specs.declared.refusals.Fault.{Fault}
 use Rattle.subcommands.specs.declared.refusals.Fault.TheVariants as fault
 use Rattle.subcommands.specs.declared.refusals.Refusal.{Refusal}
 use Rattle.subcommands.specs.declared.refusals.Refusal.TheVariants as refusal
-use Rattle.subcommands.specs.Certificates.{Certifies, CertifiesWith, GivesItsCircuit, IsCertifiedBy, IsGivenNumbering, IsSoDerived, NeverRises, given_said, verdict_line}
+use Rattle.subcommands.specs.Certificates.{Certifies, CertifiesWith, GivesItsCircuit, IsCertifiedBy, IsGivenNumbering, IsSoDerived, NeverRises, given_names, given_said, verdict_written}
 use Rattle.subcommands.specs.Conversions.{of_certificate, of_claim, of_engine_form, of_invariant_for, of_obligation, of_witness, of_witness_reading_for}
 use Rattle.subcommands.specs.Refusals.{IsNotCertifiable, IsNotClaimed, IsNotGuarded, IsUnclaimed, IsUnclaimedBy, IsUnguarded, IsFaultyFor, IsFaultyOver, IsFaultyOverForm, IsFaultyWitness}
 use Rattle.subcommands.specs.Statuses.{CountsAll, IfSecond}
@@ -127,15 +127,15 @@ holds_where_done answer.Done _ X so f done = absurd so
 holds_where_done answer.NotAccepted j X so f done = absurd (cc)
 
 -- a command that told how a certificate is judged has judged it, with names or without
-pub certified : (named : Bool) (r : Result Answer Refusal) (g : Given) (by : Certificate) (choice : Option ℕ) (n known second third before now told told' : Option (List ℕ)) (c : Circuit) (k : ℕ) (j : Judgement)
+pub certified : (named as_json : Bool) (r : Result Answer Refusal) (g : Given) (by : Certificate) (choice : Option ℕ) (n known second third before now told told' : Option (List ℕ)) (c : Circuit) (k : ℕ) (j : Judgement)
     → ((by : Certificate) (n : Option (List ℕ)) (d : Circuit) (b : ℕ) (second third : Option (List ℕ)) (line : ℕ) → IsCertifiedBy by n d b second third (verdict.Derived line) → CanRiseInCircuit d b → ⊥)
     → ((items : List Item) (d : Circuit) (b : ℕ) → Lowers items d → CanRise items b ↔ CanRiseInCircuit d b)
     → (gives : GivesItsCircuit g known c) → IsGivenNumbering g known c n → IsClaim choice c k → IsCertifiedBy by n c k second third j
-    → OnOk r (Appends before now (verdict_line k j)) → OnOk r (Appends told told' (where_named named (holds_said j (given_said g known c gives k)))) → IfOk r (λ a. IsSoDerived a j)
-    → IfOk r (CertifiesWith named g by choice known second third before now told told')
-certified named (Ok a) g by choice n known second third before now told told' c k j law alike gives numbers is judged line said so = with_names named said
+    → OnOk r (Appends before now (verdict_written as_json (given_names g known c gives k) k j)) → OnOk r (Appends told told' (where_named named (holds_said j (given_said g known c gives k)))) → IfOk r (λ a. IsSoDerived a j)
+    → IfOk r (CertifiesWith named as_json g by choice known second third before now told told')
+certified named as_json (Ok a) g by choice n known second third before now told told' c k j law alike gives numbers is judged line said so = with_names named said
   where
-    certifies : Certifies g by choice known second third before now a
+    certifies : Certifies as_json g by choice known second third before now a
     certifies = record {
       circuit = c;
       numbering = n;
@@ -147,13 +147,13 @@ certified named (Ok a) g by choice n known second third before now told told' c 
       certified = judged;
       so = so;
       holds = holds_where_done a j (NeverRises g known c gives k) so (λ line derives. never g known c gives k alike (law by n c k second third line (subst (IsCertifiedBy by n c k second third) derives judged)));
-      line = line;
+      written = line;
     }
 
-    with_names : (named : Bool) → Appends told told' (where_named named (holds_said j (given_said g known c gives k))) → CertifiesWith named g by choice known second third before now told told' a
+    with_names : (named : Bool) → Appends told told' (where_named named (holds_said j (given_said g known c gives k))) → CertifiesWith named as_json g by choice known second third before now told told' a
     with_names false said = certifies
     with_names true said = record { certifies = certifies; subject = said }
-certified named (Err e) g by choice n known second third before now told told' c k j law alike gives numbers is judged line said so = so
+certified named as_json (Err e) g by choice n known second third before now told told' c k j law alike gives numbers is judged line said so = so
 
 -- ---- what is refused of the first file
 

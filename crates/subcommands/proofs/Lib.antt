@@ -5,3 +5,4 @@ pub mod EngineLemmas
 pub mod RestoreLemmas
 pub mod SubjectLemmas
 pub mod WaveLemmas
+pub mod ObjectLemmas

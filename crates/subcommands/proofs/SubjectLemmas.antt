@@ -19,7 +19,7 @@ use Rattle.reached.specs.Accepted.{Reaches, ReachesInCircuit}
 use Rattle.btor2text.specs.Spelling.{IsModelOf}
 use Rattle.aigertext.specs.Spelling.{IsCircuitText}
 use Rattle.subcommands.specs.Claims.{CanBeClaimed}
-use Rattle.subcommands.specs.Done.{IsJudged, IsJudgedByName, IsJudgedOver, IsJudgedOverByName, IsSo, Judged, judgement_line}
+use Rattle.subcommands.specs.Done.{IsJudged, IsJudgedOver, IsSo, Judged, judgement_line}
 use Rattle.subcommands.specs.Subjects.{bad_item_said, bad_name_said, first_said, firsts_said, item_line, name_said, numbered_item, said_by_name, says_item}
 
 -- ---- the item with a number
@@ -118,23 +118,6 @@ judged (Ok a) known witness before now items verdict text valid each is reaches 
 }
 judged (Err e) known witness before now items verdict text valid each is reaches line so = so
 
-pub judged_by_name : (r : Result Answer Refusal) (known witness before now told told' : Option (List ℕ)) (items : List Item) (verdict : Judgement) (firsts : List (Option ℕ))
-    → IsModelOf known items → IsWellFormed items → first_init_without_next items items ≡ None → IfSome witness (λ text. Judges items text verdict) → ((text : List ℕ) → Judges items text verdict → Reaches items text verdict)
-    → IfSome witness (λ text. (fs : List Frame) → IsClosedTrace items text fs → firsts ≡ word_first_rises items text fs)
-    → OnOk r (Appends before now (judgement_line verdict)) → OnOk r (Appends told told' (said_by_name (item_line items) (bad_item_said items) firsts verdict)) → IfOk r (λ a. IsSo a verdict)
-    → IfOk r (Judged (IsJudgedByName known witness before now told told'))
-judged_by_name (Ok a) known witness before now told told' items verdict firsts text valid each is reaches rises line subject so = record {
-  verdict = verdict;
-  is_judged = record {
-    judged = record { items = items; text = text; well_formed = valid; each_has_next_or_is_free = each; judged = is; reached = each_reached witness is reaches; line = line };
-    firsts = firsts;
-    rises = rises;
-    subject = subject;
-  };
-  so = so;
-}
-judged_by_name (Err e) known witness before now told told' items verdict firsts text valid each is reaches rises line subject so = so
-
 pub judged_over : (r : Result Answer Refusal) (known witness before now : Option (List ℕ)) (c : Circuit) (verdict : Judgement)
     → IsCircuitText known c → IsCircuit c → CanBeClaimed c → IfSome witness (λ text. BitJudges c text verdict) → ((text : List ℕ) → BitJudges c text verdict → ReachesInCircuit c text verdict)
     → OnOk r (Appends before now (judgement_line verdict)) → IfOk r (λ a. IsSo a verdict)
@@ -145,20 +128,3 @@ judged_over (Ok a) known witness before now c verdict text valid claimable is re
   so = so;
 }
 judged_over (Err e) known witness before now c verdict text valid claimable is reaches line so = so
-
-pub judged_over_by_name : (r : Result Answer Refusal) (known witness before now told told' : Option (List ℕ)) (c : Circuit) (verdict : Judgement) (firsts : List (Option ℕ))
-    → IsCircuitText known c → IsCircuit c → CanBeClaimed c → IfSome witness (λ text. BitJudges c text verdict) → ((text : List ℕ) → BitJudges c text verdict → ReachesInCircuit c text verdict)
-    → IfSome witness (λ text. AreBitFirstRises c text firsts)
-    → OnOk r (Appends before now (judgement_line verdict)) → OnOk r (Appends told told' (said_by_name (name_said c) (bad_name_said c) firsts verdict)) → IfOk r (λ a. IsSo a verdict)
-    → IfOk r (Judged (IsJudgedOverByName known witness before now told told'))
-judged_over_by_name (Ok a) known witness before now told told' c verdict firsts text valid claimable is reaches rises line subject so = record {
-  verdict = verdict;
-  is_judged = record {
-    judged = record { value = c; is_circuit = valid; text = text; claimable = claimable; judged = is; reached = each_reached witness is reaches; line = line };
-    firsts = firsts;
-    rises = rises;
-    subject = subject;
-  };
-  so = so;
-}
-judged_over_by_name (Err e) known witness before now told told' c verdict firsts text valid claimable is reaches rises line subject so = so

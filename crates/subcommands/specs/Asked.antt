@@ -1,5 +1,5 @@
 -- Which bad property a word of the command line asks for, and what a command has done that judges whether a witness is accepted for it (this project's).
-use Rattle.std.specs.Prelude.{◌≡◌, ℕ, ◌<◌, ◌≤◌, Bool, true, false, List, ◌++◌, length, Option, Some, None, IfSome, option_and_then, if◌then◌else◌, codes, decimal}
+use Rattle.std.specs.Prelude.{◌≡◌, ℕ, ◌<◌, ◌≤◌, Bool, true, false, List, ◌++◌, length, Option, Some, None, IfSome, option_and_then, slice_get, codes, decimal}
 use Rattle.std.specs.Io.KnownBytes.{Appends}
 use Rattle.std.specs.Str.{bytes_eq}
 use Rattle.base.specs.Decimals.{number_of}
@@ -13,6 +13,7 @@ use Rattle.aiger.specs.declared.circuit.Section.TheVariants as section
 use Rattle.aiger.specs.Circuit.{Circuit, IsCircuit, name_of}
 use Rattle.aigertext.specs.Spelling.{IsCircuitText}
 use Rattle.engine_form.specs.declared.fault.EngineFault.TheVariants as engine
+use Rattle.invocation.specs.declared.tasks.Given.TheVariants as given
 use Rattle.witness.specs.declared.judgement.Judgement.{Judgement}
 use Rattle.witness.specs.declared.judgement.Judgement.TheVariants as judgement
 use Rattle.witness.specs.Judgements.{Judges}
@@ -23,12 +24,16 @@ use Rattle.rises.specs.FirstRises.{word_first_rises, AreBitFirstRises}
 use Rattle.reached.specs.Accepted.{Reaches, ReachesInCircuit}
 use Rattle.subcommands.specs.declared.answers.Answer.{Answer}
 use Rattle.subcommands.specs.declared.answers.Answer.TheVariants as answer
+use Rattle.subcommands.specs.declared.outcomes.Outcome.{Outcome}
+use Rattle.subcommands.specs.declared.outcomes.Outcome.TheVariants as outcome_is
 use Rattle.subcommands.specs.declared.refusals.Fault.{Fault}
 use Rattle.subcommands.specs.declared.refusals.Fault.TheVariants as fault
 use Rattle.subcommands.specs.declared.subjects.Subject.{Subject}
 use Rattle.subcommands.specs.declared.subjects.Subject.TheVariants as subject
-use Rattle.subcommands.specs.Done.{IsAccepted, judgement_line}
-use Rattle.subcommands.specs.Refusals.{IsNotJudged, IsNoCircuit}
+use Rattle.subcommands.specs.Claims.{CanBeClaimed}
+use Rattle.subcommands.specs.Done.{IsAccepted, IsJudged, IsJudgedOver, IsSo, Judged, judgement_line}
+use Rattle.subcommands.specs.Objects.{Names, circuit_names, model_names, outcome_object}
+use Rattle.subcommands.specs.Refusals.{IsNotClaimable, IsNotJudged, IsNoCircuit}
 use Rattle.subcommands.specs.Subjects.{bad_item_said, bad_name_said, item_line, name_said, numbered_item, said_by_name, where_named}
 
 -- ---- what a word asks for
@@ -79,70 +84,106 @@ is_called (subject.Model m) word k = is_symbol_of m.now word k
 is_called (subject.Circuit c) word k = is_name_of c.now word k
 is_called (subject.Lowered m c) word k = is_symbol_of m.now word k
 
+-- what a command asks for: nothing; or the bad property of a word
+abbrev pub AsksFor : Option (List ℕ) → ℕ → (List ℕ → ℕ → Bool) → Option ℕ → Type 0
+AsksFor None count called claim = claim ≡ None
+AsksFor (Some word) count called claim = (k : ℕ) × ((claim ≡ Some k) × IsAskedBy (number_of word) count (called word) k)
+
+-- a word asks for none
+abbrev pub AsksForNone : Option (List ℕ) → ℕ → (List ℕ → ℕ → Bool) → Fault → Type 0
+AsksForNone None count called f = ⊥
+AsksForNone (Some word) count called f = IsUnaskedBy (number_of word) count (called word) f
+
 -- ---- what is told
 
--- the line that tells that an accepted witness does not claim a bad property
-abbrev pub unclaimed_line : ℕ → List ℕ
-unclaimed_line k = codes "not claimed: b" ++ (decimal k ++ codes "\n")
-
--- the line of a judgement where a witness is to claim a bad property, and does or does not
-abbrev pub claim_line : Judgement → ℕ → Bool → List ℕ
-claim_line (judgement.Accepted frames) k claimed = if claimed then judgement_line (judgement.Accepted frames) else unclaimed_line k
-claim_line j k claimed = judgement_line j
-
--- what is said by name of it: of an accepted witness that does not claim it, which one that is
-abbrev pub claim_said : (Judgement → List ℕ) → (ℕ → List ℕ) → List (Option ℕ) → ℕ → Bool → Judgement → List ℕ
-claim_said said bad firsts k claimed (judgement.Accepted frames) = if claimed then said_by_name said bad firsts (judgement.Accepted frames) else bad k
-claim_said said bad firsts k claimed j = said_by_name said bad firsts j
-
--- a witness is accepted and claims a bad property where an answer is that all is done, and else it is not or does not
-abbrev pub IsSoFor : Answer → Bool → Judgement → Type 0
-IsSoFor answer.Done claimed verdict = IsAccepted verdict × (claimed ≡ true)
-IsSoFor answer.NotAccepted claimed verdict = ¬ (IsAccepted verdict × (claimed ≡ true))
-
--- a first frame is noted
+-- a first frame is noted of what is asked for, where anything is
 abbrev pub is_noted : Option ℕ → Bool
 is_noted None = false
 is_noted (Some frame) = true
 
+abbrev pub is_claim_noted : Option ℕ → List (Option ℕ) → Bool
+is_claim_noted None firsts = true
+is_claim_noted (Some k) firsts = is_noted (option_and_then (λ first. first) (slice_get firsts k))
+
+-- what is asked for is claimed, where anything is
+abbrev pub is_claimed : Option ℕ → (ℕ → Bool) → Bool
+is_claimed None claims = true
+is_claimed (Some k) claims = claims k
+
+-- what is told of a witness that is judged so, and claims what is asked for or does not
+abbrev pub outcome : Option ℕ → Bool → Judgement → Outcome
+outcome (Some k) false (judgement.Accepted frames) = outcome_is.Unclaimed k
+outcome claim claimed j = outcome_is.Judged j
+
+-- the line of it
+abbrev pub outcome_line : Outcome → List ℕ
+outcome_line (outcome_is.Judged j) = judgement_line j
+outcome_line (outcome_is.Unclaimed k) = codes "not claimed: b" ++ (decimal k ++ codes "\n")
+
+-- its line, or an object of JSON
+abbrev pub outcome_written : Bool → Names → List (Option ℕ) → Outcome → List ℕ
+outcome_written false all firsts o = outcome_line o
+outcome_written true all firsts o = outcome_object all firsts o
+
+-- what is said by name of it: of an accepted witness that does not claim what is asked for, which one that is
+abbrev pub outcome_said : (Judgement → List ℕ) → (ℕ → List ℕ) → List (Option ℕ) → Outcome → List ℕ
+outcome_said said bad firsts (outcome_is.Judged j) = said_by_name said bad firsts j
+outcome_said said bad firsts (outcome_is.Unclaimed k) = bad k
+
+-- a witness is accepted and claims what is asked for where an answer is that all is done, and else it is not or does not
+abbrev pub IsSoOf : Answer → Outcome → Type 0
+IsSoOf a (outcome_is.Judged j) = IsSo a j
+IsSoOf answer.Done (outcome_is.Unclaimed k) = ⊥
+IsSoOf answer.NotAccepted (outcome_is.Unclaimed k) = Unit {0}
+
 -- ---- what is done
 
--- The first text is of a model, of which a word asks for a bad property; the second is judged so over it, and where it is accepted it is known whether it claims that one; what was written is that it does not, or else the line of the judgement; what was told says so by name, where names are asked for; and it is answered whether the witness is accepted and claims it.
-pub record IsJudgedFor (named : Bool) (word : List ℕ) (model witness before now told told' : Option (List ℕ)) (a : Answer) : Type 0 where
+-- The first text is of a model, of which a word may ask for a bad property; the second is judged so over it, and where it is accepted it is known whether it claims that one, and in which frame of the model's one trace each claim is reached first; what was written tells it, in a line or as an object; what was told says so by name, where names are asked for; and it is answered whether the witness is accepted and claims what is asked for.
+pub record IsJudgedWith (named as_json : Bool) (word : Option (List ℕ)) (model witness before now told told' : Option (List ℕ)) (a : Answer) : Type 0 where
   pub items : List Item
-  pub claim : ℕ
+  pub claim : Option ℕ
   pub verdict : Judgement
   pub claimed : Bool
+  pub firsts : List (Option ℕ)
   pub text : IsModelOf model items
   pub well_formed : IsWellFormed items
   pub each_has_next_or_is_free : first_init_without_next items items ≡ None
-  pub asked : IsAskedBy (number_of word) (length (places is_bad 0 items)) (is_symbol_of items word) claim
+  pub asked : AsksFor word (length (places is_bad 0 items)) (is_symbol_of items) claim
   pub judged : IfSome witness (λ text. Judges items text verdict)
   pub reached : IfSome witness (λ text. Reaches items text verdict)
-  pub claims : IfSome witness (λ text. IsAccepted verdict → claimed ≡ word_claimed items text claim)
-  pub firsts : List (Option ℕ)
+  pub claims : IfSome witness (λ text. IsAccepted verdict → claimed ≡ is_claimed claim (word_claimed items text))
   pub rises : IfSome witness (λ text. (fs : List Frame) → IsClosedTrace items text fs → firsts ≡ word_first_rises items text fs)
-  pub line : Appends before now (claim_line verdict claim claimed)
-  pub subject : Appends told told' (where_named named (claim_said (item_line items) (bad_item_said items) firsts claim claimed verdict))
-  pub so : IsSoFor a claimed verdict
+  pub written : Appends before now (outcome_written as_json (model_names items) firsts (outcome claim claimed verdict))
+  pub subject : Appends told told' (where_named named (outcome_said (item_line items) (bad_item_said items) firsts (outcome claim claimed verdict)))
+  pub so : IsSoOf a (outcome claim claimed verdict)
 
--- The same over a circuit.
-pub record IsJudgedOverFor (named : Bool) (word : List ℕ) (circuit witness before now told told' : Option (List ℕ)) (a : Answer) : Type 0 where
+-- The same over a circuit with a bad property, or without outputs.
+pub record IsJudgedOverWith (named as_json : Bool) (word : Option (List ℕ)) (circuit witness before now told told' : Option (List ℕ)) (a : Answer) : Type 0 where
   pub value : Circuit
-  pub claim : ℕ
+  pub claim : Option ℕ
   pub verdict : Judgement
   pub claimed : Bool
+  pub firsts : List (Option ℕ)
   pub is_circuit : IsCircuit value
   pub text : IsCircuitText circuit value
-  pub asked : IsAskedBy (number_of word) (length value.bads) (is_name_of value word) claim
+  pub claimable : CanBeClaimed value
+  pub asked : AsksFor word (length value.bads) (is_name_of value) claim
   pub judged : IfSome witness (λ text. BitJudges value text verdict)
   pub reached : IfSome witness (λ text. ReachesInCircuit value text verdict)
-  pub claims : IfSome witness (λ text. IsAccepted verdict → claimed ≡ bit_claimed value text claim)
-  pub firsts : List (Option ℕ)
+  pub claims : IfSome witness (λ text. IsAccepted verdict → claimed ≡ is_claimed claim (bit_claimed value text))
   pub rises : IfSome witness (λ text. AreBitFirstRises value text firsts)
-  pub line : Appends before now (claim_line verdict claim claimed)
-  pub subject : Appends told told' (where_named named (claim_said (name_said value) (bad_name_said value) firsts claim claimed verdict))
-  pub so : IsSoFor a claimed verdict
+  pub written : Appends before now (outcome_written as_json (circuit_names value) firsts (outcome claim claimed verdict))
+  pub subject : Appends told told' (where_named named (outcome_said (name_said value) (bad_name_said value) firsts (outcome claim claimed verdict)))
+  pub so : IsSoOf a (outcome claim claimed verdict)
+
+-- without names, words and objects there is the line of the judgement alone
+abbrev pub ChecksModel : Bool → Bool → Option (List ℕ) → Option (List ℕ) → Option (List ℕ) → Option (List ℕ) → Option (List ℕ) → Option (List ℕ) → Option (List ℕ) → Answer → Type 0
+ChecksModel false false None model witness before now told told' a = Judged (IsJudged model witness before now) a
+ChecksModel named as_json word model witness before now told told' a = IsJudgedWith named as_json word model witness before now told told' a
+
+abbrev pub ChecksCircuit : Bool → Bool → Option (List ℕ) → Option (List ℕ) → Option (List ℕ) → Option (List ℕ) → Option (List ℕ) → Option (List ℕ) → Option (List ℕ) → Answer → Type 0
+ChecksCircuit false false None circuit witness before now told told' a = Judged (IsJudgedOver circuit witness before now) a
+ChecksCircuit named as_json word circuit witness before now told told' a = IsJudgedOverWith named as_json word circuit witness before now told told' a
 
 -- ---- what is refused
 
@@ -169,3 +210,12 @@ abbrev pub IsNotJudgedOverFor : List ℕ → Option (List ℕ) → Fault → Typ
 IsNotJudgedOverFor word known (fault.Engine e) = LacksAskedOver word known (fault.Engine e)
 IsNotJudgedOverFor word known (fault.SameName j k) = LacksAskedOver word known (fault.SameName j k)
 IsNotJudgedOverFor word known f = IsNoCircuit known f
+
+-- the same of a command that may ask for one
+abbrev pub IsNotJudgedWith : Option (List ℕ) → Option (List ℕ) → Fault → Type 0
+IsNotJudgedWith None known f = IsNotJudged known f
+IsNotJudgedWith (Some word) known f = IsNotJudgedFor word known f
+
+abbrev pub IsNotJudgedOverWith : Option (List ℕ) → Option (List ℕ) → Fault → Type 0
+IsNotJudgedOverWith None known f = IsNotClaimable given.Circuit known f
+IsNotJudgedOverWith (Some word) known f = IsNotJudgedOverFor word known f

@@ -21,6 +21,7 @@ use Rattle.invocation.specs.declared.tasks.Certificate.{Certificate}
 use Rattle.invocation.specs.declared.tasks.Certificate.TheVariants as certificate
 use Rattle.invocation.specs.declared.tasks.Given.{Given}
 use Rattle.invocation.specs.declared.tasks.Given.TheVariants as given
+use Rattle.subcommands.specs.Objects.{certificate_object, circuit_names, model_names}
 use Rattle.subcommands.specs.Subjects.{bad_item_said, bad_name_said, holds_said}
 use Rattle.btor2text.specs.Spelling.{IsModelOf}
 use Rattle.aigertext.specs.Numbering.{IsNumberingOfText}
@@ -87,8 +88,18 @@ IsSoDerived answer.Done _ = ⊥
 IsSoDerived answer.NotAccepted (verdict.Derived line) = ⊥
 IsSoDerived answer.NotAccepted _ = Unit {0}
 
--- The second text is of a certificate of this kind, and the third of a proof; they are judged so for the bad property that is claimed of what the first gives; what was written is the line of that; and where all is done, that property never rises.
-pub record Certifies (g : Given) (by : Certificate) (choice : Option ℕ) (first second third before now : Option (List ℕ)) (a : Answer) : Type 0 where
+-- what the names of a bad property of what the first text gives are in an object: those of the line of the model, or of the circuit
+abbrev pub given_names : (g : Given) → (first : Option (List ℕ)) → (c : Circuit) → GivesItsCircuit g first c → ℕ → List ℕ
+given_names given.Model first c gives k = (model_names gives.items).bad k
+given_names given.Circuit first c gives k = (circuit_names c).bad k
+
+-- the line of a judgement, or an object of JSON
+abbrev pub verdict_written : Bool → List ℕ → ℕ → Judgement → List ℕ
+verdict_written false named claim j = verdict_line claim j
+verdict_written true named claim j = certificate_object named claim j
+
+-- The second text is of a certificate of this kind, and the third of a proof; they are judged so for the bad property that is claimed of what the first gives; what was written tells that, in a line or as an object; and where all is done, that property never rises.
+pub record Certifies (as_json : Bool) (g : Given) (by : Certificate) (choice : Option ℕ) (first second third before now : Option (List ℕ)) (a : Answer) : Type 0 where
   pub circuit : Circuit
   pub numbering : Option (List ℕ)
   pub claim : ℕ
@@ -99,7 +110,7 @@ pub record Certifies (g : Given) (by : Certificate) (choice : Option ℕ) (first
   pub certified : IsCertifiedBy by numbering circuit claim second third judgement
   pub so : IsSoDerived a judgement
   pub holds : a ≡ answer.Done → NeverRises g first circuit gives claim
-  pub line : Appends before now (verdict_line claim judgement)
+  pub written : Appends before now (verdict_written as_json (given_names g first circuit gives claim) claim judgement)
 
 -- the line that says which bad property of what the first text gives has a number: the line of the model, or the name in the circuit
 abbrev pub given_said : (g : Given) → (first : Option (List ℕ)) → (c : Circuit) → GivesItsCircuit g first c → ℕ → List ℕ
@@ -115,18 +126,27 @@ said_of None c k = bad_name_said c k
 abbrev pub read_said : Read → ℕ → List ℕ
 read_said r k = said_of r.model r.circuit k
 
+-- the names of a bad property of what was read in an object
+abbrev pub names_of : Option (List Item) → Circuit → ℕ → List ℕ
+names_of (Some items) c k = (model_names items).bad k
+names_of None c k = (circuit_names c).bad k
+
+abbrev pub read_names : Read → ℕ → List ℕ
+read_names r k = names_of r.model r.circuit k
+
 -- what was read is what the first text gives, and says of its bad properties what that says
 pub record IsRead (g : Given) (first : Option (List ℕ)) (r : Read) : Type 0 where
   pub gives : GivesItsCircuit g first r.circuit
   pub is_numbering : IsGivenNumbering g first r.circuit r.numbering
   pub says : (k : ℕ) → read_said r k ≡ given_said g first r.circuit gives k
+  pub names : (k : ℕ) → read_names r k ≡ given_names g first r.circuit gives k
 
 -- a certificate is judged so, and what was told is the line that says which bad property holds; none where that is not judged
-pub record CertifiesByName (g : Given) (by : Certificate) (choice : Option ℕ) (first second third before now told told' : Option (List ℕ)) (a : Answer) : Type 0 where
-  pub certifies : Certifies g by choice first second third before now a
+pub record CertifiesByName (as_json : Bool) (g : Given) (by : Certificate) (choice : Option ℕ) (first second third before now told told' : Option (List ℕ)) (a : Answer) : Type 0 where
+  pub certifies : Certifies as_json g by choice first second third before now a
   pub subject : Appends told told' (holds_said certifies.judgement (given_said g first certifies.circuit certifies.gives certifies.claim))
 
 -- with names or without
-abbrev pub CertifiesWith : Bool → Given → Certificate → Option ℕ → Option (List ℕ) → Option (List ℕ) → Option (List ℕ) → Option (List ℕ) → Option (List ℕ) → Option (List ℕ) → Option (List ℕ) → Answer → Type 0
-CertifiesWith false g by choice first second third before now told told' a = Certifies g by choice first second third before now a
-CertifiesWith true g by choice first second third before now told told' a = CertifiesByName g by choice first second third before now told told' a
+abbrev pub CertifiesWith : Bool → Bool → Given → Certificate → Option ℕ → Option (List ℕ) → Option (List ℕ) → Option (List ℕ) → Option (List ℕ) → Option (List ℕ) → Option (List ℕ) → Option (List ℕ) → Answer → Type 0
+CertifiesWith false as_json g by choice first second third before now told told' a = Certifies as_json g by choice first second third before now a
+CertifiesWith true as_json g by choice first second third before now told told' a = CertifiesByName as_json g by choice first second third before now told told' a

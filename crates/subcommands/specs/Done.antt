@@ -237,19 +237,3 @@ pub record Differ (known before now : Option (List ℕ)) : Type 0 where
 abbrev pub Compares : Option (List ℕ) → Option (List ℕ) → Option (List ℕ) → Answer → Type 0
 Compares known before now answer.Done = Agree known before now
 Compares known before now answer.NotAccepted = Differ known before now
-
--- ---- with names
-
--- A witness is judged so over a model, and what was told says what the judgement is about, and of an acceptance in which frame of the model's one trace each claim is reached first.
-pub record IsJudgedByName (model witness before now told told' : Option (List ℕ)) (verdict : Judgement) : Type 0 where
-  pub judged : IsJudged model witness before now verdict
-  pub firsts : List (Option ℕ)
-  pub rises : IfSome witness (λ text. (fs : List Frame) → IsClosedTrace judged.items text fs → firsts ≡ word_first_rises judged.items text fs)
-  pub subject : Appends told told' (said_by_name (item_line judged.items) (bad_item_said judged.items) firsts verdict)
-
--- The same over a circuit.
-pub record IsJudgedOverByName (circuit witness before now told told' : Option (List ℕ)) (verdict : Judgement) : Type 0 where
-  pub judged : IsJudgedOver circuit witness before now verdict
-  pub firsts : List (Option ℕ)
-  pub rises : IfSome witness (λ text. AreBitFirstRises judged.value text firsts)
-  pub subject : Appends told told' (said_by_name (name_said judged.value) (bad_name_said judged.value) firsts verdict)

@@ -7,6 +7,7 @@ pub mod Done
 pub mod Outputs
 pub mod Files
 pub mod Names
+pub mod Objects
 pub mod Refusals
 pub mod Restoring
 pub mod Statuses

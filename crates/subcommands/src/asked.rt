@@ -1,16 +1,15 @@
 //! The bad property that a word of the command line asks for.
 
-ghost use Rattle.std.specs.Prelude.{◌≡◌, ℕ, Bool, Option, ◌<◌, ◌≤◌, true, false, None, IfOk, IfErr, IfSome, length, option_and_then, slice_get};
+ghost use Rattle.std.specs.Prelude.{◌≡◌, ℕ, Bool, Option, ◌<◌, ◌≤◌, true, false, None, IfOk, IfErr, IfSome, option_map};
 ghost use Rattle.base.specs.Decimals.{number_of};
-ghost use Rattle.subcommands.specs.Asked.{IsAskedBy, IsUnaskedBy, IsUnknown, bad_count, is_called, is_name, is_name_of, is_noted, is_symbol_of};
+ghost use Rattle.subcommands.specs.Asked.{AsksFor, AsksForNone, IsAskedBy, IsUnaskedBy, IsUnknown, bad_count, is_called, is_name, is_name_of, is_symbol_of};
 
 use crate::refusals::Fault;
-use crate::subjects::{Subject, item_at, place_at};
+use crate::subjects::{Subject, item_of};
 use aiger::{Circuit, Section};
 use base::decimal;
 use btor2::{Model, Symbol};
 use engine_form::EngineFault;
-use rises::FirstRises;
 
 /// How many bad properties there are.
 fn bad_count(subject: Subject<'_>) -> usize
@@ -36,11 +35,8 @@ fn is_symbol(symbol: &Option<Symbol>, word: &[u8]) -> bool
 fn is_symbol_of(model: &Model, word: &[u8], position: usize) -> bool
     ensures { result ≡ is_symbol_of model.now word.now position }
 {
-    match place_at(model.bads(), position as u64) {
-        Some(place) => match item_at(model.items(), place) {
-            Some(item) => is_symbol(&item.symbol, word),
-            None => false,
-        },
+    match item_of(model, model.bads(), position as u64) {
+        Some(item) => is_symbol(&item.symbol, word),
         None => false,
     }
 }
@@ -114,7 +110,7 @@ fn called(subject: Subject<'_>, word: &[u8]) -> Result<usize, Fault>
 }
 
 /// The bad property that a word asks for: the one at the position that it writes, or the only one of that name.
-pub(crate) fn asked(subject: Subject<'_>, word: &[u8]) -> Result<usize, Fault>
+fn asked_by(subject: Subject<'_>, word: &[u8]) -> Result<usize, Fault>
     ensures asked { IfOk result (IsAskedBy (number_of word.now) (bad_count subject.entry)
         (is_called subject.entry word.now)) }
     ensures unasked { IfErr result (IsUnaskedBy (number_of word.now) (bad_count subject.entry)
@@ -128,13 +124,18 @@ pub(crate) fn asked(subject: Subject<'_>, word: &[u8]) -> Result<usize, Fault>
     }
 }
 
-/// Whether a first frame is noted of a bad property.
-pub(crate) fn is_noted(firsts: &FirstRises, position: usize) -> bool
-    ensures { result
-        ≡ is_noted (option_and_then (λ first. first) (slice_get firsts.now position)) }
+/// The bad property that a command asks for, where a word does.
+pub(crate) fn asked(subject: Subject<'_>, word: Option<&str>) -> Result<Option<usize>, Fault>
+    ensures asked { IfOk result (AsksFor (option_map (λ word. word.now) word.entry)
+        (bad_count subject.entry) (is_called subject.entry)) }
+    ensures unasked { IfErr result (AsksForNone (option_map (λ word. word.now) word.entry)
+        (bad_count subject.entry) (is_called subject.entry)) }
 {
-    match firsts.frame(position) {
-        Some(_) => true,
-        None => false,
+    match word {
+        Some(word) => match asked_by(subject, word.as_bytes()) {
+            Ok(position) => Ok(Some(position)),
+            Err(fault) => Err(fault),
+        },
+        None => Ok(None),
     }
 }

@@ -8,8 +8,9 @@ ghost use Rattle.blast.specs.Lowering.{Lowers};
 ghost use Rattle.blast.specs.Refusal.{lowering_refusal};
 ghost use Rattle.drup.specs.FormulaTexts.{formula_text};
 ghost use Rattle.invocation.specs.declared.tasks.Given.TheVariants as given_is;
-ghost use Rattle.subcommands.specs.Certificates.{CertifiesWith, GivesItsCircuit, IsGivenNumbering, IsRead, IsSoDerived, WritesOwed, given_said, read_said, verdict_line};
+ghost use Rattle.subcommands.specs.Certificates.{CertifiesWith, GivesItsCircuit, IsGivenNumbering, IsRead, IsSoDerived, WritesOwed, read_names, read_said, verdict_line, verdict_written};
 ghost use Rattle.btor2text.specs.Spelling.{IsModelOf};
+ghost use Rattle.subcommands.specs.Objects.{names};
 ghost use Rattle.subcommands.specs.Refusals.{IsFaultyCertificate, IsNoCircuit, IsNotCertifiable, IsNotGiven, IsNotLowered};
 ghost use Rattle.subcommands.specs.Statuses.{Ends, EndsAll, EndsUnrefused, IfInput, IfSecond};
 ghost use Rattle.subcommands.specs.Statuses.Use.{Unused, Used};
@@ -17,6 +18,7 @@ ghost use Rattle.subcommands.specs.Subjects.{bad_said, holds_said, where_named};
 
 use crate::answers::Answer;
 use crate::models::read_model;
+use crate::objects::write_certified;
 use crate::owing::{certified_claim, certified_never_rises, judged, owed};
 use crate::refusals::{Device, Refusal};
 use crate::subjects::{Subject, tell_bad};
@@ -28,7 +30,7 @@ use base::{DeviceFault, Sink, Source};
 use blast::{Watch, lower_watched};
 use btor2::Model;
 use drup::{Formula, Judgement, write_formula};
-use invocation::{Certificate, Given};
+use invocation::{Certificate, Given, Order};
 use std::alloc::{AllocError, Global};
 
 /// The circuit that lowers a model.
@@ -56,7 +58,8 @@ struct Read {
 impl Read {
     /// What a judgement of it is about.
     fn subject(&self) -> Subject<'_>
-        ensures { (k : ℕ) → bad_said result k ≡ read_said self.now k }
+        ensures says { (k : ℕ) → bad_said result k ≡ read_said self.now k }
+        ensures names { (k : ℕ) → (names result).bad k ≡ read_names self.now k }
     {
         match &self.model {
             Some(model) => Subject::Model(model),
@@ -226,18 +229,26 @@ fn answer_of(judgement: &Judgement) -> Answer
     }
 }
 
-/// Writes the line that tells how a certificate of a bad property is judged, and answers whether the proof derives.
+/// Writes how a certificate of a bad property is judged, in a line or as an object, and answers whether the proof derives.
 fn write_verdict<O: Sink>(
     alloc: Global,
+    as_json: bool,
+    subject: Subject<'_>,
     claim: usize,
     judgement: &Judgement,
     out: &mut O,
 ) -> Result<Answer, Refusal>
     ensures written { OnOk result (Appends (O.written out.old) (O.written out.new)
-        (verdict_line claim judgement.now)) }
+        (verdict_written as_json ((names subject.entry).bad claim) claim judgement.now)) }
     ensures so { IfOk result (λ answer. IsSoDerived answer judgement.now) }
     ensures ends { EndsUnrefused result Unused Unused (Used O.failures out.old out.new) Unused }
 {
+    if as_json {
+        return match write_certified(subject, claim, judgement, out) {
+            Ok(()) => Ok(answer_of(judgement)),
+            Err(_) => Err(Refusal::Failed(Device::Output)),
+        };
+    }
     let line = verdict_line(alloc, claim, judgement)?;
     write_result(out, line.as_bytes())?;
     Ok(answer_of(judgement))
@@ -262,11 +273,10 @@ fn tell_what_holds<E: Sink>(
     }
 }
 
-/// Writes the line that tells how a certificate of a bad property is judged, with names says which one holds, and answers
-/// whether the proof derives.
+/// The same, and with names says which bad property holds.
 fn tell_verdict<O: Sink, E: Sink>(
     alloc: Global,
-    named: bool,
+    order: &Order<'_>,
     subject: Subject<'_>,
     claim: usize,
     judgement: &Judgement,
@@ -274,64 +284,68 @@ fn tell_verdict<O: Sink, E: Sink>(
     err: &mut E,
 ) -> Result<Answer, Refusal>
     ensures written { OnOk result (Appends (O.written out.old) (O.written out.new)
-        (verdict_line claim judgement.now)) }
+        (verdict_written order.now.as_json ((names subject.entry).bad claim) claim
+        judgement.now)) }
     ensures told { OnOk result (Appends (E.written err.old) (E.written err.new)
-        (where_named named (holds_said judgement.now (bad_said subject.entry claim)))) }
-    ensures quiet { named ≡ false → err.new ≡ err.old }
+        (where_named order.now.named (holds_said judgement.now (bad_said subject.entry claim)))) }
+    ensures quiet { order.now.named ≡ false → err.new ≡ err.old }
     ensures so { IfOk result (λ answer. IsSoDerived answer judgement.now) }
     ensures ends { EndsUnrefused result Unused Unused (Used O.failures out.old out.new)
         (Used E.failures err.old err.new) }
 {
-    let answer = write_verdict(alloc, claim, judgement, out)?;
-    match tell_what_holds(named, subject, claim, judgement, err) {
+    let answer = write_verdict(alloc, order.as_json, subject, claim, judgement, out)?;
+    match tell_what_holds(order.named, subject, claim, judgement, err) {
         Ok(()) => Ok(answer),
         Err(_) => Err(Refusal::Failed(Device::Error)),
     }
 }
 
-/// Judges a certificate of the bad property that is claimed of a circuit, whose file has this numbering, writes the line of that, and with names says which
-/// one holds.
+/// Judges a certificate of the bad property that is claimed of a circuit, whose file has this numbering; tells that, and with
+/// names which one holds.
 fn check_over<B: Source, T: Source, O: Sink, E: Sink>(
     alloc: Global,
-    named: bool,
+    order: &Order<'_>,
     by: Certificate,
-    subject: Subject<'_>,
-    circuit: &Circuit,
-    numbering: &Numbering,
     choice: Option<usize>,
+    read: &Read,
     second: &mut B,
     third: &mut T,
     out: &mut O,
     err: &mut E,
 ) -> Result<Answer, Refusal>
-    ensures done { (g : Given) (known : Option (List ℕ))
-        (gives : GivesItsCircuit g known circuit.now)
-        → ((k : ℕ) → bad_said subject.entry k ≡ given_said g known circuit.now gives k)
-        → IsGivenNumbering g known circuit.now numbering.now
-        → IfOk result (CertifiesWith named g by choice known (B.to_come second.old)
-        (T.to_come third.old) (O.written out.old) (O.written out.new) (E.written err.old)
-        (E.written err.new)) }
-    ensures refused { (g : Given) (known : Option (List ℕ)) → GivesItsCircuit g known circuit.now
+    ensures done { (g : Given) (known : Option (List ℕ)) → IsRead g known read.now
+        → IfOk result (CertifiesWith order.now.named order.now.as_json g by choice known
+        (B.to_come second.old) (T.to_come third.old) (O.written out.old) (O.written out.new)
+        (E.written err.old) (E.written err.new)) }
+    ensures refused { (g : Given) (known : Option (List ℕ)) → IsRead g known read.now
         → IfErr result (IfInput (IsNotCertifiable by g choice known)) }
-    ensures second { (g : Given) (known : Option (List ℕ)) → GivesItsCircuit g known circuit.now
-        → IsGivenNumbering g known circuit.now numbering.now
+    ensures second { (g : Given) (known : Option (List ℕ)) → IsRead g known read.now
         → IfErr result (IfSecond (IsFaultyCertificate by g choice known (B.to_come second.old))) }
     ensures ends { EndsAll result Unused (Used B.failures second.old second.new)
         (Used T.failures third.old third.new) (Used O.failures out.old out.new)
         (Used E.failures err.old err.new) }
-    ensures quiet { named ≡ false → err.new ≡ err.old }
+    ensures quiet { order.now.named ≡ false → err.new ≡ err.old }
 {
     certified_never_rises();
     blast::laws::bad_properties_rise_alike();
-    let claim = certified_claim(circuit, by, choice)?;
-    let judgement = judged(alloc, by, circuit, numbering, claim, second, third)?;
-    tell_verdict(alloc, named, subject, claim, &judgement, out, err)
+    let claim = certified_claim(&read.circuit, by, choice)?;
+    let judgement = judged(
+        alloc,
+        by,
+        &read.circuit,
+        &read.numbering,
+        claim,
+        second,
+        third,
+    )?;
+    tell_verdict(alloc, order, read.subject(), claim, &judgement, out, err)
 }
 
-/// Reads what is given, judges a certificate of the bad property that is claimed of it, and with names says which one holds.
+/// Reads what is given, judges a certificate of the bad property that is claimed of it; tells that, and with names which one
+/// holds.
 pub fn check_proof<A: Source, B: Source, T: Source, O: Sink, E: Sink, W: Watch>(
     alloc: Global,
-    named: bool,
+    order: &Order<'_>,
     given: Given,
     by: Certificate,
     choice: Option<usize>,
@@ -342,9 +356,9 @@ pub fn check_proof<A: Source, B: Source, T: Source, O: Sink, E: Sink, W: Watch>(
     err: &mut E,
     watch: &mut W,
 ) -> Result<Answer, Refusal>
-    ensures done { IfOk result (CertifiesWith named given by choice (A.to_come first.old)
-        (B.to_come second.old) (T.to_come third.old) (O.written out.old) (O.written out.new)
-        (E.written err.old) (E.written err.new)) }
+    ensures done { IfOk result (CertifiesWith order.now.named order.now.as_json given by choice
+        (A.to_come first.old) (B.to_come second.old) (T.to_come third.old) (O.written out.old)
+        (O.written out.new) (E.written err.old) (E.written err.new)) }
     ensures refused { IfErr result
         (IfInput (IsNotCertifiable by given choice (A.to_come first.old))) }
     ensures second { IfErr result
@@ -353,21 +367,10 @@ pub fn check_proof<A: Source, B: Source, T: Source, O: Sink, E: Sink, W: Watch>(
     ensures ends { EndsAll result (Used A.failures first.old first.new)
         (Used B.failures second.old second.new) (Used T.failures third.old third.new)
         (Used O.failures out.old out.new) (Used E.failures err.old err.new) }
-    ensures quiet { named ≡ false → err.new ≡ err.old }
+    ensures quiet { order.now.named ≡ false → err.new ≡ err.old }
 {
     let read = read_given(alloc, given, first, watch)?;
-    let subject = read.subject();
     check_over(
-        alloc,
-        named,
-        by,
-        subject,
-        &read.circuit,
-        &read.numbering,
-        choice,
-        second,
-        third,
-        out,
-        err,
+        alloc, order, by, choice, &read, second, third, out, err,
     )
 }

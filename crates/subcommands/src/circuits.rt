@@ -1,26 +1,28 @@
 //! The commands on circuits.
 
-ghost use Rattle.std.specs.Prelude.{◌≡◌, ℕ, false, List, Option, IfOk, IfErr, OnOk};
+ghost use Rattle.std.specs.Prelude.{◌≡◌, ℕ, false, List, Option, IfOk, IfErr, OnOk, option_map};
 ghost use Rattle.std.specs.Io.KnownBytes.{Appends};
 ghost use Rattle.aigertext.specs.Binary.{circuit_text};
 ghost use Rattle.aigertext.specs.Spelling.{IsCircuitText};
 ghost use Rattle.invocation.specs.declared.tasks.Given.TheVariants as given_is;
-ghost use Rattle.subcommands.specs.Asked.{IsJudgedOverFor, IsNotJudgedOverFor};
+ghost use Rattle.subcommands.specs.Asked.{IsJudgedOverWith, IsNotJudgedOverWith};
 ghost use Rattle.subcommands.specs.Claims.{CanBeClaimed};
-ghost use Rattle.subcommands.specs.Done.{IsJudgedOver, IsJudgedOverByName, Judged, Rewrites};
+ghost use Rattle.subcommands.specs.Done.{IsJudgedOver, Judged, Rewrites};
 ghost use Rattle.subcommands.specs.Refusals.{HasOutputsAlone, IsNoCircuit, IsNotClaimable};
 ghost use Rattle.subcommands.specs.Statuses.{Ends, EndsUnrefused, IfInput};
 ghost use Rattle.subcommands.specs.Statuses.Use.{Unused, Used};
 
 use crate::answers::Answer;
-use crate::asked::{asked, is_noted};
-use crate::judgements::{answer_claim, write_judgement, write_judgement_by_name};
+use crate::asked::asked;
+use crate::judgements::{answer_told, write_judgement};
+use crate::outcomes::outcome_of;
 use crate::refusals::{Device, Refusal};
 use crate::subjects::Subject;
 use aiger::Circuit;
 use aigertext::{Form, read, write};
 use base::{Sink, Source};
 use engine_form::EngineFault;
+use invocation::Order;
 use reached::laws::judged_claims_are_reached;
 use rises::judge_bits_with_rises;
 use rises::laws::{accepted_bit_claims_rise, exactly_one_bit_list};
@@ -105,73 +107,39 @@ pub fn check_circuit<B: Source, O: Sink>(
     }
 }
 
-/// Judges a witness over a circuit, and says what the judgement is about, and of an acceptance in which frames the claims are
-/// reached first.
-pub fn check_circuit_by_name<B: Source, O: Sink, E: Sink>(
+/// Judges whether a witness over a circuit is accepted and claims the bad property that a word asks for, where one does; tells
+/// it in a line or as an object; and with names says what the judgement is about.
+pub fn check_circuit_with<B: Source, O: Sink, E: Sink>(
     alloc: Global,
+    order: &Order<'_>,
     circuit: &Circuit,
     second: &mut B,
     out: &mut O,
     err: &mut E,
 ) -> Result<Answer, Refusal>
     ensures done { (known : Option (List ℕ)) → IsCircuitText known circuit.now
-        → IfOk result (Judged (IsJudgedOverByName known (B.to_come second.old) (O.written out.old)
-        (O.written out.new) (E.written err.old) (E.written err.new))) }
-    ensures refused { (known : Option (List ℕ)) → IsCircuitText known circuit.now
-        → IfErr result (IfInput (IsNotClaimable given_is.Circuit known)) }
-    ensures ends { Ends result Unused (Used B.failures second.old second.new)
-        (Used O.failures out.old out.new) (Used E.failures err.old err.new) }
-{
-    // the lists of a circuit are one
-    let _ = circuit.inputs();
-    claimable(circuit)?;
-    judged_claims_are_reached();
-    match judge_bits_with_rises(alloc, circuit, second) {
-        Ok((judgement, firsts)) => write_judgement_by_name(
-            alloc,
-            Subject::Circuit(circuit),
-            &judgement,
-            &firsts,
-            out,
-            err,
-        ),
-        Err(fault) => Err(Refusal::from(fault)),
-    }
-}
-
-/// Judges whether a witness over a circuit is accepted and claims the bad property that a word asks for, and with names says
-/// what the judgement is about.
-pub fn check_circuit_for<B: Source, O: Sink, E: Sink>(
-    alloc: Global,
-    named: bool,
-    circuit: &Circuit,
-    word: &str,
-    second: &mut B,
-    out: &mut O,
-    err: &mut E,
-) -> Result<Answer, Refusal>
-    ensures done { (known : Option (List ℕ)) → IsCircuitText known circuit.now
-        → IfOk result (IsJudgedOverFor named word.now known (B.to_come second.old)
+        → IfOk result (IsJudgedOverWith order.now.named order.now.as_json
+        (option_map (λ word. word.now) order.now.asked) known (B.to_come second.old)
         (O.written out.old) (O.written out.new) (E.written err.old) (E.written err.new)) }
     ensures refused { (known : Option (List ℕ)) → IsCircuitText known circuit.now
-        → IfErr result (IfInput (IsNotJudgedOverFor word.now known)) }
-    ensures quiet { named ≡ false → err.new ≡ err.old }
+        → IfErr result (IfInput (IsNotJudgedOverWith
+        (option_map (λ word. word.now) order.now.asked) known)) }
+    ensures quiet { order.now.named ≡ false → err.new ≡ err.old }
     ensures ends { Ends result Unused (Used B.failures second.old second.new)
         (Used O.failures out.old out.new) (Used E.failures err.old err.new) }
 {
     // the lists of a circuit are one
     let _ = circuit.inputs();
     let subject = Subject::Circuit(circuit);
-    let claim = asked(subject, word.as_bytes())?;
+    let claim = asked(subject, order.asked)?;
+    claimable(circuit)?;
     judged_claims_are_reached();
     accepted_bit_claims_rise();
     exactly_one_bit_list();
     match judge_bits_with_rises(alloc, circuit, second) {
         Ok((judgement, firsts)) => {
-            let claimed = is_noted(&firsts, claim);
-            answer_claim(
-                alloc, named, subject, &judgement, &firsts, claim, claimed, out, err,
-            )
+            let outcome = outcome_of(&judgement, &firsts, claim);
+            answer_told(alloc, order, subject, &outcome, &firsts, out, err)
         }
         Err(fault) => Err(Refusal::from(fault)),
     }

@@ -1,18 +1,16 @@
 //! The files and streams that a command reads and writes, and what stands in their place.
 
-ghost use Rattle.std.specs.Prelude.{◌≡◌, ◌-◌, ◌^◌, ◌<◌, None, true, IfOk, option_map};
+ghost use Rattle.std.specs.Prelude.{◌≡◌, ◌-◌, ◌^◌, ◌<◌, None, IfOk, OnOk, option_map};
 ghost use Rattle.std.specs.Io.{ReadsAtMost};
 ghost use Rattle.std.specs.Io.KnownBytes.{ReadConsumes};
 ghost use Rattle.base.specs.Device.{CountsFaults};
 ghost use Rattle.subcommands.specs.declared.files.Opened.TheVariants as opened_is;
-ghost use Rattle.subcommands.specs.Files.{is_standard, of_stream, of_opened};
-ghost use Rattle.invocation.specs.Files.{names_standard_input};
+ghost use Rattle.subcommands.specs.Files.{of_opened, of_stream, text_of_name};
 
+use crate::named_files::NamedFiles;
 use base::{DeviceFault, FromReader, Reason, Sink, Source};
 use invocation::STANDARD_INPUT;
-use std::fs;
 use std::io::Read;
-use std::rt::Files;
 
 /// A source and a sink in place of a file that can't be opened: every read and every write fails.
 #[derive(Drop)]
@@ -32,6 +30,15 @@ impl NoFile {
             reason,
         }
     }
+
+    /// Fails once more.
+    fn fail(&mut self) -> Result<usize, DeviceFault>
+        ensures is_err { OnOk result ⊥ }
+        ensures counted { CountsFaults result self.old.failures self.new.failures }
+    {
+        self.failures = self.failures.saturating_add(1);
+        Err(DeviceFault::Failed)
+    }
 }
 
 impl Source for NoFile {
@@ -40,8 +47,7 @@ impl Source for NoFile {
     ghost failures = { λ s. s.failures };
 
     fn read(&mut self, _buf: &mut [u8]) -> Result<usize, DeviceFault> {
-        self.failures = self.failures.saturating_add(1);
-        Err(DeviceFault::Failed)
+        self.fail()
     }
 
     fn reason(&self) -> Option<Reason> {
@@ -53,8 +59,7 @@ impl Sink for NoFile {
     ghost failures = { λ s. s.failures };
 
     fn write(&mut self, _bytes: &[u8]) -> Result<usize, DeviceFault> {
-        self.failures = self.failures.saturating_add(1);
-        Err(DeviceFault::Failed)
+        self.fail()
     }
 
     fn reason(&self) -> Option<Reason> {
@@ -73,22 +78,23 @@ pub(crate) enum Opened<S> {
     Missing(NoFile),
 }
 
-/// A file that is opened when it is first read: so a command waits for no file that it does not read. Nothing is known of
-/// its bytes.
+/// A file that is opened when it is first read: so a command waits for no file that it does not read. Its bytes are those of
+/// the file of its name.
 #[derive(Drop)]
-pub struct LateFile<'a, R: Files> {
-    rt: &'a R,
+pub struct LateFile<'a, F: NamedFiles> {
+    files: &'a F,
     name: &'a str,
-    file: Opened<FromReader<R::File>>,
+    file: Opened<F::File>,
 }
 
-impl<'a, R: Files> LateFile<'a, R> {
+impl<'a, F: NamedFiles> LateFile<'a, F> {
     /// The file of a name, which is not opened yet.
-    pub fn new(rt: &'a R, name: &'a str) -> LateFile<'a, R>
-        ensures { ⟦<LateFile<'a, R> as Source>⟧.failures result ≡ 0 }
+    pub fn new(files: &'a F, name: &'a str) -> LateFile<'a, F>
+        ensures bytes { ⟦<LateFile<'a, F> as Source>⟧.to_come result ≡ F.text files.now name.now }
+        ensures failures { ⟦<LateFile<'a, F> as Source>⟧.failures result ≡ 0 }
     {
         LateFile {
-            rt,
+            files,
             name,
             file: Opened::NotYet,
         }
@@ -98,22 +104,22 @@ impl<'a, R: Files> LateFile<'a, R> {
     fn read_first(&mut self, buf: &mut [u8]) -> Result<usize, DeviceFault>
         requires { self.old.file ≡ opened_is.NotYet }
         ensures within { ReadsAtMost result buf.new }
-        ensures bytes { ReadConsumes None None result buf.new }
-        ensures ends { IfOk result (λ n. 0 < n → ⟦<LateFile<'a, R> as Source>⟧.calls_left self.new
-            < ⟦<LateFile<'a, R> as Source>⟧.calls_left self.old) }
-        ensures failures { CountsFaults result (⟦<LateFile<'a, R> as Source>⟧.failures self.old)
-            (⟦<LateFile<'a, R> as Source>⟧.failures self.new) }
+        ensures bytes { ReadConsumes (⟦<LateFile<'a, F> as Source>⟧.to_come self.old)
+            (⟦<LateFile<'a, F> as Source>⟧.to_come self.new) result buf.new }
+        ensures ends { IfOk result (λ n. 0 < n → ⟦<LateFile<'a, F> as Source>⟧.calls_left self.new
+            < ⟦<LateFile<'a, F> as Source>⟧.calls_left self.old) }
+        ensures failures { CountsFaults result (⟦<LateFile<'a, F> as Source>⟧.failures self.old)
+            (⟦<LateFile<'a, F> as Source>⟧.failures self.new) }
     {
-        match fs::open(self.rt, self.name) {
-            Ok(file) => {
-                let mut file = FromReader::new(file);
+        match self.files.open(self.name) {
+            Ok(mut file) => {
                 let result = file.read(buf);
                 self.file = Opened::File(file);
                 result
             }
-            Err(error) => {
-                let mut missing = NoFile::new(Reason::of(&error));
-                let result = missing.read(buf);
+            Err(reason) => {
+                let mut missing = NoFile::new(reason);
+                let result = missing.fail();
                 self.file = Opened::Missing(missing);
                 result
             }
@@ -121,15 +127,17 @@ impl<'a, R: Files> LateFile<'a, R> {
     }
 }
 
-impl<R: Files> Source for LateFile<'_, R> {
-    ghost calls_left = { λ f. of_opened (2 ^ 64 - 1) ⟦<FromReader<R::File> as Source>⟧.calls_left (λ _. 0) f.file };
+impl<F: NamedFiles> Source for LateFile<'_, F> {
+    ghost to_come = { λ f. of_opened (F.text f.files.now f.name.now) F.File.to_come (λ _. F.text f.files.now f.name.now) f.file };
 
-    ghost failures = { λ f. of_opened 0 ⟦<FromReader<R::File> as Source>⟧.failures (λ none. none.failures) f.file };
+    ghost calls_left = { λ f. of_opened (2 ^ 64 - 1) F.File.calls_left (λ _. 0) f.file };
+
+    ghost failures = { λ f. of_opened 0 F.File.failures (λ none. none.failures) f.file };
 
     fn read(&mut self, buf: &mut [u8]) -> Result<usize, DeviceFault> {
         match &mut self.file {
             Opened::File(file) => file.read(buf),
-            Opened::Missing(missing) => missing.read(buf),
+            Opened::Missing(missing) => missing.fail(),
             Opened::NotYet => self.read_first(buf),
         }
     }
@@ -143,10 +151,10 @@ impl<R: Files> Source for LateFile<'_, R> {
     }
 }
 
-/// What a command reads or writes: its bytes and its failures are those of the source or the sink inside.
+/// What a command reads: its bytes and its failures are those of the source inside.
 #[derive(Drop)]
 pub enum Stream<S, F> {
-    /// Standard input or standard output.
+    /// Standard input.
     Standard(S),
     /// A file.
     File(F),
@@ -178,45 +186,21 @@ impl<S: Source, F: Source> Source for Stream<S, F> {
     }
 }
 
-impl<S: Sink, F: Sink> Sink for Stream<S, F> {
-    ghost written = { of_stream S.written F.written (λ _. None) };
-
-    ghost failures = { of_stream S.failures F.failures (λ none. none.failures) };
-
-    fn write(&mut self, bytes: &[u8]) -> Result<usize, DeviceFault> {
-        match self {
-            Stream::Standard(sink) => sink.write(bytes),
-            Stream::File(sink) => sink.write(bytes),
-            Stream::Missing(sink) => sink.write(bytes),
-        }
-    }
-
-    fn reason(&self) -> Option<Reason> {
-        match self {
-            Stream::Standard(sink) => sink.reason(),
-            Stream::File(sink) => sink.reason(),
-            Stream::Missing(sink) => sink.reason,
-        }
-    }
-}
-
 /// What a command reads: standard input where the name is `-`, else the file of that name, which is opened when it is first
 /// read. Where there is no name, there is no file.
-pub fn open_input<'a, R: Files, I: Read + Drop>(
-    rt: &'a R,
+pub fn open_input<'a, F: NamedFiles, I: Read + Drop>(
+    files: &'a F,
     standard: I,
     name: Option<&'a str>,
-) -> Stream<FromReader<I>, LateFile<'a, R>>
-    ensures standard { is_standard result
-        ≡ names_standard_input (option_map (λ name. name.now) name.entry) }
-    ensures bytes { is_standard result ≡ true
-        → ⟦<Stream<FromReader<I>, LateFile<'a, R>> as Source>⟧.to_come result
-        ≡ I.remaining standard }
-    ensures failures { ⟦<Stream<FromReader<I>, LateFile<'a, R>> as Source>⟧.failures result ≡ 0 }
+) -> Stream<FromReader<I>, LateFile<'a, F>>
+    ensures bytes { ⟦<Stream<FromReader<I>, LateFile<'a, F>> as Source>⟧.to_come result
+        ≡ text_of_name (F.text files.now) (I.remaining standard)
+        (option_map (λ name. name.now) name.entry) }
+    ensures failures { ⟦<Stream<FromReader<I>, LateFile<'a, F>> as Source>⟧.failures result ≡ 0 }
 {
     match name {
         None => Stream::Missing(NoFile::new(None)),
         Some(STANDARD_INPUT) => Stream::Standard(FromReader::new(standard)),
-        Some(name) => Stream::File(LateFile::new(rt, name)),
+        Some(name) => Stream::File(LateFile::new(files, name)),
     }
 }

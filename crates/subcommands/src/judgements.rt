@@ -3,18 +3,21 @@
 ghost use Rattle.std.specs.Prelude.{◌≡◌, ◌++◌, false, IfOk, OnOk};
 ghost use Rattle.std.specs.Io.KnownBytes.{Appends};
 ghost use Rattle.std.specs.String.{string_bytes};
-ghost use Rattle.subcommands.specs.declared.answers.Answer.TheVariants as answer_is;
-ghost use Rattle.subcommands.specs.Asked.{IsSoFor, claim_line, claim_said, unclaimed_line};
+ghost use Rattle.subcommands.specs.Asked.{IsSoOf, outcome_line, outcome_said, outcome_written};
 ghost use Rattle.subcommands.specs.Done.{IsSo, judgement_line};
+ghost use Rattle.subcommands.specs.Objects.{names};
 ghost use Rattle.subcommands.specs.Statuses.{EndsUnrefused};
 ghost use Rattle.subcommands.specs.Statuses.Use.{Unused, Used};
 ghost use Rattle.subcommands.specs.Subjects.{bad_said, said_by_name, subject_said, where_named};
 
 use crate::answers::Answer;
+use crate::objects::write_outcome;
+use crate::outcomes::Outcome;
 use crate::refusals::{Device, Refusal};
-use crate::subjects::{Subject, tell_by_name, tell_claim_where_named, tell_where_named};
+use crate::subjects::{Subject, tell_outcome_where_named, tell_where_named};
 use crate::telling::write_result;
 use base::{Sink, write_all};
+use invocation::Order;
 use rises::FirstRises;
 use std::alloc::{AllocError, Global};
 use witness::Judgement;
@@ -42,101 +45,74 @@ pub fn write_judgement<O: Sink>(
     Ok(Answer::of(judgement))
 }
 
-/// Writes the line of a judgement to standard output, says on standard error what it is about, and of an acceptance in which
-/// frames the claims are reached first, and answers whether the witness is accepted.
-pub fn write_judgement_by_name<O: Sink, E: Sink>(
+/// The line of what is told of a witness.
+fn outcome_line(alloc: Global, outcome: &Outcome) -> Result<String, AllocError>
+    ensures { IfOk result (λ line. string_bytes line ≡ outcome_line outcome.now) }
+{
+    match outcome {
+        Outcome::Judged(judgement) => judgement_line(alloc, judgement),
+        Outcome::Unclaimed(position) => format!(in alloc; "not claimed: b{position}\n"),
+    }
+}
+
+/// The answer of what is told of a witness.
+fn answer_of(outcome: &Outcome) -> Answer
+    ensures { IsSoOf result outcome.now }
+{
+    match outcome {
+        Outcome::Judged(judgement) => Answer::of(judgement),
+        Outcome::Unclaimed(_) => Answer::NotAccepted,
+    }
+}
+
+/// Writes what is told of a witness to standard output, in a line or as an object, and answers whether it is accepted and claims
+/// what is asked for.
+fn write_told<O: Sink>(
     alloc: Global,
+    as_json: bool,
     subject: Subject<'_>,
-    judgement: &Judgement,
+    outcome: &Outcome,
     firsts: &FirstRises,
     out: &mut O,
-    err: &mut E,
 ) -> Result<Answer, Refusal>
     ensures written { OnOk result (Appends (O.written out.old) (O.written out.new)
-        (judgement_line judgement.now)) }
-    ensures told { OnOk result (Appends (E.written err.old) (E.written err.new)
-        (said_by_name (subject_said subject.entry) (bad_said subject.entry) firsts.now
-        judgement.now)) }
-    ensures so { IfOk result (λ answer. IsSo answer judgement.now) }
-    ensures ends { EndsUnrefused result Unused Unused (Used O.failures out.old out.new)
-        (Used E.failures err.old err.new) }
-{
-    let answer = write_judgement(alloc, judgement, out)?;
-    match tell_by_name(subject, judgement, firsts, err) {
-        Ok(()) => Ok(answer),
-        Err(_) => Err(Refusal::Failed(Device::Error)),
-    }
-}
-
-/// The line that tells that an accepted witness does not claim a bad property.
-fn unclaimed_line(alloc: Global, claim: usize) -> Result<String, AllocError>
-    ensures { IfOk result (λ line. string_bytes line ≡ unclaimed_line claim) }
-{
-    format!(in alloc; "not claimed: b{claim}\n")
-}
-
-/// Writes that an accepted witness does not claim a bad property.
-fn write_unclaimed<O: Sink>(alloc: Global, claim: usize, out: &mut O) -> Result<Answer, Refusal>
-    ensures written { OnOk result (Appends (O.written out.old) (O.written out.new)
-        (unclaimed_line claim)) }
-    ensures answer { IfOk result (λ answer. answer ≡ answer_is.NotAccepted) }
+        (outcome_written as_json (names subject.entry) firsts.now outcome.now)) }
+    ensures so { IfOk result (λ answer. IsSoOf answer outcome.now) }
     ensures ends { EndsUnrefused result Unused Unused (Used O.failures out.old out.new) Unused }
 {
-    let line = unclaimed_line(alloc, claim)?;
+    if as_json {
+        return match write_outcome(subject, outcome, firsts, out) {
+            Ok(()) => Ok(answer_of(outcome)),
+            Err(_) => Err(Refusal::Failed(Device::Output)),
+        };
+    }
+    let line = outcome_line(alloc, outcome)?;
     write_result(out, line.as_bytes())?;
-    Ok(Answer::NotAccepted)
-}
-
-/// Writes the line of a judgement where a witness is to claim a bad property, and does or does not, and answers whether it is
-/// accepted and does.
-fn write_claim<O: Sink>(
-    alloc: Global,
-    judgement: &Judgement,
-    claim: usize,
-    claimed: bool,
-    out: &mut O,
-) -> Result<Answer, Refusal>
-    ensures written { OnOk result (Appends (O.written out.old) (O.written out.new)
-        (claim_line judgement.now claim claimed)) }
-    ensures so { IfOk result (λ answer. IsSoFor answer claimed judgement.now) }
-    ensures ends { EndsUnrefused result Unused Unused (Used O.failures out.old out.new) Unused }
-{
-    match judgement {
-        Judgement::Accepted { .. } => {
-            if claimed {
-                write_judgement(alloc, judgement, out)
-            } else {
-                write_unclaimed(alloc, claim, out)
-            }
-        }
-        _ => write_judgement(alloc, judgement, out),
-    }
+    Ok(answer_of(outcome))
 }
 
 /// The same, and with names says on standard error what the judgement is about.
-pub(crate) fn answer_claim<O: Sink, E: Sink>(
+pub(crate) fn answer_told<O: Sink, E: Sink>(
     alloc: Global,
-    named: bool,
+    order: &Order<'_>,
     subject: Subject<'_>,
-    judgement: &Judgement,
+    outcome: &Outcome,
     firsts: &FirstRises,
-    claim: usize,
-    claimed: bool,
     out: &mut O,
     err: &mut E,
 ) -> Result<Answer, Refusal>
     ensures written { OnOk result (Appends (O.written out.old) (O.written out.new)
-        (claim_line judgement.now claim claimed)) }
+        (outcome_written order.now.as_json (names subject.entry) firsts.now outcome.now)) }
     ensures told { OnOk result (Appends (E.written err.old) (E.written err.new)
-        (where_named named (claim_said (subject_said subject.entry) (bad_said subject.entry)
-        firsts.now claim claimed judgement.now))) }
-    ensures so { IfOk result (λ answer. IsSoFor answer claimed judgement.now) }
-    ensures quiet { named ≡ false → err.new ≡ err.old }
+        (where_named order.now.named (outcome_said (subject_said subject.entry)
+        (bad_said subject.entry) firsts.now outcome.now))) }
+    ensures so { IfOk result (λ answer. IsSoOf answer outcome.now) }
+    ensures quiet { order.now.named ≡ false → err.new ≡ err.old }
     ensures ends { EndsUnrefused result Unused Unused (Used O.failures out.old out.new)
         (Used E.failures err.old err.new) }
 {
-    let answer = write_claim(alloc, judgement, claim, claimed, out)?;
-    match tell_claim_where_named(named, subject, judgement, firsts, claim, claimed, err) {
+    let answer = write_told(alloc, order.as_json, subject, outcome, firsts, out)?;
+    match tell_outcome_where_named(order.named, subject, outcome, firsts, err) {
         Ok(()) => Ok(answer),
         Err(_) => Err(Refusal::Failed(Device::Error)),
     }

@@ -1,9 +1,10 @@
 //! Worked rows, as functions with no code.
 
-ghost use Rattle.std.specs.Prelude.{◌≡◌, ℕ, true, false, ◌==◌, None, Some, codes};
+ghost use Rattle.std.specs.Prelude.{◌≡◌, ℕ, true, false, ◌==◌, None, Some, [], ◌∷◌, codes};
 ghost use Rattle.base.specs.Decimals.{number_of};
 ghost use Rattle.witness.specs.declared.judgement.Judgement.TheVariants as judgement;
-ghost use Rattle.subcommands.specs.Asked.{AreCalledAlike, IsAskedBy, IsUnknown, claim_line, is_name};
+ghost use Rattle.subcommands.specs.Asked.{AreCalledAlike, IsAskedBy, IsUnknown, is_name, outcome, outcome_line};
+ghost use Rattle.subcommands.specs.Objects.{model_names, outcome_object, text_member};
 ghost use Rattle.subcommands.specs.Assumed.{assumed_said};
 
 /// Worked rows: of two bad properties of which the second is called by a word, the word asks for that, and `1`, too; neither
@@ -18,12 +19,22 @@ pub fn worked_words()
     ensures other { is_name (codes "low") (Some (codes "lower")) ≡ false }
 {}
 
-/// Worked rows: an accepted witness that claims the bad property or does not, and one that is not accepted.
-pub fn worked_claims()
-    ensures claimed { claim_line (judgement.Accepted 2) 1 true ≡ codes "accepted 2 frames\n" }
-    ensures unclaimed { claim_line (judgement.Accepted 2) 1 false ≡ codes "not claimed: b1\n" }
-    ensures unreached { claim_line (judgement.NotReached 0) 1 false
+/// Worked rows: an accepted witness that claims what is asked for or does not, and one that is not accepted; and the objects that
+/// tell them.
+pub fn worked_outcomes()
+    ensures claimed { outcome_line (outcome (Some 1) true (judgement.Accepted 2))
+        ≡ codes "accepted 2 frames\n" }
+    ensures unclaimed { outcome_line (outcome (Some 1) false (judgement.Accepted 2))
+        ≡ codes "not claimed: b1\n" }
+    ensures unreached { outcome_line (outcome (Some 1) false (judgement.NotReached 0))
         ≡ codes "not reached: b0\n" }
+    ensures claims { outcome_object (model_names []) (Some 1 ∷ None ∷ Some 0 ∷ [])
+        (outcome None true (judgement.Accepted 2)) ≡ codes
+        "{\"verdict\": \"accepted\", \"frames\": 2, \"claims\": [{\"bad\": 0, \"frame\": 1}, {\"bad\": 2, \"frame\": 0}]}\n" }
+    ensures none { outcome_object (model_names []) [] (outcome (Some 1) false (judgement.Accepted 2))
+        ≡ codes "{\"verdict\": \"not claimed\", \"bad\": 1}\n" }
+    ensures escaped { text_member (codes "symbol") (34 ∷ 10 ∷ 195 ∷ 97 ∷ [])
+        ≡ codes ", \"symbol\": \"\\u0022\\u000a\\u00c3a\"" }
 {}
 
 /// Worked rows: a form of two bad properties, of one, and one that was made for the second.

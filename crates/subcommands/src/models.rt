@@ -1,20 +1,21 @@
 //! The commands on models.
 
-ghost use Rattle.std.specs.Prelude.{◌≡◌, ℕ, false, List, Option, IfOk, IfErr, OnOk};
+ghost use Rattle.std.specs.Prelude.{◌≡◌, ℕ, false, List, Option, IfOk, IfErr, OnOk, option_map};
 ghost use Rattle.std.specs.Io.KnownBytes.{Appends};
 ghost use Rattle.std.specs.String.{string_bytes};
 ghost use Rattle.btor2text.specs.Writing.{written};
 ghost use Rattle.blast.specs.Conversion.{Converts};
 ghost use Rattle.btor2text.specs.Spelling.{IsModelOf};
-ghost use Rattle.subcommands.specs.Asked.{IsJudgedFor, IsNotJudgedFor};
-ghost use Rattle.subcommands.specs.Done.{IsJudged, IsJudgedByName, Judged, ShowsModel, TellsCost, counts_line, cost_lines};
+ghost use Rattle.subcommands.specs.Asked.{IsJudgedWith, IsNotJudgedWith};
+ghost use Rattle.subcommands.specs.Done.{IsJudged, Judged, ShowsModel, TellsCost, counts_line, cost_lines};
 ghost use Rattle.subcommands.specs.Refusals.{IsNoModel, IsNotJudged, IsNotLowered};
 ghost use Rattle.subcommands.specs.Statuses.{Ends, EndsUnrefused, IfInput};
 ghost use Rattle.subcommands.specs.Statuses.Use.{Unused, Used};
 
 use crate::answers::Answer;
-use crate::asked::{asked, is_noted};
-use crate::judgements::{answer_claim, write_judgement, write_judgement_by_name};
+use crate::asked::asked;
+use crate::judgements::{answer_told, write_judgement};
+use crate::outcomes::outcome_of;
 use crate::refusals::{Device, Refusal};
 use crate::subjects::Subject;
 use crate::telling::write_result;
@@ -23,6 +24,7 @@ use base::{Sink, Source};
 use blast::{Watch, convert_watched, cost_and_bound};
 use btor2::Model;
 use btor2text::{read, write};
+use invocation::Order;
 use reached::laws::judged_claims_are_reached;
 use rises::judge_words_with_rises;
 use rises::laws::{accepted_claims_rise, exactly_one_list};
@@ -84,68 +86,36 @@ pub fn check_model<B: Source, O: Sink>(
     }
 }
 
-/// Judges a witness over a model, and says what the judgement is about, and of an acceptance in which frames the claims are
-/// reached first.
-pub fn check_model_by_name<B: Source, O: Sink, E: Sink>(
+/// Judges whether a witness over a model is accepted and claims the bad property that a word asks for, where one does; tells it
+/// in a line or as an object; and with names says what the judgement is about.
+pub fn check_model_with<B: Source, O: Sink, E: Sink>(
     alloc: Global,
+    order: &Order<'_>,
     model: &Model,
     second: &mut B,
     out: &mut O,
     err: &mut E,
 ) -> Result<Answer, Refusal>
     ensures done { (known : Option (List ℕ)) → IsModelOf known model.now
-        → IfOk result (Judged (IsJudgedByName known (B.to_come second.old) (O.written out.old)
-        (O.written out.new) (E.written err.old) (E.written err.new))) }
-    ensures refused { (known : Option (List ℕ)) → IsModelOf known model.now
-        → IfErr result (IfInput (IsNotJudged known)) }
-    ensures ends { Ends result Unused (Used B.failures second.old second.new)
-        (Used O.failures out.old out.new) (Used E.failures err.old err.new) }
-{
-    judged_claims_are_reached();
-    match judge_words_with_rises(alloc, model, second) {
-        Ok((judgement, firsts)) => write_judgement_by_name(
-            alloc,
-            Subject::Model(model),
-            &judgement,
-            &firsts,
-            out,
-            err,
-        ),
-        Err(fault) => Err(Refusal::from(fault)),
-    }
-}
-
-/// Judges whether a witness over a model is accepted and claims the bad property that a word asks for, and with names says what
-/// the judgement is about.
-pub fn check_model_for<B: Source, O: Sink, E: Sink>(
-    alloc: Global,
-    named: bool,
-    model: &Model,
-    word: &str,
-    second: &mut B,
-    out: &mut O,
-    err: &mut E,
-) -> Result<Answer, Refusal>
-    ensures done { (known : Option (List ℕ)) → IsModelOf known model.now
-        → IfOk result (IsJudgedFor named word.now known (B.to_come second.old)
+        → IfOk result (IsJudgedWith order.now.named order.now.as_json
+        (option_map (λ word. word.now) order.now.asked) known (B.to_come second.old)
         (O.written out.old) (O.written out.new) (E.written err.old) (E.written err.new)) }
     ensures refused { (known : Option (List ℕ)) → IsModelOf known model.now
-        → IfErr result (IfInput (IsNotJudgedFor word.now known)) }
-    ensures quiet { named ≡ false → err.new ≡ err.old }
+        → IfErr result (IfInput (IsNotJudgedWith (option_map (λ word. word.now) order.now.asked)
+        known)) }
+    ensures quiet { order.now.named ≡ false → err.new ≡ err.old }
     ensures ends { Ends result Unused (Used B.failures second.old second.new)
         (Used O.failures out.old out.new) (Used E.failures err.old err.new) }
 {
     let subject = Subject::Model(model);
-    let claim = asked(subject, word.as_bytes())?;
+    let claim = asked(subject, order.asked)?;
     judged_claims_are_reached();
     accepted_claims_rise();
     exactly_one_list();
     match judge_words_with_rises(alloc, model, second) {
         Ok((judgement, firsts)) => {
-            let claimed = is_noted(&firsts, claim);
-            answer_claim(
-                alloc, named, subject, &judgement, &firsts, claim, claimed, out, err,
-            )
+            let outcome = outcome_of(&judgement, &firsts, claim);
+            answer_told(alloc, order, subject, &outcome, &firsts, out, err)
         }
         Err(fault) => Err(Refusal::from(fault)),
     }

@@ -156,6 +156,18 @@ impl<'a, C: Clock, W: Write + Copy> Progress<'a, C, W> {
         }
     }
 
+    /// The same line, to be told beside this one.
+    pub fn again(&self) -> Progress<'a, C, W>
+        ensures { result.terminal ≡ self.now.terminal }
+    {
+        Progress {
+            clock: self.clock,
+            terminal: self.terminal,
+            start: self.start,
+            due: self.due,
+        }
+    }
+
     /// The time, where it is past this one.
     fn time_past(&self, time: Duration) -> Option<Duration> {
         match self.clock.monotonic() {
@@ -222,6 +234,21 @@ impl<'a, D: Drop, C: Clock, W: Write + Copy> Watched<'a, D, C, W> {
             amount: Amount::new(),
             progress,
         }
+    }
+
+    /// The device inside.
+    pub fn into_device(self) -> D
+        ensures { result ≡ self.entry.device }
+    {
+        self.device
+    }
+
+    /// Tells how far work is by this line from now on.
+    pub fn set_progress(&mut self, progress: Progress<'a, C, W>)
+        ensures device { self.new.device ≡ self.old.device }
+        ensures work { self.new.work ≡ self.old.work }
+    {
+        self.progress = progress;
     }
 
     /// Counts bytes that went through, and tells how far the work is.

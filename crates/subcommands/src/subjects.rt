@@ -5,9 +5,10 @@ ghost use Rattle.std.specs.Io.KnownBytes.{Appends};
 ghost use Rattle.base.specs.Device.{CountsFaults};
 ghost use Rattle.btor2.specs.declared.item.Body.{Body};
 ghost use Rattle.btor2.specs.Lists.{places};
-ghost use Rattle.subcommands.specs.Asked.{claim_said};
+ghost use Rattle.subcommands.specs.Asked.{outcome_said};
 ghost use Rattle.subcommands.specs.Subjects.{bad_item_said, bad_name_said, bad_said, first_said, firsts_said, frame_said, item_line, lifted_said, line_said, name_said, numbered_item, said_by_name, says, says_item, says_name, subject_said, symbol_said, where_named};
 
+use crate::outcomes::Outcome;
 use aiger::{Circuit, Section};
 use base::{DeviceFault, Sink, write_all};
 use btor2::{Item, Model, Symbol};
@@ -77,17 +78,28 @@ fn tell_item<E: Sink>(kind: &[u8], number: u64, item: &Item, err: &mut E) -> Res
 }
 
 /// The place with a number among some.
-pub(crate) fn place_at(list: &[usize], number: u64) -> Option<usize>
+fn place_at(list: &[usize], number: u64) -> Option<usize>
     ensures { result ≡ slice_get list.now number }
 {
     list.get(number as usize).copied()
 }
 
 /// The item at a place.
-pub(crate) fn item_at(items: &[Item], place: usize) -> Option<&Item>
+fn item_at(items: &[Item], place: usize) -> Option<&Item>
     ensures { option_copied result ≡ slice_get items.now place }
 {
     items.get(place)
+}
+
+/// The item with a number among those of a model that stand at these places; none where there are not so many.
+pub(crate) fn item_of<'a>(model: &'a Model, list: &[usize], number: u64) -> Option<&'a Item>
+    ensures { (test : Body → Bool) → list.now ≡ places test 0 model.now
+        → option_copied result ≡ numbered_item test model.now number }
+{
+    match place_at(list, number) {
+        Some(place) => item_at(model.items(), place),
+        None => None,
+    }
 }
 
 /// Says which line of a model the thing with a number among some is, which stand at these places; nothing where there are not
@@ -104,11 +116,8 @@ fn tell_item_of<E: Sink>(
         (says_item kind.now number (numbered_item test model.now number))) }
     ensures counted { CountsFaults result (E.failures err.old) (E.failures err.new) }
 {
-    match place_at(list, number) {
-        Some(place) => match item_at(model.items(), place) {
-            Some(item) => tell_item(kind, number, item, err),
-            None => Ok(()),
-        },
+    match item_of(model, list, number) {
+        Some(item) => tell_item(kind, number, item, err),
         None => Ok(()),
     }
 }
@@ -328,53 +337,42 @@ pub fn tell_by_name<E: Sink>(
     }
 }
 
-/// Says the same of a judgement where a witness is to claim a bad property, and does or does not: of an accepted witness that
-/// does not claim it which one that is.
-fn tell_claim_said<E: Sink>(
+/// Says the same of a judgement, and of an accepted witness that does not claim what is asked for which bad property that is.
+fn tell_outcome<E: Sink>(
     subject: Subject<'_>,
-    judgement: &Judgement,
+    outcome: &Outcome,
     firsts: &FirstRises,
-    claim: usize,
-    claimed: bool,
     err: &mut E,
 ) -> Result<(), DeviceFault>
     ensures written { OnOk result (Appends (E.written err.old) (E.written err.new)
-        (claim_said (subject_said subject.entry) (bad_said subject.entry) firsts.now claim claimed
-        judgement.now)) }
+        (outcome_said (subject_said subject.entry) (bad_said subject.entry) firsts.now
+        outcome.now)) }
     ensures counted { CountsFaults result (E.failures err.old) (E.failures err.new) }
 {
-    match judgement {
-        Judgement::Accepted { .. } => {
-            if claimed {
-                tell_by_name(subject, judgement, firsts, err)
-            } else {
-                tell_bad_said(subject, claim as u64, err)
-            }
-        }
-        _ => tell_by_name(subject, judgement, firsts, err),
+    match outcome {
+        Outcome::Judged(judgement) => tell_by_name(subject, judgement, firsts, err),
+        Outcome::Unclaimed(position) => tell_bad_said(subject, *position as u64, err),
     }
 }
 
 /// Says the same, where names are asked for.
-pub(crate) fn tell_claim_where_named<E: Sink>(
+pub(crate) fn tell_outcome_where_named<E: Sink>(
     named: bool,
     subject: Subject<'_>,
-    judgement: &Judgement,
+    outcome: &Outcome,
     firsts: &FirstRises,
-    claim: usize,
-    claimed: bool,
     err: &mut E,
 ) -> Result<(), DeviceFault>
     ensures written { OnOk result (Appends (E.written err.old) (E.written err.new)
-        (where_named named (claim_said (subject_said subject.entry) (bad_said subject.entry)
-        firsts.now claim claimed judgement.now))) }
+        (where_named named (outcome_said (subject_said subject.entry) (bad_said subject.entry)
+        firsts.now outcome.now))) }
     ensures quiet { named ≡ false → err.new ≡ err.old }
     ensures counted { CountsFaults result (E.failures err.old) (E.failures err.new) }
 {
     if !named {
         return Ok(());
     }
-    tell_claim_said(subject, judgement, firsts, claim, claimed, err)
+    tell_outcome(subject, outcome, firsts, err)
 }
 
 /// Says what a judgement is about, and of an acceptance in which frames the claims are reached first, where names are asked

@@ -1,17 +1,20 @@
 //! What is written to standard output and to standard error.
 
-ghost use Rattle.std.specs.Prelude.{◌≡◌, ◌⊎◌, IfOk, OnOk, OnErr, codes, option_map};
+ghost use Rattle.std.specs.Prelude.{◌≡◌, ◌⊎◌, ℕ, Err, false, IfOk, OnOk, OnErr, codes, option_map};
 ghost use Rattle.std.specs.Io.KnownBytes.{Appends};
 ghost use Rattle.std.specs.String.{string_bytes};
-ghost use Rattle.base.specs.Device.{CountsFaults};
+ghost use Rattle.base.specs.Device.{CountsFaults, HasRisen};
+ghost use Rattle.subcommands.specs.declared.answers.Answer.{Answer};
 ghost use Rattle.subcommands.specs.declared.refusals.Device.TheVariants as device;
 ghost use Rattle.subcommands.specs.declared.refusals.Refusal.TheVariants as refusal_is;
 ghost use Rattle.subcommands.specs.Names.{harmless};
-ghost use Rattle.subcommands.specs.Refusals.{device_line, output_name};
-ghost use Rattle.subcommands.specs.Statuses.{EndsUnrefused, Tells, TellsFault};
+ghost use Rattle.subcommands.specs.Objects.{fault_object, refusal_written};
+ghost use Rattle.subcommands.specs.Refusals.{device_line, output_name, second_name};
+ghost use Rattle.subcommands.specs.Statuses.{CountsAll, EndsUnrefused, IfInput, IfSecond, Tells, TellsFault};
 ghost use Rattle.subcommands.specs.Statuses.Use.{Unused, Used};
 
 use crate::names::{is_harmless, write_name};
+use crate::objects::write_refused;
 use crate::reasons::write_reason;
 use crate::refusals::{Device, Fault, Refusal};
 use base::{DeviceFault, Reason, Sink, write_all};
@@ -36,7 +39,7 @@ pub fn write_result<O: Sink>(out: &mut O, text: &[u8]) -> Result<(), Refusal>
 }
 
 /// Tells that a file or a stream failed, and why, where that is told. It takes no memory.
-fn tell_device<E: Sink>(
+pub fn tell_device<E: Sink>(
     device: &str,
     reason: Option<Reason>,
     err: &mut E,
@@ -171,6 +174,50 @@ pub fn tell<E: Sink>(
         Refusal::Failed(Device::Output) => tell_output(order.output, reason, err),
         Refusal::Failed(Device::Error) => Ok(DEVICE),
         Refusal::NoMemory => tell_no_memory(err),
+    }
+}
+
+/// Writes the object that tells the fault of a file, and answers the refusal; or that standard output failed.
+fn write_fault<O: Sink>(file: &str, fault: &Fault, refusal: Refusal, out: &mut O) -> Refusal
+    ensures written { ((result ≡ refusal) × Appends (O.written out.old) (O.written out.new)
+        (fault_object file.now fault.now) × (O.failures out.new ≡ O.failures out.old))
+        ⊎ ((result ≡ refusal_is.Failed device.Output)
+        × HasRisen (O.failures out.old) (O.failures out.new)) }
+{
+    match write_refused(file, fault, out) {
+        Ok(()) => refusal,
+        Err(_) => Refusal::Failed(Device::Output),
+    }
+}
+
+/// Writes the object that tells a refused file, where one is asked for, and answers the refusal; or that standard output
+/// failed.
+pub fn write_refusal<O: Sink>(order: &Order<'_>, refusal: Refusal, out: &mut O) -> Refusal
+    ensures input { IfInput (λ f. (refusal ≡ refusal_is.Input f)
+        × Appends (O.written out.old) (O.written out.new)
+        (refusal_written order.now.as_json order.now.first.now f)) result }
+    ensures second { IfSecond (λ f. (refusal ≡ refusal_is.Second f)
+        × Appends (O.written out.old) (O.written out.new)
+        (refusal_written order.now.as_json
+        (second_name (option_map (λ name. name.now) order.now.second)) f)) result }
+    ensures counted { (f f' s s' t t' o e e' : ℕ)
+        → CountsAll {T = Answer} (Err refusal) f f' s s' t t' o (O.failures out.old) e e'
+        → CountsAll {T = Answer} (Err result) f f' s s' t t' o (O.failures out.new) e e' }
+    ensures error { refusal ≡ refusal_is.Failed device.Error
+        → result ≡ refusal_is.Failed device.Error }
+    ensures plain { order.now.as_json ≡ false → out.new ≡ out.old }
+{
+    match refusal {
+        Refusal::Input(fault) if order.as_json => write_fault(order.first, &fault, refusal, out),
+        Refusal::Second(fault) if order.as_json => {
+            write_fault(
+                order.second.unwrap_or(STANDARD_INPUT),
+                &fault,
+                refusal,
+                out,
+            )
+        }
+        _ => refusal,
     }
 }
 

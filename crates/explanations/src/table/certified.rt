@@ -16,7 +16,7 @@ ghost use Rattle.certificates.specs.declared.why.InvariantWhy.{InvariantWhy};
 use super::Explanation;
 
 /// Of formulas, and proofs over them.
-const PROOFS: [Explanation; 7] = [
+const PROOFS: [Explanation; 9] = [
     Explanation {
         number: 160,
         name: "NoMemory",
@@ -58,6 +58,18 @@ const PROOFS: [Explanation; 7] = [
         name: "NoMemory",
         when: "out of memory for a formula",
         remedy: "add memory",
+    },
+    Explanation {
+        number: 167,
+        name: "BadId",
+        when: "a step with hints has an id that is not above those before; by the library `drup` alone",
+        remedy: "number the clauses in their order, those of the formula from 1",
+    },
+    Explanation {
+        number: 168,
+        name: "NoClause",
+        when: "a hint names a clause that does not stand; by the library `drup` alone",
+        remedy: "name clauses that were given and not taken away",
     },
 ];
 

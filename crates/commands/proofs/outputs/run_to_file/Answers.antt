@@ -11,8 +11,7 @@ returns-in-Err-clause-failed g c = λ three.
     let unfailed = c.run-status.ensures.unfailed (λ is. absurd (omega (arith, few, is))) in
     let judged : Option (List ℕ) = g.E.Sink.written c.run-status.new.err in
     let output : Option (List ℕ) = option_map (λ (name : Bor (List ℕ)). name.now) c.args.order.now.output in
-    let asked : Option (List ℕ) = option_map (λ (word : Bor (List ℕ)). word.now) c.args.order.now.asked in
-    let done = answered_by (λ a. Answers c.args.order.now.named c.args.order.now.task asked c.args.order.now.form a (g.A.Source.to_come c.args.first.now) (g.B.Source.to_come c.args.second.now) (g.T.Source.to_come c.args.third.now) (g.O.Sink.written c.args.out.now) (g.O.Sink.written c.run-status.new.out) (g.E.Sink.written c.args.err.now) judged)
+    let done = answered_by (λ a. Answers c.args.order.now c.args.order.now.task a (g.A.Source.to_come c.args.first.now) (g.B.Source.to_come c.args.second.now) (g.T.Source.to_come c.args.third.now) (g.O.Sink.written c.args.out.now) (g.O.Sink.written c.run-status.new.out) (g.E.Sink.written c.args.err.now) judged)
     c.run-status.result few c.run-status.ensures.done c.run-status.ensures.not_accepted in
     inr (record {
       answer = done.0;

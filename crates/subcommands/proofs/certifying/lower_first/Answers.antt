@@ -7,6 +7,7 @@ returns-clause-read g c = record {
   gives = record { items = c.in_ok-model.model; text = c.in_ok-model.ensures.read; accepted = c.in_ok-circuit.ensures.accepted; lowers = c.in_ok-circuit.ensures.lowers };
   is_numbering = c.own.ensures;
   says = λ k. refl;
+  names = λ k. refl;
 }
 
 pub returns-in_err-circuit-clause-ends : goal.returns-in_err-circuit-clause-ends

@@ -11,7 +11,7 @@ pub invariant_of-self : goal.invariant_of-self
 invariant_of-self c =
     rw c.take_away.ensures (
       KeepsPropagator-delete c.self.inside.clauses c.self.inside.watched.items c.self.inside.lists c.self.inside.trail c.in-Some.place c.self.invariant.0,
-      AreLinked-without c.self.inside.clauses _ c.in-Some.place c.clause_sum-sum.result c.len-count.result c.in-Some.behind c.self.inside.places c.unlink.new.self c.self.invariant.1 c.in-Some.ensures.1 c.in-Some.ensures.2 c.in-Some.ensures.0.inside c.len-count.ensures c.unlink.ensures refl,
+      AreLinked-without c.self.inside.clauses _ c.in-Some.place c.rising_sum-sum.result c.len-count.result c.in-Some.behind c.self.inside.places c.unlink.new.self c.self.invariant.1 c.in-Some.ensures.1 c.in-Some.ensures.2 c.in-Some.ensures.0.inside c.len-count.ensures c.unlink.ensures refl,
     )
 
 pub returns-in-None-clause-left : goal.returns-in-None-clause-left

@@ -1,0 +1,2 @@
+-- What is asked for at a terminal.
+pub mod Requests

@@ -1,0 +1,4 @@
+//! A test.
+
+#[test]
+fn nothing() {}

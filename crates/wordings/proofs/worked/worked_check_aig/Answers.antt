@@ -1,0 +1,21 @@
+use Rattle.std.proofs.Common.{◌≡◌, Some, refl, sym, ap, arith}
+use Rattle.wordings.proofs.worked.worked_check_aig.Goals as goal
+
+pub returns-clause-says : goal.returns-clause-says
+returns-clause-says c = λ first second is_first is_second. record {
+  takes = record { known = refl; once = refl; count = refl; one_form = refl };
+  task = refl;
+  named = refl;
+  as_json = refl;
+  asked = refl;
+  form = refl;
+  first = ap (λ name. Some name) (sym is_first);
+  second = ap (λ name. Some name) is_second;
+  third = refl;
+  input = rw (is_first, is_second) refl;
+  output = refl;
+  progress = refl;
+}
+
+pub returns-clause-none : goal.returns-clause-none
+returns-clause-none c = λ o s. let bad : 1 ≡ 2 = s.takes.count in absurd (omega (arith, bad))

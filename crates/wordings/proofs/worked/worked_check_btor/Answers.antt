@@ -1,0 +1,24 @@
+use Rattle.std.proofs.Common.{◌≡◌, codes, Some, true, false, refl, sym, ap}
+use Rattle.wordings.proofs.worked.worked_check_btor.Goals as goal
+
+pub returns-clause-says : goal.returns-clause-says
+returns-clause-says c = λ first second asked is_first is_second is_asked. record {
+  takes = record { known = refl; once = refl; count = refl; one_form = refl };
+  task = refl;
+  named = refl;
+  as_json = refl;
+  asked = ap (λ name. Some name) is_asked;
+  form = refl;
+  first = ap (λ name. Some name) (sym is_first);
+  second = ap (λ name. Some name) is_second;
+  third = refl;
+  input = rw (is_first, is_second) refl;
+  output = refl;
+  progress = refl;
+}
+
+pub returns-clause-none : goal.returns-clause-none
+returns-clause-none c = λ o s.
+    let first : o.first.now ≡ codes "-" = cc s.first in
+    let bad : true ≡ false = rw (first, s.second) at s.input in
+    absurd cc
