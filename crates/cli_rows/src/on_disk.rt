@@ -5,8 +5,7 @@ use base::{Sink, VecSink};
 use command_line::order;
 use commands::{SystemFiles, run_on_files};
 use invocation::Order;
-use std::fs;
-use std::io;
+use std::{fs, io};
 use subcommands::Progress;
 
 /// Puts a text where a command will look for it; what is on standard input stays there.

@@ -27,7 +27,9 @@ fn name_of(files: usize, place: usize, one: usize, other: usize) -> Option<&'sta
 /// Whether these are the files that are read.
 fn is_read(request: &Request<'_>, first: &str, second: Option<&str>, third: Option<&str>) -> bool {
     match request {
-        Request::One(order) => order.first == first && order.second == second && order.third == third,
+        Request::One(order) => order.first == first
+            && order.second == second
+            && order.third == third,
         Request::Many(list) => list.list == first && second.is_none() && third.is_none(),
     }
 }
@@ -50,13 +52,15 @@ fn is_right(
     }
     let is_twice = one != other && one < files && other < files;
     match request(alloc, words.as_slice()) {
-        Ok(request) => Ok(!is_twice
-            && is_read(
-                &request,
-                name_of(files, 0, one, other).unwrap_or(""),
-                name_of(files, 1, one, other),
-                name_of(files, 2, one, other),
-            )),
+        Ok(request) => Ok(
+            !is_twice
+                && is_read(
+                    &request,
+                    name_of(files, 0, one, other).unwrap_or(""),
+                    name_of(files, 1, one, other),
+                    name_of(files, 2, one, other),
+                ),
+        ),
         Err(stop) => Ok(is_twice && stop.status == 4),
     }
 }

@@ -7,9 +7,9 @@ mod form_lifting;
 mod lifting;
 mod on_files;
 mod outputs;
+mod running;
 #[cfg(test)]
 mod tests;
-mod running;
 
 pub use destinations::{FileName, FileOutput, SystemFiles};
 pub use on_files::run_on_files;

@@ -243,17 +243,7 @@ fn obey_on_certificate<A: Source, B: Source, T: Source, O: Sink, E: Sink, W: Wat
             write_obligation(alloc, given, by, choice, first, second, out, watch)
         }
         CertificateTask::CheckProof(given, by, choice) => check_proof(
-            alloc,
-            order,
-            given,
-            by,
-            choice,
-            first,
-            second,
-            third,
-            out,
-            err,
-            watch,
+            alloc, order, given, by, choice, first, second, third, out, err, watch,
         ),
     }
 }

@@ -186,17 +186,23 @@ pub fn worked_without()
 /// Worked rows: all eight clauses of three variables are refuted by four steps with hints; not where a hint is missing, where
 /// one names no clause, also one that was taken away, or where an id is not above all before.
 pub fn worked_hints()
-    ensures derived { judge_hinted eight (record { steps = at 1 (hinted 9 (2 ∷ 4 ∷ []) (1 ∷ 2 ∷ []))
-        ∷ at 2 (hinted 10 (2 ∷ []) (9 ∷ 3 ∷ 4 ∷ [])) ∷ at 3 (hinted 11 (4 ∷ []) (10 ∷ 5 ∷ 6 ∷ []))
-        ∷ at 4 (hinted 12 [] (10 ∷ 11 ∷ 7 ∷ 8 ∷ [])) ∷ []; fault = None }) ≡ judgement.Derived 4 }
+    ensures derived { judge_hinted eight (record {
+      steps = at 1 (hinted 9 (2 ∷ 4 ∷ []) (1 ∷ 2 ∷ []))
+          ∷ at 2 (hinted 10 (2 ∷ []) (9 ∷ 3 ∷ 4 ∷ [])) ∷ at 3 (hinted 11 (4 ∷ []) (10 ∷ 5 ∷ 6 ∷ []))
+          ∷ at 4 (hinted 12 [] (10 ∷ 11 ∷ 7 ∷ 8 ∷ [])) ∷ [];
+      fault = None;
+    }) ≡ judgement.Derived 4 }
     ensures too_few { judge_hinted eight (record { steps = at 1 (hinted 9 (2 ∷ 4 ∷ []) (1 ∷ [])) ∷ []; fault = None })
         ≡ judgement.NotImplied 1 }
     ensures two_open { judge_hinted eight (record { steps = at 1 (hinted 9 (2 ∷ []) (1 ∷ [])) ∷ []; fault = None })
         ≡ judgement.NotImplied 1 }
     ensures no_clause { judge_hinted eight (record { steps = at 1 (hinted 9 (2 ∷ 4 ∷ []) (9 ∷ [])) ∷ []; fault = None })
         ≡ judgement.Malformed 1 why.NoClause }
-    ensures taken_away { judge_hinted eight (record { steps = at 1 (unhinted 1)
-        ∷ at 2 (hinted 9 (2 ∷ 4 ∷ []) (1 ∷ 2 ∷ [])) ∷ []; fault = None }) ≡ judgement.Malformed 2 why.NoClause }
+    ensures taken_away { judge_hinted eight (record {
+      steps = at 1 (unhinted 1)
+          ∷ at 2 (hinted 9 (2 ∷ 4 ∷ []) (1 ∷ 2 ∷ [])) ∷ [];
+      fault = None;
+    }) ≡ judgement.Malformed 2 why.NoClause }
     ensures low_id { judge_hinted eight (record { steps = at 1 (hinted 8 (2 ∷ 4 ∷ []) (1 ∷ 2 ∷ [])) ∷ []; fault = None })
         ≡ judgement.Malformed 1 why.BadId }
     ensures not_derived { judge_hinted eight (record { steps = []; fault = None }) ≡ judgement.NotDerived }

@@ -189,11 +189,7 @@ fn write_object<O: Sink>(
 }
 
 /// Writes what a line answers in lines.
-fn write_told<O: Sink>(
-    number: u64,
-    answered: &Answered,
-    out: &mut O,
-) -> Result<(), DeviceFault>
+fn write_told<O: Sink>(number: u64, answered: &Answered, out: &mut O) -> Result<(), DeviceFault>
     ensures { OnOk result (Appends (O.written out.old) (O.written out.new)
         (answer_lines number (answer_of answered.now))) }
 {
@@ -280,7 +276,14 @@ fn judge_lines<F: NamedFiles, O: Sink, C: Clock, W: Write + Copy>(
     let mut rest = text;
     while let Some((line, behind)) = cut_line(rest) {
         judge_line(
-            files, alloc, as_json, number, line, &mut totals, out, progress,
+            files,
+            alloc,
+            as_json,
+            number,
+            line,
+            &mut totals,
+            out,
+            progress,
         )?;
         number += 1;
         rest = behind;

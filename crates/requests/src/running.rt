@@ -51,18 +51,16 @@ pub fn run_on_words<
     out: &mut Watched<'c, O, C, W>,
     err: &mut Watched<'c, E, C, W>,
 ) -> u8
-    ensures {
-      DoesOrder (F.text files.now) (I.remaining around.entry.input) (map S.text words.now)
-      result (⟦<Watched<'c, O, C, W> as Sink>⟧.written out.old)
-      (⟦<Watched<'c, O, C, W> as Sink>⟧.written out.new)
-      (⟦<Watched<'c, E, C, W> as Sink>⟧.written err.old)
-      (⟦<Watched<'c, E, C, W> as Sink>⟧.written err.new)
-      ⊎ (DoesList (F.text files.now) (I.remaining around.entry.input) (map S.text words.now)
-      result (⟦<Watched<'c, O, C, W> as Sink>⟧.written out.old)
-      (⟦<Watched<'c, O, C, W> as Sink>⟧.written out.new)
-      ⊎ IsStopped (map S.text words.now) around.entry.terminals.input
-      around.entry.terminals.output result)
-    }
+    ensures { DoesOrder (F.text files.now) (I.remaining around.entry.input) (map S.text words.now)
+        result (⟦<Watched<'c, O, C, W> as Sink>⟧.written out.old)
+        (⟦<Watched<'c, O, C, W> as Sink>⟧.written out.new)
+        (⟦<Watched<'c, E, C, W> as Sink>⟧.written err.old)
+        (⟦<Watched<'c, E, C, W> as Sink>⟧.written err.new)
+        ⊎ (DoesList (F.text files.now) (I.remaining around.entry.input) (map S.text words.now)
+        result (⟦<Watched<'c, O, C, W> as Sink>⟧.written out.old)
+        (⟦<Watched<'c, O, C, W> as Sink>⟧.written out.new)
+        ⊎ IsStopped (map S.text words.now) around.entry.terminals.input
+        around.entry.terminals.output result) }
 {
     let Surroundings {
         terminals,

@@ -370,7 +370,5 @@ pub fn check_proof<A: Source, B: Source, T: Source, O: Sink, E: Sink, W: Watch>(
     ensures quiet { order.now.named ≡ false → err.new ≡ err.old }
 {
     let read = read_given(alloc, given, first, watch)?;
-    check_over(
-        alloc, order, by, choice, &read, second, third, out, err,
-    )
+    check_over(alloc, order, by, choice, &read, second, third, out, err)
 }

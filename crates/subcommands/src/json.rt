@@ -53,11 +53,7 @@ fn write_bytes<O: Sink>(text: &[u8], out: &mut O) -> Result<(), DeviceFault>
 
 /// Writes a member that is a number.
 #[tactic(auto, unfolding(crate::specs::Objects::number_member))]
-pub(crate) fn write_number<O: Sink>(
-    key: &[u8],
-    number: u64,
-    out: &mut O,
-) -> Result<(), DeviceFault>
+pub(crate) fn write_number<O: Sink>(key: &[u8], number: u64, out: &mut O) -> Result<(), DeviceFault>
     ensures written { OnOk result (Appends (O.written out.old) (O.written out.new)
         (number_member key.now number)) }
     ensures counted { CountsFaults result (O.failures out.old) (O.failures out.new) }
@@ -84,10 +80,7 @@ pub(crate) fn write_text<O: Sink>(key: &[u8], text: &[u8], out: &mut O) -> Resul
 }
 
 /// Writes the symbol or the name of something, where it has one.
-pub(crate) fn write_symbol<O: Sink>(
-    symbol: Option<&[u8]>,
-    out: &mut O,
-) -> Result<(), DeviceFault>
+pub(crate) fn write_symbol<O: Sink>(symbol: Option<&[u8]>, out: &mut O) -> Result<(), DeviceFault>
     ensures written { OnOk result (Appends (O.written out.old) (O.written out.new)
         (symbol_member (option_copied symbol.entry))) }
     ensures counted { CountsFaults result (O.failures out.old) (O.failures out.new) }

@@ -32,9 +32,7 @@ mod waving;
 pub use answers::Answer;
 pub use assumed::tell_form_lifted;
 pub use certifying::{check_proof, write_obligation};
-pub use circuits::{
-    check_circuit, check_circuit_with, claimable, convert_circuit, read_circuit,
-};
+pub use circuits::{check_circuit, check_circuit_with, claimable, convert_circuit, read_circuit};
 pub use engines::{convert_for_engines, lower_for_engines};
 pub use files::{LateFile, NoFile, Stream, open_input};
 pub use form_restoring::restore_witness;

@@ -27,7 +27,11 @@ fn is_claim_noted(firsts: &FirstRises, claim: Option<usize>) -> bool
 }
 
 /// What is told of a witness that is judged so, by the first frames of what it claims and by what is asked for.
-pub(crate) fn outcome_of(judgement: &Judgement, firsts: &FirstRises, claim: Option<usize>) -> Outcome
+pub(crate) fn outcome_of(
+    judgement: &Judgement,
+    firsts: &FirstRises,
+    claim: Option<usize>,
+) -> Outcome
     ensures { result ≡ outcome claim (is_claim_noted claim firsts.now) judgement.now }
 {
     let claimed = is_claim_noted(firsts, claim);

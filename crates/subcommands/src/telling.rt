@@ -210,12 +210,7 @@ pub fn write_refusal<O: Sink>(order: &Order<'_>, refusal: Refusal, out: &mut O) 
     match refusal {
         Refusal::Input(fault) if order.as_json => write_fault(order.first, &fault, refusal, out),
         Refusal::Second(fault) if order.as_json => {
-            write_fault(
-                order.second.unwrap_or(STANDARD_INPUT),
-                &fault,
-                refusal,
-                out,
-            )
+            write_fault(order.second.unwrap_or(STANDARD_INPUT), &fault, refusal, out)
         }
         _ => refusal,
     }

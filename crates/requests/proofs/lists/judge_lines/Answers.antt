@@ -23,9 +23,14 @@ loop-line-preserved g c =
     let t = begins texts c.args.as_json (has_judgement (words line)) n (words line) rest c.loop-line.totals c.judge_line.new.totals (g.O.Sink.written c.loop-line.out) (g.O.Sink.written c.judge_line.new.out) c.in_ok-judge_line.ensures in
     let next : n + 1 ≡ suc n = omega arith in
     record {
-      said = (s.0 ++ t.said, (appends_more (g.O.Sink.written c.args.out.now) (g.O.Sink.written c.loop-line.out) (g.O.Sink.written c.judge_line.new.out) s.0 t.said s.1.0 t.told,
+      said = (
+        s.0 ++ t.said,
+        (
+          appends_more (g.O.Sink.written c.args.out.now) (g.O.Sink.written c.loop-line.out) (g.O.Sink.written c.judge_line.new.out) s.0 t.said s.1.0 t.told,
           λ more behind h. subst (λ (l : List ℕ). JudgesLines texts c.args.as_json 1 (lines c.args.text.now) no_totals l behind) (sym (append_assoc s.0 t.said more))
-          (s.1.1 (t.said ++ more) behind (rw c.in-Some.ensures.lines (t.goes_on more behind (subst (λ (k : ℕ). JudgesLines texts c.args.as_json k rest c.judge_line.new.totals more behind) next h))))));
+              (s.1.1 (t.said ++ more) behind (rw c.in-Some.ensures.lines (t.goes_on more behind (subst (λ (k : ℕ). JudgesLines texts c.args.as_json k rest c.judge_line.new.totals more behind) next h)))),
+        ),
+      );
       few = omega (arith, c.loop-line.invariant.few, c.in-Some.ensures.less);
     }
 
