@@ -103,7 +103,7 @@ class Edit:
     def __init__(self, path, crates):
         self.path = path
         self.crate = next((crates[it] for it in (path.parent.name, path.parent.parent.name) if it in crates), None)
-        self.pairs, self.only, self.refused_by, file, old = [], [], None, None, None
+        self.pairs, self.only, self.refused_by, self.stray, file, old = [], [], None, None, None, None
         for line in path.read_text().splitlines():
             key, _, text = line.partition(":")
             text = text.removeprefix(" ")
@@ -117,9 +117,13 @@ class Edit:
                 self.only = text.split()
             elif key in ("types", "sources"):
                 self.refused_by = key, text.strip()
+            elif line.strip():
+                self.stray = line.strip()
 
     def texts(self):
         """The files that it makes, and the functions that it changes, each with the names to try."""
+        if self.stray:
+            raise Bad(f"a line that belongs to no text, each of which is one line: {self.stray}")
         texts, functions = {}, {}
         for file, old, new in self.pairs:
             text = texts.get(file) or (self.crate.folder / file).read_text()

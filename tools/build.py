@@ -259,6 +259,14 @@ def build(wanted, log):
             check.run.wait()
 
 
+def tell_layout(wanted):
+    """Tells the files of these crates that are not in the toolchain's layout, with which the gate takes no crate."""
+    files = [it for crate in wanted for it in crate.files()]
+    checked = subprocess.run([KIT / "bin/rattle", "fmt", "--check", *files], stdin=subprocess.DEVNULL, capture_output=True, text=True)
+    if checked.returncode != 0:
+        say(f"the gate will refuse what is not in the layout; run `rt fmt` in its crate\n{(checked.stdout + checked.stderr).strip()}")
+
+
 def link(program, log):
     """Links the program."""
     words = [KIT / "bin/rattle-link", "--target", "x86_64-unknown-linux-gnu", "--toolchain", KIT / "toolchain"]
@@ -279,6 +287,7 @@ def make(names):
         fcntl.flock(lock, fcntl.LOCK_EX)
         if not build(wanted, log) or any(link(it, log) for it in named if it.is_program):
             return []
+        tell_layout(wanted)
         return wanted
 
 
