@@ -7,7 +7,7 @@ use Rattle.base.specs.Literal.{negation, Valuation, literal_value}
 use Rattle.drup.specs.Formula.{IsUnsatisfiable}
 use Rattle.drup.specs.Propagation.{Literals, no_literal, AllNegated, OthersNegated, IsClosedUnder, IsClosed, Conflict, IsClosure, MeetsConflict, Implied}
 use Rattle.drup.specs.Propagation.Conflict.{opposite, falsified}
-use Rattle.drup.specs.Worked.{one, two, all_eight, twice, with_negation, chain}
+use Rattle.drup.specs.Worked.{one, two, all_eight, twice, opposites, chain}
 
 pub both_true : (a b : Bool) → a ≡ true → b ≡ true → (a && b) ≡ true
 both_true true b p q = q
@@ -200,10 +200,10 @@ twice-not_implied implied =
     five (suc i) h = absurd (omega (arith, h))
 
 pub negation-gives_nothing : IsClosedUnder (2 ∷ 3 ∷ []) no_literal
-negation-gives_nothing = closed with_negation no_literal refl 0 (omega arith)
+negation-gives_nothing = closed opposites no_literal refl 0 (omega arith)
 
-pub negation-not_implied : Implied with_negation no_literal (2 ∷ []) → ⊥
-negation-not_implied implied = no_conflict with_negation (one 3) (one_consistent 3 (λ e. omega (arith, e))) refl (implied (one 3) (closed with_negation (one 3) refl) (λ l on. absurd (cc)) three)
+pub negation-not_implied : Implied opposites no_literal (2 ∷ []) → ⊥
+negation-not_implied implied = no_conflict opposites (one 3) (one_consistent 3 (λ e. omega (arith, e))) refl (implied (one 3) (closed opposites (one 3) refl) (λ l on. absurd (cc)) three)
   where
     three : AllNegated (2 ∷ []) (one 3)
     three zero h = refl

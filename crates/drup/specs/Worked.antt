@@ -27,8 +27,8 @@ all_eight =
 abbrev pub twice : List (List ℕ)
 twice = (2 ∷ 2 ∷ []) ∷ []
 
-abbrev pub with_negation : List (List ℕ)
-with_negation = (2 ∷ 3 ∷ []) ∷ []
+abbrev pub opposites : List (List ℕ)
+opposites = (2 ∷ 3 ∷ []) ∷ []
 
 -- the first variable, and by it the second
 abbrev pub chain : List (List ℕ)

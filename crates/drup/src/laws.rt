@@ -3,7 +3,7 @@ ghost use Rattle.std.specs.Prelude.{◌≡◌, ℕ, true, false, List, [], ◌�
 ghost use Rattle.base.specs.Literal.{Valuation};
 ghost use Rattle.drup.specs.Formula.{Formula, SatisfiesClause, IsUnsatisfiable};
 ghost use Rattle.drup.specs.Propagation.{Literals, no_literal, IsModel, IsClosedUnder, IsClosure, Implied, MeetsConflict};
-ghost use Rattle.drup.specs.Worked.{two, all_eight, twice, with_negation, chain, eight, three_steps};
+ghost use Rattle.drup.specs.Worked.{two, all_eight, twice, opposites, chain, eight, three_steps};
 ghost use Rattle.drup.specs.declared.why.Why.TheVariants as why;
 ghost use Rattle.drup.specs.declared.judgement.Judgement.{Judgement};
 ghost use Rattle.drup.specs.declared.judgement.Judgement.TheVariants as judgement;
@@ -80,7 +80,7 @@ pub fn worked_literal_twice()
 /// Worked rows: a clause that has a literal and its negation gives nothing, and follows from anything.
 pub fn worked_literal_and_negation()
     ensures gives_nothing { IsClosedUnder (2 ∷ 3 ∷ []) no_literal }
-    ensures not_implied { ¬ Implied with_negation no_literal (2 ∷ []) }
+    ensures not_implied { ¬ Implied opposites no_literal (2 ∷ []) }
     ensures implied { (clauses : List (List ℕ)) (given : Literals)
         → Implied clauses given (2 ∷ 3 ∷ []) }
 {}
