@@ -49,6 +49,7 @@ class Check:
 CHECKS = [
     Check("sources", ["tests/sources.py"]),
     Check("definitions", ["tools/definitions.py"]),
+    Check("refusals", ["tools/refusals.py", "--check"]),
     Check("documents", ["tests/documents.py"]),
     Check("blocks", ["tests/blocks.py", PROGRAM], has_library=True),
     Check("program", ["tests/program.sh", PROGRAM]),

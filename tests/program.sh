@@ -126,7 +126,7 @@ expect "lower of nothing" 4 "$(cat err)"
 expect_line "lower of nothing" err "Usage: hwtool lower <MODEL>"
 "$program" --help >out 2>err; status=$?
 expect "help" 0 ""
-expect_line "help" out "The file - is standard input."
+expect_line "help" out "The file - is standard input. A file is read to its end, also behind its first fault."
 expect_line "help" out "  2  the input is refused"
 "$program" --version >out 2>err; status=$?
 expect "version" 0 ""

@@ -3,7 +3,8 @@
 ghost use Rattle.std.specs.Prelude.{◌≡◌, ◌⊎◌, IfErr, IfOk, map};
 ghost use Rattle.invocation.specs.declared.tasks.Order.{Order};
 ghost use Rattle.invocation.specs.declared.tasks.Request.{Request};
-ghost use Rattle.wordings.specs.Orders.{Says, SaysRequest};
+ghost use Rattle.invocation.specs.declared.tasks.Request.TheVariants as request;
+ghost use Rattle.wordings.specs.Orders.{Says};
 
 use crate::help_table::{about, help, value_name};
 use crate::refused_words::{CIRCUIT, ENGINE, OUTPUT, TWO_READINGS, refusal_of};
@@ -21,7 +22,8 @@ use wordings::{Kind, Verb, Word, order_said, request_said, verb_of, verbs, word_
 const PROGRAM: &str = "hwtool";
 
 /// The end of each help.
-const HELP_END: &str = "The file - is standard input.
+const HELP_END: &str =
+    "The file - is standard input. A file is read to its end, also behind its first fault.
 
 hwtool explain tells what a refusal means and what to do about it, as in hwtool explain 20.
 
@@ -252,10 +254,10 @@ fn stop_of_words<S: AsStr>(alloc: Global, words: &[S]) -> Stop {
 /// bad property of no engine form;
 /// with 3 where there was no memory.
 pub fn request<'a, S: AsStr>(alloc: Global, words: &'a [S]) -> Result<Request<'a>, Stop>
-    ensures says { IfOk result (SaysRequest (map S.text words.now)) }
+    ensures says { IfOk result (Says (map S.text words.now)) }
     // words that say what is asked for are understood
     ensures understood { IfErr result (λ stop. (stop.status ≡ 3)
-        ⊎ ((r : Request) → ¬ SaysRequest (map S.text words.now) r)) }
+        ⊎ ((r : Request) → ¬ Says (map S.text words.now) r)) }
 {
     match request_said(alloc, words) {
         Ok(Some(request)) => Ok(request),
@@ -268,10 +270,10 @@ pub fn request<'a, S: AsStr>(alloc: Global, words: &'a [S]) -> Result<Request<'a
 ///
 /// Errors: those of `request`; a `Stop` with status 4 also where the words ask for the judgements of a list.
 pub fn order<'a, S: AsStr>(alloc: Global, words: &'a [S]) -> Result<Order<'a>, Stop>
-    ensures says { IfOk result (Says (map S.text words.now)) }
+    ensures says { IfOk result (λ order. Says (map S.text words.now) (request.One order)) }
     // words that say an order are understood
     ensures understood { IfErr result (λ stop. (stop.status ≡ 3)
-        ⊎ ((o : Order) → ¬ Says (map S.text words.now) o)) }
+        ⊎ ((o : Order) → ¬ Says (map S.text words.now) (request.One o))) }
 {
     match order_said(alloc, words) {
         Ok(Some(order)) => Ok(order),

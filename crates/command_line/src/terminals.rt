@@ -3,7 +3,7 @@
 ghost use Rattle.std.specs.Prelude.{◌≡◌, ◌&&◌, ◌⊎◌, Bool, IfErr, IfOk, true, false, length, map, option_map};
 ghost use Rattle.invocation.specs.Files.{shows_binary};
 ghost use Rattle.invocation.specs.declared.tasks.Request.{Request as RequestSaid};
-ghost use Rattle.wordings.specs.Orders.{SaysRequest};
+ghost use Rattle.wordings.specs.Orders.{Says};
 ghost use Rattle.command_line.specs.Requests.{IfOne, with_progress};
 
 use crate::reading_words::{refused, request};
@@ -72,18 +72,18 @@ pub fn request_at<'a, S: AsStr>(
 ) -> Result<Request<'a>, Stop>
     // the words say what is asked for, but for whether it is told how far work is
     ensures says { IfOk result (λ request. (told : Bool)
-        × SaysRequest (map S.text words.now) (with_progress told request)) }
+        × Says (map S.text words.now) (with_progress told request)) }
     ensures binary { terminals.output ≡ true → IfOk result (λ request. IfOne request
         (λ order. shows_binary order.form (option_map (λ name. name.now) order.output) ≡ false)) }
     ensures progress { terminals.error ≡ false
         → IfOk result (λ request. IfOne request (λ order. order.tells_progress ≡ false)) }
     // at a terminal it is told, unless the words leave it out
-    ensures heard { terminals.error ≡ true → IfOk result (SaysRequest (map S.text words.now)) }
+    ensures heard { terminals.error ≡ true → IfOk result (Says (map S.text words.now)) }
     ensures bare { terminals.input ≡ true → length words.now ≡ 0 → IfOk result (λ _. ⊥) }
     // where neither is a terminal, words that say what is asked for are understood
     ensures understood { terminals.input ≡ false → terminals.output ≡ false
         → IfErr result (λ stop. (stop.status ≡ 3)
-        ⊎ ((r : RequestSaid) → ¬ SaysRequest (map S.text words.now) r)) }
+        ⊎ ((r : RequestSaid) → ¬ Says (map S.text words.now) r)) }
 {
     if terminals.input && words.is_empty() {
         return Err(help(alloc));

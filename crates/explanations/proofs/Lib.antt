@@ -1,2 +1,2 @@
 pub mod PieceLemmas
-pub mod TableLemmas
+pub mod WordLemmas

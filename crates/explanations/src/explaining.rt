@@ -1,8 +1,8 @@
 //! What is told of refusals that are asked for.
 
-ghost use Rattle.std.specs.Prelude.{◌≡◌, ◌||◌, ◌++◌, ◌⊎◌, Bool, true, [], IfOk, IfSome, OnOk, is_some, option_map};
+ghost use Rattle.std.specs.Prelude.{◌≡◌, ◌++◌, ◌⊎◌, List, ℕ, [], IfOk, MatchOption, None, OnOk, Some, map, option_map};
 ghost use Rattle.std.specs.String.{string_bytes};
-ghost use Rattle.explanations.specs.Explanations.{explained, has_name, has_sought_number, is_of_first_line, is_of_line, is_same, is_sought, is_told, row_lines, told_part, told_parts, told_row};
+ghost use Rattle.explanations.specs.Explanations.{explained, has_name, has_sought_number, is_of_first_line, is_of_line, is_same, is_sought, is_told, row_lines, search_of, sought_by, told_part, told_parts, told_row, with_word, with_words, words_in};
 
 use crate::table::{Explanation, Part};
 use base::decimal;
@@ -39,15 +39,16 @@ impl<'a> Sought<'a> {
     /// What words seek, as they are given or as a line of this program has them: a number, a name, or both at the end of a
     /// line, which may say before it that it is about a line of a file. None where they name nothing.
     pub fn by_words(words: &[&'a str]) -> Option<Sought<'a>>
-        // what names nothing does not seek all
-        ensures { IfSome result (λ sought. (is_some sought.number || is_some sought.name) ≡ true) }
+        ensures { option_map search_of result ≡ sought_by (map (λ word. word.now) words.now) }
     {
         let mut reading = Reading {
             sought: Sought::all(),
             is_behind_line: false,
         };
-        for word in words {
-            reading.take(word);
+        let mut rest = words;
+        while let [text, behind @ ..] = rest {
+            reading.take(text);
+            rest = behind;
         }
         let sought = reading.sought;
         if sought.number.is_some() || sought.name.is_some() {
@@ -58,7 +59,9 @@ impl<'a> Sought<'a> {
     }
 
     /// What is sought with a word more: a number, behind `line` a line's, or a name, which goes with the number before it.
-    fn with_word(self, word: &'a str, is_behind_line: bool) -> Sought<'a> {
+    fn with_word(self, word: &'a str, is_behind_line: bool) -> Sought<'a>
+        ensures { search_of result ≡ with_word is_behind_line (search_of self.entry) word.now }
+    {
         if let Some(number) = decimal(word.as_bytes()) {
             return Sought {
                 number: Some(number),
@@ -94,8 +97,12 @@ struct Reading<'a> {
 
 impl<'a> Reading<'a> {
     /// Takes a text of words.
-    fn take(&mut self, text: &'a str) {
-        for word in text.split_ascii_whitespace() {
+    fn take(&mut self, text: &'a str)
+        ensures { (more : List (List ℕ)) → with_words self.new.is_behind_line (search_of self.new.sought) more
+            ≡ with_words self.old.is_behind_line (search_of self.old.sought) (words_in text.now ++ more) }
+    {
+        let mut words = text.split_ascii_whitespace();
+        while let Some(word) = words.next() {
             self.sought = self.sought.with_word(word, self.is_behind_line);
             self.is_behind_line = word == "line";
         }
@@ -124,7 +131,7 @@ fn has_name(name: Option<&str>, row: &Explanation) -> bool
 
 /// Whether a row is sought.
 fn is_sought(sought: Sought<'_>, row: &Explanation) -> bool
-    ensures { result ≡ is_sought sought.entry row.now }
+    ensures { result ≡ is_sought (search_of sought.entry) row.now }
 {
     has_number(sought.number, row) && has_name(sought.name, row)
 }
@@ -155,7 +162,7 @@ fn is_of_line(first: Option<bool>, row: &Explanation) -> bool
 
 /// Whether a row is told: it is sought, and it fits the line, or does not.
 fn is_told(sought: Sought<'_>, fitting: bool, row: &Explanation) -> bool
-    ensures { result ≡ is_told sought.entry fitting row.now }
+    ensures { result ≡ is_told (search_of sought.entry) fitting row.now }
 {
     is_sought(sought, row) && is_same(fitting, is_of_line(sought.in_first_line, row))
 }
@@ -181,7 +188,7 @@ fn tell_row(
     text: &mut String,
 ) -> Result<(), AllocError>
     ensures { OnOk result (string_bytes text.new ≡ string_bytes text.old
-        ++ told_row sought.entry fitting title.now row.now) }
+        ++ told_row (search_of sought.entry) fitting title.now row.now) }
 {
     let is_told = is_told(sought, fitting, row);
     if is_told {
@@ -201,7 +208,7 @@ fn tell_part(
     text: &mut String,
 ) -> Result<(), AllocError>
     ensures { OnOk result (string_bytes text.new ≡ string_bytes text.old
-        ++ told_part sought.entry fitting part.now) }
+        ++ told_part (search_of sought.entry) fitting part.now) }
 {
     let mut rest = part.rows;
     while let [row, behind @ ..] = rest {
@@ -221,7 +228,7 @@ fn tell_parts(
     text: &mut String,
 ) -> Result<(), AllocError>
     ensures { OnOk result (string_bytes text.new ≡ string_bytes text.old
-        ++ told_parts sought.entry fitting parts.now) }
+        ++ told_parts (search_of sought.entry) fitting parts.now) }
 {
     let mut rest = parts;
     while let [part, behind @ ..] = rest {
@@ -233,7 +240,7 @@ fn tell_parts(
 
 /// What is told of the refusals of some parts that are sought.
 fn explained(alloc: Global, sought: Sought<'_>, parts: &[Part]) -> Result<String, AllocError>
-    ensures { IfOk result (λ text. string_bytes text ≡ explained sought.entry parts.now) }
+    ensures { IfOk result (λ text. string_bytes text ≡ explained (search_of sought.entry) parts.now) }
 {
     let mut text = String::new(alloc);
     tell_parts(alloc, sought, true, parts, &mut text)?;
@@ -268,9 +275,9 @@ fn unknown(alloc: Global, sought: Sought<'_>) -> Stop
 /// The text is shown, with status 0; where no refusal is sought that there is, the words are refused, with status 4.
 pub fn explain(alloc: Global, table: &[Part], sought: Sought<'_>) -> Stop
     ensures shown { result.status ≡ 0 → string_bytes result.text
-        ≡ explained sought.entry table.now }
+        ≡ explained (search_of sought.entry) table.now }
     // a refusal that is there is told
-    ensures known { result.status ≡ 4 → explained sought.entry table.now ≡ [] }
+    ensures known { result.status ≡ 4 → explained (search_of sought.entry) table.now ≡ [] }
 {
     match explained(alloc, sought, table) {
         Ok(text) if text.is_empty() => unknown(alloc, sought),

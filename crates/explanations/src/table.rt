@@ -20,14 +20,16 @@ ghost use Rattle.drup.specs.Printed.{proof_why_name as proof_name, proof_why_num
 ghost use Rattle.drup.specs.declared.fault.ClauseFault.{ClauseFault};
 ghost use Rattle.drup.specs.declared.fault.FormulaFault.{FormulaFault};
 ghost use Rattle.drup.specs.declared.why.Why.{Why as ProofWhy};
-ghost use Rattle.explanations.specs.Explanations.{Explains};
+ghost use Rattle.explanations.specs.Explanations.{Explains, NameOnce};
 ghost use Rattle.engine_form.specs.Faults.{engine_fault_name as engine_name, engine_fault_number as engine_number};
 ghost use Rattle.engine_form.specs.declared.fault.EngineFault.{EngineFault};
 ghost use Rattle.gates.specs.Faults.{gate_fault_name as gate_name, gate_fault_number as gate_number};
 ghost use Rattle.gates.specs.declared.fault.GateFault.{GateFault};
-ghost use Rattle.certificates.specs.Faults.{certificate_name, certificate_number, claim_name, claim_number};
+ghost use Rattle.certificates.specs.Faults.{certificate_name, certificate_number, claim_name, claim_number, invariant_why_name as invariant_name, invariant_why_number as invariant_number, obligation_name, obligation_number};
 ghost use Rattle.certificates.specs.declared.certificate_fault.CertificateFault.{CertificateFault};
 ghost use Rattle.certificates.specs.declared.claim_fault.ClaimFault.{ClaimFault};
+ghost use Rattle.certificates.specs.declared.fault.ObligationFault.{ObligationFault};
+ghost use Rattle.certificates.specs.declared.why.InvariantWhy.{InvariantWhy};
 ghost use Rattle.lift.specs.Answers.{lift_fault_name as lift_name, lift_fault_number as lift_number};
 ghost use Rattle.lift.specs.declared.fault.LiftFault.{LiftFault};
 ghost use Rattle.restore.specs.Faults.{restore_why_name as restore_name, restore_why_number as restore_number};
@@ -73,8 +75,9 @@ pub struct Part {
 
 /// What all refusals mean and what to do about them. A refusal may have several cases, also in several parts.
 ///
-/// Each refusal of each library is there, by the number and the name that the library gives it.
+/// Each refusal of each library is there, by the number and the name that the library gives it, and no number has two names.
 pub fn refusal_table() -> [Part; 19]
+    ensures names { NameOnce result }
     // the number of a why of a model's text that a push gives is its own, which is printed for it
     ensures models { (why : Why) → Explains result (printed_number why) (line_why_name why) }
     ensures symbols { (fault : SymbolFault)
@@ -108,6 +111,10 @@ pub fn refusal_table() -> [Part; 19]
         → Explains result (formula_number fault) (formula_name fault) }
     ensures claims { (fault : ClaimFault)
         → Explains result (claim_number fault) (claim_name fault) }
+    ensures invariants { (why : InvariantWhy)
+        → Explains result (invariant_number why) (invariant_name why) }
+    ensures obligations { (fault : ObligationFault)
+        → Explains result (obligation_number fault) (obligation_name fault) }
     ensures tidying { (fault : TidyFault) → Explains result (tidy_number fault) (tidy_name fault) }
     ensures tests { (fault : TestFault) → Explains result (test_number fault) (test_name fault) }
     ensures certificates { (fault : CertificateFault)
@@ -116,79 +123,79 @@ pub fn refusal_table() -> [Part; 19]
     [
         Part {
             title: "What is met most",
-            rows: often::often(),
+            rows: &often::OFTEN,
         },
         Part {
             title: "Texts of models",
-            rows: models::texts(),
+            rows: &models::TEXTS,
         },
         Part {
             title: "Items of a model",
-            rows: models::items(),
+            rows: &models::ITEMS,
         },
         Part {
             title: "Names",
-            rows: models::names(),
+            rows: &models::NAMES,
         },
         Part {
             title: "Lowering",
-            rows: models::lowering(),
+            rows: &models::LOWERING,
         },
         Part {
             title: "Runs and judges",
-            rows: witnesses::runs(),
+            rows: &witnesses::RUNS,
         },
         Part {
             title: "Witnesses",
-            rows: witnesses::witness_texts(),
+            rows: &witnesses::WITNESSES,
         },
         Part {
             title: "Witnesses of circuits",
-            rows: witnesses::bit_texts(),
+            rows: &witnesses::BIT_WITNESSES,
         },
         Part {
             title: "Gate makers",
-            rows: circuits::gates(),
+            rows: &circuits::GATES,
         },
         Part {
             title: "Circuits",
-            rows: circuits::calls(),
+            rows: &circuits::CIRCUITS,
         },
         Part {
             title: "Lifting",
-            rows: witnesses::lifting(),
+            rows: &witnesses::LIFTING,
         },
         Part {
             title: "Texts of circuits",
-            rows: circuits::texts(),
+            rows: &circuits::TEXTS,
         },
         Part {
             title: "Engine forms",
-            rows: circuits::engines(),
+            rows: &circuits::ENGINES,
         },
         Part {
             title: "Counterexamples over engine forms",
-            rows: circuits::counterexamples(),
+            rows: &circuits::COUNTEREXAMPLES,
         },
         Part {
             title: "Dumps",
-            rows: witnesses::dumps(),
+            rows: &witnesses::DUMPS,
         },
         Part {
             title: "Formulas and proofs",
-            rows: certified::proofs(),
+            rows: &certified::PROOFS,
         },
         Part {
             title: "Invariants and certificates",
-            rows: certified::invariants(),
+            rows: &certified::INVARIANTS,
         },
         Part {
             title: "Witness circuits",
-            rows: certified::witness_circuits(),
+            rows: &certified::WITNESS_CIRCUITS,
         },
         Part {
             title: "Tidied witnesses",
-            rows: witnesses::tidying(),
+            rows: &witnesses::TIDYING,
         },
     ]
 }

@@ -1,5 +1,5 @@
 -- What an order asks of standard input and of standard output.
-use Rattle.std.specs.Prelude.{ℕ, Bool, true, false, ◌&&◌, ◌||◌, List, Option, Some, None, codes}
+use Rattle.std.specs.Prelude.{ℕ, Bool, true, false, List, Option, Some, None, codes}
 use Rattle.std.specs.Str.{bytes_eq}
 use Rattle.aigertext.specs.declared.forms.Form.{Form}
 use Rattle.aigertext.specs.declared.forms.Form.TheVariants as form
@@ -12,12 +12,6 @@ is_standard_input name = bytes_eq name (codes "-")
 abbrev pub names_standard_input : Option (List ℕ) → Bool
 names_standard_input None = false
 names_standard_input (Some name) = is_standard_input name
-
--- two of the files of a command are standard input
-abbrev pub reads_input_twice : List ℕ → Option (List ℕ) → Option (List ℕ) → Bool
-reads_input_twice first second third =
-    (is_standard_input first && (names_standard_input second || names_standard_input third))
-    || (names_standard_input second && names_standard_input third)
 
 -- the binary form of a circuit goes to standard output
 abbrev pub shows_binary : Form → Option (List ℕ) → Bool

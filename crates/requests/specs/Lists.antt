@@ -56,7 +56,7 @@ pub record DoesLine (texts : List ℕ → Option (List ℕ)) (o : Order) (a : An
 -- the words of a line say a command that judges files, and it has done what its status says
 pub record IsJudgedLine (texts : List ℕ → Option (List ℕ)) (as_json : Bool) (ws : List (List ℕ)) (a : Answer) : Type 0 where
   pub order : Order
-  pub says : Says ws order
+  pub says : Says ws (request.One order)
   pub is_judgement : is_judgement order.task ≡ true
   pub reads_no_input : reads_input order ≡ false
   pub does : DoesLine texts (telling as_json order) a

@@ -5,7 +5,7 @@ use Rattle.invocation.specs.declared.tasks.ListOrder.{ListOrder}
 use Rattle.invocation.specs.declared.tasks.Order.{Order}
 use Rattle.invocation.specs.declared.tasks.Request.{Request}
 use Rattle.invocation.specs.declared.tasks.Request.TheVariants as request
-use Rattle.wordings.specs.Orders.{SaysList, SaysRequest}
+use Rattle.wordings.specs.Orders.{Says}
 use Rattle.command_line.specs.Requests.{with_progress}
 use Rattle.subcommands.specs.declared.answers.Answer.TheVariants as answer
 use Rattle.subcommands.specs.Files.{text_of_name}
@@ -26,7 +26,7 @@ pub record Made : Type 0 where
 pub record DoesOrder (texts : List ℕ → Option (List ℕ)) (standard : Option (List ℕ)) (words : List (List ℕ)) (status : ℕ) (before now told told' : Option (List ℕ)) : Type 0 where
   pub order : Order
   pub progress : Bool
-  pub says : SaysRequest words (with_progress progress (request.One order))
+  pub says : Says words (with_progress progress (request.One order))
   pub made : Option Made
   pub named : HasItsName (λ m. m.name) (λ m. m.is_given) (name_of order.output) status made
   pub done : status ≡ 0 → WritesTo (λ m. m.written) made before now (λ b n. Answers order order.task answer.Done (text_of_name texts standard (Some order.first.now)) (text_of_name texts standard (name_of order.second)) (text_of_name texts standard (name_of order.third)) b n told told')
@@ -45,9 +45,9 @@ pub record JudgesList (texts : List ℕ → Option (List ℕ)) (as_json : Bool) 
 -- The words say a list, and its judgements were made, told and counted; or its status is 3.
 pub record DoesList (texts : List ℕ → Option (List ℕ)) (standard : Option (List ℕ)) (words : List (List ℕ)) (status : ℕ) (before now : Option (List ℕ)) : Type 0 where
   pub list : ListOrder
-  pub says : SaysList words list
+  pub says : Says words (request.Many list)
   pub judged : (status ≡ 3) ⊎ IfSome (text_of_name texts standard (Some list.list.now)) (λ text. JudgesList texts list.as_json text status before now)
 
 -- Something stood in their place, as help or a refusal of words: where neither standard input nor standard output is a terminal, the words say nothing, or memory was wanting.
 abbrev pub IsStopped : List (List ℕ) → Bool → Bool → ℕ → Type 0
-IsStopped words input output status = input ≡ false → output ≡ false → (status ≡ 3) ⊎ ((r : Request) → ¬ SaysRequest words r)
+IsStopped words input output status = input ≡ false → output ≡ false → (status ≡ 3) ⊎ ((r : Request) → ¬ Says words r)

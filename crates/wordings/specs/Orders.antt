@@ -1,12 +1,11 @@
 -- What the words of a command line say: an order, or a list of judgements.
 use Rattle.std.specs.Prelude.{◌≡◌, ℕ, ◌+◌, nat_le, Bool, true, false, not, ◌&&◌, if◌then◌else◌, List, [], ◌∷◌, length, slice_get, Option, Some, None, is_some, MatchOption, codes, option_map, option_and_then}
 use Rattle.std.specs.Option.{option_eq, unwrap_or}
-use Rattle.std.specs.List.{find, list_all, list_any}
+use Rattle.std.specs.List.{count_by, find, list_all, list_any}
 use Rattle.std.specs.Str.{bytes_eq}
 use Rattle.base.specs.Decimals.{number_of}
 use Rattle.aigertext.specs.declared.forms.Form.TheVariants as form
 use Rattle.vcd.specs.declared.scope.Shown.TheVariants as shown
-use Rattle.invocation.specs.Files.{reads_input_twice}
 use Rattle.invocation.specs.declared.tasks.Certificate.{Certificate}
 use Rattle.invocation.specs.declared.tasks.Certificate.TheVariants as by
 use Rattle.invocation.specs.declared.tasks.CertificateTask.{CertificateTask}
@@ -67,16 +66,6 @@ fits ps kind.PositionWithEngine name (an_option n v) = bytes_eq n name && (is_so
 fits ps kind.Number name (an_option n v) = bytes_eq n name && nat_le 1 (unwrap_or (number_of v) 0)
 fits ps _ name _ = false
 
--- a flag or an option is given twice
-abbrev pub is_twice : List ℕ → List Said → Bool
-is_twice name [] = false
-is_twice name (p ∷ ps) = if is_named name p then has name ps else is_twice name ps
-
--- how many of the words of a command are files
-abbrev pub file_count : List (List ℕ × Kind) → ℕ
-file_count [] = 0
-file_count (word ∷ words) = (if fits [] word.1 [] (a_file []) then 1 else 0) + file_count words
-
 -- ---- what parts say
 
 -- the position of a bad property, where one is chosen
@@ -120,16 +109,16 @@ judges _ = false
 
 -- ---- what words say
 
--- Parts are what a command takes: each is one of its words, none is given twice, the files are as many as it has, and a
--- circuit has one form.
+-- Parts are what a command takes: each is one of its words, no flag and no option is given twice, the files are as many as it
+-- has, and a circuit has one form.
 pub record Takes (v : Verb) (ps : List Said) : Type 0 where
   pub known : list_all (λ p. list_any (λ word. fits ps word.1 word.0 p) (words_of v)) ps ≡ true
-  pub once : list_any (λ word. is_twice word.0 ps) (words_of v) ≡ false
-  pub count : length (files ps) ≡ file_count (words_of v)
+  pub once : list_all (λ word. nat_le (count_by (is_named word.0) ps) 1) (words_of v) ≡ true
+  pub count : length (files ps) ≡ count_by (λ word. fits [] word.1 [] (a_file [])) (words_of v)
   pub one_form : (has (codes "ascii") ps && has (codes "binary") ps) ≡ false
 
 -- Parts of a command say an order. `-` stands for standard input once, and for standard output where it is a result's.
-pub record SaysOf (v : Verb) (ps : List Said) (o : Order) : Type 0 where
+pub record SaysOrder (v : Verb) (ps : List Said) (o : Order) : Type 0 where
   pub takes : Takes v ps
   pub task : task_of v ps ≡ Some o.task
   pub named : o.named ≡ has (codes "names") ps
@@ -139,7 +128,7 @@ pub record SaysOf (v : Verb) (ps : List Said) (o : Order) : Type 0 where
   pub first : slice_get (files ps) 0 ≡ Some o.first.now
   pub second : option_map (λ name. name.now) o.second ≡ slice_get (files ps) 1
   pub third : option_map (λ name. name.now) o.third ≡ slice_get (files ps) 2
-  pub input : reads_input_twice o.first.now (option_map (λ name. name.now) o.second) (option_map (λ name. name.now) o.third) ≡ false
+  pub input : nat_le (count_by (λ name. bytes_eq name (codes "-")) (files ps)) 1 ≡ true
   pub output : option_map (λ name. name.now) o.output
       ≡ (if option_eq bytes_eq (value (codes "output") ps) (Some (codes "-")) then None else value (codes "output") ps)
   pub progress : o.tells_progress ≡ not (has (codes "quiet") ps)
@@ -150,25 +139,17 @@ command [] = Some (verb.Lower, a_file (codes "-") ∷ [])
 command (w ∷ ws) = option_map (λ v. (v, parts_behind v None ws)) (find (λ v. bytes_eq (word_of v) w) verbs)
 
 -- Parts of `judge` say a list of judgements.
-pub record SaysListOf (v : Verb) (ps : List Said) (l : ListOrder) : Type 0 where
+pub record SaysList (v : Verb) (ps : List Said) (l : ListOrder) : Type 0 where
   pub takes : Takes v ps
   pub judge : v ≡ verb.Judge
   pub list : slice_get (files ps) 0 ≡ Some l.list.now
   pub as_json : l.as_json ≡ has (codes "json") ps
 
 -- parts of a command say what is asked for
-abbrev pub SaysRequestOf : Verb → List Said → Request → Type 0
-SaysRequestOf v ps (request.One o) = SaysOf v ps o
-SaysRequestOf v ps (request.Many l) = SaysListOf v ps l
+abbrev pub SaysOf : Verb → List Said → Request → Type 0
+SaysOf v ps (request.One o) = SaysOrder v ps o
+SaysOf v ps (request.Many l) = SaysList v ps l
 
 -- Words say what is asked for: an order, or a list of judgements.
-abbrev pub SaysRequest : List (List ℕ) → Request → Type 0
-SaysRequest words r = MatchOption (command words) ⊥ (λ said. SaysRequestOf said.0 said.1 r)
-
--- Words say an order.
-abbrev pub Says : List (List ℕ) → Order → Type 0
-Says words o = SaysRequest words (request.One o)
-
--- Words say a list of judgements.
-abbrev pub SaysList : List (List ℕ) → ListOrder → Type 0
-SaysList words l = SaysRequest words (request.Many l)
+abbrev pub Says : List (List ℕ) → Request → Type 0
+Says words r = MatchOption (command words) ⊥ (λ said. SaysOf said.0 said.1 r)

@@ -1,10 +1,12 @@
 //! The flags, the options and the files of parts.
 
-ghost use Rattle.std.specs.Prelude.{◌≡◌, map, length, option_map, slice_get};
-ghost use Rattle.wordings.specs.Orders.{files, has, is_named, is_twice, value};
+ghost use Rattle.std.specs.Prelude.{◌≡◌, ◌≤◌, codes, count_by, map, length, option_map, slice_get};
+ghost use Rattle.std.specs.Str.{bytes_eq};
+ghost use Rattle.wordings.specs.Orders.{files, has, is_named, value};
 ghost use Rattle.wordings.specs.Values.{said};
 
 use crate::parts::Part;
+use invocation::STANDARD_INPUT;
 
 /// Whether a part is the flag or the option of a name.
 fn is_named(name: &str, part: Part<'_>) -> bool
@@ -30,18 +32,19 @@ pub(crate) fn has(name: &str, parts: &[Part<'_>]) -> bool
     false
 }
 
-/// Whether a flag or an option of a name is given twice.
-pub(crate) fn is_twice(name: &str, parts: &[Part<'_>]) -> bool
-    ensures { result ≡ is_twice name.now (map said parts.now) }
+/// How often a flag or an option of a name is given.
+pub(crate) fn times(name: &str, parts: &[Part<'_>]) -> usize
+    ensures { result ≡ count_by (is_named name.now) (map said parts.now) }
 {
+    let mut times = 0;
     let mut rest = parts;
     while let [part, behind @ ..] = rest {
         if is_named(name, *part) {
-            return has(name, behind);
+            times += 1;
         }
         rest = behind;
     }
-    false
+    times
 }
 
 /// The first value of an option of a name.
@@ -67,6 +70,22 @@ pub(crate) fn file_total(parts: &[Part<'_>]) -> usize
     while let [part, behind @ ..] = rest {
         if let Part::File(_) = *part {
             total += 1;
+        }
+        rest = behind;
+    }
+    total
+}
+
+/// How many of the files are standard input.
+pub(crate) fn input_total(parts: &[Part<'_>]) -> usize
+    ensures { result ≡ count_by (λ name. bytes_eq name (codes "-")) (files (map said parts.now)) }
+{
+    let mut total = 0;
+    let mut rest = parts;
+    while let [part, behind @ ..] = rest {
+        match *part {
+            Part::File(name) if name == STANDARD_INPUT => total += 1,
+            _ => {}
         }
         rest = behind;
     }

@@ -3,15 +3,15 @@
 ghost use Rattle.std.specs.Prelude.{◌≡◌, Some, None, if◌then◌else◌, codes, map, option_map, slice_get, MatchOption, IfOk};
 ghost use Rattle.std.specs.Option.{option_eq};
 ghost use Rattle.std.specs.Str.{bytes_eq};
-ghost use Rattle.invocation.specs.Files.{names_standard_input, reads_input_twice};
 ghost use Rattle.invocation.specs.declared.tasks.ListOrder.{ListOrder};
 ghost use Rattle.invocation.specs.declared.tasks.Order.{Order};
 ghost use Rattle.invocation.specs.declared.tasks.Request.{Request};
+ghost use Rattle.invocation.specs.declared.tasks.Request.TheVariants as request;
 ghost use Rattle.aigertext.specs.declared.forms.Form.TheVariants as form;
-ghost use Rattle.wordings.specs.Orders.{Says, SaysList, SaysListOf, SaysOf, SaysRequest, SaysRequestOf, command, has, value};
+ghost use Rattle.wordings.specs.Orders.{SaysList, SaysOrder, Says, SaysOf, command, has, value};
 ghost use Rattle.wordings.specs.Values.{said};
 
-use crate::contents::{file_at, has, value};
+use crate::contents::{file_at, has, input_total, value};
 use crate::parts::{Part, parts_of};
 use crate::table::{Verb, verb_of};
 use crate::taking::takes;
@@ -20,27 +20,6 @@ use aigertext::Form;
 use invocation::{ListOrder, Order, Request, STANDARD_INPUT, STANDARD_OUTPUT};
 use std::alloc::{AllocError, Global};
 use std::convert::AsStr;
-
-/// Whether there is a name of a file, and it stands for standard input.
-fn names_standard_input(name: Option<&str>) -> bool
-    ensures { result ≡ names_standard_input (option_map (λ name. name.now) name.entry) }
-{
-    match name {
-        Some(name) => name == STANDARD_INPUT,
-        None => false,
-    }
-}
-
-/// Whether two of the files of a command are standard input.
-fn reads_input_twice(first: &str, second: Option<&str>, third: Option<&str>) -> bool
-    ensures { result ≡ reads_input_twice first.now (option_map (λ name. name.now) second.entry)
-        (option_map (λ name. name.now) third.entry) }
-{
-    let one = first == STANDARD_INPUT;
-    let two = names_standard_input(second);
-    let three = names_standard_input(third);
-    (one && (two || three)) || (two && three)
-}
 
 /// The file that a result goes to, where it does not go to standard output.
 fn output<'a>(parts: &[Part<'a>]) -> Option<&'a str>
@@ -67,19 +46,14 @@ fn form(parts: &[Part<'_>]) -> Form
 
 /// The order that parts of a command say, if they say one.
 fn order_of<'a>(verb: Verb, parts: &[Part<'a>]) -> Option<Order<'a>>
-    ensures { MatchOption result ((o : Order) → ¬ SaysOf verb (map said parts.now) o)
-        (SaysOf verb (map said parts.now)) }
+    ensures { MatchOption result ((o : Order) → ¬ SaysOrder verb (map said parts.now) o)
+        (SaysOrder verb (map said parts.now)) }
 {
-    if !takes(verb, parts) {
+    if !takes(verb, parts) || input_total(parts) > 1 {
         return None;
     }
     let task = task_of(verb, parts)?;
     let first = file_at(parts, 0)?;
-    let second = file_at(parts, 1);
-    let third = file_at(parts, 2);
-    if reads_input_twice(first, second, third) {
-        return None;
-    }
     Some(Order {
         task,
         named: has("names", parts),
@@ -87,8 +61,8 @@ fn order_of<'a>(verb: Verb, parts: &[Part<'a>]) -> Option<Order<'a>>
         asked: asked(verb, parts),
         form: form(parts),
         first,
-        second,
-        third,
+        second: file_at(parts, 1),
+        third: file_at(parts, 2),
         output: output(parts),
         tells_progress: !has("quiet", parts),
     })
@@ -96,8 +70,8 @@ fn order_of<'a>(verb: Verb, parts: &[Part<'a>]) -> Option<Order<'a>>
 
 /// The list of judgements that parts of a command say, if they say one.
 fn list_of<'a>(verb: Verb, parts: &[Part<'a>]) -> Option<ListOrder<'a>>
-    ensures { MatchOption result ((l : ListOrder) → ¬ SaysListOf verb (map said parts.now) l)
-        (SaysListOf verb (map said parts.now)) }
+    ensures { MatchOption result ((l : ListOrder) → ¬ SaysList verb (map said parts.now) l)
+        (SaysList verb (map said parts.now)) }
 {
     if !takes(verb, parts) || verb != Verb::Judge {
         return None;
@@ -111,8 +85,8 @@ fn list_of<'a>(verb: Verb, parts: &[Part<'a>]) -> Option<ListOrder<'a>>
 
 /// What parts of a command ask for, if they ask for something.
 fn request_of<'a>(verb: Verb, parts: &[Part<'a>]) -> Option<Request<'a>>
-    ensures { MatchOption result ((r : Request) → ¬ SaysRequestOf verb (map said parts.now) r)
-        (SaysRequestOf verb (map said parts.now)) }
+    ensures { MatchOption result ((r : Request) → ¬ SaysOf verb (map said parts.now) r)
+        (SaysOf verb (map said parts.now)) }
 {
     match order_of(verb, parts) {
         Some(order) => Some(Request::One(order)),
@@ -152,8 +126,8 @@ pub fn order_said<'a, S: AsStr>(
     alloc: Global,
     words: &'a [S],
 ) -> Result<Option<Order<'a>>, AllocError>
-    ensures { IfOk result (λ found. MatchOption found ((o : Order) → ¬ Says (map S.text words.now) o)
-        (Says (map S.text words.now))) }
+    ensures { IfOk result (λ found. MatchOption found ((o : Order) → ¬ Says (map S.text words.now) (request.One o))
+        (λ order. Says (map S.text words.now) (request.One order))) }
 {
     match command_of(alloc, words)? {
         Some((verb, parts)) => Ok(order_of(verb, parts.as_slice())),
@@ -168,8 +142,8 @@ pub fn list_said<'a, S: AsStr>(
     alloc: Global,
     words: &'a [S],
 ) -> Result<Option<ListOrder<'a>>, AllocError>
-    ensures { IfOk result (λ found. MatchOption found ((l : ListOrder) → ¬ SaysList (map S.text words.now) l)
-        (SaysList (map S.text words.now))) }
+    ensures { IfOk result (λ found. MatchOption found ((l : ListOrder) → ¬ Says (map S.text words.now) (request.Many l))
+        (λ list. Says (map S.text words.now) (request.Many list))) }
 {
     match command_of(alloc, words)? {
         Some((verb, parts)) => Ok(list_of(verb, parts.as_slice())),
@@ -184,8 +158,8 @@ pub fn request_said<'a, S: AsStr>(
     alloc: Global,
     words: &'a [S],
 ) -> Result<Option<Request<'a>>, AllocError>
-    ensures { IfOk result (λ found. MatchOption found ((r : Request) → ¬ SaysRequest (map S.text words.now) r)
-        (SaysRequest (map S.text words.now))) }
+    ensures { IfOk result (λ found. MatchOption found ((r : Request) → ¬ Says (map S.text words.now) r)
+        (Says (map S.text words.now))) }
 {
     match command_of(alloc, words)? {
         Some((verb, parts)) => Ok(request_of(verb, parts.as_slice())),

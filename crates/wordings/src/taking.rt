@@ -1,15 +1,16 @@
 //! Which parts a command takes.
 
-ghost use Rattle.std.specs.Prelude.{◌≡◌, ◌≤◌, ℕ, List, MatchBool, is_some, length, map, nat_le};
+ghost use Rattle.std.specs.Prelude.{◌≡◌, ◌≤◌, ℕ, [], List, MatchBool, count_by, is_some, length, map, nat_le};
 ghost use Rattle.base.specs.Decimals.{number_of};
 ghost use Rattle.std.specs.List.{list_all, list_any};
 ghost use Rattle.std.specs.Option.{unwrap_or};
 ghost use Rattle.wordings.specs.declared.table.Kind.{Kind};
-ghost use Rattle.wordings.specs.Orders.{Takes, file_count, fits, is_twice};
+ghost use Rattle.wordings.specs.Orders.{Takes, fits, is_named};
+ghost use Rattle.wordings.specs.Parts.{a_file};
 ghost use Rattle.wordings.specs.Table.{words_of};
 ghost use Rattle.wordings.specs.Values.{said};
 
-use crate::contents::{file_total, has, is_twice};
+use crate::contents::{file_total, has, times};
 use crate::parts::Part;
 use crate::table::{Kind, Verb, Word, words_of};
 use base::decimal;
@@ -78,20 +79,21 @@ fn all_fit(verb: Verb, parts: &[Part<'_>]) -> bool
     true
 }
 
-/// Whether a flag or an option of some words is given twice.
-fn one_is_twice(words: &[Word], parts: &[Part<'_>]) -> bool
-    ensures { result ≡ list_any (λ (word : List ℕ × Kind). is_twice word.0 (map said parts.now))
+/// Whether each flag and each option of some words is given once at most.
+fn each_once(words: &[Word], parts: &[Part<'_>]) -> bool
+    ensures { result ≡ list_all (λ (word : List ℕ × Kind). nat_le (count_by (is_named word.0) (map said parts.now)) 1)
         (map (λ word. (word.name.now, word.kind)) words.now) }
 {
     match words.split_first() {
-        Some((word, behind)) => is_twice(word.name, parts) || one_is_twice(behind, parts),
-        None => false,
+        Some((word, behind)) => times(word.name, parts) <= 1 && each_once(behind, parts),
+        None => true,
     }
 }
 
 /// How many of some words are files.
 fn file_count(words: &[Word]) -> usize
-    ensures count { result ≡ file_count (map (λ word. (word.name.now, word.kind)) words.now) }
+    ensures count { result ≡ count_by (λ (word : List ℕ × Kind). fits [] word.1 [] (a_file []))
+        (map (λ word. (word.name.now, word.kind)) words.now) }
     ensures small { result ≤ length words.now }
 {
     match words.split_first() {
@@ -106,8 +108,8 @@ pub(crate) fn takes(verb: Verb, parts: &[Part<'_>]) -> bool
     ensures { MatchBool result (Takes verb (map said parts.now)) (¬ Takes verb (map said parts.now)) }
 {
     let known = all_fit(verb, parts);
-    let twice = one_is_twice(words_of(verb), parts);
+    let once = each_once(words_of(verb), parts);
     let counted = file_total(parts) == file_count(words_of(verb));
     let two_forms = has("ascii", parts) && has("binary", parts);
-    known && !twice && counted && !two_forms
+    known && once && counted && !two_forms
 }

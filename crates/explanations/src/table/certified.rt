@@ -1,22 +1,9 @@
 //! Refusals of proofs, invariants, certificates and witness circuits.
 
-ghost use Rattle.witness_circuits.specs.Faults.{test_name, test_number};
-ghost use Rattle.witness_circuits.specs.declared.fault.TestFault.{TestFault};
-ghost use Rattle.drup.specs.Faults.{clause_name, clause_number, formula_name, formula_number};
-ghost use Rattle.drup.specs.Printed.{proof_why_name, proof_why_number};
-ghost use Rattle.drup.specs.declared.fault.ClauseFault.{ClauseFault};
-ghost use Rattle.drup.specs.declared.fault.FormulaFault.{FormulaFault};
-ghost use Rattle.drup.specs.declared.why.Why.{Why};
-ghost use Rattle.explanations.specs.Explanations.{Has};
-ghost use Rattle.certificates.specs.Faults.{certificate_name, certificate_number, obligation_name, obligation_number, invariant_why_name as invariant_name, invariant_why_number as invariant_number};
-ghost use Rattle.certificates.specs.declared.certificate_fault.CertificateFault.TheVariants as certificate;
-ghost use Rattle.certificates.specs.declared.fault.ObligationFault.{ObligationFault};
-ghost use Rattle.certificates.specs.declared.why.InvariantWhy.{InvariantWhy};
-
 use super::Explanation;
 
 /// Of formulas, and proofs over them.
-const PROOFS: [Explanation; 9] = [
+pub(super) const PROOFS: [Explanation; 9] = [
     Explanation {
         number: 160,
         name: "NoMemory",
@@ -74,7 +61,7 @@ const PROOFS: [Explanation; 9] = [
 ];
 
 /// Of invariants, and certificates.
-const INVARIANTS: [Explanation; 19] = [
+pub(super) const INVARIANTS: [Explanation; 19] = [
     Explanation {
         number: 180,
         name: "BadInputs",
@@ -192,7 +179,7 @@ const INVARIANTS: [Explanation; 19] = [
 ];
 
 /// Of witness circuits.
-const WITNESS_CIRCUITS: [Explanation; 8] = [
+pub(super) const WITNESS_CIRCUITS: [Explanation; 8] = [
     Explanation {
         number: 210,
         name: "Justice",
@@ -242,33 +229,3 @@ const WITNESS_CIRCUITS: [Explanation; 8] = [
         remedy: "add memory",
     },
 ];
-
-/// The cases of formulas, and proofs over them.
-pub(super) fn proofs() -> &'static [Explanation]
-    ensures whys { (why : Why) → Has result.now (proof_why_number why) (proof_why_name why) }
-    ensures clauses { (fault : ClauseFault)
-        → Has result.now (clause_number fault) (clause_name fault) }
-    ensures formulas { (fault : FormulaFault)
-        → Has result.now (formula_number fault) (formula_name fault) }
-{
-    &PROOFS
-}
-
-/// The cases of invariants, and certificates.
-pub(super) fn invariants() -> &'static [Explanation]
-    ensures whys { (why : InvariantWhy)
-        → Has result.now (invariant_number why) (invariant_name why) }
-    ensures obligations { (fault : ObligationFault)
-        → Has result.now (obligation_number fault) (obligation_name fault) }
-    ensures device { Has result.now (certificate_number certificate.Device)
-        (certificate_name certificate.Device) }
-{
-    &INVARIANTS
-}
-
-/// The cases of witness circuits.
-pub(super) fn witness_circuits() -> &'static [Explanation]
-    ensures { (fault : TestFault) → Has result.now (test_number fault) (test_name fault) }
-{
-    &WITNESS_CIRCUITS
-}

@@ -1,23 +1,9 @@
 //! Refusals of circuits.
 
-ghost use Rattle.aiger.specs.Refusal.{circuit_fault_name, circuit_fault_number};
-ghost use Rattle.aigerlists.specs.Renumbering.{loose_fault_name, loose_fault_number};
-ghost use Rattle.aiger.specs.declared.fault.CircuitFault.{CircuitFault};
-ghost use Rattle.aigerlists.specs.declared.fault.LooseFault.{LooseFault};
-ghost use Rattle.aigertext.specs.Whys.{circuit_why_name, circuit_why_number};
-ghost use Rattle.aigertext.specs.declared.fault.Why.{Why};
-ghost use Rattle.explanations.specs.Explanations.{Has};
-ghost use Rattle.engine_form.specs.Faults.{engine_fault_name as engine_name, engine_fault_number as engine_number};
-ghost use Rattle.engine_form.specs.declared.fault.EngineFault.{EngineFault};
-ghost use Rattle.gates.specs.Faults.{gate_fault_name, gate_fault_number};
-ghost use Rattle.gates.specs.declared.fault.GateFault.{GateFault};
-ghost use Rattle.restore.specs.Faults.{restore_why_name as restore_name, restore_why_number as restore_number};
-ghost use Rattle.restore.specs.declared.fault.RestoreWhy.{RestoreWhy};
-
 use super::Explanation;
 
 /// Of gate makers.
-const GATES: [Explanation; 2] = [
+pub(super) const GATES: [Explanation; 2] = [
     Explanation {
         number: 80,
         name: "TooBig",
@@ -33,7 +19,7 @@ const GATES: [Explanation; 2] = [
 ];
 
 /// Of engine forms.
-const ENGINES: [Explanation; 6] = [
+pub(super) const ENGINES: [Explanation; 6] = [
     Explanation {
         number: 140,
         name: "Justice",
@@ -73,7 +59,7 @@ const ENGINES: [Explanation; 6] = [
 ];
 
 /// Of the calls of circuits.
-const CIRCUITS: [Explanation; 9] = [
+pub(super) const CIRCUITS: [Explanation; 9] = [
     Explanation {
         number: 40,
         name: "LiteralOutOfRange",
@@ -131,7 +117,7 @@ const CIRCUITS: [Explanation; 9] = [
 ];
 
 /// Of the texts of circuits.
-const TEXTS: [Explanation; 14] = [
+pub(super) const TEXTS: [Explanation; 14] = [
     Explanation {
         number: 60,
         name: "Device",
@@ -219,7 +205,7 @@ const TEXTS: [Explanation; 14] = [
 ];
 
 /// Of counterexamples over engine forms.
-const COUNTEREXAMPLES: [Explanation; 7] = [
+pub(super) const COUNTEREXAMPLES: [Explanation; 7] = [
     Explanation {
         number: 150,
         name: "NoFrame",
@@ -263,42 +249,3 @@ const COUNTEREXAMPLES: [Explanation; 7] = [
         remedy: "make room; keep the output open",
     },
 ];
-
-/// The cases of gate makers.
-pub(super) fn gates() -> &'static [Explanation]
-    ensures { (fault : GateFault) → Has result.now (gate_fault_number fault)
-        (gate_fault_name fault) }
-{
-    &GATES
-}
-
-/// The cases of engine forms.
-pub(super) fn engines() -> &'static [Explanation]
-    ensures { (fault : EngineFault) → Has result.now (engine_number fault) (engine_name fault) }
-{
-    &ENGINES
-}
-
-/// The cases of calls of circuits, and of the lists of a file.
-pub(super) fn calls() -> &'static [Explanation]
-    ensures circuits { (fault : CircuitFault)
-        → Has result.now (circuit_fault_number fault) (circuit_fault_name fault) }
-    ensures lists { (fault : LooseFault)
-        → Has result.now (loose_fault_number fault) (loose_fault_name fault) }
-{
-    &CIRCUITS
-}
-
-/// The cases of texts of circuits.
-pub(super) fn texts() -> &'static [Explanation]
-    ensures { (why : Why) → Has result.now (circuit_why_number why) (circuit_why_name why) }
-{
-    &TEXTS
-}
-
-/// The cases of counterexamples over engine forms.
-pub(super) fn counterexamples() -> &'static [Explanation]
-    ensures { (why : RestoreWhy) → Has result.now (restore_number why) (restore_name why) }
-{
-    &COUNTEREXAMPLES
-}

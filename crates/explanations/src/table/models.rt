@@ -1,18 +1,9 @@
 //! Refusals of models.
 
-ghost use Rattle.btor2.specs.Faults.{push_fault_name, push_fault_number, symbol_fault_name, symbol_fault_number};
-ghost use Rattle.btor2.specs.declared.fault.PushFault.{PushFault};
-ghost use Rattle.btor2.specs.declared.symbol.SymbolFault.{SymbolFault};
-ghost use Rattle.btor2text.specs.declared.fault.Why.{Why};
-ghost use Rattle.blast.specs.Faults.{convert_name, convert_number, lower_name, lower_number};
-ghost use Rattle.blast.specs.declared.fault.ConvertFault.{ConvertFault};
-ghost use Rattle.blast.specs.declared.fault.LowerFault.{LowerFault};
-ghost use Rattle.explanations.specs.Explanations.{Has, HasOwn};
-
 use super::Explanation;
 
 /// Of the texts of models.
-const TEXTS: [Explanation; 13] = [
+pub(super) const TEXTS: [Explanation; 13] = [
     Explanation {
         number: 29,
         name: "Device",
@@ -94,7 +85,7 @@ const TEXTS: [Explanation; 13] = [
 ];
 
 /// Of the items of a model.
-const ITEMS: [Explanation; 15] = [
+pub(super) const ITEMS: [Explanation; 15] = [
     Explanation {
         number: 12,
         name: "TooManyItems",
@@ -188,7 +179,7 @@ const ITEMS: [Explanation; 15] = [
 ];
 
 /// Of names.
-const NAMES: [Explanation; 2] = [
+pub(super) const NAMES: [Explanation; 2] = [
     Explanation {
         number: 16,
         name: "BadBytes",
@@ -204,7 +195,7 @@ const NAMES: [Explanation; 2] = [
 ];
 
 /// Of lowering.
-const LOWERING: [Explanation; 8] = [
+pub(super) const LOWERING: [Explanation; 8] = [
     Explanation {
         number: 95,
         name: "Read",
@@ -254,36 +245,3 @@ const LOWERING: [Explanation; 8] = [
         remedy: "make room; keep the output open",
     },
 ];
-
-/// The cases of texts, those aside that a push gives.
-pub(super) fn texts() -> &'static [Explanation]
-    ensures { (why : Why) → HasOwn result.now why }
-{
-    &TEXTS
-}
-
-/// The cases of items.
-pub(super) fn items() -> &'static [Explanation]
-    ensures { (fault : PushFault) → Has result.now (push_fault_number fault)
-        (push_fault_name fault) }
-{
-    &ITEMS
-}
-
-/// The cases of names.
-pub(super) fn names() -> &'static [Explanation]
-    ensures { (fault : SymbolFault)
-        → Has result.now (symbol_fault_number fault) (symbol_fault_name fault) }
-{
-    &NAMES
-}
-
-/// The cases of lowering.
-pub(super) fn lowering() -> &'static [Explanation]
-    ensures lowerings { (fault : LowerFault)
-        → Has result.now (lower_number fault) (lower_name fault) }
-    ensures conversions { (fault : ConvertFault)
-        → Has result.now (convert_number fault) (convert_name fault) }
-{
-    &LOWERING
-}

@@ -3,7 +3,7 @@
 use super::Explanation;
 
 /// What is met most.
-const OFTEN: [Explanation; 17] = [
+pub(super) const OFTEN: [Explanation; 17] = [
     Explanation {
         number: 20,
         name: "BadToken",
@@ -107,8 +107,3 @@ const OFTEN: [Explanation; 17] = [
         remedy: "as 28; in ABC `write_aiger` without `-u`",
     },
 ];
-
-/// The cases that are met most.
-pub(super) fn often() -> &'static [Explanation] {
-    &OFTEN
-}

@@ -1,23 +1,9 @@
 //! Refusals of witnesses.
 
-ghost use Rattle.explanations.specs.Explanations.{Has};
-ghost use Rattle.lift.specs.Answers.{lift_fault_name, lift_fault_number};
-ghost use Rattle.lift.specs.declared.fault.LiftFault.{LiftFault};
-ghost use Rattle.runs.specs.Faults.{new_name, new_number};
-ghost use Rattle.runs.specs.declared.fault.NewFault.{NewFault};
-ghost use Rattle.witness.specs.Answers.{judge_name, judge_number};
-ghost use Rattle.witness.specs.Printed.{why_number, why_name};
-ghost use Rattle.witness.specs.declared.fault.JudgeFault.{JudgeFault};
-ghost use Rattle.witness.specs.declared.why.Why.{Why};
-ghost use Rattle.tidy.specs.Answers.{tidy_fault_name as tidy_name, tidy_fault_number as tidy_number};
-ghost use Rattle.tidy.specs.declared.fault.TidyFault.{TidyFault};
-ghost use Rattle.vcd.specs.Answers.{wave_fault_name as wave_name, wave_fault_number as wave_number};
-ghost use Rattle.vcd.specs.declared.fault.WaveFault.{WaveFault};
-
 use super::Explanation;
 
 /// Of runs and judges.
-const RUNS: [Explanation; 4] = [
+pub(super) const RUNS: [Explanation; 4] = [
     Explanation {
         number: 70,
         name: "NoNext",
@@ -45,7 +31,7 @@ const RUNS: [Explanation; 4] = [
 ];
 
 /// Of witnesses.
-const WITNESSES: [Explanation; 13] = [
+pub(super) const WITNESSES: [Explanation; 13] = [
     Explanation {
         number: 120,
         name: "TooLong",
@@ -127,7 +113,7 @@ const WITNESSES: [Explanation; 13] = [
 ];
 
 /// Of witnesses of circuits.
-const BIT_WITNESSES: [Explanation; 6] = [
+pub(super) const BIT_WITNESSES: [Explanation; 6] = [
     Explanation {
         number: 110,
         name: "BadHeader",
@@ -167,7 +153,7 @@ const BIT_WITNESSES: [Explanation; 6] = [
 ];
 
 /// Of lifting.
-const LIFTING: [Explanation; 3] = [
+pub(super) const LIFTING: [Explanation; 3] = [
     Explanation {
         number: 132,
         name: "NoMemory",
@@ -189,7 +175,7 @@ const LIFTING: [Explanation; 3] = [
 ];
 
 /// Of dumps of witnesses.
-const DUMPS: [Explanation; 4] = [
+pub(super) const DUMPS: [Explanation; 4] = [
     Explanation {
         number: 70,
         name: "NoNext",
@@ -217,7 +203,7 @@ const DUMPS: [Explanation; 4] = [
 ];
 
 /// The cases of tidied witnesses.
-const TIDYING: [Explanation; 2] = [
+pub(super) const TIDYING: [Explanation; 2] = [
     Explanation {
         number: 200,
         name: "Read",
@@ -231,45 +217,3 @@ const TIDYING: [Explanation; 2] = [
         remedy: "make room; keep the output open",
     },
 ];
-
-/// The cases of runs and judges.
-pub(super) fn runs() -> &'static [Explanation]
-    ensures runs { (fault : NewFault) → Has result.now (new_number fault) (new_name fault) }
-    ensures judges { (fault : JudgeFault) → Has result.now (judge_number fault) (judge_name fault) }
-{
-    &RUNS
-}
-
-/// The cases of witnesses of models.
-pub(super) fn witness_texts() -> &'static [Explanation]
-    ensures { (why : Why) → Has result.now (why_number why) (why_name why) }
-{
-    &WITNESSES
-}
-
-/// The cases of witnesses of circuits.
-pub(super) fn bit_texts() -> &'static [Explanation] {
-    &BIT_WITNESSES
-}
-
-/// The cases of lifting.
-pub(super) fn lifting() -> &'static [Explanation]
-    ensures { (fault : LiftFault) → Has result.now (lift_fault_number fault)
-        (lift_fault_name fault) }
-{
-    &LIFTING
-}
-
-/// The cases of dumps of witnesses.
-pub(super) fn dumps() -> &'static [Explanation]
-    ensures { (fault : WaveFault) → Has result.now (wave_number fault) (wave_name fault) }
-{
-    &DUMPS
-}
-
-/// The cases of tidied witnesses.
-pub(super) fn tidying() -> &'static [Explanation]
-    ensures { (fault : TidyFault) → Has result.now (tidy_number fault) (tidy_name fault) }
-{
-    &TIDYING
-}

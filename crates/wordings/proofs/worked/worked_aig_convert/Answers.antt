@@ -12,10 +12,10 @@ returns-clause-says c = λ first is_first. record {
   first = ap (λ name. Some name) (sym is_first);
   second = refl;
   third = refl;
-  input = rw (is_first) refl;
+  input = refl;
   output = refl;
   progress = refl;
 }
 
 pub returns-clause-none : goal.returns-clause-none
-returns-clause-none c = λ o s. let bad : true ≡ false = s.takes.once in absurd cc
+returns-clause-none c = λ o s. let bad : false ≡ true = s.takes.once in absurd cc

@@ -12,13 +12,12 @@ returns-clause-says c = λ first second asked is_first is_second is_asked. recor
   first = ap (λ name. Some name) (sym is_first);
   second = ap (λ name. Some name) is_second;
   third = refl;
-  input = rw (is_first, is_second) refl;
+  input = refl;
   output = refl;
   progress = refl;
 }
 
 pub returns-clause-none : goal.returns-clause-none
 returns-clause-none c = λ o s.
-    let first : o.first.now ≡ codes "-" = cc s.first in
-    let bad : true ≡ false = rw (first, s.second) at s.input in
+    let bad : false ≡ true = s.input in
     absurd cc

@@ -12,7 +12,7 @@ returns-clause-says c = λ first second third is_first is_second is_third. recor
   first = ap (λ name. Some name) (sym is_first);
   second = ap (λ name. Some name) is_second;
   third = ap (λ name. Some name) is_third;
-  input = rw (is_first, is_second) refl;
+  input = refl;
   output = refl;
   progress = refl;
 }

@@ -12,7 +12,7 @@ returns-clause-says c = λ first second is_first is_second. record {
   first = ap (λ name. Some name) (sym is_first);
   second = ap (λ name. Some name) is_second;
   third = refl;
-  input = rw (is_first, is_second) refl;
+  input = refl;
   output = refl;
   progress = refl;
 }

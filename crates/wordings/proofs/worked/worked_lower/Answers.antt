@@ -12,7 +12,7 @@ returns-clause-says c = λ first output is_first is_output. record {
   first = ap (λ name. Some name) (sym is_first);
   second = refl;
   third = refl;
-  input = rw (is_first) refl;
+  input = refl;
   output = ap (λ name. Some name) is_output;
   progress = refl;
 }

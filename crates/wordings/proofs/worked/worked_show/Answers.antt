@@ -12,7 +12,7 @@ returns-clause-says c = λ first is_first. record {
   first = ap (λ name. Some name) (sym is_first);
   second = refl;
   third = refl;
-  input = rw (is_first) refl;
+  input = refl;
   output = refl;
   progress = refl;
 }
