@@ -11,6 +11,7 @@ functions that it changes are checked alone, by `rattle check --only`. A line fo
     types    it does not compile, as the edit says, with these words: a line `types: WORDS` in it
     sources  tests/sources.py tells it, as the edit says: a line `sources: WORDS` in it
     goal     by another goal: what a call requires, what a loop keeps
+    values   by what a function ensures, where its written proof finds another value
     written  only at a written proof, which may only be that it no longer fits
     PROVED   the contract says nothing against it
     BAD      it fits no text, names no function, or does not compile
@@ -43,6 +44,7 @@ REFUSED = {
     "types": "by types",
     "sources": "by tests/sources.py",
     "goal": "by another goal",
+    "values": "by what a function ensures, at a value of its written proof",
     "written": "only at a written proof",
 }
 OTHERS = {"PROVED": "proved", "BAD": "bad", "UNTOLD": "untold"}
@@ -51,6 +53,8 @@ BLOCK = re.compile(r"^(?:pub )?(impl|trait)\b([^{;]*)\{", re.M)
 # What the prover says of a goal that stays open, of a written answer that does not fit, and of a text that it cannot read.
 OPEN = re.compile(r"^note: \S+: it is not proved that (.*?)(?:;.*)?$", re.M)
 UNFIT = re.compile(r"^(?:\./)?(proofs/\S+): error: (.*)$", re.M)
+# Of such an answer, that it is of a clause, and that it does not name what the edit took away.
+OF_VALUES = re.compile(r"`returns[\w-]*`: (?!.*(?:has no field|not in scope|has no constructor|was not)).*")
 REFUSED_TEXT = re.compile(r"(?:\./)?src/\S+: error")
 UNREAD = re.compile(r"^(?:\./)?(?:src|specs)/\S+: error: (?!`).*$", re.M)
 
@@ -206,6 +210,8 @@ def judge(edit, running):
         return "ensures", names, f"it is not proved that {of_function[0]}"
     if goals:
         return "goal", names, f"it is not proved that {goals[0]}"
+    if unfit and OF_VALUES.match(unfit[2]):
+        return "values", names, f"{unfit[1]}: {unfit[2]}"
     return "written", names, f"{unfit[1]}: {unfit[2]}" if unfit else last
 
 

@@ -1,4 +1,4 @@
-use Rattle.std.proofs.Common.{◌≡◌, codes, Some, true, false, refl, sym, ap}
+use Rattle.std.proofs.Common.{◌≡◌, Some, true, false, refl, sym, ap}
 use Rattle.wordings.proofs.worked.worked_check_btor.Goals as goal
 
 pub returns-clause-says : goal.returns-clause-says

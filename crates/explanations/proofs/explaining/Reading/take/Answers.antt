@@ -1,6 +1,4 @@
-use Rattle.std.proofs.Common.{◌≡◌, ◌∷◌, ◌++◌, [], sym, ◌∙◌}
 use Rattle.std.specs.Str.Iter.{split_ascii_whitespace_text}
-use Rattle.explanations.specs.Explanations.{words_in}
 use Rattle.explanations.proofs.WordLemmas.{next_word, no_more}
 use Rattle.explanations.proofs.explaining.Reading.take.Goals as goal
 
