@@ -7,6 +7,7 @@ use Rattle.invocation.specs.declared.tasks.CertificateTask.TheVariants as certif
 use Rattle.invocation.specs.declared.tasks.CircuitTask.TheVariants as circuit
 use Rattle.invocation.specs.declared.tasks.ModelTask.TheVariants as model
 use Rattle.invocation.specs.declared.tasks.Order.{Order}
+use Rattle.invocation.specs.declared.tasks.Request.TheVariants as request
 use Rattle.invocation.specs.declared.tasks.Task.{Task}
 use Rattle.invocation.specs.declared.tasks.Task.TheVariants as task
 use Rattle.wordings.specs.Orders.{Says}
