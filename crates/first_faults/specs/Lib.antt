@@ -1,0 +1,4 @@
+pub mod Pieces
+pub mod Circuits
+pub mod Proofs
+pub mod BinaryProofs
