@@ -45,6 +45,13 @@ bits_across old m1 m2 new first more low width p a r in_first e1 e2 e3 below eno
     ap₂ (λ (i j : ℕ). concat_value i p.width j) (at_a ∙ from_first (width - own) (word_of g more)) at_p ∙ ap (λ (k : ℕ). concat_value (word_of g more % 2 ^ (width - own)) k (g first.id / 2 ^ low % 2 ^ own)) hp.wide
     ∙ sym (field_across first.width (word_of g more) (g first.id) low (width - own) width fits below all))
 
+-- bits of what is behind
+pub field_behind : (old new : List Item) (xs rest : List Node) (low inside width : ℕ) (r : Node) → AreNodes old xs → Extends old new → IsBehind xs low rest inside → Makes new width (λ g. word_of g rest / 2 ^ inside % 2 ^ width) r
+    → Makes new width (λ g. word_of g xs / 2 ^ low % 2 ^ width) r
+field_behind old new xs rest low inside width r in_xs e b h =
+    makes_same new width width (λ g. word_of g rest / 2 ^ inside % 2 ^ width) (λ g. word_of g xs / 2 ^ low % 2 ^ width) r h refl
+    (λ more state input g w states inputs frame. ap (λ (k : ℕ). k % 2 ^ width) (sym (later old new (λ g. word_of g xs / 2 ^ low ≡ word_of g rest / 2 ^ inside) e (behind_word old xs low rest inside in_xs b) more state input g w states inputs frame)))
+
 -- one node more is passed
 pub behind_more : (xs : List Node) (low : ℕ) (p : Node) (more : List Node) (inside : ℕ) → IsBehind xs low (p ∷ more) inside → p.width ≤ inside → IsBehind xs low more (inside - p.width)
 behind_more xs low p more inside b enough =

@@ -1,5 +1,5 @@
 -- How a model that grows is kept.
-use Rattle.std.proofs.Common.{◌≡◌, ℕ, zero, suc, ◌+◌, ◌<◌, ◌≤◌, ◌⊎◌, inl, inr, ⊎_elim, Bool, true, false, nat_le, le-leb, leb-true, List, [], ◌∷◌, ◌++◌, length, length-append, get_or, set, Some, None, refl, sym, ap, subst, ◌∙◌, arith}
+use Rattle.std.proofs.Common.{◌≡◌, ℕ, zero, suc, ◌+◌, ◌<◌, ◌≤◌, ◌⊎◌, inl, inr, ⊎_elim, Bool, true, false, nat_le, le-leb, leb-true, List, [], ◌∷◌, ◌++◌, length, length-append, get_or, set, Option, Some, None, refl, sym, ap, subst, ◌∙◌, arith}
 use Rattle.std.proofs.Math.ListN.{replicate}
 use Rattle.std.proofs.lemmas.Option.{none-some}
 use Rattle.std.proofs.lemmas.Bool.{ne_eqb}
@@ -9,9 +9,9 @@ use Rattle.btor2.specs.declared.fault.PushFault.{PushFault}
 use Rattle.btor2.specs.declared.fault.PushFault.TheVariants as fault
 use Rattle.btor2.specs.Items.{find_item, sort_width}
 use Rattle.btor2.specs.Check.{refusal, id_is_out_of_range, id_is_taken}
-use Rattle.btor2.specs.Worked.{line}
 use Rattle.btor2.proofs.AppendLemmas.{find_item-after, sort_width-append}
 use Rattle.pieces.specs.Kept.{IsKept, IsSound}
+use Rattle.pieces.specs.Lines.{named}
 
 -- a list with one element set has at each place that one, or what it had
 at_set : (xs : List ℕ) (i j a : ℕ) → (◌≡◌ {A = ℕ} (get_or (set xs i a) j 0) (get_or xs j 0)) ⊎ ((j ≡ i) × (◌≡◌ {A = ℕ} (get_or (set xs i a) j 0) a))
@@ -36,18 +36,18 @@ kept_new first least greatest =
     }
 
 -- with one more line, under the next id
-pub kept_pushed : (old new : List Item) (next : ℕ) (sorts : List ℕ) (b : Body) → IsKept old next sorts → new ≡ old ++ line next b ∷ [] → IsKept new (next + 1) sorts
-kept_pushed old new next sorts b h is =
-    let many : length new ≡ length old + 1 = ap length is ∙ length-append old (line next b ∷ []) in
+pub kept_pushed : (old new : List Item) (next : ℕ) (sorts : List ℕ) (symbol : Option (List ℕ)) (b : Body) → IsKept old next sorts → new ≡ old ++ named next symbol b ∷ [] → IsKept new (next + 1) sorts
+kept_pushed old new next sorts symbol b h is =
+    let many : length new ≡ length old + 1 = ap length is ∙ length-append old (named next symbol b ∷ []) in
     let enough = h.enough in
     let least = h.least in
     record {
       least = omega arith;
       enough = omega (arith, many, enough);
       free = λ id above.
-          let other : find_item (line next b ∷ []) id ≡ None = rw (ne_eqb id next (λ same. absurd (omega (arith, same, above)))) refl in
-          ap (λ (l : List Item). find_item l id) is ∙ find_item-after old (line next b ∷ []) id (h.free id (omega (arith, above))) ∙ other;
-      of_width = λ width some. ap (λ (l : List Item). sort_width l (get_or sorts width 0)) is ∙ sort_width-append old (line next b ∷ []) (get_or sorts width 0) width (h.of_width width some);
+          let other : find_item (named next symbol b ∷ []) id ≡ None = rw (ne_eqb id next (λ same. absurd (omega (arith, same, above)))) refl in
+          ap (λ (l : List Item). find_item l id) is ∙ find_item-after old (named next symbol b ∷ []) id (h.free id (omega (arith, above))) ∙ other;
+      of_width = λ width some. ap (λ (l : List Item). sort_width l (get_or sorts width 0)) is ∙ sort_width-append old (named next symbol b ∷ []) (get_or sorts width 0) width (h.of_width width some);
     }
 
 -- with a sort's id kept
@@ -73,14 +73,14 @@ not_le a b h = by (nat_le a b) refl
     by true e = absurd (omega (arith, leb-true a b e))
     by false e = refl
 
-pub accepted : (items : List Item) (next : ℕ) (sorts : List ℕ) (b : Body) → IsKept items next sorts → length items < 1048576 → IsSound items b → refusal items (line next b) ≡ None
+pub accepted : (items : List Item) (next : ℕ) (sorts : List ℕ) (symbol : Option (List ℕ)) (b : Body) → IsKept items next sorts → length items < 1048576 → IsSound items b → refusal items (named next symbol b) ≡ None
 unfolding refusal id_is_out_of_range id_is_taken IsSound
-accepted items next sorts b h few sound =
+accepted items next sorts symbol b h few sound =
     let enough = h.enough in
     rw (not_le 1048576 (length items) few, le-leb 1 next h.least, le-leb next 4294967295 (omega (arith, enough, few)), h.free next (omega arith)) sound
 
 -- so a push answers want of memory where it is not done
-pub refused_for_memory : (items : List Item) (next : ℕ) (sorts : List ℕ) (b : Body) (e : PushFault) → IsKept items next sorts → length items < 1048576 → IsSound items b
-    → (refusal items (line next b) ≡ Some e) ⊎ ((refusal items (line next b) ≡ None) × (e ≡ fault.NoMemory)) → e ≡ fault.NoMemory
-refused_for_memory items next sorts b e h few sound answer =
-    ⊎_elim (λ refused. absurd (none-some e (sym (accepted items next sorts b h few sound) ∙ refused))) (λ memory. memory.1) answer
+pub refused_for_memory : (items : List Item) (next : ℕ) (sorts : List ℕ) (symbol : Option (List ℕ)) (b : Body) (e : PushFault) → IsKept items next sorts → length items < 1048576 → IsSound items b
+    → (refusal items (named next symbol b) ≡ Some e) ⊎ ((refusal items (named next symbol b) ≡ None) × (e ≡ fault.NoMemory)) → e ≡ fault.NoMemory
+refused_for_memory items next sorts symbol b e h few sound answer =
+    ⊎_elim (λ refused. absurd (none-some e (sym (accepted items next sorts symbol b h few sound) ∙ refused))) (λ memory. memory.1) answer

@@ -124,7 +124,7 @@ width_in (x ∷ xs) (suc i) d = width_in xs i d
 pub same_at : (xs ys : List Node) (i : ℕ) (d : Node) → widths xs ≡ widths ys → (get_or xs i d).width ≡ (get_or ys i d).width
 same_at xs ys i d e = width_in xs i d ∙ ap (λ (l : List ℕ). get_or l i d.width) e ∙ sym (width_in ys i d)
 
-widths_take : (k : ℕ) (xs : List Node) → widths (take k xs) ≡ take k (widths xs)
+pub widths_take : (k : ℕ) (xs : List Node) → widths (take k xs) ≡ take k (widths xs)
 widths_take zero xs = refl
 widths_take (suc k) [] = refl
 widths_take (suc k) (x ∷ xs) = ap (λ (l : List ℕ). x.width ∷ l) (widths_take k xs)
@@ -186,6 +186,15 @@ pub cut_at : (size : ℕ) (xs : List Node) (i : ℕ) (d : Node) → i < length x
 cut_at size [] i d within h = absurd (omega (arith, within))
 cut_at size (x ∷ xs) zero d within h = cut_most size x.width (widths xs) h
 cut_at size (x ∷ xs) (suc i) d within h = cut_at size xs i d (omega (arith, within)) (cut_tail size x.width (widths xs) h)
+
+pub cut_taken : (size k : ℕ) (ws : List ℕ) → 1 ≤ size → IsCut size ws → IsCut size (take k ws)
+cut_taken size zero ws some h = tt
+cut_taken size (suc zero) [] some h = tt
+cut_taken size (suc (suc k)) [] some h = tt
+cut_taken size (suc zero) (w ∷ []) some h = h
+cut_taken size (suc (suc k)) (w ∷ []) some h = h
+cut_taken size (suc zero) (w ∷ v ∷ more) some h = let is = h.0 in (omega (arith, some, is), omega (arith, is))
+cut_taken size (suc (suc k)) (w ∷ v ∷ more) some h = (h.0, cut_taken size (suc k) (v ∷ more) some h.1)
 
 pub word_kept : (old new : List Item) (xs : List Node) → Extends old new → IsWord old xs → IsWord new xs
 word_kept old new xs e h = record { nodes = nodes_kept old new xs e h.nodes; cut = h.cut; some = h.some; few = h.few }

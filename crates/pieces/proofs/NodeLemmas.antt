@@ -1,32 +1,41 @@
 -- Nodes of a model that grows, and what their lines say.
-use Rattle.std.proofs.Common.{◌≡◌, ℕ, ◌+◌, ◌-◌, ◌/◌, ◌%◌, ◌^◌, ◌<◌, ◌≤◌, false, le-leb, lt-ltb, eq-eqb, List, [], ◌∷◌, ◌++◌, Option, Some, None, unwrap_or, append_assoc, append-nil, refl, sym, ap, subst, ◌∙◌}
+use Rattle.std.proofs.Common.{◌≡◌, ℕ, ◌+◌, ◌-◌, ◌/◌, ◌%◌, ◌^◌, ◌<◌, ◌≤◌, true, false, true≢false, le-leb, lt-ltb, eq-eqb, List, [], ◌∷◌, ◌++◌, Option, Some, None, Result, Ok, Err, IfOk, IfErr, option_and_then, unwrap_or, append_assoc, append-nil, refl, sym, ap, subst, ◌∙◌}
+use Rattle.std.specs.Option.{option_or}
+use Rattle.std.proofs.lemmas.Option.{none-some}
 use Rattle.base.specs.declared.operators.Unary.{Unary}
 use Rattle.base.specs.declared.operators.Binary.{Binary}
 use Rattle.base.specs.Widths.{unary_width, binary_width, is_of_bits}
-use Rattle.base.specs.Operator.{unary_value, binary_value, ite_value, concat_value}
+use Rattle.base.specs.Operator.{unary_value, binary_value, ite_value, sext_value, concat_value}
 use Rattle.btor2.specs.declared.item.Item.{Item}
 use Rattle.btor2.specs.declared.item.Body.{Body}
 use Rattle.btor2.specs.declared.item.Body.TheVariants as body
-use Rattle.btor2.specs.Items.{find_item, node_width, sort_width, sort_bits, width_of_body}
+use Rattle.btor2.specs.Items.{find_item, node_width, node_sort, sort_width, sort_bits, width_of_body, names_state, constant_word, constant_of_body, constant_of, init_value, init_for, next_value, next_for}
 use Rattle.btor2.specs.Check.{IsWellFormed, sort_is_missing, operand_is_missing, state_is_none, width_is_out_of_range, widths_differ, init_is_not_constant, is_second_init, is_second_next, slice_is_out_of_range, constant_does_not_fit, justice_is_empty}
 use Rattle.btor2.specs.Trace.{Frame, bits_of, LineHolds, IsFrame, IsInput, IsState}
 use Rattle.btor2.specs.Worked.{line}
-use Rattle.btor2.proofs.AppendLemmas.{node_width-append, sort_width-append, width_of_body-append, find_item-append, find_item-after, is_some_from}
+use Rattle.btor2.proofs.AppendLemmas.{names_state-append, constant_of_body-append, constant_of-append, node_width-append, sort_width-append, width_of_body-append, find_item-append, find_item-after, is_some_from}
 use Rattle.btor2.proofs.ModelLemmas.{find_item-own}
+use Rattle.btor2.proofs.ConstantLemmas.{init_value-after}
 use Rattle.btor2.proofs.TraceLemmas.{words_fit_frame}
 use Rattle.fit.specs.Gives.{InFrames}
 use Rattle.fit.proofs.LineLemmas.{line_found}
 use Rattle.pieces.specs.declared.node.Node.{Node}
 use Rattle.pieces.specs.Kept.{IsSound}
+use Rattle.pieces.specs.Lines.{ArePlain, is_plain, named, AddsSorted}
 use Rattle.pieces.specs.Nodes.{Extends, IsNode, Makes}
+use Rattle.pieces.specs.declared.shortage.Shortage.{Shortage}
 
 -- ---- a list that goes on
 
+plain_join : (xs ys : List Item) → ArePlain xs → ArePlain ys → ArePlain (xs ++ ys)
+plain_join [] ys h k = k
+plain_join (x ∷ xs) ys h k = (h.0, plain_join xs ys h.1 k)
+
 pub extends_same : (items : List Item) → Extends items items
-extends_same items = record { more = []; is = sym (append-nil items) }
+extends_same items = record { more = []; is = sym (append-nil items); plain = tt }
 
 pub extends_twice : (a b c : List Item) → Extends a b → Extends b c → Extends a c
-extends_twice a b c e d = record { more = e.more ++ d.more; is = d.is ∙ ap (λ (l : List Item). l ++ d.more) e.is ∙ append_assoc a e.more d.more }
+extends_twice a b c e d = record { more = e.more ++ d.more; is = d.is ∙ ap (λ (l : List Item). l ++ d.more) e.is ∙ append_assoc a e.more d.more; plain = plain_join e.more d.more e.plain d.plain }
 
 pub node_kept : (old new : List Item) (a : Node) → Extends old new → IsNode old a → IsNode new a
 node_kept old new a e h = ap (λ (l : List Item). node_width l a.id) e.is ∙ node_width-append old e.more a.id a.width h
@@ -96,6 +105,11 @@ made_slice mid new s id l u n a is fresh sort wide =
 pub made_uext : (mid new : List Item) (s id by n : ℕ) (a : Node) → new ≡ mid ++ line id (body.Uext s a.id by) ∷ [] → find_item mid id ≡ None → sort_width mid s ≡ Some n → Makes new n (λ g. g a.id) (record { id = id; width = n })
 made_uext mid new s id by n a is fresh sort = made mid new id n (body.Uext s a.id by) (λ g. g a.id) is fresh sort (λ more state input g h. h)
 
+pub made_sext : (mid new : List Item) (s id by n : ℕ) (a : Node) → new ≡ mid ++ line id (body.Sext s a.id by) ∷ [] → find_item mid id ≡ None → sort_width mid s ≡ Some n → IsNode mid a
+    → Makes new n (λ g. sext_value a.width (g a.id) by) (record { id = id; width = n })
+made_sext mid new s id by n a is fresh sort in_a =
+    made mid new id n (body.Sext s a.id by) (λ g. sext_value a.width (g a.id) by) is fresh sort (λ more state input g h. h ∙ ap (λ (k : ℕ). sext_value k (g a.id) by) (bits_later mid more a in_a))
+
 pub made_ite : (mid new : List Item) (s id : ℕ) (c t e : Node) → new ≡ mid ++ line id (body.Ite s c.id t.id e.id) ∷ [] → find_item mid id ≡ None → sort_width mid s ≡ Some t.width
     → Makes new t.width (λ g. ite_value (g c.id) (g t.id) (g e.id)) (record { id = id; width = t.width })
 made_ite mid new s id c t e is fresh sort = made mid new id t.width (body.Ite s c.id t.id e.id) (λ g. ite_value (g c.id) (g t.id) (g e.id)) is fresh sort (λ more state input g h. h)
@@ -105,6 +119,20 @@ made_zero mid new s id n is fresh sort = made mid new id n (body.Zero s) (λ g. 
 
 pub made_one : (mid new : List Item) (s id n : ℕ) → new ≡ mid ++ line id (body.One s) ∷ [] → find_item mid id ≡ None → sort_width mid s ≡ Some n → Makes new n (λ g. 1) (record { id = id; width = n })
 made_one mid new s id n is fresh sort = made mid new id n (body.One s) (λ g. 1) is fresh sort (λ more state input g h. h)
+
+pub made_constant : (mid new : List Item) (s id n d v : ℕ) → new ≡ mid ++ line id (body.Const s d v) ∷ [] → find_item mid id ≡ None → sort_width mid s ≡ Some n → Makes new n (λ g. v) (record { id = id; width = n })
+made_constant mid new s id n d v is fresh sort = made mid new id n (body.Const s d v) (λ g. v) is fresh sort (λ more state input g h. h)
+
+pub constant_put : (mid new : List Item) (s id n d v : ℕ) → new ≡ mid ++ line id (body.Const s d v) ∷ [] → find_item mid id ≡ None → sort_width mid s ≡ Some n → constant_of new id ≡ Some v
+constant_put mid new s id n d v is fresh sort =
+    ap (λ (l : List Item). constant_of l id) is ∙ ap (λ (o : Option Item). by o) (found_last mid id (body.Const s d v) fresh) ∙ constant_of_body-append mid (line id (body.Const s d v) ∷ []) (body.Const s d v) v own
+  where
+    by : Option Item → Option ℕ
+    by None = None
+    by (Some x) = constant_of_body (mid ++ line id (body.Const s d v) ∷ []) x.body
+
+    own : constant_of_body mid (body.Const s d v) ≡ Some v
+    own = ap (λ (o : Option ℕ). option_and_then (λ w. constant_word w (body.Const s d v)) o) sort
 
 -- a sort that was put
 pub sort_put : (mid new : List Item) (id n : ℕ) → new ≡ mid ++ line id (body.Sort n) ∷ [] → find_item mid id ≡ None → sort_width new id ≡ Some n
@@ -140,6 +168,10 @@ pub sound_uext : (items : List Item) (s by n : ℕ) (a : Node) → n ≡ a.width
 unfolding IsSound sort_is_missing operand_is_missing state_is_none width_is_out_of_range slice_is_out_of_range widths_differ constant_does_not_fit init_is_not_constant is_second_init is_second_next justice_is_empty
 sound_uext items s by n a wide sort in_a = rw (sort, in_a, eq-eqb n (a.width + by) wide) refl
 
+pub sound_sext : (items : List Item) (s by n : ℕ) (a : Node) → n ≡ a.width + by → sort_width items s ≡ Some n → IsNode items a → IsSound items (body.Sext s a.id by)
+unfolding IsSound sort_is_missing operand_is_missing state_is_none width_is_out_of_range slice_is_out_of_range widths_differ constant_does_not_fit init_is_not_constant is_second_init is_second_next justice_is_empty
+sound_sext items s by n a wide sort in_a = rw (sort, in_a, eq-eqb n (a.width + by) wide) refl
+
 pub sound_ite : (items : List Item) (s : ℕ) (c t e : Node) → c.width ≡ 1 → t.width ≡ e.width → sort_width items s ≡ Some t.width → IsNode items c → IsNode items t → IsNode items e → IsSound items (body.Ite s c.id t.id e.id)
 unfolding IsSound sort_is_missing operand_is_missing state_is_none width_is_out_of_range slice_is_out_of_range widths_differ constant_does_not_fit init_is_not_constant is_second_init is_second_next justice_is_empty
 sound_ite items s c t e bit same sort in_c in_t in_e = rw (sort, in_c, in_t, in_e, eq-eqb c.width 1 bit, eq-eqb t.width t.width refl, eq-eqb t.width e.width same) refl
@@ -151,6 +183,104 @@ sound_zero items s n sort = rw sort refl
 pub sound_one : (items : List Item) (s n : ℕ) → sort_width items s ≡ Some n → IsSound items (body.One s)
 unfolding IsSound sort_is_missing operand_is_missing state_is_none width_is_out_of_range slice_is_out_of_range widths_differ constant_does_not_fit init_is_not_constant is_second_init is_second_next justice_is_empty
 sound_one items s n sort = rw sort refl
+
+pub sound_constant : (items : List Item) (s n v : ℕ) → v < 2 ^ n → sort_width items s ≡ Some n → IsSound items (body.Const s n v)
+unfolding IsSound sort_is_missing operand_is_missing state_is_none width_is_out_of_range slice_is_out_of_range widths_differ constant_does_not_fit init_is_not_constant is_second_init is_second_next justice_is_empty
+sound_constant items s n v fits sort = rw (sort, eq-eqb n n refl, lt-ltb v (2 ^ n) fits) refl
+
+pub sound_input : (items : List Item) (s n : ℕ) → sort_width items s ≡ Some n → IsSound items (body.Input s)
+unfolding IsSound sort_is_missing operand_is_missing state_is_none width_is_out_of_range slice_is_out_of_range widths_differ constant_does_not_fit init_is_not_constant is_second_init is_second_next justice_is_empty
+sound_input items s n sort = rw sort refl
+
+pub sound_state : (items : List Item) (s n : ℕ) → sort_width items s ≡ Some n → IsSound items (body.State s)
+unfolding IsSound sort_is_missing operand_is_missing state_is_none width_is_out_of_range slice_is_out_of_range widths_differ constant_does_not_fit init_is_not_constant is_second_init is_second_next justice_is_empty
+sound_state items s n sort = rw sort refl
+
+pub sound_init : (items : List Item) (s w : ℕ) (t v : Node) → t.width ≡ v.width → names_state items t.id ≡ true → constant_of items v.id ≡ Some w → init_value items t.id ≡ None → sort_width items s ≡ Some t.width → IsNode items t → IsNode items v
+    → IsSound items (body.Init s t.id v.id)
+unfolding IsSound sort_is_missing operand_is_missing state_is_none width_is_out_of_range slice_is_out_of_range widths_differ constant_does_not_fit init_is_not_constant is_second_init is_second_next justice_is_empty
+sound_init items s w t v same is constant first sort in_t in_v = rw (is, constant, first, sort, in_t, in_v, eq-eqb t.width t.width refl, eq-eqb t.width v.width same) refl
+
+pub sound_next : (items : List Item) (s : ℕ) (t v : Node) → t.width ≡ v.width → names_state items t.id ≡ true → next_value items t.id ≡ None → sort_width items s ≡ Some t.width → IsNode items t → IsNode items v
+    → IsSound items (body.Next s t.id v.id)
+unfolding IsSound sort_is_missing operand_is_missing state_is_none width_is_out_of_range slice_is_out_of_range widths_differ constant_does_not_fit init_is_not_constant is_second_init is_second_next justice_is_empty
+sound_next items s t v same is first sort in_t in_v = rw (is, first, sort, in_t, in_v, eq-eqb t.width t.width refl, eq-eqb t.width v.width same) refl
+
+pub sound_bad : (items : List Item) (a : Node) → a.width ≡ 1 → IsNode items a → IsSound items (body.Bad a.id)
+unfolding IsSound sort_is_missing operand_is_missing state_is_none width_is_out_of_range slice_is_out_of_range widths_differ constant_does_not_fit init_is_not_constant is_second_init is_second_next justice_is_empty
+sound_bad items a bit in_a = rw (in_a, eq-eqb a.width 1 bit) refl
+
+pub sound_constraint : (items : List Item) (a : Node) → a.width ≡ 1 → IsNode items a → IsSound items (body.Constraint a.id)
+unfolding IsSound sort_is_missing operand_is_missing state_is_none width_is_out_of_range slice_is_out_of_range widths_differ constant_does_not_fit init_is_not_constant is_second_init is_second_next justice_is_empty
+sound_constraint items a bit in_a = rw (in_a, eq-eqb a.width 1 bit) refl
+
+pub sound_output : (items : List Item) (a : Node) → IsNode items a → IsSound items (body.Output a.id)
+unfolding IsSound sort_is_missing operand_is_missing state_is_none width_is_out_of_range slice_is_out_of_range widths_differ constant_does_not_fit init_is_not_constant is_second_init is_second_next justice_is_empty
+sound_output items a in_a = rw in_a refl
+
+-- ---- lines of a model
+
+pub put_extends : (old new : List Item) (b : Body) (r : Result ℕ Shortage) → is_plain b ≡ true → IfOk r (λ id. (new ≡ old ++ line id b ∷ []) × (find_item old id ≡ None)) → IfErr r (λ e. new ≡ old) → Extends old new
+put_extends old new b (Ok id) plain made none = record { more = line id b ∷ []; is = made.0; plain = (plain, tt) }
+put_extends old new b (Err e) plain made none = subst (Extends old) (sym none) (extends_same old)
+
+-- a line that names a sort, which was made where there was none
+pub added_sorted : (old mid new : List Item) (id n s : ℕ) (symbol : Option (List ℕ)) (of : ℕ → Body) → Extends old mid → sort_width mid s ≡ Some n → new ≡ mid ++ named id symbol (of s) ∷ [] → AddsSorted old new id n symbol of
+added_sorted old mid new id n s symbol of e sort is =
+    record {
+      sort = s;
+      wide = ap (λ (l : List Item). sort_width l s) is ∙ sort_width-append mid (named id symbol (of s) ∷ []) s n sort;
+      adds = record { more = e.more; plain = e.plain; is = is ∙ ap (λ (l : List Item). l ++ named id symbol (of s) ∷ []) e.is };
+    }
+
+-- a leaf
+pub leaf_node : (mid new : List Item) (id n s : ℕ) (symbol : Option (List ℕ)) (b : Body) → node_sort b ≡ Some s → sort_width mid s ≡ Some n → find_item mid id ≡ None → new ≡ mid ++ named id symbol b ∷ [] → IsNode new (record { id = id; width = n })
+leaf_node mid new id n s symbol b names sort fresh is =
+    ap (λ (l : List Item). node_width l id) is ∙ ap (λ (o : Option Item). by o) found ∙ width_of_body-append mid (named id symbol b ∷ []) b n (ap (λ (o : Option ℕ). option_and_then (sort_width mid) o) names ∙ sort)
+  where
+    by : Option Item → Option ℕ
+    by None = None
+    by (Some x) = width_of_body (mid ++ named id symbol b ∷ []) x.body
+
+    found : find_item (mid ++ named id symbol b ∷ []) id ≡ Some (named id symbol b)
+    found = find_item-after mid (named id symbol b ∷ []) id fresh ∙ find_item-own (named id symbol b) []
+
+-- what was said of a state stands where plain lines follow
+plain_init : (id : ℕ) (b : Body) → is_plain b ≡ true → init_for id b ≡ None
+plain_init id (body.Init s t v) h = absurd (true≢false (sym h))
+plain_init id _ h = refl
+
+plain_inits : (xs : List Item) (id : ℕ) → ArePlain xs → init_value xs id ≡ None
+plain_inits [] id h = refl
+plain_inits (x ∷ xs) id h = rw (plain_init id x.body h.0) (plain_inits xs id h.1)
+
+plain_next : (id : ℕ) (b : Body) → is_plain b ≡ true → next_for id b ≡ None
+plain_next id (body.Next s t v) h = absurd (true≢false (sym h))
+plain_next id _ h = refl
+
+plain_nexts : (xs : List Item) (id : ℕ) → ArePlain xs → next_value xs id ≡ None
+plain_nexts [] id h = refl
+plain_nexts (x ∷ xs) id h = rw (plain_next id x.body h.0) (plain_nexts xs id h.1)
+
+next_value-after : (before more : List Item) (id : ℕ) → next_value before id ≡ None → next_value (before ++ more) id ≡ next_value more id
+next_value-after [] more id h = refl
+next_value-after (x ∷ xs) more id h = by (next_for id x.body) (next_value-after xs more id) h
+  where
+    by : (o : Option ℕ) → (next_value xs id ≡ None → next_value (xs ++ more) id ≡ next_value more id) → option_or o (next_value xs id) ≡ None → option_or o (next_value (xs ++ more) id) ≡ next_value more id
+    by None rest e = rest e
+    by (Some v) rest e = absurd (none-some v (sym e))
+
+pub init_none : (old new : List Item) (id : ℕ) → Extends old new → init_value old id ≡ None → init_value new id ≡ None
+init_none old new id e h = ap (λ (l : List Item). init_value l id) e.is ∙ init_value-after old e.more id h ∙ plain_inits e.more id e.plain
+
+pub next_none : (old new : List Item) (id : ℕ) → Extends old new → next_value old id ≡ None → next_value new id ≡ None
+next_none old new id e h = ap (λ (l : List Item). next_value l id) e.is ∙ next_value-after old e.more id h ∙ plain_nexts e.more id e.plain
+
+pub state_kept : (old new : List Item) (id : ℕ) → Extends old new → names_state old id ≡ true → names_state new id ≡ true
+state_kept old new id e h = ap (λ (l : List Item). names_state l id) e.is ∙ names_state-append old e.more id h
+
+pub constant_kept : (old new : List Item) (id w : ℕ) → Extends old new → constant_of old id ≡ Some w → constant_of new id ≡ Some w
+constant_kept old new id w e h = ap (λ (l : List Item). constant_of l id) e.is ∙ constant_of-append old e.more id w h
 
 -- ---- what holds in frames, put together
 

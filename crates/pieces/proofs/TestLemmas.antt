@@ -1,7 +1,7 @@
 -- What is asked of words that are cut in two, of which the high sides x and y have m bits and the low sides A and B n bits.
-use Rattle.std.proofs.Common.{◌≡◌, ℕ, ◌+◌, ◌*◌, ◌^◌, ◌<◌, ◌≤◌, Bool, true, false, not, ◌&&◌, ◌==◌, bit_and, bit_or, eq-eqb, eqb-true, true≢false, List, [], ◌∷◌, ◌++◌, length, get_or, take, refl, sym, ap, ap₂, subst, subst₂, ◌∙◌, arith, pow_pos}
+use Rattle.std.proofs.Common.{◌≡◌, ℕ, zero, suc, ◌+◌, ◌*◌, ◌%◌, ◌^◌, ◌<◌, ◌≤◌, Bool, true, false, not, ◌&&◌, ◌==◌, bit_and, bit_or, bit_xor, count_ones, eq-eqb, eqb-true, true≢false, List, [], ◌∷◌, ◌++◌, length, get_or, take, refl, sym, ap, ap₂, subst, subst₂, ◌∙◌, arith, pow_pos}
 use Rattle.std.proofs.lemmas.Bool.{ne_eqb}
-use Rattle.std.proofs.lemmas.Nat.{same_from_place, pow-add}
+use Rattle.std.proofs.lemmas.Nat.{same_from_place, pow-add, ones_cat, mod_below}
 use Rattle.base.specs.Widths.{binary_width, is_of_bits}
 use Rattle.base.specs.Word.{bit_number}
 use Rattle.base.specs.Operator.{ones, binary_value, concat_value}
@@ -41,13 +41,27 @@ either true false = refl
 either false true = refl
 either false false = refl
 
-ones_pieces : (m n : ℕ) → ones (m + n) ≡ concat_value (ones m) n (ones n)
+pub ones_pieces : (m n : ℕ) → ones (m + n) ≡ concat_value (ones m) n (ones n)
 ones_pieces m n =
     let high : ones m + 1 ≡ 2 ^ m = omega (arith, pow_pos m) in
     omega (arith, pow-add 2 m n, ap (λ k. k * 2 ^ n) high, pow_pos n)
 
-zero_pieces : (n : ℕ) → 0 ≡ concat_value 0 n 0
+pub zero_pieces : (n : ℕ) → 0 ≡ concat_value 0 n 0
 zero_pieces n = omega arith
+
+-- one of two bits, or both, is odd as their sum is
+odd_sum : (p q : ℕ) → p < 2 → q < 2 → bit_xor p q ≡ (p + q) % 2
+odd_sum zero zero h k = refl
+odd_sum zero (suc zero) h k = refl
+odd_sum (suc zero) zero h k = refl
+odd_sum (suc zero) (suc zero) h k = refl
+odd_sum zero (suc (suc q)) h k = absurd (omega (arith, k))
+odd_sum (suc zero) (suc (suc q)) h k = absurd (omega (arith, k))
+odd_sum (suc (suc p)) q h k = absurd (omega (arith, h))
+
+odd_pieces : (n x A : ℕ) → A < 2 ^ n → bit_xor (count_ones A % 2) (count_ones x % 2) ≡ count_ones (concat_value x n A) % 2
+odd_pieces n x A h =
+    odd_sum (count_ones A % 2) (count_ones x % 2) (mod_below (count_ones A) 2 (omega arith)) (mod_below (count_ones x) 2 (omega arith)) ∙ omega (arith, ones_cat n x A h)
 
 test_pieces : (by : Test) (m n x y A B : ℕ) → x < 2 ^ m → A < 2 ^ n → B < 2 ^ n
     → binary_value (join_of by) 1 (test_value by n A B) (test_value by m x y) ≡ test_value by (m + n) (concat_value x n A) (concat_value y n B)
@@ -57,6 +71,7 @@ test_pieces test.All m n x y A B f h k =
     sym (ap (λ (i : ℕ). bit_number (concat_value x n A == i)) (ones_pieces m n) ∙ ap bit_number (eq_pieces n x (ones m) A (ones n) h (omega (arith, pow_pos n))) ∙ both (A == ones n) (x == ones m))
 test_pieces test.Any m n x y A B f h k =
     sym (ap (λ (i : ℕ). bit_number (not (concat_value x n A == i))) (zero_pieces n) ∙ ap (λ (t : Bool). bit_number (not t)) (eq_pieces n x 0 A 0 h (pow_pos n)) ∙ either (A == 0) (x == 0))
+test_pieces test.Odd m n x y A B f h k = odd_pieces n x A h
 
 -- ---- one node more
 
@@ -65,12 +80,14 @@ join_width test.Same = refl
 join_width test.Other = refl
 join_width test.All = refl
 join_width test.Any = refl
+join_width test.Odd = refl
 
 pub join_of_words : (by : Test) → is_of_bits (join_of by) ≡ false
 join_of_words test.Same = refl
 join_of_words test.Other = refl
 join_of_words test.All = refl
 join_of_words test.Any = refl
+join_of_words test.Odd = refl
 
 pub answer_first : (old new : List Item) (by : Test) (xs ys : List Node) (d e r : Node) → 1 ≤ length xs → widths xs ≡ widths ys → Makes new 1 (λ g. test_value by (get_or xs 0 d).width (g (get_or xs 0 d).id) (g (get_or ys 0 e).id)) r
     → Makes new 1 (λ g. test_value by (bits_in (take 1 xs)) (word_of g (take 1 xs)) (word_of g (take 1 ys))) r

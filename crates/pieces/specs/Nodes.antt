@@ -6,6 +6,7 @@ use Rattle.btor2.specs.declared.item.Item.{Item}
 use Rattle.btor2.specs.Items.{node_width}
 use Rattle.btor2.specs.Trace.{Frame}
 use Rattle.fit.specs.Gives.{InFrames}
+use Rattle.pieces.specs.Lines.{ArePlain}
 use Rattle.pieces.specs.declared.node.Node.{Node}
 
 -- the word that nodes make in a frame, and how many bits they have together
@@ -28,10 +29,11 @@ AreNodes items ps = AllByRecursion (IsNode items) ps
 abbrev pub HaveBits : List Node → Type 0
 HaveBits ps = AllByRecursion (λ (p : Node). (1 ≤ p.width) × (p.width ≤ 64)) ps
 
--- a list goes on where another ends
+-- a list goes on where another ends, by sorts, constants and operators
 pub record Extends (old new : List Item) : Type 0 where
   pub more : List Item
   pub is : new ≡ old ++ more
+  pub plain : ArePlain more
 
 -- a node of a list has so many bits, and in each frame of each model that goes on from there the word that is a value of the frame
 pub record Makes (items : List Item) (width : ℕ) (value : Frame → ℕ) (r : Node) : Type 0 where

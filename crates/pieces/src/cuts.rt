@@ -84,6 +84,26 @@ fn bits(maker: &mut Maker, nodes: &[Node], low: u64, width: u64) -> Result<Node,
     maker.concat(above, own_part)
 }
 
+/// Bits of nodes one above the other, from a bit on, as one node.
+pub(crate) fn field(
+    maker: &mut Maker,
+    nodes: &[Node],
+    low: u64,
+    width: u64,
+) -> Result<Node, Shortage>
+    requires nodes { AreNodes maker.old nodes.now }
+    requires some { 1 ≤ width }
+    requires most { width ≤ 64 }
+    requires within { low + width ≤ bits_in nodes.now }
+    ensures node { IfOk result (Makes maker.new width
+        (λ g. word_of g nodes.now / 2 ^ low % 2 ^ width)) }
+    ensures extends { Extends maker.old maker.new }
+    ensures short { IfErr result (IsShort maker.new) }
+{
+    let (rest, inside) = skip(nodes, low);
+    bits(maker, rest, inside, width)
+}
+
 /// The word that `width` bits of nodes one above the other are, from the bit `low` on, in nodes of `size` bits each but for the
 /// highest. Nothing is added for whole nodes.
 pub fn cut(

@@ -1,18 +1,20 @@
 //! A model that grows by lines under new ids.
-ghost use Rattle.std.specs.Prelude.{◌≡◌, ◌+◌, ◌/◌, ◌%◌, ◌^◌, ◌≤◌, false, [], ◌∷◌, ◌++◌, Some, None, IfOk, IfErr};
+ghost use Rattle.std.specs.Prelude.{◌≡◌, ◌+◌, ◌-◌, ◌/◌, ◌%◌, ◌^◌, ◌<◌, ◌≤◌, true, false, is_some, [], ◌∷◌, ◌++◌, Some, None, IfOk, IfErr};
 ghost use Rattle.base.specs.Widths.{unary_width, binary_width, is_of_bits};
-ghost use Rattle.base.specs.Operator.{unary_value, binary_value, ite_value, concat_value};
+ghost use Rattle.base.specs.Operator.{unary_value, binary_value, ite_value, sext_value, concat_value};
 ghost use Rattle.btor2.specs.declared.fault.PushFault.TheVariants as fault;
 ghost use Rattle.pieces.specs.declared.shortage.Shortage.TheVariants as shortage;
-ghost use Rattle.btor2.specs.Items.{find_item, sort_width};
+ghost use Rattle.btor2.specs.declared.item.Body.TheVariants as body;
+ghost use Rattle.btor2.specs.Items.{find_item, sort_width, names_state, constant_of, init_value, next_value};
 ghost use Rattle.btor2.specs.Worked.{line};
 ghost use Rattle.pieces.specs.Kept.{IsSound, IsShort};
+ghost use Rattle.pieces.specs.Lines.{is_plain, named, AddsSorted};
 ghost use Rattle.pieces.specs.Nodes.{AreNodes, Extends, HaveBits, IsNode, Makes};
 
 use crate::node::Node;
 use crate::shortage::Shortage;
 use base::{Binary, Unary};
-use btor2::{Body, Item, Model, PushFault};
+use btor2::{Body, Item, Model, PushFault, Symbol};
 use std::alloc::Global;
 
 /// The greatest number of items of a model.
@@ -75,12 +77,12 @@ impl Maker {
         &self.model
     }
 
-    /// Adds a line that no row but the number of items may refuse. Answers its id.
-    fn put(&mut self, body: Body) -> Result<u32, Shortage>
+    /// Adds a line that no row but the number of items may refuse, with a name or without. Answers its id.
+    fn tell(&mut self, symbol: Option<Symbol>, body: Body) -> Result<u32, Shortage>
         requires sound { IsSound self.old body }
-        ensures line { IfOk result (λ id. (self.new ≡ self.old ++ line id body ∷ [])
+        ensures line { IfOk result (λ id. (self.new ≡ self.old ++ named id symbol body ∷ [])
             × (find_item self.old id ≡ None)) }
-        ensures extends { Extends self.old self.new }
+        ensures stands { IfErr result (λ e. self.new ≡ self.old) }
         ensures short { IfErr result (IsShort self.new) }
     {
         if self.model.items().len() >= MOST_ITEMS {
@@ -89,7 +91,7 @@ impl Maker {
         let id = self.next as u32;
         let item = Item {
             id: self.next,
-            symbol: None,
+            symbol,
             body,
         };
         match self.model.push(item) {
@@ -99,6 +101,18 @@ impl Maker {
             }
             Err(fault) => Err(wanting(fault)),
         }
+    }
+
+    /// Adds a sort, a constant or an operator. Answers its id.
+    fn put(&mut self, body: Body) -> Result<u32, Shortage>
+        requires sound { IsSound self.old body }
+        requires plain { is_plain body ≡ true }
+        ensures line { IfOk result (λ id. (self.new ≡ self.old ++ line id body ∷ [])
+            × (find_item self.old id ≡ None)) }
+        ensures extends { Extends self.old self.new }
+        ensures short { IfErr result (IsShort self.new) }
+    {
+        self.tell(None, body)
     }
 
     /// The id of a sort of so many bits, which is made where there is none yet.
@@ -240,6 +254,27 @@ impl Maker {
         Ok(Node { id, width })
     }
 
+    /// The node of a node before which its highest bit stands, so that it has `width` bits.
+    pub fn sext(&mut self, a: Node, width: u64) -> Result<Node, Shortage>
+        requires a { IsNode self.old a }
+        requires least { a.width ≤ width }
+        requires most { width ≤ 64 }
+        ensures node { IfOk result (Makes self.new width
+            (λ g. sext_value a.width (g a.id) (width - a.width))) }
+        ensures extends { Extends self.old self.new }
+        ensures short { IfErr result (IsShort self.new) }
+    {
+        self.know(a);
+        let by = width - a.width;
+        let sort = self.sort(width)?;
+        let id = self.put(Body::Sext {
+            sort,
+            operand: a.id,
+            by,
+        })?;
+        Ok(Node { id, width })
+    }
+
     /// The node of the first operand where the condition, of one bit, is 1, else of the second.
     pub fn ite(&mut self, condition: Node, first: Node, second: Node) -> Result<Node, Shortage>
         requires condition { IsNode self.old condition }
@@ -288,5 +323,143 @@ impl Maker {
         let sort = self.sort(width)?;
         let id = self.put(Body::One { sort })?;
         Ok(Node { id, width })
+    }
+
+    /// The node of a word.
+    ///
+    /// Condition: it has at most `width` bits.
+    pub fn constant(&mut self, width: u64, value: u64) -> Result<Node, Shortage>
+        requires least { 1 ≤ width }
+        requires most { width ≤ 64 }
+        requires fits { value < 2 ^ width }
+        ensures node { IfOk result (Makes self.new width (λ g. value)) }
+        ensures constant { IfOk result (λ r. constant_of self.new r.id ≡ Some value) }
+        ensures extends { Extends self.old self.new }
+        ensures short { IfErr result (IsShort self.new) }
+    {
+        let sort = self.sort(width)?;
+        let id = self.put(Body::Const {
+            sort,
+            digits: width as u32,
+            value,
+        })?;
+        Ok(Node { id, width })
+    }
+
+    /// An input of so many bits, with a name or without.
+    pub fn input(&mut self, symbol: Option<Symbol>, width: u64) -> Result<Node, Shortage>
+        requires least { 1 ≤ width }
+        requires most { width ≤ 64 }
+        ensures node { IfOk result (λ r. IsNode self.new r × (r.width ≡ width)) }
+        ensures line { IfOk result (λ r. AddsSorted self.old self.new r.id width symbol
+            (λ s. body.Input s)) }
+        ensures extends { IfErr result (λ e. Extends self.old self.new) }
+        ensures short { IfErr result (IsShort self.new) }
+    {
+        let sort = self.sort(width)?;
+        let id = self.tell(symbol, Body::Input { sort })?;
+        Ok(Node { id, width })
+    }
+
+    /// A state of so many bits, with a name or without.
+    pub fn state(&mut self, symbol: Option<Symbol>, width: u64) -> Result<Node, Shortage>
+        requires least { 1 ≤ width }
+        requires most { width ≤ 64 }
+        ensures node { IfOk result (λ r. IsNode self.new r × (r.width ≡ width)) }
+        ensures line { IfOk result (λ r. AddsSorted self.old self.new r.id width symbol
+            (λ s. body.State s)) }
+        ensures extends { IfErr result (λ e. Extends self.old self.new) }
+        ensures short { IfErr result (IsShort self.new) }
+    {
+        let sort = self.sort(width)?;
+        let id = self.tell(symbol, Body::State { sort })?;
+        Ok(Node { id, width })
+    }
+
+    /// The word that a state begins with: that of a constant node.
+    ///
+    /// Condition: the state has none yet.
+    pub fn init(&mut self, state: Node, value: Node) -> Result<u32, Shortage>
+        requires state { IsNode self.old state }
+        requires value { IsNode self.old value }
+        requires same { state.width ≡ value.width }
+        requires is_state { names_state self.old state.id ≡ true }
+        requires constant { is_some (constant_of self.old value.id) ≡ true }
+        requires first { init_value self.old state.id ≡ None }
+        ensures line { IfOk result (λ id. AddsSorted self.old self.new id state.width None
+            (λ s. body.Init s state.id value.id)) }
+        ensures extends { IfErr result (λ e. Extends self.old self.new) }
+        ensures short { IfErr result (IsShort self.new) }
+    {
+        self.know(state);
+        let sort = self.sort(state.width)?;
+        let id = self.tell(
+            None,
+            Body::Init {
+                sort,
+                state: state.id,
+                value: value.id,
+            },
+        )?;
+        Ok(id)
+    }
+
+    /// The word that a state has in the next frame: that which a node has in this one.
+    ///
+    /// Condition: the state has none yet.
+    pub fn next(&mut self, state: Node, value: Node) -> Result<u32, Shortage>
+        requires state { IsNode self.old state }
+        requires value { IsNode self.old value }
+        requires same { state.width ≡ value.width }
+        requires is_state { names_state self.old state.id ≡ true }
+        requires first { next_value self.old state.id ≡ None }
+        ensures line { IfOk result (λ id. AddsSorted self.old self.new id state.width None
+            (λ s. body.Next s state.id value.id)) }
+        ensures extends { IfErr result (λ e. Extends self.old self.new) }
+        ensures short { IfErr result (IsShort self.new) }
+    {
+        self.know(state);
+        let sort = self.sort(state.width)?;
+        let id = self.tell(
+            None,
+            Body::Next {
+                sort,
+                state: state.id,
+                value: value.id,
+            },
+        )?;
+        Ok(id)
+    }
+
+    /// A bad property, which rises where a node, of one bit, is 1.
+    pub fn bad(&mut self, symbol: Option<Symbol>, a: Node) -> Result<u32, Shortage>
+        requires a { IsNode self.old a }
+        requires bit { a.width ≡ 1 }
+        ensures line { IfOk result (λ id. self.new ≡ self.old ++ named id symbol (body.Bad a.id) ∷ []) }
+        ensures stands { IfErr result (λ e. self.new ≡ self.old) }
+        ensures short { IfErr result (IsShort self.new) }
+    {
+        self.tell(symbol, Body::Bad { operand: a.id })
+    }
+
+    /// A constraint, which holds where a node, of one bit, is 1.
+    pub fn constraint(&mut self, symbol: Option<Symbol>, a: Node) -> Result<u32, Shortage>
+        requires a { IsNode self.old a }
+        requires bit { a.width ≡ 1 }
+        ensures line { IfOk result (λ id. self.new ≡ self.old ++ named id symbol (body.Constraint a.id) ∷ []) }
+        ensures stands { IfErr result (λ e. self.new ≡ self.old) }
+        ensures short { IfErr result (IsShort self.new) }
+    {
+        self.tell(symbol, Body::Constraint { operand: a.id })
+    }
+
+    /// An output, which shows a node.
+    pub fn output(&mut self, symbol: Option<Symbol>, a: Node) -> Result<u32, Shortage>
+        requires a { IsNode self.old a }
+        ensures line { IfOk result (λ id. self.new ≡ self.old ++ named id symbol (body.Output a.id) ∷ []) }
+        ensures stands { IfErr result (λ e. self.new ≡ self.old) }
+        ensures short { IfErr result (IsShort self.new) }
+    {
+        self.tell(symbol, Body::Output { operand: a.id })
     }
 }

@@ -24,6 +24,8 @@ pub(crate) enum Test {
     All,
     /// Whether some bit of the first is 1.
     Any,
+    /// Whether an odd number of bits of the first is 1.
+    Odd,
 }
 
 /// What joins the answers of the nodes.
@@ -33,6 +35,7 @@ fn join(by: Test) -> Binary
     match by {
         Test::Same | Test::All => Binary::And,
         Test::Other | Test::Any => Binary::Or,
+        Test::Odd => Binary::Xor,
     }
 }
 
@@ -51,6 +54,7 @@ fn answer(maker: &mut Maker, by: Test, a: Node, b: Node) -> Result<Node, Shortag
         Test::Other => maker.binary(Binary::Neq, a, b),
         Test::All => maker.unary(Unary::Redand, a),
         Test::Any => maker.unary(Unary::Redor, a),
+        Test::Odd => maker.unary(Unary::Redxor, a),
     }
 }
 
@@ -119,4 +123,15 @@ pub fn redor(maker: &mut Maker, a: &[Node]) -> Result<Node, Shortage>
     ensures short { IfErr result (IsShort maker.new) }
 {
     answers(maker, Test::Any, a, a)
+}
+
+/// Whether an odd number of bits of a word is 1.
+pub fn redxor(maker: &mut Maker, a: &[Node]) -> Result<Node, Shortage>
+    requires a { IsWord maker.old a.now }
+    ensures node { IfOk result (Makes maker.new 1
+        (λ g. unary_value unary.Redxor (bits_in a.now) (word_of g a.now))) }
+    ensures extends { Extends maker.old maker.new }
+    ensures short { IfErr result (IsShort maker.new) }
+{
+    answers(maker, Test::Odd, a, a)
 }

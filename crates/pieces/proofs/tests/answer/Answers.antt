@@ -15,3 +15,6 @@ returns-in-All-clause-node c = subst (λ (e : Test). IfOk c.unary.result (Makes 
 
 pub returns-in-Any-clause-node : goal.returns-in-Any-clause-node
 returns-in-Any-clause-node c = subst (λ (e : Test). IfOk c.unary-in-Any.result (Makes c.unary-in-Any.new.self 1 (λ g. test_value e c.args.a.width (g c.args.a.id) (g c.args.b.id)))) (sym c.in-Any.is) c.unary-in-Any.ensures.node
+
+pub returns-in-Odd-clause-node : goal.returns-in-Odd-clause-node
+returns-in-Odd-clause-node c = subst (λ (e : Test). IfOk c.unary-in-Odd.result (Makes c.unary-in-Odd.new.self 1 (λ g. test_value e c.args.a.width (g c.args.a.id) (g c.args.b.id)))) (sym c.in-Odd.is) c.unary-in-Odd.ensures.node

@@ -1,4 +1,4 @@
-use Rattle.std.proofs.Common.{◌≡◌, List, Some, subst, sym}
+use Rattle.std.proofs.Common.{◌≡◌, List, Some, subst, sym, refl}
 use Rattle.btor2.specs.declared.item.Item.{Item}
 use Rattle.btor2.specs.Items.{sort_width}
 use Rattle.pieces.proofs.KeptLemmas.{kept_sort}
@@ -6,7 +6,7 @@ use Rattle.pieces.proofs.NodeLemmas.{sound_sort, sort_put}
 use Rattle.pieces.proofs.maker.Maker.sort.Goals as goal
 
 pub put-requires : goal.put-requires
-put-requires c = record { sound = sound_sort c.args.self.now c.args.width c.requires.least c.requires.most }
+put-requires c = record { sound = sound_sort c.args.self.now c.args.width c.requires.least c.requires.most; plain = refl }
 
 pub invariant_of-self : goal.invariant_of-self
 invariant_of-self c =
