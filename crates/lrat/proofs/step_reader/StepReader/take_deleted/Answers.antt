@@ -1,0 +1,13 @@
+use Rattle.std.proofs.Common.{ap, sym, ◌∙◌}
+use Rattle.drup.specs.declared.why.Why.TheVariants as why
+use Rattle.drup.specs.Hints.{deletion}
+use Rattle.lrat.specs.HintedProofs.{gives, refuses, deletions, by_id, id_numbered}
+use Rattle.lrat.proofs.StepReaderLemmas.{takes_as}
+use Rattle.lrat.proofs.step_reader.StepReader.take_deleted.Goals as goal
+
+pub returns-in-None-clause-takes : goal.returns-in-None-clause-takes
+returns-in-None-clause-takes c = takes_as c.args.self.now c.refuse.new.self c.args.line (refuses why.BadWord) (by_id (λ id. gives (deletion id) deletions) (id_numbered c.args.number)) (ap (by_id (λ id. gives (deletion id) deletions)) (sym c.in-None.is ∙ c.id_of.ensures)) c.refuse.ensures.takes
+
+pub returns-in-Some-clause-takes : goal.returns-in-Some-clause-takes
+returns-in-Some-clause-takes c =
+    takes_as c.args.self.now c.delete.new.self c.args.line (gives (deletion c.in-Some.id) deletions) (by_id (λ id. gives (deletion id) deletions) (id_numbered c.args.number)) (ap (by_id (λ id. gives (deletion id) deletions)) (sym c.in-Some.is ∙ c.id_of.ensures)) c.delete.ensures.takes

@@ -1,0 +1,14 @@
+pub mod HintedProofs
+pub mod BinaryHintedProofs
+pub mod HintedForms
+pub mod LratJudgements
+pub mod Printed
+pub mod Words
+pub mod Numbers
+pub mod Scans
+pub mod StepReaders
+pub mod TextJudges
+pub mod LratJudges
+pub mod LratTexts
+pub mod BinaryLratTexts
+pub mod Worked
