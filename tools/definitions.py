@@ -43,8 +43,8 @@ GHOST_IMPORT = re.compile(r"\bghost\s+use\s+([\w.]+?)(?:\.\{([^}]*)\}|\s+as\s+(\
 HEAD = re.compile(r"^(?:(?:abbrev|unfoldable|opaque) pub|pub (?:record|data|abbrev|enum)) ([^\s:]+)", re.M)
 STEPS = "◌>>=◌"
 # the words that are carried: what a judge stands for, or what a noter notes, and the values of judges, which nothing else speaks of
-CARRIED = {("witness", "WordStands", "StandsForWitness"), ("witness", "BitStands", "StandsForBits"), ("witness", "BitStands", "StandsForBitLines"), ("rises", "Notes", "NotesBits"), ("drup", "ProofJudges", "StandsForText")}
-CARRIED_VALUES = {("witness", "WordStands", "WordJudge"), ("witness", "BitStands", "BitJudge"), ("drup", "ProofJudges", "ProofJudge")}
+CARRIED = {("witness", "WordStands", "StandsForWitness"), ("witness", "BitStands", "StandsForBits"), ("witness", "BitStands", "StandsForBitLines"), ("rises", "Notes", "NotesBits"), ("drup", "ProofJudges", "StandsForText"), ("lrat", "LratJudges", "StandsForLrat")}
+CARRIED_VALUES = {("witness", "WordStands", "WordJudge"), ("witness", "BitStands", "BitJudge"), ("drup", "ProofJudges", "ProofJudge"), ("lrat", "LratJudges", "LratJudge")}
 
 
 def fail(text):
