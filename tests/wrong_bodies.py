@@ -11,8 +11,8 @@ functions that it changes are checked alone, by `rattle check --only`. A line fo
     types    it does not compile, as the edit says, with these words: a line `types: WORDS` in it
     sources  tests/sources.py tells it, as the edit says: a line `sources: WORDS` in it
     goal     by another goal: what a call requires, what a loop keeps
-    values   by what a function ensures, where its written proof finds another value
-    written  only at a written proof, which may only be that it no longer fits
+    values   by a goal whose written proof finds another value there
+    written  only at a written proof that names what the edit took away, so that a right body may be refused too
     PROVED   the contract says nothing against it
     BAD      it fits no text, names no function, or does not compile
     UNTOLD   the prover came to no end
@@ -44,7 +44,7 @@ REFUSED = {
     "types": "by types",
     "sources": "by tests/sources.py",
     "goal": "by another goal",
-    "values": "by what a function ensures, at a value of its written proof",
+    "values": "by another value in a written proof",
     "written": "only at a written proof",
 }
 OTHERS = {"PROVED": "proved", "BAD": "bad", "UNTOLD": "untold"}
@@ -53,8 +53,8 @@ BLOCK = re.compile(r"^(?:pub )?(impl|trait)\b([^{;]*)\{", re.M)
 # What the prover says of a goal that stays open, of a written answer that does not fit, and of a text that it cannot read.
 OPEN = re.compile(r"^note: \S+: it is not proved that (.*?)(?:;.*)?$", re.M)
 UNFIT = re.compile(r"^(?:\./)?(proofs/\S+): error: (.*)$", re.M)
-# Of such an answer, that it is of a clause, and that it does not name what the edit took away.
-OF_VALUES = re.compile(r"`returns[\w-]*`: (?!.*(?:has no field|not in scope|has no constructor|was not)).*")
+# Of such an answer, that it does not name what the edit took away.
+OF_VALUES = re.compile(r"`[^`]*`: (?!.*(?:has no|not in scope|was not)).*")
 REFUSED_TEXT = re.compile(r"(?:\./)?src/\S+: error")
 UNREAD = re.compile(r"^(?:\./)?(?:src|specs)/\S+: error: (?!`).*$", re.M)
 
