@@ -54,7 +54,7 @@ BLOCK = re.compile(r"^(?:pub )?(impl|trait)\b([^{;]*)\{", re.M)
 OPEN = re.compile(r"^note: \S+: it is not proved that (.*?)(?:;.*)?$", re.M)
 UNFIT = re.compile(r"^(?:\./)?(proofs/\S+): error: (.*)$", re.M)
 # Of such an answer, that it does not name what the edit took away.
-OF_VALUES = re.compile(r"`[^`]*`: (?!.*(?:has no|not in scope|was not)).*")
+OF_VALUES = re.compile(r"`[^`]*`: (?!.*(?:` has no |not in scope)).*")
 REFUSED_TEXT = re.compile(r"(?:\./)?src/\S+: error")
 UNREAD = re.compile(r"^(?:\./)?(?:src|specs)/\S+: error: (?!`).*$", re.M)
 
