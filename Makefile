@@ -6,7 +6,7 @@ PREFIX ?= /usr/local
 FROM ?= release
 AT = $(DESTDIR)$(PREFIX)
 DOCUMENTS = share/doc/hwtool
-MOVED = hwtool:bin/hwtool:755 libhwtool.a:lib/libhwtool.a:644 libhwtool.so:lib/libhwtool.so.1:755 hwtool.h:include/hwtool.h:644 \
+MOVED = hwtool:bin/hwtool:755 libhwtool.a:lib/libhwtool.a:644 libhwtool.so:lib/libhwtool.so.2:755 hwtool.h:include/hwtool.h:644 \
 	hwtool.pc:lib/pkgconfig/hwtool.pc:644 hwtool.1:share/man/man1/hwtool.1:644 LICENSE:$(DOCUMENTS)/LICENSE:644 \
 	NOTICES:$(DOCUMENTS)/NOTICES:644 PROVED.txt:$(DOCUMENTS)/PROVED.txt:644 SHA256SUMS:$(DOCUMENTS)/SHA256SUMS:644 \
 	hwtool.bash:share/bash-completion/completions/hwtool:644 _hwtool:share/zsh/site-functions/_hwtool:644 \
@@ -22,7 +22,7 @@ OWN_FOLDERS = $(DOCUMENTS) lib/hwtool/flow lib/hwtool share/hwtool
 install:
 	set -e; made=$$(mktemp -d); trap 'rm -r "$$made"' EXIT; python3 tools/manual.py --scripts "$$made"; \
 	for it in $(PUT) $(addprefix "$$made"/,$(PAGES)); do IFS=:; set -- $$it; install -D -m "$$3" "$$1" "$(AT)/$$2"; done
-	ln -sf libhwtool.so.1 "$(AT)/lib/libhwtool.so"
+	ln -sf libhwtool.so.2 "$(AT)/lib/libhwtool.so"
 uninstall:
 	set -e; for it in $(PUT) $(PAGES); do IFS=:; set -- $$it; rm -f "$(AT)/$$2"; done
 	rm -f "$(AT)/lib/libhwtool.so"

@@ -155,7 +155,7 @@ FLAGS = {
     "check-btor": (("--names",), 2), "check-aig": (("--names",), 2), "lower": (("--ascii", "--binary"), 1),
     "aig-convert": (("--ascii", "--binary"), 1), "lift": (("--engine", "--abc", "--names"), 2), "restore": (("--abc",), 2),
     "wave": (("--all",), 2), "cost": ((), 1),
-    "obligation": (("--aiger", "--circuit", "--engine"), 2), "check-proof": (("--aiger", "--circuit", "--engine"), 3),
+    "obligation": (("--aiger", "--circuit", "--engine"), 2), "check-proof": (("--aiger", "--circuit", "--engine", "--lrat"), 3),
 }  # fmt: skip
 
 
@@ -188,7 +188,7 @@ def answer(command, flags, bad, names, texts):
     file, circuit = names[0], command in ("check-aig", "aig-convert", "restore") or "--aiger" in flags
     binary, by_name = ctypes.c_bool("--binary" in flags), ctypes.c_bool("--names" in flags)
     # without a choice the only one is meant
-    over = ctypes.c_bool("--aiger" in flags), ctypes.c_bool("--engine" in flags)
+    over, has_hints = (ctypes.c_bool("--aiger" in flags), ctypes.c_bool("--engine" in flags)), ctypes.c_bool("--lrat" in flags)
     position, choice = size(bad or 0), (ctypes.c_bool(bad is not None), size(bad or 0))
     if command in ("check-btor", "check-aig"):
         plain, with_claims = (getattr(library, f"hwtool_{command.replace('-', '_')}{behind}") for behind in ("", "_claims"))
@@ -224,14 +224,14 @@ def answer(command, flags, bad, names, texts):
     if command == "obligation" and "--circuit" in flags:
         return called(library.hwtool_obligation_circuit, (*first, *over, position, *second), False, 1, circuit, file, names[1])
     if command == "check-proof" and "--circuit" in flags:
-        given = (*first, *over, position, *second, *third)
+        given = (*first, *over, position, *second, has_hints, *third)
         return called(library.hwtool_check_proof_circuit, given, True, 0, circuit, file, names[1], bad or 0)
     if command == "obligation":
         call = library.hwtool_obligation_aig if circuit else library.hwtool_obligation
         return called(call, (*first, position, *second), False, 1, circuit, file, names[1])
     if command == "check-proof":
         call = library.hwtool_check_proof_aig if circuit else library.hwtool_check_proof
-        return called(call, (*first, position, *second, *third), True, 0, circuit, file, names[1], bad or 0)
+        return called(call, (*first, position, *second, has_hints, *third), True, 0, circuit, file, names[1], bad or 0)
     return cost(texts[0], file)
 
 

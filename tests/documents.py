@@ -242,12 +242,21 @@ def figures(text):
             yield f"{figure} {noun}"
 
 
+def written(path):
+    """A page without the list that tools/definitions.py writes of what stands at definitions, with as many lines."""
+    text = read(path)
+    if path.name != "DEFINITIONS.md":
+        return text
+    found = re.search(r"(?s)\n### .*?(?=\n## Words between)", text)
+    return text[:found.start()] + "\n" * found[0].count("\n") + text[found.end():]
+
+
 def main():
     names = links = many = 0
     wrong = []
     counted = collections.defaultdict(dict)
     for path in PAGES:
-        name, text = path.relative_to(TOP), read(path)
+        name, text = path.relative_to(TOP), written(path)
         for number, part, is_code in parts(text):
             found = [*wrong_calls(part), *wrong_places(part)] if is_code else [*faults(part), *wrong_links(path, part)]
             names += len(re.findall(r"`[^`]+`", part)) if not is_code else part.count("\n")

@@ -90,7 +90,7 @@ same "names that are given out" "" "$(nm -D --defined-only "$released/libhwtool.
 same "names that the archive gives out" "$(nm -D --defined-only "$released/libhwtool.so" | awk '{ print $3 }' | sort)" \
     "$(nm -g --defined-only "$released/libhwtool.a" | awk 'NF == 3 { print $3 }' | sort)"
 same "names of the header" "$(grep -o 'hwtool_[a-z_]*(' include/hwtool.h | tr -d '(' | sort -u)" "$(nm -D --defined-only "$released/libhwtool.so" | awk '{ print $3 }' | sort -u)"
-same "the SONAME" "libhwtool.so.1" "$(objdump -p "$released/libhwtool.so" | awk '$1 == "SONAME" { print $2 }')"
+same "the SONAME" "libhwtool.so.2" "$(objdump -p "$released/libhwtool.so" | awk '$1 == "SONAME" { print $2 }')"
 good "the rows by the library" python3 tests/c_library.py "$released/libhwtool.so" "$released/hwtool"
 
 # ---- installed

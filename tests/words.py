@@ -17,7 +17,7 @@ import tempfile
 FLAGS = {
     "lower": "ascii binary engine", "check-btor": "names", "show": "", "cost": "", "aig-convert": "ascii binary outputs engine",
     "check-aig": "names", "lift": "names engine abc", "restore": "abc", "wave": "all", "obligation": "aiger circuit engine",
-    "check-proof": "names aiger circuit engine", "tidy-witness": "", "vectors": "",
+    "check-proof": "names aiger circuit engine lrat", "tidy-witness": "", "vectors": "",
 }
 FILE_COUNT = {"check-btor": 2, "check-aig": 2, "lift": 2, "restore": 2, "wave": 2, "obligation": 2, "check-proof": 3}
 VALUES = ["0", "3", "1", "x", "-", "", "-1", "18446744073709551616", "007"]

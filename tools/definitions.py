@@ -2,6 +2,7 @@
 """Which definitions the public contracts rest on, and whether docs/DEFINITIONS.md has them all.
 
     python3 tools/definitions.py            lists what is wrong; prints nothing and ends with 0 where nothing is
+    python3 tools/definitions.py --write    writes the first list of docs/DEFINITIONS.md
     python3 tools/definitions.py --calls    prints each public call, and the definitions that its sentences name
     python3 tools/definitions.py --list     prints each definition that is rested on, with its file, and a call that names it
     python3 tools/definitions.py --between  prints each definition of specs/ that no public contract rests on, by file, with its comment
@@ -18,9 +19,10 @@ A word that is carried is none of them: a call gives it of what it makes, others
 that what they say follows whatever the word means. Each clause that names one is looked at: it stands there in one of these
 three ways, or as the word that a value gives for `stands` of `Taker`, or the script says so.
 
-In docs/DEFINITIONS.md the first list begins at the heading `## What the public calls rest on`, with a heading of the third
-rank for each crate, and tables with names in the first column. A definition has a row where one row of its crate has its
-name; so no two definitions of a crate have the same name.
+In docs/DEFINITIONS.md the first list begins at the first heading of the third rank behind `## What the public calls rest on`,
+and is written here: for each crate a table, with each file of its specs/, what the comment at its head says, and the definitions
+that are rested on, with the comment that speaks of them, or where there is none with what they say. No two definitions of a crate
+have the same name.
 
 The other definitions of specs/, but those of files named `Worked`, have a comment: the last one before them in their file,
 at its head, above them or above those before them. A line `-- ----` begins a part, of which no comment before it speaks. One
@@ -339,17 +341,36 @@ def public_clauses(crate):
 
 # ---- the page
 
-def rows(text):
-    """The names of the first list, each with its crate, as often as they stand there."""
-    found, crate, begun = [], None, False
-    for line in text.split("\n"):
-        if line.startswith("## "):
-            begun, crate = line.strip() == LIST, None
-        elif begun and line.startswith("### "):
-            crate = line[4:].strip().strip("`")
-        elif crate and line.startswith("|"):
-            found.extend((crate, name) for name in re.findall(r"`([^`]+)`", line.split("|")[1]))
-    return found
+def cell(text):
+    """A text as it stands in a table."""
+    return text.replace("|", "\\|")
+
+
+def file_rows(module, words):
+    """The rows of a file: what its head says, and what is said of definitions; those of which one comment speaks in one row."""
+    by_comment = {module.head: []}
+    for word in words:
+        said = module.comments[word] or "`%s`" % " ".join(module.texts[word].split())
+        by_comment.setdefault(said, []).append("`%s`" % word)
+    for said, names in by_comment.items():
+        yield ", ".join(["**%s**" % module.name] * (said == module.head) + names), cell(said)
+
+
+def listed(modules, crates, because):
+    """The first list: for each crate what is rested on, by file."""
+    lines = []
+    for crate in crates:
+        files = [(modules[it], [word for word in modules[it].texts if (*it, word) in because]) for it in sorted(modules) if it[0] == crate]
+        found = [row for module, words in files if words for row in file_rows(module, words)]
+        if found:
+            lines += ["### `%s`" % crate, "", "| File, name | Meaning |", "|---|---|", *("| %s | %s |" % row for row in found), ""]
+    return "\n".join(lines) + "\n"
+
+
+def with_list(text, found):
+    """The page with this as its first list."""
+    begin = text.index("\n### ", text.index("\n" + LIST)) + 1
+    return text[:begin] + found + text[text.index(BETWEEN, begin):]
 
 
 def between_rows(text):
@@ -439,8 +460,8 @@ def way(modules, names):
     return 0
 
 
-def wrong_rows(modules, because, listed):
-    """What is wrong with the first list."""
+def wrong_names(modules):
+    """The names that several definitions of a crate have."""
     files = {}
     for (crate, name), module in sorted(modules.items()):
         for word in module.texts:
@@ -448,17 +469,6 @@ def wrong_rows(modules, because, listed):
     for (crate, word), names in sorted(files.items()):
         if len(names) > 1:
             yield "%s of %s is the name of several definitions, in specs/ of %s" % (word, crate, ", ".join(names))
-    for crate, name, word in sorted(because):
-        if (crate, word) not in listed:
-            yield "no row: %s of %s, in specs/%s.antt, named by %s" % (word, crate, name, because[crate, name, word])
-    for crate, word in sorted(set(listed)):
-        names = files.get((crate, word), ())
-        if listed.count((crate, word)) > 1:
-            yield "several rows of %s name %s" % (crate, word)
-        if not names:
-            yield "a row of %s names %s, which is not there" % (crate, word)
-        elif not any((crate, name, word) in because for name in names):
-            yield "a row of %s names %s, on which no public contract rests" % (crate, word)
 
 
 def wrong_between(left, modules, listed):
@@ -478,7 +488,7 @@ def main():
     asked = sys.argv[1:]
     if asked[:1] == ["--way"] and len(asked) > 1:
         return way(read_modules(), asked[1:])
-    if any(a not in ("--calls", "--list", "--between", "--crossing") for a in asked) or len(asked) > 1:
+    if any(a not in ("--write", "--calls", "--list", "--between", "--crossing") for a in asked) or len(asked) > 1:
         print(__doc__.strip())
         return 0 if asked[:1] in (["--help"], ["-h"]) else 2
     modules = read_modules()
@@ -516,7 +526,13 @@ def main():
             print("%s %s.%s: %s" % (crate, name, word, ", ".join(sorted(others))))
         return 0
     text = PAGE.read_text()
-    wrong.extend(wrong_rows(modules, because, rows(text)))
+    whole = with_list(text, listed(modules, crates, because))
+    if asked == ["--write"]:
+        PAGE.write_text(whole)
+        return 0
+    if whole != text:
+        wrong.append("the first list of docs/DEFINITIONS.md is not as specs/ have it: `python3 tools/definitions.py --write` writes it")
+    wrong.extend(wrong_names(modules))
     wrong.extend(wrong_between(between(modules, because), modules, between_rows(text)))
     for line in wrong:
         print(line)

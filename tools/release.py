@@ -25,7 +25,7 @@ import manual
 TOP = build.TOP
 LIBRARY = "capi"
 # The number that programs which use the library are bound to; it goes up where a call changes.
-SONAME = "libhwtool.so.1"
+SONAME = "libhwtool.so.2"
 TOOLS = build.KIT / "toolchain"
 
 

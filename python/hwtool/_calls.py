@@ -316,12 +316,20 @@ def obligation_aig(circuit: Text, bad: SupportsIndex, invariant: Text) -> bytes:
 
 
 def _certified(
-    call_name: str, kind: str, text: Text, bad: SupportsIndex, certificate: Text, proof: Text, over: Sequence[bool] = (), of: str = "invariant"
+    call_name: str,
+    kind: str,
+    text: Text,
+    bad: SupportsIndex,
+    certificate: Text,
+    proof: Text,
+    lrat: bool,
+    over: Sequence[bool] = (),
+    of: str = "invariant",
 ) -> ProofVerdict:
     """Judges a proof of what a certificate owes, of a kind that these flags choose."""
     first, second, third, position = _Given(text), _Given(certificate), _Given(proof), _position(bad)
     raw = RawVerdict()
-    status, refusal = call(call_name, [*first.words, *over, position, *second.words, *third.words], ctypes.byref(raw))
+    status, refusal = call(call_name, [*first.words, *over, position, *second.words, bool(lrat), *third.words], ctypes.byref(raw))
     if status != DONE:
         _refuse(status, refusal, kind, first, second, of)
     found = ProofKind(raw.kind)
@@ -330,19 +338,19 @@ def _certified(
     return ProofVerdict(found, position, None if found is ProofKind.NOT_DERIVED else raw.first)
 
 
-def check_proof(model: Text, bad: SupportsIndex, invariant: Text, proof: Text) -> ProofVerdict:
-    """Judges a proof, in DRAT, of what `obligation` writes. Where it holds, the bad property rises in no frame up to which
+def check_proof(model: Text, bad: SupportsIndex, invariant: Text, proof: Text, *, lrat: bool = False) -> ProofVerdict:
+    """Judges a proof of what `obligation` writes, in DRAT, or with `lrat` in LRAT. Where it holds, the bad property rises in no frame up to which
     the constraints hold, from any initial state under every input sequence; neither engine nor solver is trusted.
 
     Raises Refused as `obligation` does; a proof that is none is judged as malformed.
     """
-    return _certified("hwtool_check_proof", "model", model, bad, invariant, proof)
+    return _certified("hwtool_check_proof", "model", model, bad, invariant, proof, lrat)
 
 
-def check_proof_aig(circuit: Text, bad: SupportsIndex, invariant: Text, proof: Text) -> ProofVerdict:
+def check_proof_aig(circuit: Text, bad: SupportsIndex, invariant: Text, proof: Text, *, lrat: bool = False) -> ProofVerdict:
     """The same of what `obligation_aig` writes, for an AIGER circuit of either form: from any initial bits that agree with its
     resets. Raises Refused as `obligation_aig` does."""
-    return _certified("hwtool_check_proof_aig", "circuit", circuit, bad, invariant, proof)
+    return _certified("hwtool_check_proof_aig", "circuit", circuit, bad, invariant, proof, lrat)
 
 
 def _first_kind(aiger: bool) -> str:
@@ -363,15 +371,15 @@ def obligation_circuit(first: Text, bad: SupportsIndex, witness: Text, *, aiger:
 
 
 def check_proof_circuit(
-    first: Text, bad: SupportsIndex, witness: Text, proof: Text, *, aiger: bool = False, over_form: bool = False
+    first: Text, bad: SupportsIndex, witness: Text, proof: Text, *, lrat: bool = False, aiger: bool = False, over_form: bool = False
 ) -> ProofVerdict:
-    """Judges a proof, in DRAT, of what `obligation_circuit` writes. Where it holds, the bad property rises in no frame up to which
+    """Judges a proof of what `obligation_circuit` writes, in DRAT, or with `lrat` in LRAT. Where it holds, the bad property rises in no frame up to which
     the constraints hold, from any initial state under every input sequence; neither engine nor solver is trusted.
 
     Raises Refused as `obligation_circuit` does; a proof that is none is judged as malformed.
     """
     over = [bool(aiger), bool(over_form)]
-    return _certified("hwtool_check_proof_circuit", _first_kind(aiger), first, bad, witness, proof, over, "witness circuit")
+    return _certified("hwtool_check_proof_circuit", _first_kind(aiger), first, bad, witness, proof, lrat, over, "witness circuit")
 
 
 def version() -> str:

@@ -121,7 +121,7 @@ class Library(unittest.TestCase):
         released = self.folder / "release" / "libhwtool.so"
         shutil.copy(real, released)
         self.assertEqual(self.loaded(package), (f"{released} UnknownOperator", ""))
-        beside = package / "hwtool" / "libhwtool.so.1"
+        beside = package / "hwtool" / "libhwtool.so.2"
         shutil.copy(real, beside)
         self.assertEqual(self.loaded(package), (f"{beside} UnknownOperator", ""))
         self.assertEqual(self.loaded(package, released), (f"{released} UnknownOperator", ""))

@@ -22,12 +22,12 @@ FILES = {
 # the flags of commands, beside the two forms of circuits, that a call answers to
 FLAGS = {
     "check-btor": {"--names"}, "check-aig": {"--names"}, "wave": {"--all"}, "aig-convert": {"--engine"},
-    "lift": {"--engine", "--abc", "--names"}, "restore": {"--abc"}, "obligation": {"--aiger"}, "check-proof": {"--aiger"},
+    "lift": {"--engine", "--abc", "--names"}, "restore": {"--abc"}, "obligation": {"--aiger"}, "check-proof": {"--aiger", "--lrat"},
 }  # fmt: skip
 # the forms of commands that calls of their own answer to
 FORMS = {
     ("lift",), ("lift", "--engine"), ("lift", "--abc", "--engine"), ("restore",), ("restore", "--abc"), ("obligation",),
-    ("obligation", "--aiger"), ("check-proof",), ("check-proof", "--aiger"),
+    ("obligation", "--aiger"), ("check-proof",), ("check-proof", "--aiger"), ("check-proof", "--lrat"),
 }  # fmt: skip
 # what the program says by name of a claim of an accepted witness
 REACHED = re.compile(rb"(?m)^b\d+ is reached in frame \d+\n")
@@ -53,7 +53,7 @@ def answer(command, flags, bad, files, names):
         # without a choice the only bad property is meant
         if command == "check-proof":
             call = hwtool.check_proof_aig if "--aiger" in flags else hwtool.check_proof
-            verdict = call(files[0], bad or 0, files[1], files[2])
+            verdict = call(files[0], bad or 0, files[1], files[2], lrat="--lrat" in flags)
             return 0 if verdict.holds else 1, f"{verdict}\n".encode(), b""
         if command == "obligation":
             call = hwtool.obligation_aig if "--aiger" in flags else hwtool.obligation

@@ -78,21 +78,21 @@ static void wave(struct answer *a) {
 }
 static void obligation(struct answer *a) { a->status = hwtool_obligation(OF(MODEL), 0, OF(INVARIANT), INTO); }
 static void check_proof(struct answer *a) {
-    a->status = hwtool_check_proof(OF(MODEL), 0, OF(INVARIANT), OF(PROOF), &a->verdict, &a->refusal);
+    a->status = hwtool_check_proof(OF(MODEL), 0, OF(INVARIANT), false, OF(PROOF), &a->verdict, &a->refusal);
 }
 
 static void obligation_aig(struct answer *a) {
     a->status = hwtool_obligation_aig(OF(CIRCUIT), 0, LITERAL(NEVER_ONE), INTO);
 }
 static void check_proof_aig(struct answer *a) {
-    a->status = hwtool_check_proof_aig(OF(CIRCUIT), 0, LITERAL(NEVER_ONE), LITERAL("2 0\n"), &a->verdict, &a->refusal);
+    a->status = hwtool_check_proof_aig(OF(CIRCUIT), 0, LITERAL(NEVER_ONE), false, LITERAL("2 0\n"), &a->verdict, &a->refusal);
 }
 
 static void obligation_circuit(struct answer *a) {
     a->status = hwtool_obligation_circuit(OF(CIRCUIT), true, false, 0, OF(CIRCUIT), INTO);
 }
 static void check_proof_circuit(struct answer *a) {
-    a->status = hwtool_check_proof_circuit(OF(CIRCUIT), true, false, 0, OF(CIRCUIT), LITERAL("2 0\n"), &a->verdict, &a->refusal);
+    a->status = hwtool_check_proof_circuit(OF(CIRCUIT), true, false, 0, OF(CIRCUIT), false, LITERAL("2 0\n"), &a->verdict, &a->refusal);
 }
 
 static const struct {

@@ -1,5 +1,5 @@
 -- What the exported calls that judge proofs answer, said of the bytes that they are given.
-use Rattle.std.specs.Prelude.{◌≡◌, ◌⊎◌, ℕ, List, Some}
+use Rattle.std.specs.Prelude.{◌≡◌, ◌⊎◌, ℕ, Bool, true, false, List, Some}
 use Rattle.btor2.specs.declared.item.Item.{Item}
 use Rattle.btor2text.specs.Spelling.{StandsFor}
 use Rattle.aiger.specs.Circuit.{Circuit}
@@ -13,6 +13,8 @@ use Rattle.drup.specs.declared.judgement.Judgement.TheVariants as judgement
 use Rattle.engine_form.specs.Faults.{engine_fault_number as engine_number}
 use Rattle.engine_form.specs.declared.fault.EngineFault.TheVariants as engine
 use Rattle.certificates.specs.Certificates.{IsCertified, IsOwed, OwesNone}
+use Rattle.certificates.specs.declared.proof_form.ProofForm.{ProofForm}
+use Rattle.certificates.specs.declared.proof_form.ProofForm.TheVariants as form
 use Rattle.certificates.specs.Faults.{obligation_number, invariant_why_number as invariant_number}
 use Rattle.certificates.specs.declared.claim_fault.ClaimFault.{ClaimFault}
 use Rattle.certificates.specs.declared.claim_fault.ClaimFault.TheVariants as claim
@@ -33,14 +35,19 @@ proof_verdict_of (judgement.Malformed line why) = record { kind = 4; why = proof
 proof_verdict_of (judgement.NotImplied line) = record { kind = 6; why = 0; first = line; second = 0 }
 proof_verdict_of judgement.NotDerived = record { kind = 7; why = 0; first = 0; second = 0 }
 
--- The first text is of a model, and an invariant and a proof are judged so as a certificate of a bad property over a circuit that lowers it. Where that is that it holds, the property rises in no frame up to which the model's constraints hold.
-pub record IsProofVerdict (model : List ℕ) (bad : ℕ) (invariant proof : List ℕ) (verdict : Verdict) : Type 0 where
+-- the form of a proof that is said to be in LRAT, or is not
+abbrev pub proof_form : Bool → ProofForm
+proof_form true = form.Hinted
+proof_form false = form.Plain
+
+-- The first text is of a model, and an invariant and a proof in this form are judged so as a certificate of a bad property over a circuit that lowers it. Where that is that it holds, the property rises in no frame up to which the model's constraints hold.
+pub record IsProofVerdict (model : List ℕ) (bad : ℕ) (invariant : List ℕ) (form : ProofForm) (proof : List ℕ) (verdict : Verdict) : Type 0 where
   pub items : List Item
   pub text : StandsFor model items
   pub circuit : Circuit
   pub lowers : Lowers items circuit
   pub judgement : Judgement
-  pub judged : IsCertified circuit bad (Some invariant) (Some proof) judgement
+  pub judged : IsCertified circuit bad form (Some invariant) (Some proof) judgement
   pub told : verdict ≡ proof_verdict_of judgement
   pub holds : verdict.kind ≡ 0 → ¬ CanRise items bad
 

@@ -8,19 +8,20 @@ use Rattle.drup.specs.FormulaTexts.{formula_text}
 use Rattle.drup.specs.declared.judgement.Judgement.{Judgement}
 use Rattle.certificates.specs.Certificates.{IsCertified, IsOwed, OwesNone}
 use Rattle.certificates.specs.declared.claim_fault.ClaimFault.{ClaimFault}
+use Rattle.certificates.specs.declared.proof_form.ProofForm.{ProofForm}
 use Rattle.capi.specs.Certified.{claim_stop, proof_verdict_of}
 use Rattle.capi.specs.Judged.{CallTellsNoCircuit}
 use Rattle.capi.specs.declared.answers.Stop.{Stop}
 use Rattle.capi.specs.declared.answers.Stop.TheVariants as stop
 use Rattle.capi.specs.declared.answers.Verdict.{Verdict}
 
--- The first text is of a circuit, and an invariant and a proof are judged so as a certificate of a bad property of it. Where that is that it holds, the property rises in no frame up to which the circuit's constraints hold.
-pub record IsProofVerdictOver (circuit : List ℕ) (bad : ℕ) (invariant proof : List ℕ) (verdict : Verdict) : Type 0 where
+-- The first text is of a circuit, and an invariant and a proof in this form are judged so as a certificate of a bad property of it. Where that is that it holds, the property rises in no frame up to which the circuit's constraints hold.
+pub record IsProofVerdictOver (circuit : List ℕ) (bad : ℕ) (invariant : List ℕ) (form : ProofForm) (proof : List ℕ) (verdict : Verdict) : Type 0 where
   pub value : Circuit
   pub is_circuit : IsCircuit value
   pub text : SpellsCircuit circuit value
   pub judgement : Judgement
-  pub judged : IsCertified value bad (Some invariant) (Some proof) judgement
+  pub judged : IsCertified value bad form (Some invariant) (Some proof) judgement
   pub told : verdict ≡ proof_verdict_of judgement
   pub holds : verdict.kind ≡ 0 → ¬ CanRiseInCircuit value bad
 

@@ -23,6 +23,7 @@ use Rattle.drup.specs.declared.judgement.Judgement.{Judgement}
 use Rattle.engine_form.specs.Faults.{engine_fault_number}
 use Rattle.engine_form.specs.declared.fault.EngineFault.TheVariants as engine
 use Rattle.certificates.specs.Certificates.{IsJudgedProof}
+use Rattle.certificates.specs.declared.proof_form.ProofForm.{ProofForm}
 use Rattle.capi.specs.Certified.{proof_verdict_of}
 use Rattle.capi.specs.Judged.{CallTellsNoCircuit, CallTellsNoModel}
 use Rattle.capi.specs.Written.{CallTellsUnlowered}
@@ -76,8 +77,8 @@ pub record IsWitnessObligation (aiger over_form : Bool) (first : List ℕ) (bad 
   pub owed : IsOwedAsWitness over_form numbering circuit bad witness formula
   pub is : bytes ≡ formula_text formula
 
--- A witness circuit and a proof are judged so as a certificate of a bad property of what the first text gives. Where that is that it holds, the property rises in no frame up to which the constraints hold.
-pub record IsWitnessVerdict (aiger over_form : Bool) (first : List ℕ) (bad : ℕ) (witness proof : List ℕ) (verdict : Verdict) : Type 0 where
+-- A witness circuit and a proof in this form are judged so as a certificate of a bad property of what the first text gives. Where that is that it holds, the property rises in no frame up to which the constraints hold.
+pub record IsWitnessVerdict (aiger over_form : Bool) (first : List ℕ) (bad : ℕ) (witness : List ℕ) (form : ProofForm) (proof : List ℕ) (verdict : Verdict) : Type 0 where
   pub circuit : Circuit
   pub numbering : Option (List ℕ)
   pub formula : Formula
@@ -85,7 +86,7 @@ pub record IsWitnessVerdict (aiger over_form : Bool) (first : List ℕ) (bad : �
   pub gives : TextGives aiger first circuit
   pub numbers : TextNumbers aiger first circuit numbering
   pub owed : IsOwedAsWitness over_form numbering circuit bad witness formula
-  pub judged : IsJudgedProof formula (Some proof) judgement
+  pub judged : IsJudgedProof form formula (Some proof) judgement
   pub told : verdict ≡ proof_verdict_of judgement
   pub holds : verdict.kind ≡ 0 → NeverRisesInText aiger first circuit gives bad
 

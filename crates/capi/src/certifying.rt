@@ -5,7 +5,7 @@ ghost use Rattle.btor2text.specs.Spelling.{StandsFor};
 ghost use Rattle.aigertext.specs.Spelling.{SpellsCircuit};
 ghost use Rattle.blast.specs.Lowering.{Lowers};
 ghost use Rattle.capi.specs.declared.answers.Stop.TheVariants as stop;
-ghost use Rattle.capi.specs.Certified.{IsClaimStop, IsObligation, IsProofVerdict, OwesNothing, claim_stop};
+ghost use Rattle.capi.specs.Certified.{IsClaimStop, IsObligation, IsProofVerdict, OwesNothing, claim_stop, proof_form};
 ghost use Rattle.capi.specs.CircuitCertified.{IsClaimStopOver, IsObligationOver, IsProofVerdictOver, OwesNothingOver};
 ghost use Rattle.capi.specs.Judged.{CallTellsNoModel, IsStop};
 ghost use Rattle.drup.specs.FormulaTexts.{formula_text};
@@ -20,12 +20,23 @@ use base::{Sink, VecSink};
 use blast::lower;
 use btor2::Model;
 use certificates::{
-    CertificateFault, ClaimFault, InvariantFault, InvariantWhy, ObligationFault, judge_certificate,
-    owed_formula,
+    CertificateFault, ClaimFault, InvariantFault, InvariantWhy, ObligationFault, ProofForm,
+    judge_certificate, owed_formula,
 };
 use drup::{Formula, write_formula};
 use engine_form::EngineFault;
 use std::alloc::Global;
+
+/// The form of a proof that is said to be in LRAT, or is not.
+pub(crate) fn proof_form(lrat: bool) -> ProofForm
+    ensures { result ≡ proof_form lrat }
+{
+    if lrat {
+        ProofForm::Hinted
+    } else {
+        ProofForm::Plain
+    }
+}
 
 /// Why a call stops where an invariant's text is not read.
 fn invariant_stop(fault: InvariantFault) -> Stop
@@ -76,14 +87,15 @@ pub(crate) fn certify_over(
     circuit: &Circuit,
     bad: usize,
     invariant: &[u8],
+    form: ProofForm,
     proof: &[u8],
 ) -> Result<Verdict, Stop>
     ensures done { (text : List ℕ) (items : List Item) → StandsFor text items
-        → Lowers items circuit.now → IfOk result (IsProofVerdict text bad invariant.now proof.now) }
+        → Lowers items circuit.now → IfOk result (IsProofVerdict text bad invariant.now form proof.now) }
     ensures refused { (text : List ℕ) (items : List Item) → StandsFor text items
         → Lowers items circuit.now → IfErr result (IsClaimStop text bad invariant.now) }
     ensures done_over { (text : List ℕ) → SpellsCircuit text circuit.now
-        → IfOk result (IsProofVerdictOver text bad invariant.now proof.now) }
+        → IfOk result (IsProofVerdictOver text bad invariant.now form proof.now) }
     ensures refused_over { (text : List ℕ) → SpellsCircuit text circuit.now
         → IfErr result (IsClaimStopOver text bad invariant.now) }
 {
@@ -92,7 +104,7 @@ pub(crate) fn certify_over(
     let _ = circuit.inputs();
     let mut first = invariant;
     let mut second = proof;
-    match judge_certificate(alloc, circuit, bad, &mut first, &mut second) {
+    match judge_certificate(alloc, circuit, bad, form, &mut first, &mut second) {
         Ok(judgement) => Ok(Verdict::of_proof(&judgement)),
         Err(CertificateFault::Claim(fault)) => Err(claim_stop(fault)),
         Err(_) => Err(Stop::NoMemory),
@@ -105,15 +117,16 @@ fn certify_model(
     model: &Model,
     bad: usize,
     invariant: &[u8],
+    form: ProofForm,
     proof: &[u8],
 ) -> Result<Verdict, Stop>
     ensures done { (text : List ℕ) → StandsFor text model.now
-        → IfOk result (IsProofVerdict text bad invariant.now proof.now) }
+        → IfOk result (IsProofVerdict text bad invariant.now form proof.now) }
     ensures refused { (text : List ℕ) → StandsFor text model.now
         → IfErr result (IsClaimStop text bad invariant.now) }
 {
     match lower(alloc, model) {
-        Ok(circuit) => certify_over(alloc, &circuit, bad, invariant, proof),
+        Ok(circuit) => certify_over(alloc, &circuit, bad, invariant, form, proof),
         Err(fault) => Err(stop_of(fault)),
     }
 }
@@ -124,17 +137,18 @@ fn certified(
     model: &[u8],
     bad: usize,
     invariant: &[u8],
+    form: ProofForm,
     proof: &[u8],
 ) -> Result<Verdict, Stop>
-    ensures done { IfOk result (IsProofVerdict model.now bad invariant.now proof.now) }
+    ensures done { IfOk result (IsProofVerdict model.now bad invariant.now form proof.now) }
     ensures refused { IfErr result (IsClaimStop model.now bad invariant.now) }
 {
     let read = read_model(alloc, model)?;
-    certify_model(alloc, &read, bad, invariant, proof)
+    certify_model(alloc, &read, bad, invariant, form, proof)
 }
 
 /// Judges the text of an invariant, as ABC writes it by `pdr -d -I` over the engine form with this bad property alone, and
-/// that of a proof in DRAT of what it owes, over the text of a BTOR2 model. Where the verdict's kind is 0, the bad property at
+/// that of a proof of what it owes, in DRAT, or with `lrat` in LRAT, over the text of a BTOR2 model. Where the verdict's kind is 0, the bad property at
 /// this position, from 0, rises in no frame up to which the model's constraints hold, from any initial state under every input
 /// sequence.
 ///
@@ -148,11 +162,13 @@ pub extern "C" fn hwtool_check_proof(
     model: &[u8],
     bad: usize,
     invariant: &[u8],
+    lrat: bool,
     proof: &[u8],
     verdict: &mut Verdict,
     refusal: &mut Refusal,
 ) -> u32
-    ensures done { result ≡ 0 → IsProofVerdict model.now bad invariant.now proof.now verdict.new }
+    ensures done { result ≡ 0 → IsProofVerdict model.now bad invariant.now (proof_form lrat)
+        proof.now verdict.new }
     ensures refused { result ≡ 2 → CallTellsNoModel model.now refusal.new }
     ensures unlowered { result ≡ 3 → CallTellsUnlowered model.now refusal.new
         ⊎ OwesNothing model.now bad invariant.now (stop.Model refusal.new) }
@@ -163,7 +179,7 @@ pub extern "C" fn hwtool_check_proof(
     ensures verdict_stays { result ≢ 0 → verdict.new ≡ verdict.old }
     ensures refusal_stays { (result ≡ 0) ⊎ (result ≡ 4) → refusal.new ≡ refusal.old }
 {
-    match certified(alloc, model, bad, invariant, proof) {
+    match certified(alloc, model, bad, invariant, proof_form(lrat), proof) {
         Ok(judged) => {
             *verdict = judged;
             DONE

@@ -1,15 +1,17 @@
 //! The calls that judge proofs over circuits.
 ghost use Rattle.std.specs.Prelude.{◌≡◌, ◌≢◌, ◌⊎◌, ℕ, List, IfOk, IfErr, IfSome};
 ghost use Rattle.capi.specs.declared.answers.Stop.TheVariants as stop;
+ghost use Rattle.capi.specs.Certified.{proof_form};
 ghost use Rattle.capi.specs.CircuitCertified.{IsClaimStopOver, IsObligationOver, IsProofVerdictOver, OwesNothingOver};
 ghost use Rattle.capi.specs.Judged.{CallTellsNoCircuit};
 ghost use Rattle.capi.specs.Written.{Fills, Needs};
 
 use crate::answers::{DONE, Refusal, Stop, Verdict, tell};
 use crate::buffers::hand_over;
-use crate::certifying::{certify_over, owe_over};
+use crate::certifying::{certify_over, owe_over, proof_form};
 use crate::reading::read_circuit;
 use base::{Sink, VecSink};
+use certificates::ProofForm;
 use std::alloc::Global;
 
 /// Judges a certificate of a bad property of a text's circuit.
@@ -18,13 +20,14 @@ fn certified(
     circuit: &[u8],
     bad: usize,
     invariant: &[u8],
+    form: ProofForm,
     proof: &[u8],
 ) -> Result<Verdict, Stop>
-    ensures done { IfOk result (IsProofVerdictOver circuit.now bad invariant.now proof.now) }
+    ensures done { IfOk result (IsProofVerdictOver circuit.now bad invariant.now form proof.now) }
     ensures refused { IfErr result (IsClaimStopOver circuit.now bad invariant.now) }
 {
     let read = read_circuit(alloc, circuit)?;
-    certify_over(alloc, &read, bad, invariant, proof)
+    certify_over(alloc, &read, bad, invariant, form, proof)
 }
 
 /// Writes what an invariant owes for a bad property of a text's circuit.
@@ -38,7 +41,7 @@ fn owed(alloc: Global, circuit: &[u8], bad: usize, invariant: &[u8]) -> Result<V
 }
 
 /// Judges the text of an invariant, as ABC writes it by `pdr -d -I` over the engine form with this bad property alone, and that
-/// of a proof in DRAT of what it owes, over the text of an AIGER circuit of either form. Where the verdict's kind is 0, the bad
+/// of a proof of what it owes, in DRAT, or with `lrat` in LRAT, over the text of an AIGER circuit of either form. Where the verdict's kind is 0, the bad
 /// property at this position, from 0, rises in no frame up to which the circuit's constraints hold, from any initial bits that
 /// agree with its resets, under every input sequence.
 ///
@@ -52,12 +55,14 @@ pub extern "C" fn hwtool_check_proof_aig(
     circuit: &[u8],
     bad: usize,
     invariant: &[u8],
+    lrat: bool,
     proof: &[u8],
     verdict: &mut Verdict,
     refusal: &mut Refusal,
 ) -> u32
     ensures done { result ≡ 0
-        → IsProofVerdictOver circuit.now bad invariant.now proof.now verdict.new }
+        → IsProofVerdictOver circuit.now bad invariant.now (proof_form lrat) proof.now
+        verdict.new }
     ensures refused { result ≡ 2 → CallTellsNoCircuit circuit.now refusal.new }
     ensures formless { result ≡ 3 → OwesNothingOver circuit.now bad invariant.now
         (stop.Model refusal.new) }
@@ -68,7 +73,7 @@ pub extern "C" fn hwtool_check_proof_aig(
     ensures verdict_stays { result ≢ 0 → verdict.new ≡ verdict.old }
     ensures refusal_stays { (result ≡ 0) ⊎ (result ≡ 4) → refusal.new ≡ refusal.old }
 {
-    match certified(alloc, circuit, bad, invariant, proof) {
+    match certified(alloc, circuit, bad, invariant, proof_form(lrat), proof) {
         Ok(judged) => {
             *verdict = judged;
             DONE

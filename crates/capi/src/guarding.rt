@@ -2,13 +2,14 @@
 ghost use Rattle.std.specs.Prelude.{◌≡◌, ◌≢◌, ◌⊎◌, ℕ, List, true, false, Some, None, IfOk, IfErr, IfSome};
 ghost use Rattle.btor2text.specs.Spelling.{StandsFor};
 ghost use Rattle.capi.specs.declared.answers.Stop.TheVariants as stop;
+ghost use Rattle.capi.specs.Certified.{proof_form};
 ghost use Rattle.capi.specs.Guarded.{GivesNothingOwed, IsFirstStop, IsOwedAsWitness, IsWitnessObligation, IsWitnessStop, IsWitnessVerdict, OwesNoneAsWitness, TellsNothingGiven, TellsNotLowered, TextGives, TextNumbers, witness_stop};
 ghost use Rattle.capi.specs.Written.{Fills, Needs};
 ghost use Rattle.certificates.specs.Certificates.{IsJudgedProof};
 
 use crate::answers::{DONE, Refusal, Stop, Verdict, tell};
 use crate::buffers::hand_over;
-use crate::certifying::formula_text;
+use crate::certifying::{formula_text, proof_form};
 use crate::lowering::stop_of;
 use crate::reading::{read_model, read_numbered};
 use aiger::Circuit;
@@ -16,7 +17,7 @@ use aigerlists::Numbering;
 use base::{Sink, VecSink};
 use blast::lower;
 use btor2::Model;
-use certificates::judge_proof;
+use certificates::{ProofForm, judge_proof};
 use drup::{Formula, Judgement};
 use engine_form::EngineFault;
 use std::alloc::Global;
@@ -160,19 +161,19 @@ fn owed(
     }
 }
 
-/// The judgement of a proof over a formula. The error is want of memory.
-fn proved(alloc: Global, formula: Formula, proof: &[u8]) -> Result<Judgement, Stop>
-    ensures judged { IfOk result (IsJudgedProof formula (Some proof.now)) }
+/// The judgement of a proof in this form over a formula. The error is want of memory.
+fn proved(alloc: Global, form: ProofForm, formula: Formula, proof: &[u8]) -> Result<Judgement, Stop>
+    ensures judged { IfOk result (IsJudgedProof form formula (Some proof.now)) }
     ensures memory { IfErr result (λ e. e ≡ stop.NoMemory) }
 {
     let mut source = proof;
-    match judge_proof(alloc, formula, &mut source) {
+    match judge_proof(alloc, form, formula, &mut source) {
         Ok(judgement) => Ok(judgement),
         Err(_) => Err(Stop::NoMemory),
     }
 }
 
-/// The verdict on a witness circuit and a proof, as a certificate of a bad property of what the first text gives.
+/// The verdict on a witness circuit and a proof in this form, as a certificate of a bad property of what the first text gives.
 fn certified(
     alloc: Global,
     first: &[u8],
@@ -180,10 +181,11 @@ fn certified(
     over_form: bool,
     bad: usize,
     witness: &[u8],
+    form: ProofForm,
     proof: &[u8],
 ) -> Result<Verdict, Stop>
     ensures done { IfOk result (IsWitnessVerdict aiger over_form first.now bad witness.now
-        proof.now) }
+        form proof.now) }
     ensures refused { IfErr result (IsWitnessStop aiger over_form first.now bad witness.now) }
 {
     witness_circuits::laws::owed_formula_proved_never_rises();
@@ -192,14 +194,15 @@ fn certified(
     let given = given_by(alloc, aiger, first)?;
     match owed_over(alloc, over_form, &given, bad, witness) {
         Ok(formula) => {
-            let judgement = proved(alloc, formula, proof)?;
+            let judgement = proved(alloc, form, formula, proof)?;
             Ok(Verdict::of_proof(&judgement))
         }
         Err(fault) => Err(witness_stop(fault)),
     }
 }
 
-/// Judges the text of a witness circuit, in AIGER of either form, and that of a proof in DRAT of the formula that it owes, as
+/// Judges the text of a witness circuit, in AIGER of either form, and that of a proof in DRAT, or with `lrat` in LRAT, of the
+/// formula that it owes, as
 /// a certificate of the bad property at a position, from 0, of the text of a BTOR2 model, or with `aiger` of an AIGER circuit.
 /// The witness circuit is one of the circuit that lowers the model, or of the circuit, or with `over_form` of its engine form
 /// with this bad property alone. Where the verdict's kind is 0, the bad property rises in no frame up to which the constraints
@@ -218,12 +221,14 @@ pub extern "C" fn hwtool_check_proof_circuit(
     over_form: bool,
     bad: usize,
     witness: &[u8],
+    lrat: bool,
     proof: &[u8],
     verdict: &mut Verdict,
     refusal: &mut Refusal,
 ) -> u32
     ensures done { result ≡ 0
-        → IsWitnessVerdict aiger over_form first.now bad witness.now proof.now verdict.new }
+        → IsWitnessVerdict aiger over_form first.now bad witness.now
+        (proof_form lrat) proof.now verdict.new }
     ensures refused { result ≡ 2 → TellsNothingGiven aiger first.now refusal.new }
     ensures unlowered { result ≡ 3 → TellsNotLowered aiger first.now refusal.new
         ⊎ GivesNothingOwed aiger over_form first.now bad witness.now (stop.Model refusal.new) }
@@ -234,7 +239,16 @@ pub extern "C" fn hwtool_check_proof_circuit(
     ensures verdict_stays { result ≢ 0 → verdict.new ≡ verdict.old }
     ensures refusal_stays { (result ≡ 0) ⊎ (result ≡ 4) → refusal.new ≡ refusal.old }
 {
-    match certified(alloc, first, aiger, over_form, bad, witness, proof) {
+    match certified(
+        alloc,
+        first,
+        aiger,
+        over_form,
+        bad,
+        witness,
+        proof_form(lrat),
+        proof,
+    ) {
         Ok(judged) => {
             *verdict = judged;
             DONE

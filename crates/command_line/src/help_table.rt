@@ -68,7 +68,7 @@ struct HelpLine {
 }
 
 /// What help says of words; of those of a name the first that is of the command.
-static HELPS: [HelpLine; 36] = [
+static HELPS: [HelpLine; 37] = [
     HelpLine {
         name: "MODEL",
         verbs: &[],
@@ -222,7 +222,12 @@ static HELPS: [HelpLine; 36] = [
     HelpLine {
         name: "PROOF",
         verbs: &[],
-        text: "The file of a proof of the obligation, in DRAT, as text or binary, or - for standard input",
+        text: "The file of a proof of the obligation, in DRAT or with --lrat in LRAT, as text or binary, or - for standard input",
+    },
+    HelpLine {
+        name: "lrat",
+        verbs: &[],
+        text: "The proof has hints: each step is judged by its hints alone, in time linear in them",
     },
     HelpLine {
         name: "pick",

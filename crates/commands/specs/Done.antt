@@ -121,8 +121,8 @@ Answers o (task.Circuit (circuit.RestoreForm choice)) a first second third befor
 Answers o (task.Model (model.LiftFound choice)) a first second third before now told told' = LiftsFound o.named choice first second before now told told' a
 Answers o (task.Model (model.LiftForm choice)) a first second third before now told told' = Judged (IsFormLifted o.named choice first second before now told told') a
 Answers o (task.Text text.Vectors) a first second third before now told told' = Compares first before now a
-Answers o (task.Certificate (certificate.Obligation g by choice)) answer.Done first second third before now told told' = WritesOwed g by choice first second before now
-Answers o (task.Certificate (certificate.CheckProof g by choice)) a first second third before now told told' = CertifiesWith o.named o.as_json g by choice first second third before now told told' a
+Answers o (task.Certificate (certificate.Obligation of)) answer.Done first second third before now told told' = WritesOwed of.given of.by of.choice first second before now
+Answers o (task.Certificate (certificate.CheckProof of form)) a first second third before now told told' = CertifiesWith o.named o.as_json of.given of.by of.choice form first second third before now told told' a
 Answers o _ a first second third before now told told' = ⊥
 
 -- a command has one file
@@ -140,7 +140,7 @@ has_one_file _ = true
 
 -- a command has three files
 unfoldable pub has_three_files : Task → Bool
-has_three_files (task.Certificate (certificate.CheckProof g by choice)) = true
+has_three_files (task.Certificate (certificate.CheckProof of form)) = true
 has_three_files _ = false
 
 -- a command that is done tells nothing on standard error
@@ -153,5 +153,5 @@ is_quiet named (task.Model (model.LiftForm choice)) = false
 is_quiet named (task.Model (model.Wave shown)) = false
 is_quiet named (task.Model model.CheckBtor) = not named
 is_quiet named (task.Circuit circuit.CheckAig) = not named
-is_quiet named (task.Certificate (certificate.CheckProof g by choice)) = not named
+is_quiet named (task.Certificate (certificate.CheckProof of form)) = not named
 is_quiet named _ = true

@@ -38,13 +38,13 @@ RefusesTask (task.Model (model.LiftForm choice)) asked known f = IsNotForEngines
 RefusesTask (task.Model (model.Wave shown)) asked known f = IsNotJudged known f
 RefusesTask (task.Text (text.TidyWitness pick)) asked known f = ⊥
 RefusesTask (task.Text text.Vectors) asked known f = IsNoVectorList known f
-RefusesTask (task.Certificate (certificate.Obligation g by choice)) asked known f = IsNotCertifiable by g choice known f
-RefusesTask (task.Certificate (certificate.CheckProof g by choice)) asked known f = IsNotCertifiable by g choice known f
+RefusesTask (task.Certificate (certificate.Obligation of)) asked known f = IsNotCertifiable of.by of.given of.choice known f
+RefusesTask (task.Certificate (certificate.CheckProof of form)) asked known f = IsNotCertifiable of.by of.given of.choice known f
 
 -- the second text has this fault, for which a command refuses it
 abbrev pub RefusesSecond : Task → Option (List ℕ) → Option (List ℕ) → Fault → Type 0
-RefusesSecond (task.Certificate (certificate.Obligation g by choice)) first second f = IsFaultyCertificate by g choice first second f
-RefusesSecond (task.Certificate (certificate.CheckProof g by choice)) first second f = IsFaultyCertificate by g choice first second f
+RefusesSecond (task.Certificate (certificate.Obligation of)) first second f = IsFaultyCertificate of.by of.given of.choice first second f
+RefusesSecond (task.Certificate (certificate.CheckProof of form)) first second f = IsFaultyCertificate of.by of.given of.choice first second f
 RefusesSecond _ first second f = ⊥
 
 -- of lifting a witness

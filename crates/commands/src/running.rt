@@ -239,11 +239,9 @@ fn obey_on_certificate<A: Source, B: Source, T: Source, O: Sink, E: Sink, W: Wat
     ensures no_third { has_three_files (task_is.Certificate task) ≡ false → third.new ≡ third.old }
 {
     match task {
-        CertificateTask::Obligation(given, by, choice) => {
-            write_obligation(alloc, given, by, choice, first, second, out, watch)
-        }
-        CertificateTask::CheckProof(given, by, choice) => check_proof(
-            alloc, order, given, by, choice, first, second, third, out, err, watch,
+        CertificateTask::Obligation(of) => write_obligation(alloc, of, first, second, out, watch),
+        CertificateTask::CheckProof(of, form) => check_proof(
+            alloc, order, of, form, first, second, third, out, err, watch,
         ),
     }
 }

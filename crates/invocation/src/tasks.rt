@@ -5,6 +5,7 @@ ghost use Rattle.std.specs.String.{string_bytes};
 
 use crate::statuses::{DEVICE, DONE, WORDS_REFUSED};
 use aigertext::Form;
+use certificates::ProofForm;
 use std::alloc::Global;
 use vcd::Shown;
 
@@ -89,13 +90,24 @@ pub enum CircuitTask {
     RestoreForm(Option<usize>),
 }
 
-/// The commands on a certificate of a bad property of what is given: of the one at a position, or of the only one.
+/// What a certificate is about: a bad property of what is given.
+#[derive(Clone, Copy, PartialEq, Eq)]
+pub struct Certified {
+    /// What the first file gives.
+    pub given: Given,
+    /// What the second file is.
+    pub by: Certificate,
+    /// The position of the bad property; without one it is the only one.
+    pub choice: Option<usize>,
+}
+
+/// The commands on a certificate.
 #[derive(Clone, Copy, PartialEq, Eq)]
 pub enum CertificateTask {
     /// Writes the formula that it owes.
-    Obligation(Given, Certificate, Option<usize>),
-    /// Judges it, and a proof of the formula that it owes.
-    CheckProof(Given, Certificate, Option<usize>),
+    Obligation(Certified),
+    /// Judges it, and a proof in this form of the formula that it owes.
+    CheckProof(Certified, ProofForm),
 }
 
 /// The commands, by what they are on.

@@ -38,7 +38,7 @@ has_judgement (w ∷ ws) = not (begins_comment w)
 abbrev pub is_judgement : Task → Bool
 is_judgement (task.Model model.CheckBtor) = true
 is_judgement (task.Circuit circuit.CheckAig) = true
-is_judgement (task.Certificate (certificate.CheckProof g by choice)) = true
+is_judgement (task.Certificate (certificate.CheckProof of form)) = true
 is_judgement _ = false
 
 -- a command reads standard input

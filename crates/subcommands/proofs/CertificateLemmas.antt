@@ -19,6 +19,7 @@ use Rattle.certificates.specs.declared.claim_fault.ClaimFault.{ClaimFault}
 use Rattle.certificates.specs.declared.claim_fault.ClaimFault.TheVariants as claim
 use Rattle.certificates.specs.declared.certificate_fault.CertificateFault.{CertificateFault}
 use Rattle.certificates.specs.declared.certificate_fault.CertificateFault.TheVariants as certificate
+use Rattle.certificates.specs.declared.proof_form.ProofForm.{ProofForm}
 use Rattle.certificates.specs.Certificates.{CountsCertificate, IsFormFor, IsOfProof, OwesNone, OwesNoneOver}
 use Rattle.aigertext.specs.AsciiReading.{IsAsciiFaultOf}
 use Rattle.aigertext.specs.declared.fault.ReadFault.{ReadFault}
@@ -127,15 +128,15 @@ holds_where_done answer.Done _ X so f done = absurd so
 holds_where_done answer.NotAccepted j X so f done = absurd (cc)
 
 -- a command that told how a certificate is judged has judged it, with names or without
-pub certified : (named as_json : Bool) (r : Result Answer Refusal) (g : Given) (by : Certificate) (choice : Option ℕ) (n known second third before now told told' : Option (List ℕ)) (c : Circuit) (k : ℕ) (j : Judgement)
-    → ((by : Certificate) (n : Option (List ℕ)) (d : Circuit) (b : ℕ) (second third : Option (List ℕ)) (line : ℕ) → IsCertifiedBy by n d b second third (verdict.Derived line) → CanRiseInCircuit d b → ⊥)
+pub certified : (named as_json : Bool) (r : Result Answer Refusal) (g : Given) (by : Certificate) (choice : Option ℕ) (form : ProofForm) (n known second third before now told told' : Option (List ℕ)) (c : Circuit) (k : ℕ) (j : Judgement)
+    → ((by : Certificate) (form : ProofForm) (n : Option (List ℕ)) (d : Circuit) (b : ℕ) (second third : Option (List ℕ)) (line : ℕ) → IsCertifiedBy by form n d b second third (verdict.Derived line) → CanRiseInCircuit d b → ⊥)
     → ((items : List Item) (d : Circuit) (b : ℕ) → Lowers items d → CanRise items b ↔ CanRiseInCircuit d b)
-    → (gives : GivesItsCircuit g known c) → IsGivenNumbering g known c n → IsClaim choice c k → IsCertifiedBy by n c k second third j
+    → (gives : GivesItsCircuit g known c) → IsGivenNumbering g known c n → IsClaim choice c k → IsCertifiedBy by form n c k second third j
     → OnOk r (Appends before now (verdict_written as_json (given_names g known c gives k) k j)) → OnOk r (Appends told told' (where_named named (holds_said j (given_said g known c gives k)))) → IfOk r (λ a. IsSoDerived a j)
-    → IfOk r (CertifiesWith named as_json g by choice known second third before now told told')
-certified named as_json (Ok a) g by choice n known second third before now told told' c k j law alike gives numbers is judged line said so = with_names named said
+    → IfOk r (CertifiesWith named as_json g by choice form known second third before now told told')
+certified named as_json (Ok a) g by choice form n known second third before now told told' c k j law alike gives numbers is judged line said so = with_names named said
   where
-    certifies : Certifies as_json g by choice known second third before now a
+    certifies : Certifies as_json g by choice form known second third before now a
     certifies = record {
       circuit = c;
       numbering = n;
@@ -146,14 +147,14 @@ certified named as_json (Ok a) g by choice n known second third before now told 
       is_claim = is;
       certified = judged;
       so = so;
-      holds = holds_where_done a j (NeverRises g known c gives k) so (λ line derives. never g known c gives k alike (law by n c k second third line (subst (IsCertifiedBy by n c k second third) derives judged)));
+      holds = holds_where_done a j (NeverRises g known c gives k) so (λ line derives. never g known c gives k alike (law by form n c k second third line (subst (IsCertifiedBy by form n c k second third) derives judged)));
       written = line;
     }
 
-    with_names : (named : Bool) → Appends told told' (where_named named (holds_said j (given_said g known c gives k))) → CertifiesWith named as_json g by choice known second third before now told told' a
+    with_names : (named : Bool) → Appends told told' (where_named named (holds_said j (given_said g known c gives k))) → CertifiesWith named as_json g by choice form known second third before now told told' a
     with_names false said = certifies
     with_names true said = record { certifies = certifies; subject = said }
-certified named as_json (Err e) g by choice n known second third before now told told' c k j law alike gives numbers is judged line said so = so
+certified named as_json (Err e) g by choice form n known second third before now told told' c k j law alike gives numbers is judged line said so = so
 
 -- ---- what is refused of the first file
 

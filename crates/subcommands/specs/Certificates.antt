@@ -14,6 +14,7 @@ use Rattle.drup.specs.FormulaTexts.{formula_text}
 use Rattle.drup.specs.Printed.{proof_why_number, proof_why_name}
 use Rattle.witness_circuits.specs.Owing.{IsTestedFormula, IsTestedOverForm}
 use Rattle.certificates.specs.Certificates.{IsJudgedProof, IsOwed}
+use Rattle.certificates.specs.declared.proof_form.ProofForm.{ProofForm}
 use Rattle.subcommands.specs.declared.answers.Answer.{Answer}
 use Rattle.subcommands.specs.declared.answers.Answer.TheVariants as answer
 use Rattle.subcommands.specs.declared.certifying.Read.{Read}
@@ -56,11 +57,11 @@ IsOwedBy certificate.Invariant n c k second f = IsOwed c k second f
 IsOwedBy certificate.Circuit n c k second f = IsTestedFormula n c k second f
 IsOwedBy certificate.CircuitOfForm n c k second f = IsTestedOverForm c k second f
 
--- a certificate of this kind and a proof are judged so: the proof is, over the formula that the certificate owes
-pub record IsCertifiedBy (by : Certificate) (n : Option (List ℕ)) (c : Circuit) (k : ℕ) (second third : Option (List ℕ)) (j : Judgement) : Type 0 where
+-- a certificate of this kind and a proof in this form are judged so: the proof is, over the formula that the certificate owes
+pub record IsCertifiedBy (by : Certificate) (form : ProofForm) (n : Option (List ℕ)) (c : Circuit) (k : ℕ) (second third : Option (List ℕ)) (j : Judgement) : Type 0 where
   pub formula : Formula
   pub is_owed : IsOwedBy by n c k second formula
-  pub judged : IsJudgedProof formula third j
+  pub judged : IsJudgedProof form formula third j
 
 -- The second text is of a certificate of this kind; and what was written is the text of the formula that it owes for the bad property that is claimed of what the first gives.
 pub record WritesOwed (g : Given) (by : Certificate) (choice : Option ℕ) (first second before now : Option (List ℕ)) : Type 0 where
@@ -98,8 +99,8 @@ abbrev pub verdict_written : Bool → List ℕ → ℕ → Judgement → List �
 verdict_written false named claim j = verdict_line claim j
 verdict_written true named claim j = certificate_object named claim j
 
--- The second text is of a certificate of this kind, and the third of a proof; they are judged so for the bad property that is claimed of what the first gives; what was written tells that, in a line or as an object; and where all is done, that property never rises.
-pub record Certifies (as_json : Bool) (g : Given) (by : Certificate) (choice : Option ℕ) (first second third before now : Option (List ℕ)) (a : Answer) : Type 0 where
+-- The second text is of a certificate of this kind, and the third of a proof in this form; they are judged so for the bad property that is claimed of what the first gives; what was written tells that, in a line or as an object; and where all is done, that property never rises.
+pub record Certifies (as_json : Bool) (g : Given) (by : Certificate) (choice : Option ℕ) (form : ProofForm) (first second third before now : Option (List ℕ)) (a : Answer) : Type 0 where
   pub circuit : Circuit
   pub numbering : Option (List ℕ)
   pub claim : ℕ
@@ -107,7 +108,7 @@ pub record Certifies (as_json : Bool) (g : Given) (by : Certificate) (choice : O
   pub gives : GivesItsCircuit g first circuit
   pub is_numbering : IsGivenNumbering g first circuit numbering
   pub is_claim : IsClaim choice circuit claim
-  pub certified : IsCertifiedBy by numbering circuit claim second third judgement
+  pub certified : IsCertifiedBy by form numbering circuit claim second third judgement
   pub so : IsSoDerived a judgement
   pub holds : a ≡ answer.Done → NeverRises g first circuit gives claim
   pub written : Appends before now (verdict_written as_json (given_names g first circuit gives claim) claim judgement)
@@ -142,11 +143,11 @@ pub record IsRead (g : Given) (first : Option (List ℕ)) (r : Read) : Type 0 wh
   pub names : (k : ℕ) → read_names r k ≡ given_names g first r.circuit gives k
 
 -- a certificate is judged so, and what was told is the line that says which bad property holds; none where that is not judged
-pub record CertifiesByName (as_json : Bool) (g : Given) (by : Certificate) (choice : Option ℕ) (first second third before now told told' : Option (List ℕ)) (a : Answer) : Type 0 where
-  pub certifies : Certifies as_json g by choice first second third before now a
+pub record CertifiesByName (as_json : Bool) (g : Given) (by : Certificate) (choice : Option ℕ) (form : ProofForm) (first second third before now told told' : Option (List ℕ)) (a : Answer) : Type 0 where
+  pub certifies : Certifies as_json g by choice form first second third before now a
   pub subject : Appends told told' (holds_said certifies.judgement (given_said g first certifies.circuit certifies.gives certifies.claim))
 
 -- with names or without
-abbrev pub CertifiesWith : Bool → Bool → Given → Certificate → Option ℕ → Option (List ℕ) → Option (List ℕ) → Option (List ℕ) → Option (List ℕ) → Option (List ℕ) → Option (List ℕ) → Option (List ℕ) → Answer → Type 0
-CertifiesWith false as_json g by choice first second third before now told told' a = Certifies as_json g by choice first second third before now a
-CertifiesWith true as_json g by choice first second third before now told told' a = CertifiesByName as_json g by choice first second third before now told told' a
+abbrev pub CertifiesWith : Bool → Bool → Given → Certificate → Option ℕ → ProofForm → Option (List ℕ) → Option (List ℕ) → Option (List ℕ) → Option (List ℕ) → Option (List ℕ) → Option (List ℕ) → Option (List ℕ) → Answer → Type 0
+CertifiesWith false as_json g by choice form first second third before now told told' a = Certifies as_json g by choice form first second third before now a
+CertifiesWith true as_json g by choice form first second third before now told told' a = CertifiesByName as_json g by choice form first second third before now told told' a

@@ -29,8 +29,9 @@ use aigertext::read_numbered;
 use base::{DeviceFault, Sink, Source};
 use blast::{Watch, lower_watched};
 use btor2::Model;
+use certificates::ProofForm;
 use drup::{Formula, Judgement, write_formula};
-use invocation::{Certificate, Given, Order};
+use invocation::{Certificate, Certified, Given, Order};
 use std::alloc::{AllocError, Global};
 
 /// The circuit that lowers a model.
@@ -172,32 +173,30 @@ fn write_owed_over<B: Source, O: Sink>(
 #[inline(never)]
 pub fn write_obligation<A: Source, B: Source, O: Sink, W: Watch>(
     alloc: Global,
-    given: Given,
-    by: Certificate,
-    choice: Option<usize>,
+    of: Certified,
     first: &mut A,
     second: &mut B,
     out: &mut O,
     watch: &mut W,
 ) -> Result<Answer, Refusal>
-    ensures done { OnOk result (WritesOwed given by choice (A.to_come first.old)
+    ensures done { OnOk result (WritesOwed of.given of.by of.choice (A.to_come first.old)
         (B.to_come second.old) (O.written out.old) (O.written out.new)) }
     ensures answer { IfOk result (λ answer. answer ≡ Answer.Done) }
     ensures refused { IfErr result
-        (IfInput (IsNotCertifiable by given choice (A.to_come first.old))) }
+        (IfInput (IsNotCertifiable of.by of.given of.choice (A.to_come first.old))) }
     ensures second { IfErr result
-        (IfSecond (IsFaultyCertificate by given choice (A.to_come first.old)
+        (IfSecond (IsFaultyCertificate of.by of.given of.choice (A.to_come first.old)
         (B.to_come second.old))) }
     ensures ends { EndsAll result (Used A.failures first.old first.new)
         (Used B.failures second.old second.new) Unused (Used O.failures out.old out.new) Unused }
 {
-    let read = read_given(alloc, given, first, watch)?;
+    let read = read_given(alloc, of.given, first, watch)?;
     write_owed_over(
         alloc,
-        by,
+        of.by,
         &read.circuit,
         &read.numbering,
-        choice,
+        of.choice,
         second,
         out,
     )
@@ -300,13 +299,14 @@ fn tell_verdict<O: Sink, E: Sink>(
     }
 }
 
-/// Judges a certificate of the bad property that is claimed of a circuit, whose file has this numbering; tells that, and with
+/// Judges a certificate of the bad property that is claimed of a circuit, and a proof in this form; tells that, and with
 /// names which one holds.
 fn check_over<B: Source, T: Source, O: Sink, E: Sink>(
     alloc: Global,
     order: &Order<'_>,
     by: Certificate,
     choice: Option<usize>,
+    form: ProofForm,
     read: &Read,
     second: &mut B,
     third: &mut T,
@@ -314,7 +314,7 @@ fn check_over<B: Source, T: Source, O: Sink, E: Sink>(
     err: &mut E,
 ) -> Result<Answer, Refusal>
     ensures done { (g : Given) (known : Option (List ℕ)) → IsRead g known read.now
-        → IfOk result (CertifiesWith order.now.named order.now.as_json g by choice known
+        → IfOk result (CertifiesWith order.now.named order.now.as_json g by choice form known
         (B.to_come second.old) (T.to_come third.old) (O.written out.old) (O.written out.new)
         (E.written err.old) (E.written err.new)) }
     ensures refused { (g : Given) (known : Option (List ℕ)) → IsRead g known read.now
@@ -332,6 +332,7 @@ fn check_over<B: Source, T: Source, O: Sink, E: Sink>(
     let judgement = judged(
         alloc,
         by,
+        form,
         &read.circuit,
         &read.numbering,
         claim,
@@ -341,14 +342,13 @@ fn check_over<B: Source, T: Source, O: Sink, E: Sink>(
     tell_verdict(alloc, order, read.subject(), claim, &judgement, out, err)
 }
 
-/// Reads what is given, judges a certificate of the bad property that is claimed of it; tells that, and with names which one
+/// Reads what is given, judges a certificate of the bad property that is claimed of it, and a proof in this form; tells that, and with names which one
 /// holds.
 pub fn check_proof<A: Source, B: Source, T: Source, O: Sink, E: Sink, W: Watch>(
     alloc: Global,
     order: &Order<'_>,
-    given: Given,
-    by: Certificate,
-    choice: Option<usize>,
+    of: Certified,
+    form: ProofForm,
     first: &mut A,
     second: &mut B,
     third: &mut T,
@@ -356,19 +356,21 @@ pub fn check_proof<A: Source, B: Source, T: Source, O: Sink, E: Sink, W: Watch>(
     err: &mut E,
     watch: &mut W,
 ) -> Result<Answer, Refusal>
-    ensures done { IfOk result (CertifiesWith order.now.named order.now.as_json given by choice
+    ensures done { IfOk result (CertifiesWith order.now.named order.now.as_json of.given of.by of.choice form
         (A.to_come first.old) (B.to_come second.old) (T.to_come third.old) (O.written out.old)
         (O.written out.new) (E.written err.old) (E.written err.new)) }
     ensures refused { IfErr result
-        (IfInput (IsNotCertifiable by given choice (A.to_come first.old))) }
+        (IfInput (IsNotCertifiable of.by of.given of.choice (A.to_come first.old))) }
     ensures second { IfErr result
-        (IfSecond (IsFaultyCertificate by given choice (A.to_come first.old)
+        (IfSecond (IsFaultyCertificate of.by of.given of.choice (A.to_come first.old)
         (B.to_come second.old))) }
     ensures ends { EndsAll result (Used A.failures first.old first.new)
         (Used B.failures second.old second.new) (Used T.failures third.old third.new)
         (Used O.failures out.old out.new) (Used E.failures err.old err.new) }
     ensures quiet { order.now.named ≡ false → err.new ≡ err.old }
 {
-    let read = read_given(alloc, given, first, watch)?;
-    check_over(alloc, order, by, choice, &read, second, third, out, err)
+    let read = read_given(alloc, of.given, first, watch)?;
+    check_over(
+        alloc, order, of.by, of.choice, form, &read, second, third, out, err,
+    )
 }

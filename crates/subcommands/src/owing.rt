@@ -6,6 +6,7 @@ ghost use Rattle.aiger.specs.Reachability.{CanRiseInCircuit};
 ghost use Rattle.witness_circuits.specs.Owing.{IsTestedFormula, IsTestedOverForm};
 ghost use Rattle.drup.specs.declared.judgement.Judgement.TheVariants as verdict;
 ghost use Rattle.certificates.specs.Certificates.{IsJudgedProof, IsOwed};
+ghost use Rattle.certificates.specs.declared.proof_form.ProofForm.{ProofForm};
 ghost use Rattle.invocation.specs.declared.tasks.Certificate.{Certificate};
 ghost use Rattle.subcommands.specs.Certificates.{IsCertifiedBy, IsOwedBy};
 ghost use Rattle.subcommands.specs.Claims.{IsClaim};
@@ -18,7 +19,7 @@ use crate::restoring::claim_of;
 use aiger::Circuit;
 use aigerlists::Numbering;
 use base::Source;
-use certificates::judge_proof;
+use certificates::{ProofForm, judge_proof};
 use drup::{Formula, Judgement};
 use engine_form::EngineFault;
 use invocation::Certificate;
@@ -144,31 +145,38 @@ pub fn owed<B: Source>(
     }
 }
 
-/// The judgement of the third file, a proof of a formula.
-fn proved<T: Source>(alloc: Global, formula: Formula, third: &mut T) -> Result<Judgement, Refusal>
-    ensures judged { IfOk result (IsJudgedProof formula (T.to_come third.old)) }
+/// The judgement of the third file, a proof in this form of a formula.
+fn proved<T: Source>(
+    alloc: Global,
+    form: ProofForm,
+    formula: Formula,
+    third: &mut T,
+) -> Result<Judgement, Refusal>
+    ensures judged { IfOk result (IsJudgedProof form formula (T.to_come third.old)) }
     ensures no_input { IsOfNoInput result }
     ensures ends { EndsAll result Unused Unused (Used T.failures third.old third.new) Unused
         Unused }
     ensures no_second { IfErr result (IfSecond (λ _. ⊥)) }
 {
-    match judge_proof(alloc, formula, third) {
+    match judge_proof(alloc, form, formula, third) {
         Ok(judgement) => Ok(judgement),
         Err(fault) => Err(Refusal::from(fault)),
     }
 }
 
-/// The judgement of the second and the third file, a certificate of a kind of a bad property of a circuit, and a proof.
+/// The judgement of the second and the third file, a certificate of a kind of a bad property of a circuit, and a proof
+/// in this form.
 pub fn judged<B: Source, T: Source>(
     alloc: Global,
     by: Certificate,
+    form: ProofForm,
     circuit: &Circuit,
     numbering: &Numbering,
     claim: usize,
     second: &mut B,
     third: &mut T,
 ) -> Result<Judgement, Refusal>
-    ensures certified { IfOk result (IsCertifiedBy by numbering.now circuit.now claim
+    ensures certified { IfOk result (IsCertifiedBy by form numbering.now circuit.now claim
         (B.to_come second.old) (T.to_come third.old)) }
     ensures refused { IfErr result (IfInput (IsWithoutFormBy by circuit.now claim)) }
     ensures second { IfErr result
@@ -177,15 +185,15 @@ pub fn judged<B: Source, T: Source>(
         (Used T.failures third.old third.new) Unused Unused }
 {
     let formula = owed(alloc, by, circuit, numbering, claim, second)?;
-    proved(alloc, formula, third)
+    proved(alloc, form, formula, third)
 }
 
 /// A law: a bad property of which a certificate is judged to hold rises in no frame up to which the circuit's constraints
 /// hold, in no trace from initial bits that agree with its resets.
 pub fn certified_never_rises()
-    ensures { (by : Certificate) (n : Option (List ℕ)) (c : Circuit) (k : ℕ)
+    ensures { (by : Certificate) (form : ProofForm) (n : Option (List ℕ)) (c : Circuit) (k : ℕ)
         (second : Option (List ℕ)) (third : Option (List ℕ)) (line : ℕ)
-        → IsCertifiedBy by n c k second third (verdict.Derived line) → ¬ CanRiseInCircuit c k }
+        → IsCertifiedBy by form n c k second third (verdict.Derived line) → ¬ CanRiseInCircuit c k }
 {
     certificates::laws::certified_property_never_rises();
     witness_circuits::laws::owed_formula_proved_never_rises();

@@ -5,13 +5,12 @@ use Rattle.std.specs.List.{count_by, find, list_all, list_any}
 use Rattle.std.specs.Str.{bytes_eq}
 use Rattle.base.specs.Decimals.{number_of}
 use Rattle.aigertext.specs.declared.forms.Form.TheVariants as form
+use Rattle.certificates.specs.declared.proof_form.ProofForm.TheVariants as proof
 use Rattle.vcd.specs.declared.scope.Shown.TheVariants as shown
-use Rattle.invocation.specs.declared.tasks.Certificate.{Certificate}
 use Rattle.invocation.specs.declared.tasks.Certificate.TheVariants as by
-use Rattle.invocation.specs.declared.tasks.CertificateTask.{CertificateTask}
 use Rattle.invocation.specs.declared.tasks.CertificateTask.TheVariants as certificate
+use Rattle.invocation.specs.declared.tasks.Certified.{Certified}
 use Rattle.invocation.specs.declared.tasks.CircuitTask.TheVariants as circuit
-use Rattle.invocation.specs.declared.tasks.Given.{Given}
 use Rattle.invocation.specs.declared.tasks.Given.TheVariants as given
 use Rattle.invocation.specs.declared.tasks.ListOrder.{ListOrder}
 use Rattle.invocation.specs.declared.tasks.ModelTask.TheVariants as model
@@ -72,12 +71,13 @@ fits ps _ name _ = false
 abbrev pub position : List Said → Option ℕ
 position ps = option_and_then number_of (value (codes "bad") ps)
 
--- a command on a certificate: of a model or a circuit, by an invariant or by a witness circuit of either
-abbrev pub certified : (Given → Certificate → Option ℕ → CertificateTask) → List Said → Option Task
-certified by_task ps = Some (task.Certificate (by_task
-    (if has (codes "aiger") ps then given.Circuit else given.Model)
-    (if has (codes "circuit") ps then (if has (codes "engine") ps then by.CircuitOfForm else by.Circuit) else by.Invariant)
-    (position ps)))
+-- what a certificate is about: a bad property of a model or a circuit, by an invariant or by a witness circuit of either
+abbrev pub certified : List Said → Certified
+certified ps = record {
+  given = if has (codes "aiger") ps then given.Circuit else given.Model;
+  by = if has (codes "circuit") ps then (if has (codes "engine") ps then by.CircuitOfForm else by.Circuit) else by.Invariant;
+  choice = position ps;
+}
 
 -- the task of a command; the judgement of a list is none
 abbrev pub task_of : Verb → List Said → Option Task
@@ -95,8 +95,9 @@ task_of verb.Lift ps = Some (task.Model
     else (if has (codes "engine") ps then model.LiftForm (position ps) else model.Lift)))
 task_of verb.Restore ps = Some (task.Circuit (if has (codes "abc") ps then circuit.Restore (position ps) else circuit.RestoreForm (position ps)))
 task_of verb.Wave ps = Some (task.Model (model.Wave (if has (codes "all") ps then shown.All else shown.Named)))
-task_of verb.Obligation ps = certified certificate.Obligation ps
-task_of verb.CheckProof ps = certified certificate.CheckProof ps
+task_of verb.Obligation ps = Some (task.Certificate (certificate.Obligation (certified ps)))
+task_of verb.CheckProof ps =
+    Some (task.Certificate (certificate.CheckProof (certified ps) (if has (codes "lrat") ps then proof.Hinted else proof.Plain)))
 task_of verb.TidyWitness ps = Some (task.Text (text.TidyWitness (unwrap_or (option_and_then number_of (value (codes "pick") ps)) 1)))
 task_of verb.Vectors ps = Some (task.Text text.Vectors)
 task_of verb.Judge ps = None

@@ -64,7 +64,7 @@ words_of verb.CheckProof =
     (codes "MODEL", kind.File) ∷ (codes "quiet", kind.Flag) ∷ (codes "names", kind.Flag)
     ∷ (codes "CERTIFICATE", kind.File) ∷ (codes "aiger", kind.Flag) ∷ (codes "circuit", kind.Flag)
     ∷ (codes "engine", kind.FlagWithCircuit) ∷ (codes "bad", kind.Position) ∷ (codes "PROOF", kind.File)
-    ∷ (codes "json", kind.Flag) ∷ []
+    ∷ (codes "lrat", kind.Flag) ∷ (codes "json", kind.Flag) ∷ []
 words_of verb.TidyWitness =
     (codes "WITNESS", kind.File) ∷ (codes "quiet", kind.Flag) ∷ (codes "output", kind.Text)
     ∷ (codes "pick", kind.Number) ∷ []

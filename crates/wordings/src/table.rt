@@ -178,6 +178,11 @@ const PROOF_FILE: Word = Word {
     kind: Kind::File,
 };
 
+const LRAT: Word = Word {
+    name: "lrat",
+    kind: Kind::Flag,
+};
+
 const PICK: Word = Word {
     name: "pick",
     kind: Kind::Number,
@@ -293,6 +298,7 @@ pub fn words_of(verb: Verb) -> &'static [Word]
             CERTIFIED_ENGINE,
             BAD,
             PROOF_FILE,
+            LRAT,
             JSON,
         ],
         Verb::TidyWitness => &[WITNESS_FILE, QUIET, OUTPUT, PICK],

@@ -3,8 +3,8 @@
 ghost use Rattle.std.specs.Prelude.{◌≡◌, Some, None, if◌then◌else◌, codes, map, option_and_then, option_map};
 ghost use Rattle.std.specs.Option.{unwrap_or};
 ghost use Rattle.base.specs.Decimals.{number_of};
+ghost use Rattle.certificates.specs.declared.proof_form.ProofForm.TheVariants as proof;
 ghost use Rattle.invocation.specs.declared.tasks.Certificate.TheVariants as by;
-ghost use Rattle.invocation.specs.declared.tasks.CertificateTask.TheVariants as certificate;
 ghost use Rattle.invocation.specs.declared.tasks.Given.TheVariants as given;
 ghost use Rattle.wordings.specs.declared.table.Verb.TheVariants as verb;
 ghost use Rattle.wordings.specs.Orders.{certified, has, judges, position, task_of, value};
@@ -14,7 +14,10 @@ use crate::contents::{has, value};
 use crate::parts::Part;
 use crate::table::Verb;
 use base::decimal;
-use invocation::{Certificate, CertificateTask, CircuitTask, Given, ModelTask, Task, TextTask};
+use certificates::ProofForm;
+use invocation::{
+    Certificate, CertificateTask, Certified, CircuitTask, Given, ModelTask, Task, TextTask,
+};
 use vcd::Shown;
 
 /// The position of a bad property, where one is chosen.
@@ -69,26 +72,26 @@ fn certificate(parts: &[Part<'_>]) -> Certificate
     }
 }
 
-/// The task of `obligation`.
-fn obligation(parts: &[Part<'_>]) -> Task
-    ensures { Some result ≡ certified certificate.Obligation (map said parts.now) }
+/// What a certificate is about.
+fn certified(parts: &[Part<'_>]) -> Certified
+    ensures { result ≡ certified (map said parts.now) }
 {
-    Task::Certificate(CertificateTask::Obligation(
-        given(parts),
-        certificate(parts),
-        position(parts),
-    ))
+    Certified {
+        given: given(parts),
+        by: certificate(parts),
+        choice: position(parts),
+    }
 }
 
-/// The task of `check-proof`.
-fn check_proof(parts: &[Part<'_>]) -> Task
-    ensures { Some result ≡ certified certificate.CheckProof (map said parts.now) }
+/// The form of the proof of `check-proof`.
+fn proof_form(parts: &[Part<'_>]) -> ProofForm
+    ensures { result ≡ (if has (codes "lrat") (map said parts.now) then proof.Hinted else proof.Plain) }
 {
-    Task::Certificate(CertificateTask::CheckProof(
-        given(parts),
-        certificate(parts),
-        position(parts),
-    ))
+    if has("lrat", parts) {
+        ProofForm::Hinted
+    } else {
+        ProofForm::Plain
+    }
 }
 
 /// The task of `aig-convert`.
@@ -144,8 +147,11 @@ pub(crate) fn task_of(verb: Verb, parts: &[Part<'_>]) -> Option<Task>
         Verb::Restore => Some(Task::Circuit(CircuitTask::RestoreForm(position(parts)))),
         Verb::Wave if has("all", parts) => Some(Task::Model(ModelTask::Wave(Shown::All))),
         Verb::Wave => Some(Task::Model(ModelTask::Wave(Shown::Named))),
-        Verb::Obligation => Some(obligation(parts)),
-        Verb::CheckProof => Some(check_proof(parts)),
+        Verb::Obligation => Some(Task::Certificate(CertificateTask::Obligation(certified(parts)))),
+        Verb::CheckProof => Some(Task::Certificate(CertificateTask::CheckProof(
+            certified(parts),
+            proof_form(parts),
+        ))),
         Verb::TidyWitness => Some(Task::Text(TextTask::TidyWitness(picked(parts)))),
         Verb::Vectors => Some(Task::Text(TextTask::Vectors)),
         Verb::Judge => None,

@@ -3,6 +3,7 @@
 ghost use Rattle.std.specs.Prelude.{◌≡◌, ℕ, List, [], ◌∷◌, Some, None, true, false, codes};
 ghost use Rattle.std.specs.Borrow.{Bor};
 ghost use Rattle.aigertext.specs.declared.forms.Form.TheVariants as form;
+ghost use Rattle.certificates.specs.declared.proof_form.ProofForm.TheVariants as proof;
 ghost use Rattle.vcd.specs.declared.scope.Shown.TheVariants as shown;
 ghost use Rattle.invocation.specs.declared.tasks.Certificate.TheVariants as by;
 ghost use Rattle.invocation.specs.declared.tasks.CertificateTask.TheVariants as certificate;
@@ -82,14 +83,14 @@ pub fn worked_wave()
 /// Worked rows, with no code: words that say `obligation`, and words that say nothing.
 pub fn worked_obligation()
     ensures says { (first second : Bor (List ℕ)) → first.now ≡ codes "m" → second.now ≡ codes "w"
-        → Says (codes "obligation" ∷ codes "--aiger" ∷ codes "m" ∷ codes "w" ∷ []) (request.One (record { task = task.Certificate (certificate.Obligation given.Circuit by.Invariant None); named = false; as_json = false; asked = None; form = form.Ascii; first = first; second = Some second; third = None; output = None; tells_progress = true })) }
+        → Says (codes "obligation" ∷ codes "--aiger" ∷ codes "m" ∷ codes "w" ∷ []) (request.One (record { task = task.Certificate (certificate.Obligation (record { given = given.Circuit; by = by.Invariant; choice = None })); named = false; as_json = false; asked = None; form = form.Ascii; first = first; second = Some second; third = None; output = None; tells_progress = true })) }
     ensures none { (o : Order) → ¬ Says (codes "obligation" ∷ codes "--engine" ∷ codes "m" ∷ codes "w" ∷ []) (request.One o) }
 {}
 
 /// Worked rows, with no code: words that say `check-proof`, and words that say nothing.
 pub fn worked_check_proof()
     ensures says { (first second third : Bor (List ℕ)) → first.now ≡ codes "m" → second.now ≡ codes "w" → third.now ≡ codes "p"
-        → Says (codes "check-proof" ∷ codes "--circuit" ∷ codes "--engine" ∷ codes "m" ∷ codes "w" ∷ codes "p" ∷ []) (request.One (record { task = task.Certificate (certificate.CheckProof given.Model by.CircuitOfForm None); named = false; as_json = false; asked = None; form = form.Ascii; first = first; second = Some second; third = Some third; output = None; tells_progress = true })) }
+        → Says (codes "check-proof" ∷ codes "--circuit" ∷ codes "--engine" ∷ codes "m" ∷ codes "w" ∷ codes "p" ∷ []) (request.One (record { task = task.Certificate (certificate.CheckProof (record { given = given.Model; by = by.CircuitOfForm; choice = None }) proof.Plain); named = false; as_json = false; asked = None; form = form.Ascii; first = first; second = Some second; third = Some third; output = None; tells_progress = true })) }
     ensures none { (o : Order) → ¬ Says (codes "check-proof" ∷ codes "m" ∷ codes "w" ∷ []) (request.One o) }
 {}
 

@@ -20,7 +20,7 @@ returns-clause-done g c = λ gives known is.
     let now = g.O.Sink.written c.tell_verdict.new.out in
     let Said : List ℕ → Type 0 = λ what. OnOk c.tell_verdict.result (Appends told told' (where_named c.args.order.now.named (holds_said c.in_ok-judgement.judgement what))) in
     let Written : List ℕ → Type 0 = λ what. OnOk c.tell_verdict.result (Appends before now (verdict_written c.args.order.now.as_json what c.in_ok-claim.claim c.in_ok-judgement.judgement)) in
-    certified c.args.order.now.named c.args.order.now.as_json c.tell_verdict.result gives c.args.by c.args.choice c.args.read.now.numbering known (g.B.Source.to_come c.args.second.now) (g.T.Source.to_come c.args.third.now) before now told told' c.args.read.now.circuit c.in_ok-claim.claim c.in_ok-judgement.judgement
+    certified c.args.order.now.named c.args.order.now.as_json c.tell_verdict.result gives c.args.by c.args.choice c.args.form c.args.read.now.numbering known (g.B.Source.to_come c.args.second.now) (g.T.Source.to_come c.args.third.now) before now told told' c.args.read.now.circuit c.in_ok-claim.claim c.in_ok-judgement.judgement
     c.certified_never_rises.ensures c.bad_properties_rise_alike.ensures is.gives is.is_numbering c.in_ok-claim.ensures.claim c.in_ok-judgement.ensures.certified
     (subst Written (c.subject.ensures.names c.in_ok-claim.claim ∙ is.names c.in_ok-claim.claim) c.tell_verdict.ensures.written)
     (subst Said (c.subject.ensures.says c.in_ok-claim.claim ∙ is.says c.in_ok-claim.claim) c.tell_verdict.ensures.told) c.tell_verdict.ensures.so

@@ -16,10 +16,10 @@ pub returns-clause-ends : goal.returns-clause-ends
 returns-clause-ends g c = ends_all_as (unfailed (c.in_ok-read.ensures.ends.counted 0 0 0).0) as_is as_is as_was as_was c.write_owed_over.ensures.ends
 
 pub returns-clause-done : goal.returns-clause-done
-returns-clause-done g c = c.write_owed_over.ensures.done c.args.given (g.A.Source.to_come c.args.first.now) c.in_ok-read.ensures.read.gives c.in_ok-read.ensures.read.is_numbering
+returns-clause-done g c = c.write_owed_over.ensures.done c.args.of.given (g.A.Source.to_come c.args.first.now) c.in_ok-read.ensures.read.gives c.in_ok-read.ensures.read.is_numbering
 
 pub returns-clause-refused : goal.returns-clause-refused
-returns-clause-refused g c = c.write_owed_over.ensures.refused c.args.given (g.A.Source.to_come c.args.first.now) c.in_ok-read.ensures.read.gives
+returns-clause-refused g c = c.write_owed_over.ensures.refused c.args.of.given (g.A.Source.to_come c.args.first.now) c.in_ok-read.ensures.read.gives
 
 pub returns-clause-second : goal.returns-clause-second
-returns-clause-second g c = c.write_owed_over.ensures.second c.args.given (g.A.Source.to_come c.args.first.now) c.in_ok-read.ensures.read.gives c.in_ok-read.ensures.read.is_numbering
+returns-clause-second g c = c.write_owed_over.ensures.second c.args.of.given (g.A.Source.to_come c.args.first.now) c.in_ok-read.ensures.read.gives c.in_ok-read.ensures.read.is_numbering
