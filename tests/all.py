@@ -65,6 +65,7 @@ CHECKS = [
     Check("c_library", ["tests/c_library.sh", PROGRAM, LIBRARIES], ["cc"], lines=3, has_library=True),
     Check("python", ["-m", "unittest", "discover", "-s", "python/tests"], has_library=True),
     Check("release", ["tests/release.sh"], ["git", "objdump", "nm"]),
+    Check("hinted", ["tests/hinted.py", PROGRAM], ["cadical"]),
     Check("witness_circuits", ["tests/witness_circuits.py", PROGRAM], ["cadical"]),
     Check("flow", ["tests/flow.sh", PROGRAM], ["yosys", "berkeley-abc", "cadical", "z3"]),
     Check("flow_tool", ["tests/flow_tool.py", PROGRAM], ["yosys", "berkeley-abc", "cadical"]),

@@ -2,11 +2,14 @@
 """Tries proofs with hints: what `check-proof --lrat` says beside a judge that is written here from docs/FORMATS.md.
 
     hinted.py [PROGRAM] [--rounds N] [--seed N]
+    hinted.py --refute FORMULA PROOF
 
 PROGRAM is crates/hwtool/out/hwtool where none is given. The formulas are those that the examples owe. CaDiCaL refutes each, and the
 hints of its proof are found here, by propagation with reasons; each proof is written as text and in the binary form, whole, cut and
 spoilt by chance, in its steps and in its bytes. It says how much was tried, and how it came out. The status is 0 where the program
 says of each what is said here, else 1.
+
+The second form refutes a formula in DIMACS by CaDiCaL, and writes the proof with hints as text. Its status is 20 then, as CaDiCaL's.
 """
 import argparse
 import collections
@@ -324,21 +327,37 @@ def spoilt_bytes(data, chance):
     return bytes(found)
 
 
+def refuted(formula, drat):
+    """The count of variables and the clauses of the formula of a file, and the steps by which CaDiCaL refutes it."""
+    subprocess.run(["cadical", "-q", "--no-binary", formula, drat], stdout=subprocess.DEVNULL)
+    variables, clauses = clauses_of(formula.read_text())
+    return variables, clauses, hinted(clauses, drat.read_text())
+
+
+def refute(formula, proof):
+    """Writes the proof with hints of a formula."""
+    with tempfile.TemporaryDirectory() as folder:
+        steps = refuted(formula, pathlib.Path(folder, "o.drat"))[2]
+    proof.write_bytes(as_text(steps, steps[-1][0]))
+    return 20
+
+
 def main():
     words = argparse.ArgumentParser(description=__doc__.splitlines()[0])
+    words.add_argument("--refute", nargs=2, type=pathlib.Path, metavar=("FORMULA", "PROOF"))
     words.add_argument("program", nargs="?", default=TOP / "crates/hwtool/out/hwtool")
     words.add_argument("--rounds", type=int, default=1000)
     words.add_argument("--seed", type=int, default=1)
     asked = words.parse_args()
+    if asked.refute:
+        return refute(*asked.refute)
     program, chance = pathlib.Path(asked.program).resolve(), random.Random(asked.seed)
     came, wrong = collections.Counter(), 0
     with tempfile.TemporaryDirectory() as folder:
         formula, drat, proof = (pathlib.Path(folder, it) for it in ("o.cnf", "o.drat", "o.lrat"))
         for owed in OWED:
             subprocess.run([program, "obligation", "-o", formula, *owed], check=True)
-            subprocess.run(["cadical", "-q", "--no-binary", formula, drat], stdout=subprocess.DEVNULL)
-            variables, clauses = clauses_of(formula.read_text())
-            steps = hinted(clauses, drat.read_text())
+            variables, clauses, steps = refuted(formula, drat)
             for turn in range(asked.rounds):
                 tried = steps
                 for _ in range(min(turn, chance.choice([0, 1, 1, 1, 2, 3]))):
@@ -358,7 +377,7 @@ def main():
                     print(f"{' '.join(map(str, owed))}, turn {turn}: wanted {wanted!r}, got {said.returncode} {got!r} {said.stderr!r} (kept as {kept})")
     told = ", ".join(f"{count} {what}" for what, count in came.most_common())
     print(f"{sum(came.values())} proofs with hints tried, {wrong} wrong: {told}")
-    return wrong != 0
+    return int(wrong != 0)
 
 
 if __name__ == "__main__":

@@ -138,6 +138,9 @@ for name in wraps guarded followers; do
     expect "check-proof $name" 0 ""
     expect_line "check-proof $name" out "holds: b0"
 done
+"$program" check-proof --lrat "$top"/examples/wraps.{btor2,invariant,lrat} >out 2>err; status=$?
+expect "check-proof --lrat" 0 ""
+expect_line "check-proof --lrat" out "holds: b0"
 "$program" check-proof --bad 1 "$top"/examples/two-counters.{btor2,invariant,proof} >out 2>err; status=$?
 expect "check-proof --bad 1" 0 ""
 expect_line "check-proof --bad 1" out "holds: b1"

@@ -287,6 +287,14 @@ class Certificates(unittest.TestCase):
         self.assertEqual((str(verdict), verdict.holds), ("malformed line 2: 161 BadWord", False))
         self.assertIn("DRAT", verdict.remedy)
 
+    def test_hints(self):
+        model, invariant, proof = (EXAMPLES / f"wraps.{end}" for end in ("btor2", "invariant", "lrat"))
+        self.assertEqual(str(hwtool.check_proof(model, 0, invariant, proof, lrat=True)), "holds: b0")
+        self.assertEqual(str(hwtool.check_proof_aig(hwtool.lower(model), 0, invariant, proof, lrat=True)), "holds: b0")
+        # without hints in mind they are literals
+        self.assertEqual(str(hwtool.check_proof(model, 0, invariant, proof)), "malformed line 1: 162 BadVariable")
+        self.assertEqual(str(hwtool.check_proof_circuit(KEPT_LATCH, 0, KEPT_LATCH, b"", aiger=True, lrat=True)), "not derived")
+
 
 class Refusals(unittest.TestCase):
     def refused(self, call, *given, line, number, name, kind, unit, place, remedy, **named):

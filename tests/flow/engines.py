@@ -1,10 +1,11 @@
 """Engines and solvers that lie, in each way, and those that tell the truth in each form."""
+import os
 import re
 import shutil
 import subprocess
 import sys
 
-from .common import ALL_HOLD, EXAMPLES, HOLDS, MAKER, ONE_FAILS, OPEN, left_over, liar, maker, tally
+from .common import ALL_HOLD, EXAMPLES, HOLDS, MAKER, ONE_FAILS, OPEN, TOP, left_over, liar, maker, tally
 
 
 BY_INVARIANT = maker("--invariant found", 'berkeley-abc -q "read_aiger {form}; strash; pdr -d -I found" >&2; ')
@@ -180,6 +181,36 @@ def try_other_forms(place):
         )
         shutil.rmtree(place.folder / "other.flow")
     try_witness_circuits(place)
+    try_hinted_proofs(place)
+
+
+def try_hinted_proofs(place):
+    """Solvers that write proofs with hints: one that is named, CaDiCaL where its help says that it can, and one that lies."""
+    place = place.sub("hinted")
+    queue = EXAMPLES / "flow/queue.v"
+    refute = f"{sys.executable} {TOP}/tests/hinted.py --refute"
+    words = [queue, "-o", "hinted.flow", "--engine", "pdr", "--property", "1"]
+    done = place.run(*words, "--solver", f"hints={refute} {{formula}} {{hinted_proof}}")
+    tally.same("a proof with hints", (ALL_HOLD, HOLDS), (done.returncode, place.verdict("hinted.flow", 1)))
+    kept = sorted(it.name for it in (place.folder / "hinted.flow/b1").iterdir())
+    tally.same("a proof with hints: what is kept", ["form.aig", "formula.cnf", "invariant", "proof.lrat"], kept)
+    tally.same("a proof with hints: check.sh", (OPEN, "1 confirmed, 0 not, 2 open"), place.checked("hinted.flow"))
+    again = place.run(*words, "--solver", "none=false {proof}")
+    tally.same("a proof with hints: a second run", (ALL_HOLD, HOLDS), (again.returncode, place.verdict("hinted.flow", 1)))
+    shutil.rmtree(place.folder / "hinted.flow")
+    known = place.folder / "bin/cadical"
+    known.parent.mkdir()
+    known.write_text(f'#!/bin/sh\ncase $1 in --help) echo "  --lrat" ;; --version) echo 9 ;; *) PATH={os.environ["PATH"]} exec {refute} "$4" "$5" ;; esac\n')
+    known.chmod(0o755)
+    done = place.run(*words, env={**os.environ, "PATH": f"{known.parent}:{os.environ['PATH']}"})
+    tally.same("CaDiCaL that knows hints", (ALL_HOLD, HOLDS), (done.returncode, place.verdict("hinted.flow", 1)))
+    kept = sorted(it.name for it in (place.folder / "hinted.flow/b1").iterdir())
+    tally.same("CaDiCaL that knows hints: what is kept", ["form.aig", "formula.cnf", "invariant", "proof.lrat"], kept)
+    shutil.rmtree(place.folder / "hinted.flow")
+    lie = liar("given", EXAMPLES / "followers.proof", "{hinted_proof}", handed="{formula}")
+    done = place.run(*words, "--solver", f"liar={lie}", "--timeout", "8")
+    tally.same("a proof without hints", (OPEN, None), (done.returncode, place.verdict("hinted.flow", 1)))
+    tally.true("a proof without hints: what is said", "check-proof: malformed" in done.stdout, done.stdout + done.stderr)
 
 
 def try_witness_circuits(place):

@@ -35,8 +35,8 @@ ENGINE_HELP = f"""engines to try, in this order: {', '.join(it.name for it in en
 handed {{form}}, the engine form of one property in AIGER, or {{model}}, and {{bad}}, {{depth}}, {{seconds}}. It writes
 {{counterexample}} as ABC does, {{witness}} of the form, {{model_witness}}, {{invariant}}, or {{witness_circuit}} of the form; if it
 names none of these, its standard output is the witness"""
-SOLVER_HELP = f"""what makes proofs in ascii DRAT: {', '.join(it.name for it in engines.SOLVERS)}, or NAME=COMMAND with {{formula}} and
-{{proof}}"""
+SOLVER_HELP = f"""what makes proofs: {engines.names_of(engines.SOLVERS)}, or NAME=COMMAND with {{formula}}, and
+{{proof}} in ascii DRAT or {{hinted_proof}} in LRAT"""
 READ_HELP = """steps of Yosys that read the source and do nothing else, in place of files; all that follows is done as for files"""
 YOSYS_HELP = """steps of Yosys in place of those that hwtool-flow chooses; it reads the files first, where no step does, and writes the
 model last"""
@@ -140,7 +140,7 @@ def pass_over_signals() -> None:
 
 def status_of(words: argparse.Namespace, runner: Runner) -> int:
     """Does all that the words ask for."""
-    there = Tools.found(words)
+    there = Tools.found(words, runner)
     folder = Folder(folder_named(words), inputs_of(words))
     try:
         return Run(words, runner, folder, there).status()

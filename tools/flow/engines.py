@@ -58,6 +58,7 @@ class Handed(enum.Enum):
     MODEL = "model"
     FORMULA = "formula"
     PROOF = "proof"
+    HINTED_PROOF = "hinted_proof"
     BAD = "bad"
     DEPTH = "depth"
     SECONDS = "seconds"
@@ -67,7 +68,8 @@ class Handed(enum.Enum):
 class Engine:
     """An engine: its words, its part of the time that is left, and what in its output tells how far it is.
 
-    Where `proves` is said, what it writes of a property that holds is a claim only with these words in its output.
+    Where `proves` is said, what it writes of a property that holds is a claim only with these words in its output. Where `option` is
+    said, only a program whose help names it is one.
     """
 
     name: str
@@ -75,6 +77,7 @@ class Engine:
     weight: int = 1
     progress: str = r"^\s*(\d+) [+:]"
     proves: str = ""
+    option: str = ""
 
     def placeholders(self) -> List[str]:
         """The placeholders in its words."""
@@ -116,6 +119,7 @@ ENGINES = [
 
 # Any of these that is there makes proofs; the first is taken.
 SOLVERS = [
+    Engine("cadical", ["cadical", "-q", "--lrat", "--no-binary", "{formula}", "{hinted_proof}"], option="--lrat"),
     Engine("cadical", ["cadical", "-q", "--no-binary", "{formula}", "{proof}"]),
     Engine("kissat", ["kissat", "-q", "--no-binary", "{formula}", "{proof}"]),
 ]
@@ -132,24 +136,31 @@ VERSIONS = {
     "cadical": ["--version"],
     "kissat": ["--version"],
 }
-# How long a program has for that, in seconds.
+# How long a program has for that, and for its help, in seconds.
 VERSION_SECONDS = 10.0
 
 # The Debian package that has a program.
 PACKAGES = {"yosys": "yosys", "berkeley-abc": "berkeley-abc", "cadical": "cadical"}
 
 ENGINE_WORDS = {it.value for it in Gives} | {it.value for it in (Handed.FORM, Handed.MODEL, Handed.BAD, Handed.DEPTH, Handed.SECONDS)}
-SOLVER_WORDS = {it.value for it in (Handed.FORMULA, Handed.PROOF, Handed.SECONDS)}
+# The proof that a solver writes, in DRAT or in LRAT.
+PROOFS = {it.value for it in (Handed.PROOF, Handed.HINTED_PROOF)}
+SOLVER_WORDS = {it.value for it in (Handed.FORMULA, Handed.SECONDS)} | PROOFS
 
 
-def named(word: str, table: Sequence[Engine], known: set, needed: set) -> Engine:
-    """An engine by its name in a table, or by NAME=COMMAND, whose placeholders must be known, one of some among them."""
+def names_of(table: Sequence[Engine]) -> str:
+    """The names of a table."""
+    return ", ".join(dict.fromkeys(it.name for it in table))
+
+
+def named(word: str, table: Sequence[Engine], known: set, needed: set) -> List[Engine]:
+    """Engines by their name in a table, or one by NAME=COMMAND, whose placeholders must be known, one of some among them."""
     name, equals, command = word.partition("=")
     if not equals:
         found = [it for it in table if it.name == name]
         if not found:
-            raise WordsRefused(f"{name}: not one of {', '.join(it.name for it in table)}, and no NAME=COMMAND")
-        return found[0]
+            raise WordsRefused(f"{name}: not one of {names_of(table)}, and no NAME=COMMAND")
+        return found
     try:
         engine = Engine(name, shlex.split(command))
     except ValueError as fault:
@@ -159,17 +170,17 @@ def named(word: str, table: Sequence[Engine], known: set, needed: set) -> Engine
         raise WordsRefused(f"{word}: {'no placeholder {' + strange[0] + '}' if strange else 'a name of letters and digits, =, a command'}")
     if not needed & set(engine.placeholders()):
         raise WordsRefused(f"{word}: none of {', '.join('{' + it + '}' for it in sorted(needed))} is in the command")
-    return engine
+    return [engine]
 
 
 def engine_named(word: str) -> Engine:
     """An engine of the table, or one of the command line."""
-    return named(word, ENGINES, ENGINE_WORDS, {Handed.FORM.value, Handed.MODEL.value})
+    return named(word, ENGINES, ENGINE_WORDS, {Handed.FORM.value, Handed.MODEL.value})[0]
 
 
-def solver_named(word: str) -> Engine:
-    """A solver of the table, or one of the command line."""
-    return named(word, SOLVERS, SOLVER_WORDS, {Handed.PROOF.value})
+def solvers_named(word: str) -> List[Engine]:
+    """The solvers of the table with a name, or one of the command line."""
+    return named(word, SOLVERS, SOLVER_WORDS, PROOFS)
 
 
 def program_of(engine: Engine) -> Optional[str]:
@@ -179,9 +190,12 @@ def program_of(engine: Engine) -> Optional[str]:
     return os.path.abspath(found) if found else None
 
 
-def is_there(engine: Engine) -> bool:
-    """Whether the program of an engine can be run."""
-    return program_of(engine) is not None
+def is_there(engine: Engine, runner: Runner) -> bool:
+    """Whether the program of an engine can be run, and its help names the option that is asked of it, if one is."""
+    program = program_of(engine)
+    if program is None or not engine.option:
+        return program is not None
+    return re.search(rf"(?<![\w-]){re.escape(engine.option)}(?![\w-])", said_by([program, "--help"], runner)) is not None
 
 
 def missing_line(program: str) -> str:
@@ -190,12 +204,15 @@ def missing_line(program: str) -> str:
     return f"{program}: not on the path" + (f"; Debian has it as {package}: apt-get install {package}" if package else "")
 
 
+def said_by(words: Sequence[str], runner: Runner) -> str:
+    """What a program says that does well; of another one nothing."""
+    with nameless() as said:
+        ended = runner.run_own(words, Path("/"), said.fileno(), said.fileno(), VERSION_SECONDS)
+        return head_of(said.fileno()) if ended.status == 0 else ""
+
+
 def version_of(program: str, runner: Runner) -> str:
     """The version of a program of the tables by its own word, in its last line; of another program nothing is asked."""
     words = VERSIONS.get(os.path.basename(program))
-    if words is None:
-        return ""
-    with nameless() as said:
-        ended = runner.run_own([program, *words], Path("/"), said.fileno(), said.fileno(), VERSION_SECONDS)
-        lines = head_of(said.fileno()).split("\n")
-    return next((it.strip() for it in reversed(lines) if it.strip()), "") if ended.status == 0 else ""
+    lines = said_by([program, *words], runner).split("\n") if words else []
+    return next((it.strip() for it in reversed(lines) if it.strip()), "")

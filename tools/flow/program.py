@@ -173,9 +173,10 @@ class Program:
             return Judged(said.words, True, said.line, int(reached[1]))
         return Judged(said.words, False, said.line + (f", but of another property than b{number}" if said.status == 0 else ""))
 
-    def judge_holding(self, model: Model, number: int, evidence: Evidence, certificate: Held, proof: Held) -> Judged:
+    def judge_holding(self, model: Model, number: int, evidence: Evidence, certificate: Held, proof: Held, has_hints: bool) -> Judged:
         """Whether an invariant or a witness circuit, and a proof, show that this property holds."""
-        said = self.call("check-proof", *of_kind(model, evidence), "--bad", str(number), "--names", model.held, certificate, proof)
+        lrat = ["--lrat"] if has_hints else []
+        said = self.call("check-proof", *of_kind(model, evidence), *lrat, "--bad", str(number), "--names", model.held, certificate, proof)
         return Judged(said.words, said.status == 0 and said.out.splitlines()[:1] == [f"holds: b{number}"], said.line)
 
 

@@ -1,5 +1,6 @@
 """One property: engines are tried in order, and what they claim is checked. Who claims what is not confirmed costs its time."""
 import contextlib
+import os
 import threading
 import time
 from dataclasses import dataclass, field
@@ -20,7 +21,7 @@ ENGINE_BYTES = 64 << 20
 SOLVER_BYTES = 4 << 30
 # How much of an engine's last words is told.
 MOST_WORDS = 200
-FORM, DUMP, SAVED, FORMULA, PROOF = "form.aig", "dump.vcd", "dump.gtkw", "formula.cnf", "proof"
+FORM, DUMP, SAVED, FORMULA, PROOF, HINTED_PROOF = "form.aig", "dump.vcd", "dump.gtkw", "formula.cnf", "proof", "proof.lrat"
 WITNESS = Evidence.WITNESS.value
 # How the first frame of a dump begins.
 FIRST_FRAME = b"\n#"
@@ -181,9 +182,15 @@ class Job:
         """What an earlier run kept to show a verdict, if all of it is there."""
         folder = self.prover.folder
         with contextlib.suppress(OSError):
-            proof = folder.read(self.name(PROOF), SOLVER_BYTES) if evidence.shows is Verdict.HOLDS else None
+            proof = self.proof_before() if evidence.shows is Verdict.HOLDS else None
             return Grounds(evidence, folder.read(self.name(evidence.value), ENGINE_BYTES), proof)
         return None
+
+    def proof_before(self) -> Held:
+        """The proof that an earlier run kept, in either form."""
+        with contextlib.suppress(FileNotFoundError):
+            return self.prover.folder.read(self.name(HINTED_PROOF), SOLVER_BYTES)
+        return self.prover.folder.read(self.name(PROOF), SOLVER_BYTES)
 
     def shares(self, deadline: float) -> Iterator[Tuple[Engine, float]]:
         """The engines, each with its part of the time that is left when its turn comes."""
@@ -289,13 +296,15 @@ class Job:
         certificate = found.named(self.name(evidence.value))
         formula = self.made(self.program.formula(self.model, self.property.number, evidence, certificate, self.name(FORMULA)))
         seconds = max(0.0, deadline - time.monotonic())
-        values = {Handed.FORMULA.value: FORMULA, Handed.PROOF.value: PROOF, Handed.SECONDS.value: str(max(1, int(seconds)))}
+        values = {Handed.FORMULA.value: FORMULA, Handed.SECONDS.value: str(max(1, int(seconds)))}
+        values.update({Handed.PROOF.value: PROOF, Handed.HINTED_PROOF.value: HINTED_PROOF})
+        name = HINTED_PROOF if Handed.HINTED_PROOF.value in solver.placeholders() else PROOF
         with self.place(solver.name) as place, nameless(is_large=True) as log:
             place.put(FORMULA, formula)
             ended = self.prover.runner.run(solver.filled(values), place.path, log.fileno(), None, seconds, SOLVER_BYTES)
             if ended.how is Ending.STOPPED:
                 raise Stopped
-            proof = place.take(PROOF, self.name(PROOF), SOLVER_BYTES)
+            proof = place.take(name, self.name(name), SOLVER_BYTES)
         if proof is None:
             raise NotMade(solver.name, f"it wrote no proof: {ended}")
         return Grounds(evidence, certificate, proof)
@@ -304,7 +313,8 @@ class Job:
         """Has what shows a verdict judged. This call alone makes a verdict."""
         if grounds.proof is None:
             return self.program.judge_failure(self.model, self.property.number, grounds.text)
-        return self.program.judge_holding(self.model, self.property.number, grounds.evidence, grounds.text, grounds.proof)
+        has_hints = os.path.basename(grounds.proof.name) == HINTED_PROOF
+        return self.program.judge_holding(self.model, self.property.number, grounds.evidence, grounds.text, grounds.proof, has_hints)
 
     def drawn(self, witness: Held) -> List[Held]:
         """The frames of a witness of a model for GTKWave, and which signals are to be seen first."""

@@ -66,12 +66,12 @@ class Tools:
     missing: List[str]
 
     @staticmethod
-    def found(words: argparse.Namespace) -> "Tools":
+    def found(words: argparse.Namespace, runner: Runner) -> "Tools":
         """What the words name, or else the tables; where no engine is there, nothing can be done."""
         wanted = [engines.engine_named(it) for it in words.engine] if words.engine else engines.ENGINES
-        solvers = [engines.solver_named(words.solver)] if words.solver else engines.SOLVERS
-        there = [it for it in wanted if engines.is_there(it)]
-        solver = next(filter(engines.is_there, solvers), None)
+        solvers = engines.solvers_named(words.solver) if words.solver else engines.SOLVERS
+        there = [it for it in wanted if engines.is_there(it, runner)]
+        solver = next((it for it in solvers if engines.is_there(it, runner)), None)
         missing = sorted({engines.missing_line(it.command[0]) for it in wanted if it not in there})
         if solver is None:
             missing.append(engines.missing_line(solvers[0].command[0]) + "; nothing is proved to hold without a solver")
