@@ -7,7 +7,8 @@ use Rattle.aiger.specs.Reachability.{CanRiseInCircuit}
 use Rattle.blast.specs.Lowering.{Lowers}
 use Rattle.witness_circuits.specs.Owing.{IsTestedFormula, IsTestedOverForm}
 use Rattle.drup.specs.Formula.{Formula}
-use Rattle.drup.specs.Judgements.{JudgesProof}
+use Rattle.certificates.specs.Certificates.{JudgesIn}
+use Rattle.certificates.specs.declared.proof_form.ProofForm.{ProofForm}
 use Rattle.drup.specs.declared.judgement.Judgement.TheVariants as judgement
 use Rattle.capi.specs.Guarded.{IsOwedAsWitness, NeverRisesInText, TextGives}
 
@@ -18,9 +19,9 @@ never_in_text false first c gives k alike cannot = λ can. cannot ((alike gives.
 never_in_text true first c gives k alike cannot = cannot
 
 -- a formula that is owed and proved shows that the property never rises
-pub owed_never_rises : (over_form : Bool) (n : Option (List ℕ)) (c : Circuit) (k : ℕ) (witness : List ℕ) (f : Formula) (text : List ℕ) (line : ℕ)
-    → ((n : Option (List ℕ)) (c : Circuit) (k : ℕ) (witness : Option (List ℕ)) (f : Formula) (text : List ℕ) (line : ℕ) → IsTestedFormula n c k witness f → JudgesProof f text (judgement.Derived line) → CanRiseInCircuit c k → ⊥)
-    → ((c : Circuit) (k : ℕ) (witness : Option (List ℕ)) (f : Formula) (text : List ℕ) (line : ℕ) → IsTestedOverForm c k witness f → JudgesProof f text (judgement.Derived line) → CanRiseInCircuit c k → ⊥)
-    → IsOwedAsWitness over_form n c k witness f → JudgesProof f text (judgement.Derived line) → CanRiseInCircuit c k → ⊥
-owed_never_rises false n c k witness f text line law law_of_form owed judged = law n c k (Some witness) f text line owed judged
-owed_never_rises true n c k witness f text line law law_of_form owed judged = law_of_form c k (Some witness) f text line owed judged
+pub owed_never_rises : (over_form : Bool) (n : Option (List ℕ)) (c : Circuit) (k : ℕ) (witness : List ℕ) (f : Formula) (form : ProofForm) (text : List ℕ) (line : ℕ)
+    → ((n : Option (List ℕ)) (c : Circuit) (k : ℕ) (witness : Option (List ℕ)) (f : Formula) (form : ProofForm) (text : List ℕ) (line : ℕ) → IsTestedFormula n c k witness f → JudgesIn form f text (judgement.Derived line) → CanRiseInCircuit c k → ⊥)
+    → ((c : Circuit) (k : ℕ) (witness : Option (List ℕ)) (f : Formula) (form : ProofForm) (text : List ℕ) (line : ℕ) → IsTestedOverForm c k witness f → JudgesIn form f text (judgement.Derived line) → CanRiseInCircuit c k → ⊥)
+    → IsOwedAsWitness over_form n c k witness f → JudgesIn form f text (judgement.Derived line) → CanRiseInCircuit c k → ⊥
+owed_never_rises false n c k witness f form text line law law_of_form owed judged = law n c k (Some witness) f form text line owed judged
+owed_never_rises true n c k witness f form text line law law_of_form owed judged = law_of_form c k (Some witness) f form text line owed judged

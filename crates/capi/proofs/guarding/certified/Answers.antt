@@ -1,5 +1,5 @@
 use Rattle.std.proofs.Common.{ap, ◌∙◌, sym, subst}
-use Rattle.drup.specs.Judgements.{JudgesProof}
+use Rattle.certificates.specs.Certificates.{JudgesIn}
 use Rattle.drup.specs.declared.judgement.Judgement.{Judgement}
 use Rattle.capi.specs.Guarded.{NeverRisesInText}
 use Rattle.capi.specs.declared.answers.Verdict.{Verdict}
@@ -27,7 +27,7 @@ returns-in-Ok-clause-done c =
       holds = λ kind. holds_where (NeverRisesInText c.args.aiger first given.circuit gives c.args.bad) j
           (λ line is.
           never_in_text c.args.aiger first given.circuit gives c.args.bad c.bad_properties_rise_alike.ensures
-          (owed_never_rises c.args.over_form given.numbering given.circuit c.args.bad c.args.witness.now c.in-Ok.formula judged.text line c.owed_formula_proved_never_rises.ensures
-          c.owed_formula_over_form_proved_never_rises.ensures c.in-Ok.ensures.owed (subst (λ (i : Judgement). JudgesProof c.in-Ok.formula judged.text i) is judged.judged)))
+          (owed_never_rises c.args.over_form given.numbering given.circuit c.args.bad c.args.witness.now c.in-Ok.formula c.args.form judged.text line c.owed_formula_proved_never_rises.ensures
+          c.owed_formula_over_form_proved_never_rises.ensures c.in-Ok.ensures.owed (subst (λ (i : Judgement). JudgesIn c.args.form c.in-Ok.formula judged.text i) is judged.judged)))
           (sym (ap (λ (v : Verdict). v.kind) c.of_proof.ensures) ∙ kind);
     }
