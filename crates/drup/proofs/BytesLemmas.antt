@@ -15,13 +15,13 @@ pieces_onto : (b : ℕ) (bytes : List ℕ) (pieces : List (List ℕ)) → ends_n
 pieces_onto b bytes pieces high is = rw high (ap (to_first b) is)
 
 -- a number that is open ends with a byte without the top bit
-pieces_end : (bytes more : List ℕ) (b : ℕ) → list_any ends_number bytes ≡ false → nat_lt b 128 ≡ true → number_pieces (bytes ++ b ∷ more) ≡ (bytes ++ b ∷ []) ∷ number_pieces more
+pub pieces_end : (bytes more : List ℕ) (b : ℕ) → list_any ends_number bytes ≡ false → nat_lt b 128 ≡ true → number_pieces (bytes ++ b ∷ more) ≡ (bytes ++ b ∷ []) ∷ number_pieces more
 pieces_end [] more b unended low = rw low refl
 pieces_end (x ∷ xs) more b unended low =
     let parts = or_parts (ends_number x) (list_any ends_number xs) unended in
     pieces_onto x (xs ++ b ∷ more) ((xs ++ b ∷ []) ∷ number_pieces more) parts.0 (pieces_end xs more b parts.1 low)
 
-pieces_cut : (x : ℕ) (xs : List ℕ) → list_any ends_number (x ∷ xs) ≡ false → number_pieces (x ∷ xs) ≡ (x ∷ xs) ∷ []
+pub pieces_cut : (x : ℕ) (xs : List ℕ) → list_any ends_number (x ∷ xs) ≡ false → number_pieces (x ∷ xs) ≡ (x ∷ xs) ∷ []
 pieces_cut x [] unended = let parts = or_parts (ends_number x) false unended in rw parts.0 refl
 pieces_cut x (y ∷ ys) unended =
     let parts = or_parts (ends_number x) (list_any ends_number (y ∷ ys)) unended in
@@ -86,7 +86,7 @@ within_number variables n bytes more b t unended low not said = rw (pieces_end b
 
 -- ---- the end within a step
 
-last_open : (before : ℕ) (bytes : List ℕ) → nat_lt 127 before ≡ true → list_any ends_number bytes ≡ false → nat_lt 127 (last_byte before bytes) ≡ true
+pub last_open : (before : ℕ) (bytes : List ℕ) → nat_lt 127 before ≡ true → list_any ends_number bytes ≡ false → nat_lt 127 (last_byte before bytes) ≡ true
 last_open before [] high unended = high
 last_open before (x ∷ xs) high unended =
     let parts = or_parts (ends_number x) (list_any ends_number xs) unended in

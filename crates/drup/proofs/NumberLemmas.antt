@@ -3,6 +3,7 @@ use Rattle.std.proofs.Common.{◌≡◌, ℕ, zero, suc, ◌+◌, ◌-◌, ◌*�
 use Rattle.std.specs.Str.{bytes_eq}
 use Rattle.std.proofs.lemmas.Bool.{cases_lt, lt-ltb, le-ltb, ne_eqb, and_right}
 use Rattle.std.proofs.Math.Nat.{mul_left_comm, min-eq_left, min-eq_right}
+use Rattle.base.specs.Decimals.{is_nothing}
 use Rattle.drup.specs.declared.number.Number.{Number}
 use Rattle.drup.specs.declared.why.Why.TheVariants as why
 use Rattle.drup.specs.Proofs.{Token, faulty}
@@ -49,18 +50,21 @@ pub spells_behind : (n : Number) (bytes : List ℕ) (b unit value : ℕ) → Spe
     → SpellsNumber (record { unit = unit; value = value }) (bytes ++ b ∷ [])
 spells_behind n bytes b unit value s by is = record { unit = omega (arith, by, s.unit, more_unit bytes b); value = is }
 
--- ---- the end of a step
+-- ---- a byte alone
+
+pub no_byte : (n : Number) (bytes : List ℕ) → SpellsNumber n bytes → (n.unit == 1) ≡ is_nothing bytes
+no_byte n [] s = let one : n.unit ≡ 1 = s.unit in rw one refl
+no_byte n (x ∷ xs) s =
+    let many : n.unit ≡ min (128 * unit_behind xs) (2 ^ 64 - 1) = s.unit in
+    ne_eqb n.unit 1 (λ e. omega (arith, many, some_unit xs, e))
 
 no_bytes : (xs : List ℕ) (b : ℕ) → bytes_eq (xs ++ b ∷ []) [] ≡ false
 no_bytes [] b = refl
 no_bytes (x ∷ xs) b = refl
 
-pub zero_alone : (n : Number) (bytes : List ℕ) (b : ℕ) → SpellsNumber n bytes → ((b == 0) && (n.unit == 1)) ≡ bytes_eq (bytes ++ b ∷ []) (0 ∷ [])
-zero_alone n [] b s = let one : n.unit ≡ 1 = s.unit in rw one refl
-zero_alone n (x ∷ xs) b s =
-    let many : n.unit ≡ min (128 * unit_behind xs) (2 ^ 64 - 1) = s.unit in
-    let not_one : (n.unit == 1) ≡ false = ne_eqb n.unit 1 (λ e. omega (arith, many, some_unit xs, e)) in
-    and_right (b == 0) (n.unit == 1) not_one ∙ sym (and_right (x == 0) (bytes_eq (xs ++ b ∷ []) []) (no_bytes xs b))
+pub is_alone : (bytes : List ℕ) (b w : ℕ) → ((b == w) && is_nothing bytes) ≡ bytes_eq (bytes ++ b ∷ []) (w ∷ [])
+is_alone [] b w = refl
+is_alone (x ∷ xs) b w = and_right (b == w) false refl ∙ sym (and_right (x == w) (bytes_eq (xs ++ b ∷ []) []) (no_bytes xs b))
 
 -- ---- the end of a number
 

@@ -7,8 +7,8 @@ use Rattle.base.specs.Decimals.{is_nothing}
 use Rattle.base.specs.Lines.{whole_lines, all_lines}
 use Rattle.drup.specs.declared.why.Why.TheVariants as why
 use Rattle.drup.specs.declared.word.Word.{Word}
-use Rattle.drup.specs.declared.text_judge.Place.{Place}
-use Rattle.drup.specs.declared.text_judge.Place.TheVariants as place
+use Rattle.drup.specs.declared.lines.Place.{Place}
+use Rattle.drup.specs.declared.lines.Place.TheVariants as place
 use Rattle.drup.specs.Formula.{Formula}
 use Rattle.drup.specs.Proofs.{is_proof_blank, token_of, Token, faulty, Mark, mark, most_proof_lines, lines_marks, reading_from, read_text_proof}
 use Rattle.drup.specs.Words.{SpellsWord}

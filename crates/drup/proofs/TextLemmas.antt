@@ -7,7 +7,7 @@ use Rattle.std.proofs.lemmas.Bool.{cases_Bool, eqb-true, or_parts, or_from}
 use Rattle.base.specs.Lines.{IsLine, onto_first, whole_lines, all_lines, line_of}
 use Rattle.base.proofs.LineLemmas.{whole_lines-line, unfinished-line, whole_lines-last, unfinished-last}
 use Rattle.drup.specs.declared.why.Why.TheVariants as why
-use Rattle.drup.specs.declared.text_judge.Place.TheVariants as place
+use Rattle.drup.specs.declared.lines.Place.TheVariants as place
 use Rattle.drup.specs.Proofs.{is_proof_blank, ends_word, proof_words, token_of, faulty, Mark, mark, is_proof_comment, most_proof_lines, line_marks, lines_marks}
 use Rattle.drup.specs.TextJudges.{this_line, next_lines, word_marks, marks_behind}
 
@@ -67,7 +67,7 @@ lines_same b bs not = rw not (onto (whole_lines bs))
 
 -- ---- words
 
-abbrev single : List ℕ → List (List ℕ)
+abbrev pub single : List ℕ → List (List ℕ)
 single [] = []
 single (b ∷ bs) = (b ∷ bs) ∷ []
 
@@ -83,14 +83,14 @@ words_onto x ys apart on = rw (apart, on) refl
 words_skip : (x : ℕ) (ys : List ℕ) → is_proof_blank x ≡ true → proof_words (x ∷ ys) ≡ proof_words ys
 words_skip x ys blank = rw blank refl
 
-word_alone : (w : List ℕ) → list_any is_proof_blank w ≡ false → proof_words w ≡ single w
+pub word_alone : (w : List ℕ) → list_any is_proof_blank w ≡ false → proof_words w ≡ single w
 word_alone [] plain = refl
 word_alone (x ∷ []) plain = words_step x [] (blanks x [] plain).0 refl
 word_alone (x ∷ y ∷ ys) plain =
     let own = blanks x (y ∷ ys) plain in
     words_onto x (y ∷ ys) own.0 (blanks y ys own.1).0 ∙ ap (onto_first x) (word_alone (y ∷ ys) own.1)
 
-word_before : (w l : List ℕ) (b : ℕ) → list_any is_proof_blank w ≡ false → is_proof_blank b ≡ true → proof_words (w ++ b ∷ l) ≡ single w ++ proof_words l
+pub word_before : (w l : List ℕ) (b : ℕ) → list_any is_proof_blank w ≡ false → is_proof_blank b ≡ true → proof_words (w ++ b ∷ l) ≡ single w ++ proof_words l
 word_before [] l b plain blank = words_skip b l blank
 word_before (x ∷ []) l b plain blank = words_step x (b ∷ l) (blanks x [] plain).0 blank ∙ ap (λ (ws : List (List ℕ)). (x ∷ []) ∷ ws) (words_skip b l blank)
 word_before (x ∷ y ∷ ys) l b plain blank =
@@ -103,16 +103,16 @@ marks_single variables n (b ∷ bs) = refl
 
 -- ---- a byte more
 
-this_on : (b : ℕ) (more : List ℕ) → (b == 10) ≡ false → this_line (b ∷ more) ≡ b ∷ this_line more
+pub this_on : (b : ℕ) (more : List ℕ) → (b == 10) ≡ false → this_line (b ∷ more) ≡ b ∷ this_line more
 this_on b more not = rw not refl
 
-next_on : (b : ℕ) (more : List ℕ) → (b == 10) ≡ false → next_lines (b ∷ more) ≡ next_lines more
+pub next_on : (b : ℕ) (more : List ℕ) → (b == 10) ≡ false → next_lines (b ∷ more) ≡ next_lines more
 next_on b more not = rw not refl
 
-this_ends : (b : ℕ) (more : List ℕ) → (b == 10) ≡ true → this_line (b ∷ more) ≡ []
+pub this_ends : (b : ℕ) (more : List ℕ) → (b == 10) ≡ true → this_line (b ∷ more) ≡ []
 this_ends b more ten = rw ten refl
 
-next_ends : (b : ℕ) (more : List ℕ) → (b == 10) ≡ true → next_lines (b ∷ more) ≡ more
+pub next_ends : (b : ℕ) (more : List ℕ) → (b == 10) ≡ true → next_lines (b ∷ more) ≡ more
 next_ends b more ten = rw ten refl
 
 -- the marks of a line of words, and of the lines behind it
@@ -175,7 +175,7 @@ marks_comment variables n b more few not is =
     first_marks variables n b more [] (comment_line variables n (this_line (b ∷ more)) few (ap is_proof_comment (this_on b more not) ∙ is))
     ∙ ap (λ (r : List ℕ). lines_marks variables (suc n) (all_lines r)) (next_on b more not)
 
-no_comment : (b : ℕ) (more : List ℕ) → (b == 99) ≡ false → is_proof_comment (this_line (b ∷ more)) ≡ false
+pub no_comment : (b : ℕ) (more : List ℕ) → (b == 99) ≡ false → is_proof_comment (this_line (b ∷ more)) ≡ false
 no_comment b more not =
     elim (cases_Bool (b == 10)) [
       | inl ten ↦ ap is_proof_comment (this_ends b more ten)

@@ -1,14 +1,17 @@
 -- What is kept of a word byte by byte is what its bytes say.
-use Rattle.std.proofs.Common.{◌≡◌, ℕ, ◌==◌, Bool, true, false, ◌&&◌, List, [], ◌∷◌, ◌++◌, Option, codes, refl, sym, ap, subst, ◌∙◌}
+use Rattle.std.proofs.Common.{◌≡◌, ℕ, ◌==◌, Bool, true, false, ◌&&◌, List, [], ◌∷◌, ◌++◌, Option, Some, None, codes, inl, inr, refl, sym, ap, subst, ◌∙◌}
 use Rattle.std.specs.Str.{bytes_eq}
-use Rattle.std.proofs.lemmas.Bool.{eqb-true}
+use Rattle.std.proofs.lemmas.Bool.{cases_Bool, eqb-true}
 use Rattle.base.specs.Decimals.{is_nothing, is_decimal, number_of}
 use Rattle.base.proofs.DecimalLemmas.{nothing}
 use Rattle.drup.specs.declared.word.Word.{Word}
 use Rattle.base.specs.declared.numeral.Numeral.{Numeral}
 use Rattle.base.specs.Numerals.{CountsDigits}
-use Rattle.drup.specs.Proofs.{ends, deletes, variable_numbered, literal_said, token_of}
-use Rattle.drup.specs.Words.{SpellsWord, with_minus, sign_of, IsFirstByte}
+use Rattle.drup.specs.declared.why.Why.TheVariants as why
+use Rattle.drup.specs.declared.word.Said.{Said}
+use Rattle.drup.specs.declared.word.Said.TheVariants as said
+use Rattle.drup.specs.Proofs.{Token, ends, deletes, faulty, variable_numbered, literal_said, token_of}
+use Rattle.drup.specs.Words.{SpellsWord, decimal_said, number_word, word_said, with_minus, sign_of, IsFirstByte}
 
 and-false : (b : Bool) → (b && false) ≡ false
 and-false true = refl
@@ -78,20 +81,53 @@ spells_first w bytes b n none is_not more s =
 
 -- ---- what it says
 
-pub says_end : (variables : ℕ) (bytes : List ℕ) → bytes_eq bytes (codes "0") ≡ true → ends ≡ token_of variables bytes
-says_end variables bytes is = rw is refl
+pub says_zero : (bytes : List ℕ) → bytes_eq bytes (codes "0") ≡ true → said.Zero ≡ word_said bytes
+says_zero bytes is = rw is refl
 
-pub says_deletes : (variables : ℕ) (bytes : List ℕ) → bytes_eq bytes (codes "0") ≡ false → bytes_eq bytes (codes "d") ≡ true → deletes ≡ token_of variables bytes
-says_deletes variables bytes zero is = rw (zero, is) refl
+pub says_letter : (bytes : List ℕ) → bytes_eq bytes (codes "0") ≡ false → bytes_eq bytes (codes "d") ≡ true → said.Letter ≡ word_said bytes
+says_letter bytes zero is = rw (zero, is) refl
 
-literal_is : (variables : ℕ) (negative : Bool) (behind : List ℕ) → IsFirstByte negative behind → variable_numbered variables (sign_of negative) (number_of behind) ≡ literal_said variables (with_minus negative behind)
+number_is : (negative : Bool) (behind : List ℕ) → IsFirstByte negative behind → decimal_said negative (number_of behind) ≡ number_word (with_minus negative behind)
 unfolding number_of is_decimal
-literal_is variables true behind f = refl
-literal_is variables false [] f = refl
-literal_is variables false (b ∷ bs) f = let not : (b == 45) ≡ false = f in rw not refl
+number_is true behind f = refl
+number_is false [] f = refl
+number_is false (b ∷ bs) f = let not : (b == 45) ≡ false = f in rw not refl
 
-pub says_literal : (w : Word) (variables : ℕ) (bytes : List ℕ) (number : Option ℕ) → SpellsWord w bytes → bytes_eq bytes (codes "0") ≡ false → bytes_eq bytes (codes "d") ≡ false → ((behind : List ℕ) → CountsDigits w.numeral behind → number ≡ number_of behind)
-    → variable_numbered variables (sign_of w.negative) number ≡ token_of variables bytes
-says_literal w variables bytes number s zero d is =
-    let over : token_of variables bytes ≡ literal_said variables bytes = rw (zero, d) refl in
-    ap (variable_numbered variables (sign_of w.negative)) (is s.behind s.numeral) ∙ literal_is variables w.negative s.behind s.first ∙ ap (literal_said variables) (sym s.is) ∙ sym over
+pub says_number : (w : Word) (bytes : List ℕ) (number : Option ℕ) → SpellsWord w bytes → bytes_eq bytes (codes "0") ≡ false → bytes_eq bytes (codes "d") ≡ false → ((behind : List ℕ) → CountsDigits w.numeral behind → number ≡ number_of behind)
+    → decimal_said w.negative number ≡ word_said bytes
+says_number w bytes number s zero d is =
+    let over : word_said bytes ≡ number_word bytes = rw (zero, d) refl in
+    ap (decimal_said w.negative) (is s.behind s.numeral) ∙ number_is w.negative s.behind s.first ∙ ap number_word (sym s.is) ∙ sym over
+
+-- ---- what it says over variables
+
+-- what a word says over variables goes by what it says by itself
+abbrev pub token_by : ℕ → Said → Token
+token_by variables said.Zero = ends
+token_by variables said.Letter = deletes
+token_by variables (said.Number n) = variable_numbered variables 0 (Some n)
+token_by variables (said.Negative n) = variable_numbered variables 1 (Some n)
+token_by variables said.Nothing = faulty why.BadWord
+
+decimal_by : (variables : ℕ) (minus : Bool) (number : Option ℕ) → token_by variables (decimal_said minus number) ≡ variable_numbered variables (sign_of minus) number
+decimal_by variables minus None = refl
+decimal_by variables true (Some n) = refl
+decimal_by variables false (Some n) = refl
+
+number_by : (variables : ℕ) (bytes : List ℕ) → token_by variables (number_word bytes) ≡ literal_said variables bytes
+number_by variables [] = refl
+number_by variables (b ∷ bs) =
+    elim (cases_Bool (b == 45)) [
+      | inl is ↦ rw is (decimal_by variables true (number_of bs))
+      | inr not ↦ rw not (decimal_by variables false (number_of (b ∷ bs)))
+    ]
+
+pub says_token : (variables : ℕ) (bytes : List ℕ) → token_by variables (word_said bytes) ≡ token_of variables bytes
+says_token variables bytes =
+    elim (cases_Bool (bytes_eq bytes (codes "0"))) [
+      | inl is ↦ rw is refl
+      | inr zero ↦ elim (cases_Bool (bytes_eq bytes (codes "d"))) [
+        | inl is ↦ rw (zero, is) refl
+        | inr d ↦ rw (zero, d) (number_by variables bytes)
+      ]
+    ]

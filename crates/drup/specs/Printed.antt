@@ -13,6 +13,7 @@ proof_why_number why.CutOff = 163
 proof_why_number why.TooLong = 164
 proof_why_number why.BadId = 167
 proof_why_number why.NoClause = 168
+proof_why_number why.RatStep = 169
 
 -- the name of a why
 abbrev pub proof_why_name : Why → List ℕ
@@ -22,6 +23,7 @@ proof_why_name why.CutOff = codes "CutOff"
 proof_why_name why.TooLong = codes "TooLong"
 proof_why_name why.BadId = codes "BadId"
 proof_why_name why.NoClause = codes "NoClause"
+proof_why_name why.RatStep = codes "RatStep"
 
 -- the number of a why, a space and its name
 abbrev pub proof_why_text : Why → List ℕ

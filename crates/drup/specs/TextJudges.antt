@@ -2,8 +2,8 @@
 use Rattle.std.specs.Prelude.{◌≡◌, ℕ, suc, ◌+◌, ◌*◌, ◌<◌, ◌≤◌, Bool, true, false, List, [], ◌∷◌, ◌++◌, ◌==◌, if◌then◌else◌, length, map}
 use Rattle.std.specs.List.{list_any}
 use Rattle.base.specs.Lines.{whole_lines, all_lines}
-use Rattle.drup.specs.declared.text_judge.Place.{Place}
-use Rattle.drup.specs.declared.text_judge.Place.TheVariants as place
+use Rattle.drup.specs.declared.lines.Place.{Place}
+use Rattle.drup.specs.declared.lines.Place.TheVariants as place
 use Rattle.drup.specs.declared.text_judge.TextJudge.TheInside.{Inside}
 use Rattle.drup.specs.declared.word.Word.{Word}
 use Rattle.drup.specs.Formula.{Formula}

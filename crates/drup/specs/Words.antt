@@ -1,11 +1,30 @@
 -- What is kept of the bytes of a word of which more may follow, and what a word says.
-use Rattle.std.specs.Prelude.{◌≡◌, ℕ, ◌<◌, Bool, true, false, ◌==◌, List, ◌∷◌, slice_index_or, codes}
+use Rattle.std.specs.Prelude.{◌≡◌, ℕ, ◌<◌, Bool, true, false, ◌==◌, if◌then◌else◌, List, [], ◌∷◌, Option, Some, None, slice_index_or, codes}
 use Rattle.std.specs.Str.{bytes_eq}
+use Rattle.base.specs.Decimals.{number_of}
+use Rattle.drup.specs.declared.word.Said.{Said}
+use Rattle.drup.specs.declared.word.Said.TheVariants as said
 use Rattle.drup.specs.declared.word.Token.{Token as CodeToken}
 use Rattle.drup.specs.declared.word.Token.TheVariants as code
 use Rattle.drup.specs.declared.word.Word.{Word}
 use Rattle.drup.specs.Proofs.{Token, ends, deletes, literal, faulty}
 use Rattle.base.specs.Numerals.{CountsDigits}
+
+-- what a decimal says, with a minus in front or without
+abbrev pub decimal_said : Bool → Option ℕ → Said
+decimal_said minus None = said.Nothing
+decimal_said true (Some n) = said.Negative n
+decimal_said false (Some n) = said.Number n
+
+abbrev pub number_word : List ℕ → Said
+number_word [] = said.Nothing
+number_word (b ∷ bs) = if b == 45 then decimal_said true (number_of bs) else decimal_said false (number_of (b ∷ bs))
+
+-- what a word says by itself: `0`, `d`, or a decimal, with a minus in front or without
+abbrev pub word_said : List ℕ → Said
+word_said word =
+    if bytes_eq word (codes "0") then said.Zero
+    else (if bytes_eq word (codes "d") then said.Letter else number_word word)
 
 -- what a word says, as the code has it
 abbrev pub token_said : CodeToken → Token

@@ -1,6 +1,7 @@
-//! A number of a proof in the binary form, byte by byte.
+//! A number of a proof in the binary form, byte by byte: seven bits a byte, least first, with the top bit on each but the last.
 ghost use Rattle.std.specs.Prelude.{◌≡◌, ◌+◌, ◌*◌, ◌-◌, ◌^◌, ◌<◌, min, List, ℕ, [], ◌∷◌, ◌++◌};
 ghost use Rattle.std.specs.Str.{bytes_eq};
+ghost use Rattle.base.specs.Decimals.{is_nothing};
 ghost use Rattle.drup.specs.BinaryProofs.{coded_number, literal_numbered, number_said};
 ghost use Rattle.drup.specs.Numbers.{SpellsNumber};
 ghost use Rattle.drup.specs.Words.{token_said, IsBelow};
@@ -8,9 +9,9 @@ ghost use Rattle.drup.specs.Words.{token_said, IsBelow};
 use crate::why::Why;
 use crate::word::Token;
 
-/// What the bytes of a number write, of which more follow.
+/// What the bytes of a number write, of which more follow. A number above 2^64 - 1 is kept as 2^64 - 1.
 #[derive(Clone, Copy)]
-pub(crate) struct Number {
+pub struct Number {
     // what the next byte counts, at most 2^64 - 1
     unit: u64,
     // the number that the bytes write, at most 2^64 - 1
@@ -34,22 +35,29 @@ fn numbered(variables: u32, number: u64) -> Token
 
 impl Number {
     /// A number with no byte yet.
-    pub(crate) fn new() -> Number
+    pub fn new() -> Number
         ensures { SpellsNumber result [] }
     {
         Number { unit: 1, value: 0 }
     }
 
-    /// Whether a byte behind the others is a `0` alone.
-    pub(crate) fn is_end(self, byte: u8) -> bool
-        ensures { (bytes : List ℕ) → SpellsNumber self bytes → result
-            ≡ bytes_eq (bytes ++ byte ∷ []) (0 ∷ []) }
+    /// Whether there is no byte.
+    pub fn is_empty(self) -> bool
+        ensures { (bytes : List ℕ) → SpellsNumber self bytes → result ≡ is_nothing bytes }
     {
-        byte == 0 && self.unit == 1
+        self.unit == 1
+    }
+
+    /// Whether a byte behind the others is alone, and this one.
+    pub fn is(self, byte: u8, wanted: u8) -> bool
+        ensures { (bytes : List ℕ) → SpellsNumber self bytes → result
+            ≡ bytes_eq (bytes ++ byte ∷ []) (wanted ∷ []) }
+    {
+        byte == wanted && self.is_empty()
     }
 
     /// The same with a byte behind it, which has the top bit.
-    pub(crate) fn with(self, byte: u8) -> Number
+    pub fn with(self, byte: u8) -> Number
         ensures { (bytes : List ℕ) → SpellsNumber self bytes
             → SpellsNumber result (bytes ++ byte ∷ []) }
     {
@@ -60,7 +68,7 @@ impl Number {
     }
 
     /// The number that the bytes write with another behind them, at most 2^64 - 1.
-    fn number(self, byte: u8) -> u64
+    pub fn number(self, byte: u8) -> u64
         ensures { (bytes : List ℕ) → SpellsNumber self bytes → result
             ≡ min (coded_number (bytes ++ byte ∷ [])) (2 ^ 64 - 1) }
     {

@@ -9,8 +9,9 @@ ghost use Rattle.drup.specs.declared.proof_judge.Form.TheVariants as form;
 use crate::fault::ClauseFault;
 use crate::formula::Formula;
 use crate::judgement::Judgement;
+use crate::lines::is_too_many;
 use crate::number::Number;
-use crate::text_judge::{TextJudge, is_too_many};
+use crate::text_judge::TextJudge;
 use crate::why::Why;
 use crate::word::Token;
 use base::Taker;
@@ -166,7 +167,7 @@ impl ProofJudge {
             self.number = self.number.with(byte);
             return;
         }
-        if self.number.is_end(byte) {
+        if self.number.is(byte, 0) {
             self.text.take_word(self.step, Token::Ends);
             self.step = self.step.saturating_add(1);
             self.form = Form::Steps;

@@ -1,47 +1,20 @@
 //! The judge of proofs in the text form, and of the words of proofs in either form.
-ghost use Rattle.std.specs.Prelude.{◌≡◌, ◌+◌, ◌*◌, ◌-◌, ◌^◌, ◌<◌, ◌++◌, ◌∷◌, [], List, ℕ, true, false, min, nat_lt, All, IfOk};
+ghost use Rattle.std.specs.Prelude.{◌≡◌, ◌+◌, ◌*◌, ◌-◌, ◌^◌, ◌<◌, ◌++◌, ◌∷◌, [], List, ℕ, true, false, min, All, IfOk};
 ghost use Rattle.drup.specs.Formula.{Formula as FormulaValue};
-ghost use Rattle.drup.specs.Proofs.{is_proof_blank, most_proof_lines, mark, Mark, faulty, ProofReading, reading_from, read_text_proof};
+ghost use Rattle.drup.specs.Proofs.{mark, Mark, faulty, ProofReading, reading_from, read_text_proof};
 ghost use Rattle.drup.specs.Judgements.{JudgesReading};
 ghost use Rattle.drup.specs.Words.{SpellsWord, IsBelow, token_said};
 ghost use Rattle.drup.specs.StepReaders.{StandsForWords};
 ghost use Rattle.drup.specs.TextJudges.{TextJudge as TextJudgeValue, word_marks, StandsBefore, StandsThrough, StandsForLines, EndsText};
-ghost use Rattle.drup.specs.declared.text_judge.Place.TheVariants as place;
+ghost use Rattle.drup.specs.declared.lines.Place.TheVariants as place;
 
 use crate::fault::ClauseFault;
 use crate::judgement::Judgement;
+use crate::lines::{Place, is_blank, is_too_many};
 use crate::step_reader::StepReader;
 use crate::why::Why;
 use crate::word::{Token, Word};
 use std::alloc::Global;
-
-/// The most lines of a proof, and the most steps in the binary form, 2^62.
-const MOST_LINES: u64 = 4611686018427387904;
-
-/// Where the next byte stands.
-#[derive(Clone, Copy)]
-pub(crate) enum Place {
-    /// It is the first of a line.
-    Begins,
-    /// It is in a line of words.
-    Within,
-    /// It is in a comment.
-    Comment,
-}
-
-/// Whether a byte is a space, a tab or a carriage return.
-fn is_blank(byte: u8) -> bool
-    ensures { result ≡ is_proof_blank byte }
-{
-    byte == b' ' || byte == b'\t' || byte == b'\r'
-}
-
-/// Whether a line, or a step, is one too many.
-pub(crate) fn is_too_many(line: u64) -> bool
-    ensures { result ≡ nat_lt most_proof_lines line }
-{
-    line > MOST_LINES
-}
 
 /// A judge of proofs in the text form over a formula, whose clauses it is given first: it takes a text byte by byte, and
 /// keeps none of it. Beside the judge of its steps it holds the literals of the step that has begun, and a fixed number of

@@ -21,6 +21,8 @@ pub enum Why {
     BadId,
     /// In a proof with hints, a hint names no clause that stands.
     NoClause,
+    /// In a proof with hints, a hint has a minus: the step is one by resolution on a literal (RAT), which has no meaning here.
+    RatStep,
 }
 
 impl Why {
@@ -35,6 +37,7 @@ impl Why {
             Why::TooLong => 164,
             Why::BadId => 167,
             Why::NoClause => 168,
+            Why::RatStep => 169,
         }
     }
 
@@ -49,6 +52,7 @@ impl Why {
             Why::TooLong => "TooLong",
             Why::BadId => "BadId",
             Why::NoClause => "NoClause",
+            Why::RatStep => "RatStep",
         }
     }
 }

@@ -3,7 +3,7 @@ ghost use Rattle.std.specs.Prelude.{◌≡◌, ◌+◌, ◌*◌, ◌<◌, List, 
 ghost use Rattle.std.specs.Str.{bytes_eq};
 ghost use Rattle.base.specs.Decimals.{is_nothing};
 ghost use Rattle.drup.specs.Proofs.{variable_numbered, token_of};
-ghost use Rattle.drup.specs.Words.{SpellsWord, sign_of, token_said, IsBelow};
+ghost use Rattle.drup.specs.Words.{SpellsWord, sign_of, decimal_said, word_said, token_said, IsBelow};
 
 use crate::why::Why;
 use base::Numeral;
@@ -21,15 +21,46 @@ pub(crate) enum Token {
     Faulty(Why),
 }
 
+/// What a word says by itself.
+#[derive(Clone, Copy, Debug, PartialEq, Eq)]
+pub enum Said {
+    /// It is `0`.
+    Zero,
+    /// It is `d`.
+    Letter,
+    /// It is a number, not 0, without zeros in front.
+    Number(u64),
+    /// It is a number, without zeros in front, behind a minus.
+    Negative(u64),
+    /// It is nothing of these.
+    Nothing,
+}
+
 /// What the bytes of a word say, of which more may follow.
 #[derive(Clone, Copy)]
-pub(crate) struct Word {
+pub struct Word {
     // the first byte is `-`
     negative: bool,
     // the only byte is `d`
     deletes: bool,
     // the bytes, behind a first `-`
     numeral: Numeral,
+}
+
+/// What a decimal says, with a minus in front or without.
+fn decimal_said(negative: bool, number: Option<u64>) -> Said
+    ensures { result ≡ decimal_said negative number }
+{
+    match number {
+        None => Said::Nothing,
+        Some(number) => {
+            if negative {
+                Said::Negative(number)
+            } else {
+                Said::Number(number)
+            }
+        }
+    }
 }
 
 /// The literal of a variable's number, whose negation it is where it has a minus.
@@ -50,7 +81,7 @@ fn numbered(variables: u32, negative: bool, number: u64) -> Token
 
 impl Word {
     /// A word with no byte yet.
-    pub(crate) fn new() -> Word
+    pub fn new() -> Word
         ensures { SpellsWord result [] }
     {
         Word {
@@ -61,7 +92,7 @@ impl Word {
     }
 
     /// Whether there is no byte.
-    pub(crate) fn is_empty(self) -> bool
+    pub fn is_empty(self) -> bool
         ensures { (bytes : List ℕ) → SpellsWord self bytes → result ≡ is_nothing bytes }
     {
         if self.negative {
@@ -81,7 +112,7 @@ impl Word {
     }
 
     /// The same with a byte behind it.
-    pub(crate) fn with(self, byte: u8) -> Word
+    pub fn with(self, byte: u8) -> Word
         ensures { (bytes : List ℕ) → SpellsWord self bytes
             → SpellsWord result (bytes ++ byte ∷ []) }
     {
@@ -106,6 +137,19 @@ impl Word {
         }
     }
 
+    /// What the word says by itself.
+    pub fn said(self) -> Said
+        ensures { (bytes : List ℕ) → SpellsWord self bytes → result ≡ word_said bytes }
+    {
+        if self.is_end() {
+            return Said::Zero;
+        }
+        if self.deletes {
+            return Said::Letter;
+        }
+        decimal_said(self.negative, self.numeral.number())
+    }
+
     /// What the word says over a formula of so many variables.
     pub(crate) fn token(self, variables: u32) -> Token
         requires { variables < 2147483647 }
@@ -113,15 +157,12 @@ impl Word {
             → token_said result ≡ token_of variables bytes }
         ensures below { IsBelow (2 * variables + 2) result }
     {
-        if self.is_end() {
-            return Token::Ends;
-        }
-        if self.deletes {
-            return Token::Deletes;
-        }
-        match self.numeral.number() {
-            None => Token::Faulty(Why::BadWord),
-            Some(number) => numbered(variables, self.negative, number),
+        match self.said() {
+            Said::Zero => Token::Ends,
+            Said::Letter => Token::Deletes,
+            Said::Number(number) => numbered(variables, false, number),
+            Said::Negative(number) => numbered(variables, true, number),
+            Said::Nothing => Token::Faulty(Why::BadWord),
         }
     }
 }

@@ -15,8 +15,9 @@ use Rattle.lrat.specs.HintedForms.{is_binary_lrat, read_lrat}
 use Rattle.lrat.specs.LratTexts.{IsId, IsWritten, on_lines}
 use Rattle.lrat.specs.BinaryLratTexts.{WritesNumber, WritesNumbers, WritesStep, WritesSteps}
 use Rattle.lrat.specs.Worked.{reads}
-use Rattle.lrat.proofs.NumberLemmas.{is_alone, says_number}
-use Rattle.lrat.proofs.ByteLemmas.{pieces_end}
+use Rattle.drup.proofs.BytesLemmas.{pieces_end}
+use Rattle.drup.proofs.NumberLemmas.{is_alone}
+use Rattle.lrat.proofs.NumberLemmas.{says_number}
 use Rattle.lrat.proofs.LratTextLemmas.{odd_one, with_is, id_is, id_low, to_recursion}
 
 -- ---- a number

@@ -4,11 +4,11 @@ use Rattle.std.specs.List.{list_any}
 use Rattle.std.specs.Str.{bytes_eq}
 use Rattle.std.proofs.lemmas.Bool.{ltb-false, lt-ltb, ne_eqb, and_left, or_parts}
 use Rattle.base.specs.Decimals.{is_nothing}
-use Rattle.base.specs.Lines.{to_first}
 use Rattle.drup.specs.declared.why.Why.{Why}
 use Rattle.drup.specs.declared.why.Why.TheVariants as why
 use Rattle.drup.specs.BinaryProofs.{number_pieces, last_byte}
 use Rattle.drup.specs.ProofJudges.{ends_number}
+use Rattle.drup.proofs.BytesLemmas.{pieces_end, pieces_cut, last_open}
 use Rattle.lrat.specs.declared.scan.Spot.{Spot as CodeSpot}
 use Rattle.lrat.specs.declared.scan.Spot.TheVariants as spot
 use Rattle.lrat.specs.Scans.{spot_of}
@@ -16,22 +16,6 @@ use Rattle.lrat.specs.HintedProofs.{Token, number, faulty, Mark, mark}
 use Rattle.lrat.specs.BinaryHintedProofs.{Spot, at_step, at_id, at_literal, at_other, number_in, literal_coded, step_said, piece_said, spot_behind, step_behind, step_marks}
 
 -- ---- pieces
-
-pieces_onto : (b : ℕ) (bytes : List ℕ) (pieces : List (List ℕ)) → ends_number b ≡ false → number_pieces bytes ≡ pieces → number_pieces (b ∷ bytes) ≡ to_first b pieces
-pieces_onto b bytes pieces high is = rw high (ap (to_first b) is)
-
--- a piece that is open ends with a byte without the top bit
-pub pieces_end : (bytes more : List ℕ) (b : ℕ) → list_any ends_number bytes ≡ false → nat_lt b 128 ≡ true → number_pieces (bytes ++ b ∷ more) ≡ (bytes ++ b ∷ []) ∷ number_pieces more
-pieces_end [] more b unended low = rw low refl
-pieces_end (x ∷ xs) more b unended low =
-    let parts = or_parts (ends_number x) (list_any ends_number xs) unended in
-    pieces_onto x (xs ++ b ∷ more) ((xs ++ b ∷ []) ∷ number_pieces more) parts.0 (pieces_end xs more b parts.1 low)
-
-pieces_cut : (x : ℕ) (xs : List ℕ) → list_any ends_number (x ∷ xs) ≡ false → number_pieces (x ∷ xs) ≡ (x ∷ xs) ∷ []
-pieces_cut x [] unended = let parts = or_parts (ends_number x) false unended in rw parts.0 refl
-pieces_cut x (y ∷ ys) unended =
-    let parts = or_parts (ends_number x) (list_any ends_number (y ∷ ys)) unended in
-    pieces_onto x (y ∷ ys) ((y ∷ ys) ∷ []) parts.0 (pieces_cut y ys parts.1)
 
 pub piece_ends : (n : ℕ) (spot : Spot) (bytes more : List ℕ) (b : ℕ) → list_any ends_number bytes ≡ false → nat_lt b 128 ≡ true
     → step_marks n spot (number_pieces (bytes ++ b ∷ more)) ≡ mark n (piece_said n spot (bytes ++ b ∷ [])) ∷ step_marks (step_behind n spot (bytes ++ b ∷ [])) (spot_behind spot (bytes ++ b ∷ [])) (number_pieces more)
@@ -42,12 +26,6 @@ piece_ends n spot bytes more b unended low = ap (step_marks n spot) (pieces_end 
 -- what is said first of what is left, where a text has no end there
 abbrev pub IsCut : ℕ → Spot → List ℕ → Why → Type 0
 IsCut n spot bytes w = (rest : List Mark) × (step_marks n spot (number_pieces bytes) ≡ mark n (faulty w) ∷ rest)
-
-last_open : (before : ℕ) (bytes : List ℕ) → nat_lt 127 before ≡ true → list_any ends_number bytes ≡ false → nat_lt 127 (last_byte before bytes) ≡ true
-last_open before [] high unended = high
-last_open before (x ∷ xs) high unended =
-    let parts = or_parts (ends_number x) (list_any ends_number xs) unended in
-    last_open x xs (lt-ltb 127 x (omega (arith, ltb-false x 128 parts.0))) parts.1
 
 number_cut : (said : ℕ → Token) (x : ℕ) (xs : List ℕ) → list_any ends_number (x ∷ xs) ≡ false → number_in said (x ∷ xs) ≡ faulty why.CutOff
 number_cut said x xs unended =

@@ -1,10 +1,8 @@
-pub mod WordLemmas
 pub mod StepReaderLemmas
 pub mod TextLemmas
 pub mod TextJudgeLemmas
 pub mod NumberLemmas
 pub mod ByteLemmas
 pub mod LratJudgeLemmas
-pub mod LawLemmas
 pub mod LratTextLemmas
 pub mod BinaryLratTextLemmas

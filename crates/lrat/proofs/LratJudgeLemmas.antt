@@ -3,20 +3,21 @@ use Rattle.std.proofs.Common.{◌≡◌, ℕ, nat_lt, Bool, true, false, if◌th
 use Rattle.std.specs.Prelude.{Result, IfOk}
 use Rattle.std.specs.List.{list_any}
 use Rattle.drup.specs.declared.fault.ClauseFault.{ClauseFault}
+use Rattle.drup.specs.declared.judgement.Judgement.{Judgement}
 use Rattle.drup.specs.declared.why.Why.{Why}
 use Rattle.drup.specs.Formula.{Formula}
+use Rattle.drup.specs.Hints.{HintedReading, judge_hinted}
 use Rattle.drup.specs.BinaryProofs.{number_pieces}
 use Rattle.drup.specs.ProofJudges.{ends_number}
 use Rattle.drup.proofs.BytesLemmas.{open_more}
-use Rattle.lrat.specs.declared.judgement.LratJudgement.{LratJudgement}
 use Rattle.lrat.specs.declared.lrat_judge.Form.{Form}
 use Rattle.lrat.specs.declared.lrat_judge.Form.TheVariants as form
 use Rattle.lrat.specs.declared.scan.Scan.{Scan}
-use Rattle.lrat.specs.HintedProofs.{Token, faulty, Mark, mark, between, LratReading, reading_from, read_text_lrat}
+use Rattle.lrat.specs.HintedProofs.{Token, faulty, Mark, mark, between, reading_from, read_text_lrat}
 use Rattle.lrat.specs.BinaryHintedProofs.{Spot, piece_said, spot_behind, step_behind, step_marks, binary_marks, read_binary_lrat}
 use Rattle.lrat.specs.HintedForms.{is_binary_lrat, read_lrat}
-use Rattle.lrat.specs.LratJudgements.{judge_reading, judge_lrat}
-use Rattle.lrat.specs.Numbers.{SpellsNumber}
+use Rattle.lrat.specs.LratJudgements.{judge_lrat}
+use Rattle.drup.specs.Numbers.{SpellsNumber}
 use Rattle.lrat.specs.Scans.{spot_of}
 use Rattle.lrat.specs.StepReaders.{StepReader, StandsAtStep, StandsForWords}
 use Rattle.lrat.specs.TextJudges.{TextJudge, StandsForLines}
@@ -228,28 +229,28 @@ end_bytes f old new text at kept over b =
 ended_in : (f : Formula) (j : LratJudge) (text : List ℕ) (p : Form) → j.form ≡ p → EndsLrat f j text → EndsIn p f j text
 ended_in f j text p is b = subst (λ (q : Form). EndsIn q f j text) is b
 
-as_read : (f : Formula) (one other : LratReading) (result : Result LratJudgement ClauseFault) → one ≡ other → IfOk result (λ j. j ≡ judge_reading f one) → IfOk result (λ j. j ≡ judge_reading f other)
-as_read f one other result same h = subst (λ (r : LratReading). IfOk result (λ j. j ≡ judge_reading f r)) same h
+as_read : (f : Formula) (one other : HintedReading) (result : Result Judgement ClauseFault) → one ≡ other → IfOk result (λ j. j ≡ judge_hinted f one) → IfOk result (λ j. j ≡ judge_hinted f other)
+as_read f one other result same h = subst (λ (r : HintedReading). IfOk result (λ j. j ≡ judge_hinted f r)) same h
 
 read_as : (variables : ℕ) (text : List ℕ) (binary : Bool) → IsInForm binary text → read_lrat variables text ≡ (if binary then read_binary_lrat variables text else read_text_lrat variables text)
 read_as variables text binary is = let own : is_binary_lrat text ≡ binary = ap is_binary_lrat (sym (append-nil text)) ∙ is [] in rw own refl
 
 -- a judge of texts judges each that it stands for
-abbrev pub JudgesLines : Formula → TextJudge → Result LratJudgement ClauseFault → Type 0
-JudgesLines f t result = (text : List ℕ) → StandsForLines f t text → IfOk result (λ j. j ≡ judge_reading f (read_text_lrat f.variables text))
+abbrev pub JudgesLines : Formula → TextJudge → Result Judgement ClauseFault → Type 0
+JudgesLines f t result = (text : List ℕ) → StandsForLines f t text → IfOk result (λ j. j ≡ judge_hinted f (read_text_lrat f.variables text))
 
-pub judges_empty : (f : Formula) (j : LratJudge) (text : List ℕ) (result : Result LratJudgement ClauseFault) → j.form ≡ form.Empty → JudgesLines f j.text result → EndsLrat f j text → IfOk result (λ i. i ≡ judge_lrat f text)
+pub judges_empty : (f : Formula) (j : LratJudge) (text : List ℕ) (result : Result Judgement ClauseFault) → j.form ≡ form.Empty → JudgesLines f j.text result → EndsLrat f j text → IfOk result (λ i. i ≡ judge_lrat f text)
 judges_empty f j text result at over b =
     let own : (text ≡ []) × BeginsLrat f j = ended_in f j text form.Empty at b in
     subst (λ (t : List ℕ). IfOk result (λ i. i ≡ judge_lrat f t)) (sym own.0) (over [] own.1.text)
 
-pub judges_lines : (f : Formula) (j : LratJudge) (text : List ℕ) (result : Result LratJudgement ClauseFault) → j.form ≡ form.Lines → JudgesLines f j.text result → EndsLrat f j text → IfOk result (λ i. i ≡ judge_lrat f text)
+pub judges_lines : (f : Formula) (j : LratJudge) (text : List ℕ) (result : Result Judgement ClauseFault) → j.form ≡ form.Lines → JudgesLines f j.text result → EndsLrat f j text → IfOk result (λ i. i ≡ judge_lrat f text)
 judges_lines f j text result at over b =
     let own : IsInForm false text × StandsForLines f j.text text = ended_in f j text form.Lines at b in
     as_read f (read_text_lrat f.variables text) (read_lrat f.variables text) result (sym (read_as f.variables text false own.0)) (over text own.1)
 
-pub judges_bytes : (f : Formula) (j : LratJudge) (text : List ℕ) (result : Result LratJudgement ClauseFault) → j.form ≡ form.Bytes
-    → ((marks : List Mark) (reading : LratReading) → StandsForWords f j.text.reader marks → (j.text.reader.failed ≡ false → reading ≡ reading_from j.text.reader.variables 0 between marks) → IfOk result (λ i. i ≡ judge_reading f reading))
+pub judges_bytes : (f : Formula) (j : LratJudge) (text : List ℕ) (result : Result Judgement ClauseFault) → j.form ≡ form.Bytes
+    → ((marks : List Mark) (reading : HintedReading) → StandsForWords f j.text.reader marks → (j.text.reader.failed ≡ false → reading ≡ reading_from j.text.reader.variables 0 between marks) → IfOk result (λ i. i ≡ judge_hinted f reading))
     → EndsLrat f j text → IfOk result (λ i. i ≡ judge_lrat f text)
 judges_bytes f j text result at over b =
     let own : IsInForm true text × EndsBytes f j text = ended_in f j text form.Bytes at b in

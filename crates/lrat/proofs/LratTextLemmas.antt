@@ -1,6 +1,6 @@
 -- What is written of steps is read as them.
 use Rattle.std.proofs.Common.{◌≡◌, ℕ, suc, ◌+◌, ◌-◌, ◌*◌, ◌/◌, ◌%◌, ◌^◌, ◌<◌, ◌≤◌, ◌==◌, Bool, true, false, if◌then◌else◌, List, [], ◌∷◌, ◌++◌, map, length, inl, inr, refl, sym, ap, ap₂, ◌∙◌, append_assoc, append-nil, arith}
-use Rattle.std.specs.Prelude.{nat_lt, Some, codes, decimal, All}
+use Rattle.std.specs.Prelude.{nat_lt, Option, Some, codes, decimal, All}
 use Rattle.std.specs.List.{list_any, list_all, AllByRecursion}
 use Rattle.std.specs.Str.{bytes_eq}
 use Rattle.std.proofs.lemmas.List.Folds.{list_any-append}
@@ -10,16 +10,19 @@ use Rattle.base.specs.Decimals.{is_nothing, is_digit, are_digits, is_decimal, ca
 use Rattle.base.specs.Lines.{IsLine, text_of_lines, whole_lines, all_lines, line_of}
 use Rattle.base.proofs.DecimalLemmas.{digit_range, number_of-decimal, decimal_digits, decimal_without}
 use Rattle.base.proofs.LineLemmas.{lines_of_text, unfinished_of_text}
+use Rattle.drup.proofs.TextLemmas.{single, word_alone, word_before}
 use Rattle.drup.specs.Formula.{IsLiteral}
 use Rattle.drup.specs.FormulaTexts.{literal_text}
 use Rattle.drup.specs.Proofs.{is_proof_blank, proof_words, is_proof_comment, most_proof_lines}
+use Rattle.drup.specs.declared.word.Said.TheVariants as says
+use Rattle.drup.specs.Words.{decimal_said, number_word}
 use Rattle.drup.specs.Hints.{HintedStep, addition, deletion, ended}
-use Rattle.lrat.specs.HintedProofs.{ends, deletes, number, negative, token_of, number_said, decimal_said, Mark, mark, line_marks, lines_marks, between, literals, hints, deletions, goes_on, gives, id_numbered, by_id, taken, with_literal, most_id, by_taken, behind_steps, reading_from, read_text_lrat}
+use Rattle.lrat.specs.HintedProofs.{ends, deletes, number, negative, token_by, token_of, Mark, mark, line_marks, lines_marks, between, literals, hints, deletions, goes_on, gives, id_numbered, by_id, taken, with_literal, most_id, by_taken, behind_steps, reading_from, read_text_lrat}
 use Rattle.lrat.specs.BinaryHintedProofs.{read_binary_lrat}
 use Rattle.lrat.specs.HintedForms.{is_binary_lrat, read_lrat}
 use Rattle.lrat.specs.LratTexts.{spaced, step_words, step_line, lrat_text, IsId, IsWritten, on_lines}
 use Rattle.lrat.specs.Worked.{reads}
-use Rattle.lrat.proofs.TextLemmas.{single, word_alone, word_before, words_line}
+use Rattle.lrat.proofs.TextLemmas.{words_line}
 
 -- ---- words
 
@@ -98,7 +101,7 @@ no_letter : (n : ℕ) → number_of (codes "d") ≡ Some n → ⊥
 unfolding number_of is_decimal
 no_letter n is = cc (is)
 
-says_plain : (w : List ℕ) (n : ℕ) → number_of w ≡ Some n → list_any (λ b. b == 45) w ≡ false → number_said w ≡ number n
+says_plain : (w : List ℕ) (n : ℕ) → number_of w ≡ Some n → list_any (λ b. b == 45) w ≡ false → number_word w ≡ says.Number n
 unfolding number_of is_decimal
 says_plain [] n is none = absurd (cc (is))
 says_plain (b ∷ bs) n is none =
@@ -110,10 +113,10 @@ token_decimal : (n : ℕ) → 1 ≤ n → n < 2 ^ 64 → token_of (decimal n) �
 token_decimal n some low =
     let zero : bytes_eq (decimal n) (codes "0") ≡ false = not_word n (codes "0") low (no_zero n some) in
     let letter : bytes_eq (decimal n) (codes "d") ≡ false = not_word n (codes "d") low (no_letter n) in
-    rw (zero, letter) (says_plain (decimal n) n (number_of-decimal n low) (decimal_without 45 n (omega arith) low))
+    rw (zero, letter) (ap token_by (says_plain (decimal n) n (number_of-decimal n low) (decimal_without 45 n (omega arith) low)))
 
 token_minus : (n : ℕ) → n < 2 ^ 64 → token_of (45 ∷ decimal n) ≡ negative n
-token_minus n low = ap (decimal_said true) (number_of-decimal n low)
+token_minus n low = ap (λ (o : Option ℕ). token_by (decimal_said true o)) (number_of-decimal n low)
 
 -- ---- what they do
 

@@ -1,23 +1,24 @@
 -- Readers of steps with hints.
 use Rattle.std.proofs.Common.{◌≡◌, ℕ, ◌==◌, length, Bool, true, false, List, [], ◌∷◌, ◌++◌, refl, sym, ap, ap₂, subst, ◌∙◌, append_assoc, append-nil, arith}
-use Rattle.std.specs.Prelude.{◌+◌, ◌*◌, nat_lt, Option, Some, None, if◌then◌else◌}
+use Rattle.std.specs.Prelude.{◌+◌, ◌*◌, nat_lt, Option, Some, None, if◌then◌else◌, Result, IfOk}
 use Rattle.std.proofs.lemmas.Bool.{ne_eqb}
 use Rattle.base.specs.Decimals.{is_nothing}
+use Rattle.drup.specs.declared.fault.ClauseFault.{ClauseFault}
 use Rattle.drup.specs.declared.judgement.Judgement.{Judgement}
 use Rattle.drup.specs.declared.judgement.Judgement.TheVariants as judgement
 use Rattle.drup.specs.declared.why.Why.{Why}
 use Rattle.drup.specs.declared.why.Why.TheVariants as why
 use Rattle.drup.specs.Formula.{Formula}
 use Rattle.drup.specs.Proofs.{ProofFault}
-use Rattle.drup.specs.Hints.{Named, named_from, HintedStep, HintedEnded, ended, judge_named, judge_hinted}
+use Rattle.drup.specs.Hints.{Named, named_from, HintedStep, HintedEnded, ended, HintedReading, judge_named, judge_hinted}
 use Rattle.drup.specs.HintedJudges.{HintedJudge, continued, StandsForHinted, HasJudgedHinted, BeginsHintedAt, BeginsHinted}
 use Rattle.lrat.specs.declared.step_reader.Part.{Part}
 use Rattle.lrat.specs.declared.step_reader.Part.TheVariants as part
-use Rattle.lrat.specs.HintedProofs.{Token, faulty, Mark, mark, Begun, between, literals, hints, deletions, Taken, goes_on, gives, refuses, resolves, with_literal, taken, LratReading, behind_steps, by_taken, refused, has_begun, reading_from}
+use Rattle.lrat.specs.HintedProofs.{Token, faulty, Mark, mark, Begun, between, literals, hints, deletions, Taken, goes_on, gives, refuses, with_literal, taken, behind_steps, by_taken, refused, has_begun, reading_from}
 use Rattle.lrat.specs.StepReaders.{StepReader, begun_of, HasTaken, Open, Closed, StandsAtStep, StandsForWords, Takes, HasRead, BeginsReader}
 
-abbrev made : List HintedEnded → Option ProofFault → Option ℕ → LratReading
-made steps fault resolving = record { hinted = record { steps = steps; fault = fault }; resolving = resolving }
+abbrev made : List HintedEnded → Option ProofFault → HintedReading
+made steps fault = record { steps = steps; fault = fault }
 
 -- a word more, in front of what follows
 reads_mark : (f : Formula) (r : StepReader) (marks : List Mark) (line : ℕ) (token : Token) (does : Taken) (o : Open f r marks) → taken r.variables r.begun token ≡ does → (last : ℕ) (more : List Mark)
@@ -52,7 +53,6 @@ takes_goes old line begun open_is f marks token is s ok =
     stands_open f new (marks ++ mark line token ∷ []) open_is (record {
       steps = o.steps;
       stands = o.stands;
-      none = o.none;
       reads = λ last more. reads_mark f old marks line token (goes_on begun) o is last more;
     }) ok
 
@@ -65,10 +65,9 @@ takes_gives old line step begun judge open_is over f marks token is s ok =
     stands_open f new (marks ++ mark line token ∷ []) open_is (record {
       steps = o.steps ++ ended line step ∷ [];
       stands = over f o.steps o.stands;
-      none = o.none;
       reads = λ last more. reads_mark f old marks line token (gives step begun) o is last more
-          ∙ ap (λ (xs : List HintedEnded). made xs (reading_from old.variables last begun more).hinted.fault (reading_from old.variables last begun more).resolving)
-          (sym (append_assoc o.steps (ended line step ∷ []) (reading_from old.variables last begun more).hinted.steps));
+          ∙ ap (λ (xs : List HintedEnded). made xs (reading_from old.variables last begun more).fault)
+          (sym (append_assoc o.steps (ended line step ∷ []) (reading_from old.variables last begun more).steps));
     }) ok
 
 pub takes_refuses : (old : StepReader) (line : ℕ) (w : Why) (judge : HintedJudge) → old.closed ≡ false
@@ -78,20 +77,10 @@ takes_refuses old line w judge open_is over f marks token is s ok =
     let o : Open f old marks = opened f old marks open_is ok s in
     record {
       steps = o.steps;
-      fault = Some (record { line = line; why = w });
-      taken = over f o.steps o.stands;
+      fault = record { line = line; why = w };
+      judged = over f o.steps o.stands;
       reads = λ last more. reads_mark f old marks line token (refuses w) o is last more
-          ∙ ap₂ (λ (xs : List HintedEnded) (r : Option ℕ). made xs (Some (record { line = line; why = w })) r) (append-nil o.steps) (sym o.none);
-    }
-
-pub takes_resolves : (old : StepReader) (line : ℕ) → old.closed ≡ false → Takes old line resolves (record old { resolving = Some line; closed = true })
-takes_resolves old line open_is f marks token is s ok =
-    let o : Open f old marks = opened f old marks open_is ok s in
-    record {
-      steps = o.steps;
-      fault = None;
-      taken = o.stands;
-      reads = λ last more. reads_mark f old marks line token resolves o is last more ∙ ap (λ (xs : List HintedEnded). made xs None (Some line)) (append-nil o.steps);
+          ∙ ap (λ (xs : List HintedEnded). made xs (Some (record { line = line; why = w }))) (append-nil o.steps);
     }
 
 -- the same from what is seen of a reader
@@ -112,10 +101,6 @@ pub refuses_word : (old now : StepReader) (line : ℕ) (w : Why) (judge : Hinted
     → Takes now line (refuses w) (record old { judge = judge; closed = true })
 refuses_word old now line w judge same open_is over =
     takes_over old now (record old { judge = judge; closed = true }) line (refuses w) same (takes_refuses old line w judge (ap (λ (x : StepReader). x.closed) same ∙ open_is) over)
-
-pub resolves_hint : (old now : StepReader) (line : ℕ) → old ≡ now → now.closed ≡ false → Takes now line resolves (record old { resolving = Some line; closed = true })
-resolves_hint old now line same open_is =
-    takes_over old now (record old { resolving = Some line; closed = true }) line resolves same (takes_resolves old line (ap (λ (x : StepReader). x.closed) same ∙ open_is))
 
 -- ---- what has come of a step
 
@@ -178,7 +163,6 @@ pub stands_begun : (f : Formula) (r : StepReader) → BeginsReader f r → Stand
 stands_begun f r b = stands_open f r [] b.closed (record {
   steps = [];
   stands = hinted_begun f r.judge b.begins;
-  none = b.none;
   reads = λ last more. ap (λ (begun : Begun). reading_from r.variables last begun more) (sym b.begun);
 })
 
@@ -190,18 +174,18 @@ whole_marks v last marks = ap (reading_from v last between) (sym (append-nil mar
 pub read_closed : (f : Formula) (r : StepReader) (marks : List Mark) (last : ℕ) → r.closed ≡ true → StandsForWords f r marks → HasRead f r (reading_from r.variables last between marks)
 read_closed f r marks last is s ok =
     let c : Closed f r marks = subst (StandsAtStep f r marks) is (s ok) in
-    (c.steps, (c.fault, (c.taken, whole_marks r.variables last marks ∙ c.reads last [])))
+    (c.steps, (Some c.fault, (c.judged, whole_marks r.variables last marks ∙ c.reads last [])))
 
 pub read_open : (f : Formula) (r : StepReader) (marks : List Mark) (last : ℕ) → r.closed ≡ false → has_begun r.begun ≡ false → StandsForWords f r marks → HasRead f r (reading_from r.variables last between marks)
 read_open f r marks last is none s ok =
     let o : Open f r marks = opened f r marks is ok s in
-    let end : reading_from r.variables last r.begun [] ≡ made [] None None = rw none refl in (
+    let end : reading_from r.variables last r.begun [] ≡ made [] None = rw none refl in (
       o.steps,
       (
         None,
         (
           o.stands,
-          whole_marks r.variables last marks ∙ o.reads last [] ∙ ap (behind_steps o.steps) end ∙ ap₂ (λ (xs : List HintedEnded) (resolving : Option ℕ). made xs None resolving) (append-nil o.steps) (sym o.none),
+          whole_marks r.variables last marks ∙ o.reads last [] ∙ ap (behind_steps o.steps) end ∙ ap (λ (xs : List HintedEnded). made xs None) (append-nil o.steps),
         ),
       ),
     )
@@ -216,13 +200,13 @@ read_cut f old new marks last is same variables closed begun over s ok =
     let alike : reading_from old.variables last between marks ≡ reading_from old.variables last between ((marks ++ m ∷ []) ++ []) =
     whole_marks old.variables last marks ∙ o.reads last [] ∙ ap (behind_steps o.steps) cut ∙ sym (reads_mark f old marks last (faulty why.CutOff) (refuses why.CutOff) o refused_is last []) in
     let c : Closed f new (marks ++ m ∷ []) = subst (StandsAtStep f new (marks ++ m ∷ [])) closed (over f marks (faulty why.CutOff) refused_is s ok) in
-    (c.steps, (c.fault, (c.taken, alike ∙ ap (λ (v : ℕ). reading_from v last between ((marks ++ m ∷ []) ++ [])) (sym variables) ∙ c.reads last [])))
+    (c.steps, (Some c.fault, (c.judged, alike ∙ ap (λ (v : ℕ). reading_from v last between ((marks ++ m ∷ []) ++ [])) (sym variables) ∙ c.reads last [])))
 
-pub read_as : (f : Formula) (r : StepReader) (reading whole : LratReading) → (r.failed ≡ false → reading ≡ whole) → HasRead f r whole → HasRead f r reading
+pub read_as : (f : Formula) (r : StepReader) (reading whole : HintedReading) → (r.failed ≡ false → reading ≡ whole) → HasRead f r whole → HasRead f r reading
 read_as f r reading whole same h ok = let own = h ok in (own.0, (own.1.0, (own.1.1.0, same ok ∙ own.1.1.1)))
 
-pub judged_as : (f : Formula) (r : StepReader) (j : Judgement) → ((steps : List HintedEnded) → StandsForHinted f steps r.judge → j ≡ judge_hinted f (record { steps = steps; fault = None }))
-    → ((steps : List HintedEnded) (fault : ProofFault) → HasJudgedHinted f steps fault r.judge → j ≡ judge_hinted f (record { steps = steps; fault = Some fault }))
-    → (steps : List HintedEnded) (fault : Option ProofFault) → HasTaken f steps fault r.judge → j ≡ judge_hinted f (record { steps = steps; fault = fault })
-judged_as f r j none some steps None h = none steps h
-judged_as f r j none some steps (Some fault) h = some steps fault h
+pub judged_as : (f : Formula) (r : StepReader) (result : Result Judgement ClauseFault) → ((steps : List HintedEnded) → StandsForHinted f steps r.judge → IfOk result (λ j. j ≡ judge_hinted f (record { steps = steps; fault = None })))
+    → ((steps : List HintedEnded) (fault : ProofFault) → HasJudgedHinted f steps fault r.judge → IfOk result (λ j. j ≡ judge_hinted f (record { steps = steps; fault = Some fault })))
+    → (steps : List HintedEnded) (fault : Option ProofFault) → HasTaken f steps fault r.judge → IfOk result (λ j. j ≡ judge_hinted f (record { steps = steps; fault = fault }))
+judged_as f r result none some steps None h = none steps h
+judged_as f r result none some steps (Some fault) h = some steps fault h

@@ -6,17 +6,17 @@ use Rattle.std.proofs.lemmas.Bool.{eqb-true, ltb-false, or_parts, or_from}
 use Rattle.base.specs.Decimals.{is_nothing}
 use Rattle.base.specs.Lines.{whole_lines, all_lines}
 use Rattle.drup.specs.declared.why.Why.TheVariants as why
-use Rattle.lrat.specs.declared.word.Word.{Word}
-use Rattle.lrat.specs.declared.text_judge.Place.{Place}
-use Rattle.lrat.specs.declared.text_judge.Place.TheVariants as place
+use Rattle.drup.specs.declared.word.Word.{Word}
+use Rattle.drup.specs.declared.lines.Place.{Place}
+use Rattle.drup.specs.declared.lines.Place.TheVariants as place
 use Rattle.drup.specs.Formula.{Formula}
 use Rattle.drup.specs.Proofs.{is_proof_blank, most_proof_lines}
-use Rattle.drup.specs.TextJudges.{next_lines}
+use Rattle.drup.specs.Words.{SpellsWord}
+use Rattle.drup.specs.TextJudges.{next_lines, IsTokenAt, IsFew}
 use Rattle.drup.proofs.TextLemmas.{lines_same}
 use Rattle.lrat.specs.HintedProofs.{token_of, Token, faulty, Mark, mark, lines_marks, between, reading_from, read_text_lrat}
-use Rattle.lrat.specs.Words.{SpellsWord}
 use Rattle.lrat.specs.StepReaders.{StepReader, StandsAtStep, StandsForWords}
-use Rattle.lrat.specs.TextJudges.{TextJudge, word_marks, marks_behind, IsTokenAt, IsFew, Scanned, ScannedAt, StandsBefore, StandsThrough, BeginsText, StandsForLines, AreMarksAt, EndsText}
+use Rattle.lrat.specs.TextJudges.{TextJudge, word_marks, marks_behind, Scanned, ScannedAt, StandsBefore, StandsThrough, BeginsText, StandsForLines, AreMarksAt, EndsText}
 use Rattle.lrat.proofs.StepReaderLemmas.{stands_begun}
 use Rattle.lrat.proofs.TextLemmas.{marks_blank, marks_line, marks_letter, marks_end, marks_too_long, marks_comment, marks_within}
 

@@ -1,67 +1,22 @@
 -- The words of the rest of a text, with a byte more in front.
-use Rattle.std.proofs.Common.{◌≡◌, ℕ, suc, ◌==◌, true, false, List, [], ◌∷◌, ◌++◌, map, inl, inr, refl, sym, ap, ap₂, ◌∙◌, append_assoc, append-nil}
+use Rattle.std.proofs.Common.{◌≡◌, ℕ, suc, ◌==◌, true, false, List, [], ◌∷◌, ◌++◌, map, refl, sym, ap, ap₂, ◌∙◌, append_assoc, append-nil}
 use Rattle.std.specs.Prelude.{nat_lt}
 use Rattle.std.specs.List.{list_any}
 use Rattle.std.proofs.lemmas.List.{map-append}
-use Rattle.std.proofs.lemmas.Bool.{cases_Bool, or_parts}
-use Rattle.base.specs.Lines.{onto_first, all_lines}
+use Rattle.base.specs.Lines.{all_lines}
 use Rattle.drup.specs.declared.why.Why.TheVariants as why
-use Rattle.lrat.specs.declared.text_judge.Place.TheVariants as place
-use Rattle.drup.specs.Proofs.{is_proof_blank, ends_word, proof_words, is_proof_comment, most_proof_lines}
+use Rattle.drup.specs.declared.lines.Place.TheVariants as place
+use Rattle.drup.specs.Proofs.{is_proof_blank, proof_words, is_proof_comment, most_proof_lines}
 use Rattle.drup.specs.TextJudges.{this_line, next_lines}
-use Rattle.drup.proofs.TextLemmas.{lines_first}
+use Rattle.drup.proofs.TextLemmas.{lines_first, single, word_alone, word_before, this_on, next_on, this_ends, next_ends, no_comment}
 use Rattle.lrat.specs.HintedProofs.{token_of, faulty, Mark, mark, line_marks, lines_marks}
 use Rattle.lrat.specs.TextJudges.{word_marks, marks_behind}
 
--- ---- words
-
-abbrev pub single : List ℕ → List (List ℕ)
-single [] = []
-single (b ∷ bs) = (b ∷ bs) ∷ []
-
-blanks : (x : ℕ) (xs : List ℕ) → list_any is_proof_blank (x ∷ xs) ≡ false → (is_proof_blank x ≡ false) × (list_any is_proof_blank xs ≡ false)
-blanks x xs h = or_parts (is_proof_blank x) (list_any is_proof_blank xs) h
-
-words_step : (x : ℕ) (ys : List ℕ) → is_proof_blank x ≡ false → ends_word ys ≡ true → proof_words (x ∷ ys) ≡ (x ∷ []) ∷ proof_words ys
-words_step x ys apart end = rw (apart, end) refl
-
-words_onto : (x : ℕ) (ys : List ℕ) → is_proof_blank x ≡ false → ends_word ys ≡ false → proof_words (x ∷ ys) ≡ onto_first x (proof_words ys)
-words_onto x ys apart on = rw (apart, on) refl
-
-words_skip : (x : ℕ) (ys : List ℕ) → is_proof_blank x ≡ true → proof_words (x ∷ ys) ≡ proof_words ys
-words_skip x ys blank = rw blank refl
-
-pub word_alone : (w : List ℕ) → list_any is_proof_blank w ≡ false → proof_words w ≡ single w
-word_alone [] plain = refl
-word_alone (x ∷ []) plain = words_step x [] (blanks x [] plain).0 refl
-word_alone (x ∷ y ∷ ys) plain =
-    let own = blanks x (y ∷ ys) plain in
-    words_onto x (y ∷ ys) own.0 (blanks y ys own.1).0 ∙ ap (onto_first x) (word_alone (y ∷ ys) own.1)
-
-pub word_before : (w l : List ℕ) (b : ℕ) → list_any is_proof_blank w ≡ false → is_proof_blank b ≡ true → proof_words (w ++ b ∷ l) ≡ single w ++ proof_words l
-word_before [] l b plain blank = words_skip b l blank
-word_before (x ∷ []) l b plain blank = words_step x (b ∷ l) (blanks x [] plain).0 blank ∙ ap (λ (ws : List (List ℕ)). (x ∷ []) ∷ ws) (words_skip b l blank)
-word_before (x ∷ y ∷ ys) l b plain blank =
-    let own = blanks x (y ∷ ys) plain in
-    words_onto x ((y ∷ ys) ++ b ∷ l) own.0 (blanks y ys own.1).0 ∙ ap (onto_first x) (word_before (y ∷ ys) l b own.1 blank)
+-- ---- a byte more
 
 marks_single : (n : ℕ) (w : List ℕ) → map (λ x. mark n (token_of x)) (single w) ≡ word_marks n w
 marks_single n [] = refl
 marks_single n (b ∷ bs) = refl
-
--- ---- a byte more
-
-this_on : (b : ℕ) (more : List ℕ) → (b == 10) ≡ false → this_line (b ∷ more) ≡ b ∷ this_line more
-this_on b more not = rw not refl
-
-next_on : (b : ℕ) (more : List ℕ) → (b == 10) ≡ false → next_lines (b ∷ more) ≡ next_lines more
-next_on b more not = rw not refl
-
-this_ends : (b : ℕ) (more : List ℕ) → (b == 10) ≡ true → this_line (b ∷ more) ≡ []
-this_ends b more ten = rw ten refl
-
-next_ends : (b : ℕ) (more : List ℕ) → (b == 10) ≡ true → next_lines (b ∷ more) ≡ more
-next_ends b more ten = rw ten refl
 
 -- the marks of a line of words, and of the lines behind it
 abbrev line_and_rest : ℕ → List ℕ → List ℕ → List Mark
@@ -122,13 +77,6 @@ pub marks_comment : (n : ℕ) (b : ℕ) (more : List ℕ) → nat_lt most_proof_
 marks_comment n b more few not is =
     first_marks n b more [] (comment_line n (this_line (b ∷ more)) few (ap is_proof_comment (this_on b more not) ∙ is))
     ∙ ap (λ (r : List ℕ). lines_marks (suc n) (all_lines r)) (next_on b more not)
-
-no_comment : (b : ℕ) (more : List ℕ) → (b == 99) ≡ false → is_proof_comment (this_line (b ∷ more)) ≡ false
-no_comment b more not =
-    elim (cases_Bool (b == 10)) [
-      | inl ten ↦ ap is_proof_comment (this_ends b more ten)
-      | inr other ↦ ap is_proof_comment (this_on b more other) ∙ not
-    ]
 
 pub marks_within : (n : ℕ) (b : ℕ) (more : List ℕ) → nat_lt most_proof_lines n ≡ false → (b == 99) ≡ false
     → lines_marks n (all_lines (b ∷ more)) ≡ marks_behind place.Within n [] (b ∷ more)

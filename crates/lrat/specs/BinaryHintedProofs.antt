@@ -9,7 +9,8 @@ use Rattle.base.specs.Lines.{line_after}
 use Rattle.drup.specs.declared.why.Why.TheVariants as why
 use Rattle.drup.specs.Proofs.{most_proof_lines}
 use Rattle.drup.specs.BinaryProofs.{number_pieces, coded_number, last_byte}
-use Rattle.lrat.specs.HintedProofs.{Token, ends, adds, removes, number, negative, faulty, Mark, mark, between, LratReading, reading_from}
+use Rattle.drup.specs.Hints.{HintedReading}
+use Rattle.lrat.specs.HintedProofs.{Token, ends, adds, removes, number, negative, faulty, Mark, mark, between, reading_from}
 
 -- ---- numbers
 
@@ -78,5 +79,5 @@ abbrev pub binary_marks : List ℕ → List Mark
 binary_marks bytes = step_marks 1 at_step (number_pieces bytes)
 
 -- what bytes in this form read as, over a formula of so many variables; a text that ends within a step has a mark that says so
-abbrev pub read_binary_lrat : ℕ → List ℕ → LratReading
+abbrev pub read_binary_lrat : ℕ → List ℕ → HintedReading
 read_binary_lrat variables bytes = reading_from variables 0 between (binary_marks bytes)

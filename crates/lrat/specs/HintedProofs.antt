@@ -4,12 +4,14 @@
 -- This project's own: blanks and ends of lines part words and mean nothing else, a line whose first byte is `c` is passed over, numbers have no zeros in
 -- front and no plus, an id is at most 2 ^ 32 - 1, a hint with a minus, which is of a step by resolution on a literal (RAT), is refused, and what the first
 -- fault is.
-use Rattle.std.specs.Prelude.{ℕ, suc, ◌+◌, ◌*◌, ◌-◌, ◌^◌, Bool, true, false, ◌||◌, ◌==◌, nat_lt, if◌then◌else◌, List, [], ◌∷◌, ◌++◌, length, map, Option, Some, None, codes}
-use Rattle.std.specs.Str.{bytes_eq}
-use Rattle.base.specs.Decimals.{is_nothing, number_of}
+use Rattle.std.specs.Prelude.{ℕ, suc, ◌+◌, ◌*◌, ◌-◌, ◌^◌, Bool, true, false, ◌||◌, ◌==◌, nat_lt, if◌then◌else◌, List, [], ◌∷◌, ◌++◌, length, map, Option, Some, None}
+use Rattle.base.specs.Decimals.{is_nothing}
 use Rattle.base.specs.Lines.{whole_lines, all_lines}
 use Rattle.drup.specs.declared.why.Why.{Why}
 use Rattle.drup.specs.declared.why.Why.TheVariants as why
+use Rattle.drup.specs.declared.word.Said.{Said}
+use Rattle.drup.specs.declared.word.Said.TheVariants as said
+use Rattle.drup.specs.Words.{word_said}
 use Rattle.drup.specs.Proofs.{proof_words, is_proof_comment, most_proof_lines}
 use Rattle.drup.specs.Hints.{HintedStep, addition, deletion, HintedEnded, ended, HintedReading}
 
@@ -26,20 +28,16 @@ pub data Token : Type 0 where
   negative : ℕ → Token
   faulty : Why → Token
 
--- a decimal, with a minus in front or without
-abbrev pub decimal_said : Bool → Option ℕ → Token
-decimal_said minus None = faulty why.BadWord
-decimal_said true (Some n) = negative n
-decimal_said false (Some n) = number n
-
-abbrev pub number_said : List ℕ → Token
-number_said [] = faulty why.BadWord
-number_said (b ∷ bs) = if b == 45 then decimal_said true (number_of bs) else decimal_said false (number_of (b ∷ bs))
+-- by what it says by itself
+abbrev pub token_by : Said → Token
+token_by said.Zero = ends
+token_by said.Letter = deletes
+token_by (said.Number n) = number n
+token_by (said.Negative n) = negative n
+token_by said.Nothing = faulty why.BadWord
 
 abbrev pub token_of : List ℕ → Token
-token_of word =
-    if bytes_eq word (codes "0") then ends
-    else (if bytes_eq word (codes "d") then deletes else number_said word)
+token_of word = token_by (word_said word)
 
 -- ---- lines
 
@@ -66,12 +64,11 @@ pub data Begun : Type 0 where
   hints : ℕ → List ℕ → List ℕ → Begun
   deletions : Begun
 
--- What a word does: what has come is more, or a step is there, or the word is refused, or it is a hint with a minus.
+-- What a word does: what has come is more, or a step is there, or the word is refused.
 pub data Taken : Type 0 where
   goes_on : Begun → Taken
   gives : HintedStep → Begun → Taken
   refuses : Why → Taken
-  resolves : Taken
 
 -- the greatest id
 abbrev pub most_id : ℕ
@@ -117,7 +114,7 @@ hint_taken id clause before deletes = refuses why.BadWord
 hint_taken id clause before adds = refuses why.BadWord
 hint_taken id clause before removes = refuses why.BadWord
 hint_taken id clause before (number n) = by_id (λ hint. goes_on (hints id clause (before ++ hint ∷ []))) (id_numbered n)
-hint_taken id clause before (negative n) = by_id (λ hint. resolves) (id_numbered n)
+hint_taken id clause before (negative n) = by_id (λ hint. refuses why.RatStep) (id_numbered n)
 hint_taken id clause before (faulty w) = refuses w
 
 -- a word behind a `d`
@@ -139,30 +136,21 @@ taken variables deletions token = deletion_taken token
 
 -- ---- steps
 
--- the steps before the first fault, and that fault, where there is one; a first fault that is a hint with a minus stands by its line alone
-pub record LratReading : Type 0 where
-  pub hinted : HintedReading
-  pub resolving : Option ℕ
+abbrev pub refused : ℕ → Why → HintedReading
+refused n w = record { steps = []; fault = Some (record { line = n; why = w }) }
 
-abbrev pub refused : ℕ → Why → LratReading
-refused n w = record { hinted = record { steps = []; fault = Some (record { line = n; why = w }) }; resolving = None }
-
-abbrev pub resolved : ℕ → LratReading
-resolved n = record { hinted = record { steps = []; fault = None }; resolving = Some n }
-
-abbrev pub nothing_more : LratReading
-nothing_more = record { hinted = record { steps = []; fault = None }; resolving = None }
+abbrev pub nothing_more : HintedReading
+nothing_more = record { steps = []; fault = None }
 
 -- steps in front of a reading
-abbrev pub behind_steps : List HintedEnded → LratReading → LratReading
-behind_steps steps reading = record { hinted = record { steps = steps ++ reading.hinted.steps; fault = reading.hinted.fault }; resolving = reading.resolving }
+abbrev pub behind_steps : List HintedEnded → HintedReading → HintedReading
+behind_steps steps reading = record { steps = steps ++ reading.steps; fault = reading.fault }
 
 -- what follows a word in a line that does this
-abbrev pub by_taken : ℕ → (Begun → LratReading) → Taken → LratReading
+abbrev pub by_taken : ℕ → (Begun → HintedReading) → Taken → HintedReading
 by_taken n rest (goes_on begun) = rest begun
 by_taken n rest (gives step begun) = behind_steps (ended n step ∷ []) (rest begun)
 by_taken n rest (refuses w) = refused n w
-by_taken n rest resolves = resolved n
 
 abbrev pub has_begun : Begun → Bool
 has_begun between = false
@@ -171,10 +159,10 @@ has_begun (hints id clause before) = true
 has_begun deletions = true
 
 -- what marks read as behind what has come of a step, over so many variables, in a text that ends in a line
-abbrev pub reading_from : ℕ → ℕ → Begun → List Mark → LratReading
+abbrev pub reading_from : ℕ → ℕ → Begun → List Mark → HintedReading
 reading_from variables last begun [] = if has_begun begun then refused last why.CutOff else nothing_more
 reading_from variables last begun (mark n token ∷ marks) = by_taken n (λ after. reading_from variables last after marks) (taken variables begun token)
 
 -- what a text in this form reads as, over a formula of so many variables
-abbrev pub read_text_lrat : ℕ → List ℕ → LratReading
+abbrev pub read_text_lrat : ℕ → List ℕ → HintedReading
 read_text_lrat variables text = reading_from variables (suc (length (whole_lines text))) between (lines_marks 1 (all_lines text))

@@ -2,9 +2,7 @@ pub mod HintedProofs
 pub mod BinaryHintedProofs
 pub mod HintedForms
 pub mod LratJudgements
-pub mod Printed
 pub mod Words
-pub mod Numbers
 pub mod Scans
 pub mod StepReaders
 pub mod TextJudges

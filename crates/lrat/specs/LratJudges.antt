@@ -12,7 +12,7 @@ use Rattle.lrat.specs.declared.scan.Spot.TheVariants as spot
 use Rattle.lrat.specs.HintedProofs.{Mark}
 use Rattle.lrat.specs.BinaryHintedProofs.{step_marks, binary_marks}
 use Rattle.lrat.specs.HintedForms.{is_binary_lrat}
-use Rattle.lrat.specs.Numbers.{SpellsNumber}
+use Rattle.drup.specs.Numbers.{SpellsNumber}
 use Rattle.lrat.specs.Scans.{spot_of}
 use Rattle.lrat.specs.StepReaders.{StandsForWords}
 use Rattle.lrat.specs.TextJudges.{TextJudge, BeginsText, StandsForLines}

@@ -2,20 +2,19 @@
 use Rattle.std.specs.Prelude.{◌≡◌, ℕ, ◌+◌, ◌*◌, ◌<◌, Bool, true, false, List, [], ◌∷◌, ◌++◌, Option, Some, None, All}
 use Rattle.drup.specs.Formula.{Formula}
 use Rattle.drup.specs.Proofs.{ProofFault}
-use Rattle.drup.specs.Hints.{HintedEnded}
+use Rattle.drup.specs.Hints.{HintedEnded, HintedReading}
 use Rattle.drup.specs.HintedJudges.{HintedJudge, StandsForHinted, HasJudgedHinted, BeginsHinted}
 use Rattle.lrat.specs.declared.step_reader.Part.{Part}
 use Rattle.lrat.specs.declared.step_reader.Part.TheVariants as part
 use Rattle.lrat.specs.declared.step_reader.StepReader.TheInside.{Inside}
-use Rattle.lrat.specs.HintedProofs.{Token, Mark, mark, Begun, between, literals, hints, deletions, Taken, taken, LratReading, behind_steps, reading_from}
+use Rattle.lrat.specs.HintedProofs.{Token, Mark, mark, Begun, between, literals, hints, deletions, Taken, taken, behind_steps, reading_from}
 
--- the judge of the steps that ended, the count of variables, what has come of the step that has begun, the line of a hint with a minus, whether a fault was
--- met or memory was wanting, behind which nothing is read, and whether memory was wanting
+-- the judge of the steps that ended, the count of variables, what has come of the step that has begun, whether a fault was met or memory was wanting, behind
+-- which nothing is read, and whether memory was wanting
 pub record StepReader : Type 0 where
   pub judge : HintedJudge
   pub variables : ℕ
   pub begun : Begun
-  pub resolving : Option ℕ
   pub closed : Bool
   pub failed : Bool
 
@@ -28,7 +27,7 @@ begun_of part.Deletions id clause before = deletions
 
 -- what is seen of a reader
 abbrev pub reader_of : Inside → StepReader
-reader_of r = record { judge = r.judge; variables = r.variables; begun = begun_of r.part r.id r.clause.items r.hints.items; resolving = r.resolving; closed = r.closed; failed = r.failed }
+reader_of r = record { judge = r.judge; variables = r.variables; begun = begun_of r.part r.id r.clause.items r.hints.items; closed = r.closed; failed = r.failed }
 
 -- the literals are those of the judge's variables
 pub record IsReader (r : Inside) : Type 0 where
@@ -45,15 +44,14 @@ HasTaken f steps (Some fault) judge = HasJudgedHinted f steps fault judge
 pub record Open (f : Formula) (r : StepReader) (marks : List Mark) : Type 0 where
   pub steps : List HintedEnded
   pub stands : StandsForHinted f steps r.judge
-  pub none : r.resolving ≡ None
   pub reads : (last : ℕ) (more : List Mark) → reading_from r.variables last between (marks ++ more) ≡ behind_steps steps (reading_from r.variables last r.begun more)
 
 -- the steps before a fault, and the fault, are those of the words, whatever follows
 pub record Closed (f : Formula) (r : StepReader) (marks : List Mark) : Type 0 where
   pub steps : List HintedEnded
-  pub fault : Option ProofFault
-  pub taken : HasTaken f steps fault r.judge
-  pub reads : (last : ℕ) (more : List Mark) → reading_from r.variables last between (marks ++ more) ≡ record { hinted = record { steps = steps; fault = fault }; resolving = r.resolving }
+  pub fault : ProofFault
+  pub judged : HasJudgedHinted f steps fault r.judge
+  pub reads : (last : ℕ) (more : List Mark) → reading_from r.variables last between (marks ++ more) ≡ record { steps = steps; fault = Some fault }
 
 abbrev pub StandsAtStep : Formula → StepReader → List Mark → Bool → Type 0
 StandsAtStep f r marks true = Closed f r marks
@@ -70,13 +68,12 @@ Takes old line does new =
     → StandsForWords f new (marks ++ mark line token ∷ [])
 
 -- where memory was not wanting, a reader has judged the steps of a reading, and its fault where there is one
-abbrev pub HasRead : Formula → StepReader → LratReading → Type 0
+abbrev pub HasRead : Formula → StepReader → HintedReading → Type 0
 HasRead f r reading =
-    r.failed ≡ false → (steps : List HintedEnded) × ((fault : Option ProofFault) × (HasTaken f steps fault r.judge × (reading ≡ record { hinted = record { steps = steps; fault = fault }; resolving = r.resolving })))
+    r.failed ≡ false → (steps : List HintedEnded) × ((fault : Option ProofFault) × (HasTaken f steps fault r.judge × (reading ≡ record { steps = steps; fault = fault })))
 
 -- where memory was not wanting, a reader has a formula's clauses and took no word
 pub record BeginsReader (f : Formula) (r : StepReader) : Type 0 where
   pub begins : BeginsHinted f r.judge
   pub begun : r.begun ≡ between
-  pub none : r.resolving ≡ None
   pub closed : r.closed ≡ false

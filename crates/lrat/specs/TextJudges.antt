@@ -1,15 +1,14 @@
 -- What a judge of proofs with hints in the text form holds, and which texts it stands for.
-use Rattle.std.specs.Prelude.{◌≡◌, ℕ, suc, ◌+◌, ◌≤◌, Bool, true, false, List, [], ◌∷◌, ◌++◌, length, map}
-use Rattle.std.specs.List.{list_any}
+use Rattle.std.specs.Prelude.{◌≡◌, ℕ, suc, ◌+◌, Bool, true, false, List, [], ◌∷◌, ◌++◌, length, map}
 use Rattle.base.specs.Lines.{whole_lines, all_lines}
 use Rattle.drup.specs.Formula.{Formula}
-use Rattle.drup.specs.Proofs.{is_proof_blank, proof_words, most_proof_lines}
-use Rattle.drup.specs.TextJudges.{this_line, next_lines}
-use Rattle.lrat.specs.declared.text_judge.Place.{Place}
-use Rattle.lrat.specs.declared.text_judge.Place.TheVariants as place
-use Rattle.lrat.specs.declared.word.Word.{Word}
+use Rattle.drup.specs.Proofs.{proof_words}
+use Rattle.drup.specs.TextJudges.{this_line, next_lines, IsTokenAt, IsFew}
+use Rattle.drup.specs.declared.lines.Place.{Place}
+use Rattle.drup.specs.declared.lines.Place.TheVariants as place
+use Rattle.drup.specs.declared.word.Word.{Word}
 use Rattle.lrat.specs.HintedProofs.{token_of, Mark, mark, lines_marks}
-use Rattle.lrat.specs.Words.{SpellsWord}
+use Rattle.drup.specs.Words.{SpellsWord}
 use Rattle.lrat.specs.StepReaders.{StepReader, StandsForWords, BeginsReader}
 
 -- ---- the rest of a text
@@ -33,18 +32,6 @@ pub record TextJudge : Type 0 where
   pub line : ℕ
   pub place : Place
   pub word : Word
-
--- a word has no blanks, and outside of words nothing has begun
-abbrev pub IsTokenAt : Place → List ℕ → Type 0
-IsTokenAt place.Begins word = word ≡ []
-IsTokenAt place.Within word = list_any is_proof_blank word ≡ false
-IsTokenAt place.Comment word = word ≡ []
-
--- a line that begins may be one too many
-abbrev pub IsFew : Place → ℕ → Type 0
-IsFew place.Begins line = line ≤ suc most_proof_lines
-IsFew place.Within line = line ≤ most_proof_lines
-IsFew place.Comment line = line ≤ most_proof_lines
 
 -- some words are those of a text but for its last bytes, which are pending, whatever follows
 pub record Scanned (j : TextJudge) (text pending : List ℕ) (marks : List Mark) : Type 0 where

@@ -1,18 +1,17 @@
 -- Worked rows: readings of steps alone, and of steps before a fault; all eight clauses of three variables are refuted by four steps with hints.
 use Rattle.std.specs.Prelude.{ℕ, List, [], ◌∷◌, Some, None}
 use Rattle.drup.specs.declared.why.Why.{Why}
-use Rattle.drup.specs.Hints.{HintedEnded, ended, addition}
-use Rattle.lrat.specs.HintedProofs.{LratReading}
+use Rattle.drup.specs.Hints.{HintedEnded, ended, addition, HintedReading}
 
 -- steps without a fault, and with one in a line behind them
-abbrev pub reads : List HintedEnded → LratReading
-reads steps = record { hinted = record { steps = steps; fault = None }; resolving = None }
+abbrev pub reads : List HintedEnded → HintedReading
+reads steps = record { steps = steps; fault = None }
 
-abbrev pub faults : List HintedEnded → ℕ → Why → LratReading
-faults steps n w = record { hinted = record { steps = steps; fault = Some (record { line = n; why = w }) }; resolving = None }
+abbrev pub faults : List HintedEnded → ℕ → Why → HintedReading
+faults steps n w = record { steps = steps; fault = Some (record { line = n; why = w }) }
 
 -- what is read of a proof of them: two variables by the third, one by the second, the other, and nothing
-abbrev pub four_steps : LratReading
+abbrev pub four_steps : HintedReading
 four_steps =
     reads
     (ended 1 (addition 9 (2 ∷ 4 ∷ []) (1 ∷ 2 ∷ []))

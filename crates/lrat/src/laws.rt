@@ -1,13 +1,11 @@
 //! A law of proofs with hints, and worked rows, as functions with no code.
-ghost use Rattle.std.specs.Prelude.{◌≡◌, ℕ, ◌^◌, ◌<◌, ◌≤◌, true, false, List, [], ◌∷◌, length, All, None, Some, codes};
+ghost use Rattle.std.specs.Prelude.{◌≡◌, ℕ, ◌^◌, ◌<◌, ◌≤◌, true, false, List, [], ◌∷◌, length, All, codes};
 ghost use Rattle.drup.specs.Formula.{Formula, IsUnsatisfiable};
 ghost use Rattle.drup.specs.Hints.{HintedStep, addition, deletion, ended};
 ghost use Rattle.drup.specs.Proofs.{most_proof_lines};
 ghost use Rattle.drup.specs.Worked.{eight};
 ghost use Rattle.drup.specs.declared.judgement.Judgement.TheVariants as judgement;
 ghost use Rattle.drup.specs.declared.why.Why.TheVariants as why;
-ghost use Rattle.lrat.specs.declared.judgement.LratJudgement.TheVariants as lrat;
-ghost use Rattle.lrat.specs.declared.judgement.LratWhy.TheVariants as lrat_why;
 ghost use Rattle.lrat.specs.HintedForms.{is_binary_lrat, read_lrat};
 ghost use Rattle.lrat.specs.LratJudgements.{judge_lrat};
 ghost use Rattle.lrat.specs.LratTexts.{lrat_text, IsId, IsWritten, on_lines};
@@ -17,8 +15,10 @@ ghost use Rattle.lrat.specs.Worked.{four_steps, reads, faults};
 /// A law: where a text with hints is judged as a proof, nothing satisfies the formula.
 pub fn derived_is_unsatisfiable()
     ensures { (formula : Formula) (text : List ℕ) (line : ℕ)
-        → judge_lrat formula text ≡ lrat.Hinted (judgement.Derived line) → IsUnsatisfiable formula }
-{}
+        → judge_lrat formula text ≡ judgement.Derived line → IsUnsatisfiable formula }
+{
+    drup::laws::hinted_is_unsatisfiable();
+}
 
 /// A law: what is written of steps is read as them, each on its line.
 pub fn written_is_read()
@@ -49,8 +49,8 @@ pub fn worked_reading()
 {}
 
 /// Worked rows: where a text has its first fault: a word, zeros in front, an id too great, a first word that is no id, a `d`
-/// behind a literal or a hint, an id with a minus, a hint that is 0 with a minus, a variable too many, and texts that end
-/// within a step.
+/// behind a literal or a hint, an id with a minus, a hint that is 0 with a minus, one with a minus, a variable too many, and
+/// texts that end within a step.
 pub fn worked_faults()
     ensures word { read_lrat 3 (codes "9 1 0 1 0\n10 1 0 +9 0\n")
         ≡ faults (ended 1 (addition 9 (2 ∷ []) (1 ∷ [])) ∷ []) 2 why.BadWord }
@@ -62,6 +62,8 @@ pub fn worked_faults()
     ensures negative_id { read_lrat 3 (codes "8 d 1 -2 0\n")
         ≡ faults (ended 1 (deletion 1) ∷ []) 1 why.BadWord }
     ensures no_hint { read_lrat 3 (codes "9 1 0 -0 0\n") ≡ faults [] 1 why.BadWord }
+    ensures resolving { read_lrat 3 (codes "9 1 0 1 0\n10 1 0\n-9 1 0\n")
+        ≡ faults (ended 1 (addition 9 (2 ∷ []) (1 ∷ [])) ∷ []) 3 why.RatStep }
     ensures variable { read_lrat 3 (codes "\n9 -4 0 1 0\n") ≡ faults [] 2 why.BadVariable }
     ensures cut_off { read_lrat 3 (codes "8 d 1 0\n9 1 0 1\n")
         ≡ faults (ended 1 (deletion 1) ∷ []) 3 why.CutOff }
@@ -69,34 +71,26 @@ pub fn worked_faults()
         ≡ faults (ended 1 (deletion 1) ∷ []) 1 why.CutOff }
 {}
 
-/// Worked rows: a hint with a minus is refused, and stands by its line alone.
-pub fn worked_resolving()
-    ensures { read_lrat 3 (codes "9 1 0 1 0\n10 1 0\n-9 1 0\n") ≡ record {
-      hinted = record { steps = ended 1 (addition 9 (2 ∷ []) (1 ∷ [])) ∷ []; fault = None };
-      resolving = Some 3;
-    } }
-{}
-
 /// Worked rows: all eight clauses of three variables are refuted by four steps; not where a clause was taken away before a
 /// hint names it, where a hint is missing, or by none. A hint with a minus is refused where no step before it says more.
 pub fn worked_judgements()
     ensures derived { judge_lrat eight
         (codes "9 1 2 0 1 2 0\n10 1 0 9 3 4 0\n11 2 0 10 5 6 0\n8 d 1 2 0\n12 0 10 11 7 8 0\n")
-        ≡ lrat.Hinted (judgement.Derived 5) }
+        ≡ judgement.Derived 5 }
     ensures taken_away { judge_lrat eight (codes "8 d 2 0\n9 1 2 0 1 2 0\n")
-        ≡ lrat.Hinted (judgement.Malformed 2 why.NoClause) }
+        ≡ judgement.Malformed 2 why.NoClause }
     ensures not_implied { judge_lrat eight (codes "9 1 2 0 1 0\nx")
-        ≡ lrat.Hinted (judgement.NotImplied 1) }
+        ≡ judgement.NotImplied 1 }
     ensures low_id { judge_lrat eight (codes "8 1 2 0 1 2 0\n")
-        ≡ lrat.Hinted (judgement.Malformed 1 why.BadId) }
+        ≡ judgement.Malformed 1 why.BadId }
     ensures malformed { judge_lrat eight (codes "9 1 2 0 1 2 0\nx")
-        ≡ lrat.Hinted (judgement.Malformed 2 why.BadWord) }
+        ≡ judgement.Malformed 2 why.BadWord }
     ensures not_derived { judge_lrat eight (codes "9 1 2 0 1 2 0\n")
-        ≡ lrat.Hinted judgement.NotDerived }
+        ≡ judgement.NotDerived }
     ensures resolving { judge_lrat eight (codes "9 1 2 0 1 2 0\n10 1 0 -9 3 0\n")
-        ≡ lrat.Refused 2 lrat_why.RatStep }
+        ≡ judgement.Malformed 2 why.RatStep }
     ensures resolving_behind { judge_lrat eight (codes "9 1 2 0 1 0\n10 1 0 -9 3 0\n")
-        ≡ lrat.Hinted (judgement.NotImplied 1) }
+        ≡ judgement.NotImplied 1 }
 {}
 
 /// Worked rows: what is read of proofs in the binary form: the same four steps; clauses that are taken away, and a step without
@@ -141,12 +135,12 @@ pub fn worked_forms()
 pub fn worked_binary_judgements()
     ensures derived { judge_lrat eight
         (97 ∷ 9 ∷ 2 ∷ 4 ∷ 0 ∷ 1 ∷ 2 ∷ 0 ∷ 97 ∷ 10 ∷ 2 ∷ 0 ∷ 9 ∷ 3 ∷ 4 ∷ 0 ∷ 97 ∷ 11 ∷ 4 ∷ 0 ∷ 10 ∷ 5 ∷ 6 ∷ 0 ∷ 100 ∷ 1 ∷ 2 ∷ 0 ∷ 97 ∷ 12 ∷ 0 ∷ 10 ∷ 11 ∷ 7 ∷ 8 ∷ 0 ∷ [])
-        ≡ lrat.Hinted (judgement.Derived 5) }
+        ≡ judgement.Derived 5 }
     ensures taken_away { judge_lrat eight
         (100 ∷ 2 ∷ 0 ∷ 97 ∷ 9 ∷ 2 ∷ 4 ∷ 0 ∷ 1 ∷ 2 ∷ 0 ∷ [])
-        ≡ lrat.Hinted (judgement.Malformed 2 why.NoClause) }
+        ≡ judgement.Malformed 2 why.NoClause }
     ensures not_implied { judge_lrat eight (97 ∷ 9 ∷ 2 ∷ 4 ∷ 0 ∷ 1 ∷ 0 ∷ 10 ∷ [])
-        ≡ lrat.Hinted (judgement.NotImplied 1) }
+        ≡ judgement.NotImplied 1 }
     ensures not_derived { judge_lrat eight (97 ∷ 9 ∷ 2 ∷ 4 ∷ 0 ∷ 1 ∷ 2 ∷ 0 ∷ [])
-        ≡ lrat.Hinted judgement.NotDerived }
+        ≡ judgement.NotDerived }
 {}

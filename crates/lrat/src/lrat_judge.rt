@@ -6,11 +6,10 @@ ghost use Rattle.lrat.specs.LratJudgements.{judge_lrat};
 ghost use Rattle.lrat.specs.LratJudges.{StandsForBytes, EndsBytes, StandsForLrat, EndsLrat};
 ghost use Rattle.lrat.specs.declared.lrat_judge.Form.TheVariants as form;
 
-use crate::judgement::LratJudgement;
 use crate::scan::Scan;
 use crate::text_judge::TextJudge;
 use base::Taker;
-use drup::{ClauseFault, Formula};
+use drup::{ClauseFault, Formula, Judgement};
 use std::alloc::Global;
 
 /// In which form a text is.
@@ -258,7 +257,7 @@ impl LratJudge {
     }
 
     /// The judgement of a text that has ended.
-    fn judgement(self) -> Result<LratJudgement, ClauseFault>
+    fn judgement(self) -> Result<Judgement, ClauseFault>
         ensures { (f : FormulaValue) (text : List ℕ) → EndsLrat f self text
             → IfOk result (λ j. j ≡ judge_lrat f text) }
     {
@@ -278,7 +277,7 @@ impl LratJudge {
     /// form, and the number of the step, counted from 1, of one in the binary form.
     ///
     /// Errors: `NoMemory` where a growth was refused.
-    pub fn finish(self) -> Result<LratJudgement, ClauseFault>
+    pub fn finish(self) -> Result<Judgement, ClauseFault>
         ensures { (f : FormulaValue) (text : List ℕ) → StandsForLrat f self text
             → IfOk result (λ j. j ≡ judge_lrat f text) }
     {

@@ -7,14 +7,12 @@ ghost use Rattle.drup.specs.ProofJudges.{ends_number};
 ghost use Rattle.lrat.specs.HintedProofs.{number, faulty, Mark, mark};
 ghost use Rattle.lrat.specs.BinaryHintedProofs.{number_in, literal_coded, step_said, piece_said, spot_behind, step_behind, step_marks};
 ghost use Rattle.lrat.specs.Words.{token_said};
-ghost use Rattle.lrat.specs.Numbers.{SpellsNumber};
+ghost use Rattle.drup.specs.Numbers.{SpellsNumber};
 ghost use Rattle.lrat.specs.Scans.{spot_of};
 ghost use Rattle.lrat.specs.declared.scan.Spot.TheVariants as spot;
 
-use crate::number::Number;
-use crate::text_judge::is_too_many;
-use crate::word::Token;
-use drup::Why;
+use crate::token::Token;
+use drup::{Number, Why, is_too_many};
 
 /// Where a piece stands, of which each is a letter or a number.
 #[derive(Clone, Copy)]

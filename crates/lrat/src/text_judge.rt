@@ -1,47 +1,18 @@
 //! The judge of proofs with hints in the text form.
-ghost use Rattle.std.specs.Prelude.{◌≡◌, ◌+◌, ◌*◌, ◌-◌, ◌^◌, ◌<◌, ◌++◌, ◌∷◌, [], List, ℕ, true, false, min, nat_lt, All, IfOk};
+ghost use Rattle.std.specs.Prelude.{◌≡◌, ◌+◌, ◌*◌, ◌-◌, ◌^◌, ◌<◌, ◌++◌, ◌∷◌, [], List, ℕ, true, false, min, All, IfOk};
 ghost use Rattle.drup.specs.Formula.{Formula as FormulaValue};
-ghost use Rattle.drup.specs.Proofs.{is_proof_blank, most_proof_lines};
-ghost use Rattle.lrat.specs.HintedProofs.{faulty, Mark, mark, between, LratReading, reading_from, read_text_lrat};
-ghost use Rattle.lrat.specs.LratJudgements.{judge_reading};
-ghost use Rattle.lrat.specs.Words.{SpellsWord, token_said};
+ghost use Rattle.drup.specs.Hints.{HintedReading, judge_hinted};
+ghost use Rattle.lrat.specs.HintedProofs.{faulty, Mark, mark, between, reading_from, read_text_lrat};
+ghost use Rattle.drup.specs.Words.{SpellsWord};
+ghost use Rattle.lrat.specs.Words.{token_said};
 ghost use Rattle.lrat.specs.StepReaders.{StandsForWords};
 ghost use Rattle.lrat.specs.TextJudges.{word_marks, StandsBefore, StandsThrough, StandsForLines, EndsText};
-ghost use Rattle.lrat.specs.declared.text_judge.Place.TheVariants as place;
+ghost use Rattle.drup.specs.declared.lines.Place.TheVariants as place;
 
-use crate::judgement::LratJudgement;
 use crate::step_reader::StepReader;
-use crate::word::{Token, Word};
-use drup::{ClauseFault, Why};
+use crate::token::Token;
+use drup::{ClauseFault, Judgement, Place, Why, Word, is_blank, is_too_many};
 use std::alloc::Global;
-
-/// The most lines of a proof, and the most steps in the binary form, 2^62.
-const MOST_LINES: u64 = 4611686018427387904;
-
-/// Where the next byte stands.
-#[derive(Clone, Copy)]
-pub(crate) enum Place {
-    /// It is the first of a line.
-    Begins,
-    /// It is in a line of words.
-    Within,
-    /// It is in a comment.
-    Comment,
-}
-
-/// Whether a byte is a space, a tab or a carriage return.
-fn is_blank(byte: u8) -> bool
-    ensures { result ≡ is_proof_blank byte }
-{
-    byte == b' ' || byte == b'\t' || byte == b'\r'
-}
-
-/// Whether a line, or a step, is one too many.
-pub(crate) fn is_too_many(line: u64) -> bool
-    ensures { result ≡ nat_lt most_proof_lines line }
-{
-    line > MOST_LINES
-}
 
 /// A judge of proofs with hints in the text form over a formula, whose clauses it is given first: it takes a text byte by
 /// byte, and keeps none of it. Beside the judge of its steps it holds the literals and hints of the step that has begun, and a
@@ -123,7 +94,7 @@ impl TextJudge {
         if self.word.is_empty() {
             return;
         }
-        self.reader.take(self.line, self.word.token());
+        self.reader.take(self.line, Token::of_word(self.word));
         self.word = Word::new();
     }
 
@@ -227,9 +198,9 @@ impl TextJudge {
     }
 
     /// The judgement of what was read.
-    fn judgement(self) -> Result<LratJudgement, ClauseFault>
+    fn judgement(self) -> Result<Judgement, ClauseFault>
         ensures { (f : FormulaValue) (text : List ℕ) → EndsText f self text
-            → IfOk result (λ j. j ≡ judge_reading f (read_text_lrat f.variables text)) }
+            → IfOk result (λ j. j ≡ judge_hinted f (read_text_lrat f.variables text)) }
     {
         let TextJudge {
             reader,
@@ -243,9 +214,9 @@ impl TextJudge {
     /// The judgement of the text, which ends.
     ///
     /// Errors: `NoMemory` where a growth was refused.
-    pub(crate) fn finish(self) -> Result<LratJudgement, ClauseFault>
+    pub(crate) fn finish(self) -> Result<Judgement, ClauseFault>
         ensures { (f : FormulaValue) (text : List ℕ) → StandsForLines f self text
-            → IfOk result (λ j. j ≡ judge_reading f (read_text_lrat f.variables text)) }
+            → IfOk result (λ j. j ≡ judge_hinted f (read_text_lrat f.variables text)) }
     {
         let mut judge = self;
         judge.end_text();
@@ -278,11 +249,11 @@ impl TextJudge {
     /// The judgement of the words of a proof in the binary form, which end.
     ///
     /// Errors: `NoMemory` where a growth was refused.
-    pub(crate) fn finish_words(self) -> Result<LratJudgement, ClauseFault>
-        ensures { (f : FormulaValue) (marks : List Mark) (reading : LratReading)
+    pub(crate) fn finish_words(self) -> Result<Judgement, ClauseFault>
+        ensures { (f : FormulaValue) (marks : List Mark) (reading : HintedReading)
             → StandsForWords f self.reader marks → (self.reader.failed ≡ false
             → reading ≡ reading_from self.reader.variables 0 between marks)
-            → IfOk result (λ j. j ≡ judge_reading f reading) }
+            → IfOk result (λ j. j ≡ judge_hinted f reading) }
     {
         let TextJudge {
             reader,

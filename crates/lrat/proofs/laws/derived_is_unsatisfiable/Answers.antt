@@ -1,5 +1,5 @@
-use Rattle.lrat.proofs.LawLemmas.{lrat_sound}
+use Rattle.lrat.specs.HintedForms.{read_lrat}
 use Rattle.lrat.proofs.laws.derived_is_unsatisfiable.Goals as goal
 
 pub returns : goal.returns
-returns c = lrat_sound
+returns c formula text line is = c.hinted_is_unsatisfiable.ensures formula (read_lrat formula.variables text) line is

@@ -34,6 +34,10 @@ pub returns-clause-no_hint : goal.returns-clause-no_hint
 unfolding number_of is_decimal capped_value
 returns-clause-no_hint c = refl
 
+pub returns-clause-resolving : goal.returns-clause-resolving
+unfolding number_of is_decimal capped_value
+returns-clause-resolving c = refl
+
 pub returns-clause-variable : goal.returns-clause-variable
 unfolding number_of is_decimal capped_value
 returns-clause-variable c = refl

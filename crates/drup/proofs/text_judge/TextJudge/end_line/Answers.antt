@@ -1,5 +1,5 @@
 use Rattle.std.proofs.Common.{◌+◌, ◌-◌, ◌^◌, min, ap}
-use Rattle.drup.specs.declared.text_judge.Place.TheVariants as place
+use Rattle.drup.specs.declared.lines.Place.TheVariants as place
 use Rattle.drup.specs.TextJudges.{TextJudge}
 use Rattle.drup.proofs.text_judge.TextJudge.end_line.Goals as goal
 

@@ -1,18 +1,18 @@
-use Rattle.std.proofs.Common.{Some, None, sym, ◌∙◌}
-use Rattle.drup.proofs.WordLemmas.{says_end, says_deletes, says_literal}
+use Rattle.std.proofs.Common.{ap, sym, ◌∙◌}
+use Rattle.drup.proofs.WordLemmas.{token_by, says_token}
 use Rattle.drup.proofs.word.Word.token.Goals as goal
 
-pub returns-then-is_end-clause-said : goal.returns-then-is_end-clause-said
-returns-then-is_end-clause-said c bytes s = says_end c.args.variables bytes (sym (c.is_end.ensures bytes s) ∙ c.if-is_end.true)
+pub returns-in-Zero-clause-said : goal.returns-in-Zero-clause-said
+returns-in-Zero-clause-said c bytes s = ap (token_by c.args.variables) (sym c.in-Zero.is ∙ c.said.ensures bytes s) ∙ says_token c.args.variables bytes
 
-pub returns-then-self-clause-said : goal.returns-then-self-clause-said
-returns-then-self-clause-said c bytes s = says_deletes c.args.variables bytes (sym (c.is_end.ensures bytes s) ∙ c.if-is_end.false) (sym s.deletes ∙ c.if-self.true)
+pub returns-in-Letter-clause-said : goal.returns-in-Letter-clause-said
+returns-in-Letter-clause-said c bytes s = ap (token_by c.args.variables) (sym c.in-Letter.is ∙ c.said.ensures bytes s) ∙ says_token c.args.variables bytes
 
-pub returns-in-None-clause-said : goal.returns-in-None-clause-said
-returns-in-None-clause-said c bytes s =
-    says_literal c.args.self c.args.variables bytes None s (sym (c.is_end.ensures bytes s) ∙ c.if-is_end.false) (sym s.deletes ∙ c.if-self.false) (λ behind h. sym c.in-None.is ∙ c.number.ensures behind h)
+pub returns-in-Number-clause-said : goal.returns-in-Number-clause-said
+returns-in-Number-clause-said c bytes s = c.numbered.ensures.said ∙ ap (token_by c.args.variables) (sym c.in-Number.is ∙ c.said.ensures bytes s) ∙ says_token c.args.variables bytes
 
-pub returns-in-Some-clause-said : goal.returns-in-Some-clause-said
-returns-in-Some-clause-said c bytes s =
-    c.numbered.ensures.said
-    ∙ says_literal c.args.self c.args.variables bytes (Some c.in-Some.number) s (sym (c.is_end.ensures bytes s) ∙ c.if-is_end.false) (sym s.deletes ∙ c.if-self.false) (λ behind h. sym c.in-Some.is ∙ c.number.ensures behind h)
+pub returns-in-Negative-clause-said : goal.returns-in-Negative-clause-said
+returns-in-Negative-clause-said c bytes s = c.numbered-in-Negative.ensures.said ∙ ap (token_by c.args.variables) (sym c.in-Negative.is ∙ c.said.ensures bytes s) ∙ says_token c.args.variables bytes
+
+pub returns-in-Nothing-clause-said : goal.returns-in-Nothing-clause-said
+returns-in-Nothing-clause-said c bytes s = ap (token_by c.args.variables) (sym c.in-Nothing.is ∙ c.said.ensures bytes s) ∙ says_token c.args.variables bytes

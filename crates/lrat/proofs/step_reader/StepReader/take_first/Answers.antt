@@ -1,6 +1,6 @@
 use Rattle.std.proofs.Common.{[], ap, sym}
 use Rattle.drup.specs.declared.why.Why.TheVariants as why
-use Rattle.lrat.specs.declared.word.Token.{Token}
+use Rattle.lrat.specs.declared.token.Token.{Token}
 use Rattle.lrat.specs.HintedProofs.{between, deletions, goes_on, refuses, literals, id_numbered, by_id, first_taken}
 use Rattle.lrat.specs.Words.{token_said}
 use Rattle.lrat.proofs.StepReaderLemmas.{takes_as}

@@ -1,8 +1,8 @@
 use Rattle.std.proofs.Common.{[], ◌∷◌, ◌++◌, ap, sym}
 use Rattle.drup.specs.Hints.{addition}
 use Rattle.drup.specs.declared.why.Why.TheVariants as why
-use Rattle.lrat.specs.declared.word.Token.{Token}
-use Rattle.lrat.specs.HintedProofs.{between, hints, goes_on, gives, refuses, resolves, id_numbered, by_id, hint_taken}
+use Rattle.lrat.specs.declared.token.Token.{Token}
+use Rattle.lrat.specs.HintedProofs.{between, hints, goes_on, gives, refuses, id_numbered, by_id, hint_taken}
 use Rattle.lrat.specs.Words.{token_said}
 use Rattle.lrat.proofs.StepReaderLemmas.{takes_as}
 use Rattle.lrat.proofs.step_reader.StepReader.take_hint.Goals as goal
@@ -23,7 +23,7 @@ pub returns-in-Number-clause-takes : goal.returns-in-Number-clause-takes
 returns-in-Number-clause-takes c id clause before is = takes_as c.args.self.now c.take_hint_id.new.self c.args.line (by_id (λ hint. goes_on (hints id clause (before ++ hint ∷ []))) (id_numbered c.in-Number.number)) (hint_taken id clause before (token_said c.args.token)) (ap (λ (t : Token). hint_taken id clause before (token_said t)) (sym c.in-Number.is)) (c.take_hint_id.ensures.takes id clause before is)
 
 pub returns-in-Negative-clause-takes : goal.returns-in-Negative-clause-takes
-returns-in-Negative-clause-takes c id clause before is = takes_as c.args.self.now c.take_negative.new.self c.args.line (by_id (λ hint. resolves) (id_numbered c.in-Negative.number)) (hint_taken id clause before (token_said c.args.token)) (ap (λ (t : Token). hint_taken id clause before (token_said t)) (sym c.in-Negative.is)) c.take_negative.ensures.takes
+returns-in-Negative-clause-takes c id clause before is = takes_as c.args.self.now c.take_negative.new.self c.args.line (by_id (λ hint. refuses why.RatStep) (id_numbered c.in-Negative.number)) (hint_taken id clause before (token_said c.args.token)) (ap (λ (t : Token). hint_taken id clause before (token_said t)) (sym c.in-Negative.is)) c.take_negative.ensures.takes
 
 pub returns-in-Faulty-clause-takes : goal.returns-in-Faulty-clause-takes
 returns-in-Faulty-clause-takes c id clause before is = takes_as c.args.self.now c.refuse-in-Faulty.new.self c.args.line (refuses c.in-Faulty.why) (hint_taken id clause before (token_said c.args.token)) (ap (λ (t : Token). hint_taken id clause before (token_said t)) (sym c.in-Faulty.is)) c.refuse-in-Faulty.ensures.takes

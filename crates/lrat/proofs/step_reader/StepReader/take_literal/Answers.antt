@@ -2,7 +2,7 @@ use Rattle.std.proofs.Common.{[], ap, sym}
 use Rattle.std.specs.Prelude.{if◌then◌else◌}
 use Rattle.base.specs.Decimals.{is_nothing}
 use Rattle.drup.specs.declared.why.Why.TheVariants as why
-use Rattle.lrat.specs.declared.word.Token.{Token}
+use Rattle.lrat.specs.declared.token.Token.{Token}
 use Rattle.lrat.specs.HintedProofs.{deletions, hints, goes_on, refuses, with_literal, literal_taken}
 use Rattle.lrat.specs.Words.{token_said}
 use Rattle.lrat.proofs.StepReaderLemmas.{takes_as}

@@ -1,5 +1,5 @@
 use Rattle.std.proofs.Common.{◌+◌, ◌-◌, ◌^◌, min, ap}
-use Rattle.lrat.specs.declared.text_judge.Place.TheVariants as place
+use Rattle.drup.specs.declared.lines.Place.TheVariants as place
 use Rattle.lrat.specs.TextJudges.{TextJudge}
 use Rattle.lrat.proofs.text_judge.TextJudge.end_line.Goals as goal
 

@@ -1,6 +1,7 @@
 use Rattle.std.proofs.Common.{◌++◌, sym, subst, ◌∙◌}
 use Rattle.base.proofs.DecimalLemmas.{nothing}
-use Rattle.lrat.specs.Words.{SpellsWord, token_said}
+use Rattle.drup.specs.Words.{SpellsWord}
+use Rattle.lrat.specs.Words.{token_said}
 use Rattle.lrat.specs.StepReaders.{StandsForWords}
 use Rattle.lrat.specs.TextJudges.{TextJudge, word_marks}
 use Rattle.lrat.proofs.TextJudgeLemmas.{end_none, end_some}
@@ -20,7 +21,7 @@ pub returns-clause-words : goal.returns-clause-words
 returns-clause-words c f marks bytes spells s =
     let own : SpellsWord c.self.inside.word bytes = subst (λ (x : TextJudge). SpellsWord x.word bytes) (sym c.self.view_is) spells in
     subst (λ (x : TextJudge). StandsForWords f c.take.new.self (marks ++ word_marks x.line bytes)) c.self.view_is
-    (end_some f c.take.new.self marks c.self.inside.line bytes (token_said c.token.result) (sym (c.is_empty.ensures bytes own) ∙ c.if-is_empty.false) (c.token.ensures bytes own)
+    (end_some f c.take.new.self marks c.self.inside.line bytes (token_said c.of_word.result) (sym (c.is_empty.ensures bytes own) ∙ c.if-is_empty.false) (c.of_word.ensures bytes own)
     (c.take.ensures.stands f marks (subst (λ (x : TextJudge). StandsForWords f x.reader marks) (sym c.self.view_is) s)))
 
 pub returns-clause-word : goal.returns-clause-word

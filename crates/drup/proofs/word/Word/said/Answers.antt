@@ -1,12 +1,12 @@
 use Rattle.std.proofs.Common.{sym, ◌∙◌}
-use Rattle.lrat.proofs.WordLemmas.{says_end, says_deletes, says_number}
-use Rattle.lrat.proofs.word.Word.token.Goals as goal
+use Rattle.drup.proofs.WordLemmas.{says_zero, says_letter, says_number}
+use Rattle.drup.proofs.word.Word.said.Goals as goal
 
 pub returns-then-is_end : goal.returns-then-is_end
-returns-then-is_end c bytes s = says_end bytes (sym (c.is_end.ensures bytes s) ∙ c.if-is_end.true)
+returns-then-is_end c bytes s = says_zero bytes (sym (c.is_end.ensures bytes s) ∙ c.if-is_end.true)
 
 pub returns-then-self : goal.returns-then-self
-returns-then-self c bytes s = says_deletes bytes (sym (c.is_end.ensures bytes s) ∙ c.if-is_end.false) (sym s.deletes ∙ c.if-self.true)
+returns-then-self c bytes s = says_letter bytes (sym (c.is_end.ensures bytes s) ∙ c.if-is_end.false) (sym s.deletes ∙ c.if-self.true)
 
 pub returns : goal.returns
 returns c bytes s =
