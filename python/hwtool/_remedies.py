@@ -966,7 +966,7 @@ CASES: Dict[int, Tuple[Tuple[str, str, str, str], ...]] = {
         (
             'Formulas and proofs',
             'BadId',
-            'a step with hints has an id that is not above those before; by the library `drup` alone',
+            'a step with hints has an id that is not above those before',
             'number the clauses in their order, those of the formula from 1',
         ),
     ),
@@ -974,8 +974,16 @@ CASES: Dict[int, Tuple[Tuple[str, str, str, str], ...]] = {
         (
             'Formulas and proofs',
             'NoClause',
-            'a hint names a clause that does not stand; by the library `drup` alone',
+            'a hint names a clause that does not stand',
             'name clauses that were given and not taken away',
+        ),
+    ),
+    169: (
+        (
+            'Formulas and proofs',
+            'RatStep',
+            'a hint has a minus: the step is one by resolution on a literal (RAT), which has no meaning here',
+            'ask for a proof without such steps: `cadical --lrat` without options that make them; or take one without hints',
         ),
     ),
     170: (

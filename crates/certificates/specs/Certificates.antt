@@ -9,6 +9,9 @@ use Rattle.engine_form.specs.Refusal.{engine_refusal, AnswersForm}
 use Rattle.drup.specs.declared.judgement.Judgement.{Judgement}
 use Rattle.drup.specs.Formula.{Formula}
 use Rattle.drup.specs.Judgements.{JudgesProof}
+use Rattle.lrat.specs.LratJudgements.{judge_lrat}
+use Rattle.certificates.specs.declared.proof_form.ProofForm.{ProofForm}
+use Rattle.certificates.specs.declared.proof_form.ProofForm.TheVariants as proof_form
 use Rattle.certificates.specs.declared.why.InvariantWhy.{InvariantWhy}
 use Rattle.certificates.specs.declared.why.InvariantWhy.TheVariants as why
 use Rattle.certificates.specs.declared.claim_fault.ClaimFault.{ClaimFault}
@@ -47,17 +50,22 @@ pub record IsOwed (c : Circuit) (k : ℕ) (invariant : Option (List ℕ)) (f : F
   pub is_form : IsFormFor c k form
   pub owed : IsOwedOver form invariant f
 
--- a text, which is that of a source where the source tells its bytes, is judged so as a proof over a formula
-pub record IsJudgedProof (f : Formula) (proof : Option (List ℕ)) (j : Judgement) : Type 0 where
+-- a text is judged so as a proof in a form over a formula: one without hints by unit propagation, one with hints by these alone
+abbrev pub JudgesIn : ProofForm → Formula → List ℕ → Judgement → Type 0
+JudgesIn proof_form.Plain f text j = JudgesProof f text j
+JudgesIn proof_form.Hinted f text j = j ≡ judge_lrat f text
+
+-- a text, which is that of a source where the source tells its bytes, is judged so as a proof in a form over a formula
+pub record IsJudgedProof (form : ProofForm) (f : Formula) (proof : Option (List ℕ)) (j : Judgement) : Type 0 where
   pub text : List ℕ
   pub is_text : IfSome proof (λ all. all ≡ text)
-  pub judged : JudgesProof f text j
+  pub judged : JudgesIn form f text j
 
--- a certificate of a bad property of a circuit is judged so: its proof is, over the formula that its invariant owes
-pub record IsCertified (c : Circuit) (k : ℕ) (invariant proof : Option (List ℕ)) (j : Judgement) : Type 0 where
+-- a certificate of a bad property of a circuit, with a proof in a form, is judged so: its proof is, over the formula that its invariant owes
+pub record IsCertified (c : Circuit) (k : ℕ) (form : ProofForm) (invariant proof : Option (List ℕ)) (j : Judgement) : Type 0 where
   pub formula : Formula
   pub is_owed : IsOwed c k invariant formula
-  pub judged : IsJudgedProof formula proof j
+  pub judged : IsJudgedProof form formula proof j
 
 -- ---- why there is no formula
 

@@ -10,9 +10,9 @@ ghost use Rattle.aiger.specs.Worked.{toggler};
 ghost use Rattle.engine_form.specs.EngineForm.{IsEngineFormOf};
 ghost use Rattle.drup.specs.declared.judgement.Judgement.{Judgement};
 ghost use Rattle.drup.specs.declared.judgement.Judgement.TheVariants as judgement;
-ghost use Rattle.drup.specs.Formula.{IsFormula, IsUnsatisfiable};
-ghost use Rattle.drup.specs.Judgements.{JudgesProof};
-ghost use Rattle.certificates.specs.Certificates.{IsCertified};
+ghost use Rattle.drup.specs.Formula.{Formula, IsFormula, IsUnsatisfiable};
+ghost use Rattle.certificates.specs.Certificates.{JudgesIn, IsCertified};
+ghost use Rattle.certificates.specs.declared.proof_form.ProofForm.{ProofForm};
 ghost use Rattle.certificates.specs.Invariants.{AreOver, asks_one, bad_literal, IsInductive};
 ghost use Rattle.certificates.specs.Obligation.{obligation};
 ghost use Rattle.certificates.specs.Reading.{read_cubes};
@@ -51,36 +51,54 @@ pub fn bad_property_never_rises()
         → All (λ latch. latch.reset ≡ Zero) d.latches → ¬ CanRiseInCircuit d 0 }
 {}
 
-/// A law, what a proof of an invariant's obligation is worth: where each cube asks for a 1, and a text is judged as a proof
-/// over the obligation of the engine form of a bad property of a circuit, this property rises in no frame up to which the
-/// circuit's constraints hold, in no trace from initial bits that agree with its resets.
-pub fn proved_property_never_rises()
-    ensures { (c : Circuit) (k : ℕ) (d : Circuit) (cubes : List (List ℕ)) (text : List ℕ) (line : ℕ)
-        → IsEngineFormOf c (Some k) d → AreOver (length d.latches) cubes
-        → list_all asks_one cubes ≡ true
-        → JudgesProof (obligation d cubes) text (judgement.Derived line) → ¬ CanRiseInCircuit c k }
+/// A law: where a text in a form is judged as a proof, nothing satisfies the formula.
+pub fn derived_is_unsatisfiable()
+    ensures { (form : ProofForm) (formula : Formula) (text : List ℕ) (line : ℕ)
+        → JudgesIn form formula text (judgement.Derived line) → IsUnsatisfiable formula }
 {
     drup::laws::derived_is_unsatisfiable();
+    lrat::laws::derived_is_unsatisfiable();
+}
+
+/// A law: in a form a text is judged over a formula in one way at most.
+pub fn one_judgement()
+    ensures { (form : ProofForm) (formula : Formula) (text : List ℕ) (i j : Judgement)
+        → JudgesIn form formula text i → JudgesIn form formula text j → i ≡ j }
+{
+    drup::laws::one_judgement();
+}
+
+/// A law, what a proof of an invariant's obligation is worth: where each cube asks for a 1, and a text in a form is judged as a
+/// proof over the obligation of the engine form of a bad property of a circuit, this property rises in no frame up to which the
+/// circuit's constraints hold, in no trace from initial bits that agree with its resets.
+pub fn proved_property_never_rises()
+    ensures { (c : Circuit) (k : ℕ) (d : Circuit) (cubes : List (List ℕ)) (form : ProofForm)
+        (text : List ℕ) (line : ℕ) → IsEngineFormOf c (Some k) d → AreOver (length d.latches) cubes
+        → list_all asks_one cubes ≡ true
+        → JudgesIn form (obligation d cubes) text (judgement.Derived line)
+        → ¬ CanRiseInCircuit c k }
+{
+    derived_is_unsatisfiable();
     engine_form::laws::bad_properties_rise_alike();
 }
 
 /// A law, what a certificate is worth: where it is judged as `Derived`, the bad property rises in no frame up to which the
 /// circuit's constraints hold, in no trace from initial bits that agree with its resets.
 pub fn certified_property_never_rises()
-    ensures { (c : Circuit) (k : ℕ) (invariant proof : Option (List ℕ)) (line : ℕ)
-        → IsCertified c k invariant proof (judgement.Derived line) → ¬ CanRiseInCircuit c k }
+    ensures { (c : Circuit) (k : ℕ) (form : ProofForm) (invariant proof : Option (List ℕ)) (line : ℕ)
+        → IsCertified c k form invariant proof (judgement.Derived line) → ¬ CanRiseInCircuit c k }
 {
     proved_property_never_rises();
 }
 
-/// A law: over one engine form the texts of a certificate are judged in one way at most.
+/// A law: over one engine form the texts of a certificate, with a proof in one form, are judged in one way at most.
 pub fn one_judgement_of_a_certificate()
-    ensures { (c : Circuit) (k : ℕ) (invariant proof : List ℕ) (i j : Judgement)
-        (a : IsCertified c k (Some invariant) (Some proof) i)
-        (b : IsCertified c k (Some invariant) (Some proof) j)
+    ensures { (c : Circuit) (k : ℕ) (form : ProofForm) (invariant proof : List ℕ) (i j : Judgement)
+        (a : IsCertified c k form (Some invariant) (Some proof) i)
+        (b : IsCertified c k form (Some invariant) (Some proof) j)
         → a.is_owed.form ≡ b.is_owed.form → i ≡ j }
 {
-    drup::laws::one_judgement();
+    one_judgement();
 }
 
 /// A law: a text is read as some cubes exactly where it says them.

@@ -5,6 +5,7 @@ use Rattle.btor2.specs.Reachability.{CanRise}
 use Rattle.aiger.specs.Circuit.{Circuit}
 use Rattle.aiger.specs.Reachability.{CanRiseInCircuit}
 use Rattle.drup.specs.declared.judgement.Judgement.TheVariants as verdict
+use Rattle.certificates.specs.declared.proof_form.ProofForm.{ProofForm}
 use Rattle.certificates.specs.Certificates.{IsCertified}
 use Rattle.restore.specs.Counterexample.{place_in}
 use Rattle.reached.specs.Accepted.{IsAcceptedFor, IsAcceptedForCircuit}
@@ -31,4 +32,4 @@ pub record IsOneMeaning (items : List Item) (c : Circuit) (choice : Option ℕ) 
   pub text : RisesBy items k most ↔ IsAcceptedBy items k most
   pub circuit_text : RisesBy items k most ↔ IsAcceptedInCircuitBy c k most
   pub form_text : RisesBy items k most ↔ IsAcceptedInCircuitBy d (place_in choice k) most
-  pub certificate : (invariant proof : Option (List ℕ)) (line : ℕ) → IsCertified c k invariant proof (verdict.Derived line) → ¬ CanRise items k
+  pub certificate : (form : ProofForm) (invariant proof : Option (List ℕ)) (line : ℕ) → IsCertified c k form invariant proof (verdict.Derived line) → ¬ CanRise items k

@@ -5,8 +5,9 @@ ghost use Rattle.aiger.specs.Reachability.{CanRiseInCircuit};
 ghost use Rattle.aiger.specs.Worked.{toggler};
 ghost use Rattle.drup.specs.declared.judgement.Judgement.TheVariants as judgement;
 ghost use Rattle.drup.specs.Formula.{Formula, IsUnsatisfiable};
-ghost use Rattle.drup.specs.Judgements.{JudgesProof};
+ghost use Rattle.certificates.specs.Certificates.{JudgesIn};
 ghost use Rattle.certificates.specs.Obligation.{obligation};
+ghost use Rattle.certificates.specs.declared.proof_form.ProofForm.{ProofForm};
 ghost use Rattle.witness_circuits.specs.Mapping.{Mapping, IsMappingOf, shared_literal, mapping_of};
 ghost use Rattle.witness_circuits.specs.Certificate.{IsCertificate};
 ghost use Rattle.witness_circuits.specs.Guards.{Guards};
@@ -55,33 +56,33 @@ pub fn unsatisfiable_where_it_guards()
     certificates::laws::unsatisfiable_where_inductive();
 }
 
-/// A law: where a text is judged as a proof over the formula of a test, the bad property rises in no frame up to which the
+/// A law: where a text in a form is judged as a proof over the formula of a test, the bad property rises in no frame up to which the
 /// circuit's constraints hold, in no trace from initial bits that agree with its resets.
 pub fn proved_property_never_rises()
-    ensures { (c : Circuit) (k : ℕ) (w : Circuit) (m : Mapping) (t : Circuit) (text : List ℕ)
-        (line : ℕ) → IsTestOf c k w m t
-        → JudgesProof (obligation t []) text (judgement.Derived line) → ¬ CanRiseInCircuit c k }
+    ensures { (c : Circuit) (k : ℕ) (w : Circuit) (m : Mapping) (t : Circuit) (form : ProofForm)
+        (text : List ℕ) (line : ℕ) → IsTestOf c k w m t
+        → JudgesIn form (obligation t []) text (judgement.Derived line) → ¬ CanRiseInCircuit c k }
 {
     unsatisfiable_where_it_guards();
-    drup::laws::derived_is_unsatisfiable();
+    certificates::laws::derived_is_unsatisfiable();
     guarded_property_never_rises();
 }
 
-/// A law: where a text is judged as a proof over the formula that the text of a witness circuit owes, the bad property rises in
+/// A law: where a text in a form is judged as a proof over the formula that the text of a witness circuit owes, the bad property rises in
 /// no frame up to which the circuit's constraints hold, in no trace from initial bits that agree with its resets.
 pub fn owed_formula_proved_never_rises()
     ensures { (n : Option (List ℕ)) (c : Circuit) (k : ℕ) (witness : Option (List ℕ)) (f : Formula)
-        (text : List ℕ) (line : ℕ) → IsTestedFormula n c k witness f
-        → JudgesProof f text (judgement.Derived line) → ¬ CanRiseInCircuit c k }
+        (form : ProofForm) (text : List ℕ) (line : ℕ) → IsTestedFormula n c k witness f
+        → JudgesIn form f text (judgement.Derived line) → ¬ CanRiseInCircuit c k }
 {
     proved_property_never_rises();
 }
 
 /// A law: the same of a witness circuit of the engine form with the bad property.
 pub fn owed_formula_over_form_proved_never_rises()
-    ensures { (c : Circuit) (k : ℕ) (witness : Option (List ℕ)) (f : Formula) (text : List ℕ)
-        (line : ℕ) → IsTestedOverForm c k witness f → JudgesProof f text (judgement.Derived line)
-        → ¬ CanRiseInCircuit c k }
+    ensures { (c : Circuit) (k : ℕ) (witness : Option (List ℕ)) (f : Formula) (form : ProofForm)
+        (text : List ℕ) (line : ℕ) → IsTestedOverForm c k witness f
+        → JudgesIn form f text (judgement.Derived line) → ¬ CanRiseInCircuit c k }
 {
     owed_formula_proved_never_rises();
     engine_form::laws::bad_properties_rise_alike();

@@ -3,7 +3,7 @@
 use super::Explanation;
 
 /// Of formulas, and proofs over them.
-pub(super) const PROOFS: [Explanation; 9] = [
+pub(super) const PROOFS: [Explanation; 10] = [
     Explanation {
         number: 160,
         name: "NoMemory",
@@ -49,14 +49,20 @@ pub(super) const PROOFS: [Explanation; 9] = [
     Explanation {
         number: 167,
         name: "BadId",
-        when: "a step with hints has an id that is not above those before; by the library `drup` alone",
+        when: "a step with hints has an id that is not above those before",
         remedy: "number the clauses in their order, those of the formula from 1",
     },
     Explanation {
         number: 168,
         name: "NoClause",
-        when: "a hint names a clause that does not stand; by the library `drup` alone",
+        when: "a hint names a clause that does not stand",
         remedy: "name clauses that were given and not taken away",
+    },
+    Explanation {
+        number: 169,
+        name: "RatStep",
+        when: "a hint has a minus: the step is one by resolution on a literal (RAT), which has no meaning here",
+        remedy: "ask for a proof without such steps: `cadical --lrat` without options that make them; or take one without hints",
     },
 ];
 

@@ -1,8 +1,7 @@
 use Rattle.std.proofs.Common.{◌≡◌, List, ℕ, Some, sym, ap, subst, ◌∙◌, length}
 use Rattle.aiger.specs.Circuit.{Circuit}
 use Rattle.drup.specs.Formula.{Formula}
-use Rattle.drup.specs.Judgements.{JudgesProof}
-use Rattle.certificates.specs.Certificates.{IsOwedOver}
+use Rattle.certificates.specs.Certificates.{JudgesIn, IsOwedOver}
 use Rattle.certificates.specs.Obligation.{obligation}
 use Rattle.certificates.specs.Texts.{SaysCubes}
 use Rattle.certificates.proofs.SaidLemmas.{one_list}
@@ -16,9 +15,9 @@ same_formula d e invariant f g same a b =
     a.is_obligation ∙ (ap (λ (x : Circuit). obligation x a.cubes) same ∙ (ap (obligation e) cubes ∙ sym b.is_obligation))
 
 pub returns : goal.returns
-returns c circuit k invariant proof i j a b same =
+returns c circuit k form invariant proof i j a b same =
     let formula : a.formula ≡ b.formula = same_formula a.is_owed.form b.is_owed.form invariant a.formula b.formula same a.is_owed.owed b.is_owed.owed in
     let text : a.judged.text ≡ b.judged.text = sym a.judged.is_text ∙ b.judged.is_text in
-    c.one_judgement.ensures b.formula b.judged.text i j
-    (subst (λ (t : List ℕ). JudgesProof b.formula t i) text (subst (λ (f : Formula). JudgesProof f a.judged.text i) formula a.judged.judged))
+    c.one_judgement.ensures form b.formula b.judged.text i j
+    (subst (λ (t : List ℕ). JudgesIn form b.formula t i) text (subst (λ (f : Formula). JudgesIn form f a.judged.text i) formula a.judged.judged))
     b.judged.judged

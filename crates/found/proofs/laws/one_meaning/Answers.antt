@@ -62,5 +62,5 @@ returns c items circuit choice d k most lowers form has few =
       );
       circuit_text = (λ r. bits_told circuit k lowers.circuit (down r), λ t. up (bits_rise circuit k lowers.circuit t));
       form_text = (λ r. bits_told d (place_in choice k) form.circuit (to_form (down r)), λ t. up (from_form (bits_rise d (place_in choice k) form.circuit t)));
-      certificate = λ invariant proof line derived h. c.certified_property_never_rises.ensures circuit k invariant proof line derived (c.rises_in_as_many_frames.ensures.circuit items circuit k lowers h).0;
+      certificate = λ kind invariant proof line derived h. c.certified_property_never_rises.ensures circuit k kind invariant proof line derived (c.rises_in_as_many_frames.ensures.circuit items circuit k lowers h).0;
     }

@@ -1,6 +1,6 @@
 use Rattle.std.proofs.Common.{◌≡◌, [], refl}
 use Rattle.std.proofs.KnownBytes.{Consumes-whole}
-use Rattle.certificates.proofs.judging.judge_proof.Goals as goal
+use Rattle.certificates.proofs.judging.judge_hinted.Goals as goal
 
 pub returns-in_ok-finish-in-Ok-clause-judged : goal.returns-in_ok-finish-in-Ok-clause-judged
 returns-in_ok-finish-in-Ok-clause-judged g c =
