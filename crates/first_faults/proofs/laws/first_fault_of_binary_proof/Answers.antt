@@ -1,5 +1,0 @@
-use Rattle.first_faults.proofs.BinaryProofLemmas.{ends_within_binary_step}
-use Rattle.first_faults.proofs.laws.first_fault_of_binary_proof.Goals as goal
-
-pub returns-clause-cut_off : goal.returns-clause-cut_off
-returns-clause-cut_off c = ends_within_binary_step

@@ -1,5 +1,0 @@
-use Rattle.first_faults.proofs.ProofLineLemmas.{ends_within_step}
-use Rattle.first_faults.proofs.laws.first_fault_of_text_proof.Goals as goal
-
-pub returns-clause-cut_off : goal.returns-clause-cut_off
-returns-clause-cut_off c = ends_within_step

@@ -1,4 +1,0 @@
-pub mod Pieces
-pub mod Circuits
-pub mod Proofs
-pub mod BinaryProofs

@@ -1,0 +1,22 @@
+-- The lemmas of this crate.
+pub mod AsciiFaultLemmas
+pub mod BinaryProofLemmas
+pub mod BitAcceptLemmas
+pub mod BitTextLemmas
+pub mod DeltaLemmas
+pub mod FaultLemmas
+pub mod FileLemmas
+pub mod FreeLemmas
+pub mod HeaderLemmas
+pub mod LineLemmas
+pub mod MarkLemmas
+pub mod NameLemmas
+pub mod NumberLemmas
+pub mod PieceLemmas
+pub mod PlainLemmas
+pub mod ProofLineLemmas
+pub mod ReaderLemmas
+pub mod SectionLemmas
+pub mod WalkLemmas
+pub mod WordAcceptLemmas
+pub mod WordTextLemmas

@@ -1,1 +1,0 @@
--- This crate has laws alone: their words are those of the crates below.
