@@ -15,3 +15,4 @@ pub mod IncrementLemmas
 pub mod MoveLemmas
 pub mod TurnLemmas
 pub mod ConstantLemmas
+pub mod ProductLemmas

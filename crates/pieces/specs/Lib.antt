@@ -9,3 +9,4 @@ pub mod Sums
 pub mod Fills
 pub mod Moves
 pub mod Constants
+pub mod Products
