@@ -16,3 +16,6 @@ pub mod MoveLemmas
 pub mod TurnLemmas
 pub mod ConstantLemmas
 pub mod ProductLemmas
+pub mod QuotientLemmas
+pub mod SizeLemmas
+pub mod ProductOverflowLemmas

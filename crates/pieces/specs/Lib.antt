@@ -10,3 +10,4 @@ pub mod Fills
 pub mod Moves
 pub mod Constants
 pub mod Products
+pub mod Sizes
