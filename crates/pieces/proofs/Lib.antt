@@ -15,3 +15,7 @@ pub mod IncrementLemmas
 pub mod MoveLemmas
 pub mod TurnLemmas
 pub mod ConstantLemmas
+pub mod ProductLemmas
+pub mod QuotientLemmas
+pub mod SizeLemmas
+pub mod ProductOverflowLemmas

@@ -9,3 +9,5 @@ pub mod Sums
 pub mod Fills
 pub mod Moves
 pub mod Constants
+pub mod Products
+pub mod Sizes

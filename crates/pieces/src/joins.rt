@@ -35,7 +35,7 @@ pub fn slice(
 }
 
 /// Adds nodes to a list.
-fn keep_all(list: &mut Vec<Node>, nodes: &[Node]) -> Result<(), Shortage>
+pub(crate) fn keep_all(list: &mut Vec<Node>, nodes: &[Node]) -> Result<(), Shortage>
     ensures ok { OnOk result (list.new.items ≡ list.old.items ++ nodes.now) }
     ensures short { IfErr result (λ e. e ≡ shortage.NoMemory) }
 {
