@@ -360,7 +360,7 @@ def main():
             variables, clauses, steps = refuted(formula, drat)
             for turn in range(asked.rounds):
                 tried = steps
-                for _ in range(min(turn, chance.choice([0, 1, 1, 1, 2, 3]))):
+                for _ in range(chance.choice([0, 1, 1, 1, 2, 3]) if turn > 1 else 0):
                     tried = spoilt_steps(tried, variables, chance) if tried else tried
                 data = as_text(tried, steps[-1][0]) if turn % 2 else as_bytes(tried)
                 if turn > 1 and chance.random() < 0.4:
