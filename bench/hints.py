@@ -50,18 +50,17 @@ def resolvents(clauses):
 
 
 def steps(clauses, size, is_taken):
-    """The text of steps of so many bytes."""
+    """The lines of steps, of so many bytes together."""
     given = [f"{' '.join(map(str, [*found, 0, one, other, 0]))}\n" for found, one, other in resolvents(clauses)]
-    number, written, parts = len(clauses), 0, []
-    for behind in itertools.cycle(given):
-        number += 1
-        parts.append(f"{number} {behind}")
-        if is_taken:
-            parts.append(f"{number} d {number - 1} 0\n" if number - 1 > len(clauses) else "")
-            written += len(parts[-1])
-        written += len(parts[-1 - is_taken])
+    written = 0
+    for number, behind in enumerate(itertools.cycle(given), len(clauses) + 1):
+        line = f"{number} {behind}"
+        if is_taken and number - 1 > len(clauses):
+            line += f"{number} d {number - 1} 0\n"
+        yield line
+        written += len(line)
         if written >= size:
-            return "".join(parts)
+            return
 
 
 def main():
@@ -78,7 +77,7 @@ def main():
         for is_taken in (False, True):
             for megabytes in MEGABYTES:
                 with open(proof, "w") as out:
-                    out.write(steps(clauses, megabytes * 1_000_000, is_taken))
+                    out.writelines(steps(clauses, megabytes * 1_000_000, is_taken))
                 judging = ["check-proof", "--lrat", "--quiet", *front, circuit, circuit, proof]
                 print(row("taken" if is_taken else "kept", os.path.getsize(proof), other, judging, 1, [proof]), flush=True)
 
