@@ -6,11 +6,13 @@ of two clauses of the formula, with both as its hints, so each is judged, and no
 away; of `taken` each step is, behind the next.
 
 Of each it prints the least processor time (user and system) of five runs or more and the greatest peak memory. The other program is
-numbers_plain.rs.
+numbers_plain.rs. With a finder, hints_plain.rs, it also has CaDiCaL prove that two products of nine bits are one, has the finder find
+the hints, and times both proofs.
 
     rustc -O -o /tmp/numbers bench/numbers_plain.rs
+    rustc -O -o /tmp/hints bench/hints_plain.rs
     python3 bench/hints.py run
-    python3 bench/hints.py run --other /tmp/numbers
+    python3 bench/hints.py run --other /tmp/numbers --finder /tmp/hints
 """
 
 import itertools
@@ -22,6 +24,7 @@ from timing import RUN, head, ours, row, words
 
 GATES = 1_000
 MEGABYTES = [10, 100]
+BITS = 9
 
 
 def chain(gates):
@@ -63,8 +66,37 @@ def steps(clauses, size, is_taken):
             return
 
 
+def products(bits):
+    """A model of two registers that take the product of two inputs in two ways, and the invariant that they are one."""
+    lines = [f"sort bitvec {bits}", "zero 1", "state 1 x", "init 1 3 2", "state 1 y", "init 1 5 2", "input 1", "input 1"]
+    lines += ["mul 1 7 8", "mul 1 8 7", "next 1 3 9", "next 1 5 10", "sort bitvec 1", "neq 13 3 5", "bad 14"]
+    cubes = [
+        "".join("-" if it % bits != bit else "01"[(it < bits) == is_first] for it in range(2 * bits))
+        for bit in range(bits) for is_first in (True, False)
+    ]
+    names = " ".join(f"lo{it}" for it in range(2 * bits))
+    invariant = [f".i {2 * bits}", ".o 1", f".p {len(cubes)}", f".ilb {names}", ".ob inv", *(f"{it} 1" for it in cubes), ".e"]
+    return "".join(f"{at} {line}\n" for at, line in enumerate(lines, 1)), "\n".join(invariant) + "\n"
+
+
+def time_products(folder, finder):
+    """The rows of a proof of CaDiCaL's, without its hints and with them."""
+    model, invariant, formula, plain, hinted = (os.path.join(folder, name) for name in ("m.btor2", "m.pla", "m.cnf", "m.drat", "m.lrat"))
+    for path, text in zip((model, invariant), products(BITS)):
+        with open(path, "w") as out:
+            out.write(text)
+    subprocess.run([ours(), "obligation", "-o", formula, model, invariant], check=True)
+    subprocess.run(["cadical", "-q", "--no-binary", formula, plain], stdout=subprocess.DEVNULL)
+    with open(hinted, "w") as out:
+        subprocess.run([finder, formula, plain], stdout=out, check=True)
+    for name, proof, flags in (("products", plain, []), ("products with hints", hinted, ["--lrat"])):
+        print(row(name, os.path.getsize(proof), None, ["check-proof", "--quiet", *flags, model, invariant, proof]), flush=True)
+
+
 def main():
-    other = words(__doc__, RUN, other="`PROOF`").other
+    finder = ("--finder", {"metavar": "PROGRAM", "help": "a program that takes `CNF DRAT` and writes LRAT"})
+    given = words(__doc__, RUN, finder, other="`PROOF`")
+    other = given.other
     print(head("Proof", "Bytes", other))
     with tempfile.TemporaryDirectory() as folder:
         circuit, formula, proof = (os.path.join(folder, name) for name in ("circuit.aag", "formula.cnf", "proof.lrat"))
@@ -80,6 +112,8 @@ def main():
                     out.writelines(steps(clauses, megabytes * 1_000_000, is_taken))
                 judging = ["check-proof", "--lrat", "--quiet", *front, circuit, circuit, proof]
                 print(row("taken" if is_taken else "kept", os.path.getsize(proof), other, judging, 1, [proof]), flush=True)
+        if given.finder:
+            time_products(folder, given.finder)
 
 
 if __name__ == "__main__":
