@@ -8,7 +8,7 @@ use crate::unfitted::Unfitted;
 use crate::words::Words;
 use btor2::{Body, Item, Model, Symbol};
 use indexmap::IndexMap;
-use pieces::{Maker, Shortage};
+use pieces::{Maker, Shortage, constant};
 use std::alloc::Global;
 
 /// A model with words of any width that is fitted into a model of the profile, as its lines come: what is held is the model of
@@ -22,13 +22,14 @@ pub struct Fitter {
 }
 
 impl Fitter {
-    ghost use Rattle.std.specs.Prelude.{◌≡◌, ◌<◌, ℕ, true, false, nat_eq, Bool, List, [], ◌∷◌, ◌++◌, length, Option, Some, None, unwrap_or, option_copied, IfOk, OnOk, IfErr};
+    ghost use Rattle.std.specs.Prelude.{◌≡◌, ◌<◌, ℕ, true, false, nat_eq, Bool, List, [], ◌∷◌, ◌++◌, length, Option, Some, None, unwrap_or, option_copied, IfOk, OnOk, IfErr, ◌+◌, ◌*◌, ◌≤◌};
     ghost use Rattle.std.specs.HashMap.{get};
     ghost use Rattle.btor2.specs.declared.item.Item.{Item};
     ghost use Rattle.btor2.specs.declared.item.Body.TheVariants as body;
     ghost use Rattle.btor2.specs.Items.{node_sort};
     ghost use Rattle.fit.specs.Fitting.{IsFittingOf};
     ghost use Rattle.pieces.specs.Kept.{IsShort};
+    ghost use Rattle.pieces.specs.Constants.{digits_value};
     ghost use Rattle.pieces.specs.Lines.{named};
     ghost use Rattle.fitting.specs.Forms.{is_operator, is_constant_line, HasFewDigits, form_fault, IsRefused};
     ghost use Rattle.fitting.specs.Fitted.{IsSoundLine, IsFitted};
@@ -139,6 +140,34 @@ impl Fitter {
     {
         let width = self.width(sort);
         let nodes = constant_word(alloc, &mut self.maker, width, body)?;
+        let _items = self.maker.model().items();
+        self.words.put(id, nodes.as_slice())
+    }
+
+    /// Adds the line of a binary constant by its digits of 64 bits each, the lowest first: of one that an item cannot hold.
+    /// Where it is refused the fitter is of no more use.
+    ///
+    /// Conditions: as of `add`; there are as many digits of 64 bits as a word of `width` bits takes.
+    pub fn add_digits(
+        &mut self,
+        alloc: Global,
+        id: u64,
+        sort: u32,
+        width: u64,
+        digits: &[u64],
+    ) -> Result<(), Shortage>
+        ghost at: { Place }
+        requires fitted { IsFitted at.wide (table_of self.old) self.old.maker }
+        requires sound { IsSoundLine at.wide
+            (named id at.symbol (body.Const sort width (digits_value digits.now))) }
+        requires enough { width ≤ 64 * length digits.now }
+        requires few { 64 * length digits.now < width + 64 }
+        ensures fitted { OnOk result
+            (IsFitted (at.wide ++ named id at.symbol (body.Const sort width (digits_value digits.now)) ∷ [])
+            (table_of self.new) self.new.maker) }
+        ensures short { IfErr result (IsShort self.new.maker) }
+    {
+        let nodes = constant(alloc, &mut self.maker, digits, width)?;
         let _items = self.maker.model().items();
         self.words.put(id, nodes.as_slice())
     }
