@@ -1,0 +1,6 @@
+-- How a list with words of any width is fitted, line by line.
+pub mod Forms
+pub mod Fitted
+pub mod Fitters
+pub mod Steps
+pub mod Tables
