@@ -20,7 +20,7 @@ _hwtool() {
         restore) words='--quiet --output --abc --bad --help' ;;
         wave) words='--quiet --output --all --help' ;;
         obligation) words='--quiet --output --aiger --circuit --engine --bad --help' ;;
-        check-proof) words='--quiet --names --aiger --circuit --engine --bad --json --help' ;;
+        check-proof) words='--quiet --names --aiger --circuit --engine --bad --lrat --json --help' ;;
         tidy-witness) words='--quiet --output --pick --help' ;;
         vectors) words='--quiet --help' ;;
         judge) words='--json --help' ;;

@@ -69,6 +69,7 @@ complete -c hwtool -n '__fish_seen_subcommand_from check-proof' -l aiger -d 'The
 complete -c hwtool -n '__fish_seen_subcommand_from check-proof' -l circuit -d 'The certificate is a witness circuit, in AIGER of either form, whose inputs and latches named = N stand for literal N of the circuit'
 complete -c hwtool -n '__fish_seen_subcommand_from check-proof' -l engine -d 'The witness circuit is one of the engine form of the circuit with the bad property'
 complete -c hwtool -n '__fish_seen_subcommand_from check-proof' -l bad -x -d 'The position of the bad property that is claimed, from 0; needed where there is more than one'
+complete -c hwtool -n '__fish_seen_subcommand_from check-proof' -l lrat -d 'The proof has hints: each step is judged by its hints alone, in time linear in them'
 complete -c hwtool -n '__fish_seen_subcommand_from check-proof' -l json -d 'Write an object of JSON in place of the line, also of what is refused'
 complete -c hwtool -n '__fish_seen_subcommand_from check-proof' -l help -s h -d 'Print help'
 complete -c hwtool -n __fish_use_subcommand -f -a tidy-witness -d 'Write the strict text of a witness as tools write it, for check-btor, check-aig and the others: blanks at a line'\''s end, stray lines, comments and what stands behind the witness go, and x becomes 0, one of the runs that it stands for'

@@ -29,7 +29,7 @@ extern "C" {
 #endif
 
 /* The version of the library that this header goes with. */
-#define HWTOOL_VERSION "0.6.0"
+#define HWTOOL_VERSION "0.7.0"
 
 /* The statuses. */
 enum {
@@ -164,11 +164,11 @@ uint32_t hwtool_obligation(const uint8_t *model, size_t model_length, size_t bad
                            size_t invariant_length, uint8_t *buffer, size_t buffer_length, size_t *needed,
                            struct hwtool_refusal *refusal);
 
-/* Judges a proof in DRAT of what that invariant owes. With a verdict of kind 0 the bad property rises in no frame up to which
+/* Judges a proof of what that invariant owes, in DRAT, or with `lrat` in LRAT. With a verdict of kind 0 the bad property rises in no frame up to which
  * the constraints hold, from any initial state under every input sequence. Answers DONE with `verdict`, TEXT_REFUSED,
  * MODEL_REFUSED, SECOND_REFUSED, NO_MEMORY. */
 uint32_t hwtool_check_proof(const uint8_t *model, size_t model_length, size_t bad, const uint8_t *invariant,
-                            size_t invariant_length, const uint8_t *proof, size_t proof_length,
+                            size_t invariant_length, bool lrat, const uint8_t *proof, size_t proof_length,
                             struct hwtool_verdict *verdict, struct hwtool_refusal *refusal);
 
 /* Writes in DIMACS what an invariant, as ABC writes it over the engine form, owes for the bad property of an AIGER circuit at
@@ -177,11 +177,11 @@ uint32_t hwtool_obligation_aig(const uint8_t *circuit, size_t circuit_length, si
                                size_t invariant_length, uint8_t *buffer, size_t buffer_length, size_t *needed,
                                struct hwtool_refusal *refusal);
 
-/* Judges a proof in DRAT of what that invariant owes. With a verdict of kind 0 the bad property rises in no frame up to which
+/* Judges a proof of what that invariant owes, in DRAT, or with `lrat` in LRAT. With a verdict of kind 0 the bad property rises in no frame up to which
  * the constraints hold, from any initial bits that agree with the resets, under every input sequence. Answers DONE with
  * `verdict`, TEXT_REFUSED, MODEL_REFUSED, SECOND_REFUSED, NO_MEMORY. */
 uint32_t hwtool_check_proof_aig(const uint8_t *circuit, size_t circuit_length, size_t bad, const uint8_t *invariant,
-                                size_t invariant_length, const uint8_t *proof, size_t proof_length,
+                                size_t invariant_length, bool lrat, const uint8_t *proof, size_t proof_length,
                                 struct hwtool_verdict *verdict, struct hwtool_refusal *refusal);
 
 /* Writes in DIMACS what a witness circuit, in AIGER of either form, owes for the bad property at position `bad` of a BTOR2 model,
@@ -191,11 +191,12 @@ uint32_t hwtool_obligation_circuit(const uint8_t *first, size_t first_length, bo
                                    const uint8_t *witness, size_t witness_length, uint8_t *buffer, size_t buffer_length,
                                    size_t *needed, struct hwtool_refusal *refusal);
 
-/* Judges a proof in DRAT of what that witness circuit owes. With a verdict of kind 0 the bad property rises in no frame up to
+/* Judges a proof of what that witness circuit owes, in DRAT, or with `lrat` in LRAT. With a verdict of kind 0 the bad property rises in no frame up to
  * which the constraints hold, from any initial state under every input sequence. Answers DONE with `verdict`, TEXT_REFUSED,
  * MODEL_REFUSED, SECOND_REFUSED, NO_MEMORY. */
 uint32_t hwtool_check_proof_circuit(const uint8_t *first, size_t first_length, bool aiger, bool over_form, size_t bad,
-                                    const uint8_t *witness, size_t witness_length, const uint8_t *proof, size_t proof_length,
+                                    const uint8_t *witness, size_t witness_length, bool lrat, const uint8_t *proof,
+                                    size_t proof_length,
                                     struct hwtool_verdict *verdict, struct hwtool_refusal *refusal);
 
 /* The version, which is that of the program, as HWTOOL_VERSION has it for this header; not ended by a zero byte. Answers DONE and
