@@ -291,8 +291,9 @@ class Certificates(unittest.TestCase):
         model, invariant, proof = (EXAMPLES / f"wraps.{end}" for end in ("btor2", "invariant", "lrat"))
         self.assertEqual(str(hwtool.check_proof(model, 0, invariant, proof, lrat=True)), "holds: b0")
         self.assertEqual(str(hwtool.check_proof_aig(hwtool.lower(model), 0, invariant, proof, lrat=True)), "holds: b0")
-        # without hints in mind they are literals
-        self.assertEqual(str(hwtool.check_proof(model, 0, invariant, proof)), "malformed line 1: 162 BadVariable")
+        # without hints in mind ids are literals
+        self.assertEqual(str(hwtool.check_proof(KEPT, 0, NO_CUBE, b"5 0 1 0\n", lrat=True)), "not implied line 1")
+        self.assertEqual(str(hwtool.check_proof(KEPT, 0, NO_CUBE, b"5 0 1 0\n")), "malformed line 1: 162 BadVariable")
         self.assertEqual(str(hwtool.check_proof_circuit(KEPT_LATCH, 0, KEPT_LATCH, b"", aiger=True, lrat=True)), "not derived")
 
 

@@ -143,7 +143,7 @@ class Rows(unittest.TestCase):
                     of_bytes = (*of_bytes[:2], names[of_bytes[2].startswith(b"invariant: ")].encode() + of_bytes[2][of_bytes[2].index(b":") :])
                 self.assertEqual(of_bytes, expected)
                 tried[command] = tried.get(command, 0) + 1
-                forms.add((command, *sorted(set(flags) & {"--abc", "--aiger", "--engine"})))
+                forms.add((command, *sorted(set(flags) & {"--abc", "--aiger", "--engine", "--lrat"})))
         # rows that were not read would be no test
         self.assertGreater(min(tried.get(command, 0) for command in FILES), 4, tried)
         self.assertEqual(FORMS - forms, set())
