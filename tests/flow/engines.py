@@ -194,7 +194,7 @@ def try_hinted_proofs(place):
     tally.same("a proof with hints", (ALL_HOLD, HOLDS), (done.returncode, place.verdict("hinted.flow", 1)))
     kept = sorted(it.name for it in (place.folder / "hinted.flow/b1").iterdir())
     tally.same("a proof with hints: what is kept", ["form.aig", "formula.cnf", "invariant", "proof.lrat"], kept)
-    tally.same("a proof with hints: check.sh", (OPEN, "1 confirmed, 0 not, 2 open"), place.checked("hinted.flow"))
+    tally.same("a proof with hints: check.sh", (OPEN, "2 confirmed, 0 not, 2 open"), place.checked("hinted.flow"))
     again = place.run(*words, "--solver", "none=false {proof}")
     tally.same("a proof with hints: a second run", (ALL_HOLD, HOLDS), (again.returncode, place.verdict("hinted.flow", 1)))
     shutil.rmtree(place.folder / "hinted.flow")
