@@ -8,7 +8,7 @@ use base::{Binary, Unary};
 
 /// A node that has a sort alone.
 #[derive(Clone, Copy)]
-pub(crate) enum Leaf {
+pub enum Leaf {
     Input,
     State,
     Zero,
@@ -18,7 +18,7 @@ pub(crate) enum Leaf {
 
 /// A constant that is spelled with digits: binary ones, a decimal or hexadecimal ones.
 #[derive(Clone, Copy)]
-pub(crate) enum Constant {
+pub enum Constant {
     Const,
     Constd,
     Consth,
@@ -26,21 +26,21 @@ pub(crate) enum Constant {
 
 /// What widens a node.
 #[derive(Clone, Copy)]
-pub(crate) enum Extension {
+pub enum Extension {
     Uext,
     Sext,
 }
 
 /// What gives a state a value.
 #[derive(Clone, Copy)]
-pub(crate) enum Link {
+pub enum Link {
     Init,
     Next,
 }
 
 /// What marks a node.
 #[derive(Clone, Copy)]
-pub(crate) enum Property {
+pub enum Property {
     Bad,
     Constraint,
     Fair,
@@ -49,7 +49,7 @@ pub(crate) enum Property {
 
 /// What the second token of an item names.
 #[derive(Clone, Copy)]
-pub(crate) enum Form {
+pub enum Form {
     Sort,
     Leaf(Leaf),
     Constant(Constant),

@@ -62,7 +62,7 @@ fn property_body(property: Property, operand: u32) -> Body
 
 /// What the tokens behind a form's word say, and the line behind them.
 #[tactic(auto, unfolding(crate::specs::Reading::body_at))]
-fn body_at(alloc: Global, form: Form, line: &[u8]) -> Result<(Body, &[u8]), Why>
+pub fn body_at(alloc: Global, form: Form, line: &[u8]) -> Result<(Body, &[u8]), Why>
     ensures { GivesUnlessFull (λ x. (x.0, tokens x.1.now)) result (body_at form (tokens line.now)) }
 {
     match form {
@@ -151,7 +151,7 @@ fn justice_at(alloc: Global, line: &[u8]) -> Result<(Body, &[u8]), Why>
 
 /// The symbol at a line's end, where there is one.
 #[tactic(auto, unfolding(crate::specs::Reading::symbol_at))]
-fn symbol_at(alloc: Global, line: &[u8]) -> Result<Option<Symbol>, Why>
+pub fn symbol_at(alloc: Global, line: &[u8]) -> Result<Option<Symbol>, Why>
     ensures { GivesUnlessFull (λ x. x) result (symbol_at (tokens line.now)) }
 {
     match next_token(line) {

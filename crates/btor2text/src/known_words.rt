@@ -60,7 +60,7 @@ fn place(bytes: &[u8; 8]) -> usize
 /// The words of forms that were read before, each at the place that its first bytes give. A line's word is mostly one of
 /// them, and then neither its end nor its form is looked for.
 #[derive(Drop)]
-pub(crate) struct KnownWords {
+pub struct KnownWords {
     words: [KnownWord; 256],
 }
 
@@ -79,7 +79,7 @@ impl Model for KnownWords {
 
 impl KnownWords {
     /// No words but one.
-    pub(crate) fn new() -> KnownWords {
+    pub fn new() -> KnownWords {
         KnownWords {
             words: [known(b"sort", Form::Sort); 256],
         }
@@ -87,7 +87,7 @@ impl KnownWords {
 
     /// A form, and the line behind its word.
     #[inline(always)]
-    pub(crate) fn form_at<'a>(&mut self, line: &'a [u8]) -> Result<(Form, &'a [u8]), Why>
+    pub fn form_at<'a>(&mut self, line: &'a [u8]) -> Result<(Form, &'a [u8]), Why>
         ensures { IsAsLineRead (λ x. (x.0, tokens x.1.now)) result (form_at (tokens line.now)) }
     {
         let mut at = 0;

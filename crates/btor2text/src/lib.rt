@@ -15,6 +15,11 @@ mod tokens;
 mod writing;
 
 pub use fault::{ReadFault, Why};
+pub use forms::{Constant, Extension, Form, Leaf, Link, Property};
+pub use items::{body_at, symbol_at};
+pub use known_words::KnownWords;
 pub use operators::{binary_of, unary_of};
+pub use places::{plain_at, sort_at};
 pub use reading::read;
+pub use tokens::next_token;
 pub use writing::write;

@@ -69,7 +69,7 @@ fn plain_token_at(line: &[u8]) -> Result<(u64, &[u8]), Why>
 
 /// A number in a plain place, and the line behind it.
 #[inline(always)]
-pub(crate) fn plain_at(line: &[u8]) -> Result<(u64, &[u8]), Why>
+pub fn plain_at(line: &[u8]) -> Result<(u64, &[u8]), Why>
     ensures { IsAsLineRead (λ x. (x.0, tokens x.1.now)) result (plain_at (tokens line.now)) }
 {
     match number_at(line) {
@@ -90,7 +90,7 @@ fn kept_id(number: u64) -> u32
 /// The id of a sort, and the line behind it.
 #[inline(always)]
 #[tactic(auto, unfolding(crate::specs::Reading::sort_at))]
-pub(crate) fn sort_at(line: &[u8]) -> Result<(u32, &[u8]), Why>
+pub fn sort_at(line: &[u8]) -> Result<(u32, &[u8]), Why>
     ensures { IsAsLineRead (λ x. (x.0, tokens x.1.now)) result (sort_at (tokens line.now)) }
 {
     let (number, rest) = plain_at(line)?;

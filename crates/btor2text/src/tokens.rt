@@ -42,7 +42,7 @@ pub(crate) fn from_token(line: &[u8]) -> Option<&[u8]>
 }
 
 /// The first token of a line, and the line behind it; nothing where no token stands before a comment.
-pub(crate) fn next_token(line: &[u8]) -> Option<(&[u8], &[u8])>
+pub fn next_token(line: &[u8]) -> Option<(&[u8], &[u8])>
     ensures { MatchOption result (tokens line.now ≡ [])
         (λ x. tokens line.now ≡ x.0.now ∷ tokens x.1.now) }
 {
