@@ -6,14 +6,15 @@ use Rattle.base.specs.declared.device.DeviceFault.{DeviceFault}
 use Rattle.base.specs.declared.reasons.Reason.{Reason}
 use Rattle.subcommands.specs.declared.answers.Answer.{Answer}
 use Rattle.subcommands.specs.declared.answers.Answer.TheVariants as answer
-use Rattle.subcommands.specs.declared.refusals.Device.TheVariants as device
-use Rattle.subcommands.specs.declared.refusals.Fault.{Fault}
-use Rattle.subcommands.specs.declared.refusals.Fault.TheVariants as fault
-use Rattle.subcommands.specs.declared.refusals.Refusal.{Refusal}
-use Rattle.subcommands.specs.declared.refusals.Refusal.TheVariants as refusal
+use Rattle.verbs.specs.declared.refusals.Device.TheVariants as device
+use Rattle.verbs.specs.declared.refusals.Fault.{Fault}
+use Rattle.verbs.specs.declared.refusals.Fault.TheVariants as fault
+use Rattle.verbs.specs.declared.refusals.Refusal.{Refusal}
+use Rattle.verbs.specs.declared.refusals.Refusal.TheVariants as refusal
 use Rattle.subcommands.specs.Refusals.{refusal_line, second_name, status_of_fault}
-use Rattle.subcommands.specs.Statuses.{CountsAll, ErrUntold, Tells, TellsFault}
-use Rattle.subcommands.proofs.CountLemmas.{risen}
+use Rattle.subcommands.specs.Statuses.{Tells, TellsFault}
+use Rattle.verbs.specs.Statuses.{CountsAll, ErrUntold}
+use Rattle.verbs.proofs.CountLemmas.{risen}
 use Rattle.commands.specs.Statuses.{HasFailed, TellsFailure}
 
 -- standard error failed where another failure was to be told

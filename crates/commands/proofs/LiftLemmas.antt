@@ -20,12 +20,12 @@ use Rattle.lift.specs.EngineLifting.{engine_lifted_text, form_lifted_text, Finds
 use Rattle.lift.specs.Lifted.{lifted_with, named_text}
 use Rattle.lift.specs.Verdicts.{KeepsVerdict, KeepsVerdictIn}
 use Rattle.subcommands.specs.declared.answers.Answer.{Answer}
-use Rattle.subcommands.specs.declared.refusals.Refusal.{Refusal}
+use Rattle.verbs.specs.declared.refusals.Refusal.{Refusal}
 use Rattle.subcommands.specs.Done.{Judged}
 use Rattle.subcommands.specs.Restoring.{TellsFormLifted, TellsLifted}
 use Rattle.btor2text.specs.Spelling.{IsModelOf}
 use Rattle.subcommands.specs.Assumed.{assumed_said}
-use Rattle.subcommands.specs.Claims.{IsClaim}
+use Rattle.verbs.specs.Claims.{IsClaim}
 use Rattle.commands.specs.Done.{LiftsFound, IsFormLifted, lifting_said}
 
 -- lifting keeps the verdict, with names or without

@@ -11,12 +11,12 @@ use Rattle.subcommands.specs.Done.{IsJudged, IsJudgedOver, Judged}
 use Rattle.commands.specs.Done.{is_plain_as, name_of}
 use Rattle.subcommands.specs.declared.answers.Answer.{Answer}
 use Rattle.subcommands.specs.declared.answers.Answer.TheVariants as answer
-use Rattle.subcommands.specs.declared.refusals.Fault.{Fault}
-use Rattle.subcommands.specs.declared.refusals.Fault.TheVariants as fault
-use Rattle.subcommands.specs.declared.refusals.Refusal.{Refusal}
-use Rattle.subcommands.specs.declared.refusals.Refusal.TheVariants as refusal
-use Rattle.subcommands.specs.Refusals.{IsNoCircuit, IsNoModel}
-use Rattle.subcommands.specs.Statuses.{IfInput}
+use Rattle.verbs.specs.declared.refusals.Fault.{Fault}
+use Rattle.verbs.specs.declared.refusals.Fault.TheVariants as fault
+use Rattle.verbs.specs.declared.refusals.Refusal.{Refusal}
+use Rattle.verbs.specs.declared.refusals.Refusal.TheVariants as refusal
+use Rattle.verbs.specs.Refusals.{IsNoCircuit, IsNoModel}
+use Rattle.verbs.specs.Statuses.{IfInput}
 use Rattle.commands.specs.Refusals.{RefusesTask}
 
 -- a command that answers only that all is done has done what it says

@@ -26,7 +26,7 @@ use Rattle.subcommands.specs.Done.{Compares, ConvertsForEngines, IsDumped, IsFor
 use Rattle.subcommands.specs.Outputs.{ConvertsOutputs, ConvertsOutputsForEngines}
 use Rattle.subcommands.specs.Subjects.{bad_item_said, lifted_said, said_by_name, where_named}
 use Rattle.btor2text.specs.Spelling.{IsModelOf}
-use Rattle.subcommands.specs.Claims.{CanBeClaimed, IsClaim}
+use Rattle.verbs.specs.Claims.{CanBeClaimed, IsClaim}
 use Rattle.invocation.specs.declared.tasks.CertificateTask.TheVariants as certificate
 use Rattle.invocation.specs.declared.tasks.CircuitTask.TheVariants as circuit
 use Rattle.invocation.specs.declared.tasks.ModelTask.TheVariants as model
@@ -121,8 +121,8 @@ Answers o (task.Circuit (circuit.RestoreForm choice)) a first second third befor
 Answers o (task.Model (model.LiftFound choice)) a first second third before now told told' = LiftsFound o.named choice first second before now told told' a
 Answers o (task.Model (model.LiftForm choice)) a first second third before now told told' = Judged (IsFormLifted o.named choice first second before now told told') a
 Answers o (task.Text text.Vectors) a first second third before now told told' = Compares first before now a
-Answers o (task.Certificate (certificate.Obligation of)) answer.Done first second third before now told told' = WritesOwed of.given of.by of.choice first second before now
-Answers o (task.Certificate (certificate.CheckProof of form)) a first second third before now told told' = CertifiesWith o.named o.as_json of.given of.by of.choice form first second third before now told told' a
+Answers o (task.Certificate (certificate.Obligation of)) answer.Done first second third before now told told' = WritesOwed of first second before now
+Answers o (task.Certificate (certificate.CheckProof of form)) a first second third before now told told' = CertifiesWith o.named o.as_json of form first second third before now told told' a
 Answers o _ a first second third before now told told' = ⊥
 
 -- a command has one file

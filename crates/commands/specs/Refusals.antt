@@ -9,13 +9,13 @@ use Rattle.invocation.specs.declared.tasks.ModelTask.TheVariants as model
 use Rattle.invocation.specs.declared.tasks.Task.{Task}
 use Rattle.invocation.specs.declared.tasks.Task.TheVariants as task
 use Rattle.invocation.specs.declared.tasks.TextTask.TheVariants as text
-use Rattle.subcommands.specs.declared.refusals.Claimed.TheVariants as claimed
-use Rattle.subcommands.specs.declared.refusals.Device.TheVariants as device
-use Rattle.subcommands.specs.declared.refusals.Fault.{Fault}
-use Rattle.subcommands.specs.declared.refusals.Refusal.{Refusal}
-use Rattle.subcommands.specs.declared.refusals.Refusal.TheVariants as refusal
+use Rattle.verbs.specs.declared.refusals.Claimed.TheVariants as claimed
+use Rattle.verbs.specs.declared.refusals.Device.TheVariants as device
+use Rattle.verbs.specs.declared.refusals.Fault.{Fault}
+use Rattle.verbs.specs.declared.refusals.Refusal.{Refusal}
+use Rattle.verbs.specs.declared.refusals.Refusal.TheVariants as refusal
 use Rattle.subcommands.specs.Asked.{IsNotJudgedOverWith, IsNotJudgedWith}
-use Rattle.subcommands.specs.Refusals.{IsFaultyCertificate, IsNoCircuit, IsNoModel, IsNoVectorList, IsNotCertifiable, IsNotClaimable, IsNotClaimed, IsNotForEngines, IsNotJudged, IsNotLowered}
+use Rattle.verbs.specs.Refusals.{IsFaultyCertificate, IsNoCircuit, IsNoModel, IsNoVectorList, IsNotCertifiable, IsNotClaimable, IsNotClaimed, IsNotForEngines, IsNotJudged, IsNotLowered}
 use Rattle.subcommands.specs.Outputs.{IsNotWithOutputs, IsNotWithOutputsForEngines}
 
 -- the first text has this fault, for which a command refuses it that asks for the claim of a bad property or not

@@ -4,14 +4,14 @@ use Rattle.std.specs.Io.KnownBytes.{Appends}
 use Rattle.base.specs.Device.{HasRisen}
 use Rattle.base.specs.declared.reasons.Reason.{Reason}
 use Rattle.invocation.specs.declared.tasks.Order.{Order}
-use Rattle.subcommands.specs.declared.refusals.Device.TheVariants as device
-use Rattle.subcommands.specs.declared.refusals.Fault.{Fault}
-use Rattle.subcommands.specs.declared.refusals.Refusal.{Refusal}
-use Rattle.subcommands.specs.declared.refusals.Refusal.TheVariants as refusal
+use Rattle.verbs.specs.declared.refusals.Device.TheVariants as device
+use Rattle.verbs.specs.declared.refusals.Fault.{Fault}
+use Rattle.verbs.specs.declared.refusals.Refusal.{Refusal}
+use Rattle.verbs.specs.declared.refusals.Refusal.TheVariants as refusal
 use Rattle.subcommands.specs.declared.answers.Answer.{Answer}
 use Rattle.subcommands.specs.Refusals.{device_line, fault_line, output_name, refusal_line, second_name, status_of_fault}
 use Rattle.subcommands.specs.Objects.{refusal_written}
-use Rattle.subcommands.specs.Statuses.{CountsAll}
+use Rattle.verbs.specs.Statuses.{CountsAll}
 use Rattle.commands.specs.Done.{asked_of, name_of}
 use Rattle.commands.specs.Refusals.{RefusesTask, RefusesSecond}
 

@@ -6,10 +6,10 @@ ghost use Rattle.blast.specs.Refusal.{lowering_refusal};
 ghost use Rattle.invocation.specs.declared.tasks.Given.TheVariants as given_is;
 ghost use Rattle.btor2text.specs.Spelling.{IsModelOf};
 ghost use Rattle.commands.specs.Done.{LiftsFound};
-ghost use Rattle.subcommands.specs.Refusals.{IsNotClaimed};
-ghost use Rattle.subcommands.specs.declared.refusals.Claimed.TheVariants as claimed_is;
-ghost use Rattle.subcommands.specs.Statuses.{Ends, IfInput};
-ghost use Rattle.subcommands.specs.Statuses.Use.{Unused, Used};
+ghost use Rattle.verbs.specs.Refusals.{IsNotClaimed};
+ghost use Rattle.verbs.specs.declared.refusals.Claimed.TheVariants as claimed_is;
+ghost use Rattle.verbs.specs.Statuses.{Ends, IfInput};
+ghost use Rattle.verbs.specs.Statuses.Use.{Unused, Used};
 
 use aiger::Circuit;
 use base::{Sink, Source};
@@ -17,7 +17,8 @@ use blast::{Watch, lower_watched};
 use btor2::Model;
 use lift::lift_restored;
 use std::alloc::Global;
-use subcommands::{Answer, Claimed, Refusal, Subject, claim_of, has_form, read_model, tell_lifted};
+use subcommands::{Answer, Subject, tell_lifted};
+use verbs::{Claimed, Refusal, claim_of, has_form, read_model};
 
 /// Lowers a model, lifts a counterexample over the engine form of its circuit to standard output, with names or without, and
 /// tells on standard error how that is judged, with names behind it what the judgement is about, and of an acceptance in which

@@ -8,9 +8,9 @@ ghost use Rattle.invocation.specs.declared.tasks.Given.TheVariants as given_is;
 ghost use Rattle.btor2text.specs.Spelling.{IsModelOf};
 ghost use Rattle.subcommands.specs.Done.{Judged};
 ghost use Rattle.commands.specs.Done.{IsFormLifted};
-ghost use Rattle.subcommands.specs.Refusals.{IsNotForEngines};
-ghost use Rattle.subcommands.specs.Statuses.{Ends, EndsUnrefused, IfInput};
-ghost use Rattle.subcommands.specs.Statuses.Use.{Unused, Used};
+ghost use Rattle.verbs.specs.Refusals.{IsNotForEngines};
+ghost use Rattle.verbs.specs.Statuses.{Ends, EndsUnrefused, IfInput};
+ghost use Rattle.verbs.specs.Statuses.Use.{Unused, Used};
 
 use aiger::Circuit;
 use base::{Sink, Source};
@@ -19,7 +19,8 @@ use btor2::Model;
 use engine_form::engine_form;
 use lift::lift_form;
 use std::alloc::Global;
-use subcommands::{Answer, Refusal, Subject, tell_form_lifted};
+use subcommands::{Answer, Subject, tell_form_lifted};
+use verbs::Refusal;
 
 /// Lowers a model, lifts a witness of the engine form of its circuit to standard output, with names or without, and tells on
 /// standard error how that is judged, with names behind it what the judgement is about, and of an acceptance in which frame the

@@ -8,9 +8,9 @@ ghost use Rattle.btor2text.specs.Spelling.{IsModelOf};
 ghost use Rattle.subcommands.specs.Done.{Judged};
 ghost use Rattle.commands.specs.Done.{IsLifted};
 ghost use Rattle.commands.specs.Refusals.{of_lifting};
-ghost use Rattle.subcommands.specs.Refusals.{IsNotClaimable};
-ghost use Rattle.subcommands.specs.Statuses.{Ends, IfInput};
-ghost use Rattle.subcommands.specs.Statuses.Use.{Unused, Used};
+ghost use Rattle.verbs.specs.Refusals.{IsNotClaimable};
+ghost use Rattle.verbs.specs.Statuses.{Ends, IfInput};
+ghost use Rattle.verbs.specs.Statuses.Use.{Unused, Used};
 
 use aiger::Circuit;
 use base::{Sink, Source};
@@ -18,7 +18,8 @@ use blast::{Watch, lower_watched};
 use btor2::Model;
 use lift::{LiftFault, lift_with_rises};
 use std::alloc::Global;
-use subcommands::{Answer, Device, Refusal, Subject, claimable, tell_judgement};
+use subcommands::{Answer, Subject, tell_judgement};
+use verbs::{Device, Refusal, claimable};
 
 /// Lowers a model, lifts a witness of its circuit to standard output, with names or without, and tells its judgement on
 /// standard error, with names behind it what the judgement is about, and of an acceptance in which frame the claim is reached

@@ -11,8 +11,8 @@ ghost use Rattle.commands.specs.Done.{Answers, asked_of, has_one_file, has_three
 ghost use Rattle.commands.specs.Refusals.{RefusesTask, RefusesSecond};
 ghost use Rattle.std.specs.Io.KnownBytes.{Appends};
 ghost use Rattle.subcommands.specs.Refusals.{second_name};
-ghost use Rattle.subcommands.specs.Statuses.{CountsAll, Ends, EndsAll, ErrUntold, IfInput, IfSecond};
-ghost use Rattle.subcommands.specs.Statuses.Use.{Unused, Used};
+ghost use Rattle.verbs.specs.Statuses.{CountsAll, Ends, EndsAll, ErrUntold, IfInput, IfSecond};
+ghost use Rattle.verbs.specs.Statuses.Use.{Unused, Used};
 ghost use Rattle.commands.specs.Statuses.{HasFailed, IsLeftOpen, IsRefused};
 ghost use Rattle.subcommands.specs.Objects.{refusal_written};
 
@@ -25,13 +25,8 @@ use blast::Watch;
 use btor2::Model;
 use invocation::{CertificateTask, CircuitTask, DEVICE, ModelTask, Order, Task, TextTask};
 use std::alloc::Global;
-use subcommands::{
-    Answer, Device, Refusal, check_circuit, check_circuit_with, check_model, check_model_with,
-    check_proof, compare_vectors, convert_circuit, convert_for_engines, convert_outputs,
-    convert_outputs_for_engines, dump_witness, lower_for_engines, lower_model, read_circuit,
-    read_model, restore_counterexample, restore_witness, show, tell, tell_cost, tidy_witness,
-    write_obligation, write_refusal,
-};
+use subcommands::{Answer, check_circuit, check_circuit_with, check_model, check_model_with, check_proof, compare_vectors, convert_circuit, convert_for_engines, convert_outputs, convert_outputs_for_engines, dump_witness, lower_for_engines, lower_model, restore_counterexample, restore_witness, show, tell, tell_cost, tidy_witness, write_obligation, write_refusal};
+use verbs::{Device, Refusal, read_circuit, read_model};
 
 /// Does a command, and answers the exit status: 0 done or accepted, 1 not accepted, 2 input refused, 3 device or memory, 4
 /// words refused.

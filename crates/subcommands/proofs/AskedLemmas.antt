@@ -23,9 +23,9 @@ use Rattle.rises.specs.FirstRises.{word_first_rises, bit_first_rises, AreBitFirs
 use Rattle.reached.specs.Accepted.{Reaches, ReachesInCircuit}
 use Rattle.subcommands.specs.declared.answers.Answer.{Answer}
 use Rattle.subcommands.specs.declared.outcomes.Outcome.{Outcome}
-use Rattle.subcommands.specs.declared.refusals.Refusal.{Refusal}
+use Rattle.verbs.specs.declared.refusals.Refusal.{Refusal}
 use Rattle.subcommands.specs.Asked.{AsksFor, IsAskedBy, IsJudgedOverWith, IsJudgedWith, IsSoOf, is_claim_noted, is_claimed, is_name, is_name_of, is_noted, is_symbol_of, outcome, outcome_said, outcome_written}
-use Rattle.subcommands.specs.Claims.{CanBeClaimed}
+use Rattle.verbs.specs.Claims.{CanBeClaimed}
 use Rattle.subcommands.specs.Done.{IsAccepted}
 use Rattle.subcommands.specs.Objects.{circuit_names, model_names}
 use Rattle.subcommands.specs.Subjects.{bad_item_said, bad_name_said, item_line, name_said, where_named}

@@ -12,7 +12,7 @@ use Rattle.blast.specs.Refusal.{lowering_refusal}
 use Rattle.engine_form.specs.EngineForm.{IsEngineFormOf}
 use Rattle.engine_form.specs.Outputs.{HasOutputsAsBads, OutputCanBeOne}
 use Rattle.subcommands.specs.declared.answers.Answer.{Answer}
-use Rattle.subcommands.specs.declared.refusals.Refusal.{Refusal}
+use Rattle.verbs.specs.declared.refusals.Refusal.{Refusal}
 use Rattle.btor2text.specs.Spelling.{IsModelOf}
 use Rattle.aigertext.specs.Spelling.{IsCircuitText}
 use Rattle.subcommands.specs.Done.{ConvertsForEngines, LowersForEngines, RiseAlike, WritesEngineForm}

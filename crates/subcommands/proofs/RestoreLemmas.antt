@@ -14,10 +14,10 @@ use Rattle.restore.specs.Reading.{read_found}
 use Rattle.restore.specs.FormWitness.{form_restored_text, FormJudges, FindsWitnessAgain}
 use Rattle.restore.specs.Restored.{restored_text}
 use Rattle.subcommands.specs.declared.answers.Answer.{Answer}
-use Rattle.subcommands.specs.declared.refusals.Refusal.{Refusal}
+use Rattle.verbs.specs.declared.refusals.Refusal.{Refusal}
 use Rattle.aigertext.specs.Spelling.{IsCircuitText}
 use Rattle.subcommands.specs.Assumed.{assumed_said}
-use Rattle.subcommands.specs.Claims.{IsClaim}
+use Rattle.verbs.specs.Claims.{IsClaim}
 use Rattle.subcommands.specs.Done.{IsSo, Restores, TellsRestored, Judged, IsFormRestored, judgement_line}
 use Rattle.subcommands.specs.Restoring.{IsAnswerOf, IsWhole, TellsFormVerdict}
 

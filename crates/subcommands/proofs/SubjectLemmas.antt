@@ -14,11 +14,11 @@ use Rattle.witness.specs.BitJudgements.{BitJudges}
 use Rattle.witness.specs.ClosedWords.{IsClosedTrace}
 use Rattle.rises.specs.FirstRises.{word_first_rises, AreBitFirstRises}
 use Rattle.subcommands.specs.declared.answers.Answer.{Answer}
-use Rattle.subcommands.specs.declared.refusals.Refusal.{Refusal}
+use Rattle.verbs.specs.declared.refusals.Refusal.{Refusal}
 use Rattle.reached.specs.Accepted.{Reaches, ReachesInCircuit}
 use Rattle.btor2text.specs.Spelling.{IsModelOf}
 use Rattle.aigertext.specs.Spelling.{IsCircuitText}
-use Rattle.subcommands.specs.Claims.{CanBeClaimed}
+use Rattle.verbs.specs.Claims.{CanBeClaimed}
 use Rattle.subcommands.specs.Done.{IsJudged, IsJudgedOver, IsSo, Judged, judgement_line}
 use Rattle.subcommands.specs.Subjects.{bad_item_said, bad_name_said, first_said, firsts_said, item_line, name_said, numbered_item, said_by_name, says_item}
 

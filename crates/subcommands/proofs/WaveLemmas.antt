@@ -11,7 +11,7 @@ use Rattle.witness.specs.ClosedWords.{IsClosedTrace}
 use Rattle.vcd.specs.Dumps.{vcd_text}
 use Rattle.vcd.specs.declared.scope.Shown.{Shown}
 use Rattle.subcommands.specs.declared.answers.Answer.{Answer}
-use Rattle.subcommands.specs.declared.refusals.Refusal.{Refusal}
+use Rattle.verbs.specs.declared.refusals.Refusal.{Refusal}
 use Rattle.btor2text.specs.Spelling.{IsModelOf}
 use Rattle.subcommands.specs.Done.{IsDumped, IsSo, Judged, judgement_line}
 

@@ -26,14 +26,14 @@ use Rattle.subcommands.specs.declared.answers.Answer.{Answer}
 use Rattle.subcommands.specs.declared.answers.Answer.TheVariants as answer
 use Rattle.subcommands.specs.declared.outcomes.Outcome.{Outcome}
 use Rattle.subcommands.specs.declared.outcomes.Outcome.TheVariants as outcome_is
-use Rattle.subcommands.specs.declared.refusals.Fault.{Fault}
-use Rattle.subcommands.specs.declared.refusals.Fault.TheVariants as fault
+use Rattle.verbs.specs.declared.refusals.Fault.{Fault}
+use Rattle.verbs.specs.declared.refusals.Fault.TheVariants as fault
 use Rattle.subcommands.specs.declared.subjects.Subject.{Subject}
 use Rattle.subcommands.specs.declared.subjects.Subject.TheVariants as subject
-use Rattle.subcommands.specs.Claims.{CanBeClaimed}
+use Rattle.verbs.specs.Claims.{CanBeClaimed}
 use Rattle.subcommands.specs.Done.{IsAccepted, IsJudged, IsJudgedOver, IsSo, Judged, judgement_line}
 use Rattle.subcommands.specs.Objects.{Names, circuit_names, model_names, outcome_object}
-use Rattle.subcommands.specs.Refusals.{IsNotClaimable, IsNotJudged, IsNoCircuit}
+use Rattle.verbs.specs.Refusals.{IsNotClaimable, IsNotJudged, IsNoCircuit}
 use Rattle.subcommands.specs.Subjects.{bad_item_said, bad_name_said, item_line, name_said, numbered_item, said_by_name, where_named}
 
 -- ---- what a word asks for

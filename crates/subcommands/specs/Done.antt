@@ -40,7 +40,7 @@ use Rattle.vectors.specs.Vectors.{AreVectorsOf, IsRight, numbered, lines_that_di
 use Rattle.btor2text.specs.Spelling.{IsModelOf}
 use Rattle.aigertext.specs.Spelling.{IsCircuitText}
 use Rattle.subcommands.specs.Assumed.{assumed_said}
-use Rattle.subcommands.specs.Claims.{CanBeClaimed, IsClaim}
+use Rattle.verbs.specs.Claims.{CanBeClaimed, IsClaim}
 use Rattle.subcommands.specs.declared.answers.Answer.{Answer}
 use Rattle.subcommands.specs.declared.answers.Answer.TheVariants as answer
 use Rattle.subcommands.specs.Subjects.{bad_item_said, bad_name_said, item_line, name_said, said_by_name}

@@ -23,8 +23,8 @@ use Rattle.witness.specs.Answers.{judge_number, judge_name}
 use Rattle.witness.specs.Printed.{why_number, why_name}
 use Rattle.subcommands.specs.declared.outcomes.Outcome.{Outcome}
 use Rattle.subcommands.specs.declared.outcomes.Outcome.TheVariants as outcome
-use Rattle.subcommands.specs.declared.refusals.Fault.{Fault}
-use Rattle.subcommands.specs.declared.refusals.Fault.TheVariants as fault
+use Rattle.verbs.specs.declared.refusals.Fault.{Fault}
+use Rattle.verbs.specs.declared.refusals.Fault.TheVariants as fault
 use Rattle.subcommands.specs.declared.subjects.Subject.{Subject}
 use Rattle.subcommands.specs.declared.subjects.Subject.TheVariants as subject
 use Rattle.subcommands.specs.Subjects.{numbered_item}

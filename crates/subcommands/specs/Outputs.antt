@@ -10,11 +10,11 @@ use Rattle.engine_form.specs.EngineForm.{IsEngineFormOf}
 use Rattle.engine_form.specs.Outputs.{HasOutputsAsBads, OutputCanBeOne, outputs_refusal}
 use Rattle.engine_form.specs.Refusal.{engine_refusal}
 use Rattle.engine_form.specs.declared.fault.EngineFault.{EngineFault}
-use Rattle.subcommands.specs.declared.refusals.Fault.{Fault}
-use Rattle.subcommands.specs.declared.refusals.Fault.TheVariants as fault
+use Rattle.verbs.specs.declared.refusals.Fault.{Fault}
+use Rattle.verbs.specs.declared.refusals.Fault.TheVariants as fault
 use Rattle.aigertext.specs.Spelling.{IsCircuitText}
 use Rattle.subcommands.specs.Done.{RiseAlike}
-use Rattle.subcommands.specs.Refusals.{IsNoCircuit}
+use Rattle.verbs.specs.Refusals.{IsNoCircuit}
 
 -- ---- what is done
 

@@ -7,13 +7,13 @@ ghost use Rattle.restore.specs.Answers.{CountsRestore};
 ghost use Rattle.subcommands.specs.Assumed.{assumed_line, assumed_said};
 ghost use Rattle.subcommands.specs.Done.{IsSo, judgement_line};
 ghost use Rattle.subcommands.specs.Restoring.{TellsFormLifted, TellsFormVerdict};
-ghost use Rattle.subcommands.specs.Statuses.{Counts, EndsUnrefused, ErrUntold, IsOfNoInput};
-ghost use Rattle.subcommands.specs.Statuses.Use.{Unused, Used};
+ghost use Rattle.verbs.specs.Statuses.{Counts, EndsUnrefused, ErrUntold, IsOfNoInput};
+ghost use Rattle.verbs.specs.Statuses.Use.{Unused, Used};
 ghost use Rattle.subcommands.specs.Subjects.{bad_said, said_by_name, subject_said, where_named};
 
 use crate::answers::Answer;
 use crate::judgements::{tell_judgement, tell_line};
-use crate::refusals::{Device, Refusal};
+use verbs::{Device, Refusal};
 use crate::restoring::tell_fault;
 use crate::subjects::Subject;
 use aiger::Circuit;

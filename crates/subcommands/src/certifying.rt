@@ -1,127 +1,37 @@
 //! The commands on certificates: invariants and witness circuits, and proofs of the formulas that they owe.
 
-ghost use Rattle.std.specs.Prelude.{◌≡◌, ℕ, List, None, Option, Some, false, IfOk, IfErr, OnOk};
+ghost use Rattle.std.specs.Prelude.{◌≡◌, ℕ, false, IfOk, IfErr, OnOk};
 ghost use Rattle.std.specs.Io.KnownBytes.{Appends};
 ghost use Rattle.std.specs.String.{string_bytes};
 ghost use Rattle.base.specs.Device.{CountsFaults};
-ghost use Rattle.blast.specs.Lowering.{Lowers};
-ghost use Rattle.blast.specs.Refusal.{lowering_refusal};
 ghost use Rattle.drup.specs.FormulaTexts.{formula_text};
-ghost use Rattle.invocation.specs.declared.tasks.Given.TheVariants as given_is;
-ghost use Rattle.subcommands.specs.Certificates.{CertifiesWith, GivesItsCircuit, IsGivenNumbering, IsRead, IsSoDerived, WritesOwed, read_names, read_said, verdict_line, verdict_written};
-ghost use Rattle.btor2text.specs.Spelling.{IsModelOf};
+ghost use Rattle.verbs.specs.Refusals.{IsFaultyCertificate, IsNotCertifiable};
+ghost use Rattle.verbs.specs.Statuses.{EndsAll, EndsUnrefused, IfInput, IfSecond};
+ghost use Rattle.verbs.specs.Statuses.Use.{Unused, Used};
+ghost use Rattle.subcommands.specs.Certificates.{CertifiesWith, IsSoDerived, WritesOwed, read_names, read_said, verdict_line, verdict_written};
 ghost use Rattle.subcommands.specs.Objects.{names};
-ghost use Rattle.subcommands.specs.Refusals.{IsFaultyCertificate, IsNoCircuit, IsNotCertifiable, IsNotGiven, IsNotLowered};
-ghost use Rattle.subcommands.specs.Statuses.{Ends, EndsAll, EndsUnrefused, IfInput, IfSecond};
-ghost use Rattle.subcommands.specs.Statuses.Use.{Unused, Used};
 ghost use Rattle.subcommands.specs.Subjects.{bad_said, holds_said, where_named};
 
 use crate::answers::Answer;
-use crate::models::read_model;
 use crate::objects::write_certified;
-use crate::owing::{certified_claim, certified_never_rises, judged, owed};
-use crate::refusals::{Device, Refusal};
 use crate::subjects::{Subject, tell_bad};
 use crate::telling::write_result;
-use aiger::Circuit;
-use aigerlists::Numbering;
-use aigertext::read_numbered;
 use base::{DeviceFault, Sink, Source};
-use blast::{Watch, lower_watched};
-use btor2::Model;
+use blast::Watch;
 use certificates::ProofForm;
 use drup::{Formula, Judgement, write_formula};
-use invocation::{Certificate, Certified, Given, Order};
+use invocation::{Certified, Order};
 use std::alloc::{AllocError, Global};
+use verbs::{Device, GivenCircuit, Refusal, certify, owe};
 
-/// The circuit that lowers a model.
-fn lower_read<W: Watch>(alloc: Global, model: &Model, watch: &mut W) -> Result<Circuit, Refusal>
-    ensures accepted { OnOk result (lowering_refusal model.now ≡ None) }
-    ensures lowers { IfOk result (Lowers model.now) }
-    ensures refused { (known : Option (List ℕ)) → IsModelOf known model.now
-        → IfErr result (IfInput (IsNotLowered known)) }
-    ensures ends { Ends result Unused Unused Unused Unused }
+/// What a judgement of what a first file gives is about.
+fn subject_of(given: &GivenCircuit) -> Subject<'_>
+    ensures says { (k : ℕ) → bad_said result k ≡ read_said given.now k }
+    ensures names { (k : ℕ) → (names result).bad k ≡ read_names given.now k }
 {
-    // a model's items are well-formed
-    let _ = model.items();
-    Ok(lower_watched(alloc, model, watch)?)
-}
-
-/// What the first file gives: a circuit, the model that it lowers, where that is what is given, and the numbering of the
-/// circuit's file.
-#[derive(Drop)]
-struct Read {
-    model: Option<Model>,
-    circuit: Circuit,
-    numbering: Numbering,
-}
-
-impl Read {
-    /// What a judgement of it is about.
-    fn subject(&self) -> Subject<'_>
-        ensures says { (k : ℕ) → bad_said result k ≡ read_said self.now k }
-        ensures names { (k : ℕ) → (names result).bad k ≡ read_names self.now k }
-    {
-        match &self.model {
-            Some(model) => Subject::Model(model),
-            None => Subject::Circuit(&self.circuit),
-        }
-    }
-}
-
-/// Reads the first file as a model, and lowers it.
-fn lower_first<A: Source, W: Watch>(
-    alloc: Global,
-    first: &mut A,
-    watch: &mut W,
-) -> Result<Read, Refusal>
-    ensures read { IfOk result (IsRead given_is.Model (A.to_come first.old)) }
-    ensures refused { IfErr result (IfInput (IsNotLowered (A.to_come first.old))) }
-    ensures ends { Ends result (Used A.failures first.old first.new) Unused Unused Unused }
-{
-    let model = read_model(alloc, first)?;
-    let circuit = lower_read(alloc, &model, watch)?;
-    Ok(Read {
-        model: Some(model),
-        circuit,
-        numbering: Numbering::own(),
-    })
-}
-
-/// Reads the first file as a circuit.
-fn read_first<A: Source>(alloc: Global, first: &mut A) -> Result<Read, Refusal>
-    ensures read { IfOk result (IsRead given_is.Circuit (A.to_come first.old)) }
-    ensures refused { IfErr result (IfInput (IsNoCircuit (A.to_come first.old))) }
-    ensures ends { Ends result (Used A.failures first.old first.new) Unused Unused Unused }
-{
-    match read_numbered(alloc, first) {
-        Ok(numbered) => {
-            // the lists of a circuit are one
-            let _ = numbered.circuit.inputs();
-            Ok(Read {
-                model: None,
-                circuit: numbered.circuit,
-                numbering: numbered.numbering,
-            })
-        }
-        Err(fault) => Err(Refusal::from(fault)),
-    }
-}
-
-/// What the first file gives: a circuit that lowers its model, or its own.
-fn read_given<A: Source, W: Watch>(
-    alloc: Global,
-    given: Given,
-    first: &mut A,
-    watch: &mut W,
-) -> Result<Read, Refusal>
-    ensures read { IfOk result (IsRead given (A.to_come first.old)) }
-    ensures refused { IfErr result (IfInput (IsNotGiven given (A.to_come first.old))) }
-    ensures ends { Ends result (Used A.failures first.old first.new) Unused Unused Unused }
-{
-    match given {
-        Given::Model => lower_first(alloc, first, watch),
-        Given::Circuit => read_first(alloc, first),
+    match &given.model {
+        Some(model) => Subject::Model(model),
+        None => Subject::Circuit(&given.circuit),
     }
 }
 
@@ -138,36 +48,7 @@ fn write_owed<O: Sink>(formula: &Formula, out: &mut O) -> Result<Answer, Refusal
     }
 }
 
-/// Writes the formula that a certificate owes for the bad property that is claimed of a circuit, whose file has this
-/// numbering.
-fn write_owed_over<B: Source, O: Sink>(
-    alloc: Global,
-    by: Certificate,
-    circuit: &Circuit,
-    numbering: &Numbering,
-    choice: Option<usize>,
-    second: &mut B,
-    out: &mut O,
-) -> Result<Answer, Refusal>
-    ensures done { (g : Given) (known : Option (List ℕ)) → GivesItsCircuit g known circuit.now
-        → IsGivenNumbering g known circuit.now numbering.now
-        → OnOk result (WritesOwed g by choice known (B.to_come second.old) (O.written out.old)
-        (O.written out.new)) }
-    ensures answer { IfOk result (λ answer. answer ≡ Answer.Done) }
-    ensures refused { (g : Given) (known : Option (List ℕ)) → GivesItsCircuit g known circuit.now
-        → IfErr result (IfInput (IsNotCertifiable by g choice known)) }
-    ensures second { (g : Given) (known : Option (List ℕ)) → GivesItsCircuit g known circuit.now
-        → IsGivenNumbering g known circuit.now numbering.now
-        → IfErr result (IfSecond (IsFaultyCertificate by g choice known (B.to_come second.old))) }
-    ensures ends { EndsAll result Unused (Used B.failures second.old second.new) Unused
-        (Used O.failures out.old out.new) Unused }
-{
-    let claim = certified_claim(circuit, by, choice)?;
-    let formula = owed(alloc, by, circuit, numbering, claim, second)?;
-    write_owed(&formula, out)
-}
-
-/// Reads what is given, and writes the formula that a certificate owes for the bad property that is claimed of it.
+/// Writes the formula that a certificate owes for the bad property that is claimed of what the first file gives.
 ///
 /// Its buffers stand in a frame of its own: each command enters that of its caller.
 #[inline(never)]
@@ -179,8 +60,8 @@ pub fn write_obligation<A: Source, B: Source, O: Sink, W: Watch>(
     out: &mut O,
     watch: &mut W,
 ) -> Result<Answer, Refusal>
-    ensures done { OnOk result (WritesOwed of.given of.by of.choice (A.to_come first.old)
-        (B.to_come second.old) (O.written out.old) (O.written out.new)) }
+    ensures done { OnOk result (WritesOwed of (A.to_come first.old) (B.to_come second.old)
+        (O.written out.old) (O.written out.new)) }
     ensures answer { IfOk result (λ answer. answer ≡ Answer.Done) }
     ensures refused { IfErr result
         (IfInput (IsNotCertifiable of.by of.given of.choice (A.to_come first.old))) }
@@ -190,16 +71,8 @@ pub fn write_obligation<A: Source, B: Source, O: Sink, W: Watch>(
     ensures ends { EndsAll result (Used A.failures first.old first.new)
         (Used B.failures second.old second.new) Unused (Used O.failures out.old out.new) Unused }
 {
-    let read = read_given(alloc, of.given, first, watch)?;
-    write_owed_over(
-        alloc,
-        of.by,
-        &read.circuit,
-        &read.numbering,
-        of.choice,
-        second,
-        out,
-    )
+    let formula = owe(alloc, of, first, second, watch)?;
+    write_owed(&formula, out)
 }
 
 /// The line that tells how a certificate of a bad property is judged.
@@ -299,51 +172,8 @@ fn tell_verdict<O: Sink, E: Sink>(
     }
 }
 
-/// Judges a certificate of the bad property that is claimed of a circuit, and a proof in this form; tells that, and with
-/// names which one holds.
-fn check_over<B: Source, T: Source, O: Sink, E: Sink>(
-    alloc: Global,
-    order: &Order<'_>,
-    by: Certificate,
-    choice: Option<usize>,
-    form: ProofForm,
-    read: &Read,
-    second: &mut B,
-    third: &mut T,
-    out: &mut O,
-    err: &mut E,
-) -> Result<Answer, Refusal>
-    ensures done { (g : Given) (known : Option (List ℕ)) → IsRead g known read.now
-        → IfOk result (CertifiesWith order.now.named order.now.as_json g by choice form known
-        (B.to_come second.old) (T.to_come third.old) (O.written out.old) (O.written out.new)
-        (E.written err.old) (E.written err.new)) }
-    ensures refused { (g : Given) (known : Option (List ℕ)) → IsRead g known read.now
-        → IfErr result (IfInput (IsNotCertifiable by g choice known)) }
-    ensures second { (g : Given) (known : Option (List ℕ)) → IsRead g known read.now
-        → IfErr result (IfSecond (IsFaultyCertificate by g choice known (B.to_come second.old))) }
-    ensures ends { EndsAll result Unused (Used B.failures second.old second.new)
-        (Used T.failures third.old third.new) (Used O.failures out.old out.new)
-        (Used E.failures err.old err.new) }
-    ensures quiet { order.now.named ≡ false → err.new ≡ err.old }
-{
-    certified_never_rises();
-    blast::laws::bad_properties_rise_alike();
-    let claim = certified_claim(&read.circuit, by, choice)?;
-    let judgement = judged(
-        alloc,
-        by,
-        form,
-        &read.circuit,
-        &read.numbering,
-        claim,
-        second,
-        third,
-    )?;
-    tell_verdict(alloc, order, read.subject(), claim, &judgement, out, err)
-}
-
-/// Reads what is given, judges a certificate of the bad property that is claimed of it, and a proof in this form; tells that, and with names which one
-/// holds.
+/// Judges a certificate of the bad property that is claimed of what the first file gives, and a proof in this form; tells that,
+/// and with names which one holds.
 pub fn check_proof<A: Source, B: Source, T: Source, O: Sink, E: Sink, W: Watch>(
     alloc: Global,
     order: &Order<'_>,
@@ -356,7 +186,7 @@ pub fn check_proof<A: Source, B: Source, T: Source, O: Sink, E: Sink, W: Watch>(
     err: &mut E,
     watch: &mut W,
 ) -> Result<Answer, Refusal>
-    ensures done { IfOk result (CertifiesWith order.now.named order.now.as_json of.given of.by of.choice form
+    ensures done { IfOk result (CertifiesWith order.now.named order.now.as_json of form
         (A.to_come first.old) (B.to_come second.old) (T.to_come third.old) (O.written out.old)
         (O.written out.new) (E.written err.old) (E.written err.new)) }
     ensures refused { IfErr result
@@ -369,8 +199,7 @@ pub fn check_proof<A: Source, B: Source, T: Source, O: Sink, E: Sink, W: Watch>(
         (Used O.failures out.old out.new) (Used E.failures err.old err.new) }
     ensures quiet { order.now.named ≡ false → err.new ≡ err.old }
 {
-    let read = read_given(alloc, of.given, first, watch)?;
-    check_over(
-        alloc, order, of.by, of.choice, form, &read, second, third, out, err,
-    )
+    let judged = certify(alloc, of, form, first, second, third, watch)?;
+    let subject = subject_of(&judged.given);
+    tell_verdict(alloc, order, subject, judged.claim, &judged.judgement, out, err)
 }

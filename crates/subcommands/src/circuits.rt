@@ -6,40 +6,27 @@ ghost use Rattle.aigertext.specs.Binary.{circuit_text};
 ghost use Rattle.aigertext.specs.Spelling.{IsCircuitText};
 ghost use Rattle.invocation.specs.declared.tasks.Given.TheVariants as given_is;
 ghost use Rattle.subcommands.specs.Asked.{IsJudgedOverWith, IsNotJudgedOverWith};
-ghost use Rattle.subcommands.specs.Claims.{CanBeClaimed};
+ghost use Rattle.verbs.specs.Claims.{CanBeClaimed};
 ghost use Rattle.subcommands.specs.Done.{IsJudgedOver, Judged, Rewrites};
-ghost use Rattle.subcommands.specs.Refusals.{HasOutputsAlone, IsNoCircuit, IsNotClaimable};
-ghost use Rattle.subcommands.specs.Statuses.{Ends, EndsUnrefused, IfInput};
-ghost use Rattle.subcommands.specs.Statuses.Use.{Unused, Used};
+ghost use Rattle.verbs.specs.Refusals.{HasOutputsAlone, IsNoCircuit, IsNotClaimable};
+ghost use Rattle.verbs.specs.Statuses.{Ends, EndsUnrefused, IfInput};
+ghost use Rattle.verbs.specs.Statuses.Use.{Unused, Used};
 
 use crate::answers::Answer;
 use crate::asked::asked;
 use crate::judgements::{answer_told, write_judgement};
 use crate::outcomes::outcome_of;
-use crate::refusals::{Device, Refusal};
+use verbs::{Device, Refusal, claimable};
 use crate::subjects::Subject;
 use aiger::Circuit;
-use aigertext::{Form, read, write};
+use aigertext::{Form, write};
 use base::{Sink, Source};
-use engine_form::EngineFault;
 use invocation::Order;
 use reached::laws::judged_claims_are_reached;
 use rises::judge_bits_with_rises;
 use rises::laws::{accepted_bit_claims_rise, exactly_one_bit_list};
 use std::alloc::Global;
 use witness::judge_bits;
-
-/// Reads the first file as a circuit of either form.
-pub fn read_circuit<A: Source>(alloc: Global, first: &mut A) -> Result<Circuit, Refusal>
-    ensures read { IfOk result (IsCircuitText (A.to_come first.old)) }
-    ensures refused { IfErr result (IfInput (IsNoCircuit (A.to_come first.old))) }
-    ensures ends { Ends result (Used A.failures first.old first.new) Unused Unused Unused }
-{
-    match read(alloc, first) {
-        Ok(circuit) => Ok(circuit),
-        Err(fault) => Err(Refusal::from(fault)),
-    }
-}
 
 /// Writes a circuit that was read in a form.
 pub fn convert_circuit<O: Sink>(
@@ -68,18 +55,6 @@ pub fn write_circuit<O: Sink>(circuit: &Circuit, form: Form, out: &mut O) -> Res
         Ok(()) => Ok(Answer::Done),
         Err(_) => Err(Refusal::Failed(Device::Output)),
     }
-}
-
-/// Refuses a circuit that has outputs, as before AIGER 1.9, and no bad property that a witness could claim.
-pub fn claimable(circuit: &Circuit) -> Result<(), Refusal>
-    ensures claimable { OnOk result (CanBeClaimed circuit.now) }
-    ensures refused { IfErr result (IfInput (HasOutputsAlone circuit.now)) }
-    ensures ends { Ends result Unused Unused Unused Unused }
-{
-    if circuit.bads().is_empty() && !circuit.outputs().is_empty() {
-        return Err(Refusal::from(EngineFault::NoBad));
-    }
-    Ok(())
 }
 
 /// Judges a witness over a circuit.

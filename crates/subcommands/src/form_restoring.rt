@@ -5,14 +5,13 @@ ghost use Rattle.engine_form.specs.EngineForm.{IsEngineFormOf};
 ghost use Rattle.invocation.specs.declared.tasks.Given.TheVariants as given_is;
 ghost use Rattle.aigertext.specs.Spelling.{IsCircuitText};
 ghost use Rattle.subcommands.specs.Done.{IsFormRestored, Judged};
-ghost use Rattle.subcommands.specs.Refusals.{IsNotForEngines};
-ghost use Rattle.subcommands.specs.Statuses.{Ends, EndsUnrefused, IfInput};
-ghost use Rattle.subcommands.specs.Statuses.Use.{Unused, Used};
+ghost use Rattle.verbs.specs.Refusals.{IsNotForEngines};
+ghost use Rattle.verbs.specs.Statuses.{Ends, EndsUnrefused, IfInput};
+ghost use Rattle.verbs.specs.Statuses.Use.{Unused, Used};
 
 use crate::answers::Answer;
 use crate::assumed::tell_form_restored;
-use crate::circuits::read_circuit;
-use crate::refusals::Refusal;
+use verbs::Refusal;
 use aiger::Circuit;
 use base::{Sink, Source};
 use engine_form::engine_form;

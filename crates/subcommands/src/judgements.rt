@@ -6,14 +6,14 @@ ghost use Rattle.std.specs.String.{string_bytes};
 ghost use Rattle.subcommands.specs.Asked.{IsSoOf, outcome_line, outcome_said, outcome_written};
 ghost use Rattle.subcommands.specs.Done.{IsSo, judgement_line};
 ghost use Rattle.subcommands.specs.Objects.{names};
-ghost use Rattle.subcommands.specs.Statuses.{EndsUnrefused};
-ghost use Rattle.subcommands.specs.Statuses.Use.{Unused, Used};
+ghost use Rattle.verbs.specs.Statuses.{EndsUnrefused};
+ghost use Rattle.verbs.specs.Statuses.Use.{Unused, Used};
 ghost use Rattle.subcommands.specs.Subjects.{bad_said, said_by_name, subject_said, where_named};
 
 use crate::answers::Answer;
 use crate::objects::write_outcome;
 use crate::outcomes::Outcome;
-use crate::refusals::{Device, Refusal};
+use verbs::{Device, Refusal};
 use crate::subjects::{Subject, tell_outcome_where_named, tell_where_named};
 use crate::telling::write_result;
 use base::{Sink, write_all};

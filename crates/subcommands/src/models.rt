@@ -8,40 +8,28 @@ ghost use Rattle.blast.specs.Conversion.{Converts};
 ghost use Rattle.btor2text.specs.Spelling.{IsModelOf};
 ghost use Rattle.subcommands.specs.Asked.{IsJudgedWith, IsNotJudgedWith};
 ghost use Rattle.subcommands.specs.Done.{IsJudged, Judged, ShowsModel, TellsCost, counts_line, cost_lines};
-ghost use Rattle.subcommands.specs.Refusals.{IsNoModel, IsNotJudged, IsNotLowered};
-ghost use Rattle.subcommands.specs.Statuses.{Ends, EndsUnrefused, IfInput};
-ghost use Rattle.subcommands.specs.Statuses.Use.{Unused, Used};
+ghost use Rattle.verbs.specs.Refusals.{IsNoModel, IsNotJudged, IsNotLowered};
+ghost use Rattle.verbs.specs.Statuses.{Ends, EndsUnrefused, IfInput};
+ghost use Rattle.verbs.specs.Statuses.Use.{Unused, Used};
 
 use crate::answers::Answer;
 use crate::asked::asked;
 use crate::judgements::{answer_told, write_judgement};
 use crate::outcomes::outcome_of;
-use crate::refusals::{Device, Refusal};
+use verbs::{Device, Refusal};
 use crate::subjects::Subject;
 use crate::telling::write_result;
 use aigertext::Form;
 use base::{Sink, Source};
 use blast::{Watch, convert_watched, cost_and_bound};
 use btor2::Model;
-use btor2text::{read, write};
+use btor2text::write;
 use invocation::Order;
 use reached::laws::judged_claims_are_reached;
 use rises::judge_words_with_rises;
 use rises::laws::{accepted_claims_rise, exactly_one_list};
 use std::alloc::{AllocError, Global};
 use witness::judge_words;
-
-/// Reads the first file as a model.
-pub fn read_model<A: Source>(alloc: Global, first: &mut A) -> Result<Model, Refusal>
-    ensures read { IfOk result (IsModelOf (A.to_come first.old)) }
-    ensures refused { IfErr result (IfInput (IsNoModel (A.to_come first.old))) }
-    ensures ends { Ends result (Used A.failures first.old first.new) Unused Unused Unused }
-{
-    match read(alloc, first) {
-        Ok(model) => Ok(model),
-        Err(fault) => Err(Refusal::from(fault)),
-    }
-}
 
 /// Lowers a model.
 pub fn lower_model<A: Source, O: Sink, W: Watch>(

@@ -10,7 +10,7 @@ use crate::json::{
     write_symbol, write_text,
 };
 use crate::outcomes::Outcome;
-use crate::refusals::Fault;
+use verbs::Fault;
 use crate::subjects::{Subject, item_of};
 use aiger::Section;
 use base::{DeviceFault, Sink, write_all};

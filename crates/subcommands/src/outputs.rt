@@ -4,13 +4,13 @@ ghost use Rattle.std.specs.Prelude.{◌≡◌, ℕ, List, Option, IfOk, IfErr, O
 ghost use Rattle.engine_form.specs.Outputs.{HasOutputsAsBads};
 ghost use Rattle.aigertext.specs.Spelling.{IsCircuitText};
 ghost use Rattle.subcommands.specs.Outputs.{ConvertsOutputs, ConvertsOutputsForEngines, HasTooManyOutputs, IsNotWithOutputs, IsNotWithOutputsForEngines};
-ghost use Rattle.subcommands.specs.Statuses.{Ends, IfInput};
-ghost use Rattle.subcommands.specs.Statuses.Use.{Unused, Used};
+ghost use Rattle.verbs.specs.Statuses.{Ends, IfInput};
+ghost use Rattle.verbs.specs.Statuses.Use.{Unused, Used};
 
 use crate::answers::Answer;
 use crate::circuits::{read_circuit, write_circuit};
 use crate::engines::write_engine_form;
-use crate::refusals::Refusal;
+use verbs::Refusal;
 use aiger::Circuit;
 use aigertext::Form;
 use base::{Sink, Source};

@@ -6,28 +6,26 @@ ghost use Rattle.std.specs.String.{string_bytes};
 ghost use Rattle.engine_form.specs.Refusal.{engine_refusal};
 ghost use Rattle.subcommands.specs.declared.answers.Answer.TheVariants as answer_is;
 ghost use Rattle.invocation.specs.declared.tasks.Given.TheVariants as given_is;
-ghost use Rattle.subcommands.specs.declared.refusals.Refusal.TheVariants as refusal;
-ghost use Rattle.subcommands.specs.declared.refusals.Fault.TheVariants as fault_is;
+ghost use Rattle.verbs.specs.declared.refusals.Refusal.TheVariants as refusal;
+ghost use Rattle.verbs.specs.declared.refusals.Fault.TheVariants as fault_is;
 ghost use Rattle.restore.specs.Answers.{CountsRestore, CountsRestoreWhy};
 ghost use Rattle.restore.specs.Faults.{is_of_text};
 ghost use Rattle.aigertext.specs.Spelling.{IsCircuitText};
-ghost use Rattle.subcommands.specs.Claims.{IsClaim};
+ghost use Rattle.verbs.specs.Claims.{IsClaim};
 ghost use Rattle.subcommands.specs.Done.{Restores, TellsRestored, malformed_line};
 ghost use Rattle.subcommands.specs.Restoring.{IsAnswerOf, IsWhole, TellsLifted, TellsVerdict};
-ghost use Rattle.subcommands.specs.Refusals.{IsNotClaimed, IsUnclaimed, IsWithoutForm};
-ghost use Rattle.subcommands.specs.declared.refusals.Claimed.TheVariants as claimed_is;
-ghost use Rattle.subcommands.specs.Statuses.{Counts, Ends, EndsUnrefused, ErrUntold, IfInput, IsOfNoInput};
-ghost use Rattle.subcommands.specs.Statuses.Use.{Unused, Used};
+ghost use Rattle.verbs.specs.Refusals.{IsNotClaimed, IsUnclaimed, IsWithoutForm};
+ghost use Rattle.verbs.specs.declared.refusals.Claimed.TheVariants as claimed_is;
+ghost use Rattle.verbs.specs.Statuses.{Counts, Ends, EndsUnrefused, ErrUntold, IfInput, IsOfNoInput};
+ghost use Rattle.verbs.specs.Statuses.Use.{Unused, Used};
 ghost use Rattle.subcommands.specs.Subjects.{bad_said, said_by_name, subject_said, where_named};
 
 use crate::answers::Answer;
-use crate::circuits::read_circuit;
 use crate::judgements::{tell_judgement, tell_line};
-use crate::refusals::{Claimed, Device, Fault, Refusal};
+use verbs::{Claimed, Device, Refusal, claim_of, has_form};
 use crate::subjects::Subject;
 use aiger::Circuit;
 use base::{Sink, Source, write_all};
-use engine_form::why_no_form;
 use restore::{RestoreFault, RestoreWhy, restore};
 use rises::FirstRises;
 use std::alloc::{AllocError, Global};
@@ -58,42 +56,6 @@ fn tell_malformed<E: Sink>(
     match write_all(err, line.as_bytes()) {
         Ok(()) => Ok(Answer::NotAccepted),
         Err(_) => Err(Refusal::Failed(Device::Error)),
-    }
-}
-
-/// Why no bad property of a circuit is claimed, where none is chosen: there is none, or there are several.
-fn unclaimed(circuit: &Circuit, claimed: Claimed) -> Fault
-    requires { length circuit.now.bads ≢ 1 }
-    ensures { IsUnclaimed claimed circuit.now result }
-{
-    match why_no_form(circuit, None) {
-        Some(fault) if circuit.bads().is_empty() => Fault::Engine(fault),
-        _ => Fault::Unchosen(claimed),
-    }
-}
-
-/// The bad property of a circuit that is claimed: the chosen one, or the only one.
-pub fn claim_of(circuit: &Circuit, choice: Option<usize>, claimed: Claimed) -> Result<usize, Fault>
-    ensures claim { IfOk result (λ claim. IsClaim choice circuit.now claim) }
-    ensures unclaimed { IfErr result (λ f. (choice ≡ None) × IsUnclaimed claimed circuit.now f) }
-{
-    match choice {
-        Some(position) => Ok(position),
-        None if circuit.bads().len() == 1 => Ok(0),
-        None => Err(unclaimed(circuit, claimed)),
-    }
-}
-
-/// Whether a circuit has an engine form with this bad property alone.
-pub fn has_form(circuit: &Circuit, claim: usize) -> Result<(), Refusal>
-    ensures accepted { OnOk result (engine_refusal circuit.now (Some claim) ≡ None) }
-    ensures there { OnOk result (claim < length circuit.now.bads) }
-    ensures refused { IfErr result (IfInput (IsWithoutForm circuit.now (Some claim))) }
-    ensures ends { Ends result Unused Unused Unused Unused }
-{
-    match why_no_form(circuit, Some(claim)) {
-        Some(fault) => Err(Refusal::from(fault)),
-        None => Ok(()),
     }
 }
 

@@ -5,18 +5,20 @@ ghost use Rattle.std.specs.Io.KnownBytes.{Appends};
 ghost use Rattle.std.specs.String.{string_bytes};
 ghost use Rattle.base.specs.Device.{CountsFaults, HasRisen};
 ghost use Rattle.subcommands.specs.declared.answers.Answer.{Answer};
-ghost use Rattle.subcommands.specs.declared.refusals.Device.TheVariants as device;
-ghost use Rattle.subcommands.specs.declared.refusals.Refusal.TheVariants as refusal_is;
+ghost use Rattle.verbs.specs.declared.refusals.Device.TheVariants as device;
+ghost use Rattle.verbs.specs.declared.refusals.Refusal.TheVariants as refusal_is;
 ghost use Rattle.subcommands.specs.Names.{harmless};
 ghost use Rattle.subcommands.specs.Objects.{fault_object, refusal_written};
 ghost use Rattle.subcommands.specs.Refusals.{device_line, output_name, second_name};
-ghost use Rattle.subcommands.specs.Statuses.{CountsAll, EndsUnrefused, IfInput, IfSecond, Tells, TellsFault};
-ghost use Rattle.subcommands.specs.Statuses.Use.{Unused, Used};
+ghost use Rattle.subcommands.specs.Statuses.{Tells, TellsFault};
+ghost use Rattle.verbs.specs.Statuses.{CountsAll, EndsUnrefused, IfInput, IfSecond};
+ghost use Rattle.verbs.specs.Statuses.Use.{Unused, Used};
 
 use crate::names::{is_harmless, write_name};
 use crate::objects::write_refused;
 use crate::reasons::write_reason;
-use crate::refusals::{Device, Fault, Refusal};
+use crate::refusals::{fault_line, fault_status};
+use verbs::{Device, Fault, Refusal};
 use base::{DeviceFault, Reason, Sink, write_all};
 use invocation::{DEVICE, DONE, Order, STANDARD_INPUT, Stop};
 use std::alloc::Global;
@@ -93,11 +95,11 @@ fn tell_fault_behind<E: Sink>(
         (E.written err.new)) }
     ensures counted { CountsFaults result (E.failures err.old) (E.failures err.new) }
 {
-    match fault.line(alloc, "") {
+    match fault_line(alloc, fault, "") {
         Ok(said) => {
             write_name(file, err)?;
             write_all(err, said.as_bytes())?;
-            Ok(fault.status())
+            Ok(fault_status(fault))
         }
         Err(_) => tell_no_memory(err),
     }
@@ -115,10 +117,10 @@ fn tell_plain_fault<E: Sink>(
         (E.written err.new)) }
     ensures counted { CountsFaults result (E.failures err.old) (E.failures err.new) }
 {
-    match fault.line(alloc, file) {
+    match fault_line(alloc, fault, file) {
         Ok(line) => {
             write_all(err, line.as_bytes())?;
-            Ok(fault.status())
+            Ok(fault_status(fault))
         }
         Err(_) => tell_no_memory(err),
     }

@@ -2,11 +2,11 @@
 
 ghost use Rattle.std.specs.Prelude.{◌≡◌, IfOk, OnOk};
 ghost use Rattle.subcommands.specs.Done.{Tidies};
-ghost use Rattle.subcommands.specs.Statuses.{EndsUnrefused};
-ghost use Rattle.subcommands.specs.Statuses.Use.{Unused, Used};
+ghost use Rattle.verbs.specs.Statuses.{EndsUnrefused};
+ghost use Rattle.verbs.specs.Statuses.Use.{Unused, Used};
 
 use crate::answers::Answer;
-use crate::refusals::{Device, Refusal};
+use verbs::{Device, Refusal};
 use base::{Sink, Source};
 use tidy::{TidyFault, tidy};
 

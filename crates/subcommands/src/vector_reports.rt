@@ -2,12 +2,12 @@
 
 ghost use Rattle.std.specs.Prelude.{Some, IfOk, IfErr};
 ghost use Rattle.subcommands.specs.Done.{Compares};
-ghost use Rattle.subcommands.specs.Refusals.{IsNoVectorList};
-ghost use Rattle.subcommands.specs.Statuses.{Ends, IfInput};
-ghost use Rattle.subcommands.specs.Statuses.Use.{Unused, Used};
+ghost use Rattle.verbs.specs.Refusals.{IsNoVectorList};
+ghost use Rattle.verbs.specs.Statuses.{Ends, IfInput};
+ghost use Rattle.verbs.specs.Statuses.Use.{Unused, Used};
 
 use crate::answers::Answer;
-use crate::refusals::Refusal;
+use verbs::Refusal;
 use crate::telling::write_result;
 use base::{Sink, Source, read_all};
 use std::alloc::Global;

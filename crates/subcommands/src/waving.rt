@@ -3,14 +3,13 @@
 ghost use Rattle.std.specs.Prelude.{ℕ, List, Option, IfOk, IfErr};
 ghost use Rattle.btor2text.specs.Spelling.{IsModelOf};
 ghost use Rattle.subcommands.specs.Done.{IsDumped, Judged};
-ghost use Rattle.subcommands.specs.Refusals.{IsNotJudged};
-ghost use Rattle.subcommands.specs.Statuses.{Ends, IfInput};
-ghost use Rattle.subcommands.specs.Statuses.Use.{Unused, Used};
+ghost use Rattle.verbs.specs.Refusals.{IsNotJudged};
+ghost use Rattle.verbs.specs.Statuses.{Ends, IfInput};
+ghost use Rattle.verbs.specs.Statuses.Use.{Unused, Used};
 
 use crate::answers::Answer;
 use crate::judgements::tell_line;
-use crate::models::read_model;
-use crate::refusals::Refusal;
+use verbs::Refusal;
 use base::{Sink, Source};
 use btor2::Model;
 use invocation::{Order, STANDARD_INPUT};

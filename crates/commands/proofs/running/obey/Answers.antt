@@ -1,5 +1,5 @@
 use Rattle.std.proofs.Common.{refl}
-use Rattle.subcommands.proofs.CountLemmas.{as_is, as_was, ends_all, ends_all_as, idle, no_second, unfailed}
+use Rattle.verbs.proofs.CountLemmas.{as_is, as_was, ends_all, ends_all_as, idle, no_second, unfailed}
 use Rattle.commands.proofs.running.obey.Goals as goal
 
 pub returns-in-Text-clause-ends : goal.returns-in-Text-clause-ends

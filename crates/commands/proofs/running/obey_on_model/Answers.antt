@@ -1,5 +1,5 @@
 use Rattle.std.proofs.Common.{rules, ◌≡◌, Err}
-use Rattle.subcommands.proofs.CountLemmas.{as_is, as_was, ends_as, unfailed}
+use Rattle.verbs.proofs.CountLemmas.{as_is, as_was, ends_as, unfailed}
 use Rattle.commands.proofs.TaskLemmas.{refuses_no_model}
 use Rattle.commands.proofs.running.obey_on_model.Goals as goal
 

@@ -1,5 +1,5 @@
 use Rattle.std.proofs.Common.{refl, ◌∙◌}
-use Rattle.subcommands.proofs.CountLemmas.{risen}
+use Rattle.verbs.proofs.CountLemmas.{risen}
 use Rattle.subcommands.proofs.assumed.tell_form_line.Goals as goal
 
 pub returns-in-Ok-clause-ends : goal.returns-in-Ok-clause-ends

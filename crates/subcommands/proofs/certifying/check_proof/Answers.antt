@@ -1,5 +1,5 @@
 use Rattle.std.proofs.Common.{rules, ◌≡◌, Err, refl}
-use Rattle.subcommands.proofs.CountLemmas.{as_is, as_was, ends_all, ends_all_as, handed_on, idle, no_second, unfailed}
+use Rattle.verbs.proofs.CountLemmas.{as_is, as_was, ends_all, ends_all_as, handed_on, idle, no_second, unfailed}
 use Rattle.subcommands.proofs.certifying.check_proof.Goals as goal
 
 pub returns-in_err-read-clause-second : goal.returns-in_err-read-clause-second

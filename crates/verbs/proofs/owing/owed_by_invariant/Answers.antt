@@ -1,0 +1,10 @@
+use Rattle.std.proofs.Common.{sym, subst}
+use Rattle.verbs.specs.Refusals.{IsFaultyFor}
+use Rattle.verbs.specs.Statuses.{IfSecond}
+use Rattle.verbs.proofs.CertificateLemmas.{refuses_invariant}
+use Rattle.verbs.proofs.owing.owed_by_invariant.Goals as goal
+
+pub returns-in-Err-clause-second : goal.returns-in-Err-clause-second
+returns-in-Err-clause-second g c =
+    let second = g.B.Source.to_come c.args.second.now in
+    subst (IfSecond (IsFaultyFor c.args.circuit.now c.args.claim second)) (sym c.from.ensures) (refuses_invariant c.args.circuit.now c.args.claim second c.in-Err.fault c.in-Err.ensures.fault)

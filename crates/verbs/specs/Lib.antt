@@ -1,0 +1,10 @@
+-- What verbs do, and why they do not.
+pub mod Certificates
+pub mod Claims
+pub mod Conversions
+pub mod Given
+pub mod Judging
+pub mod Lifting
+pub mod Refusals
+pub mod Restoring
+pub mod Statuses
