@@ -22,8 +22,9 @@ use Rattle.subcommands.specs.declared.answers.Answer.TheVariants as answer
 use Rattle.subcommands.specs.Asked.{ChecksCircuit, ChecksModel}
 use Rattle.subcommands.specs.Certificates.{CertifiesWith, WritesOwed}
 use Rattle.subcommands.specs.Assumed.{assumed_said}
-use Rattle.subcommands.specs.Done.{Compares, ConvertsForEngines, IsDumped, IsFormRestored, Judged, LowersForEngines, Restores, Rewrites, ShowsModel, TellsCost, TellsRestored, Tidies, judgement_line}
-use Rattle.subcommands.specs.Outputs.{ConvertsOutputs, ConvertsOutputsForEngines}
+use Rattle.subcommands.specs.Done.{Compares, IsDumped, IsFormRestored, Judged, Restores, ShowsModel, TellsCost, TellsRestored, Tidies, judgement_line}
+use Rattle.verbs.specs.Circuits.{ConvertsForEngines, LowersForEngines, Rewrites}
+use Rattle.verbs.specs.Outputs.{ConvertsOutputs, ConvertsOutputsForEngines}
 use Rattle.subcommands.specs.Subjects.{bad_item_said, lifted_said, said_by_name, where_named}
 use Rattle.btor2text.specs.Spelling.{IsModelOf}
 use Rattle.verbs.specs.Claims.{CanBeClaimed, IsClaim}

@@ -14,9 +14,9 @@ use Rattle.verbs.specs.declared.refusals.Device.TheVariants as device
 use Rattle.verbs.specs.declared.refusals.Fault.{Fault}
 use Rattle.verbs.specs.declared.refusals.Refusal.{Refusal}
 use Rattle.verbs.specs.declared.refusals.Refusal.TheVariants as refusal
-use Rattle.subcommands.specs.Asked.{IsNotJudgedOverWith, IsNotJudgedWith}
+use Rattle.verbs.specs.Asked.{IsNotJudgedOverWith, IsNotJudgedWith}
 use Rattle.verbs.specs.Refusals.{IsFaultyCertificate, IsNoCircuit, IsNoModel, IsNoVectorList, IsNotCertifiable, IsNotClaimable, IsNotClaimed, IsNotForEngines, IsNotJudged, IsNotLowered}
-use Rattle.subcommands.specs.Outputs.{IsNotWithOutputs, IsNotWithOutputsForEngines}
+use Rattle.verbs.specs.Outputs.{IsNotWithOutputs, IsNotWithOutputsForEngines}
 
 -- the first text has this fault, for which a command refuses it that asks for the claim of a bad property or not
 unfoldable pub RefusesTask : Task → Option (List ℕ) → Option (List ℕ) → Fault → Type 0

@@ -118,45 +118,6 @@ pub record TellsCost (known before now : Option (List ℕ)) : Type 0 where
   pub well_formed : IsWellFormed items
   pub appends : Appends before now (cost_lines items)
 
--- all that was to come is a text of some circuit, and what was written is the writer's text of it in a form
-pub record Rewrites (known before now : Option (List ℕ)) (form : Form) : Type 0 where
-  pub circuit : Circuit
-  pub is_circuit : IsCircuit circuit
-  pub text : IsCircuitText known circuit
-  pub appends : Appends before now (circuit_text form circuit)
-
--- bad properties of a circuit can rise exactly where some can: each where that of the same position can, or, where one was chosen, the first where the chosen one can
-abbrev pub RiseAlike : (ℕ → Type 0) → Option ℕ → Circuit → Type 0
-RiseAlike can_rise None c = (b : ℕ) → can_rise b ↔ CanRiseInCircuit c b
-RiseAlike can_rise (Some b) c = can_rise b ↔ CanRiseInCircuit c 0
-
--- what was written is the text of an engine form of a circuit
-pub record WritesEngineForm (original : Circuit) (choice : Option ℕ) (before now : Option (List ℕ)) (form : Form) : Type 0 where
-  pub circuit : Circuit
-  pub is_form : IsEngineFormOf original choice circuit
-  pub appends : Appends before now (circuit_text form circuit)
-
--- All that was to come is a text of some model that nothing speaks against, and what was written is the text of an engine form of a circuit that lowers it. Its bad properties can rise exactly where those of the model can.
-pub record LowersForEngines (known before now : Option (List ℕ)) (form : Form) (choice : Option ℕ) : Type 0 where
-  pub items : List Item
-  pub lowered : Circuit
-  pub circuit : Circuit
-  pub text : IsModelOf known items
-  pub accepted : lowering_refusal items ≡ None
-  pub lowers : Lowers items lowered
-  pub is_form : IsEngineFormOf lowered choice circuit
-  pub rise_alike : RiseAlike (CanRise items) choice circuit
-  pub appends : Appends before now (circuit_text form circuit)
-
--- All that was to come is a text of some circuit, and what was written is the text of an engine form of it. Its bad properties can rise exactly where those of the circuit can.
-pub record ConvertsForEngines (known before now : Option (List ℕ)) (form : Form) (choice : Option ℕ) : Type 0 where
-  pub original : Circuit
-  pub circuit : Circuit
-  pub text : IsCircuitText known original
-  pub is_form : IsEngineFormOf original choice circuit
-  pub rise_alike : RiseAlike (CanRiseInCircuit original) choice circuit
-  pub appends : Appends before now (circuit_text form circuit)
-
 -- The first text is of a model, each of whose states has a next or is free; the second is judged so over it; what was written is the dump of its closed frames, under some title; and what was told is the line of that judgement.
 pub record IsDumped (shown : Shown) (model witness before now told told' : Option (List ℕ)) (verdict : Judgement) : Type 0 where
   pub items : List Item

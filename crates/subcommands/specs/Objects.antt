@@ -21,13 +21,13 @@ use Rattle.witness.specs.declared.judgement.Judgement.TheVariants as judgement
 use Rattle.witness.specs.declared.fault.JudgeFault.TheVariants as judge
 use Rattle.witness.specs.Answers.{judge_number, judge_name}
 use Rattle.witness.specs.Printed.{why_number, why_name}
-use Rattle.subcommands.specs.declared.outcomes.Outcome.{Outcome}
-use Rattle.subcommands.specs.declared.outcomes.Outcome.TheVariants as outcome
+use Rattle.verbs.specs.declared.outcomes.Outcome.{Outcome}
+use Rattle.verbs.specs.declared.outcomes.Outcome.TheVariants as outcome
 use Rattle.verbs.specs.declared.refusals.Fault.{Fault}
 use Rattle.verbs.specs.declared.refusals.Fault.TheVariants as fault
-use Rattle.subcommands.specs.declared.subjects.Subject.{Subject}
-use Rattle.subcommands.specs.declared.subjects.Subject.TheVariants as subject
-use Rattle.subcommands.specs.Subjects.{numbered_item}
+use Rattle.verbs.specs.declared.subjects.Subject.{Subject}
+use Rattle.verbs.specs.declared.subjects.Subject.TheVariants as subject
+use Rattle.verbs.specs.Subjects.{numbered_item}
 
 -- ---- strings and members
 

@@ -1,17 +1,15 @@
 -- What a judgement is about, by name: the line of the model, or the name in the circuit, of the bad property, the constraint, the state or the latch that it tells by a number (this project's).
-use Rattle.std.specs.Prelude.{ℕ, suc, Bool, true, false, List, [], ◌∷◌, ◌++◌, Option, Some, None, slice_get, codes, decimal}
+use Rattle.std.specs.Prelude.{ℕ, suc, Bool, true, false, List, [], ◌∷◌, ◌++◌, Option, Some, None, codes, decimal}
 use Rattle.btor2.specs.declared.item.Item.{Item}
-use Rattle.btor2.specs.declared.item.Body.{Body}
 use Rattle.btor2.specs.Items.{is_state, is_bad, is_constraint}
-use Rattle.btor2.specs.Lists.{of_kind}
 use Rattle.aiger.specs.declared.circuit.Section.TheVariants as section
 use Rattle.aiger.specs.Circuit.{Circuit, name_of}
 use Rattle.drup.specs.declared.judgement.Judgement.{Judgement as Verdict}
 use Rattle.drup.specs.declared.judgement.Judgement.TheVariants as verdict
 use Rattle.witness.specs.declared.judgement.Judgement.{Judgement}
 use Rattle.witness.specs.declared.judgement.Judgement.TheVariants as judgement
-use Rattle.subcommands.specs.declared.subjects.Subject.{Subject}
-use Rattle.subcommands.specs.declared.subjects.Subject.TheVariants as subject
+use Rattle.verbs.specs.declared.subjects.Subject.{Subject}
+use Rattle.verbs.specs.declared.subjects.Subject.TheVariants as subject
 
 -- what is said of the thing of a kind with a number: `b3 is f_full, line 64`
 abbrev pub says : List ℕ → ℕ → List ℕ → List ℕ
@@ -35,10 +33,6 @@ line_said x = symbol_said x.symbol ++ (codes "line " ++ decimal x.id)
 abbrev pub says_item : List ℕ → ℕ → Option Item → List ℕ
 says_item kind number None = []
 says_item kind number (Some x) = says kind number (line_said x)
-
--- the item with a number among those of a kind, in file order
-abbrev pub numbered_item : (Body → Bool) → List Item → ℕ → Option Item
-numbered_item test items k = slice_get (of_kind test items) k
 
 -- the line that says which line of a model a bad property is
 abbrev pub bad_item_said : List Item → ℕ → List ℕ

@@ -3,7 +3,8 @@
 ghost use Rattle.std.specs.Prelude.{◌≡◌, ℕ, true, false, ◌==◌, None, Some, [], ◌∷◌, codes};
 ghost use Rattle.base.specs.Decimals.{number_of};
 ghost use Rattle.witness.specs.declared.judgement.Judgement.TheVariants as judgement;
-ghost use Rattle.subcommands.specs.Asked.{AreCalledAlike, IsAskedBy, IsUnknown, is_name, outcome, outcome_line};
+ghost use Rattle.subcommands.specs.Asked.{outcome_line};
+ghost use Rattle.verbs.specs.Asked.{AreCalledAlike, IsAskedBy, IsUnknown, is_name, outcome};
 ghost use Rattle.subcommands.specs.Objects.{model_names, outcome_object, text_member};
 ghost use Rattle.subcommands.specs.Assumed.{assumed_said};
 

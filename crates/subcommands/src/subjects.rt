@@ -6,26 +6,16 @@ ghost use Rattle.base.specs.Device.{CountsFaults};
 ghost use Rattle.btor2.specs.declared.item.Body.{Body};
 ghost use Rattle.btor2.specs.Lists.{places};
 ghost use Rattle.subcommands.specs.Asked.{outcome_said};
-ghost use Rattle.subcommands.specs.Subjects.{bad_item_said, bad_name_said, bad_said, first_said, firsts_said, frame_said, item_line, lifted_said, line_said, name_said, numbered_item, said_by_name, says, says_item, says_name, subject_said, symbol_said, where_named};
+ghost use Rattle.subcommands.specs.Subjects.{bad_item_said, bad_name_said, bad_said, first_said, firsts_said, frame_said, item_line, lifted_said, line_said, name_said, said_by_name, says, says_item, says_name, subject_said, symbol_said, where_named};
+ghost use Rattle.verbs.specs.Subjects.{numbered_item};
 
-use crate::outcomes::Outcome;
 use aiger::{Circuit, Section};
 use base::{DeviceFault, Sink, write_all};
 use btor2::{Item, Model, Symbol};
 use itoa::Buffer;
 use rises::FirstRises;
+use verbs::{Outcome, Subject, item_of};
 use witness::Judgement;
-
-/// What a judgement is about.
-#[derive(Clone, Copy)]
-pub enum Subject<'a> {
-    /// A model.
-    Model(&'a Model),
-    /// A circuit.
-    Circuit(&'a Circuit),
-    /// A model, by the circuit that lowers it.
-    Lowered(&'a Model, &'a Circuit),
-}
 
 /// Writes the number of a thing of a kind.
 fn tell_number<E: Sink>(kind: &[u8], number: u64, err: &mut E) -> Result<(), DeviceFault>
@@ -75,31 +65,6 @@ fn tell_item<E: Sink>(kind: &[u8], number: u64, item: &Item, err: &mut E) -> Res
 {
     tell_number(kind, number, err)?;
     tell_line(item, err)
-}
-
-/// The place with a number among some.
-fn place_at(list: &[usize], number: u64) -> Option<usize>
-    ensures { result ≡ slice_get list.now number }
-{
-    list.get(number as usize).copied()
-}
-
-/// The item at a place.
-fn item_at(items: &[Item], place: usize) -> Option<&Item>
-    ensures { option_copied result ≡ slice_get items.now place }
-{
-    items.get(place)
-}
-
-/// The item with a number among those of a model that stand at these places; none where there are not so many.
-pub(crate) fn item_of<'a>(model: &'a Model, list: &[usize], number: u64) -> Option<&'a Item>
-    ensures { (test : Body → Bool) → list.now ≡ places test 0 model.now
-        → option_copied result ≡ numbered_item test model.now number }
-{
-    match place_at(list, number) {
-        Some(place) => item_at(model.items(), place),
-        None => None,
-    }
 }
 
 /// Says which line of a model the thing with a number among some is, which stand at these places; nothing where there are not

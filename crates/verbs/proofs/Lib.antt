@@ -1,2 +1,5 @@
+pub mod AskedLemmas
 pub mod CertificateLemmas
 pub mod CountLemmas
+pub mod EngineLemmas
+pub mod SubjectLemmas

@@ -2,22 +2,35 @@
 //! clock and no name of a file is in it, and nothing is told.
 #![tactic(auto)]
 
+mod asked;
 mod certifying;
 mod claims;
+mod converting;
 mod dumping;
 mod given;
+mod judging;
 mod lifting;
+mod lowering;
+mod outcomes;
 mod owing;
 mod reading;
 mod refusals;
 mod restoring;
+mod subjects;
 mod told;
 
 pub use certifying::{JudgedCertificate, certify, owe};
-pub use claims::claimable;
+pub use converting::{convert, convert_for_engines, convert_outputs, convert_outputs_for_engines};
 pub use dumping::dump;
 pub use given::{GivenCircuit, Lowered};
+pub use judging::{
+    JudgedOverCircuit, JudgedOverModel, judge_for_circuit, judge_for_model, judge_over_circuit,
+    judge_over_model,
+};
 pub use lifting::{FoundLifted, Lifted, lift, lift_found, lift_from_form};
-pub use reading::{read_circuit, read_model};
+pub use lowering::{Cost, cost, lower, lower_for_engines};
+pub use outcomes::Outcome;
+pub use reading::read_model;
 pub use refusals::{Claimed, Device, Fault, Refusal};
 pub use restoring::{FoundRestored, Restored, restore_found, restore_from_form};
+pub use subjects::{Subject, item_of};

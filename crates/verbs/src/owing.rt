@@ -15,7 +15,7 @@ ghost use Rattle.verbs.specs.Statuses.{EndsAll, IfInput, IfSecond, IsOfNoInput};
 ghost use Rattle.verbs.specs.Statuses.Use.{Unused, Used};
 
 use crate::refusals::{Claimed, Fault, Refusal};
-use crate::restoring::claim_of;
+use crate::claims::claim_of;
 use aiger::Circuit;
 use aigerlists::Numbering;
 use base::Source;

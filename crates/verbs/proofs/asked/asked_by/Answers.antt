@@ -1,7 +1,7 @@
 use Rattle.std.proofs.Common.{◌≡◌, Some, sym, arith}
 use Rattle.base.specs.Decimals.{number_of}
-use Rattle.subcommands.specs.Asked.{is_called}
-use Rattle.subcommands.proofs.asked.asked_by.Goals as goal
+use Rattle.verbs.specs.Asked.{is_called}
+use Rattle.verbs.proofs.asked.asked_by.Goals as goal
 
 pub returns-in-Some-2-clause-unasked : goal.returns-in-Some-2-clause-unasked
 returns-in-Some-2-clause-unasked c =

@@ -1,4 +1,4 @@
--- What a task has done that takes the outputs of a circuit as bad properties, and what it refuses.
+-- What is written of a circuit with its outputs as bad properties, and what is refused.
 use Rattle.std.specs.Prelude.{◌≡◌, ◌↔◌, ℕ, ◌+◌, ◌<◌, List, length, Option, Some}
 use Rattle.std.specs.Io.KnownBytes.{Appends}
 use Rattle.aiger.specs.Circuit.{Circuit}
@@ -13,7 +13,7 @@ use Rattle.engine_form.specs.declared.fault.EngineFault.{EngineFault}
 use Rattle.verbs.specs.declared.refusals.Fault.{Fault}
 use Rattle.verbs.specs.declared.refusals.Fault.TheVariants as fault
 use Rattle.aigertext.specs.Spelling.{IsCircuitText}
-use Rattle.subcommands.specs.Done.{RiseAlike}
+use Rattle.verbs.specs.Circuits.{RiseAlike}
 use Rattle.verbs.specs.Refusals.{IsNoCircuit}
 
 -- ---- what is done

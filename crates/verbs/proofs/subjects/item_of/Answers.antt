@@ -1,7 +1,7 @@
 use Rattle.std.proofs.Common.{Some, None, sym, ap, ◌∙◌}
 use Rattle.std.specs.Prelude.{Option, ℕ, option_and_then, slice_get}
-use Rattle.subcommands.proofs.SubjectLemmas.{numbered}
-use Rattle.subcommands.proofs.subjects.item_of.Goals as goal
+use Rattle.verbs.proofs.SubjectLemmas.{numbered}
+use Rattle.verbs.proofs.subjects.item_of.Goals as goal
 
 pub returns-in-Some : goal.returns-in-Some
 returns-in-Some c = λ test is.

@@ -1,16 +1,13 @@
--- What a command has done that judges whether a witness is accepted for a bad property that a word asks for.
-use Rattle.std.proofs.Common.{◌≡◌, ℕ, ◌<◌, Bool, true, false, List, Option, Some, None, IfSome, Result, Ok, Err, IfOk, OnOk, length, option_and_then, slice_get, refl, sym, ap, subst, ◌∙◌, arith}
-use Rattle.std.specs.Io.KnownBytes.{Appends}
+-- What is noted of an accepted witness is what it claims of what is asked for.
+use Rattle.std.proofs.Common.{◌≡◌, ℕ, ◌<◌, Bool, true, false, List, Option, Some, None, IfSome, length, option_and_then, slice_get, refl, sym, ap, subst, ◌∙◌, arith}
 use Rattle.base.specs.Decimals.{number_of}
 use Rattle.btor2.specs.declared.item.Item.{Item}
 use Rattle.btor2.specs.Items.{is_bad}
 use Rattle.btor2.specs.Check.{IsWellFormed}
-use Rattle.btor2.specs.Lists.{places, first_init_without_next}
+use Rattle.btor2.specs.Lists.{places}
 use Rattle.btor2.specs.Reachability.{nodes_of}
 use Rattle.btor2.specs.Trace.{Frame}
-use Rattle.btor2text.specs.Spelling.{IsModelOf}
 use Rattle.aiger.specs.Circuit.{Circuit, IsCircuit}
-use Rattle.aigertext.specs.Spelling.{IsCircuitText}
 use Rattle.base.specs.Literal.{Valuation}
 use Rattle.witness.specs.declared.judgement.Judgement.{Judgement}
 use Rattle.witness.specs.declared.judgement.Judgement.TheVariants as judgement
@@ -20,16 +17,8 @@ use Rattle.witness.specs.ClosedWords.{IsClosedTrace}
 use Rattle.witness.specs.Reached.{word_claimed, bit_claimed, IsClosedBitTrace}
 use Rattle.witness.proofs.FrameLemmas.{bad_names, length-nodes}
 use Rattle.rises.specs.FirstRises.{word_first_rises, bit_first_rises, AreBitFirstRises}
-use Rattle.reached.specs.Accepted.{Reaches, ReachesInCircuit}
-use Rattle.subcommands.specs.declared.answers.Answer.{Answer}
-use Rattle.subcommands.specs.declared.outcomes.Outcome.{Outcome}
-use Rattle.verbs.specs.declared.refusals.Refusal.{Refusal}
-use Rattle.subcommands.specs.Asked.{AsksFor, IsAskedBy, IsJudgedOverWith, IsJudgedWith, IsSoOf, is_claim_noted, is_claimed, is_name, is_name_of, is_noted, is_symbol_of, outcome, outcome_said, outcome_written}
-use Rattle.verbs.specs.Claims.{CanBeClaimed}
-use Rattle.subcommands.specs.Done.{IsAccepted}
-use Rattle.subcommands.specs.Objects.{circuit_names, model_names}
-use Rattle.subcommands.specs.Subjects.{bad_item_said, bad_name_said, item_line, name_said, where_named}
-use Rattle.subcommands.proofs.SubjectLemmas.{each_reached, numbered}
+use Rattle.verbs.specs.Asked.{AsksFor, IsAskedBy, is_claim_noted, is_claimed, is_name_of, is_noted, is_symbol_of}
+use Rattle.verbs.specs.Judging.{IsAccepted}
 
 -- the entry of a list of first rises
 abbrev entry : List (Option ℕ) → ℕ → Option ℕ
@@ -104,65 +93,3 @@ claimed_bits None word None c verdict firsts valid asked is rises exists some no
 claimed_bits None word (Some text) c verdict firsts valid asked is rises exists some none = λ yes. refl
 claimed_bits (Some k) word witness c verdict firsts valid asked is rises exists some none =
     noted_bits witness c verdict firsts k valid (claim_there word (length c.bads) (is_name_of c) k asked) is rises exists some none
-
-pub judged_with : (r : Result Answer Refusal) (named as_json : Bool) (word known witness before now told told' : Option (List ℕ)) (items : List Item) (verdict : Judgement) (firsts : List (Option ℕ)) (claim : Option ℕ) (o : Outcome)
-    → IsModelOf known items → IsWellFormed items → first_init_without_next items items ≡ None → AsksFor word (length (places is_bad 0 items)) (is_symbol_of items) claim
-    → IfSome witness (λ text. Judges items text verdict) → ((text : List ℕ) → Judges items text verdict → Reaches items text verdict)
-    → IfSome witness (λ text. (fs : List Frame) → IsClosedTrace items text fs → firsts ≡ word_first_rises items text fs)
-    → ((items : List Item) (text : List ℕ) → IsWellFormed items → (fs : List Frame) × IsClosedTrace items text fs)
-    → ((items : List Item) (text : List ℕ) (fs : List Frame) (frames k : ℕ) → IsWellFormed items → Judges items text (judgement.Accepted frames) → IsClosedTrace items text fs → word_claimed items text k ≡ true
-    → (first : ℕ) × ((slice_get (word_first_rises items text fs) k ≡ Some (Some first)) × (first < frames)))
-    → ((items : List Item) (text : List ℕ) (fs : List Frame) (k : ℕ) → word_claimed items text k ≡ false → k < length (nodes_of is_bad items) → slice_get (word_first_rises items text fs) k ≡ Some None)
-    → o ≡ outcome claim (is_claim_noted claim firsts) verdict
-    → OnOk r (Appends before now (outcome_written as_json (model_names items) firsts o)) → OnOk r (Appends told told' (where_named named (outcome_said (item_line items) (bad_item_said items) firsts o))) → IfOk r (λ a. IsSoOf a o)
-    → IfOk r (IsJudgedWith named as_json word known witness before now told told')
-judged_with (Ok a) named as_json word known witness before now told told' items verdict firsts claim o text valid each asked is reaches rises exists some none same written subject so = record {
-  items = items;
-  claim = claim;
-  verdict = verdict;
-  claimed = is_claim_noted claim firsts;
-  firsts = firsts;
-  text = text;
-  well_formed = valid;
-  each_has_next_or_is_free = each;
-  asked = asked;
-  judged = is;
-  reached = each_reached witness is reaches;
-  claims = claimed_words claim word witness items verdict firsts valid asked is rises exists some none;
-  rises = rises;
-  written = subst (λ (o : Outcome). Appends before now (outcome_written as_json (model_names items) firsts o)) same written;
-  subject = subst (λ (o : Outcome). Appends told told' (where_named named (outcome_said (item_line items) (bad_item_said items) firsts o))) same subject;
-  so = subst (IsSoOf a) same so;
-}
-judged_with (Err e) named as_json word known witness before now told told' items verdict firsts claim o text valid each asked is reaches rises exists some none same written subject so = tt
-
-pub judged_over_with : (r : Result Answer Refusal) (named as_json : Bool) (word known witness before now told told' : Option (List ℕ)) (c : Circuit) (verdict : Judgement) (firsts : List (Option ℕ)) (claim : Option ℕ) (o : Outcome)
-    → IsCircuitText known c → IsCircuit c → CanBeClaimed c → AsksFor word (length c.bads) (is_name_of c) claim
-    → IfSome witness (λ text. BitJudges c text verdict) → ((text : List ℕ) → BitJudges c text verdict → ReachesInCircuit c text verdict)
-    → IfSome witness (λ text. AreBitFirstRises c text firsts)
-    → ((c : Circuit) (text : List ℕ) → IsCircuit c → (vs : List Valuation) × IsClosedBitTrace c text vs)
-    → ((c : Circuit) (text : List ℕ) (vs : List Valuation) (frames k : ℕ) → IsCircuit c → BitJudges c text (judgement.Accepted frames) → IsClosedBitTrace c text vs → bit_claimed c text k ≡ true
-    → (first : ℕ) × ((slice_get (bit_first_rises c text vs) k ≡ Some (Some first)) × (first < frames)))
-    → ((c : Circuit) (text : List ℕ) (vs : List Valuation) (k : ℕ) → bit_claimed c text k ≡ false → k < length c.bads → slice_get (bit_first_rises c text vs) k ≡ Some None)
-    → o ≡ outcome claim (is_claim_noted claim firsts) verdict
-    → OnOk r (Appends before now (outcome_written as_json (circuit_names c) firsts o)) → OnOk r (Appends told told' (where_named named (outcome_said (name_said c) (bad_name_said c) firsts o))) → IfOk r (λ a. IsSoOf a o)
-    → IfOk r (IsJudgedOverWith named as_json word known witness before now told told')
-judged_over_with (Ok a) named as_json word known witness before now told told' c verdict firsts claim o text valid claimable asked is reaches rises exists some none same written subject so = record {
-  value = c;
-  claim = claim;
-  verdict = verdict;
-  claimed = is_claim_noted claim firsts;
-  firsts = firsts;
-  is_circuit = valid;
-  text = text;
-  claimable = claimable;
-  asked = asked;
-  judged = is;
-  reached = each_reached witness is reaches;
-  claims = claimed_bits claim word witness c verdict firsts valid asked is rises exists some none;
-  rises = rises;
-  written = subst (λ (o : Outcome). Appends before now (outcome_written as_json (circuit_names c) firsts o)) same written;
-  subject = subst (λ (o : Outcome). Appends told told' (where_named named (outcome_said (name_said c) (bad_name_said c) firsts o))) same subject;
-  so = subst (IsSoOf a) same so;
-}
-judged_over_with (Err e) named as_json word known witness before now told told' c verdict firsts claim o text valid claimable asked is reaches rises exists some none same written subject so = tt

@@ -1,7 +1,7 @@
 //! What is told of a witness.
 
 ghost use Rattle.std.specs.Prelude.{◌≡◌};
-ghost use Rattle.subcommands.specs.Asked.{is_claim_noted, is_noted, outcome};
+ghost use Rattle.verbs.specs.Asked.{is_claim_noted, is_noted, outcome};
 
 use rises::FirstRises;
 use witness::Judgement;
@@ -9,7 +9,7 @@ use witness::Judgement;
 /// What is told of a witness: how it is judged; or that it is accepted, and does not claim the bad property at this position,
 /// which is asked for.
 #[derive(Clone, Copy)]
-pub(crate) enum Outcome {
+pub enum Outcome {
     /// How it is judged.
     Judged(Judgement),
     /// It is accepted without that claim.

@@ -11,12 +11,11 @@ use Rattle.btor2.specs.Reachability.{CanRise}
 use Rattle.blast.specs.Refusal.{lowering_refusal}
 use Rattle.engine_form.specs.EngineForm.{IsEngineFormOf}
 use Rattle.engine_form.specs.Outputs.{HasOutputsAsBads, OutputCanBeOne}
-use Rattle.subcommands.specs.declared.answers.Answer.{Answer}
 use Rattle.verbs.specs.declared.refusals.Refusal.{Refusal}
 use Rattle.btor2text.specs.Spelling.{IsModelOf}
 use Rattle.aigertext.specs.Spelling.{IsCircuitText}
-use Rattle.subcommands.specs.Done.{ConvertsForEngines, LowersForEngines, RiseAlike, WritesEngineForm}
-use Rattle.subcommands.specs.Outputs.{ConvertsOutputs, ConvertsOutputsForEngines}
+use Rattle.verbs.specs.Circuits.{ConvertsForEngines, LowersForEngines, RiseAlike, WritesEngineForm}
+use Rattle.verbs.specs.Outputs.{ConvertsOutputs, ConvertsOutputsForEngines}
 
 -- the laws of engine forms: with all bad properties, and with a chosen one
 abbrev pub AllRise : Type 0
@@ -37,7 +36,7 @@ behind : (can_rise : ℕ → Type 0) (choice : Option ℕ) (c d : Circuit) → (
 behind can_rise None c d first next = λ b. composed (first b) (next b)
 behind can_rise (Some b) c d first next = composed (first b) next
 
-pub converted : (r : Result Answer Refusal) (known before now : Option (List ℕ)) (form : Form) (choice : Option ℕ) (c : Circuit)
+pub converted : (r : Result (Unit {0}) Refusal) (known before now : Option (List ℕ)) (form : Form) (choice : Option ℕ) (c : Circuit)
     → IsCircuitText known c → AllRise → OneRises → OnOk r (WritesEngineForm c choice before now form) → OnOk r (ConvertsForEngines known before now form choice)
 converted (Ok x) known before now form choice c text all one w = record {
   original = c;
@@ -49,7 +48,7 @@ converted (Ok x) known before now form choice c text all one w = record {
 }
 converted (Err e) known before now form choice c text all one w = w
 
-pub lowered : (r : Result Answer Refusal) (known before now : Option (List ℕ)) (form : Form) (choice : Option ℕ) (items : List Item) (c : Circuit)
+pub lowered : (r : Result (Unit {0}) Refusal) (known before now : Option (List ℕ)) (form : Form) (choice : Option ℕ) (items : List Item) (c : Circuit)
     → IsModelOf known items → lowering_refusal items ≡ None → Lowers items c → ((b : ℕ) → CanRise items b ↔ CanRiseInCircuit c b) → AllRise → OneRises
     → OnOk r (WritesEngineForm c choice before now form) → OnOk r (LowersForEngines known before now form choice)
 lowered (Ok x) known before now form choice items c text accepted lowers rise all one w = record {
@@ -74,7 +73,7 @@ OutputsRise = (c d : Circuit) → HasOutputsAsBads c d → (k : ℕ) → OutputC
 abbrev pub BadsRise : Type 0
 BadsRise = (c d : Circuit) → HasOutputsAsBads c d → (b : ℕ) → b < length c.bads → CanRiseInCircuit c b ↔ CanRiseInCircuit d b
 
-pub outputs_converted : (r : Result Answer Refusal) (known before now : Option (List ℕ)) (form : Form) (c made : Circuit)
+pub outputs_converted : (r : Result (Unit {0}) Refusal) (known before now : Option (List ℕ)) (form : Form) (c made : Circuit)
     → IsCircuitText known c → HasOutputsAsBads c made → OutputsRise → BadsRise → OnOk r (Appends before now (circuit_text form made)) → OnOk r (ConvertsOutputs known before now form)
 outputs_converted (Ok x) known before now form c made text outputs rise others appends = record {
   original = c;
@@ -86,7 +85,7 @@ outputs_converted (Ok x) known before now form c made text outputs rise others a
 }
 outputs_converted (Err e) known before now form c made text outputs rise others appends = appends
 
-pub outputs_for_engines : (r : Result Answer Refusal) (known before now : Option (List ℕ)) (form : Form) (choice : Option ℕ) (c made : Circuit)
+pub outputs_for_engines : (r : Result (Unit {0}) Refusal) (known before now : Option (List ℕ)) (form : Form) (choice : Option ℕ) (c made : Circuit)
     → IsCircuitText known c → HasOutputsAsBads c made → OutputsRise → BadsRise → AllRise → OneRises → OnOk r (WritesEngineForm made choice before now form)
     → OnOk r (ConvertsOutputsForEngines known before now form choice)
 outputs_for_engines (Ok x) known before now form choice c made text outputs rise others all one w = record {

@@ -1,6 +1,6 @@
 use Rattle.std.proofs.Common.{None, refl, sym, arith}
-use Rattle.subcommands.specs.Asked.{is_called}
-use Rattle.subcommands.proofs.asked.called.Goals as goal
+use Rattle.verbs.specs.Asked.{is_called}
+use Rattle.verbs.proofs.asked.called.Goals as goal
 
 pub returns-in-None-clause-unasked : goal.returns-in-None-clause-unasked
 returns-in-None-clause-unasked c =
