@@ -1,8 +1,4 @@
-pub mod AskedLemmas
+pub mod AnswerLemmas
 pub mod CertificateLemmas
-pub mod CountLemmas
-pub mod EngineLemmas
-pub mod RestoreLemmas
-pub mod SubjectLemmas
-pub mod WaveLemmas
 pub mod ObjectLemmas
+pub mod SubjectLemmas

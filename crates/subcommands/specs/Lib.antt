@@ -1,10 +1,8 @@
--- What tasks read, do and tell.
+-- What tasks tell.
 pub mod Asked
 pub mod Assumed
 pub mod Certificates
-pub mod Conversions
 pub mod Done
-pub mod Outputs
 pub mod Files
 pub mod Names
 pub mod Objects
@@ -12,4 +10,3 @@ pub mod Refusals
 pub mod Restoring
 pub mod Statuses
 pub mod Subjects
-pub mod Claims

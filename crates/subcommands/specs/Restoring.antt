@@ -1,46 +1,75 @@
--- How the answer of a restoring is told.
-use Rattle.std.specs.Prelude.{◌≡◌, ◌++◌, ℕ, List, Option, None, Some, IfSome, Result, Ok, Err, true}
+-- What is told of what is restored and lifted.
+use Rattle.std.specs.Prelude.{◌≡◌, ◌++◌, ℕ, Bool, List, length, Option, Result, Ok, Err, codes, decimal}
 use Rattle.std.specs.Io.KnownBytes.{Appends}
+use Rattle.btor2.specs.declared.item.Item.{Item}
 use Rattle.aiger.specs.Circuit.{Circuit}
-use Rattle.engine_form.specs.EngineForm.{input_count}
-use Rattle.witness.specs.declared.judgement.Judgement.{Judgement}
-use Rattle.witness.specs.BitJudgements.{BitJudges}
+use Rattle.restore.specs.Faults.{restore_why_name, restore_why_number}
 use Rattle.restore.specs.declared.fault.RestoreFault.{RestoreFault}
-use Rattle.restore.specs.Accepted.{FindsAgain}
-use Rattle.restore.specs.Faults.{is_of_text}
-use Rattle.restore.specs.Reading.{read_found}
-use Rattle.restore.specs.Restored.{restored_text}
+use Rattle.witness.specs.declared.judgement.Judgement.{Judgement}
+use Rattle.verbs.specs.Lifting.{IsFormLifted, IsFoundLifted, IsLifted}
+use Rattle.verbs.specs.Restoring.{IsFormRestored, IsFoundRestored}
+use Rattle.verbs.specs.declared.given.Lowered.{Lowered}
+use Rattle.verbs.specs.declared.lifting.FoundLifted.{FoundLifted}
+use Rattle.verbs.specs.declared.lifting.Lifted.{Lifted}
+use Rattle.verbs.specs.declared.restoring.FoundRestored.{FoundRestored}
+use Rattle.verbs.specs.declared.restoring.Restored.{Restored}
 use Rattle.subcommands.specs.declared.answers.Answer.{Answer}
 use Rattle.subcommands.specs.declared.answers.Answer.TheVariants as answer
-use Rattle.subcommands.specs.Done.{IsSo, judgement_line, malformed_line}
+use Rattle.subcommands.specs.Assumed.{assumed_said}
+use Rattle.subcommands.specs.Done.{IsSo, judgement_line}
+use Rattle.subcommands.specs.Subjects.{bad_item_said, lifted_said, said_by_name, where_named}
 
--- what a restoring answers: the judgement of what was restored, or the first faulty line
-abbrev pub IsAnswerOf : Circuit → ℕ → Option (List ℕ) → Result Judgement RestoreFault → Type 0
-IsAnswerOf c claim found (Ok j) =
-    IfSome found (λ text. (read_found (input_count c) text).fault ≡ None) × (IfSome found (λ text. BitJudges c (restored_text c claim text) j) × IfSome found (λ text. FindsAgain c claim text j))
-IsAnswerOf c claim found (Err e) = is_of_text e.why ≡ true → IfSome found (λ text. (read_found (input_count c) text).fault ≡ Some e)
+-- the line of the first faulty line of a counterexample
+abbrev pub malformed_line : RestoreFault → List ℕ
+malformed_line e = codes "malformed line " ++ (decimal e.line ++ (codes ": " ++ (decimal (restore_why_number e.why) ++ (codes " " ++ (restore_why_name e.why ++ codes "\n")))))
 
--- what was told of a judgement, and whether it is that the witness is accepted
-abbrev pub TellsVerdict : Result Judgement RestoreFault → Answer → Option (List ℕ) → Option (List ℕ) → Type 0
-TellsVerdict (Ok j) a told told' = IsSo a j × Appends told told' (judgement_line j)
-TellsVerdict (Err e) a told told' = is_of_text e.why ≡ true
+-- ---- over a circuit
 
--- the same of a witness of an engine form, with what is told of the form behind the line; and of no faulty line
-abbrev pub TellsFormVerdict : List ℕ → Result Judgement RestoreFault → Answer → Option (List ℕ) → Option (List ℕ) → Type 0
-TellsFormVerdict form (Ok j) a told told' = IsSo a j × Appends told told' (judgement_line j ++ form)
-TellsFormVerdict form (Err e) a told told' = is_of_text e.why ≡ true
+-- what was told of a counterexample, and whether it is accepted: the line of its judgement, or of its first faulty line
+abbrev pub TellsRestored : Result Judgement RestoreFault → Answer → Option (List ℕ) → Option (List ℕ) → Type 0
+TellsRestored (Ok j) a told told' = IsSo a j × Appends told told' (judgement_line j)
+TellsRestored (Err e) a told told' = (a ≡ answer.NotAccepted) × Appends told told' (malformed_line e)
 
--- what was told of what a lifting answers: of a judgement and first rises the line of the judgement, and what is said behind it, and whether it is that the witness is accepted; or the first faulty line
+-- A counterexample over an engine form is restored, and it was told how that is judged.
+pub record Restores (choice : Option ℕ) (circuit found before now told told' : Option (List ℕ)) (a : Answer) : Type 0 where
+  pub restored : FoundRestored
+  pub is_restored : IsFoundRestored choice circuit found before now restored
+  pub tells : TellsRestored restored.told a told told'
+
+-- A witness of an engine form is restored; and it was told how that is judged, and that the form is taken to be of all bad properties, where there are several and none is chosen.
+pub record RestoresForm (choice : Option ℕ) (circuit found before now told told' : Option (List ℕ)) (a : Answer) : Type 0 where
+  pub restored : Restored
+  pub is_restored : IsFormRestored choice circuit found before now restored
+  pub so : IsSo a restored.judgement
+  pub line : Appends told told' (judgement_line restored.judgement ++ assumed_said choice (length restored.circuit.bads))
+
+-- ---- over a model
+
+-- what is said by name of a judgement over the circuit of a model: what it is about, and of an acceptance in which frames the claims are reached first; and nothing where names are not asked for
+abbrev pub lifting_said : Bool → Lowered → List (Option ℕ) → Judgement → List ℕ
+lifting_said named lowered firsts j = where_named named (said_by_name (lifted_said lowered.model lowered.circuit) (bad_item_said lowered.model) firsts j)
+
+-- what was told of a counterexample, and whether it is accepted: the line of its judgement, and what is said behind it; or the line of its first faulty line
 abbrev pub TellsLifted : (List (Option ℕ) → Judgement → List ℕ) → Result (Judgement × List (Option ℕ)) RestoreFault → Answer → Option (List ℕ) → Option (List ℕ) → Type 0
 TellsLifted said (Ok lifted) a told told' = IsSo a lifted.0 × Appends told told' (judgement_line lifted.0 ++ said lifted.1 lifted.0)
-TellsLifted said (Err e) a told told' = (is_of_text e.why ≡ true) × ((a ≡ answer.NotAccepted) × Appends told told' (malformed_line e))
+TellsLifted said (Err e) a told told' = (a ≡ answer.NotAccepted) × Appends told told' (malformed_line e)
 
--- the same of a witness of an engine form, with what is told of the form behind it; and of no faulty line
-abbrev pub TellsFormLifted : (List (Option ℕ) → Judgement → List ℕ) → List ℕ → Result (Judgement × List (Option ℕ)) RestoreFault → Answer → Option (List ℕ) → Option (List ℕ) → Type 0
-TellsFormLifted said form (Ok lifted) a told told' = IsSo a lifted.0 × Appends told told' ((judgement_line lifted.0 ++ said lifted.1 lifted.0) ++ form)
-TellsFormLifted said form (Err e) a told told' = is_of_text e.why ≡ true
+-- A witness of the circuit of a model is lifted; and what was told is the line of its judgement, and with names what that is about, and of an acceptance in which frames the claims are reached first.
+pub record Lifts (named : Bool) (model witness before now told told' : Option (List ℕ)) (a : Answer) : Type 0 where
+  pub lifted : Lifted
+  pub is_lifted : IsLifted named model witness before now lifted
+  pub so : IsSo a lifted.judgement
+  pub lines : Appends told told' (judgement_line lifted.judgement ++ lifting_said named lifted.lowered lifted.firsts lifted.judgement)
 
--- the counterexample was read to its end, and all that it gives was written
-abbrev pub IsWhole : Result Judgement RestoreFault → Type 0
-IsWhole (Ok j) = Unit {0}
-IsWhole (Err e) = is_of_text e.why ≡ true
+-- A counterexample over an engine form is lifted; and it was told how it is judged, with names behind it what the judgement is about, and of an acceptance in which frame the claim is reached first.
+pub record LiftsFound (named : Bool) (choice : Option ℕ) (model found before now told told' : Option (List ℕ)) (a : Answer) : Type 0 where
+  pub lifted : FoundLifted
+  pub is_lifted : IsFoundLifted named choice model found before now lifted
+  pub tells : TellsLifted (lifting_said named lifted.lowered) lifted.told a told told'
+
+-- A witness of an engine form is lifted; and it was told how that is judged, with names behind it what the judgement is about, and of an acceptance in which frame the claim is reached first, and that the form is taken to be of all bad properties, where there are several and none is chosen.
+pub record LiftsForm (named : Bool) (choice : Option ℕ) (model found before now told told' : Option (List ℕ)) (a : Answer) : Type 0 where
+  pub lifted : Lifted
+  pub is_lifted : IsFormLifted named choice model found before now lifted
+  pub so : IsSo a lifted.judgement
+  pub lines : Appends told told' ((judgement_line lifted.judgement ++ lifting_said named lifted.lowered lifted.firsts lifted.judgement) ++ assumed_said choice (length lifted.lowered.circuit.bads))

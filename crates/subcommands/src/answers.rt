@@ -1,9 +1,10 @@
 //! What a command answers that is done.
 
 ghost use Rattle.std.specs.Prelude.{◌≡◌};
-ghost use Rattle.subcommands.specs.Done.{IsSo, status_of};
+ghost use Rattle.subcommands.specs.Done.{IsSo, answered, status_of};
 
 use invocation::{DONE, NOT_ACCEPTED};
+use verbs::Refusal;
 use witness::Judgement;
 
 /// The answer of a command that is done: what it was to write is written.
@@ -34,5 +35,15 @@ impl Answer {
             Answer::Done => DONE,
             Answer::NotAccepted => NOT_ACCEPTED,
         }
+    }
+}
+
+/// The answer of a verb that is done or not.
+pub fn answered(result: Result<(), Refusal>) -> Result<Answer, Refusal>
+    ensures { result.new ≡ answered result.entry }
+{
+    match result {
+        Ok(()) => Ok(Answer::Done),
+        Err(refusal) => Err(refusal),
     }
 }

@@ -1,25 +1,19 @@
 //! What an engine form is taken for, where words do not say what it was made for.
 
-ghost use Rattle.std.specs.Prelude.{◌≡◌, ◌++◌, ℕ, IfOk, OnOk, length};
+ghost use Rattle.std.specs.Prelude.{◌++◌, IfOk, OnOk};
 ghost use Rattle.std.specs.Io.KnownBytes.{Appends};
 ghost use Rattle.base.specs.Device.{CountsFaults};
-ghost use Rattle.restore.specs.Answers.{CountsRestore};
 ghost use Rattle.subcommands.specs.Assumed.{assumed_line, assumed_said};
 ghost use Rattle.subcommands.specs.Done.{IsSo, judgement_line};
-ghost use Rattle.subcommands.specs.Restoring.{TellsFormLifted, TellsFormVerdict};
-ghost use Rattle.verbs.specs.Statuses.{Counts, EndsUnrefused, ErrUntold, IsOfNoInput};
+ghost use Rattle.verbs.specs.Statuses.{EndsUnrefused};
 ghost use Rattle.verbs.specs.Statuses.Use.{Unused, Used};
 ghost use Rattle.subcommands.specs.Subjects.{bad_said, said_by_name, subject_said, where_named};
 
 use crate::answers::Answer;
 use crate::judgements::{tell_judgement, tell_line};
-use verbs::{Device, Refusal};
-use crate::restoring::tell_fault;
-use crate::subjects::Subject;
-use aiger::Circuit;
+use verbs::{Device, Refusal, Subject};
 use base::{DeviceFault, Sink, write_all};
 use itoa::Buffer;
-use restore::RestoreFault;
 use rises::FirstRises;
 use std::alloc::Global;
 use witness::Judgement;
@@ -62,7 +56,7 @@ fn tell_assumed<E: Sink>(
 }
 
 /// Tells how a witness of an engine form is judged, and what the form is taken for, on standard error.
-fn tell_form_line<E: Sink>(
+pub(crate) fn tell_form_line<E: Sink>(
     alloc: Global,
     judgement: &Judgement,
     choice: Option<usize>,
@@ -83,7 +77,7 @@ fn tell_form_line<E: Sink>(
 
 /// The same, with names behind the judgement what it is about, and of an acceptance in which frames the claims are reached
 /// first.
-fn tell_form_judgement<E: Sink>(
+pub(crate) fn tell_form_judgement<E: Sink>(
     alloc: Global,
     named: bool,
     subject: Subject<'_>,
@@ -104,63 +98,5 @@ fn tell_form_judgement<E: Sink>(
     match tell_assumed(choice, count, err) {
         Ok(()) => Ok(answer),
         Err(_) => Err(Refusal::Failed(Device::Error)),
-    }
-}
-
-/// Tells on standard error what a restoring of a witness of an engine form answers, and what the form is taken for.
-pub(crate) fn tell_form_restored<E: Sink>(
-    alloc: Global,
-    told: Result<Judgement, RestoreFault>,
-    choice: Option<usize>,
-    circuit: &Circuit,
-    err: &mut E,
-) -> Result<Answer, Refusal>
-    ensures verdict { IfOk result
-        (λ answer. TellsFormVerdict (assumed_said choice (length circuit.now.bads)) told answer
-        (E.written err.old) (E.written err.new)) }
-    ensures no_input { IsOfNoInput result }
-    ensures untold { ErrUntold result (err.new ≡ err.old) }
-    ensures counted { (f s s' o o' : ℕ) → CountsRestore told s s' o o'
-        → Counts result f f s s' o o' (E.failures err.old) (E.failures err.new) }
-{
-    match told {
-        Ok(judgement) => tell_form_line(alloc, &judgement, choice, circuit.bads().len(), err),
-        Err(fault) => tell_fault(alloc, &fault, err),
-    }
-}
-
-/// Tells on standard error what a lifting of a witness of an engine form answers, with names behind a judgement what it is
-/// about, and of an acceptance in which frame the claim is reached first, and what the form is taken for.
-pub fn tell_form_lifted<E: Sink>(
-    alloc: Global,
-    told: Result<(Judgement, FirstRises), RestoreFault>,
-    named: bool,
-    subject: Subject<'_>,
-    choice: Option<usize>,
-    circuit: &Circuit,
-    err: &mut E,
-) -> Result<Answer, Refusal>
-    ensures told { IfOk result
-        (λ answer. TellsFormLifted (λ firsts verdict. where_named named
-        (said_by_name (subject_said subject.entry) (bad_said subject.entry) firsts
-        verdict)) (assumed_said choice (length circuit.now.bads)) told answer
-        (E.written err.old) (E.written err.new)) }
-    ensures no_input { IsOfNoInput result }
-    ensures untold { ErrUntold result (err.new ≡ err.old) }
-    ensures counted { (f s s' o o' : ℕ) → CountsRestore told s s' o o'
-        → Counts result f f s s' o o' (E.failures err.old) (E.failures err.new) }
-{
-    match told {
-        Ok((judgement, firsts)) => tell_form_judgement(
-            alloc,
-            named,
-            subject,
-            &judgement,
-            &firsts,
-            choice,
-            circuit.bads().len(),
-            err,
-        ),
-        Err(fault) => tell_fault(alloc, &fault, err),
     }
 }

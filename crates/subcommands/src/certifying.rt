@@ -14,7 +14,7 @@ ghost use Rattle.subcommands.specs.Subjects.{bad_said, holds_said, where_named};
 
 use crate::answers::Answer;
 use crate::objects::write_certified;
-use crate::subjects::{Subject, tell_bad};
+use crate::subjects::tell_bad;
 use crate::telling::write_result;
 use base::{DeviceFault, Sink, Source};
 use blast::Watch;
@@ -22,7 +22,7 @@ use certificates::ProofForm;
 use drup::{Formula, Judgement, write_formula};
 use invocation::{Certified, Order};
 use std::alloc::{AllocError, Global};
-use verbs::{Device, GivenCircuit, Refusal, certify, owe};
+use verbs::{Device, GivenCircuit, Refusal, Subject, certify, owe};
 
 /// What a judgement of what a first file gives is about.
 fn subject_of(given: &GivenCircuit) -> Subject<'_>

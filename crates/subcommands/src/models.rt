@@ -1,117 +1,80 @@
-//! The commands on models.
+//! The commands on models, but for those that lift and dump.
 
 ghost use Rattle.std.specs.Prelude.{◌≡◌, ℕ, false, List, Option, IfOk, IfErr, OnOk, option_map};
 ghost use Rattle.std.specs.Io.KnownBytes.{Appends};
 ghost use Rattle.std.specs.String.{string_bytes};
-ghost use Rattle.btor2text.specs.Writing.{written};
-ghost use Rattle.blast.specs.Conversion.{Converts};
 ghost use Rattle.btor2text.specs.Spelling.{IsModelOf};
-ghost use Rattle.subcommands.specs.Asked.{IsJudgedWith};
 ghost use Rattle.verbs.specs.Asked.{IsNotJudgedWith};
-ghost use Rattle.subcommands.specs.Done.{IsJudged, Judged, ShowsModel, TellsCost, counts_line, cost_lines};
-ghost use Rattle.verbs.specs.Refusals.{IsNoModel, IsNotJudged, IsNotLowered};
+ghost use Rattle.verbs.specs.Refusals.{IsNoModel, IsNotJudged};
 ghost use Rattle.verbs.specs.Statuses.{Ends, EndsUnrefused, IfInput};
 ghost use Rattle.verbs.specs.Statuses.Use.{Unused, Used};
+ghost use Rattle.subcommands.specs.Asked.{IsJudgedWith};
+ghost use Rattle.subcommands.specs.Done.{ShowsModel, TellsCost, WritesJudged, cost_lines, counts_line};
 
 use crate::answers::Answer;
-use crate::asked::asked;
 use crate::judgements::{answer_told, write_judgement};
-use crate::outcomes::outcome_of;
-use verbs::{Device, Refusal};
-use crate::subjects::Subject;
 use crate::telling::write_result;
-use aigertext::Form;
 use base::{Sink, Source};
-use blast::{Watch, convert_watched, cost_and_bound};
 use btor2::Model;
 use btor2text::write;
 use invocation::Order;
-use reached::laws::judged_claims_are_reached;
-use rises::judge_words_with_rises;
-use rises::laws::{accepted_claims_rise, exactly_one_list};
 use std::alloc::{AllocError, Global};
-use witness::judge_words;
+use verbs::{Cost, Device, Refusal, Subject, cost, judge_for_model, judge_over_model, read_model};
 
-/// Lowers a model.
-pub fn lower_model<A: Source, O: Sink, W: Watch>(
+/// Judges a witness over a model, and writes the line of its judgement.
+pub fn check_model<A: Source, B: Source, O: Sink>(
     alloc: Global,
-    form: Form,
     first: &mut A,
-    out: &mut O,
-    watch: &mut W,
-) -> Result<Answer, Refusal>
-    ensures done { OnOk result (Converts (A.to_come first.old) form
-        (Appends (O.written out.old) (O.written out.new))) }
-    ensures answer { IfOk result (λ answer. answer ≡ Answer.Done) }
-    ensures refused { IfErr result (IfInput (IsNotLowered (A.to_come first.old))) }
-    ensures ends { Ends result (Used A.failures first.old first.new) Unused
-        (Used O.failures out.old out.new) Unused }
-{
-    match convert_watched(alloc, first, out, form, watch) {
-        Ok(()) => Ok(Answer::Done),
-        Err(fault) => Err(Refusal::from(fault)),
-    }
-}
-
-/// Judges a witness over a model.
-pub fn check_model<B: Source, O: Sink>(
-    alloc: Global,
-    model: &Model,
     second: &mut B,
     out: &mut O,
 ) -> Result<Answer, Refusal>
-    ensures done { (known : Option (List ℕ)) → IsModelOf known model.now
-        → IfOk result (Judged (IsJudged known (B.to_come second.old) (O.written out.old)
-        (O.written out.new))) }
-    ensures refused { (known : Option (List ℕ)) → IsModelOf known model.now
-        → IfErr result (IfInput (IsNotJudged known)) }
-    ensures ends { Ends result Unused (Used B.failures second.old second.new)
-        (Used O.failures out.old out.new) Unused }
+    ensures done { IfOk result (WritesJudged (A.to_come first.old) (B.to_come second.old)
+        (O.written out.old) (O.written out.new)) }
+    ensures refused { IfErr result (IfInput (IsNotJudged (A.to_come first.old))) }
+    ensures ends { Ends result (Used A.failures first.old first.new)
+        (Used B.failures second.old second.new) (Used O.failures out.old out.new) Unused }
 {
-    judged_claims_are_reached();
-    match judge_words(alloc, model, second) {
-        Ok(judgement) => write_judgement(alloc, &judgement, out),
-        Err(fault) => Err(Refusal::from(fault)),
-    }
+    let judgement = judge_over_model(alloc, first, second)?;
+    write_judgement(alloc, &judgement, out)
 }
 
 /// Judges whether a witness over a model is accepted and claims the bad property that a word asks for, where one does; tells it
 /// in a line or as an object; and with names says what the judgement is about.
-pub fn check_model_with<B: Source, O: Sink, E: Sink>(
+pub fn check_model_with<A: Source, B: Source, O: Sink, E: Sink>(
     alloc: Global,
     order: &Order<'_>,
-    model: &Model,
+    first: &mut A,
     second: &mut B,
     out: &mut O,
     err: &mut E,
 ) -> Result<Answer, Refusal>
-    ensures done { (known : Option (List ℕ)) → IsModelOf known model.now
-        → IfOk result (IsJudgedWith order.now.named order.now.as_json
-        (option_map (λ word. word.now) order.now.asked) known (B.to_come second.old)
-        (O.written out.old) (O.written out.new) (E.written err.old) (E.written err.new)) }
-    ensures refused { (known : Option (List ℕ)) → IsModelOf known model.now
-        → IfErr result (IfInput (IsNotJudgedWith (option_map (λ word. word.now) order.now.asked)
-        known)) }
+    ensures done { IfOk result (IsJudgedWith order.now.named order.now.as_json
+        (option_map (λ word. word.now) order.now.asked) (A.to_come first.old)
+        (B.to_come second.old) (O.written out.old) (O.written out.new) (E.written err.old)
+        (E.written err.new)) }
+    ensures refused { IfErr result
+        (IfInput (IsNotJudgedWith (option_map (λ word. word.now) order.now.asked)
+        (A.to_come first.old))) }
     ensures quiet { order.now.named ≡ false → err.new ≡ err.old }
-    ensures ends { Ends result Unused (Used B.failures second.old second.new)
-        (Used O.failures out.old out.new) (Used E.failures err.old err.new) }
+    ensures ends { Ends result (Used A.failures first.old first.new)
+        (Used B.failures second.old second.new) (Used O.failures out.old out.new)
+        (Used E.failures err.old err.new) }
 {
-    let subject = Subject::Model(model);
-    let claim = asked(subject, order.asked)?;
-    judged_claims_are_reached();
-    accepted_claims_rise();
-    exactly_one_list();
-    match judge_words_with_rises(alloc, model, second) {
-        Ok((judgement, firsts)) => {
-            let outcome = outcome_of(&judgement, &firsts, claim);
-            answer_told(alloc, order, subject, &outcome, &firsts, out, err)
-        }
-        Err(fault) => Err(Refusal::from(fault)),
-    }
+    let judged = judge_for_model(alloc, order.asked, first, second)?;
+    let subject = Subject::Model(&judged.model);
+    answer_told(
+        alloc,
+        order,
+        subject,
+        &judged.outcome,
+        &judged.firsts,
+        out,
+        err,
+    )
 }
 
-/// Writes a model in the writer's form and the line of its counts.
-pub fn show<O: Sink>(alloc: Global, model: &Model, out: &mut O) -> Result<Answer, Refusal>
+/// Writes a model that was read in the writer's form, and the line of its counts.
+fn write_shown<O: Sink>(alloc: Global, model: &Model, out: &mut O) -> Result<Answer, Refusal>
     ensures done { (known : Option (List ℕ)) → IsModelOf known model.now
         → OnOk result (ShowsModel known (O.written out.old) (O.written out.new)) }
     ensures answer { IfOk result (λ answer. answer ≡ Answer.Done) }
@@ -128,6 +91,23 @@ pub fn show<O: Sink>(alloc: Global, model: &Model, out: &mut O) -> Result<Answer
     Ok(Answer::Done)
 }
 
+/// Writes the model of a text in the writer's form, and the line of its counts.
+pub fn show<A: Source, O: Sink>(
+    alloc: Global,
+    first: &mut A,
+    out: &mut O,
+) -> Result<Answer, Refusal>
+    ensures done { OnOk result (ShowsModel (A.to_come first.old) (O.written out.old)
+        (O.written out.new)) }
+    ensures answer { IfOk result (λ answer. answer ≡ Answer.Done) }
+    ensures refused { IfErr result (IfInput (IsNoModel (A.to_come first.old))) }
+    ensures ends { Ends result (Used A.failures first.old first.new) Unused
+        (Used O.failures out.old out.new) Unused }
+{
+    let model = read_model(alloc, first)?;
+    write_shown(alloc, &model, out)
+}
+
 /// The line that tells how many items, inputs, states, bad properties and constraints a model has.
 fn counts_line(alloc: Global, model: &Model) -> Result<String, AllocError>
     ensures { IfOk result (λ line. string_bytes line ≡ counts_line model.now) }
@@ -142,24 +122,39 @@ fn counts_line(alloc: Global, model: &Model) -> Result<String, AllocError>
     )
 }
 
-/// Writes how many gates and variables the lowering of a model has at most.
-pub fn tell_cost<O: Sink>(alloc: Global, model: &Model, out: &mut O) -> Result<Answer, Refusal>
-    ensures done { (known : Option (List ℕ)) → IsModelOf known model.now
-        → OnOk result (TellsCost known (O.written out.old) (O.written out.new)) }
+/// Writes how many gates and variables the lowering of a text's model has at most.
+pub fn tell_cost<A: Source, O: Sink>(
+    alloc: Global,
+    first: &mut A,
+    out: &mut O,
+) -> Result<Answer, Refusal>
+    ensures done { OnOk result (TellsCost (A.to_come first.old) (O.written out.old)
+        (O.written out.new)) }
+    ensures answer { IfOk result (λ answer. answer ≡ Answer.Done) }
+    ensures refused { IfErr result (IfInput (IsNoModel (A.to_come first.old))) }
+    ensures ends { Ends result (Used A.failures first.old first.new) Unused
+        (Used O.failures out.old out.new) Unused }
+{
+    let cost = cost(alloc, first)?;
+    write_cost(alloc, cost, out)
+}
+
+/// Writes the lines of a cost.
+fn write_cost<O: Sink>(alloc: Global, cost: Cost, out: &mut O) -> Result<Answer, Refusal>
+    ensures written { OnOk result (Appends (O.written out.old) (O.written out.new)
+        (cost_lines cost)) }
     ensures answer { IfOk result (λ answer. answer ≡ Answer.Done) }
     ensures ends { EndsUnrefused result Unused Unused (Used O.failures out.old out.new) Unused }
 {
-    // a model's items are well-formed
-    let _ = model.items();
-    let lines = cost_lines(alloc, model)?;
+    let lines = cost_text(alloc, cost)?;
     write_result(out, lines.as_bytes())?;
     Ok(Answer::Done)
 }
 
 /// The lines that tell how many gates and variables the lowering of a model has at most.
-fn cost_lines(alloc: Global, model: &Model) -> Result<String, AllocError>
-    ensures { IfOk result (λ lines. string_bytes lines ≡ cost_lines model.now) }
+fn cost_text(alloc: Global, cost: Cost) -> Result<String, AllocError>
+    ensures { IfOk result (λ lines. string_bytes lines ≡ cost_lines cost) }
 {
-    let (gates, variables) = cost_and_bound(model);
+    let Cost { gates, variables } = cost;
     format!(in alloc; "gates {gates}\nvariables {variables}\n")
 }

@@ -9,9 +9,7 @@ use crate::json::{
     begin_object, end_object, write_faulty, write_item, write_number, write_numbered, write_place,
     write_symbol, write_text,
 };
-use crate::outcomes::Outcome;
-use verbs::Fault;
-use crate::subjects::{Subject, item_of};
+use verbs::{Fault, Outcome, Subject, item_of};
 use aiger::Section;
 use base::{DeviceFault, Sink, write_all};
 use blast::LowerFault;
