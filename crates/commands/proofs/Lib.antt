@@ -1,3 +1,2 @@
 pub mod FailureLemmas
-pub mod LiftLemmas
 pub mod TaskLemmas

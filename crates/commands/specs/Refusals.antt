@@ -1,7 +1,5 @@
--- What a command says that is not done: the fault that its input has, and what lifting does not give.
+-- What a command says that is not done: the fault that its input has.
 use Rattle.std.specs.Prelude.{ℕ, List, Option}
-use Rattle.lift.specs.declared.fault.LiftFault.{LiftFault}
-use Rattle.lift.specs.declared.fault.LiftFault.TheVariants as lift
 use Rattle.invocation.specs.declared.tasks.CertificateTask.TheVariants as certificate
 use Rattle.invocation.specs.declared.tasks.CircuitTask.TheVariants as circuit
 use Rattle.invocation.specs.declared.tasks.Given.TheVariants as given
@@ -10,10 +8,7 @@ use Rattle.invocation.specs.declared.tasks.Task.{Task}
 use Rattle.invocation.specs.declared.tasks.Task.TheVariants as task
 use Rattle.invocation.specs.declared.tasks.TextTask.TheVariants as text
 use Rattle.verbs.specs.declared.refusals.Claimed.TheVariants as claimed
-use Rattle.verbs.specs.declared.refusals.Device.TheVariants as device
 use Rattle.verbs.specs.declared.refusals.Fault.{Fault}
-use Rattle.verbs.specs.declared.refusals.Refusal.{Refusal}
-use Rattle.verbs.specs.declared.refusals.Refusal.TheVariants as refusal
 use Rattle.verbs.specs.Asked.{IsNotJudgedOverWith, IsNotJudgedWith}
 use Rattle.verbs.specs.Refusals.{IsFaultyCertificate, IsNoCircuit, IsNoModel, IsNoVectorList, IsNotCertifiable, IsNotClaimable, IsNotClaimed, IsNotForEngines, IsNotJudged, IsNotLowered}
 use Rattle.verbs.specs.Outputs.{IsNotWithOutputs, IsNotWithOutputsForEngines}
@@ -46,9 +41,3 @@ abbrev pub RefusesSecond : Task → Option (List ℕ) → Option (List ℕ) → 
 RefusesSecond (task.Certificate (certificate.Obligation of)) first second f = IsFaultyCertificate of.by of.given of.choice first second f
 RefusesSecond (task.Certificate (certificate.CheckProof of form)) first second f = IsFaultyCertificate of.by of.given of.choice first second f
 RefusesSecond _ first second f = ⊥
-
--- of lifting a witness
-abbrev pub of_lifting : LiftFault → Refusal
-of_lifting lift.Read = refusal.Failed device.Second
-of_lifting lift.Write = refusal.Failed device.Output
-of_lifting lift.NoMemory = refusal.NoMemory

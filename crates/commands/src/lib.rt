@@ -2,9 +2,6 @@
 #![tactic(auto)]
 
 mod destinations;
-mod engine_lifting;
-mod form_lifting;
-mod lifting;
 mod on_files;
 mod outputs;
 mod running;

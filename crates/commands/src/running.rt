@@ -2,8 +2,6 @@
 
 ghost use Rattle.std.specs.Prelude.{◌≡◌, ◌≢◌, ◌≤◌, ℕ, List, Option, true, false, IfOk, IfErr};
 ghost use Rattle.subcommands.specs.declared.answers.Answer.TheVariants as answer;
-ghost use Rattle.btor2text.specs.Spelling.{IsModelOf};
-ghost use Rattle.aigertext.specs.Spelling.{IsCircuitText};
 ghost use Rattle.invocation.specs.declared.tasks.CircuitTask.TheVariants as circuit_is;
 ghost use Rattle.invocation.specs.declared.tasks.ModelTask.TheVariants as model_is;
 ghost use Rattle.invocation.specs.declared.tasks.Task.TheVariants as task_is;
@@ -16,17 +14,20 @@ ghost use Rattle.verbs.specs.Statuses.Use.{Unused, Used};
 ghost use Rattle.commands.specs.Statuses.{HasFailed, IsLeftOpen, IsRefused};
 ghost use Rattle.subcommands.specs.Objects.{refusal_written};
 
-use crate::engine_lifting::lift_counterexample;
-use crate::form_lifting::lift_form_witness;
-use crate::lifting::lift_witness;
-use aiger::Circuit;
 use base::{Reason, Sink, Source};
 use blast::Watch;
-use btor2::Model;
 use invocation::{CertificateTask, CircuitTask, DEVICE, ModelTask, Order, Task, TextTask};
 use std::alloc::Global;
-use subcommands::{Answer, check_circuit, check_circuit_with, check_model, check_model_with, check_proof, compare_vectors, convert_circuit, convert_for_engines, convert_outputs, convert_outputs_for_engines, dump_witness, lower_for_engines, lower_model, restore_counterexample, restore_witness, show, tell, tell_cost, tidy_witness, write_obligation, write_refusal};
-use verbs::{Device, Refusal, read_circuit, read_model};
+use subcommands::{
+    Answer, answered, check_circuit, check_circuit_with, check_model, check_model_with,
+    check_proof, compare_vectors, dump_witness, lift_counterexample, lift_form_witness,
+    lift_witness, restore_counterexample, restore_witness, show, tell, tell_cost, tidy_witness,
+    write_obligation, write_refusal,
+};
+use verbs::{
+    Device, Refusal, convert, convert_for_engines, convert_outputs, convert_outputs_for_engines,
+    lower, lower_for_engines,
+};
 
 /// Does a command, and answers the exit status: 0 done or accepted, 1 not accepted, 2 input refused, 3 device or memory, 4
 /// words refused.
@@ -260,13 +261,14 @@ fn obey_on_text<A: Source, O: Sink, W: Watch>(
         (Used O.failures out.old out.new) Unused }
 {
     match task {
-        TextTask::Lower => lower_model(alloc, order.form, first, out, watch),
+        TextTask::Lower => answered(lower(alloc, order.form, first, out, watch)),
         TextTask::TidyWitness(pick) => tidy_witness(pick, first, out),
         TextTask::Vectors => compare_vectors(alloc, first, out),
     }
 }
 
-/// Reads a model, and does a command on it.
+/// Does a command on a model.
+#[tactic(auto, unfolding(crate::specs::Done::Answers, crate::specs::Done::is_quiet, crate::specs::Done::has_one_file, crate::specs::Refusals::RefusesTask))]
 fn obey_on_model<A: Source, B: Source, O: Sink, E: Sink, W: Watch>(
     alloc: Global,
     order: &Order<'_>,
@@ -289,48 +291,21 @@ fn obey_on_model<A: Source, B: Source, O: Sink, E: Sink, W: Watch>(
     ensures quiet { is_quiet order.now.named (task_is.Model task) ≡ true → err.new ≡ err.old }
     ensures one_file { has_one_file (task_is.Model task) ≡ true → second.new ≡ second.old }
 {
-    let model = read_model(alloc, first)?;
-    do_on_model(alloc, order, task, &model, second, out, err, watch)
-}
-
-/// Does a command on a model that was read.
-#[tactic(auto, unfolding(crate::specs::Done::Answers, crate::specs::Done::is_quiet, crate::specs::Done::has_one_file, crate::specs::Refusals::RefusesTask))]
-fn do_on_model<B: Source, O: Sink, E: Sink, W: Watch>(
-    alloc: Global,
-    order: &Order<'_>,
-    task: ModelTask,
-    model: &Model,
-    second: &mut B,
-    out: &mut O,
-    err: &mut E,
-    watch: &mut W,
-) -> Result<Answer, Refusal>
-    ensures done { (known third : Option (List ℕ)) → IsModelOf known model.now
-        → IfOk result (λ answer. Answers order.now (task_is.Model task) answer
-        known (B.to_come second.old) third (O.written out.old) (O.written out.new)
-        (E.written err.old) (E.written err.new)) }
-    ensures refused { (known : Option (List ℕ)) → IsModelOf known model.now
-        → IfErr result (IfInput (RefusesTask (task_is.Model task) (asked_of order.now) known)) }
-    ensures ends { Ends result Unused (Used B.failures second.old second.new)
-        (Used O.failures out.old out.new) (Used E.failures err.old err.new) }
-    ensures quiet { is_quiet order.now.named (task_is.Model task) ≡ true → err.new ≡ err.old }
-    ensures one_file { has_one_file (task_is.Model task) ≡ true → second.new ≡ second.old }
-{
     match task {
-        ModelTask::LowerForEngines(choice) => {
-            lower_for_engines(alloc, model, order.form, choice, out, watch)
-        }
-        ModelTask::CheckBtor => judge_on_model(alloc, order, model, second, out, err),
-        ModelTask::Show => show(alloc, model, out),
-        ModelTask::Cost => tell_cost(alloc, model, out),
-        ModelTask::Lift => lift_witness(alloc, order.named, model, second, out, err, watch),
+        ModelTask::LowerForEngines(choice) => answered(lower_for_engines(
+            alloc, order.form, choice, first, out, watch,
+        )),
+        ModelTask::CheckBtor => judge_on_model(alloc, order, first, second, out, err),
+        ModelTask::Show => show(alloc, first, out),
+        ModelTask::Cost => tell_cost(alloc, first, out),
+        ModelTask::Lift => lift_witness(alloc, order.named, first, second, out, err, watch),
         ModelTask::LiftFound(choice) => {
-            lift_counterexample(alloc, order.named, model, choice, second, out, err, watch)
+            lift_counterexample(alloc, order.named, choice, first, second, out, err, watch)
         }
         ModelTask::LiftForm(choice) => {
-            lift_form_witness(alloc, order.named, model, choice, second, out, err, watch)
+            lift_form_witness(alloc, order.named, choice, first, second, out, err, watch)
         }
-        ModelTask::Wave(shown) => dump_witness(alloc, order, shown, model, second, out, err),
+        ModelTask::Wave(shown) => dump_witness(alloc, order, shown, first, second, out, err),
     }
 }
 
@@ -344,34 +319,35 @@ fn is_plain(order: &Order<'_>) -> bool
     }
 }
 
-/// Judges a witness over a model that was read.
+/// Judges a witness over a model.
 #[tactic(auto, unfolding(crate::specs::Done::Answers, crate::specs::Done::is_quiet, crate::specs::Refusals::RefusesTask))]
-fn judge_on_model<B: Source, O: Sink, E: Sink>(
+fn judge_on_model<A: Source, B: Source, O: Sink, E: Sink>(
     alloc: Global,
     order: &Order<'_>,
-    model: &Model,
+    first: &mut A,
     second: &mut B,
     out: &mut O,
     err: &mut E,
 ) -> Result<Answer, Refusal>
-    ensures done { (known third : Option (List ℕ)) → IsModelOf known model.now
-        → IfOk result (λ answer. Answers order.now (task_is.Model model_is.CheckBtor) answer known
-        (B.to_come second.old) third (O.written out.old) (O.written out.new)
-        (E.written err.old) (E.written err.new)) }
-    ensures refused { (known : Option (List ℕ)) → IsModelOf known model.now
-        → IfErr result (IfInput (RefusesTask (task_is.Model model_is.CheckBtor)
-        (asked_of order.now) known)) }
-    ensures ends { Ends result Unused (Used B.failures second.old second.new)
-        (Used O.failures out.old out.new) (Used E.failures err.old err.new) }
+    ensures done { (third : Option (List ℕ))
+        → IfOk result (λ answer. Answers order.now (task_is.Model model_is.CheckBtor) answer
+        (A.to_come first.old) (B.to_come second.old) third (O.written out.old)
+        (O.written out.new) (E.written err.old) (E.written err.new)) }
+    ensures refused { IfErr result (IfInput (RefusesTask (task_is.Model model_is.CheckBtor)
+        (asked_of order.now) (A.to_come first.old))) }
+    ensures ends { Ends result (Used A.failures first.old first.new)
+        (Used B.failures second.old second.new) (Used O.failures out.old out.new)
+        (Used E.failures err.old err.new) }
     ensures quiet { order.now.named ≡ false → err.new ≡ err.old }
 {
     if is_plain(order) {
-        return check_model(alloc, model, second, out);
+        return check_model(alloc, first, second, out);
     }
-    check_model_with(alloc, order, model, second, out, err)
+    check_model_with(alloc, order, first, second, out, err)
 }
 
-/// Reads a circuit, and does a command on it.
+/// Does a command on a circuit.
+#[tactic(auto, unfolding(crate::specs::Done::Answers, crate::specs::Done::is_quiet, crate::specs::Done::has_one_file, crate::specs::Refusals::RefusesTask))]
 fn obey_on_circuit<A: Source, B: Source, O: Sink, E: Sink>(
     alloc: Global,
     order: &Order<'_>,
@@ -382,7 +358,8 @@ fn obey_on_circuit<A: Source, B: Source, O: Sink, E: Sink>(
     err: &mut E,
 ) -> Result<Answer, Refusal>
     ensures done { (third : Option (List ℕ))
-        → IfOk result (λ answer. Answers order.now (task_is.Circuit task) answer (A.to_come first.old) (B.to_come second.old) third (O.written out.old)
+        → IfOk result (λ answer. Answers order.now (task_is.Circuit task) answer
+        (A.to_come first.old) (B.to_come second.old) third (O.written out.old)
         (O.written out.new) (E.written err.old) (E.written err.new)) }
     ensures refused { IfErr result
         (IfInput (RefusesTask (task_is.Circuit task) (asked_of order.now) (A.to_come first.old))) }
@@ -392,73 +369,49 @@ fn obey_on_circuit<A: Source, B: Source, O: Sink, E: Sink>(
     ensures quiet { is_quiet order.now.named (task_is.Circuit task) ≡ true → err.new ≡ err.old }
     ensures one_file { has_one_file (task_is.Circuit task) ≡ true → second.new ≡ second.old }
 {
-    let circuit = read_circuit(alloc, first)?;
-    do_on_circuit(alloc, order, task, &circuit, second, out, err)
-}
-
-/// Does a command on a circuit that was read.
-#[tactic(auto, unfolding(crate::specs::Done::Answers, crate::specs::Done::is_quiet, crate::specs::Done::has_one_file, crate::specs::Refusals::RefusesTask))]
-fn do_on_circuit<B: Source, O: Sink, E: Sink>(
-    alloc: Global,
-    order: &Order<'_>,
-    task: CircuitTask,
-    circuit: &Circuit,
-    second: &mut B,
-    out: &mut O,
-    err: &mut E,
-) -> Result<Answer, Refusal>
-    ensures done { (known third : Option (List ℕ)) → IsCircuitText known circuit.now
-        → IfOk result (λ answer. Answers order.now (task_is.Circuit task) answer known (B.to_come second.old) third (O.written out.old) (O.written out.new)
-        (E.written err.old) (E.written err.new)) }
-    ensures refused { (known : Option (List ℕ)) → IsCircuitText known circuit.now
-        → IfErr result (IfInput (RefusesTask (task_is.Circuit task) (asked_of order.now) known)) }
-    ensures ends { Ends result Unused (Used B.failures second.old second.new)
-        (Used O.failures out.old out.new) (Used E.failures err.old err.new) }
-    ensures quiet { is_quiet order.now.named (task_is.Circuit task) ≡ true → err.new ≡ err.old }
-    ensures one_file { has_one_file (task_is.Circuit task) ≡ true → second.new ≡ second.old }
-{
+    let form = order.form;
     match task {
-        CircuitTask::AigConvert => convert_circuit(order.form, circuit, out),
+        CircuitTask::AigConvert => answered(convert(alloc, form, first, out)),
         CircuitTask::ConvertForEngines(choice) => {
-            convert_for_engines(alloc, circuit, order.form, choice, out)
+            answered(convert_for_engines(alloc, form, choice, first, out))
         }
-        CircuitTask::ConvertOutputs => convert_outputs(alloc, circuit, order.form, out),
+        CircuitTask::ConvertOutputs => answered(convert_outputs(alloc, form, first, out)),
         CircuitTask::ConvertOutputsForEngines(choice) => {
-            convert_outputs_for_engines(alloc, circuit, order.form, choice, out)
+            answered(convert_outputs_for_engines(alloc, form, choice, first, out))
         }
-        CircuitTask::CheckAig => judge_on_circuit(alloc, order, circuit, second, out, err),
+        CircuitTask::CheckAig => judge_on_circuit(alloc, order, first, second, out, err),
         CircuitTask::Restore(choice) => {
-            restore_counterexample(alloc, circuit, choice, second, out, err)
+            restore_counterexample(alloc, choice, first, second, out, err)
         }
-        CircuitTask::RestoreForm(choice) => restore_witness(
-            alloc, circuit, choice, second, out, err,
-        ),
+        CircuitTask::RestoreForm(choice) => {
+            restore_witness(alloc, choice, first, second, out, err)
+        }
     }
 }
 
-/// Judges a witness over a circuit that was read.
+/// Judges a witness over a circuit.
 #[tactic(auto, unfolding(crate::specs::Done::Answers, crate::specs::Done::is_quiet, crate::specs::Refusals::RefusesTask))]
-fn judge_on_circuit<B: Source, O: Sink, E: Sink>(
+fn judge_on_circuit<A: Source, B: Source, O: Sink, E: Sink>(
     alloc: Global,
     order: &Order<'_>,
-    circuit: &Circuit,
+    first: &mut A,
     second: &mut B,
     out: &mut O,
     err: &mut E,
 ) -> Result<Answer, Refusal>
-    ensures done { (known third : Option (List ℕ)) → IsCircuitText known circuit.now
-        → IfOk result (λ answer. Answers order.now (task_is.Circuit circuit_is.CheckAig) answer known
-        (B.to_come second.old) third (O.written out.old) (O.written out.new)
-        (E.written err.old) (E.written err.new)) }
-    ensures refused { (known : Option (List ℕ)) → IsCircuitText known circuit.now
-        → IfErr result (IfInput (RefusesTask (task_is.Circuit circuit_is.CheckAig)
-        (asked_of order.now) known)) }
-    ensures ends { Ends result Unused (Used B.failures second.old second.new)
-        (Used O.failures out.old out.new) (Used E.failures err.old err.new) }
+    ensures done { (third : Option (List ℕ))
+        → IfOk result (λ answer. Answers order.now (task_is.Circuit circuit_is.CheckAig) answer
+        (A.to_come first.old) (B.to_come second.old) third (O.written out.old)
+        (O.written out.new) (E.written err.old) (E.written err.new)) }
+    ensures refused { IfErr result (IfInput (RefusesTask (task_is.Circuit circuit_is.CheckAig)
+        (asked_of order.now) (A.to_come first.old))) }
+    ensures ends { Ends result (Used A.failures first.old first.new)
+        (Used B.failures second.old second.new) (Used O.failures out.old out.new)
+        (Used E.failures err.old err.new) }
     ensures quiet { order.now.named ≡ false → err.new ≡ err.old }
 {
     if is_plain(order) {
-        return check_circuit(alloc, circuit, second, out);
+        return check_circuit(alloc, first, second, out);
     }
-    check_circuit_with(alloc, order, circuit, second, out, err)
+    check_circuit_with(alloc, order, first, second, out, err)
 }

@@ -124,3 +124,18 @@ no_input _ P h = tt
 
 pub unrefused : {T : Type 0} {r : Result T Refusal} {first second out err : Use} → EndsUnrefused r first second out err → Ends r first second out err
 unrefused {T} {r} {first} {second} {out} {err} h = record { counted = h.counted; unwritten = if_used out _ (λ X. no_input r (λ _. X) h.no_input); untold = h.untold }
+
+-- ---- of what is told behind a verb
+
+behind : {T : Type 0} (r : Result T Refusal) (f f' s s' o o' e e' : ℕ) → f' ≡ f → s' ≡ s → o' ≡ o → Counts r f f s s o o e e' → Counts r f f' s s' o o' e e'
+behind r f f' s s' o o' e e' first second out c =
+    subst (λ (n : ℕ). Counts r f n s s' o o' e e') (sym first) (subst (λ (n : ℕ). Counts r f f s n o o' e e') (sym second) (subst (λ (n : ℕ). Counts r f f s s o n e e') (sym out) c))
+
+-- a command ends as what it tells behind a verb that has read and written
+pub told_behind : {T : Type 0} {r : Result T Refusal} {A B O : Type 0} {fa : A → ℕ} {a a' : A} {fb : B → ℕ} {b b' : B} {fo : O → ℕ} {o o' : O} {err : Use}
+    → fa a' ≡ fa a → fb b' ≡ fb b → fo o' ≡ fo o → EndsUnrefused r Unused Unused Unused err → Ends r (Used fa a a') (Used fb b b') (Used fo o o') err
+told_behind {T} {r} {A} {B} {O} {fa} {a} {a'} {fb} {b} {b'} {fo} {o} {o'} {err} first second out h = record {
+  counted = over err _ _ (λ e e' c. behind r (fa a) (fa a') (fb b) (fb b') (fo o) (fo o') e e' first second out c) (h.counted (fa a) (fb b) (fo o));
+  unwritten = no_input r (λ _. o' ≡ o) h.no_input;
+  untold = h.untold;
+}

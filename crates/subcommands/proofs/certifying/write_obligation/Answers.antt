@@ -1,25 +1,16 @@
-use Rattle.std.proofs.Common.{rules, ◌≡◌, Err, refl}
-use Rattle.verbs.proofs.CountLemmas.{as_is, as_was, ends_all, ends_all_as, handed_on, idle, no_second, unfailed}
+use Rattle.std.proofs.Common.{rules, ◌≡◌, Err}
+use Rattle.verbs.proofs.CountLemmas.{all_handed_on, as_is, as_was, ends_all, ends_all_as, idle, no_second, unfailed, unrefused}
 use Rattle.subcommands.proofs.certifying.write_obligation.Goals as goal
 
-pub returns-in_err-read-clause-second : goal.returns-in_err-read-clause-second
-returns-in_err-read-clause-second g c =
-    let is : c.from_residual.result ≡ Err c.in_err-read.field-0.0 = search rules in
-    no_second _ (handed_on is c.in_err-read.ensures.ends)
-
-pub returns-in_err-read-clause-ends : goal.returns-in_err-read-clause-ends
-returns-in_err-read-clause-ends g c =
-    let is : c.from_residual.result ≡ Err c.in_err-read.field-0.0 = search rules in
-    ends_all_as as_is (unfailed refl) as_is idle as_was (ends_all (handed_on is c.in_err-read.ensures.ends))
-
-pub returns-clause-ends : goal.returns-clause-ends
-returns-clause-ends g c = ends_all_as (unfailed (c.in_ok-read.ensures.ends.counted 0 0 0).0) as_is as_is as_was as_was c.write_owed_over.ensures.ends
-
-pub returns-clause-done : goal.returns-clause-done
-returns-clause-done g c = c.write_owed_over.ensures.done c.args.of.given (g.A.Source.to_come c.args.first.now) c.in_ok-read.ensures.read.gives c.in_ok-read.ensures.read.is_numbering
-
-pub returns-clause-refused : goal.returns-clause-refused
-returns-clause-refused g c = c.write_owed_over.ensures.refused c.args.of.given (g.A.Source.to_come c.args.first.now) c.in_ok-read.ensures.read.gives
+pub returns-in_err-formula-clause-ends : goal.returns-in_err-formula-clause-ends
+returns-in_err-formula-clause-ends g c =
+    let is : c.from_residual.result ≡ Err c.in_err-formula.field-0.0 = search rules in
+    ends_all_as as_is as_is as_is idle as_was (all_handed_on is c.in_err-formula.ensures.ends)
 
 pub returns-clause-second : goal.returns-clause-second
-returns-clause-second g c = c.write_owed_over.ensures.second c.args.of.given (g.A.Source.to_come c.args.first.now) c.in_ok-read.ensures.read.gives c.in_ok-read.ensures.read.is_numbering
+returns-clause-second g c = no_second _ (unrefused c.write_owed.ensures.ends)
+
+pub returns-clause-ends : goal.returns-clause-ends
+returns-clause-ends g c =
+    let before = c.in_ok-formula.ensures.ends.counted 0 0 0 in
+    ends_all_as (unfailed before.0.0) (unfailed before.0.1) as_is as_was as_was (ends_all (unrefused c.write_owed.ensures.ends))
