@@ -1,0 +1,105 @@
+use Rattle.std.proofs.Common.{rules, ◌≡◌, refl}
+use Rattle.invocation.specs.declared.tasks.ModelTask.TheVariants as model
+use Rattle.verbs.proofs.CountLemmas.{as_is, as_was, ends_as, idle, unfailed}
+use Rattle.subcommands.proofs.AnswerLemmas.{answered_done, answered_ends, answered_refused}
+use Rattle.commands.specs.Done.{Answers, is_quiet}
+use Rattle.commands.specs.Refusals.{RefusesTask}
+use Rattle.commands.proofs.TaskLemmas.{done_so, not_named}
+use Rattle.commands.proofs.running.obey_on_model.Goals as goal
+
+pub returns-in-LowerForEngines-clause-done : goal.returns-in-LowerForEngines-clause-done
+unfolding Answers
+returns-in-LowerForEngines-clause-done g c = λ third.
+    let is : c.args.task ≡ (model.LowerForEngines c.in-LowerForEngines.choice) = search rules in
+    rw (is, c.answered.ensures) (answered_done c.lower_for_engines.result _ c.lower_for_engines.ensures.done (λ did. did))
+
+pub returns-in-LowerForEngines-clause-refused : goal.returns-in-LowerForEngines-clause-refused
+unfolding RefusesTask
+returns-in-LowerForEngines-clause-refused g c =
+    let is : c.args.task ≡ (model.LowerForEngines c.in-LowerForEngines.choice) = search rules in
+    rw (is, c.answered.ensures) (answered_refused c.lower_for_engines.result _ c.lower_for_engines.ensures.refused)
+
+pub returns-in-LowerForEngines-clause-ends : goal.returns-in-LowerForEngines-clause-ends
+returns-in-LowerForEngines-clause-ends g c = rw c.answered.ensures (ends_as as_is (unfailed refl) as_was idle (answered_ends c.lower_for_engines.result c.lower_for_engines.ensures.ends))
+
+pub returns-in-CheckBtor-clause-done : goal.returns-in-CheckBtor-clause-done
+returns-in-CheckBtor-clause-done g c = λ third.
+    let is : c.args.task ≡ model.CheckBtor = search rules in
+    rw is (c.judge_on_model.ensures.done third)
+
+pub returns-in-CheckBtor-clause-refused : goal.returns-in-CheckBtor-clause-refused
+returns-in-CheckBtor-clause-refused g c =
+    let is : c.args.task ≡ model.CheckBtor = search rules in
+    rw is c.judge_on_model.ensures.refused
+
+pub returns-in-CheckBtor-clause-quiet : goal.returns-in-CheckBtor-clause-quiet
+unfolding is_quiet
+returns-in-CheckBtor-clause-quiet g c = λ quiet.
+    let is : c.args.task ≡ model.CheckBtor = search rules in
+    c.judge_on_model.ensures.quiet (not_named c.args.order.now.named (rw is at quiet))
+
+pub returns-in-Show-clause-done : goal.returns-in-Show-clause-done
+unfolding Answers
+returns-in-Show-clause-done g c = λ third.
+    let is : c.args.task ≡ model.Show = search rules in
+    rw is (done_so c.show.result _ c.show.ensures.done c.show.ensures.answer (λ did. did))
+
+pub returns-in-Show-clause-ends : goal.returns-in-Show-clause-ends
+returns-in-Show-clause-ends g c = ends_as as_is (unfailed refl) as_was idle c.show.ensures.ends
+
+pub returns-in-Cost-clause-done : goal.returns-in-Cost-clause-done
+unfolding Answers
+returns-in-Cost-clause-done g c = λ third.
+    let is : c.args.task ≡ model.Cost = search rules in
+    rw is (done_so c.tell_cost.result _ c.tell_cost.ensures.done c.tell_cost.ensures.answer (λ did. did))
+
+pub returns-in-Cost-clause-ends : goal.returns-in-Cost-clause-ends
+returns-in-Cost-clause-ends g c = ends_as as_is (unfailed refl) as_was idle c.tell_cost.ensures.ends
+
+pub returns-in-Lift-clause-done : goal.returns-in-Lift-clause-done
+unfolding Answers
+returns-in-Lift-clause-done g c = λ third.
+    let is : c.args.task ≡ model.Lift = search rules in
+    rw is c.lift_witness.ensures.done
+
+pub returns-in-Lift-clause-refused : goal.returns-in-Lift-clause-refused
+unfolding RefusesTask
+returns-in-Lift-clause-refused g c =
+    let is : c.args.task ≡ model.Lift = search rules in
+    rw is c.lift_witness.ensures.refused
+
+pub returns-in-LiftFound-clause-done : goal.returns-in-LiftFound-clause-done
+unfolding Answers
+returns-in-LiftFound-clause-done g c = λ third.
+    let is : c.args.task ≡ (model.LiftFound c.in-LiftFound.choice) = search rules in
+    rw is c.lift_counterexample.ensures.done
+
+pub returns-in-LiftFound-clause-refused : goal.returns-in-LiftFound-clause-refused
+unfolding RefusesTask
+returns-in-LiftFound-clause-refused g c =
+    let is : c.args.task ≡ (model.LiftFound c.in-LiftFound.choice) = search rules in
+    rw is c.lift_counterexample.ensures.refused
+
+pub returns-in-LiftForm-clause-done : goal.returns-in-LiftForm-clause-done
+unfolding Answers
+returns-in-LiftForm-clause-done g c = λ third.
+    let is : c.args.task ≡ (model.LiftForm c.in-LiftForm.choice) = search rules in
+    rw is c.lift_form_witness.ensures.done
+
+pub returns-in-LiftForm-clause-refused : goal.returns-in-LiftForm-clause-refused
+unfolding RefusesTask
+returns-in-LiftForm-clause-refused g c =
+    let is : c.args.task ≡ (model.LiftForm c.in-LiftForm.choice) = search rules in
+    rw is c.lift_form_witness.ensures.refused
+
+pub returns-in-Wave-clause-done : goal.returns-in-Wave-clause-done
+unfolding Answers
+returns-in-Wave-clause-done g c = λ third.
+    let is : c.args.task ≡ (model.Wave c.in-Wave.shown) = search rules in
+    rw is c.dump_witness.ensures.done
+
+pub returns-in-Wave-clause-refused : goal.returns-in-Wave-clause-refused
+unfolding RefusesTask
+returns-in-Wave-clause-refused g c =
+    let is : c.args.task ≡ (model.Wave c.in-Wave.shown) = search rules in
+    rw is c.dump_witness.ensures.refused
