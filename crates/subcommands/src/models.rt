@@ -19,7 +19,7 @@ use btor2::Model;
 use btor2text::write;
 use invocation::Order;
 use std::alloc::{AllocError, Global};
-use verbs::{Cost, Device, Refusal, Subject, cost, judge_for_model, judge_over_model, read_model};
+use verbs::{Cost, Device, Refusal, Subject, cost_of, judge_for_model, judge_over_model, read_model};
 
 /// Judges a witness over a model, and writes the line of its judgement.
 pub fn check_model<A: Source, B: Source, O: Sink>(
@@ -135,7 +135,7 @@ pub fn tell_cost<A: Source, O: Sink>(
     ensures ends { Ends result (Used A.failures first.old first.new) Unused
         (Used O.failures out.old out.new) Unused }
 {
-    let cost = cost(alloc, first)?;
+    let cost = cost_of(alloc, first)?;
     write_cost(alloc, cost, out)
 }
 

@@ -70,7 +70,7 @@ claim_there (Some word) count called k is =
     subst (λ (n : ℕ). n < count) (sym same) (asked_there (number_of word) count (called word) is.0 is.1.1)
 
 -- what is noted of an accepted text is what it claims of what is asked for
-claimed_words : (claim : Option ℕ) (word witness : Option (List ℕ)) (items : List Item) (verdict : Judgement) (firsts : List (Option ℕ)) → IsWellFormed items → AsksFor word (length (places is_bad 0 items)) (is_symbol_of items) claim
+pub claimed_words : (claim : Option ℕ) (word witness : Option (List ℕ)) (items : List Item) (verdict : Judgement) (firsts : List (Option ℕ)) → IsWellFormed items → AsksFor word (length (places is_bad 0 items)) (is_symbol_of items) claim
     → IfSome witness (λ text. Judges items text verdict) → IfSome witness (λ text. (fs : List Frame) → IsClosedTrace items text fs → firsts ≡ word_first_rises items text fs)
     → ((items : List Item) (text : List ℕ) → IsWellFormed items → (fs : List Frame) × IsClosedTrace items text fs)
     → ((items : List Item) (text : List ℕ) (fs : List Frame) (frames k : ℕ) → IsWellFormed items → Judges items text (judgement.Accepted frames) → IsClosedTrace items text fs → word_claimed items text k ≡ true
@@ -82,7 +82,7 @@ claimed_words None word (Some text) items verdict firsts valid asked is rises ex
 claimed_words (Some k) word witness items verdict firsts valid asked is rises exists some none =
     noted_words witness items verdict firsts k valid (claim_there word (length (places is_bad 0 items)) (is_symbol_of items) k asked) is rises exists some none
 
-claimed_bits : (claim : Option ℕ) (word witness : Option (List ℕ)) (c : Circuit) (verdict : Judgement) (firsts : List (Option ℕ)) → IsCircuit c → AsksFor word (length c.bads) (is_name_of c) claim
+pub claimed_bits : (claim : Option ℕ) (word witness : Option (List ℕ)) (c : Circuit) (verdict : Judgement) (firsts : List (Option ℕ)) → IsCircuit c → AsksFor word (length c.bads) (is_name_of c) claim
     → IfSome witness (λ text. BitJudges c text verdict) → IfSome witness (λ text. AreBitFirstRises c text firsts)
     → ((c : Circuit) (text : List ℕ) → IsCircuit c → (vs : List Valuation) × IsClosedBitTrace c text vs)
     → ((c : Circuit) (text : List ℕ) (vs : List Valuation) (frames k : ℕ) → IsCircuit c → BitJudges c text (judgement.Accepted frames) → IsClosedBitTrace c text vs → bit_claimed c text k ≡ true
@@ -93,3 +93,8 @@ claimed_bits None word None c verdict firsts valid asked is rises exists some no
 claimed_bits None word (Some text) c verdict firsts valid asked is rises exists some none = λ yes. refl
 claimed_bits (Some k) word witness c verdict firsts valid asked is rises exists some none =
     noted_bits witness c verdict firsts k valid (claim_there word (length c.bads) (is_name_of c) k asked) is rises exists some none
+
+-- what is so of each text that is known
+pub each_reached : {P Q : List ℕ → Type 0} (witness : Option (List ℕ)) → IfSome witness P → ((text : List ℕ) → P text → Q text) → IfSome witness Q
+each_reached None h reaches = tt
+each_reached (Some text) h reaches = reaches text h

@@ -7,6 +7,7 @@ use Rattle.blast.specs.Lowering.{Lowers}
 use Rattle.btor2.specs.Reachability.{CanRise}
 use Rattle.engine_form.specs.declared.fault.EngineFault.{EngineFault}
 use Rattle.engine_form.specs.declared.fault.EngineFault.TheVariants as engine
+use Rattle.drup.specs.Formula.{Formula}
 use Rattle.drup.specs.declared.judgement.Judgement.{Judgement}
 use Rattle.drup.specs.declared.judgement.Judgement.TheVariants as verdict
 use Rattle.certificates.specs.declared.why.InvariantFault.{InvariantFault}
@@ -31,6 +32,7 @@ use Rattle.witness_circuits.specs.declared.witness_fault.WitnessFault.{WitnessFa
 use Rattle.witness_circuits.specs.declared.witness_fault.WitnessFault.TheVariants as witness
 use Rattle.invocation.specs.declared.tasks.Certificate.{Certificate}
 use Rattle.invocation.specs.declared.tasks.Certificate.TheVariants as kind
+use Rattle.invocation.specs.declared.tasks.Certified.{Certified}
 use Rattle.invocation.specs.declared.tasks.Given.{Given}
 use Rattle.invocation.specs.declared.tasks.Given.TheVariants as given
 use Rattle.verbs.specs.declared.refusals.Claimed.{Claimed}
@@ -39,11 +41,12 @@ use Rattle.verbs.specs.declared.refusals.Fault.{Fault}
 use Rattle.verbs.specs.declared.refusals.Fault.TheVariants as fault
 use Rattle.verbs.specs.declared.refusals.Refusal.{Refusal}
 use Rattle.verbs.specs.declared.refusals.Refusal.TheVariants as refusal
-use Rattle.verbs.specs.Certificates.{IsCertifiedBy}
+use Rattle.verbs.specs.Certificates.{IsOwedBy, IsOwedFormula}
 use Rattle.verbs.specs.Given.{GivesItsCircuit, IsGivenNumbering, NeverRises}
 use Rattle.verbs.specs.Conversions.{of_certificate, of_claim, of_engine_form, of_invariant_for, of_obligation, of_witness, of_witness_reading_for}
-use Rattle.verbs.specs.Refusals.{IsNotCertifiable, IsNotClaimed, IsNotGuarded, IsUnclaimed, IsUnclaimedBy, IsUnguarded, IsFaultyFor, IsFaultyOver, IsFaultyOverForm, IsFaultyWitness}
-use Rattle.verbs.specs.Statuses.{CountsAll, IfSecond}
+use Rattle.verbs.proofs.GivenLemmas.{formless, not_claimed}
+use Rattle.verbs.specs.Refusals.{IsFaultyBy, IsFaultyCertificate, IsFaultyFor, IsFaultyOver, IsFaultyOverForm, IsFaultyWitness, IsNotCertifiable, IsNotGuarded, IsUnclaimed, IsUnclaimedBy, IsUnguarded, IsWithoutFormBy}
+use Rattle.verbs.specs.Statuses.{CountsAll, IfInput, IfSecond}
 use Rattle.verbs.specs.Claims.{IsClaim}
 
 -- ---- what is refused
@@ -122,11 +125,6 @@ never given.Circuit known c gives k alike cannot = cannot
 
 -- ---- what is refused of the first file
 
-not_claimed : (m : Claimed) (g : Given) (known : Option (List ℕ)) (c : Circuit) (f : Fault) → GivesItsCircuit g known c → IsUnclaimed m c f → IsNotClaimed m g None known f
-not_claimed m g known c (fault.Engine e) gives is = inr (record { circuit = c; gives = gives; unchosen = refl; none = is.0; first = is.1 })
-not_claimed m g known c (fault.Unchosen n) gives is = (is.0, record { circuit = c; gives = gives; unchosen = refl; several = is.1 })
-not_claimed m g known c _ gives is = absurd is
-
 not_guarded : (g : Given) (choice : Option ℕ) (known : Option (List ℕ)) (c : Circuit) (f : Fault) → GivesItsCircuit g known c → IsUnguarded choice c f → IsNotGuarded g choice known f
 not_guarded g choice known c (fault.Engine e) gives is = record { circuit = c; gives = gives; unguarded = is }
 not_guarded g choice known c (fault.Test e) gives is = record { circuit = c; gives = gives; unguarded = is }
@@ -138,3 +136,20 @@ pub not_certifiable : (by : Certificate) (g : Given) (choice : Option ℕ) (know
 not_certifiable kind.Invariant g choice known c f gives is = rw is.0 (not_claimed claimed.Certified g known c f gives is.1)
 not_certifiable kind.Circuit g choice known c f gives is = not_guarded g choice known c f gives is
 not_certifiable kind.CircuitOfForm g choice known c f gives is = rw is.0 (not_claimed claimed.Guarded g known c f gives is.1)
+
+-- or that has no engine form that the certificate speaks of
+pub formless_by : (by : Certificate) (g : Given) (choice : Option ℕ) (known : Option (List ℕ)) (c : Circuit) (claim : ℕ) (x : Refusal) → GivesItsCircuit g known c → IsClaim choice c claim → IfInput (IsWithoutFormBy by c claim) x → IfInput (IsNotCertifiable by g choice known) x
+formless_by kind.Invariant g choice known c claim x gives is without = formless claimed.Certified g choice known c claim x gives is without
+formless_by kind.CircuitOfForm g choice known c claim x gives is without = formless claimed.Guarded g choice known c claim x gives is without
+formless_by kind.Circuit g choice known c claim (refusal.Input f) gives is without = absurd without
+formless_by kind.Circuit g choice known c claim _ gives is without = tt
+
+-- a second text has a fault
+pub faulty_by : (by : Certificate) (g : Given) (choice : Option ℕ) (first second n : Option (List ℕ)) (c : Circuit) (claim : ℕ) (x : Refusal) → GivesItsCircuit g first c → IsGivenNumbering g first c n → IsClaim choice c claim → IfSecond (IsFaultyBy by n c claim second) x → IfSecond (IsFaultyCertificate by g choice first second) x
+faulty_by by g choice first second n c claim (refusal.Second f) gives numbers is faulty = record { circuit = c; numbering = n; claim = claim; gives = gives; is_numbering = numbers; is_claim = is; faulty = faulty }
+faulty_by by g choice first second n c claim _ gives numbers is faulty = tt
+
+-- a formula that is owed for what the first text gives
+pub owed_so : (r : Result Formula Refusal) (of : Certified) (first second n : Option (List ℕ)) (c : Circuit) (claim : ℕ) → GivesItsCircuit of.given first c → IsGivenNumbering of.given first c n → IsClaim of.choice c claim → IfOk r (IsOwedBy of.by n c claim second) → IfOk r (IsOwedFormula of first second)
+owed_so (Ok f) of first second n c claim gives numbers is owed = record { circuit = c; numbering = n; claim = claim; gives = gives; is_numbering = numbers; is_claim = is; is_owed = owed }
+owed_so (Err x) of first second n c claim gives numbers is owed = tt

@@ -1,10 +1,23 @@
 -- How commands of several steps end.
-use Rattle.std.proofs.Common.{◌≡◌, ℕ, Result, Ok, Err, IfErr, refl, sym, subst}
+use Rattle.std.proofs.Common.{◌≡◌, ℕ, Result, Ok, Err, IfErr, refl, sym, subst, ap}
+use Rattle.std.specs.Result.{IsErr, IsErrAnd}
 use Rattle.base.specs.Device.{HasRisen}
 use Rattle.verbs.specs.declared.refusals.Device.TheVariants as device
 use Rattle.verbs.specs.declared.refusals.Fault.{Fault}
 use Rattle.verbs.specs.declared.refusals.Refusal.{Refusal}
 use Rattle.verbs.specs.declared.refusals.Refusal.TheVariants as refusal
+use Rattle.engine_form.specs.declared.fault.EngineFault.{EngineFault}
+use Rattle.engine_form.specs.declared.fault.EngineFault.TheVariants as engine
+use Rattle.lift.specs.Answers.{CountsLift}
+use Rattle.lift.specs.declared.fault.LiftFault.{LiftFault}
+use Rattle.lift.specs.declared.fault.LiftFault.TheVariants as lift
+use Rattle.vcd.specs.Answers.{CountsWave}
+use Rattle.vcd.specs.declared.fault.WaveFault.{WaveFault}
+use Rattle.vcd.specs.declared.fault.WaveFault.TheVariants as wave
+use Rattle.witness.specs.Answers.{CountsJudge}
+use Rattle.witness.specs.declared.fault.JudgeFault.{JudgeFault}
+use Rattle.witness.specs.declared.fault.JudgeFault.TheVariants as judge
+use Rattle.verbs.specs.Conversions.{of_dumping, of_engine_form, of_judging, of_lifting}
 use Rattle.verbs.specs.Statuses.{Counts, CountsAll, CountsUses, Ends, EndsAll, EndsUnrefused, ErrUntold, IfInput, IfSecond, IfUsed, IsOfNoInput, OverCounts, Use}
 use Rattle.verbs.specs.Statuses.Use.{Unused, Used}
 
@@ -139,3 +152,49 @@ told_behind {T} {r} {A} {B} {O} {fa} {a} {a'} {fb} {b} {b'} {fo} {o} {o'} {err} 
   unwritten = no_input r (λ _. o' ≡ o) h.no_input;
   untold = h.untold;
 }
+
+-- ---- of a library's fault behind a text that was read
+
+pub judging_failed : (T U : Type 0) (e : JudgeFault) (f f' s s' : ℕ) → f' ≡ f → CountsJudge {T = T} (Err e) s s' → (o err : ℕ) → Counts {T = U} (Err (of_judging e)) f f' s s' o o err err
+judging_failed T U (judge.NoNext id) f f' s s' first c o err = (first, c, refl, refl)
+judging_failed T U judge.Device f f' s s' first c o err = (first, c, refl, refl)
+judging_failed T U judge.NoMemory f f' s s' first c o err = (first, c, refl, refl)
+
+pub dumping_failed : (T U : Type 0) (e : WaveFault) (f f' s s' o o' : ℕ) → f' ≡ f → CountsWave {T = T} (Err e) s s' o o' → (err : ℕ) → Counts {T = U} (Err (of_dumping e)) f f' s s' o o' err err
+dumping_failed T U (wave.NoNext id) f f' s s' o o' first c err = (first, c.0, c.1, refl)
+dumping_failed T U wave.Read f f' s s' o o' first c err = (first, c.0, c.1, refl)
+dumping_failed T U wave.Write f f' s s' o o' first c err = (first, c.0, c.1, refl)
+dumping_failed T U wave.NoMemory f f' s s' o o' first c err = (first, c.0, c.1, refl)
+
+pub lifting_failed : (T U : Type 0) (e : LiftFault) (f f' s s' o o' : ℕ) → f' ≡ f → CountsLift {J = T} (Err e) s s' o o' → (err : ℕ) → Counts {T = U} (Err (of_lifting e)) f f' s s' o o' err err
+lifting_failed T U lift.Read f f' s s' o o' first c err = (first, c.0, c.1, refl)
+lifting_failed T U lift.Write f f' s s' o o' first c err = (first, c.0, c.1, refl)
+lifting_failed T U lift.NoMemory f f' s s' o o' first c err = (first, c.0, c.1, refl)
+
+-- ---- of a first text that is refused behind its reading, and of a second that is read no more
+
+pub input_ends : {T : Type 0} {f : Fault} → Ends {T = T} (Err (refusal.Input f)) Unused Unused Unused Unused
+input_ends {T} {f} = record { counted = λ a b c d. (refl, refl, refl, refl); unwritten = tt; untold = tt }
+
+pub counted_behind : {T : Type 0} {x : Refusal} {A B O : Type 0} {fa : A → ℕ} {a a' : A} {fb : B → ℕ} {b b' : B} {fo : O → ℕ} {o o' : O} {err : Use}
+    → fa a' ≡ fa a → IsOfNoInput {T = T} (Err x) → IfUsed err (ErrUntold {T = T} (Err x)) → OverCounts err (Counts {T = T} (Err x) (fa a) (fa a) (fb b) (fb b') (fo o) (fo o')) → Ends {T = T} (Err x) (Used fa a a') (Used fb b b') (Used fo o o') err
+counted_behind {T} {x} {A} {B} {O} {fa} {a} {a'} {fb} {b} {b'} {fo} {o} {o'} {err} first none untold c = record {
+  counted = over err _ _ (λ e e' h. subst (λ (n : ℕ). Counts {T = T} (Err x) (fa a) n (fb b) (fb b') (fo o) (fo o') e e') (sym first) h) c;
+  unwritten = no_input {T = T} (Err x) (λ _. o' ≡ o) none;
+  untold = untold;
+}
+
+-- a circuit without an engine form
+pub engine_ends : {T : Type 0} (e : EngineFault) → Ends {T = T} (Err (of_engine_form e)) Unused Unused Unused Unused
+engine_ends {T} engine.NoMemory = record { counted = λ a b c d. (refl, refl, refl, refl); unwritten = tt; untold = tt }
+engine_ends {T} _ = input_ends
+
+-- what is no refusal of a first text
+pub of_no_input : (T : Type 0) (x : Refusal) (P : Fault → Type 0) → IsOfNoInput {T = T} (Err x) → IfInput P x
+of_no_input T (refusal.Input f) P h = absurd h
+of_no_input T _ P h = tt
+
+-- what a step hands on that is not done
+pub failed : {T : Type 0} (r : Result T Refusal) (x : Refusal) → IsErr r × IsErrAnd r (λ y. y ≡ x) → r ≡ Err x
+failed {T} (Ok v) x h = absurd h.1
+failed {T} (Err y) x h = ap Err h.1

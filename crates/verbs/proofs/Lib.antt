@@ -2,4 +2,6 @@ pub mod AskedLemmas
 pub mod CertificateLemmas
 pub mod CountLemmas
 pub mod EngineLemmas
+pub mod GivenLemmas
+pub mod RestoringLemmas
 pub mod SubjectLemmas

@@ -4,7 +4,7 @@ ghost use Rattle.std.specs.Prelude.{◌≡◌, ℕ, Bool, Option, ◌<◌, ◌�
 ghost use Rattle.base.specs.Decimals.{number_of};
 ghost use Rattle.verbs.specs.Asked.{AsksFor, AsksForNone, IsAskedBy, IsUnaskedBy, IsUnknown, bad_count, is_called, is_name, is_name_of, is_symbol_of};
 
-use verbs::Fault;
+use crate::refusals::Fault;
 use crate::subjects::{Subject, item_of};
 use aiger::{Circuit, Section};
 use base::decimal;

@@ -28,7 +28,7 @@ pub use judging::{
     judge_over_model,
 };
 pub use lifting::{FoundLifted, Lifted, lift, lift_found, lift_from_form};
-pub use lowering::{Cost, cost, lower, lower_for_engines};
+pub use lowering::{Cost, cost_of, lower, lower_for_engines};
 pub use outcomes::Outcome;
 pub use reading::read_model;
 pub use refusals::{Claimed, Device, Fault, Refusal};

@@ -70,7 +70,7 @@ pub fn lower_for_engines<A: Source, O: Sink, W: Watch>(
 }
 
 /// How many gates and variables the lowering of a text's model has at most.
-pub fn cost<A: Source>(alloc: Global, first: &mut A) -> Result<Cost, Refusal>
+pub fn cost_of<A: Source>(alloc: Global, first: &mut A) -> Result<Cost, Refusal>
     ensures cost { IfOk result (IsCost (A.to_come first.old)) }
     ensures refused { IfErr result (IfInput (IsNoModel (A.to_come first.old))) }
     ensures ends { Ends result (Used A.failures first.old first.new) Unused Unused Unused }

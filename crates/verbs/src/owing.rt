@@ -14,8 +14,8 @@ ghost use Rattle.verbs.specs.Refusals.{IsFaultyBy, IsFaultyFor, IsFaultyOverForm
 ghost use Rattle.verbs.specs.Statuses.{EndsAll, IfInput, IfSecond, IsOfNoInput};
 ghost use Rattle.verbs.specs.Statuses.Use.{Unused, Used};
 
-use crate::refusals::{Claimed, Fault, Refusal};
 use crate::claims::claim_of;
+use crate::refusals::{Claimed, Fault, Refusal};
 use aiger::Circuit;
 use aigerlists::Numbering;
 use base::Source;

@@ -1,6 +1,6 @@
 //! What a judgement is about, and the items of a model by their numbers.
 
-ghost use Rattle.std.specs.Prelude.{◌≡◌, option_copied, slice_get};
+ghost use Rattle.std.specs.Prelude.{◌≡◌, Bool, option_copied, slice_get};
 ghost use Rattle.btor2.specs.declared.item.Body.{Body};
 ghost use Rattle.btor2.specs.Lists.{places};
 ghost use Rattle.verbs.specs.Subjects.{numbered_item};
