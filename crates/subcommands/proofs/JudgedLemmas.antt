@@ -13,10 +13,10 @@ use Rattle.subcommands.specs.Objects.{circuit_names, model_names}
 use Rattle.subcommands.specs.Subjects.{bad_item_said, bad_name_said, item_line, name_said, where_named}
 
 -- a judgement whose line was written
-pub written : (r : Result Answer Refusal) (Is : Judgement → Type 0) {before now : Option (List ℕ)} (j : Judgement) → Is j → OnOk r (Appends before now (judgement_line j)) → IfOk r (λ a. IsSo a j)
+pub written : (r : Result Answer Refusal) (Is : Judgement → Type 0) (before now : Option (List ℕ)) (j : Judgement) → Is j → OnOk r (Appends before now (judgement_line j)) → IfOk r (λ a. IsSo a j)
     → IfOk r (Judged (λ verdict. Is verdict × Appends before now (judgement_line verdict)))
-written (Ok a) Is {before} {now} j is line so = record { verdict = j; is_judged = (is, line); so = so }
-written (Err e) Is {before} {now} j is line so = tt
+written (Ok a) Is before now j is line so = record { verdict = j; is_judged = (is, line); so = so }
+written (Err e) Is before now j is line so = tt
 
 pub judged_with : (r : Result Answer Refusal) (named as_json : Bool) (word model witness before now told told' : Option (List ℕ)) (answer : JudgedOverModel) → IsJudgedFor word model witness answer
     → OnOk r (Appends before now (outcome_written as_json (model_names answer.model) answer.firsts answer.outcome))

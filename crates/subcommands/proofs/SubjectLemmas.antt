@@ -6,14 +6,9 @@ use Rattle.btor2.specs.declared.item.Body.{Body}
 use Rattle.btor2.specs.Lists.{places, of_kind}
 use Rattle.subcommands.specs.Subjects.{first_said, firsts_said, says_item}
 use Rattle.verbs.specs.Subjects.{numbered_item}
+use Rattle.verbs.proofs.SubjectLemmas.{numbered}
 
 -- ---- the item with a number
-
-    by : (b : Bool) (k : ℕ) → ((j : ℕ) → slice_get (of_kind test xs) j ≡ option_and_then (slice_get whole) (slice_get (places test (suc at) xs) j))
-        → slice_get (cond b (x ∷ of_kind test xs) (of_kind test xs)) k ≡ option_and_then (slice_get whole) (slice_get (cond b (at ∷ places test (suc at) xs) (places test (suc at) xs)) k)
-    by true zero rest = sym here
-    by true (suc k) rest = rest k
-    by false k rest = rest k
 
 pub says_some : (kind : List ℕ) (test : Body → Bool) (items : List Item) (list : List ℕ) (k place : ℕ) (x : Item) → list ≡ places test 0 items → slice_get list k ≡ Some place → slice_get items place ≡ Some x
     → says_item kind k (numbered_item test items k) ≡ says_item kind k (Some x)

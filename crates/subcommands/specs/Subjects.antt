@@ -8,6 +8,7 @@ use Rattle.drup.specs.declared.judgement.Judgement.{Judgement as Verdict}
 use Rattle.drup.specs.declared.judgement.Judgement.TheVariants as verdict
 use Rattle.witness.specs.declared.judgement.Judgement.{Judgement}
 use Rattle.witness.specs.declared.judgement.Judgement.TheVariants as judgement
+use Rattle.verbs.specs.Subjects.{numbered_item}
 use Rattle.verbs.specs.declared.subjects.Subject.{Subject}
 use Rattle.verbs.specs.declared.subjects.Subject.TheVariants as subject
 

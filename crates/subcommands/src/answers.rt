@@ -39,10 +39,10 @@ impl Answer {
 }
 
 /// The answer of a verb that is done or not.
-pub fn answered(result: Result<(), Refusal>) -> Result<Answer, Refusal>
-    ensures { result.new ≡ answered result.entry }
+pub fn answered(done: Result<(), Refusal>) -> Result<Answer, Refusal>
+    ensures { result ≡ answered done }
 {
-    match result {
+    match done {
         Ok(()) => Ok(Answer::Done),
         Err(refusal) => Err(refusal),
     }

@@ -1,5 +1,6 @@
 use Rattle.std.proofs.Common.{rules, ◌≡◌, Err}
 use Rattle.verbs.proofs.CountLemmas.{as_is, as_was, ends_as, handed_on, idle, unfailed, unrefused}
+use Rattle.verbs.specs.Judging.{IsJudgedOver}
 use Rattle.subcommands.proofs.JudgedLemmas.{written}
 use Rattle.subcommands.proofs.circuits.check_circuit.Goals as goal
 
@@ -9,7 +10,7 @@ returns-in_err-judgement-clause-ends g c =
     ends_as as_is as_is idle as_was (handed_on is c.in_err-judgement.ensures.ends)
 
 pub returns-clause-done : goal.returns-clause-done
-returns-clause-done g c = written c.write_judgement.result _ c.in_ok-judgement.judgement c.in_ok-judgement.ensures.judged c.write_judgement.ensures.written c.write_judgement.ensures.so
+returns-clause-done g c = written c.write_judgement.result (IsJudgedOver (g.A.Source.to_come c.args.first.now) (g.B.Source.to_come c.args.second.now)) (g.O.Sink.written c.args.out.now) (g.O.Sink.written c.write_judgement.new.out) c.in_ok-judgement.judgement c.in_ok-judgement.ensures.judged c.write_judgement.ensures.written c.write_judgement.ensures.so
 
 pub returns-clause-ends : goal.returns-clause-ends
 returns-clause-ends g c =

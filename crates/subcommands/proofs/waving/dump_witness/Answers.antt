@@ -5,7 +5,7 @@ use Rattle.subcommands.proofs.waving.dump_witness.Goals as goal
 
 pub returns-in_err-judgement-clause-ends : goal.returns-in_err-judgement-clause-ends
 returns-in_err-judgement-clause-ends g c =
-    let is : c.from_residual.result ≡ Err c.in_err-judgement.field-0.0 = search rules in
+    let is : c.from_residual-in_err-judgement.result ≡ Err c.in_err-judgement.field-0.0 = search rules in
     ends_as as_is as_is as_was idle (handed_on is c.in_err-judgement.ensures.ends)
 
 pub returns-clause-done : goal.returns-clause-done
