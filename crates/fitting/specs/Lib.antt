@@ -1,4 +1,5 @@
 -- How a list with words of any width is fitted, line by line.
+pub mod Digits
 pub mod Forms
 pub mod Fitted
 pub mod Fitters

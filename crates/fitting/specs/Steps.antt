@@ -89,3 +89,9 @@ pub record Place : Type 0 where
   pub wide : List Item
   pub id : ℕ
   pub symbol : Option (List ℕ)
+
+-- the lines before that of a constant, and what it is and its name
+pub record ConstantPlace : Type 0 where
+  pub wide : List Item
+  pub symbol : Option (List ℕ)
+  pub body : Body
