@@ -1,5 +1,5 @@
 -- What the lines of a list ask of the nodes that are kept.
-use Rattle.std.proofs.Common.{◌≡◌, ℕ, ◌≤◌, Bool, true, false, cond, ◌==◌, eqb-true, List, [], ◌∷◌, length, get_or, Result, Ok, Err, OnOk, Option, Some, None, IfSome, is_some, unwrap_or, refl, sym, ap, ◌∙◌, arith}
+use Rattle.std.proofs.Common.{◌≡◌, ℕ, ◌≤◌, Bool, true, false, cond, ◌==◌, eqb-true, List, [], ◌∷◌, length, get_or, Result, Ok, Err, OnOk, Option, Some, IfSome, is_some, unwrap_or, refl, sym, ap, ◌∙◌, arith}
 use Rattle.std.specs.List.{AllByRecursion}
 use Rattle.btor2.specs.declared.item.Item.{Item}
 use Rattle.btor2.specs.declared.item.Body.{Body}
@@ -93,4 +93,4 @@ operator_no_constant narrow n rs _ h = tt
 
 -- no lines are fitted
 pub none_fitted : (table : Table) → IsFitted [] table []
-none_fitted table = record { ordered = tt; stand = tt; owned = λ id none. refl; leaves = refl; no_inits = tt; no_nexts = tt; outputs = refl; bads = refl; constraints = refl }
+none_fitted table = record { ordered = tt; stand = tt; owned = λ id none. refl; leaves = refl; no_inits = tt; no_nexts = tt; outputs = refl; bads = refl; constraints = refl; output_names = refl; bad_names = refl; constraint_names = refl }

@@ -33,6 +33,7 @@ impl Fitter {
     ghost use Rattle.fitting.specs.Forms.{is_operator, is_constant_line, form_fault, IsRefused};
     ghost use Rattle.fitting.specs.Fitted.{IsSoundLine, IsFitted};
     ghost use Rattle.fitting.specs.Steps.{leaf_body, Place, ConstantPlace};
+    ghost use Rattle.fitting.specs.Names.{HasNames};
     ghost use Rattle.fitting.specs.Tables.{table_of, layout_of};
 
     /// A model of no lines.
@@ -46,11 +47,13 @@ impl Fitter {
         }
     }
 
-    /// The model of the profile into which the lines are fitted.
+    /// The model of the profile into which the lines are fitted. A node of more than 64 bits gives its name to its pieces, each
+    /// with the bits that it is.
     pub fn finish(self) -> Model
         ghost wide: { List Item }
         requires fitted { IsFitted wide (table_of self) self.maker }
         ensures fits { IsFittingOf wide (layout_of self) result }
+        ensures names { HasNames wide (layout_of self) result }
     {
         let _items = self.maker.model().items();
         self.maker.finish()
@@ -93,6 +96,7 @@ impl Fitter {
         ghost at: { Place }
         requires fitted { IsFitted at.wide (table_of self.old) self.old.maker }
         requires sound { IsSoundLine at.wide (named id at.symbol (leaf_body is_input sort)) }
+        requires name { at.symbol ≡ symbol }
         ensures fitted { OnOk result (IsFitted (at.wide ++ named id at.symbol (leaf_body is_input sort) ∷ [])
             (table_of self.new) self.new.maker) }
         ensures short { IfErr result (IsShort self.new.maker) }
@@ -212,6 +216,7 @@ impl Fitter {
         ghost at: { Place }
         requires fitted { IsFitted at.wide (table_of self.old) self.old.maker }
         requires sound { IsSoundLine at.wide (named at.id at.symbol (body.Bad operand)) }
+        requires name { at.symbol ≡ symbol }
         ensures fitted { OnOk result (IsFitted (at.wide ++ named at.id at.symbol (body.Bad operand) ∷ [])
             (table_of self.new) self.new.maker) }
         ensures short { IfErr result (IsShort self.new.maker) }
@@ -226,6 +231,7 @@ impl Fitter {
         ghost at: { Place }
         requires fitted { IsFitted at.wide (table_of self.old) self.old.maker }
         requires sound { IsSoundLine at.wide (named at.id at.symbol (body.Constraint operand)) }
+        requires name { at.symbol ≡ symbol }
         ensures fitted { OnOk result
             (IsFitted (at.wide ++ named at.id at.symbol (body.Constraint operand) ∷ [])
             (table_of self.new) self.new.maker) }
@@ -237,15 +243,21 @@ impl Fitter {
     }
 
     /// Adds the line of an output.
-    fn add_output(&mut self, symbol: Option<Symbol>, operand: u32) -> Result<(), Shortage>
+    fn add_output(
+        &mut self,
+        alloc: Global,
+        symbol: Option<Symbol>,
+        operand: u32,
+    ) -> Result<(), Shortage>
         ghost at: { Place }
         requires fitted { IsFitted at.wide (table_of self.old) self.old.maker }
         requires sound { IsSoundLine at.wide (named at.id at.symbol (body.Output operand)) }
+        requires name { at.symbol ≡ symbol }
         ensures fitted { OnOk result (IsFitted (at.wide ++ named at.id at.symbol (body.Output operand) ∷ [])
             (table_of self.new) self.new.maker) }
         ensures short { IfErr result (IsShort self.new.maker) }
     {
-        show(&mut self.maker, symbol, self.words.get(operand))
+        show(alloc, &mut self.maker, symbol, self.words.get(operand))
     }
 
     /// Adds a line of a form that is fitted.
@@ -260,6 +272,7 @@ impl Fitter {
         requires fitted { IsFitted at.wide (table_of self.old) self.old.maker }
         requires sound { IsSoundLine at.wide (named at.id at.symbol body.now) }
         requires right { form_fault body.now ≡ None }
+        requires name { at.symbol ≡ symbol }
         requires place { at.id ≡ id }
         ensures fitted { OnOk result (IsFitted (at.wide ++ named at.id at.symbol body.now ∷ [])
             (table_of self.new) self.new.maker) }
@@ -286,7 +299,7 @@ impl Fitter {
             Body::Next { sort, state, value } => self.add_next(*sort, *state, *value),
             Body::Bad { operand } => self.add_bad(symbol, *operand),
             Body::Constraint { operand } => self.add_constraint(symbol, *operand),
-            Body::Output { operand } => self.add_output(symbol, *operand),
+            Body::Output { operand } => self.add_output(alloc, symbol, *operand),
             Body::Fair { .. } | Body::Justice { .. } => unreachable!(),
         }
     }
