@@ -13,15 +13,17 @@ use Rattle.btor2.specs.Trace.{Frame, bits_of}
 use Rattle.btor2.proofs.AppendLemmas.{then_parts, some_of}
 use Rattle.btor2.proofs.ModelLemmas.{IsIn-from_find, IsInitOf-from_value, IsNextOf-from_value}
 use Rattle.btor2.proofs.IdLemmas.{ids_named, input_is_no_state}
-use Rattle.fit.specs.Fitting.{Layout, pieces_word, pieces_width, is_given, ids_of, carried_ids, HasWidthOfPieces, Carries, init_words, InitIsCarried, AbsenceIsCarried, next_pieces, NextIsCarried, IsFittingOf}
+use Rattle.fit.specs.Fitting.{Layout, is_output, pieces_word, pieces_width, is_given, ids_of, carried_ids, HasWidthOfPieces, Carries, init_words, InitIsCarried, AbsenceIsCarried, next_pieces, NextIsCarried, IsFittingOf}
 use Rattle.fit.proofs.ListLemmas.{all_with, all_both, of_ids, to_ids}
 use Rattle.fit.proofs.FrameLemmas.{AreNodes as AreNamed, all_named}
 use Rattle.fit.proofs.LineLemmas.{carries_state}
 use Rattle.pieces.specs.declared.node.Node.{Node}
 use Rattle.pieces.specs.Nodes.{word_of, bits_in, IsNode, AreNodes}
-use Rattle.pieces.specs.Cuts.{IsWord}
-use Rattle.fitting.specs.Fitted.{Table, node_ids, layout_by, GoesOn, HasWord, InitIsMade, TakesNode, NextIsMade, LineStands, is_leaf, leaf_ids, Lacks, IsFitted}
+use Rattle.pieces.specs.Cuts.{widths, IsWord}
+use Rattle.fitting.specs.Names.{word_names, IsNamed, piece_widths, LeafIsNamed, HasNames}
+use Rattle.fitting.specs.Fitted.{Table, node_ids, layout_by, GoesOn, HasWord, HaveNames, InitIsMade, TakesNode, NextIsMade, LineStands, is_leaf, leaf_ids, Lacks, IsFitted}
 use Rattle.fitting.proofs.GrowLemmas.{all_at}
+use Rattle.fitting.proofs.NameLemmas.{widths_known, shown_alike}
 
 -- ---- nodes and their ids
 
@@ -304,4 +306,36 @@ fitting wide table narrow h w =
       outputs = h.outputs;
       bads = h.bads;
       constraints = h.constraints;
+    }
+
+-- ---- names
+
+zip_ids : (narrow : List Item) (ps : List Node) (names : List (Option (List ℕ))) → HaveNames narrow ps names → AllZip (IsNamed narrow) (node_ids ps) names
+zip_ids narrow [] [] h = h
+zip_ids narrow [] (n ∷ ns) h = absurd h
+zip_ids narrow (p ∷ ps) [] h = absurd h
+zip_ids narrow (p ∷ ps) (n ∷ ns) h = (h.0, zip_ids narrow ps ns h.1)
+
+leaf_nodes : (wide : List Item) (table : Table) (narrow : List Item) (x : Item) → LineStands wide table narrow x → is_leaf x ≡ true → AreNodes narrow (table.words x.id)
+leaf_nodes wide table narrow x stands is = by x.body is stands.value
+  where
+    by : (b : Body) → (is_input b || is_state b) ≡ true → IfSome (node_sort b) (HasWord wide table.words narrow x.id) → AreNodes narrow (table.words x.id)
+    by (body.Input s) is value = value.word.nodes
+    by (body.State s) is value = value.word.nodes
+    by _ is value = absurd (cc)
+
+pub has_names : (wide : List Item) (table : Table) (narrow : List Item) → IsFitted wide table narrow → HasNames wide (layout_by table.words) narrow
+has_names wide table narrow h =
+    record {
+      leaves = all_with (LineStands wide table narrow) (LeafIsNamed (layout_by table.words) narrow) wide
+          (λ x stands is.
+          subst (λ (ws : List ℕ). AllZip (IsNamed narrow) (node_ids (table.words x.id)) (word_names x.symbol ws)) (sym (widths_known narrow (table.words x.id) (leaf_nodes wide table narrow x stands is)))
+          (zip_ids narrow (table.words x.id) (word_names x.symbol (widths (table.words x.id))) (stands.names is))) h.stand;
+      outputs = shown_alike (piece_widths (layout_by table.words) narrow) (λ a. widths (table.words a)) is_output wide
+          (all_with (λ (y : Item). AreNamed wide (operands y.body)) (λ (y : Item). AllByRecursion (λ a. piece_widths (layout_by table.words) narrow a ≡ widths (table.words a)) (operands y.body)) wide
+          (λ y there.
+          all_with (λ a. is_some (node_width wide a) ≡ true) (λ a. piece_widths (layout_by table.words) narrow a ≡ widths (table.words a)) (operands y.body)
+          (λ a own. widths_known narrow (table.words a) (named_word wide table narrow a h.stand own).nodes) there) (all_named wide h.ordered)) ∙ h.output_names;
+      bads = h.bad_names;
+      constraints = h.constraint_names;
     }

@@ -1,9 +1,6 @@
 -- What the lines of a list ask of the nodes that are kept.
-use Rattle.std.proofs.Common.{◌≡◌, ℕ, ◌<◌, ◌≤◌, Bool, true, false, true≢false, cond, ◌&&◌, ◌==◌, ⊎_elim, nat_lt, lt-ltb, eqb-true, List, [], ◌∷◌, length, get_or, Result, Ok, Err, OnOk, Option, Some, None, IfSome, is_some, unwrap_or, refl, sym, ap, ◌∙◌, arith}
+use Rattle.std.proofs.Common.{◌≡◌, ℕ, ◌≤◌, Bool, true, false, cond, ◌==◌, eqb-true, List, [], ◌∷◌, length, get_or, Result, Ok, Err, OnOk, Option, Some, IfSome, is_some, unwrap_or, refl, sym, ap, ◌∙◌, arith}
 use Rattle.std.specs.List.{AllByRecursion}
-use Rattle.std.proofs.lemmas.Bool.{cases_lt}
-use Rattle.std.proofs.lemmas.Option.{none-some}
-use Rattle.base.specs.declared.operators.Binary.{Binary}
 use Rattle.btor2.specs.declared.item.Item.{Item}
 use Rattle.btor2.specs.declared.item.Body.{Body}
 use Rattle.btor2.specs.declared.item.Body.TheVariants as body
@@ -13,14 +10,13 @@ use Rattle.fit.proofs.FrameLemmas.{operands_there}
 use Rattle.pieces.specs.declared.node.Node.{Node}
 use Rattle.pieces.specs.Lines.{is_plain, named}
 use Rattle.pieces.specs.Nodes.{bits_in}
-use Rattle.pieces.specs.Cuts.{widths, IsCut, IsWord}
-use Rattle.fitting.specs.declared.unfitted.Unfitted.TheVariants as unfitted
-use Rattle.fitting.specs.Forms.{is_product, is_operator, form_fault}
+use Rattle.pieces.specs.Cuts.{IsWord}
+use Rattle.fitting.specs.Forms.{is_operator}
 use Rattle.fitting.specs.Fitted.{Table, most_bits, IsSoundLine, AreConstantsOf, IsFitted}
 use Rattle.fitting.specs.Steps.{leaf_body}
 use Rattle.fitting.proofs.AssemblyLemmas.{named_word}
 use Rattle.fitting.proofs.ValueLemmas.{sort_kept, HasWords}
-use Rattle.fitting.proofs.SoundLemmas.{operand, agree, IsNoWideProduct}
+use Rattle.fitting.proofs.SoundLemmas.{operand, agree}
 use Rattle.fitting.proofs.OperatorLemmas.{bit_alone}
 use Rattle.fitting.proofs.ConstantLemmas.{named_there}
 
@@ -76,34 +72,6 @@ single [] d h = absurd (omega (arith, h))
 single (p ∷ []) d h = refl
 single (p ∷ q ∷ more) d h = absurd (omega (arith, h))
 
--- products are of words of one node
-few_bits : (ps : List Node) → IsCut 64 (widths ps) → length ps ≤ 1 → bits_in ps ≤ 64
-few_bits [] cut few = omega arith
-few_bits (p ∷ []) cut few = let most = cut.1 in omega (arith, most)
-few_bits (p ∷ q ∷ more) cut few = absurd (omega (arith, few))
-
-not_less : (n : ℕ) → nat_lt 1 n ≡ false → n ≤ 1
-not_less n h = by (nat_lt 1 n) refl h
-  where
-    by : (b : Bool) → nat_lt 1 n ≡ b → b ≡ false → n ≤ 1
-    by true e h = absurd (cc)
-    by false e h = ⊎_elim (λ less. absurd (true≢false (sym (lt-ltb 1 n less) ∙ e))) (λ most. most) (cases_lt 1 n)
-
-product_narrow : (op : Binary) (ps : List Node) → IsCut 64 (widths ps) → cond (is_product op && nat_lt 1 (length ps)) (Some unfitted.WideProduct) None ≡ None → 64 < bits_in ps → is_product op ≡ false
-product_narrow op ps cut right many = by (is_product op) (nat_lt 1 (length ps)) refl right
-  where
-    by : (b c : Bool) → nat_lt 1 (length ps) ≡ c → cond (b && c) (Some unfitted.WideProduct) None ≡ None → b ≡ false
-    by false c e h = refl
-    by true true e h = absurd (none-some unfitted.WideProduct (sym h))
-    by true false e h = absurd (let few = few_bits ps cut (not_less (length ps) e) in omega (arith, few, many))
-
-pub no_wide_product : (wide : List Item) (x : Item) (table : Table) (narrow : List Item) → IsFitted wide table narrow → IsSoundLine wide x → form_fault table.words x.body ≡ None → IsNoWideProduct table.words x.body
-no_wide_product wide x table narrow h sound right = by x.body (operands_there wide x.body sound.operands) right
-  where
-    by : (b : Body) → AllByRecursion (λ a. is_some (node_width wide a) ≡ true) (operands b) → form_fault table.words b ≡ None → IsNoWideProduct table.words b
-    by (body.Binary op s a c) there right = product_narrow op (table.words a) (named_word wide table narrow a h.stand there.0).cut right
-    by _ there right = tt
-
 pub operator_plain : (b : Body) → is_operator b ≡ true → is_plain b ≡ true
 operator_plain (body.Uext s a by) h = refl
 operator_plain (body.Sext s a by) h = refl
@@ -125,4 +93,4 @@ operator_no_constant narrow n rs _ h = tt
 
 -- no lines are fitted
 pub none_fitted : (table : Table) → IsFitted [] table []
-none_fitted table = record { ordered = tt; stand = tt; owned = λ id none. refl; leaves = refl; no_inits = tt; no_nexts = tt; outputs = refl; bads = refl; constraints = refl }
+none_fitted table = record { ordered = tt; stand = tt; owned = λ id none. refl; leaves = refl; no_inits = tt; no_nexts = tt; outputs = refl; bads = refl; constraints = refl; output_names = refl; bad_names = refl; constraint_names = refl }

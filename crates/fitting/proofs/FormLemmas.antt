@@ -17,10 +17,11 @@ use Rattle.pieces.specs.declared.node.Node.{Node}
 use Rattle.pieces.specs.Lines.{named}
 use Rattle.pieces.specs.Nodes.{bits_in, AreNodes}
 use Rattle.pieces.specs.Cuts.{widths, IsCut, IsWord}
-use Rattle.fitting.specs.Fitted.{Table, node_ids, layout_by, most_bits, IsSoundLine, GoesOn, IsSettled, HasWord, AreConstantsOf, InitIsMade, NextIsMade, leaf_ids, Lacks, IsFitted}
+use Rattle.fitting.specs.Fitted.{Table, node_ids, layout_by, most_bits, IsSoundLine, GoesOn, IsSettled, HasWord, AreConstantsOf, HaveNames, InitIsMade, NextIsMade, leaf_ids, Lacks, IsFitted}
+use Rattle.fitting.specs.Names.{word_names}
 use Rattle.fitting.specs.Steps.{leaf_body, IsLeafOf, adds_leaf, adds_init, adds_next, adds_output, AddsLeaves, AddsOutputs}
 use Rattle.fitting.proofs.AssemblyLemmas.{all_ids, not_state_free}
-use Rattle.fitting.proofs.StepLemmas.{next_value-after, fitted_next, all_of}
+use Rattle.fitting.proofs.StepLemmas.{next_value-after, fitted_next, no_names, other_names, all_of}
 use Rattle.fitting.proofs.ValueLemmas.{sort_kept, last_found, HasWords, others_same, own_same, stands_without}
 use Rattle.fitting.proofs.LineLemmas.{kind_on}
 
@@ -147,6 +148,7 @@ sort_fitted wide table table' narrow id n symbol h sound put words =
       outputs = refl;
       bads = refl;
       constraints = refl;
+      names = record { outputs = refl; bads = refl; constraints = refl };
       inits = silent init_value (wide ++ x ∷ []) [] table.words (leaf_ids wide) (λ k. refl);
       nexts = silent next_value (wide ++ x ∷ []) [] table.words (leaf_ids wide) (λ k. refl);
       own_inits = tt;
@@ -158,9 +160,9 @@ sort_fitted wide table table' narrow id n symbol h sound put words =
 abbrev pub same_table : (wide : List Item) (table : Table) (narrow narrow' lines : List Item) (x : Item) → narrow' ≡ narrow ++ lines → GoesOn wide table narrow (wide ++ x ∷ []) table narrow'
 same_table wide table narrow narrow' lines x is = goes_by wide table table narrow narrow' lines x is (λ id there. refl) (λ id there. refl)
 
-pub bad_fitted : (wide : List Item) (table : Table) (narrow narrow' : List Item) (id a i : ℕ) (symbol name : Option (List ℕ)) (p : Node) → IsFitted wide table narrow → IsSoundLine wide (named id symbol (body.Bad a)) → table.words a ≡ p ∷ []
+pub bad_fitted : (wide : List Item) (table : Table) (narrow narrow' : List Item) (id a i : ℕ) (symbol name : Option (List ℕ)) (p : Node) → IsFitted wide table narrow → IsSoundLine wide (named id symbol (body.Bad a)) → table.words a ≡ p ∷ [] → symbol ≡ name
     → narrow' ≡ narrow ++ named i name (body.Bad p.id) ∷ [] → IsFitted (wide ++ named id symbol (body.Bad a) ∷ []) table narrow'
-bad_fitted wide table narrow narrow' id a i symbol name p h sound one is =
+bad_fitted wide table narrow narrow' id a i symbol name p h sound one same is =
     let x = named id symbol (body.Bad a) in
     let lines = named i name (body.Bad p.id) ∷ [] in
     fitted_next wide table table narrow narrow' x h sound (same_table wide table narrow narrow' lines x is)
@@ -170,15 +172,16 @@ bad_fitted wide table narrow narrow' id a i symbol name p h sound one is =
       outputs = refl;
       bads = ap (λ (ps : List Node). node_ids ps ∷ []) one;
       constraints = refl;
+      names = record { outputs = refl; bads = ap (λ (s : Option (List ℕ)). s ∷ []) same; constraints = refl };
       inits = silent init_value (wide ++ x ∷ []) lines table.words (leaf_ids wide) (λ k. refl);
       nexts = silent next_value (wide ++ x ∷ []) lines table.words (leaf_ids wide) (λ k. refl);
       own_inits = tt;
       own_nexts = tt;
     })
 
-pub constraint_fitted : (wide : List Item) (table : Table) (narrow narrow' : List Item) (id a i : ℕ) (symbol name : Option (List ℕ)) (p : Node) → IsFitted wide table narrow → IsSoundLine wide (named id symbol (body.Constraint a)) → table.words a ≡ p ∷ []
+pub constraint_fitted : (wide : List Item) (table : Table) (narrow narrow' : List Item) (id a i : ℕ) (symbol name : Option (List ℕ)) (p : Node) → IsFitted wide table narrow → IsSoundLine wide (named id symbol (body.Constraint a)) → table.words a ≡ p ∷ [] → symbol ≡ name
     → narrow' ≡ narrow ++ named i name (body.Constraint p.id) ∷ [] → IsFitted (wide ++ named id symbol (body.Constraint a) ∷ []) table narrow'
-constraint_fitted wide table narrow narrow' id a i symbol name p h sound one is =
+constraint_fitted wide table narrow narrow' id a i symbol name p h sound one same is =
     let x = named id symbol (body.Constraint a) in
     let lines = named i name (body.Constraint p.id) ∷ [] in
     fitted_next wide table table narrow narrow' x h sound (same_table wide table narrow narrow' lines x is)
@@ -188,13 +191,14 @@ constraint_fitted wide table narrow narrow' id a i symbol name p h sound one is 
       outputs = refl;
       bads = refl;
       constraints = ap (λ (ps : List Node). node_ids ps ∷ []) one;
+      names = record { outputs = refl; bads = refl; constraints = ap (λ (s : Option (List ℕ)). s ∷ []) same };
       inits = silent init_value (wide ++ x ∷ []) lines table.words (leaf_ids wide) (λ k. refl);
       nexts = silent next_value (wide ++ x ∷ []) lines table.words (leaf_ids wide) (λ k. refl);
       own_inits = tt;
       own_nexts = tt;
     })
 
-pub output_fitted : (wide : List Item) (table : Table) (narrow narrow' : List Item) (id a : ℕ) (symbol : Option (List ℕ)) → IsFitted wide table narrow → IsSoundLine wide (named id symbol (body.Output a)) → AddsOutputs narrow narrow' (table.words a)
+pub output_fitted : (wide : List Item) (table : Table) (narrow narrow' : List Item) (id a : ℕ) (symbol : Option (List ℕ)) → IsFitted wide table narrow → IsSoundLine wide (named id symbol (body.Output a)) → AddsOutputs narrow narrow' (table.words a) (word_names symbol (widths (table.words a)))
     → IsFitted (wide ++ named id symbol (body.Output a) ∷ []) table narrow'
 output_fitted wide table narrow narrow' id a symbol h sound adds =
     let x = named id symbol (body.Output a) in
@@ -205,6 +209,11 @@ output_fitted wide table narrow narrow' id a symbol h sound adds =
       outputs = append-nil (layout_by table.words a) ∙ sym adds.nodes;
       bads = ap (map (λ p. p ∷ [])) (sym (no_nodes is_bad adds_output output_no_bad adds.more adds.quiet));
       constraints = ap (map (λ p. p ∷ [])) (sym (no_nodes is_constraint adds_output output_no_constraint adds.more adds.quiet));
+      names = record {
+        outputs = append-nil (word_names symbol (widths (table.words a)) ++ []) ∙ append-nil (word_names symbol (widths (table.words a))) ∙ sym adds.named;
+        bads = sym (no_names is_bad adds_output output_no_bad adds.more adds.quiet);
+        constraints = sym (no_names is_constraint adds_output output_no_constraint adds.more adds.quiet);
+      };
       inits = silent init_value (wide ++ x ∷ []) adds.more table.words (leaf_ids wide) (λ k. no_inits adds_output output_no_init adds.more k adds.quiet);
       nexts = silent next_value (wide ++ x ∷ []) adds.more table.words (leaf_ids wide) (λ k. no_nexts adds_output output_no_next adds.more k adds.quiet);
       own_inits = tt;
@@ -267,7 +276,7 @@ leaf_settled true wide table narrow x s rs is found own kinds wide' table' narro
     (all_with (λ (p : Node). IsLeafOf true narrow p.id) (λ (p : Node). IsInputPiece (narrow ++ on.lines) p.id) rs (λ p kind. kind_on true narrow on.lines p.id kind) kinds))))
 
 pub leaf_fitted : (input : Bool) (wide : List Item) (table table' : Table) (narrow narrow' : List Item) (id s : ℕ) (symbol : Option (List ℕ)) (n : ℕ) (rs : List Node) → IsFitted wide table narrow → IsWellFormed narrow → IsSoundLine wide (named id symbol (leaf_body input s))
-    → sort_width wide s ≡ Some n → AreNodes narrow' rs → bits_in rs ≡ n → IsCut 64 (widths rs) → AddsLeaves input narrow narrow' rs → ((k : ℕ) → table'.sorts k ≡ table.sorts k) → HasWords table.words table'.words id rs
+    → sort_width wide s ≡ Some n → AreNodes narrow' rs → bits_in rs ≡ n → IsCut 64 (widths rs) → AddsLeaves input narrow narrow' rs (word_names symbol (widths rs)) → ((k : ℕ) → table'.sorts k ≡ table.sorts k) → HasWords table.words table'.words id rs
     → IsFitted (wide ++ named id symbol (leaf_body input s) ∷ []) table' narrow'
 leaf_fitted input wide table table' narrow narrow' id s symbol n rs h w sound sort nodes bits cut adds sorts put =
     let x = named id symbol (leaf_body input s) in
@@ -298,6 +307,7 @@ leaf_fitted input wide table table' narrow narrow' id s symbol n rs h w sound so
           });
       constant = subst (λ (o : Option ℕ). IfSome o (λ v. AreConstantsOf narrow' v (table'.words id))) (sym (leaf_no_constant input (bits_in (table'.words id)) s)) tt;
       state = by_state input adds.kinds own;
+      names = λ is. subst (λ (ps : List Node). HaveNames narrow' ps (word_names symbol (widths ps))) (sym own) adds.named;
       init = leaf_init_made (wide ++ x ∷ []) table'.words narrow' input s;
       next = leaf_next_made table'.words narrow' input s;
       settled = leaf_settled input (wide ++ x ∷ []) table' narrow' x s rs refl found own adds.kinds;
@@ -307,6 +317,7 @@ leaf_fitted input wide table table' narrow narrow' id s symbol n rs h w sound so
       outputs = ap (flat_map (layout_by table'.words)) (no_nodes is_output adds_leaf leaf_no_output (x ∷ []) x_adds) ∙ sym (no_nodes is_output adds_leaf leaf_no_output adds.more adds.quiet);
       bads = ap (map (layout_by table'.words)) (no_nodes is_bad adds_leaf leaf_no_bad (x ∷ []) x_adds) ∙ ap (map (λ p. p ∷ [])) (sym (no_nodes is_bad adds_leaf leaf_no_bad adds.more adds.quiet));
       constraints = ap (map (layout_by table'.words)) (no_nodes is_constraint adds_leaf leaf_no_constraint (x ∷ []) x_adds) ∙ ap (map (λ p. p ∷ [])) (sym (no_nodes is_constraint adds_leaf leaf_no_constraint adds.more adds.quiet));
+      names = other_names adds_leaf leaf_no_output leaf_no_bad leaf_no_constraint table'.words adds.more x x_adds.0 adds.quiet;
       inits = silent init_value (wide ++ x ∷ []) adds.more table.words (leaf_ids wide) (λ k. no_inits adds_leaf leaf_no_init adds.more k adds.quiet);
       nexts = silent next_value (wide ++ x ∷ []) adds.more table.words (leaf_ids wide) (λ k. no_nexts adds_leaf leaf_no_next adds.more k adds.quiet);
       own_inits = subst (AllByRecursion (Lacks init_value (wide ++ x ∷ []) table'.words narrow')) (sym leaves) (λ none. subst (AllByRecursion (λ (p : Node). init_value narrow' p.id ≡ None)) (sym own) inits, tt);

@@ -16,8 +16,9 @@ use Rattle.fit.proofs.ListLemmas.{all_with, all_behind}
 use Rattle.fit.proofs.FrameLemmas.{AreNodes as AreNamed}
 use Rattle.pieces.specs.declared.node.Node.{Node}
 use Rattle.pieces.specs.Nodes.{word_of, bits_in, IsNode, AreNodes}
-use Rattle.pieces.specs.Cuts.{IsWord}
-use Rattle.fitting.specs.Fitted.{Table, constant_words, most_bits, GoesOn, HasWord, AreConstantsOf, InitIsMade, TakesNode, NextIsMade, LineStands}
+use Rattle.pieces.specs.Cuts.{widths, IsWord}
+use Rattle.fitting.specs.Names.{word_names}
+use Rattle.fitting.specs.Fitted.{Table, constant_words, most_bits, GoesOn, HasWord, AreConstantsOf, HaveNames, InitIsMade, TakesNode, NextIsMade, LineStands}
 
 -- ---- lists
 
@@ -122,6 +123,12 @@ nexts_on items more [] (q ∷ qs) h = h
 nexts_on items more (p ∷ ps) [] h = h
 nexts_on items more (p ∷ ps) (q ∷ qs) h = (next_value-append items more p.id q.id h.0, nexts_on items more ps qs h.1)
 
+pub names_on : (items more : List Item) (ps : List Node) (names : List (Option (List ℕ))) → HaveNames items ps names → HaveNames (items ++ more) ps names
+names_on items more [] [] h = h
+names_on items more [] (n ∷ ns) h = h
+names_on items more (p ∷ ps) [] h = h
+names_on items more (p ∷ ps) (n ∷ ns) h = ((h.0.0, find_item-append items more p.id h.0.0 h.0.1, h.0.2), names_on items more ps ns h.1)
+
 -- ---- lines
 
 pub goes_twice : (a b c : List Item) (r s t : Table) (n m l : List Item) → GoesOn a r n b s m → GoesOn b s m c t l → GoesOn a r n c t l
@@ -175,6 +182,8 @@ stands_after wide more table table' narrow lines x named goes h =
       state = λ is.
           subst (λ (ps : List Node). AllByRecursion (λ (p : Node). names_state (narrow ++ lines) p.id ≡ true) ps) (sym same)
           (all_with (λ (p : Node). names_state narrow p.id ≡ true) (λ (p : Node). names_state (narrow ++ lines) p.id ≡ true) (table.words x.id) (λ p own. names_state-append narrow lines p.id own) (h.state is));
+      names = λ is.
+          subst (λ (ps : List Node). HaveNames (narrow ++ lines) ps (word_names x.symbol (widths ps))) (sym same) (names_on narrow lines (table.words x.id) (word_names x.symbol (widths (table.words x.id))) (h.names is));
       init = init_on wide more table table' narrow lines x.body named goes.words h.init;
       next = next_on wide table table' narrow lines x.body named goes.words h.next;
       settled = λ wide' table'' narrow' on. h.settled wide' table'' narrow' (goes_twice wide (wide ++ more) wide' table table' table'' narrow (narrow ++ lines) narrow' goes on);

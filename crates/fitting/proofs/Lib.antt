@@ -1,5 +1,6 @@
 -- The lemmas of this crate.
 pub mod GrowLemmas
+pub mod NameLemmas
 pub mod AssemblyLemmas
 pub mod StepLemmas
 pub mod ValueLemmas

@@ -19,10 +19,12 @@ use Rattle.pieces.specs.Constants.{AreConstants}
 use Rattle.pieces.specs.Lines.{is_plain, ArePlain, named, AddsSorted}
 use Rattle.pieces.specs.Nodes.{word_of, bits_in, AreNodes}
 use Rattle.pieces.specs.Cuts.{widths}
-use Rattle.pieces.proofs.ListLemmas.{word_more, taken, same_taken, same_bits}
-use Rattle.fitting.specs.Fitted.{constant_words, TakesNode}
+use Rattle.pieces.proofs.ListLemmas.{word_more, bits_more, taken, same_taken, same_bits}
+use Rattle.fitting.specs.Names.{piece_symbol, names_from, word_names}
+use Rattle.fitting.specs.Fitted.{constant_words, HaveNames, TakesNode}
 use Rattle.fitting.specs.Steps.{is_leaf_of, IsLeafOf, adds_leaf, adds_init, adds_next, adds_output, IsOther, AreApart, AddsLeaves, AddsInits, AddsNexts, AddsOutputs}
-use Rattle.fitting.proofs.GrowLemmas.{nodes_on, constants_on, inits_on, nexts_on}
+use Rattle.fitting.proofs.GrowLemmas.{nodes_on, constants_on, inits_on, nexts_on, names_on}
+use Rattle.fitting.proofs.NameLemmas.{names_more, split_names}
 use Rattle.fitting.proofs.StepLemmas.{split_leaves, split_nodes, split_map, next_value-after, plain_leaves, plain_inits, plain_nexts}
 
 -- ---- lists
@@ -60,27 +62,35 @@ plain_adds_leaf (body.State s) h = refl
 plain_adds_leaf _ h = h
 
 pub leaf_added : (input : Bool) (old new : List Item) (r : Node) (n : ℕ) (symbol : Option (List ℕ)) (of : ℕ → Body) → ((s : ℕ) → adds_leaf (of s) ≡ true) → ((s : ℕ) → is_leaf_of input (of s) ≡ true) → ((s : ℕ) → (is_input (of s) || is_state (of s)) ≡ true)
-    → AddsSorted old new r.id n symbol of → IsWellFormed new → AddsLeaves input old new (r ∷ [])
+    → AddsSorted old new r.id n symbol of → IsWellFormed new → AddsLeaves input old new (r ∷ []) (symbol ∷ [])
 leaf_added input old new r n symbol of quiet kind leaf a w =
     let added = named r.id symbol (of a.sort) in
     let fresh = (IsAccepted-at new added w (record { before = old ++ a.adds.more; after = []; splits = a.adds.is })).fresh in
+    let found : find_item new r.id ≡ Some added = ap (λ (l : List Item). find_item l r.id) a.adds.is ∙ find_item-after (old ++ a.adds.more) (added ∷ []) r.id fresh ∙ find_item-own added [] in
     record {
       more = a.adds.more ++ added ∷ [];
       is = a.adds.is ∙ append_assoc old a.adds.more (added ∷ []);
       quiet = all_join (λ (y : Item). adds_leaf y.body ≡ true) a.adds.more (added ∷ []) (all_with (λ (y : Item). is_plain y.body ≡ true) (λ (y : Item). adds_leaf y.body ≡ true) a.adds.more (λ y h. plain_adds_leaf y.body h) a.adds.plain) (quiet a.sort, tt);
       ids = split_leaves a.adds.more (added ∷ []) ∙ ap₂ (λ (k l : List ℕ). k ++ l) (plain_leaves a.adds.more a.adds.plain) (ap (λ (b : Bool). map (λ (y : Item). y.id) (cond b (added ∷ []) [])) (leaf a.sort));
-      kinds = ((added, ap (λ (l : List Item). find_item l r.id) a.adds.is ∙ find_item-after (old ++ a.adds.more) (added ∷ []) r.id fresh ∙ find_item-own added [], kind a.sort), tt);
+      kinds = ((added, found, kind a.sort), tt);
       fresh = (find_none old a.adds.more r.id fresh, tt);
+      named = ((added, found, refl), tt);
     }
 
 pub kind_on : (input : Bool) (items more : List Item) (id : ℕ) → IsLeafOf input items id → IsLeafOf input (items ++ more) id
 kind_on input items more id h = (h.0, find_item-append items more id h.0 h.1, h.2)
 
-pub leaves_none : (input : Bool) (old : List Item) → AddsLeaves input old old []
-leaves_none input old = record { more = []; is = sym (append-nil old); quiet = tt; ids = refl; kinds = tt; fresh = tt }
+pub leaves_none : (input : Bool) (old : List Item) → AddsLeaves input old old [] []
+leaves_none input old = record { more = []; is = sym (append-nil old); quiet = tt; ids = refl; kinds = tt; fresh = tt; named = tt }
 
-pub leaves_join : (input : Bool) (old mid new : List Item) (ps qs : List Node) → AddsLeaves input old mid ps → AddsLeaves input mid new qs → AddsLeaves input old new (ps ++ qs)
-leaves_join input old mid new ps qs h k =
+names_join : (items : List Item) (ps qs : List Node) (ms ns : List (Option (List ℕ))) → HaveNames items ps ms → HaveNames items qs ns → HaveNames items (ps ++ qs) (ms ++ ns)
+names_join items [] qs [] ns h k = k
+names_join items [] qs (m ∷ ms) ns h k = absurd h
+names_join items (p ∷ ps) qs [] ns h k = absurd h
+names_join items (p ∷ ps) qs (m ∷ ms) ns h k = (h.0, names_join items ps qs ms ns h.1 k)
+
+pub leaves_join : (input : Bool) (old mid new : List Item) (ps qs : List Node) (ms ns : List (Option (List ℕ))) → AddsLeaves input old mid ps ms → AddsLeaves input mid new qs ns → AddsLeaves input old new (ps ++ qs) (ms ++ ns)
+leaves_join input old mid new ps qs ms ns h k =
     record {
       more = h.more ++ k.more;
       is = two_after old mid new h.more k.more h.is k.is;
@@ -90,6 +100,7 @@ leaves_join input old mid new ps qs h k =
           (all_with (λ (p : Node). IsLeafOf input mid p.id) (λ (p : Node). IsLeafOf input new p.id) ps (λ p own. subst (λ (l : List Item). IsLeafOf input l p.id) (sym k.is) (kind_on input mid k.more p.id own)) h.kinds) k.kinds;
       fresh = all_join (λ (p : Node). find_item old p.id ≡ None) ps qs h.fresh
           (all_with (λ (p : Node). find_item mid p.id ≡ None) (λ (p : Node). find_item old p.id ≡ None) qs (λ p none. find_none old h.more p.id (ap (λ (l : List Item). find_item l p.id) (sym h.is) ∙ none)) k.fresh);
+      named = names_join new ps qs ms ns (subst (λ (l : List Item). HaveNames l ps ms) (sym k.is) (names_on mid k.more ps ms h.named)) k.named;
     }
 
 -- ---- init lines
@@ -211,24 +222,43 @@ follow_next old mid new ps vs k id n d e in_ps in_vs distinct none h a =
 
 -- ---- outputs
 
-pub outputs_none : (old : List Item) → AddsOutputs old old []
-outputs_none old = record { more = []; is = sym (append-nil old); quiet = tt; nodes = refl }
+pub outputs_none : (old : List Item) → AddsOutputs old old [] []
+outputs_none old = record { more = []; is = sym (append-nil old); quiet = tt; nodes = refl; named = refl }
 
-pub output_step : (old mid new : List Item) (ps : List Node) (p : Node) (id : ℕ) (symbol : Option (List ℕ)) → AddsOutputs old mid ps → new ≡ mid ++ named id symbol (body.Output p.id) ∷ [] → AddsOutputs old new (ps ++ p ∷ [])
-output_step old mid new ps p id symbol h is =
+output_step : (old mid new : List Item) (ps : List Node) (names : List (Option (List ℕ))) (p : Node) (id : ℕ) (symbol : Option (List ℕ)) → AddsOutputs old mid ps names → new ≡ mid ++ named id symbol (body.Output p.id) ∷ []
+    → AddsOutputs old new (ps ++ p ∷ []) (names ++ symbol ∷ [])
+output_step old mid new ps names p id symbol h is =
     let added = named id symbol (body.Output p.id) in
     record {
       more = h.more ++ added ∷ [];
       is = two_after old mid new h.more (added ∷ []) h.is is;
       quiet = all_join (λ (y : Item). adds_output y.body ≡ true) h.more (added ∷ []) h.quiet (refl, tt);
       nodes = split_nodes is_output h.more (added ∷ []) ∙ ap (λ (l : List ℕ). l ++ p.id ∷ []) h.nodes ∙ sym (split_map (λ (q : Node). q.id) ps (p ∷ []));
+      named = split_names is_output h.more (added ∷ []) ∙ ap (λ (l : List (Option (List ℕ))). l ++ symbol ∷ []) h.named;
     }
 
-pub show_next : (old mid new : List Item) (ps : List Node) (k id : ℕ) (d : Node) (symbol : Option (List ℕ)) → k < length ps → AddsOutputs old mid (take k ps) → new ≡ mid ++ named id symbol (body.Output (get_or ps k d).id) ∷ []
-    → AddsOutputs old new (take (k + 1) ps)
-show_next old mid new ps k id d symbol within h is = subst (AddsOutputs old new) (sym (taken ps k d within)) (output_step old mid new (take k ps) (get_or ps k d) id symbol h is)
+-- one more of several
+pub show_next : (old mid new : List Item) (ps : List Node) (k id : ℕ) (d : Node) (symbol name : Option (List ℕ)) → k < length ps → name ≡ piece_symbol symbol (bits_in (take k ps)) (get_or ps k d).width
+    → AddsOutputs old mid (take k ps) (names_from symbol 0 (widths (take k ps))) → new ≡ mid ++ named id name (body.Output (get_or ps k d).id) ∷ [] → AddsOutputs old new (take (k + 1) ps) (names_from symbol 0 (widths (take (k + 1) ps)))
+show_next old mid new ps k id d symbol name within own h is =
+    let front = take k ps in
+    let p = get_or ps k d in
+    subst (λ (l : List Node). AddsOutputs old new l (names_from symbol 0 (widths l))) (sym (taken ps k d within))
+    (subst (AddsOutputs old new (front ++ p ∷ [])) (ap (λ (n : Option (List ℕ)). names_from symbol 0 (widths front) ++ n ∷ []) (own ∙ ap (λ (m : ℕ). piece_symbol symbol m p.width) (omega arith)) ∙ sym (names_more symbol 0 front p)) (output_step old mid new front (names_from symbol 0 (widths front)) p id name h is))
 
-pub show_one : (old new : List Item) (ps : List Node) (id : ℕ) (d : Node) (symbol : Option (List ℕ)) → length ps ≡ 1 → new ≡ old ++ named id symbol (body.Output (get_or ps 0 d).id) ∷ [] → AddsOutputs old new ps
+pub show_one : (old new : List Item) (ps : List Node) (id : ℕ) (d : Node) (symbol : Option (List ℕ)) → length ps ≡ 1 → new ≡ old ++ named id symbol (body.Output (get_or ps 0 d).id) ∷ [] → AddsOutputs old new ps (word_names symbol (widths ps))
 show_one old new [] id d symbol one is = absurd (omega (arith, one))
-show_one old new (p ∷ []) id d symbol one is = output_step old old new [] p id symbol (outputs_none old) is
+show_one old new (p ∷ []) id d symbol one is = output_step old old new [] [] p id symbol (outputs_none old) is
 show_one old new (p ∷ q ∷ more) id d symbol one is = absurd (omega (arith, one))
+
+-- what stands behind a piece of a word
+pub next_bits : (ps : List Node) (k : ℕ) (d : Node) → k < length ps → bits_in (take (k + 1) ps) ≡ bits_in (take k ps) + (get_or ps k d).width
+next_bits ps k d within = let more = bits_more (take k ps) (get_or ps k d) in ap bits_in (taken ps k d within) ∙ omega (arith, more)
+
+-- leaves by one more of several
+pub leaf_next : (input : Bool) (old mid new : List Item) (ps next : List Node) (r : Node) (symbol name : Option (List ℕ)) → next ≡ ps ++ r ∷ [] → name ≡ piece_symbol symbol (bits_in ps) r.width → AddsLeaves input old mid ps (names_from symbol 0 (widths ps))
+    → AddsLeaves input mid new (r ∷ []) (name ∷ []) → AddsLeaves input old new next (names_from symbol 0 (widths next))
+leaf_next input old mid new ps next r symbol name is own h k =
+    subst (λ (l : List Node). AddsLeaves input old new l (names_from symbol 0 (widths l))) (sym is)
+    (subst (AddsLeaves input old new (ps ++ r ∷ [])) (ap (λ (n : Option (List ℕ)). names_from symbol 0 (widths ps) ++ n ∷ []) (own ∙ ap (λ (m : ℕ). piece_symbol symbol m r.width) (omega arith)) ∙ sym (names_more symbol 0 ps r))
+    (leaves_join input old mid new ps (r ∷ []) (names_from symbol 0 (widths ps)) (name ∷ []) h k))

@@ -1,5 +1,5 @@
 -- Words of one node, and of more.
-use Rattle.std.proofs.Common.{◌≡◌, ℕ, ◌^◌, ◌<◌, ◌≤◌, Bool, true, false, not, ◌&&◌, List, [], ◌∷◌, length, get_or, refl, sym, ap, ap₂, subst, ◌∙◌, arith}
+use Rattle.std.proofs.Common.{◌≡◌, ℕ, ◌^◌, ◌<◌, ◌≤◌, Bool, true, false, List, [], ◌∷◌, length, get_or, refl, sym, ap, ap₂, subst, ◌∙◌, arith}
 use Rattle.base.specs.declared.operators.Unary.{Unary}
 use Rattle.base.specs.declared.operators.Binary.{Binary}
 use Rattle.base.specs.Widths.{unary_width, binary_width, is_of_bits}
@@ -12,7 +12,7 @@ use Rattle.pieces.specs.Nodes.{word_of, bits_in, Extends, Makes, MakesWord}
 use Rattle.pieces.specs.Cuts.{widths, IsCut, IsWord}
 use Rattle.pieces.proofs.NodeLemmas.{in_frames, both_frames, makes_same}
 use Rattle.pieces.proofs.ListLemmas.{words_fit, nodes_kept}
-use Rattle.fitting.specs.Forms.{is_product, has_pieces, IsBit}
+use Rattle.fitting.specs.Forms.{IsBit}
 
 -- a word of one node is that node's
 pub single_bits : (a : List Node) (d : Node) → length a ≡ 1 → bits_in a ≡ (get_or a 0 d).width
@@ -67,11 +67,11 @@ more_bits [] cut some many = absurd (omega (arith, some))
 more_bits (x ∷ []) cut some many = absurd (many refl)
 more_bits (x ∷ y ∷ more) cut some many = let is = cut.0 in let one = cut_some y.width (widths more) cut.1 in omega (arith, is, one)
 
-pub wide_has_pieces : (op : Binary) (n : ℕ) → 64 < n → (is_of_bits op ≡ true → n ≡ 1) → (64 < n → is_product op ≡ false) → has_pieces op ≡ true
-wide_has_pieces op n many bit product = ap₂ (λ (b c : Bool). not b && not c) (product many) (by (is_of_bits op) refl)
+pub wide_of_words : (op : Binary) (n : ℕ) → 64 < n → (is_of_bits op ≡ true → n ≡ 1) → is_of_bits op ≡ false
+wide_of_words op n many bit = by (is_of_bits op) refl
   where
-    by : (b : Bool) → is_of_bits op ≡ b → b ≡ false
-    by false e = refl
+    by : (b : Bool) → is_of_bits op ≡ b → is_of_bits op ≡ false
+    by false e = e
     by true e = absurd (let one = bit e in omega (arith, one, many))
 
 pub words_same : (items : List Item) (n : ℕ) (value other : Frame → ℕ) (rs : List Node) → ((g : Frame) → value g ≡ other g) → MakesWord items n value rs → MakesWord items n other rs

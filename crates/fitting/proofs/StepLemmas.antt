@@ -17,8 +17,11 @@ use Rattle.fit.proofs.ListLemmas.{all_with, all_both, all_join, to_ids}
 use Rattle.fit.proofs.FrameLemmas.{AreNodes as AreNamed, all_named, properties_there}
 use Rattle.pieces.specs.declared.node.Node.{Node}
 use Rattle.pieces.specs.Lines.{is_plain, ArePlain}
+use Rattle.pieces.specs.Cuts.{widths}
+use Rattle.fitting.specs.Names.{shown_names, names_of}
 use Rattle.fitting.specs.Fitted.{Table, node_ids, layout_by, GoesOn, IsSoundLine, LineStands, is_leaf, leaf_ids, Lacks, IsFitted}
 use Rattle.fitting.proofs.GrowLemmas.{node_found, stands_on, init_value-append, next_value-append}
+use Rattle.fitting.proofs.NameLemmas.{split_names, split_shown, shown_alike}
 
 -- ---- lists one behind the other
 
@@ -132,11 +135,35 @@ lacks_on says keeps after wide more words words' narrow lines id same lacks quie
 
 -- ---- a line and the lines that it is fitted into
 
+-- the names of outputs, bad properties and constraints
+pub record NamesMatch (words : ℕ → List Node) (lines : List Item) (x : Item) : Type 0 where
+  pub outputs : flat_map (shown_names (λ a. widths (words a))) (of_kind is_output (x ∷ [])) ≡ names_of is_output lines
+  pub bads : names_of is_bad (x ∷ []) ≡ names_of is_bad lines
+  pub constraints : names_of is_constraint (x ∷ []) ≡ names_of is_constraint lines
+
+pub none_of_kind : (kind test : Body → Bool) → ((b : Body) → test b ≡ true → kind b ≡ false) → (xs : List Item) → AllByRecursion (λ (y : Item). test y.body ≡ true) xs → of_kind kind xs ≡ []
+none_of_kind kind test none [] h = refl
+none_of_kind kind test none (x ∷ xs) h = rw (none x.body h.0) (none_of_kind kind test none xs h.1)
+
+-- lines of other kinds have none
+pub no_names : (kind test : Body → Bool) → ((b : Body) → test b ≡ true → kind b ≡ false) → (xs : List Item) → AllByRecursion (λ (y : Item). test y.body ≡ true) xs → names_of kind xs ≡ []
+no_names kind test none xs h = ap (map (λ (y : Item). y.symbol)) (none_of_kind kind test none xs h)
+
+pub other_names : (test : Body → Bool) → ((b : Body) → test b ≡ true → is_output b ≡ false) → ((b : Body) → test b ≡ true → is_bad b ≡ false) → ((b : Body) → test b ≡ true → is_constraint b ≡ false)
+    → (words : ℕ → List Node) (lines : List Item) (x : Item) → test x.body ≡ true → AllByRecursion (λ (y : Item). test y.body ≡ true) lines → NamesMatch words lines x
+other_names test no_output no_bad no_constraint words lines x own h =
+    record {
+      outputs = ap (flat_map (shown_names (λ a. widths (words a)))) (none_of_kind is_output test no_output (x ∷ []) (own, tt)) ∙ sym (no_names is_output test no_output lines h);
+      bads = no_names is_bad test no_bad (x ∷ []) (own, tt) ∙ sym (no_names is_bad test no_bad lines h);
+      constraints = no_names is_constraint test no_constraint (x ∷ []) (own, tt) ∙ sym (no_names is_constraint test no_constraint lines h);
+    }
+
 pub record Matches (wide : List Item) (table table' : Table) (narrow' lines : List Item) (x : Item) : Type 0 where
   pub leaves : flat_map (layout_by table'.words) (leaf_ids (x ∷ [])) ≡ leaf_ids lines
   pub outputs : flat_map (layout_by table'.words) (nodes_of is_output (x ∷ [])) ≡ nodes_of is_output lines
   pub bads : map (layout_by table'.words) (nodes_of is_bad (x ∷ [])) ≡ map (λ p. p ∷ []) (nodes_of is_bad lines)
   pub constraints : map (layout_by table'.words) (nodes_of is_constraint (x ∷ [])) ≡ map (λ p. p ∷ []) (nodes_of is_constraint lines)
+  pub names : NamesMatch table'.words lines x
   pub inits : AllByRecursion (λ id. init_value (wide ++ x ∷ []) id ≡ None → AllByRecursion (λ (p : Node). init_value lines p.id ≡ None) (table.words id)) (leaf_ids wide)
   pub nexts : AllByRecursion (λ id. next_value (wide ++ x ∷ []) id ≡ None → AllByRecursion (λ (p : Node). next_value lines p.id ≡ None) (table.words id)) (leaf_ids wide)
   pub own_inits : AllByRecursion (Lacks init_value (wide ++ x ∷ []) table'.words narrow') (leaf_ids (x ∷ []))
@@ -165,6 +192,11 @@ one_piece kind wide x f g narrow lines narrow' is same h own =
     ∙ ap₂ (λ (k l : List (List ℕ)). k ++ l) (same_map f g (nodes_of kind wide) same ∙ h) own
     ∙ sym (split_map (λ p. p ∷ []) (nodes_of kind narrow) (nodes_of kind lines)) ∙ ap (map (λ p. p ∷ [])) (sym (split_nodes kind narrow lines)) ∙ ap (λ (l : List Item). map (λ p. p ∷ []) (nodes_of kind l)) (sym is)
 
+names_next : (kind : Body → Bool) (wide : List Item) (x : Item) (narrow lines narrow' : List Item) → narrow' ≡ narrow ++ lines → names_of kind wide ≡ names_of kind narrow → names_of kind (x ∷ []) ≡ names_of kind lines
+    → names_of kind (wide ++ x ∷ []) ≡ names_of kind narrow'
+names_next kind wide x narrow lines narrow' is h own =
+    split_names kind wide (x ∷ []) ∙ ap₂ (λ (k l : List (Option (List ℕ))). k ++ l) h own ∙ sym (split_names kind narrow lines) ∙ ap (names_of kind) (sym is)
+
 pub fitted_next : (wide : List Item) (table table' : Table) (narrow narrow' : List Item) (x : Item) → IsFitted wide table narrow → IsSoundLine wide x → (goes : GoesOn wide table narrow (wide ++ x ∷ []) table' narrow')
     → LineStands (wide ++ x ∷ []) table' narrow' x → Matches wide table table' narrow' goes.lines x → IsFitted (wide ++ x ∷ []) table' narrow'
 fitted_next wide table table' narrow narrow' x h sound goes own m =
@@ -173,6 +205,8 @@ fitted_next wide table table' narrow narrow' x h sound goes own m =
     let layouts = all_with (λ id. table'.words id ≡ table.words id) (λ id. layout_by table'.words id ≡ layout_by table.words id) (leaf_ids wide) (λ id e. ap node_ids e) words in
     let named : (kind : Body → Bool) → AllByRecursion (λ a. layout_by table'.words a ≡ layout_by table.words a) (nodes_of kind wide) =
     λ kind. all_with (λ a. is_some (node_width wide a) ≡ true) (λ a. layout_by table'.words a ≡ layout_by table.words a) (nodes_of kind wide) (λ a there. ap node_ids (goes.words a (node_found wide a there))) (properties_there wide kind wide (all_named wide h.ordered)) in
+    let shown = all_with (λ (y : Item). AreNamed wide (operands y.body)) (λ (y : Item). AllByRecursion (λ a. widths (table'.words a) ≡ widths (table.words a)) (operands y.body)) wide
+    (λ y there. all_with (λ a. is_some (node_width wide a) ≡ true) (λ a. widths (table'.words a) ≡ widths (table.words a)) (operands y.body) (λ a own. ap widths (goes.words a (node_found wide a own))) there) (all_named wide h.ordered) in
     record {
       ordered = names_more [] wide x h.ordered sound.operands;
       stand = all_join (LineStands (wide ++ x ∷ []) table' narrow') wide (x ∷ [])
@@ -190,11 +224,16 @@ fitted_next wide table table' narrow narrow' x h sound goes own m =
           ∙ sym (split_nodes is_output narrow goes.lines) ∙ ap (nodes_of is_output) (sym goes.narrow_is);
       bads = one_piece is_bad wide x (layout_by table'.words) (layout_by table.words) narrow goes.lines narrow' goes.narrow_is (named is_bad) h.bads m.bads;
       constraints = one_piece is_constraint wide x (layout_by table'.words) (layout_by table.words) narrow goes.lines narrow' goes.narrow_is (named is_constraint) h.constraints m.constraints;
+      output_names = split_shown (λ a. widths (table'.words a)) is_output wide (x ∷ [])
+          ∙ ap₂ (λ (k l : List (Option (List ℕ))). k ++ l) (shown_alike (λ a. widths (table'.words a)) (λ a. widths (table.words a)) is_output wide shown ∙ h.output_names) m.names.outputs
+          ∙ sym (split_names is_output narrow goes.lines) ∙ ap (names_of is_output) (sym goes.narrow_is);
+      bad_names = names_next is_bad wide x narrow goes.lines narrow' goes.narrow_is h.bad_names m.names.bads;
+      constraint_names = names_next is_constraint wide x narrow goes.lines narrow' goes.narrow_is h.constraint_names m.names.constraints;
     }
 
 -- ---- lines that say nothing but what nodes are
 
-plain_leaf : (x : Item) → is_plain x.body ≡ true → is_leaf x ≡ false
+pub plain_leaf : (x : Item) → is_plain x.body ≡ true → is_leaf x ≡ false
 plain_leaf x h = by x.body h
   where
     by : (b : Body) → is_plain b ≡ true → (is_input b || is_state b) ≡ false
@@ -250,6 +289,7 @@ plain_matches wide table table' narrow' lines x own h =
       outputs = ap (flat_map (layout_by table'.words)) (plain_nodes is_output plain_output (x ∷ []) (own, tt)) ∙ sym (plain_nodes is_output plain_output lines h);
       bads = ap (map (layout_by table'.words)) (plain_nodes is_bad plain_bad (x ∷ []) (own, tt)) ∙ ap (map (λ p. p ∷ [])) (sym (plain_nodes is_bad plain_bad lines h));
       constraints = ap (map (layout_by table'.words)) (plain_nodes is_constraint plain_constraint (x ∷ []) (own, tt)) ∙ ap (map (λ p. p ∷ [])) (sym (plain_nodes is_constraint plain_constraint lines h));
+      names = other_names is_plain plain_output plain_bad plain_constraint table'.words lines x own h;
       inits = all_of (λ id. init_value (wide ++ x ∷ []) id ≡ None → AllByRecursion (λ (p : Node). init_value lines p.id ≡ None) (table.words id)) (leaf_ids wide)
           (λ id none. all_of (λ (p : Node). init_value lines p.id ≡ None) (table.words id) (λ p. plain_inits lines p.id h));
       nexts = all_of (λ id. next_value (wide ++ x ∷ []) id ≡ None → AllByRecursion (λ (p : Node). next_value lines p.id ≡ None) (table.words id)) (leaf_ids wide)

@@ -23,7 +23,7 @@ use Rattle.pieces.specs.Cuts.{IsWord}
 use Rattle.fitting.specs.Fitted.{Table, node_ids, layout_by, constant_words, IsSoundLine, HasWord, AreConstantsOf, LineStands, is_leaf, leaf_ids, Lacks, IsFitted}
 use Rattle.fitting.specs.Steps.{adds_init, adds_next, IsOther, AreApart, AddsInits, AddsNexts}
 use Rattle.fitting.proofs.GrowLemmas.{all_at, constants_on}
-use Rattle.fitting.proofs.StepLemmas.{split_leaves, split_pieces, next_value-after, fitted_next}
+use Rattle.fitting.proofs.StepLemmas.{split_leaves, split_pieces, next_value-after, fitted_next, other_names}
 use Rattle.fitting.proofs.ValueLemmas.{last_found, stands_without}
 use Rattle.fitting.proofs.SoundLemmas.{operand, agree}
 use Rattle.fitting.proofs.FormLemmas.{no_leaves, no_nodes, no_inits, no_nexts, silent, same_table, init_no_leaf, init_no_output, init_no_bad, init_no_constraint, init_no_next, next_no_leaf, next_no_output, next_no_bad, next_no_constraint, next_no_init}
@@ -214,6 +214,7 @@ init_fitted wide table narrow narrow' id s t v symbol h w sound adds =
       outputs = sym (no_nodes is_output adds_init init_no_output adds.more adds.quiet);
       bads = ap (map (λ p. p ∷ [])) (sym (no_nodes is_bad adds_init init_no_bad adds.more adds.quiet));
       constraints = ap (map (λ p. p ∷ [])) (sym (no_nodes is_constraint adds_init init_no_constraint adds.more adds.quiet));
+      names = other_names adds_init init_no_output init_no_bad init_no_constraint table.words adds.more x refl adds.quiet;
       inits = still_others init_value (wide ++ x ∷ []) adds.more table.words t v (leaf_ids wide) said adds.others ready.0.of.others;
       nexts = silent next_value (wide ++ x ∷ []) adds.more table.words (leaf_ids wide) (λ k. no_nexts adds_init init_no_next adds.more k adds.quiet);
       own_inits = tt;
@@ -234,6 +235,7 @@ next_fitted wide table narrow narrow' id s t v symbol h w sound adds =
       outputs = sym (no_nodes is_output adds_next next_no_output adds.more adds.quiet);
       bads = ap (map (λ p. p ∷ [])) (sym (no_nodes is_bad adds_next next_no_bad adds.more adds.quiet));
       constraints = ap (map (λ p. p ∷ [])) (sym (no_nodes is_constraint adds_next next_no_constraint adds.more adds.quiet));
+      names = other_names adds_next next_no_output next_no_bad next_no_constraint table.words adds.more x refl adds.quiet;
       inits = silent init_value (wide ++ x ∷ []) adds.more table.words (leaf_ids wide) (λ k. no_inits adds_next next_no_init adds.more k adds.quiet);
       nexts = still_others next_value (wide ++ x ∷ []) adds.more table.words t v (leaf_ids wide) said adds.others ready.0.of.others;
       own_inits = tt;

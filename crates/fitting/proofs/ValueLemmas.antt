@@ -1,12 +1,12 @@
 -- A fitted list with a line more that gives a node a word by those of its operands, or with one that gives none.
-use Rattle.std.proofs.Common.{◌≡◌, ℕ, ◌≤◌, Bool, true, false, true≢false, cond, ◌==◌, eq-eqb, eqb-true, List, [], ◌∷◌, ◌++◌, Option, Some, None, IfSome, is_some, unwrap_or, option_and_then, append_assoc, refl, sym, ap, ap₂, subst, ◌∙◌, arith}
+use Rattle.std.proofs.Common.{◌≡◌, ℕ, ◌≤◌, Bool, true, false, true≢false, cond, ◌==◌, eq-eqb, eqb-true, List, [], ◌∷◌, ◌++◌, Option, Some, None, IfSome, is_some, unwrap_or, option_and_then, append_assoc, ◌||◌, refl, sym, ap, ap₂, subst, ◌∙◌, arith}
 use Rattle.std.specs.List.{AllByRecursion}
 use Rattle.std.proofs.lemmas.Option.{none-some}
 use Rattle.base.specs.Operator.{unary_value, binary_value, ite_value, slice_value, uext_value, sext_value, concat_value}
 use Rattle.btor2.specs.declared.item.Item.{Item}
 use Rattle.btor2.specs.declared.item.Body.{Body}
 use Rattle.btor2.specs.declared.item.Body.TheVariants as body
-use Rattle.btor2.specs.Items.{find_item, node_sort, node_width, width_of_body, sort_bits, sort_width, operands, constant_word, is_state}
+use Rattle.btor2.specs.Items.{find_item, node_sort, node_width, width_of_body, sort_bits, sort_width, operands, constant_word, is_input, is_state}
 use Rattle.btor2.specs.Check.{IsWellFormed}
 use Rattle.btor2.specs.Trace.{Frame, bits_of, line_word, IsFrame, IsInput, IsState}
 use Rattle.btor2.proofs.AppendLemmas.{find_item-append, find_item-after, sort_width-append, node_width-append, then_parts, some_of, is_some_from}
@@ -24,7 +24,7 @@ use Rattle.pieces.proofs.LawLemmas.{gives}
 use Rattle.fitting.specs.Fitted.{Table, node_ids, layout_by, words_in, most_bits, IsSoundLine, IsWordOfLine, GoesOn, IsSettled, HasWord, AreConstantsOf, InitIsMade, NextIsMade, LineStands, IsFitted}
 use Rattle.fitting.proofs.GrowLemmas.{all_at, node_found, nodes_on}
 use Rattle.fitting.proofs.AssemblyLemmas.{named_word, pieces_make}
-use Rattle.fitting.proofs.StepLemmas.{fitted_next, plain_matches}
+use Rattle.fitting.proofs.StepLemmas.{fitted_next, plain_leaf, plain_matches}
 
 -- ---- what the table has of a sort
 
@@ -182,6 +182,7 @@ value_fitted wide table table' narrow narrow' x rs h sound plain e line constant
           });
       constant = subst (λ (ps : List Node). IfSome (constant_word (bits_in ps) x.body) (λ w. AreConstantsOf narrow' w ps)) (sym own) constants;
       state = λ is. absurd (true≢false (sym is ∙ plain_no_state x.body plain));
+      names = λ is. absurd (true≢false (sym is ∙ plain_leaf x plain));
       init = plain_init_made (wide ++ x ∷ []) table'.words narrow' x.body plain;
       next = plain_next_made table'.words narrow' x.body plain;
       settled = value_settled wide table table' narrow narrow' x rs h sound plain to line own;
@@ -228,6 +229,11 @@ none_no_state : (b : Body) → node_sort b ≡ None → is_state b ≡ false
 none_no_state (body.State s) h = absurd (none-some s (sym h))
 none_no_state _ h = refl
 
+none_no_leaf : (b : Body) → node_sort b ≡ None → (is_input b || is_state b) ≡ false
+none_no_leaf (body.Input s) h = absurd (none-some s (sym h))
+none_no_leaf (body.State s) h = absurd (none-some s (sym h))
+none_no_leaf _ h = refl
+
 pub stands_without : (wide : List Item) (table : Table) (narrow : List Item) (x : Item) → node_sort x.body ≡ None → find_item wide x.id ≡ Some x → IfSome (sort_bits x.body) (λ n. (table.sorts x.id ≡ Some n) × ((1 ≤ n) × (n ≤ most_bits)))
     → InitIsMade wide table.words narrow x.body → NextIsMade table.words narrow x.body → LineStands wide table narrow x
 stands_without wide table narrow x none found sort init next =
@@ -237,6 +243,7 @@ stands_without wide table narrow x none found sort init next =
       value = subst (λ (o : Option ℕ). IfSome o (HasWord wide table.words narrow x.id)) (sym none) tt;
       constant = subst (λ (o : Option ℕ). IfSome o (λ w. AreConstantsOf narrow w (table.words x.id))) (sym (no_constant (bits_in (table.words x.id)) x.body none)) tt;
       state = λ is. absurd (true≢false (sym is ∙ none_no_state x.body none));
+      names = λ is. absurd (true≢false (sym is ∙ none_no_leaf x.body none));
       init = init;
       next = next;
       settled = λ wide' table' narrow' on w no_state. carries_no_word wide' narrow' (layout_by table'.words) x (λ state input f. no_word wide' state input f x.id x.body none);

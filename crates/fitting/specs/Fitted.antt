@@ -7,12 +7,14 @@ use Rattle.btor2.specs.declared.item.Body.TheVariants as body
 use Rattle.btor2.specs.Items.{find_item, node_sort, sort_bits, sort_width, constant_word, constant_of, names_state, is_input, is_state, is_bad, is_constraint, is_free, init_value, init_word, next_value}
 use Rattle.btor2.specs.Check.{IsWellFormed, sort_is_missing, operand_is_missing, state_is_none, slice_is_out_of_range, widths_differ, constant_does_not_fit, init_is_not_constant, is_second_init, is_second_next}
 use Rattle.btor2.specs.Trace.{Frame, line_word}
+use Rattle.btor2.specs.Lists.{of_kind}
 use Rattle.btor2.specs.Reachability.{nodes_of}
 use Rattle.fit.specs.Fitting.{Layout, ids_of, is_output, Carries, init_words, NamesEarlierAfter}
 use Rattle.pieces.specs.declared.node.Node.{Node}
 use Rattle.pieces.specs.Nodes.{word_of, bits_in, MakesWord}
 use Rattle.pieces.specs.Cuts.{widths, IsCut, IsWord}
 use Rattle.pieces.specs.Constants.{AreConstants}
+use Rattle.fitting.specs.Names.{IsNamed, word_names, shown_names, names_of}
 
 -- what is kept of a wide list by its ids: the widths of sorts, and the nodes of words, the lowest first
 pub record Table : Type 0 where
@@ -112,20 +114,25 @@ abbrev pub NextIsMade : (ℕ → List Node) → List Item → Body → Type 0
 NextIsMade words narrow (body.Next s t v) = AllZip (TakesNode narrow) (words t) (words v)
 NextIsMade words narrow _ = Unit {0}
 
+abbrev pub is_leaf : Item → Bool
+is_leaf x = is_input x.body || is_state x.body
+
+-- nodes have names
+abbrev pub HaveNames : List Item → List Node → List (Option (List ℕ)) → Type 0
+HaveNames narrow ps names = AllZip (λ (p : Node) (name : Option (List ℕ)). IsNamed narrow p.id name) ps names
+
 pub record LineStands (wide : List Item) (table : Table) (narrow : List Item) (x : Item) : Type 0 where
   pub found : find_item wide x.id ≡ Some x
   pub sort : IfSome (sort_bits x.body) (λ n. (table.sorts x.id ≡ Some n) × ((1 ≤ n) × (n ≤ most_bits)))
   pub value : IfSome (node_sort x.body) (HasWord wide table.words narrow x.id)
   pub constant : IfSome (constant_word (bits_in (table.words x.id)) x.body) (λ w. AreConstantsOf narrow w (table.words x.id))
   pub state : is_state x.body ≡ true → AllByRecursion (λ (p : Node). names_state narrow p.id ≡ true) (table.words x.id)
+  pub names : is_leaf x ≡ true → HaveNames narrow (table.words x.id) (word_names x.symbol (widths (table.words x.id)))
   pub init : InitIsMade wide table.words narrow x.body
   pub next : NextIsMade table.words narrow x.body
   pub settled : IsSettled wide table narrow x
 
 -- ---- what stands of all
-
-abbrev pub is_leaf : Item → Bool
-is_leaf x = is_input x.body || is_state x.body
 
 abbrev pub leaf_ids : List Item → List ℕ
 leaf_ids items = ids_of is_leaf items
@@ -145,3 +152,6 @@ pub record IsFitted (wide : List Item) (table : Table) (narrow : List Item) : Ty
   pub outputs : flat_map (layout_by table.words) (nodes_of is_output wide) ≡ nodes_of is_output narrow
   pub bads : map (layout_by table.words) (nodes_of is_bad wide) ≡ map (λ p. p ∷ []) (nodes_of is_bad narrow)
   pub constraints : map (layout_by table.words) (nodes_of is_constraint wide) ≡ map (λ p. p ∷ []) (nodes_of is_constraint narrow)
+  pub output_names : flat_map (shown_names (λ a. widths (table.words a))) (of_kind is_output wide) ≡ names_of is_output narrow
+  pub bad_names : names_of is_bad wide ≡ names_of is_bad narrow
+  pub constraint_names : names_of is_constraint wide ≡ names_of is_constraint narrow

@@ -1,7 +1,5 @@
 -- Which forms are fitted, what each asks of the words that it names, and which word it gives for them.
-use Rattle.std.specs.Prelude.{◌≡◌, ℕ, ◌+◌, ◌-◌, ◌^◌, ◌<◌, ◌≤◌, Bool, true, false, not, ◌&&◌, nat_lt, ℤ, pos, int_le, int_lt, List, length, Option, Some, None, if◌then◌else◌}
-use Rattle.base.specs.declared.operators.Binary.{Binary}
-use Rattle.base.specs.declared.operators.Binary.TheVariants as binary
+use Rattle.std.specs.Prelude.{◌≡◌, ℕ, ◌+◌, ◌-◌, ◌^◌, ◌<◌, ◌≤◌, Bool, true, false, List, Option, Some, None}
 use Rattle.base.specs.Widths.{unary_width, binary_width, is_of_bits}
 use Rattle.base.specs.Operator.{unary_value, binary_value, ite_value, slice_value, uext_value, sext_value, concat_value}
 use Rattle.btor2.specs.declared.item.Item.{Item}
@@ -14,23 +12,6 @@ use Rattle.pieces.specs.Cuts.{IsWord}
 use Rattle.pieces.specs.Kept.{IsShort}
 use Rattle.fitting.specs.declared.unfitted.Unfitted.{Unfitted}
 use Rattle.fitting.specs.declared.unfitted.Unfitted.TheVariants as unfitted
-
--- products and quotients, and whether one overflows: they have no pieces yet
-abbrev pub is_product : Binary → Bool
-is_product binary.Mul = true
-is_product binary.Udiv = true
-is_product binary.Sdiv = true
-is_product binary.Urem = true
-is_product binary.Srem = true
-is_product binary.Smod = true
-is_product binary.Umulo = true
-is_product binary.Smulo = true
-is_product binary.Sdivo = true
-is_product _ = false
-
--- the operators of words of more than one node
-abbrev pub has_pieces : Binary → Bool
-has_pieces op = not (is_product op) && not (is_of_bits op)
 
 abbrev pub IsBit : ℕ → Type 0
 IsBit a = a < 2
@@ -63,7 +44,7 @@ IsReady narrow words (body.Sext s a by) = IsWord narrow (words a) × (bits_in (w
 IsReady narrow words (body.Slice s a u l) = IsWord narrow (words a) × ((l ≤ u) × (u < bits_in (words a)))
 IsReady narrow words (body.Unary op s a) = IsWord narrow (words a)
 IsReady narrow words (body.Binary op s a b) =
-    IsWord narrow (words a) × (IsWord narrow (words b) × ((bits_in (words a) ≡ bits_in (words b)) × ((is_of_bits op ≡ true → bits_in (words a) ≡ 1) × (64 < bits_in (words a) → is_product op ≡ false))))
+    IsWord narrow (words a) × (IsWord narrow (words b) × ((bits_in (words a) ≡ bits_in (words b)) × ((is_of_bits op ≡ true → bits_in (words a) ≡ 1) × (bits_in (words a) < 2 ^ 61))))
 IsReady narrow words (body.Concat s a b) = IsWord narrow (words a) × (IsWord narrow (words b) × (bits_in (words a) + bits_in (words b) < 2 ^ 63))
 IsReady narrow words (body.Ite s c t e) =
     IsWord narrow (words c) × (IsWord narrow (words t) × (IsWord narrow (words e) × ((bits_in (words c) ≡ 1) × (bits_in (words t) ≡ bits_in (words e)))))
@@ -91,23 +72,13 @@ form_value words (body.Concat s a b) g = concat_value (word_of g (words a)) (bit
 form_value words (body.Ite s c t e) g = ite_value (word_of g (words c)) (word_of g (words t)) (word_of g (words e))
 form_value words _ g = 0
 
--- a decimal is from 0 to below 2 ^ 64
-abbrev pub is_short : ℤ → Bool
-is_short v = int_le (pos 0) v && int_lt v (pos (2 ^ 64))
-
-abbrev pub HasFewDigits : Body → Type 0
-HasFewDigits (body.Constd s v) = is_short v ≡ true
-HasFewDigits _ = Unit {0}
-
--- why a line that can be fitted is not, by its form, where the words so far have these nodes
-abbrev pub form_fault : (ℕ → List Node) → Body → Option Unfitted
-form_fault words (body.Binary op s a b) = if is_product op && nat_lt 1 (length (words a)) then Some unfitted.WideProduct else None
-form_fault words (body.Constd s v) = if is_short v then None else Some unfitted.Decimal
-form_fault words (body.Fair a) = Some unfitted.Fair
-form_fault words (body.Justice nodes) = Some unfitted.Justice
-form_fault words _ = None
+-- why a line that can be fitted is not, by its form
+abbrev pub form_fault : Body → Option Unfitted
+form_fault (body.Fair a) = Some unfitted.Fair
+form_fault (body.Justice nodes) = Some unfitted.Justice
+form_fault _ = None
 
 -- why a line is not fitted: its form, or what is wanting in the narrow list
-abbrev pub IsRefused : (ℕ → List Node) → Body → List Item → Unfitted → Type 0
-IsRefused words b narrow (unfitted.Short e) = (form_fault words b ≡ None) × IsShort narrow e
-IsRefused words b narrow e = form_fault words b ≡ Some e
+abbrev pub IsRefused : Body → List Item → Unfitted → Type 0
+IsRefused b narrow (unfitted.Short e) = (form_fault b ≡ None) × IsShort narrow e
+IsRefused b narrow e = form_fault b ≡ Some e

@@ -10,7 +10,8 @@ use Rattle.fit.specs.Fitting.{is_output, init_words}
 use Rattle.pieces.specs.declared.node.Node.{Node}
 use Rattle.pieces.specs.Lines.{is_plain}
 use Rattle.pieces.specs.Nodes.{word_of}
-use Rattle.fitting.specs.Fitted.{node_ids, constant_words, TakesNode, leaf_ids}
+use Rattle.fitting.specs.Names.{names_of}
+use Rattle.fitting.specs.Fitted.{node_ids, constant_words, HaveNames, TakesNode, leaf_ids}
 
 -- whether a body is that of an input, or of a state
 abbrev pub is_leaf_of : Bool → Body → Bool
@@ -51,14 +52,15 @@ abbrev pub AreApart : List Node → Type 0
 AreApart [] = Unit {0}
 AreApart (p ∷ ps) = AllByRecursion (λ (q : Node). nat_eq q.id p.id ≡ false) ps × AreApart ps
 
--- new leaves, beside plain lines
-pub record AddsLeaves (input : Bool) (old new : List Item) (ps : List Node) : Type 0 where
+-- new leaves with their names, beside plain lines
+pub record AddsLeaves (input : Bool) (old new : List Item) (ps : List Node) (names : List (Option (List ℕ))) : Type 0 where
   pub more : List Item
   pub is : new ≡ old ++ more
   pub quiet : AllByRecursion (λ (y : Item). adds_leaf y.body ≡ true) more
   pub ids : leaf_ids more ≡ node_ids ps
   pub kinds : AllByRecursion (λ (p : Node). IsLeafOf input new p.id) ps
   pub fresh : AllByRecursion (λ (p : Node). find_item old p.id ≡ None) ps
+  pub named : HaveNames new ps names
 
 -- init lines of states, by the words of constants
 pub record AddsInits (old new : List Item) (ps vs : List Node) : Type 0 where
@@ -77,15 +79,22 @@ pub record AddsNexts (old new : List Item) (ps vs : List Node) : Type 0 where
   pub others : (id : ℕ) → IsOther ps id → next_value more id ≡ None
   pub takes : AllZip (TakesNode new) ps vs
 
--- outputs
-pub record AddsOutputs (old new : List Item) (ps : List Node) : Type 0 where
+-- outputs with their names
+pub record AddsOutputs (old new : List Item) (ps : List Node) (names : List (Option (List ℕ))) : Type 0 where
   pub more : List Item
   pub is : new ≡ old ++ more
   pub quiet : AllByRecursion (λ (y : Item). adds_output y.body ≡ true) more
   pub nodes : nodes_of is_output more ≡ node_ids ps
+  pub named : names_of is_output more ≡ names
 
 -- the lines before one, and its id and name
 pub record Place : Type 0 where
   pub wide : List Item
   pub id : ℕ
   pub symbol : Option (List ℕ)
+
+-- the lines before that of a constant, and what it is and its name
+pub record ConstantPlace : Type 0 where
+  pub wide : List Item
+  pub symbol : Option (List ℕ)
+  pub body : Body

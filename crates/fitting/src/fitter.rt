@@ -2,9 +2,8 @@
 use crate::constants::constant_word;
 use crate::forms::operator_word;
 use crate::leaves::leaves;
-use crate::operators::is_product;
 use crate::transitions::{begin, follow, show};
-use crate::unfitted::Unfitted;
+use crate::unfitted::{Unfitted, form_fault};
 use crate::words::Words;
 use btor2::{Body, Item, Model, Symbol};
 use indexmap::IndexMap;
@@ -26,15 +25,15 @@ impl Fitter {
     ghost use Rattle.std.specs.HashMap.{get};
     ghost use Rattle.btor2.specs.declared.item.Item.{Item};
     ghost use Rattle.btor2.specs.declared.item.Body.TheVariants as body;
-    ghost use Rattle.btor2.specs.Items.{node_sort};
+    ghost use Rattle.btor2.specs.Items.{node_sort, sort_width, constant_word};
     ghost use Rattle.fit.specs.Fitting.{IsFittingOf};
     ghost use Rattle.pieces.specs.Kept.{IsShort};
     ghost use Rattle.pieces.specs.Constants.{digits_value};
     ghost use Rattle.pieces.specs.Lines.{named};
-    ghost use Rattle.fitting.specs.Forms.{is_operator, is_constant_line, HasFewDigits, form_fault, IsRefused};
+    ghost use Rattle.fitting.specs.Forms.{is_operator, is_constant_line, form_fault, IsRefused};
     ghost use Rattle.fitting.specs.Fitted.{IsSoundLine, IsFitted};
-    ghost use Rattle.fitting.specs.Fitters.{word_at};
-    ghost use Rattle.fitting.specs.Steps.{leaf_body, Place};
+    ghost use Rattle.fitting.specs.Steps.{leaf_body, Place, ConstantPlace};
+    ghost use Rattle.fitting.specs.Names.{HasNames};
     ghost use Rattle.fitting.specs.Tables.{table_of, layout_of};
 
     /// A model of no lines.
@@ -48,14 +47,16 @@ impl Fitter {
         }
     }
 
-    /// The model of the profile into which the lines so far are fitted.
-    pub fn model(&self) -> &Model
+    /// The model of the profile into which the lines are fitted. A node of more than 64 bits gives its name to its pieces, each
+    /// with the bits that it is.
+    pub fn finish(self) -> Model
         ghost wide: { List Item }
-        requires fitted { IsFitted wide (table_of self.now) self.now.maker }
-        ensures fits { IsFittingOf wide (layout_of self.now) result.now }
+        requires fitted { IsFitted wide (table_of self) self.maker }
+        ensures fits { IsFittingOf wide (layout_of self) result }
+        ensures names { HasNames wide (layout_of self) result }
     {
         let _items = self.maker.model().items();
-        self.maker.model()
+        self.maker.finish()
     }
 
     /// The width of a sort.
@@ -95,6 +96,7 @@ impl Fitter {
         ghost at: { Place }
         requires fitted { IsFitted at.wide (table_of self.old) self.old.maker }
         requires sound { IsSoundLine at.wide (named id at.symbol (leaf_body is_input sort)) }
+        requires name { at.symbol ≡ symbol }
         ensures fitted { OnOk result (IsFitted (at.wide ++ named id at.symbol (leaf_body is_input sort) ∷ [])
             (table_of self.new) self.new.maker) }
         ensures short { IfErr result (IsShort self.new.maker) }
@@ -111,7 +113,6 @@ impl Fitter {
         requires fitted { IsFitted at.wide (table_of self.old) self.old.maker }
         requires sound { IsSoundLine at.wide (named id at.symbol body.now) }
         requires form { is_operator body.now ≡ true }
-        requires right { form_fault (word_at self.old.words) body.now ≡ None }
         ensures fitted { OnOk result (IsFitted (at.wide ++ named id at.symbol body.now ∷ [])
             (table_of self.new) self.new.maker) }
         ensures short { IfErr result (IsShort self.new.maker) }
@@ -133,7 +134,6 @@ impl Fitter {
         requires sound { IsSoundLine at.wide (named id at.symbol body.now) }
         requires form { is_constant_line body.now ≡ true }
         requires sort { node_sort body.now ≡ Some sort }
-        requires few { HasFewDigits body.now }
         ensures fitted { OnOk result (IsFitted (at.wide ++ named id at.symbol body.now ∷ [])
             (table_of self.new) self.new.maker) }
         ensures short { IfErr result (IsShort self.new.maker) }
@@ -144,10 +144,11 @@ impl Fitter {
         self.words.put(id, nodes.as_slice())
     }
 
-    /// Adds the line of a binary constant by its digits of 64 bits each, the lowest first: of one that an item cannot hold.
+    /// Adds the line of a constant by the digits of its word, of 64 bits each, the lowest first: of one that an item cannot hold.
     /// Where it is refused the fitter is of no more use.
     ///
-    /// Conditions: as of `add`; there are as many digits of 64 bits as a word of `width` bits takes.
+    /// Conditions: as of `add`; the word of the constant, of `width` bits, is the number of these digits, which are as many as it
+    /// takes.
     pub fn add_digits(
         &mut self,
         alloc: Global,
@@ -156,14 +157,16 @@ impl Fitter {
         width: u64,
         digits: &[u64],
     ) -> Result<(), Shortage>
-        ghost at: { Place }
+        ghost at: { ConstantPlace }
         requires fitted { IsFitted at.wide (table_of self.old) self.old.maker }
-        requires sound { IsSoundLine at.wide
-            (named id at.symbol (body.Const sort width (digits_value digits.now))) }
+        requires sound { IsSoundLine at.wide (named id at.symbol at.body) }
+        requires form { is_constant_line at.body ≡ true }
+        requires sort { node_sort at.body ≡ Some sort }
+        requires width { sort_width at.wide sort ≡ Some width }
+        requires word { constant_word width at.body ≡ Some (digits_value digits.now) }
         requires enough { width ≤ 64 * length digits.now }
         requires few { 64 * length digits.now < width + 64 }
-        ensures fitted { OnOk result
-            (IsFitted (at.wide ++ named id at.symbol (body.Const sort width (digits_value digits.now)) ∷ [])
+        ensures fitted { OnOk result (IsFitted (at.wide ++ named id at.symbol at.body ∷ [])
             (table_of self.new) self.new.maker) }
         ensures short { IfErr result (IsShort self.new.maker) }
     {
@@ -213,6 +216,7 @@ impl Fitter {
         ghost at: { Place }
         requires fitted { IsFitted at.wide (table_of self.old) self.old.maker }
         requires sound { IsSoundLine at.wide (named at.id at.symbol (body.Bad operand)) }
+        requires name { at.symbol ≡ symbol }
         ensures fitted { OnOk result (IsFitted (at.wide ++ named at.id at.symbol (body.Bad operand) ∷ [])
             (table_of self.new) self.new.maker) }
         ensures short { IfErr result (IsShort self.new.maker) }
@@ -227,6 +231,7 @@ impl Fitter {
         ghost at: { Place }
         requires fitted { IsFitted at.wide (table_of self.old) self.old.maker }
         requires sound { IsSoundLine at.wide (named at.id at.symbol (body.Constraint operand)) }
+        requires name { at.symbol ≡ symbol }
         ensures fitted { OnOk result
             (IsFitted (at.wide ++ named at.id at.symbol (body.Constraint operand) ∷ [])
             (table_of self.new) self.new.maker) }
@@ -238,59 +243,21 @@ impl Fitter {
     }
 
     /// Adds the line of an output.
-    fn add_output(&mut self, symbol: Option<Symbol>, operand: u32) -> Result<(), Shortage>
+    fn add_output(
+        &mut self,
+        alloc: Global,
+        symbol: Option<Symbol>,
+        operand: u32,
+    ) -> Result<(), Shortage>
         ghost at: { Place }
         requires fitted { IsFitted at.wide (table_of self.old) self.old.maker }
         requires sound { IsSoundLine at.wide (named at.id at.symbol (body.Output operand)) }
+        requires name { at.symbol ≡ symbol }
         ensures fitted { OnOk result (IsFitted (at.wide ++ named at.id at.symbol (body.Output operand) ∷ [])
             (table_of self.new) self.new.maker) }
         ensures short { IfErr result (IsShort self.new.maker) }
     {
-        show(&mut self.maker, symbol, self.words.get(operand))
-    }
-
-    /// Why the form of a line keeps it from being fitted, if it does.
-    fn form_fault(&self, body: &Body) -> Option<Unfitted>
-        ensures { result ≡ form_fault (word_at self.now.words) body.now }
-    {
-        match body {
-            Body::Binary { operator, left, .. } => {
-                if is_product(*operator) && self.words.get(*left).len() > 1 {
-                    Some(Unfitted::WideProduct)
-                } else {
-                    None
-                }
-            }
-            Body::Constd { value, .. } => {
-                let number = value.value();
-                if 0 <= number && number < 1 << 64 {
-                    None
-                } else {
-                    Some(Unfitted::Decimal)
-                }
-            }
-            Body::Fair { .. } => Some(Unfitted::Fair),
-            Body::Justice { .. } => Some(Unfitted::Justice),
-            Body::Sort { .. }
-            | Body::Input { .. }
-            | Body::State { .. }
-            | Body::Zero { .. }
-            | Body::One { .. }
-            | Body::Ones { .. }
-            | Body::Const { .. }
-            | Body::Consth { .. }
-            | Body::Uext { .. }
-            | Body::Sext { .. }
-            | Body::Slice { .. }
-            | Body::Unary { .. }
-            | Body::Concat { .. }
-            | Body::Ite { .. }
-            | Body::Init { .. }
-            | Body::Next { .. }
-            | Body::Bad { .. }
-            | Body::Constraint { .. }
-            | Body::Output { .. } => None,
-        }
+        show(alloc, &mut self.maker, symbol, self.words.get(operand))
     }
 
     /// Adds a line of a form that is fitted.
@@ -304,7 +271,8 @@ impl Fitter {
         ghost at: { Place }
         requires fitted { IsFitted at.wide (table_of self.old) self.old.maker }
         requires sound { IsSoundLine at.wide (named at.id at.symbol body.now) }
-        requires right { form_fault (word_at self.old.words) body.now ≡ None }
+        requires right { form_fault body.now ≡ None }
+        requires name { at.symbol ≡ symbol }
         requires place { at.id ≡ id }
         ensures fitted { OnOk result (IsFitted (at.wide ++ named at.id at.symbol body.now ∷ [])
             (table_of self.new) self.new.maker) }
@@ -331,7 +299,7 @@ impl Fitter {
             Body::Next { sort, state, value } => self.add_next(*sort, *state, *value),
             Body::Bad { operand } => self.add_bad(symbol, *operand),
             Body::Constraint { operand } => self.add_constraint(symbol, *operand),
-            Body::Output { operand } => self.add_output(symbol, *operand),
+            Body::Output { operand } => self.add_output(alloc, symbol, *operand),
             Body::Fair { .. } | Body::Justice { .. } => unreachable!(),
         }
     }
@@ -341,16 +309,16 @@ impl Fitter {
     /// Conditions: the lines so far were fitted, and no row of the profile refuses the line for what it says, but for the greatest
     /// width of a sort.
     ///
-    /// Errors: `WideProduct`, `Decimal`, `Fair` and `Justice` as said at each, else `Short`.
+    /// Errors: `Fair` and `Justice` for such lines, else `Short`.
     pub fn add(&mut self, alloc: Global, item: Item) -> Result<(), Unfitted>
         ghost wide: { List Item }
         requires fitted { IsFitted wide (table_of self.old) self.old.maker }
         requires sound { IsSoundLine wide item }
         ensures fitted { OnOk result (IsFitted (wide ++ item ∷ []) (table_of self.new) self.new.maker) }
-        ensures refused { IfErr result (IsRefused (word_at self.old.words) item.body self.new.maker) }
+        ensures refused { IfErr result (IsRefused item.body self.new.maker) }
     {
         let Item { id, symbol, body } = item;
-        if let Some(fault) = self.form_fault(&body) {
+        if let Some(fault) = form_fault(&body) {
             return Err(fault);
         }
         match self.take(alloc, id, symbol, &body) {

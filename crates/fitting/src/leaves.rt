@@ -1,12 +1,14 @@
 //! Inputs and states, by nodes of at most 64 bits.
-ghost use Rattle.std.specs.Prelude.{◌≡◌, ◌≤◌, ◌++◌, [], ◌∷◌, true, false, OnOk, IfOk, IfErr};
+ghost use Rattle.std.specs.Prelude.{◌≡◌, ◌<◌, ◌≤◌, ◌++◌, [], ◌∷◌, true, false, OnOk, IfOk, IfErr};
 ghost use Rattle.pieces.specs.Kept.{IsShort};
 ghost use Rattle.pieces.specs.Nodes.{bits_in, AreNodes, IsNode};
 ghost use Rattle.pieces.specs.Cuts.{widths, IsCut};
 ghost use Rattle.pieces.specs.declared.shortage.Shortage.TheVariants as shortage;
 ghost use Rattle.fitting.specs.Fitted.{most_bits};
+ghost use Rattle.fitting.specs.Names.{word_names};
 ghost use Rattle.fitting.specs.Steps.{AddsLeaves};
 
+use crate::names::piece_symbol;
 use btor2::Symbol;
 use pieces::{Maker, Node, Shortage};
 use std::alloc::Global;
@@ -16,7 +18,7 @@ fn input(maker: &mut Maker, symbol: Option<Symbol>, width: u64) -> Result<Node, 
     requires least { 1 ≤ width }
     requires most { width ≤ 64 }
     ensures node { IfOk result (λ r. IsNode maker.new r × (r.width ≡ width)) }
-    ensures adds { IfOk result (λ r. AddsLeaves true maker.old maker.new (r ∷ [])) }
+    ensures adds { IfOk result (λ r. AddsLeaves true maker.old maker.new (r ∷ []) (symbol ∷ [])) }
     ensures short { IfErr result (IsShort maker.new) }
 {
     let node = maker.input(symbol, width)?;
@@ -29,7 +31,7 @@ fn state(maker: &mut Maker, symbol: Option<Symbol>, width: u64) -> Result<Node, 
     requires least { 1 ≤ width }
     requires most { width ≤ 64 }
     ensures node { IfOk result (λ r. IsNode maker.new r × (r.width ≡ width)) }
-    ensures adds { IfOk result (λ r. AddsLeaves false maker.old maker.new (r ∷ [])) }
+    ensures adds { IfOk result (λ r. AddsLeaves false maker.old maker.new (r ∷ []) (symbol ∷ [])) }
     ensures short { IfErr result (IsShort maker.new) }
 {
     let node = maker.state(symbol, width)?;
@@ -47,7 +49,7 @@ fn leaf(
     requires least { 1 ≤ width }
     requires most { width ≤ 64 }
     ensures node { IfOk result (λ r. IsNode maker.new r × (r.width ≡ width)) }
-    ensures adds { IfOk result (λ r. AddsLeaves is_input maker.old maker.new (r ∷ [])) }
+    ensures adds { IfOk result (λ r. AddsLeaves is_input maker.old maker.new (r ∷ []) (symbol ∷ [])) }
     ensures short { IfErr result (IsShort maker.new) }
 {
     if is_input {
@@ -68,8 +70,38 @@ fn keep(list: &mut Vec<Node>, node: Node) -> Result<(), Shortage>
     }
 }
 
-/// An input, or else a state, of so many bits, by nodes of 64 bits each, but for the last, which may have fewer. One node has
-/// its name.
+/// A leaf of more than 64 bits, by nodes of 64 bits each, but for the last, which may have fewer. They have its name with the
+/// bits that they are.
+fn pieces(
+    alloc: Global,
+    maker: &mut Maker,
+    is_input: bool,
+    symbol: &Option<Symbol>,
+    width: u64,
+) -> Result<Vec<Node>, Shortage>
+    requires least { 64 < width }
+    requires most { width ≤ most_bits }
+    ensures nodes { IfOk result (λ rs. AreNodes maker.new rs.items) }
+    ensures width { IfOk result (λ rs. bits_in rs.items ≡ width) }
+    ensures cut { IfOk result (λ rs. IsCut 64 (widths rs.items)) }
+    ensures adds { IfOk result (λ rs. AddsLeaves is_input maker.old maker.new rs.items
+        (word_names symbol.now (widths rs.items))) }
+    ensures short { IfErr result (IsShort maker.new) }
+{
+    let mut out = Vec::new(alloc);
+    let mut left = width;
+    while left > 0 {
+        let taken = left.min(64);
+        let name = piece_symbol(alloc, symbol, width - left, taken)?;
+        let node = leaf(maker, is_input, name, taken)?;
+        keep(&mut out, node)?;
+        left -= taken;
+    }
+    Ok(out)
+}
+
+/// An input, or else a state, of so many bits. One node has its name, and the pieces of a wider one have that with the bits
+/// that they are.
 pub(crate) fn leaves(
     alloc: Global,
     maker: &mut Maker,
@@ -82,21 +114,15 @@ pub(crate) fn leaves(
     ensures nodes { IfOk result (λ rs. AreNodes maker.new rs.items) }
     ensures width { IfOk result (λ rs. bits_in rs.items ≡ width) }
     ensures cut { IfOk result (λ rs. IsCut 64 (widths rs.items)) }
-    ensures adds { IfOk result (λ rs. AddsLeaves is_input maker.old maker.new rs.items) }
+    ensures adds { IfOk result (λ rs. AddsLeaves is_input maker.old maker.new rs.items
+        (word_names symbol (widths rs.items))) }
     ensures short { IfErr result (IsShort maker.new) }
 {
+    if width > 64 {
+        return pieces(alloc, maker, is_input, &symbol, width);
+    }
+    let node = leaf(maker, is_input, symbol, width)?;
     let mut out = Vec::new(alloc);
-    if width <= 64 {
-        let node = leaf(maker, is_input, symbol, width)?;
-        keep(&mut out, node)?;
-        return Ok(out);
-    }
-    let mut left = width;
-    while left > 0 {
-        let taken = left.min(64);
-        let node = leaf(maker, is_input, None, taken)?;
-        keep(&mut out, node)?;
-        left -= taken;
-    }
+    keep(&mut out, node)?;
     Ok(out)
 }

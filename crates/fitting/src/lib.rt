@@ -5,6 +5,7 @@ mod constants;
 mod fitter;
 mod forms;
 mod leaves;
+mod names;
 mod operators;
 mod transitions;
 mod unfitted;

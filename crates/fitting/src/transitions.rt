@@ -3,14 +3,16 @@ ghost use Rattle.std.specs.Prelude.{◌≡◌, true, is_some, None, OnOk, IfErr}
 ghost use Rattle.std.specs.List.{AllByRecursion};
 ghost use Rattle.btor2.specs.Items.{names_state, init_value, next_value};
 ghost use Rattle.pieces.specs.Kept.{IsShort};
-ghost use Rattle.pieces.specs.Nodes.{bits_in, AreNodes};
-ghost use Rattle.pieces.specs.Cuts.{IsWord};
+ghost use Rattle.pieces.specs.Nodes.{bits_in};
+ghost use Rattle.pieces.specs.Cuts.{widths, IsWord};
 ghost use Rattle.pieces.specs.Constants.{AreConstants};
-ghost use Rattle.fitting.specs.Fitted.{node_ids};
+ghost use Rattle.fitting.specs.Names.{names_from, word_names};
 ghost use Rattle.fitting.specs.Steps.{AddsInits, AddsNexts, AddsOutputs, AreApart};
 
+use crate::names::piece_symbol;
 use btor2::Symbol;
 use pieces::{Maker, Node, Shortage};
+use std::alloc::Global;
 
 /// The words that the nodes of a state begin with: those of constant nodes.
 pub(crate) fn begin(maker: &mut Maker, state: &[Node], value: &[Node]) -> Result<(), Shortage>
@@ -47,18 +49,42 @@ pub(crate) fn follow(maker: &mut Maker, state: &[Node], value: &[Node]) -> Resul
     Ok(())
 }
 
-/// Outputs that show the nodes of a word. One node has the name.
-pub(crate) fn show(maker: &mut Maker, symbol: Option<Symbol>, word: &[Node]) -> Result<(), Shortage>
-    requires word { AreNodes maker.old word.now }
-    ensures adds { OnOk result (AddsOutputs maker.old maker.new word.now) }
+/// Outputs that show the nodes of a word of several. They have the name with the bits that they are.
+fn show_pieces(
+    alloc: Global,
+    maker: &mut Maker,
+    symbol: &Option<Symbol>,
+    word: &[Node],
+) -> Result<(), Shortage>
+    requires word { IsWord maker.old word.now }
+    ensures adds { OnOk result (AddsOutputs maker.old maker.new word.now
+        (names_from symbol.now 0 (widths word.now))) }
     ensures short { IfErr result (IsShort maker.new) }
 {
-    if word.len() == 1 {
-        maker.output(symbol, word[0])?;
-        return Ok(());
-    }
+    let mut lower = 0;
     for k in 0..word.len() {
-        maker.output(None, word[k])?;
+        let name = piece_symbol(alloc, symbol, lower, word[k].width)?;
+        maker.output(name, word[k])?;
+        lower += word[k].width;
     }
+    Ok(())
+}
+
+/// Outputs that show the nodes of a word. One node has the name, and several have that with the bits that they are.
+pub(crate) fn show(
+    alloc: Global,
+    maker: &mut Maker,
+    symbol: Option<Symbol>,
+    word: &[Node],
+) -> Result<(), Shortage>
+    requires word { IsWord maker.old word.now }
+    ensures adds { OnOk result (AddsOutputs maker.old maker.new word.now
+        (word_names symbol (widths word.now))) }
+    ensures short { IfErr result (IsShort maker.new) }
+{
+    if word.len() != 1 {
+        return show_pieces(alloc, maker, &symbol, word);
+    }
+    maker.output(symbol, word[0])?;
     Ok(())
 }

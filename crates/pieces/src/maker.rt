@@ -77,6 +77,13 @@ impl Maker {
         &self.model
     }
 
+    /// The model.
+    pub fn finish(self) -> Model
+        ensures { result ≡ self }
+    {
+        self.model
+    }
+
     /// Adds a line that no row but the number of items may refuse, with a name or without. Answers its id.
     fn tell(&mut self, symbol: Option<Symbol>, body: Body) -> Result<u32, Shortage>
         requires sound { IsSound self.old body }

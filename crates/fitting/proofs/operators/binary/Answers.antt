@@ -2,7 +2,7 @@ use Rattle.std.proofs.Common.{◌≡◌, ℕ, Bool, cond, length, sym, ap, subst
 use Rattle.base.specs.Operator.{binary_value}
 use Rattle.pieces.specs.Nodes.{word_of, bits_in, MakesWord}
 use Rattle.pieces.proofs.ListLemmas.{ok_with, words_alike, same_length}
-use Rattle.fitting.proofs.OperatorLemmas.{alone_word, binary_alone, more_bits, wide_has_pieces}
+use Rattle.fitting.proofs.OperatorLemmas.{alone_word, binary_alone, more_bits, wide_of_words}
 use Rattle.fitting.proofs.operators.binary.Goals as goal
 
 pub returns-then-a-eq1-clause-word : goal.returns-then-a-eq1-clause-word
@@ -17,7 +17,7 @@ returns-then-a-eq1-clause-word c =
 
 pub test-requires-clause-operator : goal.test-requires-clause-operator
 test-requires-clause-operator c =
-    wide_has_pieces c.args.operator (bits_in c.args.a.now) (more_bits c.args.a.now c.requires.a.cut c.requires.a.some c.if-a-eq1.false) c.requires.bits c.requires.product
+    wide_of_words c.args.operator (bits_in c.args.a.now) (more_bits c.args.a.now c.requires.a.cut c.requires.a.some c.if-a-eq1.false) c.requires.bits
 
 pub returns-then-is_test-clause-word : goal.returns-then-is_test-clause-word
 returns-then-is_test-clause-word c =
@@ -29,4 +29,4 @@ returns-then-is_test-clause-word c =
 
 pub operation-requires-clause-operator : goal.operation-requires-clause-operator
 operation-requires-clause-operator c =
-    wide_has_pieces c.args.operator (bits_in c.args.a.now) (more_bits c.args.a.now c.requires.a.cut c.requires.a.some c.if-a-eq1.false) c.requires.bits c.requires.product
+    wide_of_words c.args.operator (bits_in c.args.a.now) (more_bits c.args.a.now c.requires.a.cut c.requires.a.some c.if-a-eq1.false) c.requires.bits

@@ -1,7 +1,9 @@
-use Rattle.pieces.proofs.ListLemmas.{nodes_at}
-use Rattle.fitting.proofs.LineLemmas.{nodes_later}
+use Rattle.std.proofs.Common.{sym, subst}
+use Rattle.fitting.specs.Steps.{AddsOutputs}
+use Rattle.fitting.proofs.NameLemmas.{many_names}
+use Rattle.fitting.proofs.FitterLemmas.{ok_then}
 use Rattle.fitting.proofs.transitions.show.Goals as goal
 
-pub output-requires-in-loop-k : goal.output-requires-in-loop-k
-output-requires-in-loop-k c =
-    record { a = nodes_at c.loop-k.maker c.args.word.now c.loop-k.k _ c.loop-k-test.true (nodes_later c.args.maker.now c.loop-k.maker c.loop-k.invariant.adds.more c.args.word.now c.loop-k.invariant.adds.is c.requires.word) }
+pub returns-then-word-ne1-clause-adds : goal.returns-then-word-ne1-clause-adds
+returns-then-word-ne1-clause-adds c =
+    ok_then _ _ c.show_pieces.result (λ adds. subst (AddsOutputs c.args.maker.now c.show_pieces.new.maker c.args.word.now) (sym (many_names c.args.symbol c.args.word.now c.if-word-ne1.true)) adds) c.show_pieces.ensures.adds
