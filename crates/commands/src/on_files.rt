@@ -13,7 +13,9 @@ use invocation::{DEVICE, Order};
 use std::alloc::Global;
 use std::io::{Read, Write};
 use std::time::Clock;
-use subcommands::{Counted, NamedFiles, NoName, Progress, ResultName, Watched, Work, open_input, tell_no_memory};
+use subcommands::{
+    Counted, NamedFiles, NoName, Progress, ResultName, Watched, Work, open_input, tell_no_memory,
+};
 
 /// Does a command on the files that it names and a result that may get a name, and answers the exit status, as `run_to_file`
 /// does of the bytes of the files that the order names.

@@ -1,7 +1,9 @@
 -- The answer of a verb that is done or not.
 use Rattle.std.proofs.Common.{Result, Ok, Err, IfOk, IfErr, OnOk, refl}
+use Rattle.verbs.specs.declared.refusals.Fault.{Fault}
 use Rattle.verbs.specs.declared.refusals.Refusal.{Refusal}
-use Rattle.verbs.specs.Statuses.{Ends, Use}
+use Rattle.verbs.specs.declared.refusals.Refusal.TheVariants as refusal
+use Rattle.verbs.specs.Statuses.{Ends, IfInput, IsOfNoInput, Use}
 use Rattle.verbs.proofs.CountLemmas.{handed_on}
 use Rattle.subcommands.specs.declared.answers.Answer.{Answer}
 use Rattle.subcommands.specs.declared.answers.Answer.TheVariants as answer
@@ -20,3 +22,9 @@ answered_refused (Err e) P why = why
 pub answered_ends : (r : Result (Unit {0}) Refusal) {first second out err : Use} → Ends r first second out err → Ends (answered r) first second out err
 answered_ends (Ok u) {first} {second} {out} {err} h = record { counted = h.counted; unwritten = h.unwritten; untold = h.untold }
 answered_ends (Err e) {first} {second} {out} {err} h = handed_on refl h
+
+-- what is told refuses no text
+pub tells_only : (r : Result Answer Refusal) (P : Fault → Type 0) → IsOfNoInput r → IfErr r (IfInput P)
+tells_only (Ok a) P h = tt
+tells_only (Err (refusal.Input f)) P h = absurd h
+tells_only (Err _) P h = tt

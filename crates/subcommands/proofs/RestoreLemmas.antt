@@ -46,3 +46,9 @@ pub dumps : (r : Result Answer Refusal) (shown : Shown) (title : List ℕ) (mode
     → OnOk r (Appends told told' (judgement_line j)) → IfOk r (λ a. IsSo a j) → IfOk r (Judged (Dumps shown model witness before now told told'))
 dumps (Ok a) shown title model witness before now told told' j is line so = record { verdict = j; is_judged = record { title = title; dumped = is; line = line }; so = so }
 dumps (Err e) shown title model witness before now told told' j is line so = tt
+
+-- how what was lifted is judged
+pub lifted_told : (r : Result Answer Refusal) (said : List (Option ℕ) → Judgement → List ℕ) (j : Judgement) (firsts : List (Option ℕ)) (told told' : Option (List ℕ)) → OnOk r (Appends told told' (judgement_line j ++ said firsts j)) → IfOk r (λ a. IsSo a j)
+    → IfOk r (λ a. TellsLifted said (Ok (j, firsts)) a told told')
+lifted_told (Ok a) said j firsts told told' line so = (so, line)
+lifted_told (Err e) said j firsts told told' line so = tt

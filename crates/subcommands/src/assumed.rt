@@ -11,11 +11,11 @@ ghost use Rattle.subcommands.specs.Subjects.{bad_said, said_by_name, subject_sai
 
 use crate::answers::Answer;
 use crate::judgements::{tell_judgement, tell_line};
-use verbs::{Device, Refusal, Subject};
 use base::{DeviceFault, Sink, write_all};
 use itoa::Buffer;
 use rises::FirstRises;
 use std::alloc::Global;
+use verbs::{Device, Refusal, Subject};
 use witness::Judgement;
 
 /// Tells that an engine form is taken to be of all bad properties, of which there are so many.

@@ -201,5 +201,13 @@ pub fn check_proof<A: Source, B: Source, T: Source, O: Sink, E: Sink, W: Watch>(
 {
     let judged = certify(alloc, of, form, first, second, third, watch)?;
     let subject = subject_of(&judged.given);
-    tell_verdict(alloc, order, subject, judged.claim, &judged.judgement, out, err)
+    tell_verdict(
+        alloc,
+        order,
+        subject,
+        judged.claim,
+        &judged.judgement,
+        out,
+        err,
+    )
 }

@@ -12,13 +12,13 @@ ghost use Rattle.subcommands.specs.Subjects.{bad_said, said_by_name, subject_sai
 
 use crate::answers::Answer;
 use crate::objects::write_outcome;
-use verbs::{Device, Outcome, Refusal, Subject};
 use crate::subjects::{tell_outcome_where_named, tell_where_named};
 use crate::telling::write_result;
 use base::{Sink, write_all};
 use invocation::Order;
 use rises::FirstRises;
 use std::alloc::{AllocError, Global};
+use verbs::{Device, Outcome, Refusal, Subject};
 use witness::Judgement;
 
 /// The line of a judgement.

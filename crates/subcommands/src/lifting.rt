@@ -40,7 +40,14 @@ pub fn lift_witness<A: Source, B: Source, O: Sink, E: Sink, W: Watch>(
 {
     let lifted = lift(alloc, named, first, second, out, watch)?;
     let subject = Subject::Lowered(&lifted.lowered.model, &lifted.lowered.circuit);
-    tell_judgement(alloc, named, subject, &lifted.judgement, &lifted.firsts, err)
+    tell_judgement(
+        alloc,
+        named,
+        subject,
+        &lifted.judgement,
+        &lifted.firsts,
+        err,
+    )
 }
 
 /// Tells what is told of a counterexample that is lifted: how it is judged, with names behind that what the judgement is about,

@@ -19,7 +19,9 @@ use btor2::Model;
 use btor2text::write;
 use invocation::Order;
 use std::alloc::{AllocError, Global};
-use verbs::{Cost, Device, Refusal, Subject, cost_of, judge_for_model, judge_over_model, read_model};
+use verbs::{
+    Cost, Device, Refusal, Subject, cost_of, judge_for_model, judge_over_model, read_model,
+};
 
 /// Judges a witness over a model, and writes the line of its judgement.
 pub fn check_model<A: Source, B: Source, O: Sink>(

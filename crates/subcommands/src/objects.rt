@@ -9,13 +9,13 @@ use crate::json::{
     begin_object, end_object, write_faulty, write_item, write_number, write_numbered, write_place,
     write_symbol, write_text,
 };
-use verbs::{Fault, Outcome, Subject, item_of};
 use aiger::Section;
 use base::{DeviceFault, Sink, write_all};
 use blast::LowerFault;
 use drup::Judgement as Verdict;
 use itoa::Buffer;
 use rises::FirstRises;
+use verbs::{Fault, Outcome, Subject, item_of};
 use witness::{JudgeFault, Judgement};
 
 /// Writes what names a bad property.

@@ -37,45 +37,43 @@ pub(crate) fn fault_status(fault: &Fault) -> u8
 pub(crate) fn fault_line(alloc: Global, fault: &Fault, file: &str) -> Result<String, AllocError>
     ensures { IfOk result (λ line. string_bytes line ≡ about file.now (fault_said fault.now)) }
 {
-        match fault {
-            Fault::Model(fault) => {
-                let line = fault.line;
-                let number = fault.why.printed_number();
-                let name = fault.why.name();
-                format!(in alloc; "{file}: line {line}: {number} {name}\n")
-            }
-            Fault::Circuit(fault) => {
-                let place = fault.place;
-                let number = fault.why.number();
-                let name = fault.why.name();
-                format!(in alloc; "{file}: byte {place}: {number} {name}\n")
-            }
-            Fault::Lowering(fault) => lowering_line(alloc, file, *fault),
-            Fault::Outputs(fault) => plain_line(alloc, file, fault.number(), fault.name()),
-            Fault::Engine(fault) => plain_line(alloc, file, fault.number(), fault.name()),
-            Fault::Invariant(fault) => {
-                let line = fault.line;
-                let number = fault.why.number();
-                let name = fault.why.name();
-                format!(in alloc; "{file}: line {line}: {number} {name}\n")
-            }
-            Fault::Obligation(fault) => plain_line(alloc, file, fault.number(), fault.name()),
-            Fault::Test(fault) => plain_line(alloc, file, fault.number(), fault.name()),
-            Fault::NoNext(id) => {
-                let fault = JudgeFault::NoNext(*id);
-                item_line(alloc, file, *id, fault.number(), fault.name())
-            }
-            Fault::Vector(line) => {
-                let line = *line;
-                format!(in alloc; "{file}: line {line}: bad vector\n")
-            }
-            Fault::Unchosen(Claimed::Found) => format!(in alloc; "{file}{UNCHOSEN_FOUND}"),
-            Fault::Unchosen(Claimed::Certified) => {
-                format!(in alloc; "{file}{UNCHOSEN_CERTIFIED}")
-            }
-            Fault::Unchosen(Claimed::Guarded) => format!(in alloc; "{file}{UNCHOSEN_GUARDED}"),
-            Fault::SameName(one, other) => same_name_line(alloc, file, *one, *other),
+    match fault {
+        Fault::Model(fault) => {
+            let line = fault.line;
+            let number = fault.why.printed_number();
+            let name = fault.why.name();
+            format!(in alloc; "{file}: line {line}: {number} {name}\n")
         }
+        Fault::Circuit(fault) => {
+            let place = fault.place;
+            let number = fault.why.number();
+            let name = fault.why.name();
+            format!(in alloc; "{file}: byte {place}: {number} {name}\n")
+        }
+        Fault::Lowering(fault) => lowering_line(alloc, file, *fault),
+        Fault::Outputs(fault) => plain_line(alloc, file, fault.number(), fault.name()),
+        Fault::Engine(fault) => plain_line(alloc, file, fault.number(), fault.name()),
+        Fault::Invariant(fault) => {
+            let line = fault.line;
+            let number = fault.why.number();
+            let name = fault.why.name();
+            format!(in alloc; "{file}: line {line}: {number} {name}\n")
+        }
+        Fault::Obligation(fault) => plain_line(alloc, file, fault.number(), fault.name()),
+        Fault::Test(fault) => plain_line(alloc, file, fault.number(), fault.name()),
+        Fault::NoNext(id) => {
+            let fault = JudgeFault::NoNext(*id);
+            item_line(alloc, file, *id, fault.number(), fault.name())
+        }
+        Fault::Vector(line) => {
+            let line = *line;
+            format!(in alloc; "{file}: line {line}: bad vector\n")
+        }
+        Fault::Unchosen(Claimed::Found) => format!(in alloc; "{file}{UNCHOSEN_FOUND}"),
+        Fault::Unchosen(Claimed::Certified) => { format!(in alloc; "{file}{UNCHOSEN_CERTIFIED}") }
+        Fault::Unchosen(Claimed::Guarded) => format!(in alloc; "{file}{UNCHOSEN_GUARDED}"),
+        Fault::SameName(one, other) => same_name_line(alloc, file, *one, *other),
+    }
 }
 
 /// The line that tells of a file the number and the name of what speaks against one of its items.

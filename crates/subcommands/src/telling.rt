@@ -18,10 +18,10 @@ use crate::names::{is_harmless, write_name};
 use crate::objects::write_refused;
 use crate::reasons::write_reason;
 use crate::refusals::{fault_line, fault_status};
-use verbs::{Device, Fault, Refusal};
 use base::{DeviceFault, Reason, Sink, write_all};
 use invocation::{DEVICE, DONE, Order, STANDARD_INPUT, Stop};
 use std::alloc::Global;
+use verbs::{Device, Fault, Refusal};
 
 /// The name of standard output.
 const OUTPUT: &str = "output";

@@ -6,9 +6,9 @@ ghost use Rattle.verbs.specs.Statuses.{EndsUnrefused};
 ghost use Rattle.verbs.specs.Statuses.Use.{Unused, Used};
 
 use crate::answers::Answer;
-use verbs::{Device, Refusal};
 use base::{Sink, Source};
 use tidy::{TidyFault, tidy};
+use verbs::{Device, Refusal};
 
 /// Writes the strict text of the witness with this number, from 1, in the first file.
 ///

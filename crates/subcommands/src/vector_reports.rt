@@ -7,11 +7,11 @@ ghost use Rattle.verbs.specs.Statuses.{Ends, IfInput};
 ghost use Rattle.verbs.specs.Statuses.Use.{Unused, Used};
 
 use crate::answers::Answer;
-use verbs::Refusal;
 use crate::telling::write_result;
 use base::{Sink, Source, read_all};
 use std::alloc::Global;
 use vectors::judge_vectors;
+use verbs::Refusal;
 
 /// Judges the vectors of a file.
 pub fn compare_vectors<A: Source, O: Sink>(

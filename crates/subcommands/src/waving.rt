@@ -8,11 +8,11 @@ ghost use Rattle.verbs.specs.Statuses.Use.{Unused, Used};
 
 use crate::answers::Answer;
 use crate::judgements::tell_line;
-use verbs::{Refusal, dump};
 use base::{Sink, Source};
 use invocation::{Order, STANDARD_INPUT};
 use std::alloc::{AllocError, Global};
 use vcd::Shown;
+use verbs::{Refusal, dump};
 
 /// The title of a dump: the names of the files.
 fn title_of(alloc: Global, order: &Order<'_>) -> Result<String, AllocError> {

@@ -1,5 +1,6 @@
 use Rattle.std.proofs.Common.{rules, ◌≡◌, Err}
 use Rattle.verbs.proofs.CountLemmas.{as_is, as_was, ends_as, handed_on, idle, told_behind}
+use Rattle.subcommands.proofs.AnswerLemmas.{tells_only}
 use Rattle.subcommands.proofs.RestoreLemmas.{lifts}
 use Rattle.subcommands.proofs.lifting.lift_witness.Goals as goal
 
@@ -15,3 +16,6 @@ pub returns-clause-ends : goal.returns-clause-ends
 returns-clause-ends g c =
     let before = c.in_ok-lifted.ensures.ends.counted 0 in
     told_behind before.0 before.1 before.2 c.tell_judgement.ensures.ends
+
+pub returns-clause-refused : goal.returns-clause-refused
+returns-clause-refused g c = tells_only c.tell_judgement.result _ c.tell_judgement.ensures.ends.no_input

@@ -1,5 +1,6 @@
 use Rattle.std.proofs.Common.{rules, ◌≡◌, Err}
 use Rattle.verbs.proofs.CountLemmas.{as_is, as_was, ends_as, handed_on, idle, unfailed, unrefused}
+use Rattle.subcommands.proofs.AnswerLemmas.{tells_only}
 use Rattle.subcommands.proofs.JudgedLemmas.{judged_with}
 use Rattle.subcommands.proofs.models.check_model_with.Goals as goal
 
@@ -15,3 +16,6 @@ pub returns-clause-ends : goal.returns-clause-ends
 returns-clause-ends g c =
     let before = c.in_ok-judged.ensures.ends.counted 0 0 in
     ends_as (unfailed before.0) (unfailed before.1) as_was as_was (unrefused c.answer_told.ensures.ends)
+
+pub returns-clause-refused : goal.returns-clause-refused
+returns-clause-refused g c = tells_only c.answer_told.result _ c.answer_told.ensures.ends.no_input

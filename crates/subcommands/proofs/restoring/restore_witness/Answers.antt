@@ -9,7 +9,8 @@ returns-in_err-restored-clause-ends g c =
     ends_as as_is as_is as_was idle (handed_on is c.in_err-restored.ensures.ends)
 
 pub returns-clause-done : goal.returns-clause-done
-returns-clause-done g c = restores_form c.tell_form_line.result _ _ _ _ _ _ _ c.in_ok-restored.restored c.in_ok-restored.ensures.restored c.tell_form_line.ensures.written c.tell_form_line.ensures.so
+returns-clause-done g c =
+    restores_form c.tell_form_line.result _ _ _ _ _ _ _ c.in_ok-restored.restored c.in_ok-restored.ensures.restored (rw c.bads-count.ensures.items at c.tell_form_line.ensures.written) c.tell_form_line.ensures.so
 
 pub returns-clause-ends : goal.returns-clause-ends
 returns-clause-ends g c =
