@@ -26,46 +26,46 @@ pub returns-in-ConvertForEngines-clause-done : goal.returns-in-ConvertForEngines
 unfolding Answers
 returns-in-ConvertForEngines-clause-done g c = λ third.
     let is : c.args.task ≡ (circuit.ConvertForEngines c.in-ConvertForEngines.choice) = search rules in
-    rw (is, c.answered.ensures) (answered_done c.convert_for_engines.result _ c.convert_for_engines.ensures.done (λ did. did))
+    rw (is, c.answered-in-ConvertForEngines.ensures) (answered_done c.convert_for_engines.result _ c.convert_for_engines.ensures.done (λ did. did))
 
 pub returns-in-ConvertForEngines-clause-refused : goal.returns-in-ConvertForEngines-clause-refused
 unfolding RefusesTask
 returns-in-ConvertForEngines-clause-refused g c =
     let is : c.args.task ≡ (circuit.ConvertForEngines c.in-ConvertForEngines.choice) = search rules in
-    rw (is, c.answered.ensures) (answered_refused c.convert_for_engines.result _ c.convert_for_engines.ensures.refused)
+    rw (is, c.answered-in-ConvertForEngines.ensures) (answered_refused c.convert_for_engines.result _ c.convert_for_engines.ensures.refused)
 
 pub returns-in-ConvertForEngines-clause-ends : goal.returns-in-ConvertForEngines-clause-ends
-returns-in-ConvertForEngines-clause-ends g c = rw c.answered.ensures (ends_as as_is (unfailed refl) as_was idle (answered_ends c.convert_for_engines.result c.convert_for_engines.ensures.ends))
+returns-in-ConvertForEngines-clause-ends g c = rw c.answered-in-ConvertForEngines.ensures (ends_as as_is (unfailed refl) as_was idle (answered_ends c.convert_for_engines.result c.convert_for_engines.ensures.ends))
 
 pub returns-in-ConvertOutputs-clause-done : goal.returns-in-ConvertOutputs-clause-done
 unfolding Answers
 returns-in-ConvertOutputs-clause-done g c = λ third.
     let is : c.args.task ≡ circuit.ConvertOutputs = search rules in
-    rw (is, c.answered.ensures) (answered_done c.convert_outputs.result _ c.convert_outputs.ensures.done (λ did. did))
+    rw (is, c.answered-in-ConvertOutputs.ensures) (answered_done c.convert_outputs.result _ c.convert_outputs.ensures.done (λ did. did))
 
 pub returns-in-ConvertOutputs-clause-refused : goal.returns-in-ConvertOutputs-clause-refused
 unfolding RefusesTask
 returns-in-ConvertOutputs-clause-refused g c =
     let is : c.args.task ≡ circuit.ConvertOutputs = search rules in
-    rw (is, c.answered.ensures) (answered_refused c.convert_outputs.result _ c.convert_outputs.ensures.refused)
+    rw (is, c.answered-in-ConvertOutputs.ensures) (answered_refused c.convert_outputs.result _ c.convert_outputs.ensures.refused)
 
 pub returns-in-ConvertOutputs-clause-ends : goal.returns-in-ConvertOutputs-clause-ends
-returns-in-ConvertOutputs-clause-ends g c = rw c.answered.ensures (ends_as as_is (unfailed refl) as_was idle (answered_ends c.convert_outputs.result c.convert_outputs.ensures.ends))
+returns-in-ConvertOutputs-clause-ends g c = rw c.answered-in-ConvertOutputs.ensures (ends_as as_is (unfailed refl) as_was idle (answered_ends c.convert_outputs.result c.convert_outputs.ensures.ends))
 
 pub returns-in-ConvertOutputsForEngines-clause-done : goal.returns-in-ConvertOutputsForEngines-clause-done
 unfolding Answers
 returns-in-ConvertOutputsForEngines-clause-done g c = λ third.
     let is : c.args.task ≡ (circuit.ConvertOutputsForEngines c.in-ConvertOutputsForEngines.choice) = search rules in
-    rw (is, c.answered.ensures) (answered_done c.convert_outputs_for_engines.result _ c.convert_outputs_for_engines.ensures.done (λ did. did))
+    rw (is, c.answered-in-ConvertOutputsForEngines.ensures) (answered_done c.convert_outputs_for_engines.result _ c.convert_outputs_for_engines.ensures.done (λ did. did))
 
 pub returns-in-ConvertOutputsForEngines-clause-refused : goal.returns-in-ConvertOutputsForEngines-clause-refused
 unfolding RefusesTask
 returns-in-ConvertOutputsForEngines-clause-refused g c =
     let is : c.args.task ≡ (circuit.ConvertOutputsForEngines c.in-ConvertOutputsForEngines.choice) = search rules in
-    rw (is, c.answered.ensures) (answered_refused c.convert_outputs_for_engines.result _ c.convert_outputs_for_engines.ensures.refused)
+    rw (is, c.answered-in-ConvertOutputsForEngines.ensures) (answered_refused c.convert_outputs_for_engines.result _ c.convert_outputs_for_engines.ensures.refused)
 
 pub returns-in-ConvertOutputsForEngines-clause-ends : goal.returns-in-ConvertOutputsForEngines-clause-ends
-returns-in-ConvertOutputsForEngines-clause-ends g c = rw c.answered.ensures (ends_as as_is (unfailed refl) as_was idle (answered_ends c.convert_outputs_for_engines.result c.convert_outputs_for_engines.ensures.ends))
+returns-in-ConvertOutputsForEngines-clause-ends g c = rw c.answered-in-ConvertOutputsForEngines.ensures (ends_as as_is (unfailed refl) as_was idle (answered_ends c.convert_outputs_for_engines.result c.convert_outputs_for_engines.ensures.ends))
 
 pub returns-in-CheckAig-clause-done : goal.returns-in-CheckAig-clause-done
 returns-in-CheckAig-clause-done g c = λ third.
