@@ -85,10 +85,10 @@ leads_kept old new id line clause hints is low shown some kept last found ok = (
       ∙ sym (open_still new new.found fault rest (ap is_some found ∙ is)),
 )
 
-pub leads_deleted : (old new : HintedJudge) (id line : ℕ) → is_some old.found ≡ false → new.failed ≡ old.failed → ((i : ℕ) → clause_of new.named i ≡ without_clause (clause_of old.named) id i) → new.last ≡ old.last → new.found ≡ old.found
+pub leads_deleted : (old new : HintedJudge) (id line : ℕ) → is_some old.found ≡ false → (new.failed ≡ false → old.failed ≡ false) → ((i : ℕ) → clause_of new.named i ≡ without_clause (clause_of old.named) id i) → new.last ≡ old.last → new.found ≡ old.found
     → LeadsHinted old (ended line (deletion id)) new
 leads_deleted old new id line is failed gone last found ok = (
-  sym failed ∙ ok,
+  failed ok,
   λ fault rest. open_still old old.found fault (ended line (deletion id) ∷ rest) is
       ∙ ap (λ (n : Named). judge_named fault rest n old.last) (λ i k. sym (gone k) i)
       ∙ ap (λ (n : ℕ). judge_named fault rest (clause_of new.named) n) (sym last)

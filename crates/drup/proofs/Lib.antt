@@ -8,7 +8,7 @@ pub mod WatchLemmas
 pub mod WalkLemmas
 pub mod FlatLemmas
 pub mod AddLemmas
-pub mod FormulaLemmas
+pub mod ClauseListLemmas
 pub mod FormulaTextLemmas
 pub mod WorkedLemmas
 pub mod AlikeLemmas
@@ -26,6 +26,7 @@ pub mod TextJudgeLemmas
 pub mod NumberLemmas
 pub mod BytesLemmas
 pub mod ProofJudgeLemmas
+pub mod NamedLemmas
 pub mod HintLemmas
 pub mod HintedLemmas
 pub mod HintSoundLemmas

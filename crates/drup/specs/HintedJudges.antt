@@ -7,7 +7,7 @@ use Rattle.drup.specs.declared.judgement.Judgement.{Judgement}
 use Rattle.drup.specs.declared.judgement.Judgement.TheVariants as judgement
 use Rattle.drup.specs.Formula.{Formula}
 use Rattle.drup.specs.Proofs.{ProofFault}
-use Rattle.drup.specs.Named.{Kept, clause_of, AreNamed}
+use Rattle.drup.specs.Named.{Kept, clause_of, AreNamed, IsTight}
 use Rattle.drup.specs.Hints.{named_from, judge_named, judge_hinted, HintedEnded}
 use Rattle.drup.specs.Marked.{IsEven, set_of}
 
@@ -23,11 +23,14 @@ pub record HintedJudge : Type 0 where
 abbrev pub hinted_of : Inside → HintedJudge
 hinted_of j = record { named = j.named; limit = length j.trail.marks; last = j.last; found = j.found; failed = j.failed }
 
--- literals are below an even limit, and none is marked between two steps
+-- literals are below an even limit, none is marked between two steps, no id behind the last has a clause, and where memory was not wanting, clauses that were taken
+-- away are not held for long
 pub record IsHinted (j : Inside) : Type 0 where
   pub named : AreNamed j.named (length j.trail.marks)
   pub even : IsEven j.trail
   pub none : (l : ℕ) → set_of j.trail l ≡ false
+  pub fresh : (id : ℕ) → j.last < id → clause_of j.named id ≡ None
+  pub held : j.failed ≡ false → IsTight j.named
 
 -- how the steps that follow are judged, and the fault behind them
 abbrev pub continued : HintedJudge → Option Judgement → Option ProofFault → List HintedEnded → Judgement

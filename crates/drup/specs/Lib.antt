@@ -4,6 +4,7 @@ pub mod Propagation
 pub mod Proofs
 pub mod BinaryProofs
 pub mod ProofForms
+pub mod ClauseLists
 pub mod FormulaKept
 pub mod Without
 pub mod Judgements
@@ -27,5 +28,6 @@ pub mod TextJudges
 pub mod Numbers
 pub mod ProofJudges
 pub mod Hints
+pub mod IdPlaces
 pub mod Named
 pub mod HintedJudges

@@ -1,10 +1,10 @@
 //! Formulas that are kept.
-ghost use Rattle.std.specs.Prelude.{◌≡◌, ℕ, ◌+◌, ◌*◌, ◌<◌, ◌≤◌, ◌++◌, ◌∷◌, [], All, MatchBool, OnOk, OnErr, length, slice_index, slice_index_or};
+ghost use Rattle.std.specs.Prelude.{◌≡◌, ℕ, ◌+◌, ◌*◌, ◌<◌, ◌≤◌, ◌++◌, ◌∷◌, [], All, MatchBool, OnOk, OnErr, length, slice_index_or};
 ghost use Rattle.drup.specs.Formula.{IsLiteral, IsFormula};
-ghost use Rattle.drup.specs.FormulaKept.{RefusesClause, start_at};
+ghost use Rattle.drup.specs.FormulaKept.{RefusesClause};
 
+use crate::clause_list::ClauseList;
 use crate::fault::FormulaFault;
-use crate::passes::clause_between;
 use std::alloc::Global;
 use std::marker::Model;
 
@@ -30,14 +30,6 @@ fn are_literals(variables: u32, clause: &[u32]) -> bool
     true
 }
 
-/// Where the clause at a place starts: at the end of the one before.
-fn start_of(ends: &[usize], k: usize) -> usize
-    requires { k < length ends.now }
-    ensures { result ≡ start_at ends.now k }
-{
-    if k == 0 { 0 } else { ends[k - 1] }
-}
-
 /// A formula in conjunctive normal form: a count of variables, and clauses of their literals, in the order in which they
 /// came. Literal 2v is variable v, from 1 on, and 2v + 1 its negation, as in AIGER.
 ///
@@ -45,9 +37,7 @@ fn start_of(ends: &[usize], k: usize) -> usize
 #[derive(Drop)]
 pub struct Formula {
     variables: u32,
-    // the literals of all clauses, one clause after the other, and where each clause ends
-    literals: Vec<u32>,
-    ends: Vec<usize>,
+    clauses: ClauseList,
 }
 
 impl Model for Formula {
@@ -69,8 +59,7 @@ impl Formula {
     {
         Formula {
             variables,
-            literals: Vec::new(alloc),
-            ends: Vec::new(alloc),
+            clauses: ClauseList::new(alloc),
         }
     }
 
@@ -87,17 +76,9 @@ impl Formula {
         if !are_literals(self.variables, clause) {
             return Err(FormulaFault::BadLiteral);
         }
-        match self.ends.reserve(1) {
-            Ok(()) => {}
-            Err(_) => return Err(FormulaFault::NoMemory),
-        }
-        match self.literals.extend_from_slice(clause) {
-            Ok(()) => {}
-            Err(_) => return Err(FormulaFault::NoMemory),
-        }
-        match self.ends.push(self.literals.len()) {
+        match self.clauses.push(clause) {
             Ok(()) => Ok(()),
-            Err(_) => unreachable!(),
+            Err(_) => Err(FormulaFault::NoMemory),
         }
     }
 
@@ -114,7 +95,7 @@ impl Formula {
     pub fn clause_count(&self) -> usize
         ensures { result ≡ length self.now.clauses }
     {
-        self.ends.len()
+        self.clauses.len()
     }
 
     /// The literals of the clause at a place, from 0.
@@ -123,6 +104,6 @@ impl Formula {
         ensures clause { result.now ≡ slice_index_or self.now.clauses k [] }
         ensures literals { All (IsLiteral self.now.variables) result.now }
     {
-        clause_between(&self.literals, start_of(&self.ends, k), self.ends[k])
+        self.clauses.clause(k)
     }
 }

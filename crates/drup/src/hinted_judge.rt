@@ -5,7 +5,7 @@ ghost use Rattle.drup.specs.declared.hints.Finding.TheVariants as finding;
 ghost use Rattle.drup.specs.Formula.{Formula};
 ghost use Rattle.drup.specs.Proofs.{ProofFault};
 ghost use Rattle.drup.specs.Hints.{addition, deletion, HintedEnded, ended, judge_hinted, negated, follow};
-ghost use Rattle.drup.specs.Named.{clause_of};
+ghost use Rattle.drup.specs.Named.{clause_of, IsTight};
 ghost use Rattle.drup.specs.HintedJudges.{BeginsHinted, StandsForHinted, HasJudgedHinted, LeadsHinted};
 
 use crate::fault::ClauseFault;
@@ -18,8 +18,9 @@ use crate::why::Why;
 use std::alloc::Global;
 
 /// A judge of the steps of a proof with hints over a formula, which takes them one by one and keeps the clauses that stand by
-/// their ids. A step takes as long as its literals and those of the clauses that it names. Where memory was wanting it says so
-/// in the end.
+/// their ids. Of those that were taken away it holds no more literals than stand, and a fixed number. A step takes as long as its
+/// literals and those of the clauses that it names, and, spread over all, as those that are taken away. Where memory was wanting
+/// it says so in the end.
 ///
 /// Clauses see what it holds; which steps it stands for is a relation to that.
 #[derive(Drop)]
@@ -57,7 +58,7 @@ impl HintedJudge {
     {
         let trail = Trail::new(alloc, 2 * variables as usize + 2)?;
         Ok(HintedJudge {
-            named: Named::new(alloc),
+            named: Named::from(alloc, 1),
             trail,
             last: 0,
             found: None,
@@ -71,6 +72,7 @@ impl HintedJudge {
         ensures begins { (f : Formula) → BeginsHinted f self.old
             → BeginsHinted (record f { clauses = f.clauses ++ clause.now ∷ [] }) self.new }
         ensures limit { self.new.limit ≡ self.old.limit }
+        ensures held { self.new.failed ≡ false → IsTight self.new.named }
     {
         if self.found.is_some() {
             return;
@@ -105,11 +107,13 @@ impl HintedJudge {
     /// Takes a clause that was shown in a line.
     fn take_shown(&mut self, id: u32, clause: &[u32], line: u64)
         requires below { All (λ l. l < self.old.limit) clause.now }
+        requires above { self.old.last < id }
         ensures leads { (hints : List ℕ) → is_some self.old.found ≡ false
             → nat_lt self.old.last id ≡ true
             → follow (clause_of self.old.named) (negated clause.now) hints ≡ finding.Falsified
             → LeadsHinted self.old (ended line (addition id clause.now hints)) self.new }
         ensures limit { self.new.limit ≡ self.old.limit }
+        ensures held { self.new.failed ≡ false → IsTight self.new.named }
     {
         if is_nothing(clause) {
             self.found = Some(Judgement::Derived { line });
@@ -130,6 +134,7 @@ impl HintedJudge {
             → StandsForHinted f (steps ++ ended line (addition id clause.now hints.now) ∷ [])
             self.new }
         ensures limit { self.new.limit ≡ self.old.limit }
+        ensures held { self.new.failed ≡ false → IsTight self.new.named }
     {
         if self.found.is_some() {
             return;
@@ -158,12 +163,15 @@ impl HintedJudge {
         ensures stands { (f : Formula) (steps : List HintedEnded) → StandsForHinted f steps self.old
             → StandsForHinted f (steps ++ ended line (deletion id) ∷ []) self.new }
         ensures limit { self.new.limit ≡ self.old.limit }
+        ensures held { self.new.failed ≡ false → IsTight self.new.named }
     {
         let _ = line;
         if self.found.is_some() {
             return;
         }
         self.named.remove(id);
+        let swept = self.named.sweep(self.last);
+        self.failed = self.failed | swept.is_err();
     }
 
     /// Takes a fault of the text behind the steps so far, in a line: a judge that stood for these has judged them with the

@@ -2,12 +2,14 @@
 #![tactic(auto)]
 
 mod alike;
+mod clause_list;
 mod clauses;
 mod fault;
 mod formula;
 mod formula_text;
 mod hinted_judge;
 mod hints;
+mod id_places;
 mod judgement;
 pub mod laws;
 mod lines;

@@ -1,5 +1,6 @@
 pub mod StepReaderLemmas
 pub mod TextLemmas
+pub mod WordAtLemmas
 pub mod TextJudgeLemmas
 pub mod NumberLemmas
 pub mod ByteLemmas

@@ -1,6 +1,8 @@
 -- Judges of the texts of proofs with hints.
-use Rattle.std.proofs.Common.{◌≡◌, ℕ, suc, ◌+◌, ◌-◌, ◌^◌, ◌≤◌, ◌==◌, min, Bool, true, false, List, [], ◌∷◌, ◌++◌, length, refl, sym, ap, subst, ◌∙◌, append_assoc, append-nil, arith}
+use Rattle.std.proofs.Common.{◌≡◌, ℕ, suc, ◌+◌, ◌-◌, ◌^◌, ◌<◌, ◌≤◌, ◌==◌, take, drop, get_or, min, Bool, true, false, List, [], ◌∷◌, ◌++◌, length, refl, sym, ap, subst, ◌∙◌, append_assoc, append-nil, arith}
 use Rattle.std.specs.Prelude.{nat_lt}
+use Rattle.std.proofs.lemmas.List.{take_more, take_all, take-append-drop, length-append}
+use Rattle.lrat.specs.declared.word_at.WordAt.{WordAt}
 use Rattle.std.specs.List.{list_any}
 use Rattle.std.proofs.lemmas.Bool.{eqb-true, ltb-false, or_parts, or_from}
 use Rattle.base.specs.Decimals.{is_nothing}
@@ -16,7 +18,11 @@ use Rattle.drup.specs.TextJudges.{next_lines, IsTokenAt, IsFew}
 use Rattle.drup.proofs.TextLemmas.{lines_same}
 use Rattle.lrat.specs.HintedProofs.{token_of, Token, faulty, Mark, mark, lines_marks, between, reading_from, read_text_lrat}
 use Rattle.lrat.specs.StepReaders.{StepReader, StandsAtStep, StandsForWords}
-use Rattle.lrat.specs.TextJudges.{TextJudge, word_marks, marks_behind, Scanned, ScannedAt, StandsBefore, StandsThrough, BeginsText, StandsForLines, AreMarksAt, EndsText}
+use Rattle.base.proofs.DecimalLemmas.{nothing}
+use Rattle.lrat.specs.declared.token.Token.{Token as CodeToken}
+use Rattle.lrat.specs.Words.{token_said}
+use Rattle.lrat.specs.WordsAt.{parts_words, IsWordOf, IsWordAt}
+use Rattle.lrat.specs.TextJudges.{TextJudge, IsBetweenAt, IsBetween, word_marks, marks_behind, Scanned, ScannedAt, StandsBefore, StandsThrough, BeginsText, StandsForLines, AreMarksAt, EndsText}
 use Rattle.lrat.proofs.StepReaderLemmas.{stands_begun}
 use Rattle.lrat.proofs.TextLemmas.{marks_blank, marks_line, marks_letter, marks_end, marks_too_long, marks_comment, marks_within}
 
@@ -29,27 +35,27 @@ scanned_any j text pending marks false s = s
 scanned : (f : Formula) (j : TextJudge) (text pending : List ℕ) (b : StandsBefore f j text pending) → j.reader.closed ≡ false → Scanned j text pending b.marks
 scanned f j text pending b is = subst (ScannedAt j text pending b.marks) is b.scanned
 
--- a byte that comes is pending
-pub byte_comes : (f : Formula) (j : TextJudge) (text : List ℕ) (byte : ℕ) → j.reader.closed ≡ false → StandsThrough f j text → StandsBefore f j (text ++ byte ∷ []) (byte ∷ [])
-byte_comes f j text byte is b =
+-- bytes that come are pending
+pub bytes_come : (f : Formula) (j : TextJudge) (text bytes : List ℕ) → j.reader.closed ≡ false → StandsThrough f j text → StandsBefore f j (text ++ bytes) bytes
+bytes_come f j text bytes is b =
     let s : Scanned j text [] b.marks = scanned f j text [] b is in
-    let now : Scanned j (text ++ byte ∷ []) (byte ∷ []) b.marks = record {
+    let now : Scanned j (text ++ bytes) bytes b.marks = record {
       word = s.word;
       spells = s.spells;
       plain = s.plain;
       few = s.few;
-      reads = λ more. ap (λ (t : List ℕ). lines_marks 1 (all_lines t)) (append_assoc text (byte ∷ []) more) ∙ s.reads (byte ∷ more);
-      last = λ more. ap (λ (t : List ℕ). suc (length (whole_lines t))) (append_assoc text (byte ∷ []) more) ∙ s.last (byte ∷ more);
+      reads = λ more. ap (λ (t : List ℕ). lines_marks 1 (all_lines t)) (append_assoc text bytes more) ∙ s.reads (bytes ++ more);
+      last = λ more. ap (λ (t : List ℕ). suc (length (whole_lines t))) (append_assoc text bytes more) ∙ s.last (bytes ++ more);
     } in
-    record { variables = b.variables; marks = b.marks; words = b.words; scanned = scanned_any j (text ++ byte ∷ []) (byte ∷ []) b.marks j.reader.closed now }
+    record { variables = b.variables; marks = b.marks; words = b.words; scanned = scanned_any j (text ++ bytes) bytes b.marks j.reader.closed now }
 
--- where nothing more is read, a byte more changes nothing
-pub byte_passed : (f : Formula) (j : TextJudge) (text : List ℕ) (byte : ℕ) → j.reader.closed ≡ true → StandsThrough f j text → StandsThrough f j (text ++ byte ∷ [])
-byte_passed f j text byte is b =
+-- where nothing more is read, bytes more change nothing
+pub bytes_passed : (f : Formula) (j : TextJudge) (text bytes : List ℕ) → j.reader.closed ≡ true → StandsThrough f j text → StandsThrough f j (text ++ bytes)
+bytes_passed f j text bytes is b =
     let s : ScannedAt j text [] b.marks true = subst (ScannedAt j text [] b.marks) is b.scanned in
-    let now : ScannedAt j (text ++ byte ∷ []) [] b.marks true = λ more.
-    ((s (byte ∷ more)).0, ap (λ (t : List ℕ). lines_marks 1 (all_lines t)) (append_assoc text (byte ∷ []) more) ∙ (s (byte ∷ more)).1) in
-    record { variables = b.variables; marks = b.marks; words = b.words; scanned = subst (ScannedAt j (text ++ byte ∷ []) [] b.marks) (sym is) now }
+    let now : ScannedAt j (text ++ bytes) [] b.marks true = λ more.
+    ((s (bytes ++ more)).0, ap (λ (t : List ℕ). lines_marks 1 (all_lines t)) (append_assoc text bytes more) ∙ (s (bytes ++ more)).1) in
+    record { variables = b.variables; marks = b.marks; words = b.words; scanned = subst (ScannedAt j (text ++ bytes) [] b.marks) (sym is) now }
 
 -- how the state of a scan goes on over pending bytes, with words that end
 record GoesOn (p : Place) (n : ℕ) (w : List ℕ) (before : List ℕ) (added : List Mark) (q : Place) (m : ℕ) (x : List ℕ) : Type 0 where
@@ -282,9 +288,153 @@ pub stands_through : (f : Formula) (j : TextJudge) (text : List ℕ) → StandsF
 stands_through f j [] b = text_begun f j b
 stands_through f j (x ∷ xs) b = b
 
-pub stands_behind : (f : Formula) (j : TextJudge) (text : List ℕ) (byte : ℕ) → StandsThrough f j (text ++ byte ∷ []) → StandsForLines f j (text ++ byte ∷ [])
-stands_behind f j [] byte b = b
-stands_behind f j (x ∷ xs) byte b = b
+stands_again : (f : Formula) (j : TextJudge) (text : List ℕ) → 0 < length text → StandsThrough f j text → StandsForLines f j text
+stands_again f j [] some b = absurd (omega (arith, some))
+stands_again f j (x ∷ xs) some b = b
+
+pub stands_behind : (f : Formula) (j : TextJudge) (text : List ℕ) (byte : ℕ) (bytes : List ℕ) → StandsThrough f j (text ++ byte ∷ bytes) → StandsForLines f j (text ++ byte ∷ bytes)
+stands_behind f j [] byte bytes b = b
+stands_behind f j (x ∷ xs) byte bytes b = b
+
+-- ---- a whole word
+
+-- no word has begun in a line of words, of a text but for its last bytes, which are pending
+record AtWords (f : Formula) (j : TextJudge) (text pending : List ℕ) : Type 0 where
+  variables : j.reader.variables ≡ f.variables
+  marks : List Mark
+  words : StandsForWords f j.reader marks
+  spells : SpellsWord j.word []
+  few : j.line ≤ most_proof_lines
+  reads : (more : List ℕ) → lines_marks 1 (all_lines (text ++ more)) ≡ marks ++ marks_behind place.Within j.line [] (pending ++ more)
+  last : (more : List ℕ) → suc (length (whole_lines (text ++ more))) ≡ j.line + length (whole_lines (pending ++ more))
+
+within_at : (p : Place) (n : ℕ) (w rest : List ℕ) → p ≡ place.Within → w ≡ [] → marks_behind p n w rest ≡ marks_behind place.Within n [] rest
+within_at p n w rest is none = rw (is, none) refl
+
+at_words : (f : Formula) (j : TextJudge) (text : List ℕ) (first : ℕ) (rest : List ℕ) → j.reader.closed ≡ false → IsBetween j first → StandsBefore f j text (first ∷ rest) → AtWords f j text (first ∷ rest)
+at_words f j text first rest going ready b = at j.place refl ready
+  where
+    s : Scanned j text (first ∷ rest) b.marks
+    s = scanned f j text (first ∷ rest) b going
+
+    at : (p : Place) → j.place ≡ p → IsBetweenAt p j first → AtWords f j text (first ∷ rest)
+    at place.Begins is h =
+        let none : s.word ≡ [] = nothing_at j.place s.word is s.plain in
+        record {
+          variables = b.variables;
+          marks = b.marks;
+          words = b.words;
+          spells = subst (SpellsWord j.word) none s.spells;
+          few = few_lines j.line h.0;
+          reads = λ more. s.reads more ∙ ap (λ (ms : List Mark). b.marks ++ ms) (begins_at j.place j.line s.word (first ∷ (rest ++ more)) is ∙ marks_within j.line first (rest ++ more) h.0 h.1);
+          last = s.last;
+        }
+    at place.Within is h =
+        let none : s.word ≡ [] = nothing s.word (h s.word s.spells) in
+        record {
+          variables = b.variables;
+          marks = b.marks;
+          words = b.words;
+          spells = subst (SpellsWord j.word) none s.spells;
+          few = few_at j.place j.line is s.few;
+          reads = λ more. s.reads more ∙ ap (λ (ms : List Mark). b.marks ++ ms) (within_at j.place j.line s.word (first ∷ (rest ++ more)) is none);
+          last = s.last;
+        }
+    at place.Comment is h = absurd h
+
+letters : (n : ℕ) (u w : List ℕ) → list_any parts_words w ≡ false → GoesOn place.Within n u w [] place.Within n (u ++ w)
+letters n u [] whole = record { marks = λ more. ap (λ (x : List ℕ). marks_behind place.Within n x more) (sym (append-nil u)); lines = λ more. refl }
+letters n u (b ∷ bs) whole =
+    let parts = or_parts (parts_words b) (list_any parts_words bs) whole in
+    let not : (b == 10) ≡ false = (or_parts (b == 10) (is_proof_blank b) parts.0).0 in
+    let rest : GoesOn place.Within n (u ++ b ∷ []) bs [] place.Within n ((u ++ b ∷ []) ++ bs) = letters n (u ++ b ∷ []) bs parts.1 in
+    record {
+      marks = λ more. marks_letter n u b (bs ++ more) not ∙ rest.marks more ∙ ap (λ (x : List ℕ). marks_behind place.Within n x more) (append_assoc u (b ∷ []) bs);
+      lines = λ more. on_same n b (bs ++ more) not ∙ rest.lines more;
+    }
+
+no_blanks : (w : List ℕ) → list_any parts_words w ≡ false → list_any is_proof_blank w ≡ false
+no_blanks [] whole = refl
+no_blanks (b ∷ bs) whole =
+    let parts = or_parts (parts_words b) (list_any parts_words bs) whole in
+    or_from (is_proof_blank b) (list_any is_proof_blank bs) (or_parts (b == 10) (is_proof_blank b) parts.0).1 (no_blanks bs parts.1)
+
+-- a word, and then a byte that parts it from what follows
+word_then : (n : ℕ) (w : List ℕ) (b : ℕ) (q : Place) (m : ℕ) → list_any parts_words w ≡ false → GoesOn place.Within n w (b ∷ []) (word_marks n w) q m [] → GoesOn place.Within n [] (w ++ b ∷ []) (word_marks n w) q m []
+word_then n w b q m whole on =
+    let front : GoesOn place.Within n [] w [] place.Within n w = letters n [] w whole in
+    record {
+      marks = λ more. ap (marks_behind place.Within n []) (append_assoc w (b ∷ []) more) ∙ front.marks (b ∷ more) ∙ on.marks more;
+      lines = λ more. ap (λ (t : List ℕ). n + length (whole_lines t)) (append_assoc w (b ∷ []) more) ∙ front.lines (b ∷ more) ∙ on.lines more;
+    }
+
+goes_on_words : (f : Formula) (old : TextJudge) (text pending : List ℕ) (b : AtWords f old text pending) (reader : StepReader) (m : ℕ) (q : Place) (added : List Mark)
+    → reader.variables ≡ old.reader.variables → StandsForWords f reader (b.marks ++ added) → IsTokenAt q [] → IsFew q m → GoesOn place.Within old.line [] pending added q m []
+    → StandsThrough f (record { reader = reader; line = m; place = q; word = old.word }) text
+goes_on_words f old text pending b reader m q added same words plain few on =
+    let new : TextJudge = record { reader = reader; line = m; place = q; word = old.word } in
+    let now : Scanned new text [] (b.marks ++ added) = record {
+      word = [];
+      spells = b.spells;
+      plain = plain;
+      few = few;
+      reads = λ more. b.reads more ∙ ap (λ (ms : List Mark). b.marks ++ ms) (on.marks more) ∙ sym (append_assoc b.marks added (marks_behind q m [] more));
+      last = λ more. b.last more ∙ on.lines more;
+    } in
+    record { variables = same ∙ b.variables; marks = b.marks ++ added; words = words; scanned = scanned_any new text [] (b.marks ++ added) reader.closed now }
+
+-- a reader took a word that says this
+abbrev pub TakesToken : TextJudge → CodeToken → StepReader → Type 0
+TakesToken old token reader =
+    ((f : Formula) (marks : List Mark) → StandsForWords f old.reader marks → StandsForWords f reader (marks ++ mark old.line (token_said token) ∷ []))
+    × (reader.variables ≡ old.reader.variables)
+
+-- a whole word was taken, and the byte behind it ends the line, or does not
+pub whole_line : (f : Formula) (old : TextJudge) (text : List ℕ) (first : ℕ) (rest : List ℕ) (behind : ℕ) (token : CodeToken) (reader : StepReader) → old.reader.closed ≡ false → IsBetween old first → IsWordOf token (first ∷ rest) → (behind == 10) ≡ true
+    → TakesToken old token reader → StandsForLines f old text → StandsForLines f (record { reader = reader; line = min (old.line + 1) (2 ^ 64 - 1); place = place.Begins; word = old.word }) (text ++ ((first ∷ rest) ++ behind ∷ []))
+whole_line f old text first rest behind token reader going ready word ten takes stands =
+    let pending : List ℕ = first ∷ (rest ++ behind ∷ []) in
+    let b : AtWords f old (text ++ pending) pending = at_words f old (text ++ pending) first (rest ++ behind ∷ []) going ready (bytes_come f old text pending going (stands_through f old text stands)) in
+    let few : old.line ≤ 2 ^ 62 = b.few in
+    let next : min (old.line + 1) (2 ^ 64 - 1) ≡ suc old.line = omega (arith, few) in
+    let enough : min (old.line + 1) (2 ^ 64 - 1) ≤ suc (2 ^ 62) = omega (arith, few) in
+    stands_behind f (record { reader = reader; line = min (old.line + 1) (2 ^ 64 - 1); place = place.Begins; word = old.word }) text first (rest ++ behind ∷ [])
+    (goes_on_words f old (text ++ pending) pending b reader (min (old.line + 1) (2 ^ 64 - 1)) place.Begins (word_marks old.line (first ∷ rest)) takes.1
+    (end_some f reader b.marks old.line (first ∷ rest) (token_said token) refl word.said (takes.0 f b.marks b.words)) refl enough
+    (word_then old.line (first ∷ rest) behind place.Begins (min (old.line + 1) (2 ^ 64 - 1)) word.whole
+    (on_line place.Within old.line (first ∷ rest) behind (min (old.line + 1) (2 ^ 64 - 1)) refl (no_blanks (first ∷ rest) word.whole) ten next)))
+
+pub whole_word : (f : Formula) (old : TextJudge) (text : List ℕ) (first : ℕ) (rest : List ℕ) (behind : ℕ) (token : CodeToken) (reader : StepReader) → old.reader.closed ≡ false → IsBetween old first → IsWordOf token (first ∷ rest) → (behind == 10) ≡ false → parts_words behind ≡ true
+    → TakesToken old token reader → StandsForLines f old text → StandsForLines f (record { reader = reader; line = old.line; place = place.Within; word = old.word }) (text ++ ((first ∷ rest) ++ behind ∷ []))
+whole_word f old text first rest behind token reader going ready word not parts takes stands =
+    let pending : List ℕ = first ∷ (rest ++ behind ∷ []) in
+    let b : AtWords f old (text ++ pending) pending = at_words f old (text ++ pending) first (rest ++ behind ∷ []) going ready (bytes_come f old text pending going (stands_through f old text stands)) in
+    let blank : is_proof_blank behind ≡ true = rw not at parts in
+    stands_behind f (record { reader = reader; line = old.line; place = place.Within; word = old.word }) text first (rest ++ behind ∷ [])
+    (goes_on_words f old (text ++ pending) pending b reader old.line place.Within (word_marks old.line (first ∷ rest)) takes.1
+    (end_some f reader b.marks old.line (first ∷ rest) (token_said token) refl word.said (takes.0 f b.marks b.words)) refl b.few
+    (word_then old.line (first ∷ rest) behind place.Within old.line word.whole
+    (on_blank place.Within old.line (first ∷ rest) behind refl (no_blanks (first ∷ rest) word.whole) not blank)))
+
+-- what was taken from a place on: all, where nothing more is read, or a whole word and the byte behind it
+pub taken_all : (f : Formula) (j : TextJudge) (text bytes : List ℕ) (at : ℕ) → j.reader.closed ≡ true → at < length bytes → StandsForLines f j (text ++ take at bytes) → StandsForLines f j (text ++ take (length bytes) bytes)
+taken_all f j text bytes at closed inside stands =
+    let all : (text ++ take at bytes) ++ drop at bytes ≡ text ++ take (length bytes) bytes =
+    append_assoc text (take at bytes) (drop at bytes) ∙ ap (λ (l : List ℕ). text ++ l) (take-append-drop at bytes ∙ sym (take_all (length bytes) bytes (omega arith))) in
+    stands_again f j (text ++ take (length bytes) bytes) (omega (arith, inside, length-append text (take (length bytes) bytes), ap length (take_all (length bytes) bytes (omega arith))))
+    (subst (StandsThrough f j) all (bytes_passed f j (text ++ take at bytes) (drop at bytes) closed (stands_through f j (text ++ take at bytes) stands)))
+
+pub taken_word : (f : Formula) (j : TextJudge) (text bytes : List ℕ) (at b : ℕ) (w : WordAt) (h : IsWordAt bytes at w) (first : ℕ) (rest : List ℕ) → h.word ≡ first ∷ rest → get_or bytes w.end 0 ≡ b
+    → StandsForLines f j ((text ++ take at bytes) ++ ((first ∷ rest) ++ b ∷ [])) → StandsForLines f j (text ++ take (w.end + 1) bytes)
+taken_word f j text bytes at b w h first rest is there stands =
+    let to : take (w.end + 1) bytes ≡ take at bytes ++ ((first ∷ rest) ++ b ∷ []) =
+    take_more bytes w.end 0 h.inside ∙ ap (λ (t : List ℕ). t ++ get_or bytes w.end 0 ∷ []) (h.is ∙ ap (λ (t : List ℕ). take at bytes ++ t) is) ∙ append_assoc (take at bytes) (first ∷ rest) (get_or bytes w.end 0 ∷ []) ∙ ap (λ (x : ℕ). take at bytes ++ ((first ∷ rest) ++ x ∷ [])) there in
+    subst (StandsForLines f j) (append_assoc text (take at bytes) ((first ∷ rest) ++ b ∷ []) ∙ ap (λ (t : List ℕ). text ++ t) (sym to)) stands
+
+pub taken_byte : (f : Formula) (j : TextJudge) (text bytes : List ℕ) (at b : ℕ) → at < length bytes → get_or bytes at 0 ≡ b → StandsForLines f j ((text ++ take at bytes) ++ b ∷ []) → StandsForLines f j (text ++ take (at + 1) bytes)
+taken_byte f j text bytes at b inside there stands =
+    let to : take (at + 1) bytes ≡ take at bytes ++ b ∷ [] = take_more bytes at 0 inside ∙ ap (λ (x : ℕ). take at bytes ++ x ∷ []) there in
+    subst (StandsForLines f j) (append_assoc text (take at bytes) (b ∷ []) ∙ ap (λ (t : List ℕ). text ++ t) (sym to)) stands
 
 -- ---- the end of the text
 

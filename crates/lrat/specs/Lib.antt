@@ -4,6 +4,7 @@ pub mod HintedForms
 pub mod LratJudgements
 pub mod Words
 pub mod Scans
+pub mod WordsAt
 pub mod StepReaders
 pub mod TextJudges
 pub mod LratJudges

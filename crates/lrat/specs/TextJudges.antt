@@ -1,8 +1,9 @@
 -- What a judge of proofs with hints in the text form holds, and which texts it stands for.
-use Rattle.std.specs.Prelude.{◌≡◌, ℕ, suc, ◌+◌, Bool, true, false, List, [], ◌∷◌, ◌++◌, length, map}
+use Rattle.std.specs.Prelude.{◌≡◌, ℕ, suc, ◌+◌, Bool, true, false, ◌==◌, nat_lt, List, [], ◌∷◌, ◌++◌, length, map}
 use Rattle.base.specs.Lines.{whole_lines, all_lines}
 use Rattle.drup.specs.Formula.{Formula}
-use Rattle.drup.specs.Proofs.{proof_words}
+use Rattle.base.specs.Decimals.{is_nothing}
+use Rattle.drup.specs.Proofs.{proof_words, most_proof_lines}
 use Rattle.drup.specs.TextJudges.{this_line, next_lines, IsTokenAt, IsFew}
 use Rattle.drup.specs.declared.lines.Place.{Place}
 use Rattle.drup.specs.declared.lines.Place.TheVariants as place
@@ -41,6 +42,15 @@ pub record Scanned (j : TextJudge) (text pending : List ℕ) (marks : List Mark)
   pub few : IsFew j.place j.line
   pub reads : (more : List ℕ) → lines_marks 1 (all_lines (text ++ more)) ≡ marks ++ marks_behind j.place j.line word (pending ++ more)
   pub last : (more : List ℕ) → suc (length (whole_lines (text ++ more))) ≡ j.line + length (whole_lines (pending ++ more))
+
+-- in a place, a word that begins with a byte may be taken as a whole: none has begun, and the line is one of words
+abbrev pub IsBetweenAt : Place → TextJudge → ℕ → Type 0
+IsBetweenAt place.Begins j byte = (nat_lt most_proof_lines j.line ≡ false) × ((byte == 99) ≡ false)
+IsBetweenAt place.Within j byte = (word : List ℕ) → SpellsWord j.word word → is_nothing word ≡ true
+IsBetweenAt place.Comment j byte = ⊥
+
+abbrev pub IsBetween : TextJudge → ℕ → Type 0
+IsBetween j byte = IsBetweenAt j.place j byte
 
 -- where nothing more is read they are the first words, and else all
 abbrev pub ScannedAt : TextJudge → List ℕ → List ℕ → List Mark → Bool → Type 0

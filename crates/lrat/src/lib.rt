@@ -7,5 +7,6 @@ mod scan;
 mod step_reader;
 mod text_judge;
 mod token;
+mod word_at;
 
 pub use lrat_judge::LratJudge;

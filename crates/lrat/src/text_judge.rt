@@ -1,16 +1,18 @@
 //! The judge of proofs with hints in the text form.
-ghost use Rattle.std.specs.Prelude.{◌≡◌, ◌+◌, ◌*◌, ◌-◌, ◌^◌, ◌<◌, ◌++◌, ◌∷◌, [], List, ℕ, true, false, min, All, IfOk};
+ghost use Rattle.std.specs.Prelude.{◌≡◌, ◌+◌, ◌*◌, ◌-◌, ◌^◌, ◌<◌, ◌≤◌, ◌++◌, ◌∷◌, [], List, ℕ, true, false, min, All, IfOk, length, take};
 ghost use Rattle.drup.specs.Formula.{Formula as FormulaValue};
 ghost use Rattle.drup.specs.Hints.{HintedReading, judge_hinted};
 ghost use Rattle.lrat.specs.HintedProofs.{faulty, Mark, mark, between, reading_from, read_text_lrat};
 ghost use Rattle.drup.specs.Words.{SpellsWord};
 ghost use Rattle.lrat.specs.Words.{token_said};
 ghost use Rattle.lrat.specs.StepReaders.{StandsForWords};
-ghost use Rattle.lrat.specs.TextJudges.{word_marks, StandsBefore, StandsThrough, StandsForLines, EndsText};
+ghost use Rattle.lrat.specs.TextJudges.{word_marks, StandsBefore, StandsThrough, StandsForLines, EndsText, IsBetween};
+ghost use Rattle.lrat.specs.WordsAt.{parts_words, IsWordOf};
 ghost use Rattle.drup.specs.declared.lines.Place.TheVariants as place;
 
 use crate::step_reader::StepReader;
 use crate::token::Token;
+use crate::word_at::word_at;
 use drup::{ClauseFault, Judgement, Place, Why, Word, is_blank, is_too_many};
 use std::alloc::Global;
 
@@ -176,13 +178,68 @@ impl TextJudge {
         }
     }
 
+    /// Whether a word that begins with a byte may be taken as a whole: none has begun, and the line is one of words.
+    fn is_between(&self, byte: u8) -> bool
+        ensures { result ≡ true → IsBetween self.now byte }
+    {
+        match self.place {
+            Place::Begins => byte != b'c' && !is_too_many(self.line),
+            Place::Within => self.word.is_empty(),
+            Place::Comment => false,
+        }
+    }
+
+    /// Takes a whole word, and the byte that parts it from what follows.
+    fn take_whole(&mut self, token: Token, behind: u8)
+        requires open { self.old.reader.closed ≡ false }
+        requires parts { parts_words behind ≡ true }
+        ensures stands { (f : FormulaValue) (text : List ℕ) (first : ℕ) (rest : List ℕ)
+            → IsWordOf token (first ∷ rest) → IsBetween self.old first
+            → StandsForLines f self.old text
+            → StandsForLines f self.new (text ++ ((first ∷ rest) ++ behind ∷ [])) }
+        ensures variables { self.new.reader.variables ≡ self.old.reader.variables }
+    {
+        self.place = Place::Within;
+        self.reader.take(self.line, token);
+        if behind == b'\n' {
+            self.end_line();
+        }
+    }
+
+    /// Takes bytes from a place on: a whole word and the byte behind it where they are there, else a byte; answers the place
+    /// behind these. Where nothing more is read it takes all.
+    fn take_from(&mut self, bytes: &[u8], at: usize) -> usize
+        requires { at < length bytes.now }
+        ensures stands { (f : FormulaValue) (text : List ℕ)
+            → StandsForLines f self.old (text ++ take at bytes.now)
+            → StandsForLines f self.new (text ++ take result bytes.now) }
+        ensures behind { (at < result) × (result ≤ length bytes.now) }
+    {
+        if self.is_closed() {
+            return bytes.len();
+        }
+        let byte = bytes[at];
+        if self.is_between(byte) {
+            match word_at(bytes, at) {
+                Some(word) => {
+                    self.take_whole(word.token, bytes[word.end]);
+                    return word.end + 1;
+                }
+                None => {}
+            }
+        }
+        self.take(byte);
+        at + 1
+    }
+
     /// Takes bytes of the text behind those before.
     pub(crate) fn feed(&mut self, bytes: &[u8])
         ensures { (f : FormulaValue) (text : List ℕ) → StandsForLines f self.old text
             → StandsForLines f self.new (text ++ bytes.now) }
     {
-        for byte in bytes {
-            self.take(*byte);
+        let mut at = 0;
+        while at < bytes.len() {
+            at = self.take_from(bytes, at);
         }
     }
 

@@ -2,7 +2,7 @@ use Rattle.std.proofs.Common.{◌≡◌, ◌<◌, ℕ, [], length, get_or, inl, 
 use Rattle.drup.specs.Places.{last_at, IsLatest, IsLink}
 use Rattle.drup.specs.Without.{AreSameClause}
 use Rattle.drup.proofs.PlacesLemmas.{none_left, none_from, none_behind, next_link}
-use Rattle.drup.proofs.FormulaLemmas.{read_there}
+use Rattle.drup.proofs.ClauseListLemmas.{read_there}
 use Rattle.drup.proofs.places.last_alike.Goals as goal
 
 pub loop-place-init : goal.loop-place-init

@@ -22,3 +22,6 @@ returns-in-Falsified-clause-stands c f steps s =
 
 pub returns-in-Falsified-clause-limit : goal.returns-in-Falsified-clause-limit
 returns-in-Falsified-clause-limit c = c.take_shown.ensures.limit ∙ ap (λ (j : HintedJudge). j.limit) c.finding.ensures.same
+
+pub take_shown-requires-clause-above : goal.take_shown-requires-clause-above
+take_shown-requires-clause-above c = omega (arith, c.if-id-self.false, ap (λ (j : HintedJudge). j.last) c.finding.ensures.same, ap (λ (j : HintedJudge). j.last) c.self.view_is)

@@ -6,6 +6,7 @@ use Rattle.drup.specs.declared.judgement.Judgement.TheVariants as judgement
 use Rattle.drup.specs.Named.{clause_of}
 use Rattle.drup.specs.Hints.{negated, follow, addition, ended}
 use Rattle.drup.specs.HintedJudges.{HintedJudge, LeadsHinted}
+use Rattle.drup.proofs.NamedLemmas.{fresh_more, fresh_still}
 use Rattle.drup.proofs.HintedLemmas.{leads_derived, leads_kept}
 use Rattle.drup.proofs.hinted_judge.HintedJudge.take_shown.Goals as goal
 
@@ -14,6 +15,8 @@ invariant_of-self-in-Ok c = record {
   named = c.in-Ok.ensures.named _ c.self.invariant.named (subst (λ (j : HintedJudge). All (λ l. l < j.limit) c.args.clause.now) (sym c.self.view_is) c.requires.below);
   even = c.self.invariant.even;
   none = c.self.invariant.none;
+  fresh = fresh_more c.self.inside.named c.insert.new.self c.self.inside.last c.args.id c.args.clause.now (λ i. c.in-Ok.ensures.ok _ i c.self.invariant.named) (subst (λ (j : HintedJudge). j.last < c.args.id) (sym c.self.view_is) c.requires.above) c.self.invariant.fresh;
+  held = λ ok. c.in-Ok.ensures.tight _ c.self.invariant.named (c.self.invariant.held ok);
 }
 
 pub invariant_of-self-in-Err : goal.invariant_of-self-in-Err
@@ -21,7 +24,12 @@ invariant_of-self-in-Err c = record {
   named = c.in-Err.ensures.named _ c.self.invariant.named (subst (λ (j : HintedJudge). All (λ l. l < j.limit) c.args.clause.now) (sym c.self.view_is) c.requires.below);
   even = c.self.invariant.even;
   none = c.self.invariant.none;
+  fresh = fresh_still c.self.inside.named c.insert.new.self c.self.inside.last c.args.id c.in-Err.ensures.err (subst (λ (j : HintedJudge). j.last < c.args.id) (sym c.self.view_is) c.requires.above) c.self.invariant.fresh;
+  held = λ ok. absurd (cc);
 }
+
+pub returns-in-Ok-clause-held : goal.returns-in-Ok-clause-held
+returns-in-Ok-clause-held c ok = c.in-Ok.ensures.tight _ c.self.invariant.named (c.self.invariant.held ok)
 
 pub returns-in-Ok-clause-leads : goal.returns-in-Ok-clause-leads
 returns-in-Ok-clause-leads c hints =
@@ -42,3 +50,6 @@ returns-then-is_nothing-clause-leads c hints =
     → LeadsHinted j (ended c.args.line (addition c.args.id c.args.clause.now hints)) (record old { found = Some (judgement.Derived c.args.line) }))
     c.self.view_is
     (λ is low shown. leads_derived old c.args.id c.args.line c.args.clause.now hints is low shown (sym c.is_nothing.ensures ∙ c.if-is_nothing.true))
+
+pub insert-requires : goal.insert-requires
+insert-requires c = record { fresh = c.self.invariant.fresh c.args.id (subst (λ (j : HintedJudge). j.last < c.args.id) (sym c.self.view_is) c.requires.above) }

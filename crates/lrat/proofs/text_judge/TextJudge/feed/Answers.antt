@@ -1,12 +1,14 @@
-use Rattle.std.proofs.Common.{◌≡◌, List, ℕ, ◌++◌, ◌∷◌, [], ◌+◌, take, get_or, append_assoc, subst, sym, ap, ◌∙◌}
-use Rattle.std.proofs.lemmas.List.{take_more}
+use Rattle.std.proofs.Common.{◌≡◌, List, ℕ, ◌++◌, [], length, take, sym, ap, subst, ◌∙◌, append-nil, arith}
+use Rattle.std.proofs.lemmas.List.{take_all}
 use Rattle.lrat.specs.TextJudges.{StandsForLines}
 use Rattle.lrat.proofs.text_judge.TextJudge.feed.Goals as goal
 
-pub loop-byte-preserved : goal.loop-byte-preserved
-loop-byte-preserved c f text stands =
-    let front : List ℕ = take c.loop-byte.byte-index c.args.bytes.now in
-    let byte = get_or c.args.bytes.now c.loop-byte.byte-index 0 in
-    let whole : (text ++ front) ++ byte ∷ [] ≡ text ++ take (c.loop-byte.byte-index + 1) c.args.bytes.now =
-    append_assoc text front (byte ∷ []) ∙ ap (λ (l : List ℕ). text ++ l) (sym (take_more c.args.bytes.now c.loop-byte.byte-index 0 c.loop-byte-test.true)) in
-    subst (StandsForLines f c.take.new.self) whole (c.take.ensures.stands f (text ++ front) (c.loop-byte.invariant f text stands))
+pub loop-at-init : goal.loop-at-init
+loop-at-init c = record { stands = λ f text stands. subst (StandsForLines f c.args.self.now) (sym (append-nil text)) stands; within = omega arith }
+
+pub loop-at-preserved : goal.loop-at-preserved
+loop-at-preserved c = record { stands = λ f text stands. c.take_from-at.ensures.stands f text (c.loop-at.invariant.stands f text stands); within = c.take_from-at.ensures.behind.1 }
+
+pub returns : goal.returns
+returns c f text stands =
+    subst (λ (t : List ℕ). StandsForLines f c.loop-at.self (text ++ t)) (take_all c.loop-at.at c.args.bytes.now (omega (arith, c.loop-at-test.false))) (c.loop-at.invariant.stands f text stands)

@@ -1,10 +1,9 @@
--- Clauses in one list with their ends: how many there are, the one at a place, and one more.
-use Rattle.std.proofs.Common.{◌≡◌, ℕ, zero, suc, ◌-◌, ◌<◌, ◌≤◌, List, [], ◌∷◌, ◌++◌, length, get_or, drop, refl, sym, ap, ap₂, subst, ◌∙◌, arith, length-append}
-use Rattle.std.proofs.lemmas.List.Elements.{All-take, All-drop, All-from_get_or}
-use Rattle.std.specs.Prelude.{All, slice_range}
+-- Clauses in one list with their ends: how many there are, the one at a place, one more, and their literals.
+use Rattle.std.proofs.Common.{◌≡◌, ℕ, zero, suc, ◌+◌, ◌-◌, ◌<◌, ◌≤◌, List, [], ◌∷◌, ◌++◌, length, get_or, drop, refl, ap, ap₂, ◌∙◌, arith, length-append}
+use Rattle.std.proofs.lemmas.List.{length-drop, length-take-le}
+use Rattle.std.specs.Prelude.{slice_range}
 use Rattle.drup.specs.Flat.{cut}
-use Rattle.drup.specs.Formula.{IsLiteral}
-use Rattle.drup.specs.FormulaKept.{AreEndsInTurn}
+use Rattle.drup.specs.ClauseLists.{AreEndsInTurn, literal_count}
 use Rattle.drup.proofs.FlatLemmas.{range_kept, range_last}
 
 pub length-cut_in_turn : (literals ends : List ℕ) (start : ℕ) → length (cut literals (start ∷ ends) ends) ≡ length ends
@@ -46,18 +45,17 @@ one_clause_more literals clause ends literals' ends' end' l e n h =
     let is : ends' ≡ ends ++ length (literals ++ clause) ∷ [] = e ∙ ap (λ (k : ℕ). ends ++ k ∷ []) (n ∙ ap length l) in
     (rw (is, l) (AreInTurn-push 0 ends (length literals) (length (literals ++ clause)) h (omega (arith, length-append literals clause))), rw (is, l) (cut-push literals clause ends 0 h))
 
--- the literals of each clause are among all of them
+-- ---- how many literals they have
 
-pub literals_at : (variables : ℕ) (literals : List ℕ) (start end' : ℕ) → All (IsLiteral variables) literals → All (IsLiteral variables) (slice_range literals start end')
-literals_at variables literals start end' all = All-take (IsLiteral variables) (end' - start) (drop start literals) (All-drop (IsLiteral variables) start literals all)
+length-range : (literals : List ℕ) (start end' : ℕ) → start ≤ end' → end' ≤ length literals → length (slice_range literals start end') ≡ end' - start
+length-range literals start end' low high = length-take-le (end' - start) (drop start literals) (omega (arith, length-drop start literals))
 
-pub all_are_literals : (variables : ℕ) (literals ends : List ℕ) → All (IsLiteral variables) literals → All (All (IsLiteral variables)) (cut literals (0 ∷ ends) ends)
-all_are_literals variables literals ends all =
-    All-from_get_or (All (IsLiteral variables)) (cut literals (0 ∷ ends) ends) []
-    (λ k h.
-    let below : k < length ends = omega (arith, h, length-cut_in_turn literals ends 0) in
-    subst (All (IsLiteral variables)) (sym (cut_in_turn_at literals ends 0 k below))
-    (literals_at variables literals (get_or (0 ∷ ends) k 0) (get_or ends k 0) all))
+count_in_turn : (literals : List ℕ) (start : ℕ) (ends : List ℕ) → AreEndsInTurn start ends (length literals) → start + literal_count (cut literals (start ∷ ends) ends) ≡ length literals
+count_in_turn literals start [] h = omega (arith, h)
+count_in_turn literals start (e ∷ es) h = omega (arith, h.0, length-range literals start e h.0 (start_within e es (length literals) h.1), count_in_turn literals e es h.1)
+
+pub count_all : (literals ends : List ℕ) → AreEndsInTurn 0 ends (length literals) → length literals ≡ literal_count (cut literals (0 ∷ ends) ends)
+count_all literals ends h = omega (arith, count_in_turn literals 0 ends h)
 
 -- what is read at a place is the number there
 pub read_there : (xs : List ℕ) (i e : ℕ) → i < length xs → e ≡ get_or xs i e → e ≡ get_or xs i 0

@@ -1,0 +1,152 @@
+//! The places of ids: one number for each.
+ghost use Rattle.std.specs.Prelude.{◌≡◌, ℕ, ◌<◌, ◌==◌, if◌then◌else◌, IfOk, OnErr, Some, None, nat_eq, slice_index_or};
+ghost use Rattle.std.specs.Map.{lookup};
+ghost use Rattle.drup.specs.IdPlaces.{near_at, place_of};
+
+use crate::fault::ClauseFault;
+use indexmap::IndexMap;
+use std::alloc::Global;
+
+/// What stands for no place.
+const NO_PLACE: u32 = 4294967295;
+
+/// Places of ids. Those of ids from one on, as long as they lie close together, stand in a list by their ids; the others in a map.
+#[derive(Drop)]
+pub(crate) struct IdPlaces {
+    // the first id of the list
+    first: u32,
+    near: Vec<u32>,
+    far: IndexMap<u32, u32>,
+}
+
+impl std::marker::Model for IdPlaces {
+    ghost use Rattle.drup.specs.IdPlaces.{IdPlaces as IdPlacesValue, placed};
+
+    ghost Value = { IdPlacesValue };
+
+    ghost view = { placed };
+}
+
+/// The number at a place of a list, or what stands for no place behind it.
+fn at_or_none(places: &[u32], k: usize) -> u32
+    ensures { result ≡ slice_index_or places.now k 4294967295 }
+{
+    if k < places.len() {
+        places[k]
+    } else {
+        NO_PLACE
+    }
+}
+
+/// How long the list may be for clauses before a place: four times as long, so that the list takes no more than these do.
+fn most_near(place: u32) -> usize {
+    4 * place as usize + 1024
+}
+
+/// Puts a number at a place of a list, which is made longer where that is needed.
+fn set_near(near: &mut Vec<u32>, k: usize, place: u32) -> Result<(), ClauseFault>
+    ensures ok { IfOk result (λ _. (i : ℕ) → slice_index_or near.new.items i 4294967295
+        ≡ (if i == k then place else slice_index_or near.old.items i 4294967295)) }
+    ensures err { OnErr result ((i : ℕ) → slice_index_or near.new.items i 4294967295
+        ≡ slice_index_or near.old.items i 4294967295) }
+{
+    while near.len() <= k {
+        match near.push(NO_PLACE) {
+            Ok(_) => {}
+            Err(_) => return Err(ClauseFault::NoMemory),
+        }
+    }
+    near[k] = place;
+    Ok(())
+}
+
+impl IdPlaces {
+    /// No places; the list is of the ids from one on.
+    pub(crate) fn new(alloc: Global, first: u32) -> IdPlaces
+        ensures { (id : ℕ) → place_of result id ≡ None }
+    {
+        IdPlaces {
+            first,
+            near: Vec::new(alloc),
+            far: IndexMap::new(alloc),
+        }
+    }
+
+    /// The place of an id in the list.
+    fn near_place(&self, id: u32) -> u32
+        ensures { result ≡ near_at self.now id }
+    {
+        if id < self.first {
+            return NO_PLACE;
+        }
+        at_or_none(&self.near, (id - self.first) as usize)
+    }
+
+    /// The place of an id in the map.
+    fn far_place(&self, id: u32) -> Option<u32>
+        ensures { result ≡ lookup (nat_eq id) self.now.far }
+    {
+        match self.far.get(&id) {
+            None => None,
+            Some(place) => Some(*place),
+        }
+    }
+
+    /// The place of an id.
+    pub(crate) fn get(&self, id: u32) -> Option<u32>
+        ensures { result ≡ place_of self.now id }
+    {
+        let place = self.near_place(id);
+        if place != NO_PLACE {
+            return Some(place);
+        }
+        self.far_place(id)
+    }
+
+    /// Lets an id have a place, which has none.
+    pub(crate) fn set(&mut self, id: u32, place: u32) -> Result<(), ClauseFault>
+        requires fresh { place_of self.old id ≡ None }
+        requires place { place < 4294967295 }
+        ensures ok { IfOk result (λ _. (i : ℕ) → place_of self.new i
+            ≡ (if i == id then Some place else place_of self.old i)) }
+        ensures err { OnErr result ((i : ℕ) → place_of self.new i ≡ place_of self.old i) }
+    {
+        if id >= self.first {
+            let k = (id - self.first) as usize;
+            if k < most_near(place) {
+                return set_near(&mut self.near, k, place);
+            }
+        }
+        match self.far.insert(id, place) {
+            Ok(_) => Ok(()),
+            Err(_) => Err(ClauseFault::NoMemory),
+        }
+    }
+
+    /// Lets an id have no place in the list.
+    fn unset_near(&mut self, id: u32)
+        ensures near { (i : ℕ) → near_at self.new i
+            ≡ (if i == id then 4294967295 else near_at self.old i) }
+        ensures far { self.new.far ≡ self.old.far }
+    {
+        if id < self.first {
+            return;
+        }
+        let k = (id - self.first) as usize;
+        if k < self.near.len() {
+            self.near[k] = NO_PLACE;
+        }
+    }
+
+    /// Lets an id have no place.
+    pub(crate) fn unset(&mut self, id: u32)
+        ensures { (i : ℕ) → place_of self.new i
+            ≡ (if i == id then None else place_of self.old i) }
+    {
+        self.unset_near(id);
+        if self.far.is_empty() {
+            return;
+        }
+        let _ = self.far.swap_remove(&id);
+    }
+}
