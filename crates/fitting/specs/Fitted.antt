@@ -1,11 +1,11 @@
 -- What stands while the lines of a list with words of any width are fitted one after the other: of each line so far, whatever lines follow, and of all together.
-use Rattle.std.specs.Prelude.{◌≡◌, ℕ, ◌≤◌, Bool, true, false, ◌||◌, List, [], ◌∷◌, ◌++◌, map, flat_map, Option, Some, None, IfSome, is_some, unwrap_or}
+use Rattle.std.specs.Prelude.{◌≡◌, ℕ, ◌^◌, ◌≤◌, Bool, true, false, ◌&&◌, ◌||◌, nat_le, nat_lt, List, [], ◌∷◌, ◌++◌, map, flat_map, Option, Some, None, IfSome, is_some, unwrap_or, option_and_then}
 use Rattle.std.specs.List.{AllByRecursion, AllZip}
 use Rattle.btor2.specs.declared.item.Item.{Item}
 use Rattle.btor2.specs.declared.item.Body.{Body}
 use Rattle.btor2.specs.declared.item.Body.TheVariants as body
-use Rattle.btor2.specs.Items.{find_item, node_sort, sort_bits, sort_width, constant_word, constant_of, names_state, is_input, is_state, is_bad, is_constraint, is_free, init_value, init_word, next_value}
-use Rattle.btor2.specs.Check.{IsWellFormed, sort_is_missing, operand_is_missing, state_is_none, slice_is_out_of_range, widths_differ, constant_does_not_fit, init_is_not_constant, is_second_init, is_second_next}
+use Rattle.btor2.specs.Items.{find_item, named_sort, node_sort, sort_bits, sort_width, constant_word, constant_of, names_state, is_input, is_state, is_bad, is_constraint, is_free, init_value, init_word, next_value}
+use Rattle.btor2.specs.Check.{IsWellFormed, sort_is_missing, operand_is_missing, state_is_none, slice_is_out_of_range, widths_differ, constant_fits, init_is_not_constant, is_second_init, is_second_next}
 use Rattle.btor2.specs.Trace.{Frame, line_word}
 use Rattle.btor2.specs.Lists.{of_kind}
 use Rattle.btor2.specs.Reachability.{nodes_of}
@@ -45,8 +45,13 @@ most_bits = 4294967295
 abbrev pub HasWidth : Body → Type 0
 HasWidth b = IfSome (sort_bits b) (λ n. (1 ≤ n) × (n ≤ most_bits))
 
+-- a constant fits a sort of n bits as in a model of the profile, by any number of hexadecimal digits
+abbrev pub constant_fits_word : ℕ → Body → Bool
+constant_fits_word n (body.Consth s d v) = nat_le 1 d && (nat_lt v (2 ^ n) && nat_lt v (16 ^ d))
+constant_fits_word n b = constant_fits n b
+
 -- A line of a list whose words may be so wide, after the lines before it: the rows of a model of the profile, but for those of the width of a sort, of the number of
--- items, and of justice lines.
+-- hexadecimal digits, of the number of items, and of justice lines.
 pub record IsSoundLine (wide : List Item) (x : Item) : Type 0 where
   pub fresh : find_item wide x.id ≡ None
   pub sort : sort_is_missing wide x.body ≡ false
@@ -55,7 +60,7 @@ pub record IsSoundLine (wide : List Item) (x : Item) : Type 0 where
   pub width : HasWidth x.body
   pub slice : slice_is_out_of_range wide x.body ≡ false
   pub widths : widths_differ wide x.body ≡ false
-  pub constant : constant_does_not_fit wide x.body ≡ false
+  pub constant : constant_fits_word (unwrap_or (option_and_then (sort_width wide) (named_sort x.body)) 0) x.body ≡ true
   pub init : init_is_not_constant wide x.body ≡ false
   pub first_init : is_second_init wide x.body ≡ false
   pub first_next : is_second_next wide x.body ≡ false

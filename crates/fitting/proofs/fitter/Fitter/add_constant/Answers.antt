@@ -1,9 +1,9 @@
 use Rattle.std.proofs.Common.{◌≡◌, ◌≤◌, ℕ, true, refl, sym, subst, ◌∙◌, unwrap_or}
-use Rattle.btor2.specs.Check.{IsWellFormed, constant_fits}
+use Rattle.btor2.specs.Check.{IsWellFormed}
 use Rattle.btor2.specs.Items.{constant_word}
 use Rattle.pieces.specs.Lines.{named}
 use Rattle.pieces.specs.Nodes.{MakesWord}
-use Rattle.fitting.specs.Fitted.{most_bits}
+use Rattle.fitting.specs.Fitted.{most_bits, constant_fits_word}
 use Rattle.fitting.specs.Tables.{table_of}
 use Rattle.fitting.proofs.ConstantLemmas.{constant_names, fits_sort, constant_fitted}
 use Rattle.fitting.proofs.FitterLemmas.{ok_then, put_as, sort_of}
@@ -23,7 +23,7 @@ pub constant_word-requires-clause-fits : goal.constant_word-requires-clause-fits
 constant_word-requires-clause-fits g c =
     let names = constant_names c.args.body.now c.args.sort c.requires.1.1.0 c.requires.1.1.1 in
     let sort = sort_of g.at.wide (table_of c.args.self.now) c.args.self.now.maker c.args.body.now c.args.sort c.requires.0 names c.requires.1.0.sort in
-    subst (λ (n : ℕ). constant_fits n c.args.body.now ≡ true) (sym (c.width-width.ensures ∙ sort.kept ∙ sym sort.own)) (fits_sort g.at.wide c.args.body.now c.args.sort names c.requires.1.0.constant)
+    subst (λ (n : ℕ). constant_fits_word n c.args.body.now ≡ true) (sym (c.width-width.ensures ∙ sort.kept ∙ sym sort.own)) (fits_sort g.at.wide c.args.body.now c.args.sort names c.requires.1.0.constant)
 
 pub returns-clause-fitted : goal.returns-clause-fitted
 returns-clause-fitted g c =
