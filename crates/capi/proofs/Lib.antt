@@ -1,5 +1,2 @@
-pub mod ClaimedLemmas
-pub mod GuardedLemmas
-pub mod HoldsLemmas
-pub mod LiftedLemmas
+pub mod JudgedLemmas
 pub mod NameLemmas

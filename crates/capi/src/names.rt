@@ -2,7 +2,7 @@
 ghost use Rattle.std.specs.Prelude.{◌≡◌, ◌⊎◌, None, IfSome, option_map};
 ghost use Rattle.invocation.specs.Version.{version};
 ghost use Rattle.capi.specs.Named.{IsRefusalName, IsOfNone, name_among, name_listed};
-ghost use Rattle.capi.specs.Written.{Fills, Needs};
+ghost use Rattle.capi.specs.Buffers.{Fills, Needs};
 
 use crate::buffers::hand_over;
 use explanations::{Explanation, Part, refusal_table};
