@@ -2,9 +2,15 @@
 use Rattle.std.proofs.Common.{arith, ◌≡◌, ◌<◌, ◌+◌, ◌^◌, ◌++◌, ◌∷◌, ◌∙◌, ℕ, zero, suc, Bool, true, false, List, [], length, drop, Option, Some, None, option_and_then, slice_get, decimal, append_assoc, refl, sym, ap, subst}
 use Rattle.base.specs.Decimals.{number_of}
 use Rattle.verbs.specs.Asked.{AsksFor, IsAskedBy}
+use Rattle.verbs.specs.Judging.{IsJudgedFor, IsJudgedOverFor}
+use Rattle.verbs.specs.declared.judging.JudgedOverCircuit.{JudgedOverCircuit}
+use Rattle.verbs.specs.declared.judging.JudgedOverModel.{JudgedOverModel}
+use Rattle.capi.specs.Answers.{outcome_verdict_of}
+use Rattle.capi.specs.Buffers.{Fills, Needs}
 use Rattle.capi.specs.Flags.{choice_of, word_asked}
-use Rattle.capi.specs.Judged.{claim_of, claims_from}
+use Rattle.capi.specs.Judged.{CallJudgesFor, CallJudgesOverFor, claim_of, claims_from, told_claims}
 use Rattle.capi.specs.declared.answers.Claim.{Claim}
+use Rattle.capi.specs.declared.answers.Verdict.{Verdict}
 
 -- ---- the list of claims
 
@@ -25,9 +31,35 @@ claims_next k firsts before all there is =
 -- ---- what is asked for
 
 -- what is asked for by the word of a position is that position
-pub asked_position : (chosen : Bool) (bad count : ℕ) (called : List ℕ → ℕ → Bool) (claim : Option ℕ) → ((n : ℕ) → n < 2 ^ 64 → number_of (decimal n) ≡ Some n) → bad < 2 ^ 64
+asked_position : (chosen : Bool) (bad count : ℕ) (called : List ℕ → ℕ → Bool) (claim : Option ℕ) → ((n : ℕ) → n < 2 ^ 64 → number_of (decimal n) ≡ Some n) → bad < 2 ^ 64
     → AsksFor (word_asked chosen bad) count called claim → claim ≡ choice_of chosen bad
 asked_position false bad count called claim read small asks = asks
-asked_position true bad count called claim read small (k, is, asked) =
-    let same : IsAskedBy (Some bad) count (called (decimal bad)) k = subst (λ (n : Option ℕ). IsAskedBy n count (called (decimal bad)) k) (read bad small) asked in
-    is ∙ ap (λ (n : ℕ). Some n) same.0
+asked_position true bad count called claim read small (k, asked) =
+    let same : IsAskedBy (Some bad) count (called (decimal bad)) k = subst (λ (n : Option ℕ). IsAskedBy n count (called (decimal bad)) k) (read bad small) asked.1 in
+    asked.0 ∙ ap (λ (n : ℕ). Some n) same.0
+
+-- a number is read from its decimal
+abbrev pub ReadsDecimals : Type 0
+ReadsDecimals = (n : ℕ) → n < 2 ^ 64 → number_of (decimal n) ≡ Some n
+
+pub judges_for : (chosen : Bool) (bad : ℕ) (model witness : List ℕ) (word : Option (List ℕ)) (answer : JudgedOverModel) (told verdict : Verdict) (list : List Claim)
+    → ReadsDecimals → bad < 2 ^ 64 → word ≡ word_asked chosen bad → IsJudgedFor word (Some model) (Some witness) answer → told ≡ outcome_verdict_of answer.outcome → verdict ≡ told → list ≡ told_claims told answer.firsts
+    → CallJudgesFor chosen bad model witness verdict list
+judges_for chosen bad model witness word answer told verdict list read small spelled judged tells same listed =
+    let is : IsJudgedFor (word_asked chosen bad) (Some model) (Some witness) answer = subst (λ (w : Option (List ℕ)). IsJudgedFor w (Some model) (Some witness) answer) spelled judged in
+    record { answer = answer; is = is; for_choice = asked_position chosen bad _ _ is.claim read small is.asked; told = same ∙ tells; listed = listed ∙ ap (λ (v : Verdict). told_claims v answer.firsts) (sym same) }
+
+pub judges_over_for : (chosen : Bool) (bad : ℕ) (circuit witness : List ℕ) (word : Option (List ℕ)) (answer : JudgedOverCircuit) (told verdict : Verdict) (list : List Claim)
+    → ReadsDecimals → bad < 2 ^ 64 → word ≡ word_asked chosen bad → IsJudgedOverFor word (Some circuit) (Some witness) answer → told ≡ outcome_verdict_of answer.outcome → verdict ≡ told → list ≡ told_claims told answer.firsts
+    → CallJudgesOverFor chosen bad circuit witness verdict list
+judges_over_for chosen bad circuit witness word answer told verdict list read small spelled judged tells same listed =
+    let is : IsJudgedOverFor (word_asked chosen bad) (Some circuit) (Some witness) answer = subst (λ (w : Option (List ℕ)). IsJudgedOverFor w (Some circuit) (Some witness) answer) spelled judged in
+    record { answer = answer; is = is; for_choice = asked_position chosen bad _ _ is.claim read small is.asked; told = same ∙ tells; listed = listed ∙ ap (λ (v : Verdict). told_claims v answer.firsts) (sym same) }
+
+-- ---- what goes into a buffer
+
+pub fills : {T : Type 0} {P Q : List T → Type 0} {old new : List T} {needed : ℕ} → ((list : List T) → P list → Q list) → Fills P old new needed → Fills Q old new needed
+fills so f = record { bytes = f.bytes; is_so = so f.bytes f.is_so; number = f.number; room = f.room; filled = f.filled }
+
+pub needs : {T : Type 0} {P Q : List T → Type 0} {old new : List T} {needed : ℕ} → ((list : List T) → P list → Q list) → Needs P old new needed → Needs Q old new needed
+needs so f = record { bytes = f.bytes; is_so = so f.bytes f.is_so; number = f.number; small = f.small; stays = f.stays }

@@ -1,2 +1,4 @@
+pub mod CertifiedLemmas
 pub mod JudgedLemmas
 pub mod NameLemmas
+pub mod StopLemmas

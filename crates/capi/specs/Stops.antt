@@ -1,5 +1,5 @@
 -- Why exported calls stop, and what is told of it.
-use Rattle.std.specs.Prelude.{◌≡◌, ◌⊎◌, ℕ}
+use Rattle.std.specs.Prelude.{◌≡◌, ℕ}
 use Rattle.btor2text.specs.Whys.{printed_number}
 use Rattle.aiger.specs.Refusal.{circuit_fault_number}
 use Rattle.aigertext.specs.Whys.{circuit_why_number}
@@ -13,6 +13,8 @@ use Rattle.witness.specs.Answers.{judge_number}
 use Rattle.witness.specs.declared.fault.JudgeFault.TheVariants as judge
 use Rattle.verbs.specs.declared.refusals.Fault.{Fault}
 use Rattle.verbs.specs.declared.refusals.Fault.TheVariants as fault
+use Rattle.verbs.specs.declared.refusals.Refusal.{Refusal as Against}
+use Rattle.verbs.specs.declared.refusals.Refusal.TheVariants as against
 use Rattle.capi.specs.declared.answers.Refusal.{Refusal}
 
 -- the item that a lowering is refused for, by its id, or 0 where it is the model as a whole
@@ -46,13 +48,14 @@ abbrev pub second_status : Fault → ℕ
 second_status (fault.Obligation e) = 3
 second_status _ = 5
 
--- a fault that is so has a status, and this is told of it
-pub record TellsFault (IsSo : Fault → Type 0) (status_of : Fault → ℕ) (status : ℕ) (told : Refusal) : Type 0 where
-  pub fault : Fault
-  pub is_so : IsSo fault
-  pub is_status : status ≡ status_of fault
-  pub is_told : told ≡ told_fault fault
+-- the status of a call, and what is told of why it stops, in place of what was told before
+abbrev pub CallTells : Against → ℕ → Refusal → Refusal → Type 0
+CallTells (against.Input f) status old new = (status ≡ first_status f) × (new ≡ told_fault f)
+CallTells (against.Second f) status old new = (status ≡ second_status f) × (new ≡ told_fault f)
+CallTells _ status old new = (status ≡ 4) × (new ≡ old)
 
 -- a call stops with a status: for a fault of the first text that is so, for one of the second that is so, or since memory was wanting or a device failed, and what was told before stays then
-abbrev pub Stops : (Fault → Type 0) → (Fault → Type 0) → ℕ → Refusal → Refusal → Type 0
-Stops OfFirst OfSecond status old new = TellsFault OfFirst first_status status new ⊎ (TellsFault OfSecond second_status status new ⊎ ((status ≡ 4) × (new ≡ old)))
+pub data Stops (OfFirst OfSecond : Fault → Type 0) (status : ℕ) (old new : Refusal) : Type 0 where
+  First : (f : Fault) → OfFirst f → status ≡ first_status f → new ≡ told_fault f → Stops OfFirst OfSecond status old new
+  Second : (f : Fault) → OfSecond f → status ≡ second_status f → new ≡ told_fault f → Stops OfFirst OfSecond status old new
+  Failed : status ≡ 4 → new ≡ old → Stops OfFirst OfSecond status old new

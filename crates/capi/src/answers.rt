@@ -1,12 +1,11 @@
 //! What the exported calls answer.
 ghost use Rattle.std.specs.Prelude.{◌≡◌, ◌≤◌};
-ghost use Rattle.verbs.specs.declared.refusals.Fault.{Fault};
-ghost use Rattle.verbs.specs.Statuses.{IfInput, IfSecond};
-ghost use Rattle.capi.specs.Answers.{fault_verdict_of, outcome_verdict_of, proof_verdict_of, verdict_of};
-ghost use Rattle.capi.specs.Stops.{Stops, fault_place, first_status, second_status, told_fault};
+ghost use Rattle.capi.specs.Answers.{fault_verdict_of, found_verdict_of, outcome_verdict_of, proof_verdict_of, verdict_of};
+ghost use Rattle.capi.specs.Stops.{CallTells, fault_place, first_status, second_status, told_fault};
 
 use blast::LowerFault;
 use restore::RestoreFault;
+use rises::FirstRises;
 use verbs::{Fault, Outcome, Refusal as Against};
 use witness::{JudgeFault, Judgement};
 
@@ -89,7 +88,7 @@ impl Verdict {
 
 impl Verdict {
     /// What the first faulty line of a counterexample over an engine form is told as.
-    pub(crate) fn of_fault(fault: &RestoreFault) -> Verdict
+    fn of_fault(fault: &RestoreFault) -> Verdict
         ensures { result ≡ fault_verdict_of fault.now }
     {
         Verdict {
@@ -97,6 +96,30 @@ impl Verdict {
             why: fault.why.number(),
             first: fault.line,
             second: 0,
+        }
+    }
+}
+
+impl Verdict {
+    /// What is told of a counterexample that is restored.
+    pub(crate) fn of_restored(told: &Result<Judgement, RestoreFault>) -> Verdict
+        ensures { result ≡ found_verdict_of (λ judged. judged) told.now }
+    {
+        match told {
+            Ok(judgement) => Verdict::of(judgement),
+            Err(fault) => Verdict::of_fault(fault),
+        }
+    }
+}
+
+impl Verdict {
+    /// What is told of one that is lifted.
+    pub(crate) fn of_lifted(told: &Result<(Judgement, FirstRises), RestoreFault>) -> Verdict
+        ensures { result ≡ found_verdict_of (λ judged. judged.0) told.now }
+    {
+        match told {
+            Ok((judgement, _)) => Verdict::of(judgement),
+            Err(fault) => Verdict::of_fault(fault),
         }
     }
 }
@@ -164,7 +187,7 @@ const TEXT_REFUSED: u32 = 2;
 const MODEL_REFUSED: u32 = 3;
 
 /// The status where memory was wanting.
-const NO_MEMORY: u32 = 4;
+pub(crate) const NO_MEMORY: u32 = 4;
 
 /// The status where the second text is refused.
 const SECOND_REFUSED: u32 = 5;
@@ -191,8 +214,7 @@ fn second_status(fault: Fault) -> u32
 
 /// Tells why a call stops, and answers its status.
 pub(crate) fn tell(against: Against, refusal: &mut Refusal) -> u32
-    ensures stops { (OfFirst OfSecond : Fault → Type 0) → IfInput OfFirst against
-        → IfSecond OfSecond against → Stops OfFirst OfSecond result refusal.old refusal.new }
+    ensures tells { CallTells against result refusal.old refusal.new }
     ensures statuses { (2 ≤ result) × (result ≤ 5) }
 {
     match against {

@@ -1,12 +1,12 @@
 //! The calls on certificates: they write the formulas that these owe, and judge proofs of them.
 ghost use Rattle.std.specs.Prelude.{◌≡◌, ◌≤◌, true, false, Some, IfOk, IfErr, IfSome};
 ghost use Rattle.drup.specs.FormulaTexts.{formula_text};
-ghost use Rattle.invocation.specs.declared.tasks.Certificate.TheVariants as kind;
+ghost use Rattle.invocation.specs.declared.tasks.Certificate.TheVariants as kind_is;
 ghost use Rattle.verbs.specs.Refusals.{IsFaultyCertificate, IsNotCertifiable};
 ghost use Rattle.verbs.specs.Statuses.{IfInput, IfSecond};
 ghost use Rattle.capi.specs.Buffers.{Fills, Needs};
 ghost use Rattle.capi.specs.Certified.{CallCertifies, CallOwes, StopsCertifying};
-ghost use Rattle.capi.specs.Flags.{about, guard_of, proof_form};
+ghost use Rattle.capi.specs.Flags.{about, given_of, guard_of, proof_form};
 
 use crate::answers::{DONE, Refusal, Verdict, tell};
 use crate::buffers::hand_over;
@@ -15,14 +15,16 @@ use base::{Sink, VecSink};
 use blast::Unwatched;
 use certificates::ProofForm;
 use drup::write_formula;
-use invocation::{Certificate, Certified};
+use invocation::Certificate;
 use std::alloc::Global;
 use verbs::{Refusal as Against, certify, owe};
 
 /// Judges a certificate and a proof in this form of the formula that it owes.
 fn judge(
     alloc: Global,
-    of: Certified,
+    aiger: bool,
+    kind: Certificate,
+    bad: usize,
     form: ProofForm,
     text: &[u8],
     certificate: &[u8],
@@ -30,14 +32,17 @@ fn judge(
     verdict: &mut Verdict,
     refusal: &mut Refusal,
 ) -> u32
-    ensures done { result ≡ 0 → CallCertifies of form text.now certificate.now proof.now
+    ensures done { result ≡ 0 → CallCertifies (about aiger kind bad) form text.now certificate.now
+        proof.now
         verdict.new }
-    ensures stops { 1 ≤ result → StopsCertifying of text.now certificate.now result refusal.old
+    ensures stops { 1 ≤ result → StopsCertifying (about aiger kind bad) text.now certificate.now
+        result refusal.old
         refusal.new }
     ensures statuses { result ≤ 5 }
     ensures unwritten { 1 ≤ result → verdict.new ≡ verdict.old }
     ensures refusal_stays { result ≡ 0 → refusal.new ≡ refusal.old }
 {
+    let of = about(aiger, kind, bad);
     let (mut first, mut second, mut third) = (text, certificate, proof);
     match certify(
         alloc,
@@ -57,14 +62,22 @@ fn judge(
 }
 
 /// The text of the formula that a certificate owes.
-fn owed(alloc: Global, of: Certified, text: &[u8], certificate: &[u8]) -> Result<VecSink, Against>
+fn owed(
+    alloc: Global,
+    aiger: bool,
+    kind: Certificate,
+    bad: usize,
+    text: &[u8],
+    certificate: &[u8],
+) -> Result<VecSink, Against>
     ensures done { IfOk result (λ sink. IfSome (⟦<VecSink as Sink>⟧.written sink)
-        (CallOwes of text.now certificate.now)) }
+        (CallOwes (about aiger kind bad) text.now certificate.now)) }
     ensures refused { IfErr result
-        (IfInput (IsNotCertifiable of.by of.given of.choice (Some text.now))) }
-    ensures second { IfErr result (IfSecond (IsFaultyCertificate of.by of.given of.choice
+        (IfInput (IsNotCertifiable kind (given_of aiger) (Some bad) (Some text.now))) }
+    ensures second { IfErr result (IfSecond (IsFaultyCertificate kind (given_of aiger) (Some bad)
         (Some text.now) (Some certificate.now))) }
 {
+    let of = about(aiger, kind, bad);
     let (mut first, mut second) = (text, certificate);
     let formula = owe(alloc, of, &mut first, &mut second, &mut Unwatched)?;
     let mut sink = VecSink::new(alloc);
@@ -77,7 +90,9 @@ fn owed(alloc: Global, of: Certified, text: &[u8], certificate: &[u8]) -> Result
 /// Writes the formula that a certificate owes.
 fn write_owed(
     alloc: Global,
-    of: Certified,
+    aiger: bool,
+    kind: Certificate,
+    bad: usize,
     text: &[u8],
     certificate: &[u8],
     buffer: &mut [u8],
@@ -85,16 +100,17 @@ fn write_owed(
     refusal: &mut Refusal,
 ) -> u32
     ensures done { result ≡ 0
-        → Fills (CallOwes of text.now certificate.now) buffer.old buffer.new needed.new }
+        → Fills (CallOwes (about aiger kind bad) text.now certificate.now) buffer.old buffer.new needed.new }
     ensures small { result ≡ 1
-        → Needs (CallOwes of text.now certificate.now) buffer.old buffer.new needed.new }
-    ensures stops { 2 ≤ result → StopsCertifying of text.now certificate.now result refusal.old
+        → Needs (CallOwes (about aiger kind bad) text.now certificate.now) buffer.old buffer.new needed.new }
+    ensures stops { 2 ≤ result → StopsCertifying (about aiger kind bad) text.now certificate.now
+        result refusal.old
         refusal.new }
     ensures statuses { result ≤ 5 }
     ensures unwritten { 2 ≤ result → (buffer.new ≡ buffer.old) × (needed.new ≡ needed.old) }
     ensures refusal_stays { result ≤ 1 → refusal.new ≡ refusal.old }
 {
-    match owed(alloc, of, text, certificate) {
+    match owed(alloc, aiger, kind, bad, text, certificate) {
         Ok(formula) => hand_over(formula.bytes(), buffer, needed),
         Err(against) => tell(against, refusal),
     }
@@ -120,11 +136,11 @@ pub extern "C" fn hwtool_obligation(
     needed: &mut usize,
     refusal: &mut Refusal,
 ) -> u32
-    ensures done { result ≡ 0 → Fills (CallOwes (about false kind.Invariant bad) model.now
+    ensures done { result ≡ 0 → Fills (CallOwes (about false kind_is.Invariant bad) model.now
         invariant.now) buffer.old buffer.new needed.new }
-    ensures small { result ≡ 1 → Needs (CallOwes (about false kind.Invariant bad) model.now
+    ensures small { result ≡ 1 → Needs (CallOwes (about false kind_is.Invariant bad) model.now
         invariant.now) buffer.old buffer.new needed.new }
-    ensures stops { 2 ≤ result → StopsCertifying (about false kind.Invariant bad) model.now
+    ensures stops { 2 ≤ result → StopsCertifying (about false kind_is.Invariant bad) model.now
         invariant.now result refusal.old refusal.new }
     ensures statuses { result ≤ 5 }
     ensures unwritten { 2 ≤ result → (buffer.new ≡ buffer.old) × (needed.new ≡ needed.old) }
@@ -132,7 +148,9 @@ pub extern "C" fn hwtool_obligation(
 {
     write_owed(
         alloc,
-        about(false, Certificate::Invariant, bad),
+        false,
+        Certificate::Invariant,
+        bad,
         model,
         invariant,
         buffer,
@@ -158,9 +176,9 @@ pub extern "C" fn hwtool_check_proof(
     verdict: &mut Verdict,
     refusal: &mut Refusal,
 ) -> u32
-    ensures done { result ≡ 0 → CallCertifies (about false kind.Invariant bad) (proof_form lrat)
+    ensures done { result ≡ 0 → CallCertifies (about false kind_is.Invariant bad) (proof_form lrat)
         model.now invariant.now proof.now verdict.new }
-    ensures stops { 1 ≤ result → StopsCertifying (about false kind.Invariant bad) model.now
+    ensures stops { 1 ≤ result → StopsCertifying (about false kind_is.Invariant bad) model.now
         invariant.now result refusal.old refusal.new }
     ensures statuses { result ≤ 5 }
     ensures unwritten { 1 ≤ result → verdict.new ≡ verdict.old }
@@ -168,7 +186,9 @@ pub extern "C" fn hwtool_check_proof(
 {
     judge(
         alloc,
-        about(false, Certificate::Invariant, bad),
+        false,
+        Certificate::Invariant,
+        bad,
         proof_form(lrat),
         model,
         invariant,
@@ -192,11 +212,11 @@ pub extern "C" fn hwtool_obligation_aig(
     needed: &mut usize,
     refusal: &mut Refusal,
 ) -> u32
-    ensures done { result ≡ 0 → Fills (CallOwes (about true kind.Invariant bad) circuit.now
+    ensures done { result ≡ 0 → Fills (CallOwes (about true kind_is.Invariant bad) circuit.now
         invariant.now) buffer.old buffer.new needed.new }
-    ensures small { result ≡ 1 → Needs (CallOwes (about true kind.Invariant bad) circuit.now
+    ensures small { result ≡ 1 → Needs (CallOwes (about true kind_is.Invariant bad) circuit.now
         invariant.now) buffer.old buffer.new needed.new }
-    ensures stops { 2 ≤ result → StopsCertifying (about true kind.Invariant bad) circuit.now
+    ensures stops { 2 ≤ result → StopsCertifying (about true kind_is.Invariant bad) circuit.now
         invariant.now result refusal.old refusal.new }
     ensures statuses { result ≤ 5 }
     ensures unwritten { 2 ≤ result → (buffer.new ≡ buffer.old) × (needed.new ≡ needed.old) }
@@ -204,7 +224,9 @@ pub extern "C" fn hwtool_obligation_aig(
 {
     write_owed(
         alloc,
-        about(true, Certificate::Invariant, bad),
+        true,
+        Certificate::Invariant,
+        bad,
         circuit,
         invariant,
         buffer,
@@ -229,9 +251,9 @@ pub extern "C" fn hwtool_check_proof_aig(
     verdict: &mut Verdict,
     refusal: &mut Refusal,
 ) -> u32
-    ensures done { result ≡ 0 → CallCertifies (about true kind.Invariant bad) (proof_form lrat)
+    ensures done { result ≡ 0 → CallCertifies (about true kind_is.Invariant bad) (proof_form lrat)
         circuit.now invariant.now proof.now verdict.new }
-    ensures stops { 1 ≤ result → StopsCertifying (about true kind.Invariant bad) circuit.now
+    ensures stops { 1 ≤ result → StopsCertifying (about true kind_is.Invariant bad) circuit.now
         invariant.now result refusal.old refusal.new }
     ensures statuses { result ≤ 5 }
     ensures unwritten { 1 ≤ result → verdict.new ≡ verdict.old }
@@ -239,7 +261,9 @@ pub extern "C" fn hwtool_check_proof_aig(
 {
     judge(
         alloc,
-        about(true, Certificate::Invariant, bad),
+        true,
+        Certificate::Invariant,
+        bad,
         proof_form(lrat),
         circuit,
         invariant,
@@ -284,7 +308,9 @@ pub extern "C" fn hwtool_obligation_circuit(
 {
     write_owed(
         alloc,
-        about(aiger, guard_of(over_form), bad),
+        aiger,
+        guard_of(over_form),
+        bad,
         first,
         witness,
         buffer,
@@ -322,7 +348,9 @@ pub extern "C" fn hwtool_check_proof_circuit(
 {
     judge(
         alloc,
-        about(aiger, guard_of(over_form), bad),
+        aiger,
+        guard_of(over_form),
+        bad,
         proof_form(lrat),
         first,
         witness,

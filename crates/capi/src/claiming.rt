@@ -1,30 +1,19 @@
 //! The calls that judge witnesses and tell of the claims of those that are accepted.
-ghost use Rattle.std.specs.Prelude.{◌≡◌, ◌≤◌, ◌++◌, Some, IfOk, IfErr, OnOk};
+ghost use Rattle.std.specs.Prelude.{◌≡◌, ◌≤◌, ◌++◌, Some, IfOk, OnOk};
 ghost use Rattle.verbs.specs.Asked.{IsNotJudgedOverWith, IsNotJudgedWith};
-ghost use Rattle.verbs.specs.Statuses.{IfInput, IfSecond};
-ghost use Rattle.capi.specs.Answers.{outcome_verdict_of};
 ghost use Rattle.capi.specs.Buffers.{Fills, Needs};
 ghost use Rattle.capi.specs.Flags.{word_asked};
 ghost use Rattle.capi.specs.Judged.{CallJudgesFor, CallJudgesOverFor, claim_of, claims_from, told_claims};
 ghost use Rattle.capi.specs.Stops.{Stops};
 
-use crate::answers::{Claim, Refusal, Verdict, tell};
+use crate::answers::{Claim, NO_MEMORY, Refusal, Verdict, tell};
 use crate::buffers::hand_over;
 use crate::flags::word_asked;
 use base::laws::decimals_are_numbers;
 use itoa::Buffer;
 use rises::FirstRises;
 use std::alloc::{AllocError, Global};
-use verbs::{Outcome, Refusal as Against, judge_for_circuit, judge_for_model};
-
-/// What is told of a witness.
-#[derive(Drop)]
-struct Told {
-    /// What is judged of it.
-    verdict: Verdict,
-    /// Where it is accepted, its claims.
-    claims: Vec<Claim>,
-}
+use verbs::{judge_for_circuit, judge_for_model};
 
 /// Puts a claim behind others, where it is reached.
 fn push_claim(claims: &mut Vec<Claim>, bad: u64, first: Option<u64>) -> Result<(), AllocError>
@@ -47,62 +36,46 @@ fn claims_of(alloc: Global, firsts: &FirstRises) -> Result<Vec<Claim>, AllocErro
     Ok(claims)
 }
 
-/// What is told of a witness of which this is known, by the first rises of all bad properties.
-fn told_of(alloc: Global, outcome: &Outcome, firsts: &FirstRises) -> Result<Told, AllocError>
-    ensures verdict { IfOk result (λ told. told.verdict ≡ outcome_verdict_of outcome.now) }
-    ensures claims { IfOk result (λ told. told.claims.items ≡ told_claims told.verdict firsts.now) }
+/// The claims that are told with a verdict.
+fn told_claims(
+    alloc: Global,
+    verdict: &Verdict,
+    firsts: &FirstRises,
+) -> Result<Vec<Claim>, AllocError>
+    ensures { IfOk result (λ claims. claims.items ≡ told_claims verdict.now firsts.now) }
 {
-    let verdict = Verdict::of_outcome(outcome);
-    let claims = if verdict.kind == 0 {
-        claims_of(alloc, firsts)?
+    if verdict.kind == 0 {
+        claims_of(alloc, firsts)
     } else {
-        Vec::new(alloc)
-    };
-    Ok(Told { verdict, claims })
+        Ok(Vec::new(alloc))
+    }
 }
 
-/// What is told of a witness over a text's model, where the bad property at a position is asked for or none.
-fn told_over_model(
+/// Tells a verdict and its claims.
+fn tell_claims(
     alloc: Global,
-    chosen: bool,
-    bad: usize,
-    model: &[u8],
-    witness: &[u8],
-) -> Result<Told, Against>
-    ensures done { IfOk result (λ told. CallJudgesFor chosen bad model.now witness.now told.verdict
-        told.claims.items) }
-    ensures refused { IfErr result (IfInput (IsNotJudgedWith (word_asked chosen bad) (Some
-        model.now))) }
-    ensures no_second { IfErr result (IfSecond (λ _. ⊥)) }
+    told: Verdict,
+    firsts: &FirstRises,
+    verdict: &mut Verdict,
+    claims: &mut [Claim],
+    needed: &mut usize,
+) -> u32
+    ensures done { result ≡ 0 → Fills (λ list. list ≡ told_claims told firsts.now) claims.old
+        claims.new needed.new }
+    ensures small { result ≡ 1 → Needs (λ list. list ≡ told_claims told firsts.now) claims.old
+        claims.new needed.new }
+    ensures verdict { result ≤ 1 → verdict.new ≡ told }
+    ensures statuses { 2 ≤ result → result ≡ 4 }
+    ensures unwritten { 2 ≤ result → (verdict.new ≡ verdict.old) × ((claims.new ≡ claims.old)
+        × (needed.new ≡ needed.old)) }
 {
-    decimals_are_numbers();
-    let mut buffer = Buffer::new();
-    let (mut first, mut second) = (model, witness);
-    let word = word_asked(&mut buffer, chosen, bad);
-    let judged = judge_for_model(alloc, word, &mut first, &mut second)?;
-    Ok(told_of(alloc, &judged.outcome, &judged.firsts)?)
-}
-
-/// The same over a text's circuit.
-fn told_over_circuit(
-    alloc: Global,
-    chosen: bool,
-    bad: usize,
-    circuit: &[u8],
-    witness: &[u8],
-) -> Result<Told, Against>
-    ensures done { IfOk result (λ told. CallJudgesOverFor chosen bad circuit.now witness.now
-        told.verdict told.claims.items) }
-    ensures refused { IfErr result (IfInput (IsNotJudgedOverWith (word_asked chosen bad) (Some
-        circuit.now))) }
-    ensures no_second { IfErr result (IfSecond (λ _. ⊥)) }
-{
-    decimals_are_numbers();
-    let mut buffer = Buffer::new();
-    let (mut first, mut second) = (circuit, witness);
-    let word = word_asked(&mut buffer, chosen, bad);
-    let judged = judge_for_circuit(alloc, word, &mut first, &mut second)?;
-    Ok(told_of(alloc, &judged.outcome, &judged.firsts)?)
+    match told_claims(alloc, &told, firsts) {
+        Ok(list) => {
+            *verdict = told;
+            hand_over(list.as_slice(), claims, needed)
+        }
+        Err(_) => NO_MEMORY,
+    }
 }
 
 /// Judges the text of a witness over the text of a BTOR2 model, as `hwtool_check_btor` does, and tells the claims of one that is
@@ -138,10 +111,14 @@ pub extern "C" fn hwtool_check_btor_claims(
         × (needed.new ≡ needed.old)) }
     ensures refusal_stays { result ≤ 1 → refusal.new ≡ refusal.old }
 {
-    match told_over_model(alloc, chosen, bad, model, witness) {
-        Ok(told) => {
-            *verdict = told.verdict;
-            hand_over(told.claims.as_slice(), claims, needed)
+    decimals_are_numbers();
+    let mut buffer = Buffer::new();
+    let word = word_asked(&mut buffer, chosen, bad);
+    let (mut first, mut second) = (model, witness);
+    match judge_for_model(alloc, word, &mut first, &mut second) {
+        Ok(judged) => {
+            let told = Verdict::of_outcome(&judged.outcome);
+            tell_claims(alloc, told, &judged.firsts, verdict, claims, needed)
         }
         Err(against) => tell(against, refusal),
     }
@@ -175,10 +152,14 @@ pub extern "C" fn hwtool_check_aig_claims(
         × (needed.new ≡ needed.old)) }
     ensures refusal_stays { result ≤ 1 → refusal.new ≡ refusal.old }
 {
-    match told_over_circuit(alloc, chosen, bad, circuit, witness) {
-        Ok(told) => {
-            *verdict = told.verdict;
-            hand_over(told.claims.as_slice(), claims, needed)
+    decimals_are_numbers();
+    let mut buffer = Buffer::new();
+    let word = word_asked(&mut buffer, chosen, bad);
+    let (mut first, mut second) = (circuit, witness);
+    match judge_for_circuit(alloc, word, &mut first, &mut second) {
+        Ok(judged) => {
+            let told = Verdict::of_outcome(&judged.outcome);
+            tell_claims(alloc, told, &judged.firsts, verdict, claims, needed)
         }
         Err(against) => tell(against, refusal),
     }

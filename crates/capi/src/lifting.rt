@@ -161,10 +161,7 @@ pub extern "C" fn hwtool_lift_engine_abc(
         &mut Unwatched,
     ) {
         Ok(lifted) => {
-            *verdict = match lifted.told {
-                Ok((judgement, _)) => Verdict::of(&judgement),
-                Err(fault) => Verdict::of_fault(&fault),
-            };
+            *verdict = Verdict::of_lifted(&lifted.told);
             hand_over(text.bytes(), buffer, needed)
         }
         Err(against) => tell(against, refusal),

@@ -100,10 +100,7 @@ pub extern "C" fn hwtool_restore_abc(
     let mut text = VecSink::new(alloc);
     match restore_found(alloc, Some(bad), &mut first, &mut second, &mut text) {
         Ok(restored) => {
-            *verdict = match restored.told {
-                Ok(judgement) => Verdict::of(&judgement),
-                Err(fault) => Verdict::of_fault(&fault),
-            };
+            *verdict = Verdict::of_restored(&restored.told);
             hand_over(text.bytes(), buffer, needed)
         }
         Err(against) => tell(against, refusal),
