@@ -13,7 +13,7 @@ use crate::flags::{choice_of, form_of};
 use base::VecSink;
 use blast::Unwatched;
 use std::alloc::Global;
-use verbs::{convert, convert_for_engines, costs, lower};
+use verbs::{convert, convert_for_engines, cost_of, lower};
 
 /// Lowers the text of a BTOR2 model to that of an AIGER circuit, binary or ascii.
 ///
@@ -148,7 +148,7 @@ pub extern "C" fn hwtool_cost(
     ensures refusal_stays { result ≡ 0 → refusal.new ≡ refusal.old }
 {
     let mut first = model;
-    match costs(alloc, &mut first) {
+    match cost_of(alloc, &mut first) {
         Ok(told) => {
             *gates = told.gates;
             *variables = told.variables;
