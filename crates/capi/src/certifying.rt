@@ -1,6 +1,5 @@
 //! The calls on certificates: they write the formulas that these owe, and judge proofs of them.
 ghost use Rattle.std.specs.Prelude.{◌≡◌, ◌≤◌, true, false, Some, IfOk, IfErr, IfSome};
-ghost use Rattle.drup.specs.FormulaTexts.{formula_text};
 ghost use Rattle.invocation.specs.declared.tasks.Certificate.TheVariants as kind_is;
 ghost use Rattle.verbs.specs.Refusals.{IsFaultyCertificate, IsNotCertifiable};
 ghost use Rattle.verbs.specs.Statuses.{IfInput, IfSecond};
@@ -33,11 +32,9 @@ fn judge(
     refusal: &mut Refusal,
 ) -> u32
     ensures done { result ≡ 0 → CallCertifies (about aiger kind bad) form text.now certificate.now
-        proof.now
-        verdict.new }
+        proof.now verdict.new }
     ensures stops { 1 ≤ result → StopsCertifying (about aiger kind bad) text.now certificate.now
-        result refusal.old
-        refusal.new }
+        result refusal.old refusal.new }
     ensures statuses { result ≤ 5 }
     ensures unwritten { 1 ≤ result → verdict.new ≡ verdict.old }
     ensures refusal_stays { result ≡ 0 → refusal.new ≡ refusal.old }
@@ -99,13 +96,12 @@ fn write_owed(
     needed: &mut usize,
     refusal: &mut Refusal,
 ) -> u32
-    ensures done { result ≡ 0
-        → Fills (CallOwes (about aiger kind bad) text.now certificate.now) buffer.old buffer.new needed.new }
-    ensures small { result ≡ 1
-        → Needs (CallOwes (about aiger kind bad) text.now certificate.now) buffer.old buffer.new needed.new }
+    ensures done { result ≡ 0 → Fills (CallOwes (about aiger kind bad) text.now certificate.now)
+        buffer.old buffer.new needed.new }
+    ensures small { result ≡ 1 → Needs (CallOwes (about aiger kind bad) text.now certificate.now)
+        buffer.old buffer.new needed.new }
     ensures stops { 2 ≤ result → StopsCertifying (about aiger kind bad) text.now certificate.now
-        result refusal.old
-        refusal.new }
+        result refusal.old refusal.new }
     ensures statuses { result ≤ 5 }
     ensures unwritten { 2 ≤ result → (buffer.new ≡ buffer.old) × (needed.new ≡ needed.old) }
     ensures refusal_stays { result ≤ 1 → refusal.new ≡ refusal.old }
@@ -136,10 +132,12 @@ pub extern "C" fn hwtool_obligation(
     needed: &mut usize,
     refusal: &mut Refusal,
 ) -> u32
-    ensures done { result ≡ 0 → Fills (CallOwes (about false kind_is.Invariant bad) model.now
-        invariant.now) buffer.old buffer.new needed.new }
-    ensures small { result ≡ 1 → Needs (CallOwes (about false kind_is.Invariant bad) model.now
-        invariant.now) buffer.old buffer.new needed.new }
+    ensures done { result ≡ 0 → Fills
+        (CallOwes (about false kind_is.Invariant bad) model.now invariant.now) buffer.old buffer.new
+        needed.new }
+    ensures small { result ≡ 1 → Needs
+        (CallOwes (about false kind_is.Invariant bad) model.now invariant.now) buffer.old buffer.new
+        needed.new }
     ensures stops { 2 ≤ result → StopsCertifying (about false kind_is.Invariant bad) model.now
         invariant.now result refusal.old refusal.new }
     ensures statuses { result ≤ 5 }
@@ -338,8 +336,8 @@ pub extern "C" fn hwtool_check_proof_circuit(
     verdict: &mut Verdict,
     refusal: &mut Refusal,
 ) -> u32
-    ensures done { result ≡ 0 → CallCertifies (about aiger (guard_of over_form) bad) (proof_form
-        lrat) first.now witness.now proof.now verdict.new }
+    ensures done { result ≡ 0 → CallCertifies (about aiger (guard_of over_form) bad)
+        (proof_form lrat) first.now witness.now proof.now verdict.new }
     ensures stops { 1 ≤ result → StopsCertifying (about aiger (guard_of over_form) bad) first.now
         witness.now result refusal.old refusal.new }
     ensures statuses { result ≤ 5 }

@@ -66,8 +66,8 @@ fn tell_claims(
         claims.new needed.new }
     ensures verdict { result ≤ 1 → verdict.new ≡ told }
     ensures statuses { 2 ≤ result → result ≡ 4 }
-    ensures unwritten { 2 ≤ result → (verdict.new ≡ verdict.old) × ((claims.new ≡ claims.old)
-        × (needed.new ≡ needed.old)) }
+    ensures unwritten { 2 ≤ result → (verdict.new ≡ verdict.old)
+        × ((claims.new ≡ claims.old) × (needed.new ≡ needed.old)) }
 {
     match told_claims(alloc, &told, firsts) {
         Ok(list) => {
@@ -104,11 +104,11 @@ pub extern "C" fn hwtool_check_btor_claims(
         claims.old claims.new needed.new }
     ensures small { result ≡ 1 → Needs (CallJudgesFor chosen bad model.now witness.now verdict.new)
         claims.old claims.new needed.new }
-    ensures stops { 2 ≤ result → Stops (IsNotJudgedWith (word_asked chosen bad) (Some model.now)) (λ
-        _. ⊥) result refusal.old refusal.new }
+    ensures stops { 2 ≤ result → Stops (IsNotJudgedWith (word_asked chosen bad) (Some model.now))
+        (λ _. ⊥) result refusal.old refusal.new }
     ensures statuses { result ≤ 5 }
-    ensures unwritten { 2 ≤ result → (verdict.new ≡ verdict.old) × ((claims.new ≡ claims.old)
-        × (needed.new ≡ needed.old)) }
+    ensures unwritten { 2 ≤ result → (verdict.new ≡ verdict.old)
+        × ((claims.new ≡ claims.old) × (needed.new ≡ needed.old)) }
     ensures refusal_stays { result ≤ 1 → refusal.new ≡ refusal.old }
 {
     decimals_are_numbers();
@@ -141,15 +141,18 @@ pub extern "C" fn hwtool_check_aig_claims(
     needed: &mut usize,
     refusal: &mut Refusal,
 ) -> u32
-    ensures done { result ≡ 0 → Fills (CallJudgesOverFor chosen bad circuit.now witness.now
-        verdict.new) claims.old claims.new needed.new }
-    ensures small { result ≡ 1 → Needs (CallJudgesOverFor chosen bad circuit.now witness.now
-        verdict.new) claims.old claims.new needed.new }
-    ensures stops { 2 ≤ result → Stops (IsNotJudgedOverWith (word_asked chosen bad) (Some
-        circuit.now)) (λ _. ⊥) result refusal.old refusal.new }
+    ensures done { result ≡ 0 → Fills
+        (CallJudgesOverFor chosen bad circuit.now witness.now verdict.new) claims.old claims.new
+        needed.new }
+    ensures small { result ≡ 1 → Needs
+        (CallJudgesOverFor chosen bad circuit.now witness.now verdict.new) claims.old claims.new
+        needed.new }
+    ensures stops { 2 ≤ result → Stops
+        (IsNotJudgedOverWith (word_asked chosen bad) (Some circuit.now)) (λ _. ⊥) result refusal.old
+        refusal.new }
     ensures statuses { result ≤ 5 }
-    ensures unwritten { 2 ≤ result → (verdict.new ≡ verdict.old) × ((claims.new ≡ claims.old)
-        × (needed.new ≡ needed.old)) }
+    ensures unwritten { 2 ≤ result → (verdict.new ≡ verdict.old)
+        × ((claims.new ≡ claims.old) × (needed.new ≡ needed.old)) }
     ensures refusal_stays { result ≤ 1 → refusal.new ≡ refusal.old }
 {
     decimals_are_numbers();

@@ -1,5 +1,5 @@
 //! The calls that lift witnesses to ones of models, and dump those of models.
-ghost use Rattle.std.specs.Prelude.{◌≡◌, ◌≤◌, true, Some};
+ghost use Rattle.std.specs.Prelude.{◌≡◌, ◌≤◌, Some};
 ghost use Rattle.invocation.specs.declared.tasks.Given.TheVariants as given;
 ghost use Rattle.verbs.specs.declared.refusals.Claimed.TheVariants as claimed;
 ghost use Rattle.verbs.specs.Refusals.{IsNotClaimable, IsNotClaimed, IsNotForEngines, IsNotJudged};
@@ -41,8 +41,8 @@ pub extern "C" fn hwtool_lift(
     ensures stops { 2 ≤ result → Stops (IsNotClaimable given.Model (Some model.now)) (λ _. ⊥) result
         refusal.old refusal.new }
     ensures statuses { result ≤ 5 }
-    ensures unwritten { 2 ≤ result → (verdict.new ≡ verdict.old) × ((buffer.new ≡ buffer.old)
-        × (needed.new ≡ needed.old)) }
+    ensures unwritten { 2 ≤ result → (verdict.new ≡ verdict.old)
+        × ((buffer.new ≡ buffer.old) × (needed.new ≡ needed.old)) }
     ensures refusal_stays { result ≤ 1 → refusal.new ≡ refusal.old }
 {
     let (mut first, mut second) = (model, witness);
@@ -91,11 +91,12 @@ pub extern "C" fn hwtool_lift_engine(
         witness.now verdict.new) buffer.old buffer.new needed.new }
     ensures small { result ≡ 1 → Needs (CallLiftsForm names (choice_of chosen bad) model.now
         witness.now verdict.new) buffer.old buffer.new needed.new }
-    ensures stops { 2 ≤ result → Stops (IsNotForEngines given.Model (choice_of chosen bad) (Some
-        model.now)) (λ _. ⊥) result refusal.old refusal.new }
+    ensures stops { 2 ≤ result → Stops
+        (IsNotForEngines given.Model (choice_of chosen bad) (Some model.now)) (λ _. ⊥) result
+        refusal.old refusal.new }
     ensures statuses { result ≤ 5 }
-    ensures unwritten { 2 ≤ result → (verdict.new ≡ verdict.old) × ((buffer.new ≡ buffer.old)
-        × (needed.new ≡ needed.old)) }
+    ensures unwritten { 2 ≤ result → (verdict.new ≡ verdict.old)
+        × ((buffer.new ≡ buffer.old) × (needed.new ≡ needed.old)) }
     ensures refusal_stays { result ≤ 1 → refusal.new ≡ refusal.old }
 {
     let (mut first, mut second) = (model, witness);
@@ -138,15 +139,18 @@ pub extern "C" fn hwtool_lift_engine_abc(
     needed: &mut usize,
     refusal: &mut Refusal,
 ) -> u32
-    ensures done { result ≡ 0 → Fills (CallLiftsFound names (Some bad) model.now found.now
-        verdict.new) buffer.old buffer.new needed.new }
-    ensures small { result ≡ 1 → Needs (CallLiftsFound names (Some bad) model.now found.now
-        verdict.new) buffer.old buffer.new needed.new }
-    ensures stops { 2 ≤ result → Stops (IsNotClaimed claimed.Found given.Model (Some bad) (Some
-        model.now)) (λ _. ⊥) result refusal.old refusal.new }
+    ensures done { result ≡ 0 → Fills
+        (CallLiftsFound names (Some bad) model.now found.now verdict.new) buffer.old buffer.new
+        needed.new }
+    ensures small { result ≡ 1 → Needs
+        (CallLiftsFound names (Some bad) model.now found.now verdict.new) buffer.old buffer.new
+        needed.new }
+    ensures stops { 2 ≤ result → Stops
+        (IsNotClaimed claimed.Found given.Model (Some bad) (Some model.now)) (λ _. ⊥) result
+        refusal.old refusal.new }
     ensures statuses { result ≤ 5 }
-    ensures unwritten { 2 ≤ result → (verdict.new ≡ verdict.old) × ((buffer.new ≡ buffer.old)
-        × (needed.new ≡ needed.old)) }
+    ensures unwritten { 2 ≤ result → (verdict.new ≡ verdict.old)
+        × ((buffer.new ≡ buffer.old) × (needed.new ≡ needed.old)) }
     ensures refusal_stays { result ≤ 1 → refusal.new ≡ refusal.old }
 {
     let (mut first, mut second) = (model, found);
@@ -188,15 +192,17 @@ pub extern "C" fn hwtool_wave(
     needed: &mut usize,
     refusal: &mut Refusal,
 ) -> u32
-    ensures done { result ≡ 0 → Fills (CallDumps (shown_of all) title.now model.now witness.now
-        verdict.new) buffer.old buffer.new needed.new }
-    ensures small { result ≡ 1 → Needs (CallDumps (shown_of all) title.now model.now witness.now
-        verdict.new) buffer.old buffer.new needed.new }
+    ensures done { result ≡ 0 → Fills
+        (CallDumps (shown_of all) title.now model.now witness.now verdict.new) buffer.old buffer.new
+        needed.new }
+    ensures small { result ≡ 1 → Needs
+        (CallDumps (shown_of all) title.now model.now witness.now verdict.new) buffer.old buffer.new
+        needed.new }
     ensures stops { 2 ≤ result → Stops (IsNotJudged (Some model.now)) (λ _. ⊥) result refusal.old
         refusal.new }
     ensures statuses { result ≤ 5 }
-    ensures unwritten { 2 ≤ result → (verdict.new ≡ verdict.old) × ((buffer.new ≡ buffer.old)
-        × (needed.new ≡ needed.old)) }
+    ensures unwritten { 2 ≤ result → (verdict.new ≡ verdict.old)
+        × ((buffer.new ≡ buffer.old) × (needed.new ≡ needed.old)) }
     ensures refusal_stays { result ≤ 1 → refusal.new ≡ refusal.old }
 {
     let (mut first, mut second) = (model, witness);

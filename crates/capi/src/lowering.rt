@@ -104,10 +104,12 @@ pub extern "C" fn hwtool_engine_form(
     needed: &mut usize,
     refusal: &mut Refusal,
 ) -> u32
-    ensures done { result ≡ 0 → Fills (CallConvertsForEngines binary (choice_of chosen bad)
-        circuit.now) buffer.old buffer.new needed.new }
-    ensures small { result ≡ 1 → Needs (CallConvertsForEngines binary (choice_of chosen bad)
-        circuit.now) buffer.old buffer.new needed.new }
+    ensures done { result ≡ 0 → Fills
+        (CallConvertsForEngines binary (choice_of chosen bad) circuit.now) buffer.old buffer.new
+        needed.new }
+    ensures small { result ≡ 1 → Needs
+        (CallConvertsForEngines binary (choice_of chosen bad) circuit.now) buffer.old buffer.new
+        needed.new }
     ensures stops { 2 ≤ result → Stops (IsNotForEngines given.Circuit (choice_of chosen bad) (Some
         circuit.now)) (λ _. ⊥) result refusal.old refusal.new }
     ensures statuses { result ≤ 5 }

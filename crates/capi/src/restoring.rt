@@ -45,8 +45,8 @@ pub extern "C" fn hwtool_restore(
     ensures stops { 2 ≤ result → Stops (IsNotForEngines given.Circuit (choice_of chosen bad) (Some
         circuit.now)) (λ _. ⊥) result refusal.old refusal.new }
     ensures statuses { result ≤ 5 }
-    ensures unwritten { 2 ≤ result → (verdict.new ≡ verdict.old) × ((buffer.new ≡ buffer.old)
-        × (needed.new ≡ needed.old)) }
+    ensures unwritten { 2 ≤ result → (verdict.new ≡ verdict.old)
+        × ((buffer.new ≡ buffer.old) × (needed.new ≡ needed.old)) }
     ensures refusal_stays { result ≤ 1 → refusal.new ≡ refusal.old }
 {
     let (mut first, mut second) = (circuit, witness);
@@ -85,15 +85,17 @@ pub extern "C" fn hwtool_restore_abc(
     needed: &mut usize,
     refusal: &mut Refusal,
 ) -> u32
-    ensures done { result ≡ 0 → Fills (CallRestoresFound (Some bad) circuit.now found.now
-        verdict.new) buffer.old buffer.new needed.new }
-    ensures small { result ≡ 1 → Needs (CallRestoresFound (Some bad) circuit.now found.now
-        verdict.new) buffer.old buffer.new needed.new }
+    ensures done { result ≡ 0 → Fills
+        (CallRestoresFound (Some bad) circuit.now found.now verdict.new) buffer.old buffer.new
+        needed.new }
+    ensures small { result ≡ 1 → Needs
+        (CallRestoresFound (Some bad) circuit.now found.now verdict.new) buffer.old buffer.new
+        needed.new }
     ensures stops { 2 ≤ result → Stops (IsNotClaimed claimed.Found given.Circuit (Some bad) (Some
         circuit.now)) (λ _. ⊥) result refusal.old refusal.new }
     ensures statuses { result ≤ 5 }
-    ensures unwritten { 2 ≤ result → (verdict.new ≡ verdict.old) × ((buffer.new ≡ buffer.old)
-        × (needed.new ≡ needed.old)) }
+    ensures unwritten { 2 ≤ result → (verdict.new ≡ verdict.old)
+        × ((buffer.new ≡ buffer.old) × (needed.new ≡ needed.old)) }
     ensures refusal_stays { result ≤ 1 → refusal.new ≡ refusal.old }
 {
     let (mut first, mut second) = (circuit, found);
