@@ -1,5 +1,5 @@
 -- What judgements are told as.
-use Rattle.std.specs.Prelude.{ℕ, Result, Ok, Err}
+use Rattle.std.specs.Prelude.{Result, Ok, Err}
 use Rattle.drup.specs.Printed.{proof_why_number}
 use Rattle.drup.specs.declared.judgement.Judgement.{Judgement as ProofJudgement}
 use Rattle.drup.specs.declared.judgement.Judgement.TheVariants as proof
