@@ -1,5 +1,5 @@
 -- The claims that are told of a witness, by the first rises of all bad properties, and the bad property that is asked for.
-use Rattle.std.proofs.Common.{arith, ◌≡◌, ◌<◌, ◌+◌, ◌^◌, ◌++◌, ◌∷◌, ◌∙◌, ℕ, zero, suc, Bool, true, false, List, [], length, drop, Option, Some, None, option_and_then, slice_get, decimal, append_assoc, refl, sym, ap, subst}
+use Rattle.std.proofs.Common.{arith, ◌≡◌, ◌<◌, ◌+◌, ◌^◌, ◌++◌, ◌∷◌, ◌∙◌, ℕ, zero, suc, Bool, true, false, List, [], length, drop, Option, Some, option_and_then, slice_get, decimal, append_assoc, refl, sym, ap, subst}
 use Rattle.base.specs.Decimals.{number_of}
 use Rattle.verbs.specs.Asked.{AsksFor, IsAskedBy}
 use Rattle.verbs.specs.Judging.{IsJudgedFor, IsJudgedOverFor}
