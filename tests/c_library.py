@@ -127,19 +127,12 @@ def called(call, given, verdict, unit, circuit, file, invariant=None, bad=None):
 
 def checked(plain, with_claims, first, choice, second, circuit, file, by_name):
     """What the library answers in place of the program of a witness, with its claims by name. Where no bad property is chosen, both
-    calls say the same, but of circuits that have outputs alone."""
+    calls say the same."""
     status, out, told = called(with_claims, (*first, *choice, *second), True, CLAIM, circuit, file)
     refused = told if status == 2 else b""
-    if not choice[0].value and not refused.endswith(b": 145 NoBad\n"):
+    if not choice[0].value:
         assert called(plain, (*first, *second), True, 0, circuit, file) == (status, out, refused), "two calls differ"
     return status, out, told if by_name else refused
-
-
-def without_property(call, given, circuit, file):
-    """What the program says of a first text without a bad property where one is meant, which a call that tells claims refuses as the
-    program does; nothing where it has one."""
-    told = called(call, given, True, CLAIM, circuit, file)
-    return told if told[2].endswith(b": 145 NoBad\n") else None
 
 
 def cost(first, file):
@@ -206,21 +199,11 @@ def answer(command, flags, bad, names, texts):
     if command == "lift" and "--engine" in flags:
         return called(library.hwtool_lift_engine, (*first, *choice, by_name, *second), True, 1, circuit, file)
     if command == "lift":
-        lowered = called(library.hwtool_lower, (*first, binary), False, 1, circuit, file)
-        given = (*of(lowered[1]), *choice, *second)
-        refused = without_property(library.hwtool_check_aig_claims, given, circuit, file) if lowered[0] == 0 else None
-        return refused or called(library.hwtool_lift, (*first, *second), True, 1, circuit, file)
+        return called(library.hwtool_lift, (*first, *second), True, 1, circuit, file)
     if command == "wave":
         title = f"{names[0]} {names[1]}".encode()
         every = ctypes.c_bool("--all" in flags)
         return called(library.hwtool_wave, (*first, every, *of(title), *second), True, 1, circuit, file)
-    if "--circuit" in flags:
-        with_claims = library.hwtool_check_aig_claims if circuit else library.hwtool_check_btor_claims
-        # the program lowers a model before it looks for the property
-        is_lowered = circuit or called(library.hwtool_lower, (*first, binary), False, 1, circuit, file)[0] == 0
-        refused = without_property(with_claims, (*first, ctypes.c_bool(True), position, *second), circuit, file) if is_lowered else None
-        if refused:
-            return refused
     if command == "obligation" and "--circuit" in flags:
         return called(library.hwtool_obligation_circuit, (*first, *over, position, *second), False, 1, circuit, file, names[1])
     if command == "check-proof" and "--circuit" in flags:

@@ -33,12 +33,8 @@ _JUDGES = {"model": "hwtool_check_btor_claims", "circuit": "hwtool_check_aig_cla
 # The refusal of an obligation that is too big, which is told of the invariant as a whole.
 _TOO_MANY_CUBES = 196
 
-# The refusals of a witness circuit as a whole; and that for a property that is not there.
+# The refusals of a witness circuit as a whole.
 _NO_TEST = range(210, 217)
-_NO_PROPERTY = 215
-
-# The refusal of a text without any bad property.
-_NO_BAD = 145
 
 
 class _Given:
@@ -87,18 +83,11 @@ def _choice(bad: Optional[SupportsIndex]) -> List[object]:
     return [bad is not None, 0 if bad is None else _position(bad)]
 
 
-def _has_no_bad(kind: str, first: _Given) -> bool:
-    """Whether a model or circuit has no bad property at all."""
-    return claimed(_JUDGES[kind], [*first.words, *_choice(0), b"", 0], RawVerdict())[1].number == _NO_BAD
-
-
 def _refuse(status: int, raw: RawRefusal, kind: str, first: _Given, second: Optional[_Given] = None, second_kind: str = "invariant") -> NoReturn:
     """Tells why a call is not done."""
     if status == NO_MEMORY:
         raise MemoryError("hwtool: no memory")
     number, place = raw.number, raw.place
-    if status == MODEL_REFUSED and number == _NO_PROPERTY and _has_no_bad(kind, first):
-        number = _NO_BAD
     if status == TEXT_REFUSED:
         raise Refused(number, name(number), kind, "byte" if kind == "circuit" else "line", place, first.file)
     if second is not None and status == SECOND_REFUSED and second_kind == "invariant":
@@ -217,24 +206,11 @@ def _with_verdict(
     return _verdict(verdict, of_circuit, claims), text
 
 
-def _refuse_outputs_alone(first: _Given) -> None:
-    """Refuses a model whose circuit has outputs and no bad property, of which no witness can claim one."""
-    status, refusal, circuit = written("hwtool_lower", [*first.words, True], first.room)
-    if status == DONE:
-        status, refusal, _ = claimed(_JUDGES["circuit"], [circuit, len(circuit), *_choice(None), b"", 0], RawVerdict())
-    if status != DONE:
-        _refuse(status, refusal, "model", first)
-
-
 def lift(model: Text, witness: Text) -> Lifted:
     """Judges a witness of the circuit that `lower` makes of a BTOR2 model, and lifts it to one of the model, which has the same
     verdict. Raises Refused as `lower` does, and where the model has outputs and no bad property."""
     first, second = _Given(model), _Given(witness)
-    verdict, text = _with_verdict("hwtool_lift", [*first.words, *second.words], "model", first, second, True)
-    # without a bad property no other verdict comes
-    if verdict.kind in (Kind.MALFORMED, Kind.NO_CLAIM):
-        _refuse_outputs_alone(first)
-    return Lifted(verdict, text)
+    return Lifted(*_with_verdict("hwtool_lift", [*first.words, *second.words], "model", first, second, True))
 
 
 def lift_engine(model: Text, witness: Text, *, bad: Optional[SupportsIndex] = None, names: bool = False) -> Lifted:

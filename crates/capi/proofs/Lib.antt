@@ -1,5 +1,4 @@
-pub mod ClaimedLemmas
-pub mod GuardedLemmas
-pub mod HoldsLemmas
-pub mod LiftedLemmas
+pub mod CertifiedLemmas
+pub mod JudgedLemmas
 pub mod NameLemmas
+pub mod StopLemmas

@@ -1,11 +1,11 @@
 -- What the library for C programs answers.
-pub mod Guarded
-pub mod Judged
-pub mod Written
-pub mod Lifted
+pub mod Answers
+pub mod Buffers
 pub mod Certified
-pub mod Claimed
-pub mod CircuitCertified
-pub mod Restored
-pub mod EngineLifted
+pub mod Flags
+pub mod Judged
+pub mod Lifted
 pub mod Named
+pub mod Restored
+pub mod Stops
+pub mod Written

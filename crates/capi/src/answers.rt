@@ -1,12 +1,13 @@
 //! What the exported calls answer.
-ghost use Rattle.std.specs.Prelude.{◌≡◌};
-ghost use Rattle.capi.specs.Certified.{proof_verdict_of};
-ghost use Rattle.capi.specs.Claimed.{not_claimed};
-ghost use Rattle.capi.specs.Judged.{CallTells, verdict_of};
-ghost use Rattle.capi.specs.Restored.{fault_verdict_of};
+ghost use Rattle.std.specs.Prelude.{◌≡◌, ◌≤◌};
+ghost use Rattle.capi.specs.Answers.{fault_verdict_of, found_verdict_of, outcome_verdict_of, proof_verdict_of, verdict_of};
+ghost use Rattle.capi.specs.Stops.{CallTells, fault_place, first_status, second_status, told_fault};
 
+use blast::LowerFault;
 use restore::RestoreFault;
-use witness::Judgement;
+use rises::FirstRises;
+use verbs::{Fault, Outcome, Refusal as Against};
+use witness::{JudgeFault, Judgement};
 
 /// What is said of a witness: `kind` is 0 accepted, 1 not reached, 2 violated, 3 an initial value differs, 4 malformed, 5 no
 /// claim, 8 the bad property that is asked for is not claimed. Of a proof: 0 the property holds, 4 malformed, 6 a step is not
@@ -49,15 +50,18 @@ impl Verdict {
 }
 
 impl Verdict {
-    /// That an acceptance does not claim the bad property that is asked for.
-    pub(crate) fn not_claimed(bad: u64) -> Verdict
-        ensures { result ≡ not_claimed bad }
+    /// What is told of a witness.
+    pub(crate) fn of_outcome(outcome: &Outcome) -> Verdict
+        ensures { result ≡ outcome_verdict_of outcome.now }
     {
-        Verdict {
-            kind: 8,
-            why: 0,
-            first: bad,
-            second: 0,
+        match *outcome {
+            Outcome::Judged(judgement) => Verdict::of(&judgement),
+            Outcome::Unclaimed(bad) => Verdict {
+                kind: 8,
+                why: 0,
+                first: bad as u64,
+                second: 0,
+            },
         }
     }
 }
@@ -84,7 +88,7 @@ impl Verdict {
 
 impl Verdict {
     /// What the first faulty line of a counterexample over an engine form is told as.
-    pub(crate) fn of_fault(fault: &RestoreFault) -> Verdict
+    fn of_fault(fault: &RestoreFault) -> Verdict
         ensures { result ≡ fault_verdict_of fault.now }
     {
         Verdict {
@@ -92,6 +96,30 @@ impl Verdict {
             why: fault.why.number(),
             first: fault.line,
             second: 0,
+        }
+    }
+}
+
+impl Verdict {
+    /// What is told of a counterexample that is restored.
+    pub(crate) fn of_restored(told: &Result<Judgement, RestoreFault>) -> Verdict
+        ensures { result ≡ found_verdict_of (λ judged. judged) told.now }
+    {
+        match told {
+            Ok(judgement) => Verdict::of(judgement),
+            Err(fault) => Verdict::of_fault(fault),
+        }
+    }
+}
+
+impl Verdict {
+    /// What is told of one that is lifted.
+    pub(crate) fn of_lifted(told: &Result<(Judgement, FirstRises), RestoreFault>) -> Verdict
+        ensures { result ≡ found_verdict_of (λ judged. judged.0) told.now }
+    {
+        match told {
+            Ok((judgement, _)) => Verdict::of(judgement),
+            Err(fault) => Verdict::of_fault(fault),
         }
     }
 }
@@ -117,51 +145,87 @@ pub struct Refusal {
     pub place: u64,
 }
 
-/// Why a call stops.
-#[derive(Clone, Copy)]
-pub(crate) enum Stop {
-    /// The first text is refused.
-    Text(Refusal),
-    /// What the first text says is refused by what is asked of it.
-    Model(Refusal),
-    /// Memory was wanting.
-    NoMemory,
-    /// The second text is refused.
-    Second(Refusal),
+/// The item that a lowering is refused for, by its id, or 0.
+fn fault_place(fault: LowerFault) -> u64
+    ensures { result ≡ fault_place fault }
+{
+    match fault {
+        LowerFault::Justice(id) | LowerFault::Fair(id) | LowerFault::NoNext(id) => id,
+        _ => 0,
+    }
+}
+
+impl Refusal {
+    /// What is told of a fault.
+    fn of(fault: Fault) -> Refusal
+        ensures { result ≡ told_fault fault }
+    {
+        let (number, place) = match fault {
+            Fault::Model(fault) => (fault.why.printed_number(), fault.line),
+            Fault::Circuit(fault) => (fault.why.number(), fault.place),
+            Fault::Lowering(fault) => (fault.number(), fault_place(fault)),
+            Fault::Outputs(fault) => (fault.number(), 0),
+            Fault::Engine(fault) => (fault.number(), 0),
+            Fault::Invariant(fault) => (fault.why.number(), fault.line),
+            Fault::Obligation(fault) => (fault.number(), 0),
+            Fault::Test(fault) => (fault.number(), 0),
+            Fault::NoNext(id) => (JudgeFault::NoNext(id).number(), id),
+            // no call asks so
+            Fault::Vector(_) | Fault::Unchosen(_) | Fault::SameName(..) => (0, 0),
+        };
+        Refusal { number, place }
+    }
 }
 
 /// The status of a call that is done.
 pub(crate) const DONE: u32 = 0;
 
-/// The status where the first text is refused.
+/// The status where the first text is no model or no circuit.
 const TEXT_REFUSED: u32 = 2;
 
-/// The status where its model or circuit is.
+/// The status where what it says is not taken.
 const MODEL_REFUSED: u32 = 3;
 
 /// The status where memory was wanting.
-const NO_MEMORY: u32 = 4;
+pub(crate) const NO_MEMORY: u32 = 4;
 
 /// The status where the second text is refused.
 const SECOND_REFUSED: u32 = 5;
 
-/// Tells why a call stops, and answers its status.
-pub(crate) fn tell(stop: Stop, refusal: &mut Refusal) -> u32
-    ensures { CallTells stop result refusal.old refusal.new }
+/// The status where the first text has a fault.
+fn first_status(fault: Fault) -> u32
+    ensures { result ≡ first_status fault }
 {
-    match stop {
-        Stop::Text(against) => {
-            *refusal = against;
-            TEXT_REFUSED
+    match fault {
+        Fault::Model(_) | Fault::Circuit(_) => TEXT_REFUSED,
+        _ => MODEL_REFUSED,
+    }
+}
+
+/// The status where the second text has a fault.
+fn second_status(fault: Fault) -> u32
+    ensures { result ≡ second_status fault }
+{
+    match fault {
+        Fault::Obligation(_) => MODEL_REFUSED,
+        _ => SECOND_REFUSED,
+    }
+}
+
+/// Tells why a call stops, and answers its status.
+pub(crate) fn tell(against: Against, refusal: &mut Refusal) -> u32
+    ensures tells { CallTells against result refusal.old refusal.new }
+    ensures statuses { (2 ≤ result) × (result ≤ 5) }
+{
+    match against {
+        Against::Input(fault) => {
+            *refusal = Refusal::of(fault);
+            first_status(fault)
         }
-        Stop::Model(against) => {
-            *refusal = against;
-            MODEL_REFUSED
+        Against::Second(fault) => {
+            *refusal = Refusal::of(fault);
+            second_status(fault)
         }
-        Stop::NoMemory => NO_MEMORY,
-        Stop::Second(against) => {
-            *refusal = against;
-            SECOND_REFUSED
-        }
+        Against::Failed(_) | Against::NoMemory => NO_MEMORY,
     }
 }

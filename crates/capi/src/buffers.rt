@@ -1,5 +1,5 @@
 //! Texts, and lists of other things, that go into a caller's buffer.
-ghost use Rattle.std.specs.Prelude.{◌≡◌, ◌⊎◌, ◌<◌, ◌≤◌, ◌++◌, length, drop};
+ghost use Rattle.std.specs.Prelude.{◌≡◌, ◌<◌, ◌≤◌, ◌++◌, length, drop};
 
 use crate::answers::DONE;
 
@@ -14,7 +14,7 @@ pub(crate) fn hand_over<T: Copy>(text: &[T], buffer: &mut [T], needed: &mut usiz
     ensures done { result ≡ 0 → buffer.new ≡ text.now ++ drop (length text.now) buffer.old }
     ensures small { result ≡ 1 → length buffer.old < length text.now }
     ensures stays { result ≡ 1 → buffer.new ≡ buffer.old }
-    ensures statuses { (result ≡ 0) ⊎ (result ≡ 1) }
+    ensures statuses { result ≤ 1 }
 {
     *needed = text.len();
     if buffer.len() < text.len() {

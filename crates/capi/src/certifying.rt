@@ -1,161 +1,168 @@
-//! The calls that judge proofs.
-ghost use Rattle.std.specs.Prelude.{◌≡◌, ◌≢◌, ◌⊎◌, ℕ, List, Some, IfOk, IfErr, IfSome, length};
-ghost use Rattle.btor2.specs.declared.item.Item.{Item};
-ghost use Rattle.btor2text.specs.Spelling.{StandsFor};
-ghost use Rattle.aigertext.specs.Spelling.{SpellsCircuit};
-ghost use Rattle.blast.specs.Lowering.{Lowers};
-ghost use Rattle.capi.specs.declared.answers.Stop.TheVariants as stop;
-ghost use Rattle.capi.specs.Certified.{IsClaimStop, IsObligation, IsProofVerdict, OwesNothing, claim_stop, proof_form};
-ghost use Rattle.capi.specs.CircuitCertified.{IsClaimStopOver, IsObligationOver, IsProofVerdictOver, OwesNothingOver};
-ghost use Rattle.capi.specs.Judged.{CallTellsNoModel, IsStop};
-ghost use Rattle.drup.specs.FormulaTexts.{formula_text};
-ghost use Rattle.capi.specs.Written.{Fills, CallTellsUnlowered, Needs};
+//! The calls on certificates: they write the formulas that these owe, and judge proofs of them.
+ghost use Rattle.std.specs.Prelude.{◌≡◌, ◌≤◌, true, false, Some, IfOk, IfErr, IfSome};
+ghost use Rattle.invocation.specs.declared.tasks.Certificate.TheVariants as kind_is;
+ghost use Rattle.verbs.specs.Refusals.{IsFaultyCertificate, IsNotCertifiable};
+ghost use Rattle.verbs.specs.Statuses.{IfInput, IfSecond};
+ghost use Rattle.capi.specs.Buffers.{Fills, Needs};
+ghost use Rattle.capi.specs.Certified.{CallCertifies, CallOwes, StopsCertifying};
+ghost use Rattle.capi.specs.Flags.{about, given_of, guard_of, proof_form};
 
-use crate::answers::{DONE, Refusal, Stop, Verdict, tell};
+use crate::answers::{DONE, Refusal, Verdict, tell};
 use crate::buffers::hand_over;
-use crate::lowering::stop_of;
-use crate::reading::read_model;
-use aiger::Circuit;
+use crate::flags::{about, guard_of, proof_form};
 use base::{Sink, VecSink};
-use blast::lower;
-use btor2::Model;
-use certificates::{
-    CertificateFault, ClaimFault, InvariantFault, InvariantWhy, ObligationFault, ProofForm,
-    judge_certificate, owed_formula,
-};
-use drup::{Formula, write_formula};
-use engine_form::EngineFault;
+use blast::Unwatched;
+use certificates::ProofForm;
+use drup::write_formula;
+use invocation::Certificate;
 use std::alloc::Global;
+use verbs::{Refusal as Against, certify, owe};
 
-/// The form of a proof that is said to be in LRAT, or is not.
-pub(crate) fn proof_form(lrat: bool) -> ProofForm
-    ensures { result ≡ proof_form lrat }
-{
-    if lrat {
-        ProofForm::Hinted
-    } else {
-        ProofForm::Plain
-    }
-}
-
-/// Why a call stops where an invariant's text is not read.
-fn invariant_stop(fault: InvariantFault) -> Stop
-    ensures stop { result ≡ claim_stop (ClaimFault.Invariant fault) }
-    ensures owes { (model : List ℕ) (bad : ℕ) (invariant : List ℕ)
-        → OwesNothing model bad invariant result → IsClaimStop model bad invariant result }
-    ensures owes_over { (circuit : List ℕ) (bad : ℕ) (invariant : List ℕ)
-        → OwesNothingOver circuit bad invariant result
-        → IsClaimStopOver circuit bad invariant result }
-{
-    match fault.why {
-        InvariantWhy::NoMemory => Stop::NoMemory,
-        InvariantWhy::Device => Stop::NoMemory,
-        why => Stop::Second(Refusal {
-            number: why.number(),
-            place: fault.line,
-        }),
-    }
-}
-
-/// Why a call stops where an invariant owes no formula.
-fn claim_stop(fault: ClaimFault) -> Stop
-    ensures stop { result ≡ claim_stop fault }
-    ensures owes { (model : List ℕ) (bad : ℕ) (invariant : List ℕ)
-        → OwesNothing model bad invariant result → IsClaimStop model bad invariant result }
-    ensures owes_over { (circuit : List ℕ) (bad : ℕ) (invariant : List ℕ)
-        → OwesNothingOver circuit bad invariant result
-        → IsClaimStopOver circuit bad invariant result }
-{
-    match fault {
-        ClaimFault::Form(EngineFault::NoMemory) => Stop::NoMemory,
-        ClaimFault::Form(against) => Stop::Model(Refusal {
-            number: against.number(),
-            place: 0,
-        }),
-        ClaimFault::Invariant(against) => invariant_stop(against),
-        ClaimFault::Obligation(ObligationFault::NoMemory) => Stop::NoMemory,
-        ClaimFault::Obligation(against) => Stop::Model(Refusal {
-            number: against.number(),
-            place: 0,
-        }),
-    }
-}
-
-/// Judges a certificate of a bad property of a circuit: of one that lowers the model of a text, or that of a text.
-pub(crate) fn certify_over(
+/// Judges a certificate and a proof in this form of the formula that it owes.
+fn judge(
     alloc: Global,
-    circuit: &Circuit,
+    aiger: bool,
+    kind: Certificate,
     bad: usize,
-    invariant: &[u8],
     form: ProofForm,
+    text: &[u8],
+    certificate: &[u8],
     proof: &[u8],
-) -> Result<Verdict, Stop>
-    ensures done { (text : List ℕ) (items : List Item) → StandsFor text items
-        → Lowers items circuit.now → IfOk result (IsProofVerdict text bad invariant.now form proof.now) }
-    ensures refused { (text : List ℕ) (items : List Item) → StandsFor text items
-        → Lowers items circuit.now → IfErr result (IsClaimStop text bad invariant.now) }
-    ensures done_over { (text : List ℕ) → SpellsCircuit text circuit.now
-        → IfOk result (IsProofVerdictOver text bad invariant.now form proof.now) }
-    ensures refused_over { (text : List ℕ) → SpellsCircuit text circuit.now
-        → IfErr result (IsClaimStopOver text bad invariant.now) }
+    verdict: &mut Verdict,
+    refusal: &mut Refusal,
+) -> u32
+    ensures done { result ≡ 0 → CallCertifies (about aiger kind bad) form text.now certificate.now
+        proof.now verdict.new }
+    ensures stops { 1 ≤ result → StopsCertifying (about aiger kind bad) text.now certificate.now
+        result refusal.old refusal.new }
+    ensures statuses { result ≤ 5 }
+    ensures unwritten { 1 ≤ result → verdict.new ≡ verdict.old }
+    ensures refusal_stays { result ≡ 0 → refusal.new ≡ refusal.old }
 {
-    blast::laws::bad_properties_rise_alike();
-    // the lists of a circuit are one
-    let _ = circuit.inputs();
-    let mut first = invariant;
-    let mut second = proof;
-    match judge_certificate(alloc, circuit, bad, form, &mut first, &mut second) {
-        Ok(judgement) => Ok(Verdict::of_proof(&judgement)),
-        Err(CertificateFault::Claim(fault)) => Err(claim_stop(fault)),
-        Err(_) => Err(Stop::NoMemory),
+    let of = about(aiger, kind, bad);
+    let (mut first, mut second, mut third) = (text, certificate, proof);
+    match certify(
+        alloc,
+        of,
+        form,
+        &mut first,
+        &mut second,
+        &mut third,
+        &mut Unwatched,
+    ) {
+        Ok(judged) => {
+            *verdict = Verdict::of_proof(&judged.judgement);
+            DONE
+        }
+        Err(against) => tell(against, refusal),
     }
 }
 
-/// Lowers a model that was read, and judges a certificate of a bad property of its circuit.
-fn certify_model(
+/// The text of the formula that a certificate owes.
+fn owed(
     alloc: Global,
-    model: &Model,
+    aiger: bool,
+    kind: Certificate,
     bad: usize,
-    invariant: &[u8],
-    form: ProofForm,
-    proof: &[u8],
-) -> Result<Verdict, Stop>
-    ensures done { (text : List ℕ) → StandsFor text model.now
-        → IfOk result (IsProofVerdict text bad invariant.now form proof.now) }
-    ensures refused { (text : List ℕ) → StandsFor text model.now
-        → IfErr result (IsClaimStop text bad invariant.now) }
+    text: &[u8],
+    certificate: &[u8],
+) -> Result<VecSink, Against>
+    ensures done { IfOk result (λ sink. IfSome (⟦<VecSink as Sink>⟧.written sink)
+        (CallOwes (about aiger kind bad) text.now certificate.now)) }
+    ensures refused { IfErr result
+        (IfInput (IsNotCertifiable kind (given_of aiger) (Some bad) (Some text.now))) }
+    ensures second { IfErr result (IfSecond (IsFaultyCertificate kind (given_of aiger) (Some bad)
+        (Some text.now) (Some certificate.now))) }
 {
-    match lower(alloc, model) {
-        Ok(circuit) => certify_over(alloc, &circuit, bad, invariant, form, proof),
-        Err(fault) => Err(stop_of(fault)),
+    let of = about(aiger, kind, bad);
+    let (mut first, mut second) = (text, certificate);
+    let formula = owe(alloc, of, &mut first, &mut second, &mut Unwatched)?;
+    let mut sink = VecSink::new(alloc);
+    match write_formula(&formula, &mut sink) {
+        Ok(()) => Ok(sink),
+        Err(_) => Err(Against::NoMemory),
     }
 }
 
-/// Judges a certificate of a bad property of a text's model.
-fn certified(
+/// Writes the formula that a certificate owes.
+fn write_owed(
+    alloc: Global,
+    aiger: bool,
+    kind: Certificate,
+    bad: usize,
+    text: &[u8],
+    certificate: &[u8],
+    buffer: &mut [u8],
+    needed: &mut usize,
+    refusal: &mut Refusal,
+) -> u32
+    ensures done { result ≡ 0 → Fills (CallOwes (about aiger kind bad) text.now certificate.now)
+        buffer.old buffer.new needed.new }
+    ensures small { result ≡ 1 → Needs (CallOwes (about aiger kind bad) text.now certificate.now)
+        buffer.old buffer.new needed.new }
+    ensures stops { 2 ≤ result → StopsCertifying (about aiger kind bad) text.now certificate.now
+        result refusal.old refusal.new }
+    ensures statuses { result ≤ 5 }
+    ensures unwritten { 2 ≤ result → (buffer.new ≡ buffer.old) × (needed.new ≡ needed.old) }
+    ensures refusal_stays { result ≤ 1 → refusal.new ≡ refusal.old }
+{
+    match owed(alloc, aiger, kind, bad, text, certificate) {
+        Ok(formula) => hand_over(formula.bytes(), buffer, needed),
+        Err(against) => tell(against, refusal),
+    }
+}
+
+/// Writes the formula, as a text in DIMACS, that the text of an invariant, as ABC writes it by `pdr -d -I` over the engine form
+/// with this bad property alone, owes for the bad property of the text of a BTOR2 model at this position, from 0: where nothing
+/// satisfies it, the property rises in no frame up to which the constraints hold.
+///
+/// Answers 0 where that text stands at the front of the buffer, whose bytes behind it stay, and 1 where it is longer than the
+/// buffer, which stays then: after both `needed` is its length. 2 where the first text is no model, with the number and the
+/// line of its first fault; 3 where the model is not lowered, its circuit has no such engine form, or the invariant owes too
+/// big a formula, with the number of that and the id of an item, or 0; 5 where the invariant's text is faulty, with the number
+/// and the line of its first fault; 4 where memory was wanting. With 0, 1 and 4 the refusal stays, and without 0 and 1 buffer
+/// and `needed` do.
+#[unsafe(no_mangle)]
+pub extern "C" fn hwtool_obligation(
     alloc: Global,
     model: &[u8],
     bad: usize,
     invariant: &[u8],
-    form: ProofForm,
-    proof: &[u8],
-) -> Result<Verdict, Stop>
-    ensures done { IfOk result (IsProofVerdict model.now bad invariant.now form proof.now) }
-    ensures refused { IfErr result (IsClaimStop model.now bad invariant.now) }
+    buffer: &mut [u8],
+    needed: &mut usize,
+    refusal: &mut Refusal,
+) -> u32
+    ensures done { result ≡ 0 → Fills
+        (CallOwes (about false kind_is.Invariant bad) model.now invariant.now) buffer.old buffer.new
+        needed.new }
+    ensures small { result ≡ 1 → Needs
+        (CallOwes (about false kind_is.Invariant bad) model.now invariant.now) buffer.old buffer.new
+        needed.new }
+    ensures stops { 2 ≤ result → StopsCertifying (about false kind_is.Invariant bad) model.now
+        invariant.now result refusal.old refusal.new }
+    ensures statuses { result ≤ 5 }
+    ensures unwritten { 2 ≤ result → (buffer.new ≡ buffer.old) × (needed.new ≡ needed.old) }
+    ensures refusal_stays { result ≤ 1 → refusal.new ≡ refusal.old }
 {
-    let read = read_model(alloc, model)?;
-    certify_model(alloc, &read, bad, invariant, form, proof)
+    write_owed(
+        alloc,
+        false,
+        Certificate::Invariant,
+        bad,
+        model,
+        invariant,
+        buffer,
+        needed,
+        refusal,
+    )
 }
 
-/// Judges the text of an invariant, as ABC writes it by `pdr -d -I` over the engine form with this bad property alone, and
-/// that of a proof of what it owes, in DRAT, or with `lrat` in LRAT, over the text of a BTOR2 model. Where the verdict's kind is 0, the bad property at
-/// this position, from 0, rises in no frame up to which the model's constraints hold, from any initial state under every input
-/// sequence.
+/// Judges a proof, in DRAT, or with `lrat` in LRAT, of the formula that the text of an invariant owes for the bad property of
+/// the text of a BTOR2 model at this position: as of `hwtool_obligation`. Where the verdict's kind is 0, the bad property rises
+/// in no frame up to which the model's constraints hold, from any initial state under every input sequence.
 ///
-/// Answers 0 with what is judged of the proof; 2 where the first text is no model, with the number and the line of its first
-/// fault; 3 where the model is not lowered, its circuit has no such engine form, or the invariant owes too big a formula, with
-/// the number of that and the id of an item, or 0; 5 where the invariant's text is faulty, with the number and the line of its
-/// first fault; 4 where memory was wanting. Without 0 the verdict stays, and with 0 and 4 the refusal does.
+/// Answers 0 with what is judged of the proof; 2, 3, 4 and 5 as of that call. Without 0 the verdict stays, and with 0 and 4 the
+/// refusal does.
 #[unsafe(no_mangle)]
 pub extern "C" fn hwtool_check_proof(
     alloc: Global,
@@ -167,131 +174,186 @@ pub extern "C" fn hwtool_check_proof(
     verdict: &mut Verdict,
     refusal: &mut Refusal,
 ) -> u32
-    ensures done { result ≡ 0 → IsProofVerdict model.now bad invariant.now (proof_form lrat)
-        proof.now verdict.new }
-    ensures refused { result ≡ 2 → CallTellsNoModel model.now refusal.new }
-    ensures unlowered { result ≡ 3 → CallTellsUnlowered model.now refusal.new
-        ⊎ OwesNothing model.now bad invariant.now (stop.Model refusal.new) }
-    ensures second { result ≡ 5 → OwesNothing model.now bad invariant.now
-        (stop.Second refusal.new) }
-    ensures statuses { (result ≡ 0)
-        ⊎ ((result ≡ 2) ⊎ ((result ≡ 3) ⊎ ((result ≡ 4) ⊎ (result ≡ 5)))) }
-    ensures verdict_stays { result ≢ 0 → verdict.new ≡ verdict.old }
-    ensures refusal_stays { (result ≡ 0) ⊎ (result ≡ 4) → refusal.new ≡ refusal.old }
+    ensures done { result ≡ 0 → CallCertifies (about false kind_is.Invariant bad) (proof_form lrat)
+        model.now invariant.now proof.now verdict.new }
+    ensures stops { 1 ≤ result → StopsCertifying (about false kind_is.Invariant bad) model.now
+        invariant.now result refusal.old refusal.new }
+    ensures statuses { result ≤ 5 }
+    ensures unwritten { 1 ≤ result → verdict.new ≡ verdict.old }
+    ensures refusal_stays { result ≡ 0 → refusal.new ≡ refusal.old }
 {
-    match certified(alloc, model, bad, invariant, proof_form(lrat), proof) {
-        Ok(judged) => {
-            *verdict = judged;
-            DONE
-        }
-        Err(stop) => tell(stop, refusal),
-    }
+    judge(
+        alloc,
+        false,
+        Certificate::Invariant,
+        bad,
+        proof_form(lrat),
+        model,
+        invariant,
+        proof,
+        verdict,
+        refusal,
+    )
 }
 
-/// The text of a formula.
-pub(crate) fn formula_text(alloc: Global, formula: &Formula) -> Result<VecSink, Stop>
-    ensures text { IfOk result (λ sink. ⟦<VecSink as Sink>⟧.written sink
-        ≡ Some (formula_text formula.now)) }
-    ensures refused { IfErr result (IsStop (λ _. ⊥) (λ _. ⊥)) }
-{
-    let mut sink = VecSink::new(alloc);
-    match write_formula(formula, &mut sink) {
-        Ok(()) => Ok(sink),
-        Err(_) => Err(Stop::NoMemory),
-    }
-}
-
-/// Writes what an invariant owes for a bad property of a circuit: of one that lowers the model of a text, or that of a text.
-pub(crate) fn owe_over(
-    alloc: Global,
-    circuit: &Circuit,
-    bad: usize,
-    invariant: &[u8],
-) -> Result<VecSink, Stop>
-    ensures done { (text : List ℕ) (items : List Item) → StandsFor text items
-        → Lowers items circuit.now
-        → IfOk result (λ sink. IfSome (⟦<VecSink as Sink>⟧.written sink)
-        (IsObligation text bad invariant.now)) }
-    ensures refused { (text : List ℕ) (items : List Item) → StandsFor text items
-        → Lowers items circuit.now → IfErr result (IsClaimStop text bad invariant.now) }
-    ensures done_over { (text : List ℕ) → SpellsCircuit text circuit.now
-        → IfOk result (λ sink. IfSome (⟦<VecSink as Sink>⟧.written sink)
-        (IsObligationOver text bad invariant.now)) }
-    ensures refused_over { (text : List ℕ) → SpellsCircuit text circuit.now
-        → IfErr result (IsClaimStopOver text bad invariant.now) }
-{
-    // the lists of a circuit are one
-    let _ = circuit.inputs();
-    let mut source = invariant;
-    match owed_formula(alloc, circuit, bad, &mut source) {
-        Ok(formula) => formula_text(alloc, &formula),
-        Err(fault) => Err(claim_stop(fault)),
-    }
-}
-
-/// Lowers a model that was read, and writes what an invariant owes for a bad property of its circuit.
-fn owe_for_model(
-    alloc: Global,
-    model: &Model,
-    bad: usize,
-    invariant: &[u8],
-) -> Result<VecSink, Stop>
-    ensures done { (text : List ℕ) → StandsFor text model.now
-        → IfOk result (λ sink. IfSome (⟦<VecSink as Sink>⟧.written sink)
-        (IsObligation text bad invariant.now)) }
-    ensures refused { (text : List ℕ) → StandsFor text model.now
-        → IfErr result (IsClaimStop text bad invariant.now) }
-{
-    match lower(alloc, model) {
-        Ok(circuit) => owe_over(alloc, &circuit, bad, invariant),
-        Err(fault) => Err(stop_of(fault)),
-    }
-}
-
-/// Writes what an invariant owes for a bad property of a text's model.
-fn owed(alloc: Global, model: &[u8], bad: usize, invariant: &[u8]) -> Result<VecSink, Stop>
-    ensures done { IfOk result (λ sink. IfSome (⟦<VecSink as Sink>⟧.written sink)
-        (IsObligation model.now bad invariant.now)) }
-    ensures refused { IfErr result (IsClaimStop model.now bad invariant.now) }
-{
-    let read = read_model(alloc, model)?;
-    owe_for_model(alloc, &read, bad, invariant)
-}
-
-/// Writes the formula, as a text in DIMACS, that the text of an invariant owes for the bad property of the text of a BTOR2
-/// model at this position, from 0: where nothing satisfies it, the property rises in no frame up to which the constraints hold.
+/// The same as `hwtool_obligation` of the text of an AIGER circuit of either form.
 ///
-/// Answers 0 where that text stands at the front of the buffer, whose bytes behind it stay, and 1 where it is longer than the
-/// buffer, which stays then: after both `needed` is its length. 2, 3, 4 and 5 as of `hwtool_check_proof`. With 0, 1 and 4 the
-/// refusal stays, and without 0 and 1 buffer and `needed` do.
+/// Answers as that call, but 2 where the first text is no circuit, with the number and the place of its first fault, in bytes
+/// from 0.
 #[unsafe(no_mangle)]
-pub extern "C" fn hwtool_obligation(
+pub extern "C" fn hwtool_obligation_aig(
     alloc: Global,
-    model: &[u8],
+    circuit: &[u8],
     bad: usize,
     invariant: &[u8],
     buffer: &mut [u8],
     needed: &mut usize,
     refusal: &mut Refusal,
 ) -> u32
-    ensures done { result ≡ 0
-        → Fills (IsObligation model.now bad invariant.now) buffer.old buffer.new needed.new }
-    ensures small { result ≡ 1
-        → Needs (IsObligation model.now bad invariant.now) buffer.old buffer.new needed.new }
-    ensures refused { result ≡ 2 → CallTellsNoModel model.now refusal.new }
-    ensures unlowered { result ≡ 3 → CallTellsUnlowered model.now refusal.new
-        ⊎ OwesNothing model.now bad invariant.now (stop.Model refusal.new) }
-    ensures second { result ≡ 5 → OwesNothing model.now bad invariant.now
-        (stop.Second refusal.new) }
-    ensures statuses { (result ≡ 0)
-        ⊎ ((result ≡ 1) ⊎ ((result ≡ 2) ⊎ ((result ≡ 3) ⊎ ((result ≡ 4) ⊎ (result ≡ 5))))) }
-    ensures unwritten { (result ≡ 2) ⊎ ((result ≡ 3) ⊎ ((result ≡ 4) ⊎ (result ≡ 5)))
-        → (buffer.new ≡ buffer.old) × (needed.new ≡ needed.old) }
-    ensures refusal_stays { (result ≡ 0) ⊎ ((result ≡ 1) ⊎ (result ≡ 4))
-        → refusal.new ≡ refusal.old }
+    ensures done { result ≡ 0 → Fills (CallOwes (about true kind_is.Invariant bad) circuit.now
+        invariant.now) buffer.old buffer.new needed.new }
+    ensures small { result ≡ 1 → Needs (CallOwes (about true kind_is.Invariant bad) circuit.now
+        invariant.now) buffer.old buffer.new needed.new }
+    ensures stops { 2 ≤ result → StopsCertifying (about true kind_is.Invariant bad) circuit.now
+        invariant.now result refusal.old refusal.new }
+    ensures statuses { result ≤ 5 }
+    ensures unwritten { 2 ≤ result → (buffer.new ≡ buffer.old) × (needed.new ≡ needed.old) }
+    ensures refusal_stays { result ≤ 1 → refusal.new ≡ refusal.old }
 {
-    match owed(alloc, model, bad, invariant) {
-        Ok(text) => hand_over(text.bytes(), buffer, needed),
-        Err(stop) => tell(stop, refusal),
-    }
+    write_owed(
+        alloc,
+        true,
+        Certificate::Invariant,
+        bad,
+        circuit,
+        invariant,
+        buffer,
+        needed,
+        refusal,
+    )
+}
+
+/// The same as `hwtool_check_proof` of the text of an AIGER circuit of either form, from any initial bits that agree with its
+/// resets.
+///
+/// Answers as that call, but 2 where the first text is no circuit, with the number and the place of its first fault, in bytes
+/// from 0.
+#[unsafe(no_mangle)]
+pub extern "C" fn hwtool_check_proof_aig(
+    alloc: Global,
+    circuit: &[u8],
+    bad: usize,
+    invariant: &[u8],
+    lrat: bool,
+    proof: &[u8],
+    verdict: &mut Verdict,
+    refusal: &mut Refusal,
+) -> u32
+    ensures done { result ≡ 0 → CallCertifies (about true kind_is.Invariant bad) (proof_form lrat)
+        circuit.now invariant.now proof.now verdict.new }
+    ensures stops { 1 ≤ result → StopsCertifying (about true kind_is.Invariant bad) circuit.now
+        invariant.now result refusal.old refusal.new }
+    ensures statuses { result ≤ 5 }
+    ensures unwritten { 1 ≤ result → verdict.new ≡ verdict.old }
+    ensures refusal_stays { result ≡ 0 → refusal.new ≡ refusal.old }
+{
+    judge(
+        alloc,
+        true,
+        Certificate::Invariant,
+        bad,
+        proof_form(lrat),
+        circuit,
+        invariant,
+        proof,
+        verdict,
+        refusal,
+    )
+}
+
+/// Writes the formula, as a text in DIMACS, that the text of a witness circuit, in AIGER of either form, owes for the bad
+/// property at this position, from 0, of the text of a BTOR2 model, or with `aiger` of an AIGER circuit: as one of the circuit
+/// that lowers the model, or of the circuit, or with `over_form` of its engine form with this bad property alone. Where nothing
+/// satisfies it, the property rises in no frame up to which the constraints hold.
+///
+/// Answers 0 where that text stands at the front of the buffer, whose bytes behind it stay, and 1 where it is longer than the
+/// buffer, which stays then: after both `needed` is its length. 2 where the first text is no model, or no circuit, with the
+/// number of its first fault and its line, or its byte; 3 where the model is not lowered, there is no such bad property or no
+/// such engine form, with the number of that and the id of an item, or 0; 5 where the witness circuit is refused, with the
+/// number, and the byte where its text is faulty, or 0; 4 where memory was wanting. With 0, 1 and 4 the refusal stays, and
+/// without 0 and 1 buffer and `needed` do.
+#[unsafe(no_mangle)]
+pub extern "C" fn hwtool_obligation_circuit(
+    alloc: Global,
+    first: &[u8],
+    aiger: bool,
+    over_form: bool,
+    bad: usize,
+    witness: &[u8],
+    buffer: &mut [u8],
+    needed: &mut usize,
+    refusal: &mut Refusal,
+) -> u32
+    ensures done { result ≡ 0 → Fills (CallOwes (about aiger (guard_of over_form) bad) first.now
+        witness.now) buffer.old buffer.new needed.new }
+    ensures small { result ≡ 1 → Needs (CallOwes (about aiger (guard_of over_form) bad) first.now
+        witness.now) buffer.old buffer.new needed.new }
+    ensures stops { 2 ≤ result → StopsCertifying (about aiger (guard_of over_form) bad) first.now
+        witness.now result refusal.old refusal.new }
+    ensures statuses { result ≤ 5 }
+    ensures unwritten { 2 ≤ result → (buffer.new ≡ buffer.old) × (needed.new ≡ needed.old) }
+    ensures refusal_stays { result ≤ 1 → refusal.new ≡ refusal.old }
+{
+    write_owed(
+        alloc,
+        aiger,
+        guard_of(over_form),
+        bad,
+        first,
+        witness,
+        buffer,
+        needed,
+        refusal,
+    )
+}
+
+/// Judges a proof, in DRAT, or with `lrat` in LRAT, of the formula that the text of a witness circuit owes: of what, as of
+/// `hwtool_obligation_circuit`. Where the verdict's kind is 0, the bad property rises in no frame up to which the constraints
+/// hold, from any initial state under every input sequence.
+///
+/// Answers 0 with what is judged of the proof; 2, 3, 4 and 5 as of that call. Without 0 the verdict stays, and with 0 and 4 the
+/// refusal does.
+#[unsafe(no_mangle)]
+pub extern "C" fn hwtool_check_proof_circuit(
+    alloc: Global,
+    first: &[u8],
+    aiger: bool,
+    over_form: bool,
+    bad: usize,
+    witness: &[u8],
+    lrat: bool,
+    proof: &[u8],
+    verdict: &mut Verdict,
+    refusal: &mut Refusal,
+) -> u32
+    ensures done { result ≡ 0 → CallCertifies (about aiger (guard_of over_form) bad)
+        (proof_form lrat) first.now witness.now proof.now verdict.new }
+    ensures stops { 1 ≤ result → StopsCertifying (about aiger (guard_of over_form) bad) first.now
+        witness.now result refusal.old refusal.new }
+    ensures statuses { result ≤ 5 }
+    ensures unwritten { 1 ≤ result → verdict.new ≡ verdict.old }
+    ensures refusal_stays { result ≡ 0 → refusal.new ≡ refusal.old }
+{
+    judge(
+        alloc,
+        aiger,
+        guard_of(over_form),
+        bad,
+        proof_form(lrat),
+        first,
+        witness,
+        proof,
+        verdict,
+        refusal,
+    )
 }

@@ -1,61 +1,19 @@
 //! The calls that judge witnesses and tell of the claims of those that are accepted.
-ghost use Rattle.std.specs.Prelude.{◌≡◌, ◌⊎◌, ◌++◌, ℕ, List, None, IfOk, IfErr, OnOk, length};
-ghost use Rattle.btor2.specs.Items.{is_bad};
-ghost use Rattle.btor2.specs.Lists.{places};
-ghost use Rattle.btor2text.specs.Spelling.{StandsFor};
-ghost use Rattle.aigertext.specs.Spelling.{SpellsCircuit};
-ghost use Rattle.capi.specs.Claimed.{AsksForNone, AsksForNoneOver, IsBitClaim, IsWordClaim, asked_verdict, bad_refusal, circuit_refusal, claim_of, claims_from, is_risen, told_claims};
-ghost use Rattle.capi.specs.Judged.{CallTellsNoCircuit, CallTellsNoModel, IsStop, IsUnjudged};
-ghost use Rattle.capi.specs.Lifted.{choice_of};
-ghost use Rattle.capi.specs.Written.{Fills, Needs};
+ghost use Rattle.std.specs.Prelude.{◌≡◌, ◌≤◌, ◌++◌, Some, IfOk, OnOk};
+ghost use Rattle.verbs.specs.Asked.{IsNotJudgedOverWith, IsNotJudgedWith};
+ghost use Rattle.capi.specs.Buffers.{Fills, Needs};
+ghost use Rattle.capi.specs.Flags.{word_asked};
+ghost use Rattle.capi.specs.Judged.{CallJudgesFor, CallJudgesOverFor, claim_of, claims_from, told_claims};
+ghost use Rattle.capi.specs.Stops.{Stops};
 
-use crate::answers::{Claim, Refusal, Stop, Verdict, tell};
+use crate::answers::{Claim, NO_MEMORY, Refusal, Verdict, tell};
 use crate::buffers::hand_over;
-use crate::engines::{choice_of, form_stop};
-use crate::reading::{read_circuit, read_model};
-use aiger::Circuit;
-use btor2::Model;
-use engine_form::EngineFault;
-use reached::laws::judged_claims_are_reached;
-use rises::laws::{
-    accepted_bit_claims_rise, accepted_claims_rise, exactly_one_bit_list, exactly_one_list,
-};
-use rises::{FirstRises, judge_bits_with_rises, judge_words_with_rises};
+use crate::flags::word_asked;
+use base::laws::decimals_are_numbers;
+use itoa::Buffer;
+use rises::FirstRises;
 use std::alloc::{AllocError, Global};
-use witness::{JudgeFault, Judgement};
-
-/// What is told of a witness.
-#[derive(Drop)]
-struct Told {
-    /// What is judged of it.
-    verdict: Verdict,
-    /// Where it is accepted, its claims.
-    claims: Vec<Claim>,
-}
-
-/// What speaks against a claim of one bad property, or of any, of so many.
-fn why_none_is_asked(bads: usize, choice: Option<usize>) -> Option<EngineFault>
-    ensures { result ≡ bad_refusal bads choice }
-{
-    match choice {
-        None => None,
-        Some(_) if bads == 0 => Some(EngineFault::NoBad),
-        Some(bad) if bad < bads => None,
-        Some(_) => Some(EngineFault::NoSuchBad),
-    }
-}
-
-/// The same of a circuit, whose outputs may be meant where it has no bad property.
-fn why_none_is_asked_over(circuit: &Circuit, choice: Option<usize>) -> Option<EngineFault>
-    ensures { result ≡ circuit_refusal circuit.now choice }
-{
-    let bads = circuit.bads().len();
-    if bads == 0 && circuit.outputs().len() > 0 {
-        Some(EngineFault::NoBad)
-    } else {
-        why_none_is_asked(bads, choice)
-    }
-}
+use verbs::{judge_for_circuit, judge_for_model};
 
 /// Puts a claim behind others, where it is reached.
 fn push_claim(claims: &mut Vec<Claim>, bad: u64, first: Option<u64>) -> Result<(), AllocError>
@@ -78,162 +36,46 @@ fn claims_of(alloc: Global, firsts: &FirstRises) -> Result<Vec<Claim>, AllocErro
     Ok(claims)
 }
 
-/// What a judgement is told as, where one bad property is asked for or none, by the first rises of all.
-fn asked_verdict(judgement: &Judgement, firsts: &FirstRises, choice: Option<usize>) -> Verdict
-    ensures { result ≡ asked_verdict (is_risen firsts.now) choice judgement.now }
-{
-    match (choice, judgement) {
-        (Some(bad), Judgement::Accepted { .. }) if firsts.frame(bad).is_none() => {
-            Verdict::not_claimed(bad as u64)
-        }
-        _ => Verdict::of(judgement),
-    }
-}
-
-/// What is told of a witness by its judgement and the first rises of all bad properties.
-fn told_of(
+/// The claims that are told with a verdict.
+fn told_claims(
     alloc: Global,
-    judgement: &Judgement,
+    verdict: &Verdict,
     firsts: &FirstRises,
-    choice: Option<usize>,
-) -> Result<Told, Stop>
-    ensures done { IfOk result (λ told. told.verdict
-        ≡ asked_verdict (is_risen firsts.now) choice judgement.now) }
-    ensures claims { IfOk result (λ told. told.claims.items ≡ told_claims told.verdict firsts.now) }
-    ensures refused { IfErr result (IsStop (λ _. ⊥) (λ _. ⊥)) }
+) -> Result<Vec<Claim>, AllocError>
+    ensures { IfOk result (λ claims. claims.items ≡ told_claims verdict.now firsts.now) }
 {
-    let verdict = asked_verdict(judgement, firsts, choice);
-    if verdict.kind != 0 {
-        return Ok(Told {
-            verdict,
-            claims: Vec::new(alloc),
-        });
-    }
-    match claims_of(alloc, firsts) {
-        Ok(claims) => Ok(Told { verdict, claims }),
-        Err(_) => Err(Stop::NoMemory),
+    if verdict.kind == 0 {
+        claims_of(alloc, firsts)
+    } else {
+        Ok(Vec::new(alloc))
     }
 }
 
-/// Judges a witness over a model that has the bad property that is asked for.
-fn claims_over_model(
+/// Tells a verdict and its claims.
+fn tell_claims(
     alloc: Global,
-    model: &Model,
-    choice: Option<usize>,
-    witness: &[u8],
-) -> Result<Told, Stop>
-    requires there { bad_refusal (length (places is_bad 0 model.now)) choice ≡ None }
-    ensures done { (text : List ℕ) → StandsFor text model.now
-        → IfOk result (λ told. IsWordClaim text choice witness.now told.verdict told.claims.items) }
-    ensures refused { (text : List ℕ) → StandsFor text model.now
-        → IfErr result (IsStop (λ _. ⊥)
-        (λ refusal. AsksForNone text choice refusal ⊎ IsUnjudged text refusal)) }
+    told: Verdict,
+    firsts: &FirstRises,
+    verdict: &mut Verdict,
+    claims: &mut [Claim],
+    needed: &mut usize,
+) -> u32
+    ensures done { result ≡ 0 → Fills (λ list. list ≡ told_claims told firsts.now) claims.old
+        claims.new needed.new }
+    ensures small { result ≡ 1 → Needs (λ list. list ≡ told_claims told firsts.now) claims.old
+        claims.new needed.new }
+    ensures verdict { result ≤ 1 → verdict.new ≡ told }
+    ensures statuses { 2 ≤ result → result ≡ 4 }
+    ensures unwritten { 2 ≤ result → (verdict.new ≡ verdict.old)
+        × ((claims.new ≡ claims.old) × (needed.new ≡ needed.old)) }
 {
-    judged_claims_are_reached();
-    accepted_claims_rise();
-    exactly_one_list();
-    let mut source = witness;
-    match judge_words_with_rises(alloc, model, &mut source) {
-        Ok((judgement, firsts)) => told_of(alloc, &judgement, &firsts, choice),
-        Err(JudgeFault::NoNext(id)) => Err(Stop::Model(Refusal {
-            number: JudgeFault::NoNext(id).number(),
-            place: id,
-        })),
-        Err(_) => Err(Stop::NoMemory),
+    match told_claims(alloc, &told, firsts) {
+        Ok(list) => {
+            *verdict = told;
+            hand_over(list.as_slice(), claims, needed)
+        }
+        Err(_) => NO_MEMORY,
     }
-}
-
-/// Judges a witness over a model that was read, where one bad property is asked for or none.
-fn model_claims(
-    alloc: Global,
-    model: &Model,
-    choice: Option<usize>,
-    witness: &[u8],
-) -> Result<Told, Stop>
-    ensures done { (text : List ℕ) → StandsFor text model.now
-        → IfOk result (λ told. IsWordClaim text choice witness.now told.verdict told.claims.items) }
-    ensures refused { (text : List ℕ) → StandsFor text model.now
-        → IfErr result (IsStop (λ _. ⊥)
-        (λ refusal. AsksForNone text choice refusal ⊎ IsUnjudged text refusal)) }
-{
-    match why_none_is_asked(model.bads().len(), choice) {
-        Some(fault) => Err(form_stop(fault)),
-        None => claims_over_model(alloc, model, choice, witness),
-    }
-}
-
-/// Judges a witness over a text's model, where one bad property is asked for or none.
-fn word_claims(
-    alloc: Global,
-    model: &[u8],
-    choice: Option<usize>,
-    witness: &[u8],
-) -> Result<Told, Stop>
-    ensures done { IfOk result (λ told. IsWordClaim model.now choice witness.now told.verdict
-        told.claims.items) }
-    ensures refused { IfErr result (IsStop (CallTellsNoModel model.now)
-        (λ refusal. AsksForNone model.now choice refusal ⊎ IsUnjudged model.now refusal)) }
-{
-    let read = read_model(alloc, model)?;
-    model_claims(alloc, &read, choice, witness)
-}
-
-/// Judges a witness over a circuit that has the bad property that is asked for.
-fn claims_over_circuit(
-    alloc: Global,
-    circuit: &Circuit,
-    choice: Option<usize>,
-    witness: &[u8],
-) -> Result<Told, Stop>
-    requires there { circuit_refusal circuit.now choice ≡ None }
-    ensures done { (text : List ℕ) → SpellsCircuit text circuit.now
-        → IfOk result (λ told. IsBitClaim text choice witness.now told.verdict told.claims.items) }
-    ensures refused { IfErr result (IsStop (λ _. ⊥) (λ _. ⊥)) }
-{
-    // the lists of a circuit are one
-    let _ = circuit.inputs();
-    judged_claims_are_reached();
-    accepted_bit_claims_rise();
-    exactly_one_bit_list();
-    let mut source = witness;
-    match judge_bits_with_rises(alloc, circuit, &mut source) {
-        Ok((judgement, firsts)) => told_of(alloc, &judgement, &firsts, choice),
-        Err(_) => Err(Stop::NoMemory),
-    }
-}
-
-/// Judges a witness over a circuit that was read, where one bad property is asked for or none.
-fn circuit_claims(
-    alloc: Global,
-    circuit: &Circuit,
-    choice: Option<usize>,
-    witness: &[u8],
-) -> Result<Told, Stop>
-    ensures done { (text : List ℕ) → SpellsCircuit text circuit.now
-        → IfOk result (λ told. IsBitClaim text choice witness.now told.verdict told.claims.items) }
-    ensures refused { (text : List ℕ) → SpellsCircuit text circuit.now
-        → IfErr result (IsStop (λ _. ⊥) (AsksForNoneOver text choice)) }
-{
-    match why_none_is_asked_over(circuit, choice) {
-        Some(fault) => Err(form_stop(fault)),
-        None => claims_over_circuit(alloc, circuit, choice, witness),
-    }
-}
-
-/// Judges a witness over a text's circuit, where one bad property is asked for or none.
-fn bit_claims(
-    alloc: Global,
-    circuit: &[u8],
-    choice: Option<usize>,
-    witness: &[u8],
-) -> Result<Told, Stop>
-    ensures done { IfOk result (λ told. IsBitClaim circuit.now choice witness.now told.verdict
-        told.claims.items) }
-    ensures refused { IfErr result (IsStop (CallTellsNoCircuit circuit.now)
-        (AsksForNoneOver circuit.now choice)) }
-{
-    let read = read_circuit(alloc, circuit)?;
-    circuit_claims(alloc, &read, choice, witness)
 }
 
 /// Judges the text of a witness over the text of a BTOR2 model, as `hwtool_check_btor` does, and tells the claims of one that is
@@ -258,28 +100,27 @@ pub extern "C" fn hwtool_check_btor_claims(
     needed: &mut usize,
     refusal: &mut Refusal,
 ) -> u32
-    ensures done { result ≡ 0
-        → Fills (IsWordClaim model.now (choice_of chosen bad) witness.now verdict.new) claims.old
-        claims.new needed.new }
-    ensures small { result ≡ 1
-        → Needs (IsWordClaim model.now (choice_of chosen bad) witness.now verdict.new) claims.old
-        claims.new needed.new }
-    ensures refused { result ≡ 2 → CallTellsNoModel model.now refusal.new }
-    ensures unjudged { result ≡ 3 → AsksForNone model.now (choice_of chosen bad) refusal.new
-        ⊎ IsUnjudged model.now refusal.new }
-    ensures statuses { (result ≡ 0)
-        ⊎ ((result ≡ 1) ⊎ ((result ≡ 2) ⊎ ((result ≡ 3) ⊎ (result ≡ 4)))) }
-    ensures unwritten { (result ≡ 2) ⊎ ((result ≡ 3) ⊎ (result ≡ 4)) → (verdict.new ≡ verdict.old)
+    ensures done { result ≡ 0 → Fills (CallJudgesFor chosen bad model.now witness.now verdict.new)
+        claims.old claims.new needed.new }
+    ensures small { result ≡ 1 → Needs (CallJudgesFor chosen bad model.now witness.now verdict.new)
+        claims.old claims.new needed.new }
+    ensures stops { 2 ≤ result → Stops (IsNotJudgedWith (word_asked chosen bad) (Some model.now))
+        (λ _. ⊥) result refusal.old refusal.new }
+    ensures statuses { result ≤ 5 }
+    ensures unwritten { 2 ≤ result → (verdict.new ≡ verdict.old)
         × ((claims.new ≡ claims.old) × (needed.new ≡ needed.old)) }
-    ensures refusal_stays { (result ≡ 0) ⊎ ((result ≡ 1) ⊎ (result ≡ 4))
-        → refusal.new ≡ refusal.old }
+    ensures refusal_stays { result ≤ 1 → refusal.new ≡ refusal.old }
 {
-    match word_claims(alloc, model, choice_of(chosen, bad), witness) {
-        Ok(told) => {
-            *verdict = told.verdict;
-            hand_over(told.claims.as_slice(), claims, needed)
+    decimals_are_numbers();
+    let mut buffer = Buffer::new();
+    let word = word_asked(&mut buffer, chosen, bad);
+    let (mut first, mut second) = (model, witness);
+    match judge_for_model(alloc, word, &mut first, &mut second) {
+        Ok(judged) => {
+            let told = Verdict::of_outcome(&judged.outcome);
+            tell_claims(alloc, told, &judged.firsts, verdict, claims, needed)
         }
-        Err(stop) => tell(stop, refusal),
+        Err(against) => tell(against, refusal),
     }
 }
 
@@ -300,27 +141,29 @@ pub extern "C" fn hwtool_check_aig_claims(
     needed: &mut usize,
     refusal: &mut Refusal,
 ) -> u32
-    ensures done { result ≡ 0
-        → Fills (IsBitClaim circuit.now (choice_of chosen bad) witness.now verdict.new) claims.old
-        claims.new needed.new }
-    ensures small { result ≡ 1
-        → Needs (IsBitClaim circuit.now (choice_of chosen bad) witness.now verdict.new) claims.old
-        claims.new needed.new }
-    ensures refused { result ≡ 2 → CallTellsNoCircuit circuit.now refusal.new }
-    ensures unclaimed { result ≡ 3 → AsksForNoneOver circuit.now (choice_of chosen bad)
+    ensures done { result ≡ 0 → Fills
+        (CallJudgesOverFor chosen bad circuit.now witness.now verdict.new) claims.old claims.new
+        needed.new }
+    ensures small { result ≡ 1 → Needs
+        (CallJudgesOverFor chosen bad circuit.now witness.now verdict.new) claims.old claims.new
+        needed.new }
+    ensures stops { 2 ≤ result → Stops
+        (IsNotJudgedOverWith (word_asked chosen bad) (Some circuit.now)) (λ _. ⊥) result refusal.old
         refusal.new }
-    ensures statuses { (result ≡ 0)
-        ⊎ ((result ≡ 1) ⊎ ((result ≡ 2) ⊎ ((result ≡ 3) ⊎ (result ≡ 4)))) }
-    ensures unwritten { (result ≡ 2) ⊎ ((result ≡ 3) ⊎ (result ≡ 4)) → (verdict.new ≡ verdict.old)
+    ensures statuses { result ≤ 5 }
+    ensures unwritten { 2 ≤ result → (verdict.new ≡ verdict.old)
         × ((claims.new ≡ claims.old) × (needed.new ≡ needed.old)) }
-    ensures refusal_stays { (result ≡ 0) ⊎ ((result ≡ 1) ⊎ (result ≡ 4))
-        → refusal.new ≡ refusal.old }
+    ensures refusal_stays { result ≤ 1 → refusal.new ≡ refusal.old }
 {
-    match bit_claims(alloc, circuit, choice_of(chosen, bad), witness) {
-        Ok(told) => {
-            *verdict = told.verdict;
-            hand_over(told.claims.as_slice(), claims, needed)
+    decimals_are_numbers();
+    let mut buffer = Buffer::new();
+    let word = word_asked(&mut buffer, chosen, bad);
+    let (mut first, mut second) = (circuit, witness);
+    match judge_for_circuit(alloc, word, &mut first, &mut second) {
+        Ok(judged) => {
+            let told = Verdict::of_outcome(&judged.outcome);
+            tell_claims(alloc, told, &judged.firsts, verdict, claims, needed)
         }
-        Err(stop) => tell(stop, refusal),
+        Err(against) => tell(against, refusal),
     }
 }

@@ -1,128 +1,20 @@
-//! The calls that judge a witness and write another text.
-ghost use Rattle.std.specs.Prelude.{◌≡◌, ◌≢◌, ◌⊎◌, ℕ, List, [], Some, IfOk, IfErr, IfSome, length};
-ghost use Rattle.btor2text.specs.Spelling.{StandsFor};
-ghost use Rattle.blast.specs.Lowering.{Lowers};
-ghost use Rattle.capi.specs.Judged.{CallTellsNoModel, IsStop, IsUnjudged};
-ghost use Rattle.capi.specs.Lifted.{IsDump, IsLift, shown_of};
-ghost use Rattle.capi.specs.Written.{Fills, CallTellsUnlowered, Needs};
+//! The calls that lift witnesses to ones of models, and dump those of models.
+ghost use Rattle.std.specs.Prelude.{◌≡◌, ◌≤◌, Some};
+ghost use Rattle.invocation.specs.declared.tasks.Given.TheVariants as given;
+ghost use Rattle.verbs.specs.declared.refusals.Claimed.TheVariants as claimed;
+ghost use Rattle.verbs.specs.Refusals.{IsNotClaimable, IsNotClaimed, IsNotForEngines, IsNotJudged};
+ghost use Rattle.capi.specs.Buffers.{Fills, Needs};
+ghost use Rattle.capi.specs.Flags.{choice_of, shown_of};
+ghost use Rattle.capi.specs.Lifted.{CallDumps, CallLifts, CallLiftsForm, CallLiftsFound};
+ghost use Rattle.capi.specs.Stops.{Stops};
 
-use crate::answers::{Refusal, Stop, Verdict, tell};
+use crate::answers::{Refusal, Verdict, tell};
 use crate::buffers::hand_over;
-use crate::lowering::stop_of;
-use crate::reading::read_model;
-use aiger::Circuit;
-use base::{Sink, VecSink};
-use blast::lower;
-use btor2::Model;
-use lift::lift;
+use crate::flags::{choice_of, shown_of};
+use base::VecSink;
+use blast::Unwatched;
 use std::alloc::Global;
-use vcd::{Shown, WaveFault, wave};
-
-/// Lifts a witness of the circuit of a model.
-fn lift_over(
-    alloc: Global,
-    model: &Model,
-    circuit: &Circuit,
-    witness: &[u8],
-    text: &mut VecSink,
-) -> Result<Verdict, Stop>
-    requires lowers { Lowers model.now circuit.now }
-    requires empty { ⟦<VecSink as Sink>⟧.written text.old ≡ Some [] }
-    ensures done { (known : List ℕ) → StandsFor known model.now
-        → IfOk result (λ verdict. IfSome (⟦<VecSink as Sink>⟧.written text.new)
-        (IsLift known witness.now verdict)) }
-    ensures refused { IfErr result (IsStop (λ _. ⊥) (λ _. ⊥)) }
-{
-    let mut source = witness;
-    match lift(alloc, model, circuit, &mut source, text) {
-        Ok(judgement) => Ok(Verdict::of(&judgement)),
-        Err(_) => Err(Stop::NoMemory),
-    }
-}
-
-/// Lowers a model that was read, and lifts a witness of its circuit.
-fn lift_model(
-    alloc: Global,
-    model: &Model,
-    witness: &[u8],
-    text: &mut VecSink,
-) -> Result<Verdict, Stop>
-    requires empty { ⟦<VecSink as Sink>⟧.written text.old ≡ Some [] }
-    ensures done { (known : List ℕ) → StandsFor known model.now
-        → IfOk result (λ verdict. IfSome (⟦<VecSink as Sink>⟧.written text.new)
-        (IsLift known witness.now verdict)) }
-    ensures refused { (known : List ℕ) → StandsFor known model.now
-        → IfErr result (IsStop (λ _. ⊥) (CallTellsUnlowered known)) }
-{
-    match lower(alloc, model) {
-        Ok(circuit) => lift_over(alloc, model, &circuit, witness, text),
-        Err(fault) => Err(stop_of(fault)),
-    }
-}
-
-/// Lifts a witness of the circuit of a text's model.
-fn lifted(alloc: Global, model: &[u8], witness: &[u8], text: &mut VecSink) -> Result<Verdict, Stop>
-    requires empty { ⟦<VecSink as Sink>⟧.written text.old ≡ Some [] }
-    ensures done { IfOk result (λ verdict. IfSome (⟦<VecSink as Sink>⟧.written text.new)
-        (IsLift model.now witness.now verdict)) }
-    ensures refused { IfErr result (IsStop (CallTellsNoModel model.now)
-        (CallTellsUnlowered model.now)) }
-{
-    let read = read_model(alloc, model)?;
-    lift_model(alloc, &read, witness, text)
-}
-
-/// Judges a witness over a model that was read, and dumps its frames.
-fn dump_over(
-    alloc: Global,
-    model: &Model,
-    all: bool,
-    title: &[u8],
-    witness: &[u8],
-    text: &mut VecSink,
-) -> Result<Verdict, Stop>
-    requires empty { ⟦<VecSink as Sink>⟧.written text.old ≡ Some [] }
-    ensures done { (known : List ℕ) → StandsFor known model.now
-        → IfOk result (λ verdict. IfSome (⟦<VecSink as Sink>⟧.written text.new)
-        (IsDump known all title.now witness.now verdict)) }
-    ensures refused { (known : List ℕ) → StandsFor known model.now
-        → IfErr result (IsStop (λ _. ⊥) (IsUnjudged known)) }
-{
-    let mut source = witness;
-    match wave(alloc, model, shown_of(all), title, &mut source, text) {
-        Ok(judgement) => Ok(Verdict::of(&judgement)),
-        Err(WaveFault::NoNext(place)) => Err(Stop::Model(Refusal {
-            number: WaveFault::NoNext(place).number(),
-            place,
-        })),
-        Err(_) => Err(Stop::NoMemory),
-    }
-}
-
-/// Which nodes a dump shows.
-fn shown_of(all: bool) -> Shown
-    ensures { result ≡ shown_of all }
-{
-    if all { Shown::All } else { Shown::Named }
-}
-
-/// Judges a witness over a text's model, and dumps its frames.
-fn dumped(
-    alloc: Global,
-    model: &[u8],
-    all: bool,
-    title: &[u8],
-    witness: &[u8],
-    text: &mut VecSink,
-) -> Result<Verdict, Stop>
-    requires empty { ⟦<VecSink as Sink>⟧.written text.old ≡ Some [] }
-    ensures done { IfOk result (λ verdict. IfSome (⟦<VecSink as Sink>⟧.written text.new)
-        (IsDump model.now all title.now witness.now verdict)) }
-    ensures refused { IfErr result (IsStop (CallTellsNoModel model.now) (IsUnjudged model.now)) }
-{
-    let read = read_model(alloc, model)?;
-    dump_over(alloc, &read, all, title, witness, text)
-}
+use verbs::{dump, lift, lift_found, lift_from_form};
 
 /// Judges the text of a witness over the circuit that the text of a BTOR2 model lowers to, and lifts it to the witness of the
 /// model that says the same.
@@ -130,8 +22,8 @@ fn dumped(
 /// Answers 0 where what it is lifted to stands at the front of the buffer, whose bytes behind it stay, and 1 where that is
 /// longer than the buffer, which stays then: after both `needed` is its length, and the verdict is told. 2 where the first text
 /// is no model, with the number and the line of its first fault; 3 where the model is not lowered, with the number of what
-/// speaks against it first and the id of its item, or 0; 4 where memory was wanting. With 0, 1 and 4 the refusal stays, and
-/// without 0 and 1 verdict, buffer and `needed` do.
+/// speaks against it first and the id of its item, or 0, or where its circuit has outputs and no bad property, with the number
+/// of that; 4 where memory was wanting. With 0, 1 and 4 the refusal stays, and without 0 and 1 verdict, buffer and `needed` do.
 #[unsafe(no_mangle)]
 pub extern "C" fn hwtool_lift(
     alloc: Global,
@@ -142,26 +34,141 @@ pub extern "C" fn hwtool_lift(
     needed: &mut usize,
     refusal: &mut Refusal,
 ) -> u32
-    ensures done { result ≡ 0
-        → Fills (IsLift model.now witness.now verdict.new) buffer.old buffer.new needed.new }
-    ensures small { result ≡ 1
-        → Needs (IsLift model.now witness.now verdict.new) buffer.old buffer.new needed.new }
-    ensures refused { result ≡ 2 → CallTellsNoModel model.now refusal.new }
-    ensures unlowered { result ≡ 3 → CallTellsUnlowered model.now refusal.new }
-    ensures statuses { (result ≡ 0)
-        ⊎ ((result ≡ 1) ⊎ ((result ≡ 2) ⊎ ((result ≡ 3) ⊎ (result ≡ 4)))) }
-    ensures unwritten { (result ≡ 2) ⊎ ((result ≡ 3) ⊎ (result ≡ 4)) → (verdict.new ≡ verdict.old)
+    ensures done { result ≡ 0 → Fills (CallLifts model.now witness.now verdict.new) buffer.old
+        buffer.new needed.new }
+    ensures small { result ≡ 1 → Needs (CallLifts model.now witness.now verdict.new) buffer.old
+        buffer.new needed.new }
+    ensures stops { 2 ≤ result → Stops (IsNotClaimable given.Model (Some model.now)) (λ _. ⊥) result
+        refusal.old refusal.new }
+    ensures statuses { result ≤ 5 }
+    ensures unwritten { 2 ≤ result → (verdict.new ≡ verdict.old)
         × ((buffer.new ≡ buffer.old) × (needed.new ≡ needed.old)) }
-    ensures refusal_stays { (result ≡ 0) ⊎ ((result ≡ 1) ⊎ (result ≡ 4))
-        → refusal.new ≡ refusal.old }
+    ensures refusal_stays { result ≤ 1 → refusal.new ≡ refusal.old }
 {
+    let (mut first, mut second) = (model, witness);
     let mut text = VecSink::new(alloc);
-    match lifted(alloc, model, witness, &mut text) {
-        Ok(judged) => {
-            *verdict = judged;
+    match lift(
+        alloc,
+        false,
+        &mut first,
+        &mut second,
+        &mut text,
+        &mut Unwatched,
+    ) {
+        Ok(lifted) => {
+            *verdict = Verdict::of(&lifted.judgement);
             hand_over(text.bytes(), buffer, needed)
         }
-        Err(stop) => tell(stop, refusal),
+        Err(against) => tell(against, refusal),
+    }
+}
+
+/// Lifts the text of a witness of the engine form, with all bad properties, or, where one is chosen, with the one at this
+/// position alone, of the circuit that the text of a BTOR2 model lowers to, to the witness of the model that says the same,
+/// with names or without: with the property that it claims, up to and with the first frame in which this rises, or of all
+/// frames where it does not. The verdict is that it makes no claim or which line is faulty, before which what the lines give is
+/// lifted; else what is judged over the circuit of what it is restored to.
+///
+/// Answers 0 where what it is lifted to stands at the front of the buffer, whose bytes behind it stay, and 1 where that is
+/// longer than the buffer, which stays then: after both `needed` is its length, and the verdict is told. 2 where the first text
+/// is no model, with the number and the line of its first fault; 3 where the model is not lowered or its circuit has no such
+/// engine form, with the number of what speaks against it first and the id of an item, or 0; 4 where memory was wanting. With
+/// 0, 1 and 4 the refusal stays, and without 0 and 1 verdict, buffer and `needed` do.
+#[unsafe(no_mangle)]
+pub extern "C" fn hwtool_lift_engine(
+    alloc: Global,
+    model: &[u8],
+    chosen: bool,
+    bad: usize,
+    names: bool,
+    witness: &[u8],
+    verdict: &mut Verdict,
+    buffer: &mut [u8],
+    needed: &mut usize,
+    refusal: &mut Refusal,
+) -> u32
+    ensures done { result ≡ 0 → Fills (CallLiftsForm names (choice_of chosen bad) model.now
+        witness.now verdict.new) buffer.old buffer.new needed.new }
+    ensures small { result ≡ 1 → Needs (CallLiftsForm names (choice_of chosen bad) model.now
+        witness.now verdict.new) buffer.old buffer.new needed.new }
+    ensures stops { 2 ≤ result → Stops
+        (IsNotForEngines given.Model (choice_of chosen bad) (Some model.now)) (λ _. ⊥) result
+        refusal.old refusal.new }
+    ensures statuses { result ≤ 5 }
+    ensures unwritten { 2 ≤ result → (verdict.new ≡ verdict.old)
+        × ((buffer.new ≡ buffer.old) × (needed.new ≡ needed.old)) }
+    ensures refusal_stays { result ≤ 1 → refusal.new ≡ refusal.old }
+{
+    let (mut first, mut second) = (model, witness);
+    let mut text = VecSink::new(alloc);
+    match lift_from_form(
+        alloc,
+        names,
+        choice_of(chosen, bad),
+        &mut first,
+        &mut second,
+        &mut text,
+        &mut Unwatched,
+    ) {
+        Ok(lifted) => {
+            *verdict = Verdict::of(&lifted.judgement);
+            hand_over(text.bytes(), buffer, needed)
+        }
+        Err(against) => tell(against, refusal),
+    }
+}
+
+/// Lifts the text of a counterexample over the engine form with the bad property at this position, of the circuit that the text
+/// of a BTOR2 model lowers to, as ABC writes it: a line of initial bits, which are 0, and a line of input bits for each frame.
+/// It becomes the witness of the model that claims this property, with names or without, up to and with the first frame in
+/// which this rises, or of all frames where it does not. The verdict is what is judged over the circuit of what it is restored
+/// to; or that a line is malformed, with its number from 1 and the number of what is wrong with it, and then what the lines
+/// before it give is lifted, without a last line.
+///
+/// Answers as `hwtool_lift_engine`: 3 where the model is not lowered or its circuit has no engine form with this bad property
+/// alone.
+#[unsafe(no_mangle)]
+pub extern "C" fn hwtool_lift_engine_abc(
+    alloc: Global,
+    model: &[u8],
+    bad: usize,
+    names: bool,
+    found: &[u8],
+    verdict: &mut Verdict,
+    buffer: &mut [u8],
+    needed: &mut usize,
+    refusal: &mut Refusal,
+) -> u32
+    ensures done { result ≡ 0 → Fills
+        (CallLiftsFound names (Some bad) model.now found.now verdict.new) buffer.old buffer.new
+        needed.new }
+    ensures small { result ≡ 1 → Needs
+        (CallLiftsFound names (Some bad) model.now found.now verdict.new) buffer.old buffer.new
+        needed.new }
+    ensures stops { 2 ≤ result → Stops
+        (IsNotClaimed claimed.Found given.Model (Some bad) (Some model.now)) (λ _. ⊥) result
+        refusal.old refusal.new }
+    ensures statuses { result ≤ 5 }
+    ensures unwritten { 2 ≤ result → (verdict.new ≡ verdict.old)
+        × ((buffer.new ≡ buffer.old) × (needed.new ≡ needed.old)) }
+    ensures refusal_stays { result ≤ 1 → refusal.new ≡ refusal.old }
+{
+    let (mut first, mut second) = (model, found);
+    let mut text = VecSink::new(alloc);
+    match lift_found(
+        alloc,
+        names,
+        Some(bad),
+        &mut first,
+        &mut second,
+        &mut text,
+        &mut Unwatched,
+    ) {
+        Ok(lifted) => {
+            *verdict = Verdict::of_lifted(&lifted.told);
+            hand_over(text.bytes(), buffer, needed)
+        }
+        Err(against) => tell(against, refusal),
     }
 }
 
@@ -185,27 +192,33 @@ pub extern "C" fn hwtool_wave(
     needed: &mut usize,
     refusal: &mut Refusal,
 ) -> u32
-    ensures done { result ≡ 0
-        → Fills (IsDump model.now all title.now witness.now verdict.new) buffer.old buffer.new
+    ensures done { result ≡ 0 → Fills
+        (CallDumps (shown_of all) title.now model.now witness.now verdict.new) buffer.old buffer.new
         needed.new }
-    ensures small { result ≡ 1
-        → Needs (IsDump model.now all title.now witness.now verdict.new) buffer.old buffer.new
+    ensures small { result ≡ 1 → Needs
+        (CallDumps (shown_of all) title.now model.now witness.now verdict.new) buffer.old buffer.new
         needed.new }
-    ensures refused { result ≡ 2 → CallTellsNoModel model.now refusal.new }
-    ensures unjudged { result ≡ 3 → IsUnjudged model.now refusal.new }
-    ensures statuses { (result ≡ 0)
-        ⊎ ((result ≡ 1) ⊎ ((result ≡ 2) ⊎ ((result ≡ 3) ⊎ (result ≡ 4)))) }
-    ensures unwritten { (result ≡ 2) ⊎ ((result ≡ 3) ⊎ (result ≡ 4)) → (verdict.new ≡ verdict.old)
+    ensures stops { 2 ≤ result → Stops (IsNotJudged (Some model.now)) (λ _. ⊥) result refusal.old
+        refusal.new }
+    ensures statuses { result ≤ 5 }
+    ensures unwritten { 2 ≤ result → (verdict.new ≡ verdict.old)
         × ((buffer.new ≡ buffer.old) × (needed.new ≡ needed.old)) }
-    ensures refusal_stays { (result ≡ 0) ⊎ ((result ≡ 1) ⊎ (result ≡ 4))
-        → refusal.new ≡ refusal.old }
+    ensures refusal_stays { result ≤ 1 → refusal.new ≡ refusal.old }
 {
+    let (mut first, mut second) = (model, witness);
     let mut text = VecSink::new(alloc);
-    match dumped(alloc, model, all, title, witness, &mut text) {
-        Ok(judged) => {
-            *verdict = judged;
+    match dump(
+        alloc,
+        shown_of(all),
+        title,
+        &mut first,
+        &mut second,
+        &mut text,
+    ) {
+        Ok(judgement) => {
+            *verdict = Verdict::of(&judgement);
             hand_over(text.bytes(), buffer, needed)
         }
-        Err(stop) => tell(stop, refusal),
+        Err(against) => tell(against, refusal),
     }
 }

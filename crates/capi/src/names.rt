@@ -1,8 +1,8 @@
 //! The calls that name refusals and the version.
-ghost use Rattle.std.specs.Prelude.{◌≡◌, ◌⊎◌, None, IfSome, option_map};
+ghost use Rattle.std.specs.Prelude.{◌≡◌, ◌≤◌, None, IfSome, option_map};
 ghost use Rattle.invocation.specs.Version.{version};
 ghost use Rattle.capi.specs.Named.{IsRefusalName, IsOfNone, name_among, name_listed};
-ghost use Rattle.capi.specs.Written.{Fills, Needs};
+ghost use Rattle.capi.specs.Buffers.{Fills, Needs};
 
 use crate::buffers::hand_over;
 use explanations::{Explanation, Part, refusal_table};
@@ -58,7 +58,7 @@ pub extern "C" fn hwtool_name(number: u32, buffer: &mut [u8], needed: &mut usize
     ensures done { result ≡ 0 → Fills (IsRefusalName number) buffer.old buffer.new needed.new }
     ensures small { result ≡ 1 → Needs (IsRefusalName number) buffer.old buffer.new needed.new }
     ensures unknown { result ≡ 2 → IsOfNone number }
-    ensures statuses { (result ≡ 0) ⊎ ((result ≡ 1) ⊎ (result ≡ 2)) }
+    ensures statuses { result ≤ 2 }
     ensures unwritten { result ≡ 2 → (buffer.new ≡ buffer.old) × (needed.new ≡ needed.old) }
 {
     match name_of(number) {
@@ -75,7 +75,7 @@ pub extern "C" fn hwtool_name(number: u32, buffer: &mut [u8], needed: &mut usize
 pub extern "C" fn hwtool_version(buffer: &mut [u8], needed: &mut usize) -> u32
     ensures done { result ≡ 0 → Fills (λ text. text ≡ version) buffer.old buffer.new needed.new }
     ensures small { result ≡ 1 → Needs (λ text. text ≡ version) buffer.old buffer.new needed.new }
-    ensures statuses { (result ≡ 0) ⊎ (result ≡ 1) }
+    ensures statuses { result ≤ 1 }
 {
     hand_over(version().as_bytes(), buffer, needed)
 }

@@ -1,164 +1,19 @@
 //! The calls that restore what engines find over engine forms of circuits.
-ghost use Rattle.std.specs.Prelude.{◌≡◌, ◌⊎◌, ◌<◌, ℕ, List, [], None, Some, true, IfOk, IfErr, IfSome, length};
-ghost use Rattle.aigertext.specs.Spelling.{SpellsCircuit};
-ghost use Rattle.engine_form.specs.EngineForm.{IsEngineFormOf};
-ghost use Rattle.engine_form.specs.Refusal.{engine_refusal};
-ghost use Rattle.capi.specs.Judged.{CallTellsNoCircuit, IsStop};
-ghost use Rattle.capi.specs.Lifted.{IsFormless, choice_of};
-ghost use Rattle.capi.specs.Restored.{CallRestoresForm, CallRestores};
-ghost use Rattle.capi.specs.Written.{Fills, Needs};
+ghost use Rattle.std.specs.Prelude.{◌≡◌, ◌≤◌, Some};
+ghost use Rattle.invocation.specs.declared.tasks.Given.TheVariants as given;
+ghost use Rattle.verbs.specs.declared.refusals.Claimed.TheVariants as claimed;
+ghost use Rattle.verbs.specs.Refusals.{IsNotClaimed, IsNotForEngines};
+ghost use Rattle.capi.specs.Buffers.{Fills, Needs};
+ghost use Rattle.capi.specs.Flags.{choice_of};
+ghost use Rattle.capi.specs.Restored.{CallRestoresForm, CallRestoresFound};
+ghost use Rattle.capi.specs.Stops.{Stops};
 
-use crate::answers::{Refusal, Stop, Verdict, tell};
+use crate::answers::{Refusal, Verdict, tell};
 use crate::buffers::hand_over;
-use crate::engines::{choice_of, form_stop};
-use crate::reading::read_circuit;
-use aiger::Circuit;
-use base::{Sink, VecSink};
-use engine_form::{engine_form, why_no_form};
-use restore::{restore, restore_form};
+use crate::flags::choice_of;
+use base::VecSink;
 use std::alloc::Global;
-
-/// Restores a counterexample over the engine form of a circuit with this bad property alone.
-fn restore_over(
-    alloc: Global,
-    circuit: &Circuit,
-    bad: usize,
-    found: &[u8],
-    text: &mut VecSink,
-) -> Result<Verdict, Stop>
-    requires accepted { engine_refusal circuit.now (Some bad) ≡ None }
-    requires there { bad < length circuit.now.bads }
-    requires empty { ⟦<VecSink as Sink>⟧.written text.old ≡ Some [] }
-    ensures done { (known : List ℕ) → SpellsCircuit known circuit.now
-        → IfOk result (λ verdict. IfSome (⟦<VecSink as Sink>⟧.written text.new)
-        (CallRestores known bad found.now verdict)) }
-    ensures refused { IfErr result (IsStop (λ _. ⊥) (λ _. ⊥)) }
-{
-    // the lists of a circuit are one
-    let _ = circuit.inputs();
-    let mut source = found;
-    match restore(alloc, circuit, bad, &mut source, text) {
-        Ok(judgement) => Ok(Verdict::of(&judgement)),
-        Err(fault) => {
-            if fault.why.is_of_text() {
-                Ok(Verdict::of_fault(&fault))
-            } else {
-                Err(Stop::NoMemory)
-            }
-        }
-    }
-}
-
-/// Restores a counterexample over the engine form of a circuit that was read.
-fn restore_found(
-    alloc: Global,
-    circuit: &Circuit,
-    bad: usize,
-    found: &[u8],
-    text: &mut VecSink,
-) -> Result<Verdict, Stop>
-    requires empty { ⟦<VecSink as Sink>⟧.written text.old ≡ Some [] }
-    ensures done { (known : List ℕ) → SpellsCircuit known circuit.now
-        → IfOk result (λ verdict. IfSome (⟦<VecSink as Sink>⟧.written text.new)
-        (CallRestores known bad found.now verdict)) }
-    ensures refused { (known : List ℕ) → SpellsCircuit known circuit.now
-        → IfErr result (IsStop (λ _. ⊥) (IsFormless known true bad)) }
-{
-    match why_no_form(circuit, Some(bad)) {
-        Some(fault) => Err(form_stop(fault)),
-        None => restore_over(alloc, circuit, bad, found, text),
-    }
-}
-
-/// Restores a counterexample over the engine form of a text's circuit.
-fn found_restored(
-    alloc: Global,
-    circuit: &[u8],
-    bad: usize,
-    found: &[u8],
-    text: &mut VecSink,
-) -> Result<Verdict, Stop>
-    requires empty { ⟦<VecSink as Sink>⟧.written text.old ≡ Some [] }
-    ensures done { IfOk result (λ verdict. IfSome (⟦<VecSink as Sink>⟧.written text.new)
-        (CallRestores circuit.now bad found.now verdict)) }
-    ensures refused { IfErr result (IsStop (CallTellsNoCircuit circuit.now)
-        (IsFormless circuit.now true bad)) }
-{
-    let read = read_circuit(alloc, circuit)?;
-    restore_found(alloc, &read, bad, found, text)
-}
-
-/// Restores a witness of the engine form of a circuit.
-fn restore_through(
-    alloc: Global,
-    circuit: &Circuit,
-    form: &Circuit,
-    chosen: bool,
-    bad: usize,
-    witness: &[u8],
-    text: &mut VecSink,
-) -> Result<Verdict, Stop>
-    requires is_form { IsEngineFormOf circuit.now (choice_of chosen bad) form.now }
-    requires empty { ⟦<VecSink as Sink>⟧.written text.old ≡ Some [] }
-    ensures done { (known : List ℕ) → SpellsCircuit known circuit.now
-        → IfOk result (λ verdict. IfSome (⟦<VecSink as Sink>⟧.written text.new)
-        (CallRestoresForm known chosen bad witness.now verdict)) }
-    ensures refused { IfErr result (IsStop (λ _. ⊥) (λ _. ⊥)) }
-{
-    let mut source = witness;
-    match restore_form(
-        alloc,
-        circuit,
-        form,
-        choice_of(chosen, bad),
-        &mut source,
-        text,
-    ) {
-        Ok(judgement) => Ok(Verdict::of(&judgement)),
-        Err(_) => Err(Stop::NoMemory),
-    }
-}
-
-/// Restores a witness of the engine form of a circuit that was read.
-fn restore_witness(
-    alloc: Global,
-    circuit: &Circuit,
-    chosen: bool,
-    bad: usize,
-    witness: &[u8],
-    text: &mut VecSink,
-) -> Result<Verdict, Stop>
-    requires empty { ⟦<VecSink as Sink>⟧.written text.old ≡ Some [] }
-    ensures done { (known : List ℕ) → SpellsCircuit known circuit.now
-        → IfOk result (λ verdict. IfSome (⟦<VecSink as Sink>⟧.written text.new)
-        (CallRestoresForm known chosen bad witness.now verdict)) }
-    ensures refused { (known : List ℕ) → SpellsCircuit known circuit.now
-        → IfErr result (IsStop (λ _. ⊥) (IsFormless known chosen bad)) }
-{
-    match engine_form(alloc, circuit, choice_of(chosen, bad)) {
-        Ok(form) => restore_through(alloc, circuit, &form, chosen, bad, witness, text),
-        Err(fault) => Err(form_stop(fault)),
-    }
-}
-
-/// Restores a witness of the engine form of a text's circuit.
-fn witness_restored(
-    alloc: Global,
-    circuit: &[u8],
-    chosen: bool,
-    bad: usize,
-    witness: &[u8],
-    text: &mut VecSink,
-) -> Result<Verdict, Stop>
-    requires empty { ⟦<VecSink as Sink>⟧.written text.old ≡ Some [] }
-    ensures done { IfOk result (λ verdict. IfSome (⟦<VecSink as Sink>⟧.written text.new)
-        (CallRestoresForm circuit.now chosen bad witness.now verdict)) }
-    ensures refused { IfErr result (IsStop (CallTellsNoCircuit circuit.now)
-        (IsFormless circuit.now chosen bad)) }
-{
-    let read = read_circuit(alloc, circuit)?;
-    restore_witness(alloc, &read, chosen, bad, witness, text)
-}
+use verbs::{restore_found, restore_from_form};
 
 /// Restores the text of a witness of the engine form of the text of an AIGER circuit, with all its bad properties, or, where
 /// one is chosen, with the one at this position alone, to the witness of the circuit that says the same: with the property that
@@ -183,28 +38,31 @@ pub extern "C" fn hwtool_restore(
     needed: &mut usize,
     refusal: &mut Refusal,
 ) -> u32
-    ensures done { result ≡ 0
-        → Fills (CallRestoresForm circuit.now chosen bad witness.now verdict.new) buffer.old
-        buffer.new needed.new }
-    ensures small { result ≡ 1
-        → Needs (CallRestoresForm circuit.now chosen bad witness.now verdict.new) buffer.old
-        buffer.new needed.new }
-    ensures refused { result ≡ 2 → CallTellsNoCircuit circuit.now refusal.new }
-    ensures formless { result ≡ 3 → IsFormless circuit.now chosen bad refusal.new }
-    ensures statuses { (result ≡ 0)
-        ⊎ ((result ≡ 1) ⊎ ((result ≡ 2) ⊎ ((result ≡ 3) ⊎ (result ≡ 4)))) }
-    ensures unwritten { (result ≡ 2) ⊎ ((result ≡ 3) ⊎ (result ≡ 4)) → (verdict.new ≡ verdict.old)
+    ensures done { result ≡ 0 → Fills (CallRestoresForm (choice_of chosen bad) circuit.now
+        witness.now verdict.new) buffer.old buffer.new needed.new }
+    ensures small { result ≡ 1 → Needs (CallRestoresForm (choice_of chosen bad) circuit.now
+        witness.now verdict.new) buffer.old buffer.new needed.new }
+    ensures stops { 2 ≤ result → Stops (IsNotForEngines given.Circuit (choice_of chosen bad) (Some
+        circuit.now)) (λ _. ⊥) result refusal.old refusal.new }
+    ensures statuses { result ≤ 5 }
+    ensures unwritten { 2 ≤ result → (verdict.new ≡ verdict.old)
         × ((buffer.new ≡ buffer.old) × (needed.new ≡ needed.old)) }
-    ensures refusal_stays { (result ≡ 0) ⊎ ((result ≡ 1) ⊎ (result ≡ 4))
-        → refusal.new ≡ refusal.old }
+    ensures refusal_stays { result ≤ 1 → refusal.new ≡ refusal.old }
 {
+    let (mut first, mut second) = (circuit, witness);
     let mut text = VecSink::new(alloc);
-    match witness_restored(alloc, circuit, chosen, bad, witness, &mut text) {
-        Ok(judged) => {
-            *verdict = judged;
+    match restore_from_form(
+        alloc,
+        choice_of(chosen, bad),
+        &mut first,
+        &mut second,
+        &mut text,
+    ) {
+        Ok(restored) => {
+            *verdict = Verdict::of(&restored.judgement);
             hand_over(text.bytes(), buffer, needed)
         }
-        Err(stop) => tell(stop, refusal),
+        Err(against) => tell(against, refusal),
     }
 }
 
@@ -227,27 +85,26 @@ pub extern "C" fn hwtool_restore_abc(
     needed: &mut usize,
     refusal: &mut Refusal,
 ) -> u32
-    ensures done { result ≡ 0
-        → Fills (CallRestores circuit.now bad found.now verdict.new) buffer.old buffer.new
+    ensures done { result ≡ 0 → Fills
+        (CallRestoresFound (Some bad) circuit.now found.now verdict.new) buffer.old buffer.new
         needed.new }
-    ensures small { result ≡ 1
-        → Needs (CallRestores circuit.now bad found.now verdict.new) buffer.old buffer.new
+    ensures small { result ≡ 1 → Needs
+        (CallRestoresFound (Some bad) circuit.now found.now verdict.new) buffer.old buffer.new
         needed.new }
-    ensures refused { result ≡ 2 → CallTellsNoCircuit circuit.now refusal.new }
-    ensures formless { result ≡ 3 → IsFormless circuit.now true bad refusal.new }
-    ensures statuses { (result ≡ 0)
-        ⊎ ((result ≡ 1) ⊎ ((result ≡ 2) ⊎ ((result ≡ 3) ⊎ (result ≡ 4)))) }
-    ensures unwritten { (result ≡ 2) ⊎ ((result ≡ 3) ⊎ (result ≡ 4)) → (verdict.new ≡ verdict.old)
+    ensures stops { 2 ≤ result → Stops (IsNotClaimed claimed.Found given.Circuit (Some bad) (Some
+        circuit.now)) (λ _. ⊥) result refusal.old refusal.new }
+    ensures statuses { result ≤ 5 }
+    ensures unwritten { 2 ≤ result → (verdict.new ≡ verdict.old)
         × ((buffer.new ≡ buffer.old) × (needed.new ≡ needed.old)) }
-    ensures refusal_stays { (result ≡ 0) ⊎ ((result ≡ 1) ⊎ (result ≡ 4))
-        → refusal.new ≡ refusal.old }
+    ensures refusal_stays { result ≤ 1 → refusal.new ≡ refusal.old }
 {
+    let (mut first, mut second) = (circuit, found);
     let mut text = VecSink::new(alloc);
-    match found_restored(alloc, circuit, bad, found, &mut text) {
-        Ok(judged) => {
-            *verdict = judged;
+    match restore_found(alloc, Some(bad), &mut first, &mut second, &mut text) {
+        Ok(restored) => {
+            *verdict = Verdict::of_restored(&restored.told);
             hand_over(text.bytes(), buffer, needed)
         }
-        Err(stop) => tell(stop, refusal),
+        Err(against) => tell(against, refusal),
     }
 }

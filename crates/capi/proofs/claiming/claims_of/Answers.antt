@@ -1,6 +1,6 @@
 use Rattle.std.proofs.Common.{arith, ◌<◌, length}
-use Rattle.capi.specs.Claimed.{claims_from}
-use Rattle.capi.proofs.ClaimedLemmas.{claims_next}
+use Rattle.capi.specs.Judged.{claims_from}
+use Rattle.capi.proofs.JudgedLemmas.{claims_next}
 use Rattle.capi.proofs.claiming.claims_of.Goals as goal
 
 pub loop-position-preserved : goal.loop-position-preserved

@@ -1,5 +1,5 @@
 use Rattle.std.proofs.Common.{◌≡◌, ◌++◌, drop}
-use Rattle.capi.specs.Claimed.{claims_from}
+use Rattle.capi.specs.Judged.{claims_from}
 use Rattle.capi.proofs.claiming.claims_of.Given as goal
 
 abbrev pub invariant-loop-position : goal.invariant-loop-position
