@@ -1,0 +1,4 @@
+//! Texts of models with words of any width, after "Btor2, BtorMC and Boolector 3.0".
+#![tactic(auto)]
+
+pub mod laws;
