@@ -24,7 +24,9 @@ use invocation::{
 use std::alloc::{AllocError, Global};
 use std::io::{Read, Write};
 use std::time::Clock;
-use subcommands::{NamedFiles, Progress, open_input, tell_device, tell_no_memory, tell_output, write_failed};
+use subcommands::{
+    NamedFiles, Progress, open_input, tell_device, tell_no_memory, tell_output, write_failed,
+};
 
 /// What is told of a line whose words are no text.
 const NO_TEXT: &[u8] = b"words: not UTF-8\n";
