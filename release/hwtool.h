@@ -29,7 +29,7 @@ extern "C" {
 #endif
 
 /* The version of the library that this header goes with. */
-#define HWTOOL_VERSION "0.7.0"
+#define HWTOOL_VERSION "0.8.0"
 
 /* The statuses. */
 enum {
@@ -80,7 +80,8 @@ struct hwtool_refusal {
 uint32_t hwtool_check_btor(const uint8_t *model, size_t model_length, const uint8_t *witness, size_t witness_length,
                            struct hwtool_verdict *verdict, struct hwtool_refusal *refusal);
 
-/* Judges a witness of an AIGER circuit of either form. Answers DONE with `verdict`, TEXT_REFUSED, NO_MEMORY. */
+/* Judges a witness of an AIGER circuit of either form. Answers DONE with `verdict`, TEXT_REFUSED, MODEL_REFUSED (the circuit has
+ * outputs and no bad property), NO_MEMORY. */
 uint32_t hwtool_check_aig(const uint8_t *circuit, size_t circuit_length, const uint8_t *witness, size_t witness_length,
                           struct hwtool_verdict *verdict, struct hwtool_refusal *refusal);
 
@@ -92,8 +93,8 @@ uint32_t hwtool_check_btor_claims(const uint8_t *model, size_t model_length, boo
                                   size_t witness_length, struct hwtool_verdict *verdict, struct hwtool_claim *claims,
                                   size_t claims_length, size_t *needed, struct hwtool_refusal *refusal);
 
-/* The same of an AIGER circuit of either form. It is also MODEL_REFUSED where the circuit has outputs and no bad property, of which
- * hwtool_check_aig judges each claim as malformed. What hwtool_restore writes is such a witness. */
+/* The same of an AIGER circuit of either form. MODEL_REFUSED where there is no such bad property, or the circuit has outputs and no
+ * bad property. What hwtool_restore writes is such a witness. */
 uint32_t hwtool_check_aig_claims(const uint8_t *circuit, size_t circuit_length, bool chosen, size_t bad, const uint8_t *witness,
                                  size_t witness_length, struct hwtool_verdict *verdict, struct hwtool_claim *claims,
                                  size_t claims_length, size_t *needed, struct hwtool_refusal *refusal);
@@ -117,8 +118,8 @@ uint32_t hwtool_convert(const uint8_t *circuit, size_t circuit_length, bool bina
 uint32_t hwtool_engine_form(const uint8_t *circuit, size_t circuit_length, bool chosen, size_t bad, bool binary,
                             uint8_t *buffer, size_t buffer_length, size_t *needed, struct hwtool_refusal *refusal);
 
-/* Judges a witness of the circuit that a BTOR2 model lowers to, and lifts it to the model's. Of a model without bad properties each
- * claim is malformed. Answers DONE and TOO_SMALL with `verdict` and `needed`, TEXT_REFUSED, MODEL_REFUSED, NO_MEMORY. */
+/* Judges a witness of the circuit that a BTOR2 model lowers to, and lifts it to the model's. Answers DONE and TOO_SMALL with
+ * `verdict` and `needed`, TEXT_REFUSED, MODEL_REFUSED (the model is not lowered, or has outputs and no bad property), NO_MEMORY. */
 uint32_t hwtool_lift(const uint8_t *model, size_t model_length, const uint8_t *witness, size_t witness_length,
                      struct hwtool_verdict *verdict, uint8_t *buffer, size_t buffer_length, size_t *needed,
                      struct hwtool_refusal *refusal);
@@ -164,9 +165,9 @@ uint32_t hwtool_obligation(const uint8_t *model, size_t model_length, size_t bad
                            size_t invariant_length, uint8_t *buffer, size_t buffer_length, size_t *needed,
                            struct hwtool_refusal *refusal);
 
-/* Judges a proof of what that invariant owes, in DRAT, or with `lrat` in LRAT. With a verdict of kind 0 the bad property rises in no frame up to which
- * the constraints hold, from any initial state under every input sequence. Answers DONE with `verdict`, TEXT_REFUSED,
- * MODEL_REFUSED, SECOND_REFUSED, NO_MEMORY. */
+/* Judges a proof of what that invariant owes, in DRAT, or with `lrat` in LRAT. With a verdict of kind 0 the bad property rises in
+ * no frame up to which the constraints hold, from any initial state under every input sequence. Answers DONE with `verdict`,
+ * TEXT_REFUSED, MODEL_REFUSED, SECOND_REFUSED, NO_MEMORY. */
 uint32_t hwtool_check_proof(const uint8_t *model, size_t model_length, size_t bad, const uint8_t *invariant,
                             size_t invariant_length, bool lrat, const uint8_t *proof, size_t proof_length,
                             struct hwtool_verdict *verdict, struct hwtool_refusal *refusal);
@@ -177,23 +178,24 @@ uint32_t hwtool_obligation_aig(const uint8_t *circuit, size_t circuit_length, si
                                size_t invariant_length, uint8_t *buffer, size_t buffer_length, size_t *needed,
                                struct hwtool_refusal *refusal);
 
-/* Judges a proof of what that invariant owes, in DRAT, or with `lrat` in LRAT. With a verdict of kind 0 the bad property rises in no frame up to which
- * the constraints hold, from any initial bits that agree with the resets, under every input sequence. Answers DONE with
- * `verdict`, TEXT_REFUSED, MODEL_REFUSED, SECOND_REFUSED, NO_MEMORY. */
+/* Judges a proof of what that invariant owes, in DRAT, or with `lrat` in LRAT. With a verdict of kind 0 the bad property rises in
+ * no frame up to which the constraints hold, from any initial bits that agree with the resets, under every input sequence. Answers
+ * DONE with `verdict`, TEXT_REFUSED, MODEL_REFUSED, SECOND_REFUSED, NO_MEMORY. */
 uint32_t hwtool_check_proof_aig(const uint8_t *circuit, size_t circuit_length, size_t bad, const uint8_t *invariant,
                                 size_t invariant_length, bool lrat, const uint8_t *proof, size_t proof_length,
                                 struct hwtool_verdict *verdict, struct hwtool_refusal *refusal);
 
 /* Writes in DIMACS what a witness circuit, in AIGER of either form, owes for the bad property at position `bad` of a BTOR2 model,
  * or with `aiger` of an AIGER circuit: one of its circuit, or with `over_form` of its engine form with this property alone.
- * Answers DONE and TOO_SMALL with `needed`, TEXT_REFUSED, MODEL_REFUSED, SECOND_REFUSED, NO_MEMORY. */
+ * Answers DONE and TOO_SMALL with `needed`, TEXT_REFUSED, MODEL_REFUSED (also where there is no such bad property), SECOND_REFUSED,
+ * NO_MEMORY. */
 uint32_t hwtool_obligation_circuit(const uint8_t *first, size_t first_length, bool aiger, bool over_form, size_t bad,
                                    const uint8_t *witness, size_t witness_length, uint8_t *buffer, size_t buffer_length,
                                    size_t *needed, struct hwtool_refusal *refusal);
 
-/* Judges a proof of what that witness circuit owes, in DRAT, or with `lrat` in LRAT. With a verdict of kind 0 the bad property rises in no frame up to
- * which the constraints hold, from any initial state under every input sequence. Answers DONE with `verdict`, TEXT_REFUSED,
- * MODEL_REFUSED, SECOND_REFUSED, NO_MEMORY. */
+/* Judges a proof of what that witness circuit owes, in DRAT, or with `lrat` in LRAT. With a verdict of kind 0 the bad property rises
+ * in no frame up to which the constraints hold, from any initial state under every input sequence. Answers DONE with `verdict`,
+ * TEXT_REFUSED, MODEL_REFUSED, SECOND_REFUSED, NO_MEMORY. */
 uint32_t hwtool_check_proof_circuit(const uint8_t *first, size_t first_length, bool aiger, bool over_form, size_t bad,
                                     const uint8_t *witness, size_t witness_length, bool lrat, const uint8_t *proof,
                                     size_t proof_length,
