@@ -1,20 +1,19 @@
 -- The numbers of an item that no row refuses are small: sorts and operands are ids of earlier items, and widths are at most the greatest.
-use Rattle.std.proofs.Common.{◌≡◌, ℕ, suc, ◌+◌, ◌-◌, ◌≤◌, ◌<◌, Bool, true, false, not, ◌&&◌, nat_le, nat_lt, ◌==◌, List, [], ◌∷◌, Option, Some, None, is_some, is_none, unwrap_or, refl, sym, ap, subst, ◌∙◌, arith}
+use Rattle.std.proofs.Common.{◌≡◌, ℕ, ◌+◌, ◌≤◌, true, false, nat_le, nat_lt, ◌==◌, List, [], ◌∷◌, Option, Some, None, is_some, is_none, unwrap_or, refl, ap, subst, arith}
 use Rattle.std.specs.List.{list_all}
 use Rattle.std.specs.Option.{option_map_or}
 use Rattle.std.proofs.lemmas.Bool.{and_parts, eqb-true, leb-true, ltb-true, not-false}
-use Rattle.std.proofs.lemmas.Option.{none-some, same_Some}
 use Rattle.btor2.specs.declared.item.Item.{Item}
 use Rattle.btor2.specs.declared.item.Body.{Body}
 use Rattle.btor2.specs.declared.item.Body.TheVariants as body
 use Rattle.btor2.specs.Items.{find_item, sort_bits, sort_width, width_of_body, node_width, named_sort, operands}
-use Rattle.btor2.specs.Check.{id_is_out_of_range, sort_is_missing, operand_is_missing, slice_is_out_of_range, widths_agree, widths_differ, is_no_slice}
+use Rattle.btor2.specs.Check.{id_is_out_of_range, sort_is_missing, operand_is_missing, slice_is_out_of_range, widths_agree, widths_differ}
 use Rattle.btor2.proofs.AppendLemmas.{then_parts, some_of}
 use Rattle.btor2.proofs.AcceptedLemmas.{Each}
 use Rattle.btor2.proofs.ModelLemmas.{IsIn-from_find}
 use Rattle.btor2text.proofs.BoundLemmas.{IsId, BodyFits}
 use Rattle.wide.specs.WideModels.{greatest_width, width_is_above, wide_refusal, IsWideModel}
-use Rattle.wide.proofs.GrowLemmas.{AllFalse, tests_false, refusal_at, sort_range}
+use Rattle.wide.proofs.GrowLemmas.{tests_false, refusal_at, sort_range}
 
 -- the ids that a body names are ids, and its other numbers are small
 abbrev pub WideBodyFits : Body → Type 0

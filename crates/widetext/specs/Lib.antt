@@ -3,3 +3,5 @@ pub mod Digits
 pub mod Reading
 pub mod Spelling
 pub mod FirstFault
+pub mod Constants
+pub mod Steps

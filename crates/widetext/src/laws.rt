@@ -7,6 +7,7 @@ ghost use Rattle.btor2text.specs.declared.fault.Why.TheVariants as why;
 ghost use Rattle.btor2text.specs.Tokens.{tokens};
 ghost use Rattle.btor2.specs.declared.item.Item.{Item};
 ghost use Rattle.btor2text.specs.declared.fault.ReadFault.{ReadFault};
+ghost use Rattle.btor2text.specs.Spelling.{StandsFor};
 ghost use Rattle.widetext.specs.Spelling.{StandsForWide};
 ghost use Rattle.widetext.specs.FirstFault.{IsWideFaultOf};
 ghost use Rattle.widetext.specs.Reading.{wide_line_on, wide_text_on};
@@ -21,6 +22,11 @@ pub fn texts_are_read()
         → StandsForWide text others → items ≡ others }
     ensures fault { (text : List ℕ) (e : ReadFault) → wide_text_on text ≡ Err e
         → IsWideFaultOf text e }
+{}
+
+/// A text of the profile stands for the same items here.
+pub fn profile_is_read()
+    ensures { (text : List ℕ) (items : List Item) → StandsFor text items → StandsForWide text items }
 {}
 
 /// Worked rows: what lines give, alone or behind a sort.

@@ -1,4 +1,9 @@
 //! Texts of models with words of any width, after "Btor2, BtorMC and Boolector 3.0".
 #![tactic(auto)]
 
+mod constants;
+mod digits;
 pub mod laws;
+mod reading;
+
+pub use reading::read;
