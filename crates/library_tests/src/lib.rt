@@ -32,3 +32,5 @@ mod sizes;
 mod sources_and_sinks;
 #[cfg(test)]
 mod tidied_witnesses;
+#[cfg(test)]
+mod wide_texts;
