@@ -183,9 +183,12 @@ fn read_lines(alloc: Global, text: &[u8], model: &mut WideModel) -> Result<(), R
 
 /// The model with words of up to 1,048,576 bits that a text stands for.
 ///
-/// Errors: `NoMemory` where a growth was refused, with line 0; else the first of a line's whys, at the first line that has
-/// one. The whys are those of a text of the profile; a sort's width is up to 1,048,576, and a constant may have as many
-/// digits as its sort takes.
+/// What is behind the last byte 10 is no line, and `Unfinished`. The number of a constant is made only where it may fit
+/// its sort.
+///
+/// Errors: `NoMemory` where a growth was refused, with line 0; else the first of a line's whys, at the first line that
+/// has one. The whys are those of a text of the profile; a sort's width is up to 1,048,576, and a constant may have as
+/// many digits as its sort takes.
 pub fn read(alloc: Global, text: &[u8]) -> Result<WideModel, ReadFault>
     // what is read stands for the text
     ensures found { IfOk result (λ model. StandsForWide text.now model) }
