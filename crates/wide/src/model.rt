@@ -62,6 +62,14 @@ impl WideModel {
         self.lines.as_slice()
     }
 
+    /// The lines, in file order, by value.
+    pub fn into_lines(self) -> Vec<Line>
+        ensures items { map item_of result.items ≡ self }
+        ensures well_formed { IsWideModel greatest_width self }
+    {
+        self.lines
+    }
+
     /// The width of a sort that is named.
     fn named_sort(&self, id: u32) -> Result<u64, PushFault>
         ensures { MatchResult result (λ n. sort_width self.now id ≡ Some n)
