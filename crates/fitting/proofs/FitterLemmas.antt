@@ -4,7 +4,7 @@ use Rattle.std.specs.List.{AllByRecursion}
 use Rattle.btor2.specs.declared.item.Item.{Item}
 use Rattle.btor2.specs.declared.item.Body.{Body}
 use Rattle.btor2.specs.declared.item.Body.TheVariants as body
-use Rattle.btor2.specs.Items.{named_sort, node_width, operands, sort_width, constant_word}
+use Rattle.btor2.specs.Items.{named_sort, node_width, sort_width, constant_word}
 use Rattle.btor2.specs.Check.{sort_is_missing}
 use Rattle.fit.proofs.FrameLemmas.{operands_there}
 use Rattle.pieces.specs.declared.node.Node.{Node}

@@ -12,3 +12,6 @@ pub mod FormLemmas
 pub mod TransitionLemmas
 pub mod ConstantLemmas
 pub mod FitterLemmas
+pub mod DigitLemmas
+pub mod ModelLemmas
+pub mod ProfileLemmas

@@ -6,3 +6,5 @@ pub mod Fitted
 pub mod Fitters
 pub mod Steps
 pub mod Tables
+pub mod Faults
+pub mod Models

@@ -43,6 +43,11 @@ abbrev pub adds_output : Body → Bool
 adds_output (body.Output a) = true
 adds_output b = is_plain b
 
+-- a list goes on where another ends
+pub record IsLonger (old new : List Item) : Type 0 where
+  pub more : List Item
+  pub is : new ≡ old ++ more
+
 -- no node has an id
 abbrev pub IsOther : List Node → ℕ → Type 0
 IsOther ps id = AllByRecursion (λ (p : Node). nat_eq id p.id ≡ false) ps

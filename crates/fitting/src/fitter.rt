@@ -32,7 +32,7 @@ impl Fitter {
     ghost use Rattle.pieces.specs.Lines.{named};
     ghost use Rattle.fitting.specs.Forms.{is_operator, is_constant_line, form_fault, IsRefused};
     ghost use Rattle.fitting.specs.Fitted.{IsSoundLine, IsFitted};
-    ghost use Rattle.fitting.specs.Steps.{leaf_body, Place, ConstantPlace};
+    ghost use Rattle.fitting.specs.Steps.{leaf_body, IsLonger, Place, ConstantPlace};
     ghost use Rattle.fitting.specs.Names.{HasNames};
     ghost use Rattle.fitting.specs.Tables.{table_of, layout_of};
 
@@ -59,8 +59,15 @@ impl Fitter {
         self.maker.finish()
     }
 
+    /// The model of the profile so far.
+    pub(crate) fn model(&self) -> &Model
+        ensures { result.now ≡ self.now.maker }
+    {
+        self.maker.model()
+    }
+
     /// The width of a sort.
-    fn width(&self, sort: u32) -> u64
+    pub(crate) fn width(&self, sort: u32) -> u64
         ensures { result ≡ unwrap_or (get nat_eq self.now.sorts sort) 0 }
     {
         match self.sorts.get(&u64::from(sort)) {
@@ -76,6 +83,7 @@ impl Fitter {
         requires sound { IsSoundLine at.wide (named id at.symbol (body.Sort width)) }
         ensures fitted { OnOk result (IsFitted (at.wide ++ named id at.symbol (body.Sort width) ∷ [])
             (table_of self.new) self.new.maker) }
+        ensures grows { IfErr result (λ e. IsLonger self.old.maker self.new.maker) }
         ensures short { IfErr result (IsShort self.new.maker) }
     {
         match self.sorts.insert(id, width) {
@@ -99,6 +107,7 @@ impl Fitter {
         requires name { at.symbol ≡ symbol }
         ensures fitted { OnOk result (IsFitted (at.wide ++ named id at.symbol (leaf_body is_input sort) ∷ [])
             (table_of self.new) self.new.maker) }
+        ensures grows { IfErr result (λ e. IsLonger self.old.maker self.new.maker) }
         ensures short { IfErr result (IsShort self.new.maker) }
     {
         let _items = self.maker.model().items();
@@ -115,6 +124,7 @@ impl Fitter {
         requires form { is_operator body.now ≡ true }
         ensures fitted { OnOk result (IsFitted (at.wide ++ named id at.symbol body.now ∷ [])
             (table_of self.new) self.new.maker) }
+        ensures grows { IfErr result (λ e. IsLonger self.old.maker self.new.maker) }
         ensures short { IfErr result (IsShort self.new.maker) }
     {
         let nodes = operator_word(alloc, &mut self.maker, &self.words, body)?;
@@ -136,6 +146,7 @@ impl Fitter {
         requires sort { node_sort body.now ≡ Some sort }
         ensures fitted { OnOk result (IsFitted (at.wide ++ named id at.symbol body.now ∷ [])
             (table_of self.new) self.new.maker) }
+        ensures grows { IfErr result (λ e. IsLonger self.old.maker self.new.maker) }
         ensures short { IfErr result (IsShort self.new.maker) }
     {
         let width = self.width(sort);
@@ -168,6 +179,7 @@ impl Fitter {
         requires few { 64 * length digits.now < width + 64 }
         ensures fitted { OnOk result (IsFitted (at.wide ++ named id at.symbol at.body ∷ [])
             (table_of self.new) self.new.maker) }
+        ensures grows { IfErr result (λ e. IsLonger self.old.maker self.new.maker) }
         ensures short { IfErr result (IsShort self.new.maker) }
     {
         let nodes = constant(alloc, &mut self.maker, digits, width)?;
@@ -183,6 +195,7 @@ impl Fitter {
         ensures fitted { OnOk result
             (IsFitted (at.wide ++ named at.id at.symbol (body.Init sort state value) ∷ [])
             (table_of self.new) self.new.maker) }
+        ensures grows { IfErr result (λ e. IsLonger self.old.maker self.new.maker) }
         ensures short { IfErr result (IsShort self.new.maker) }
     {
         let _items = self.maker.model().items();
@@ -201,6 +214,7 @@ impl Fitter {
         ensures fitted { OnOk result
             (IsFitted (at.wide ++ named at.id at.symbol (body.Next sort state value) ∷ [])
             (table_of self.new) self.new.maker) }
+        ensures grows { IfErr result (λ e. IsLonger self.old.maker self.new.maker) }
         ensures short { IfErr result (IsShort self.new.maker) }
     {
         let _items = self.maker.model().items();
@@ -219,6 +233,7 @@ impl Fitter {
         requires name { at.symbol ≡ symbol }
         ensures fitted { OnOk result (IsFitted (at.wide ++ named at.id at.symbol (body.Bad operand) ∷ [])
             (table_of self.new) self.new.maker) }
+        ensures grows { IfErr result (λ e. IsLonger self.old.maker self.new.maker) }
         ensures short { IfErr result (IsShort self.new.maker) }
     {
         let node = self.words.get(operand)[0];
@@ -235,6 +250,7 @@ impl Fitter {
         ensures fitted { OnOk result
             (IsFitted (at.wide ++ named at.id at.symbol (body.Constraint operand) ∷ [])
             (table_of self.new) self.new.maker) }
+        ensures grows { IfErr result (λ e. IsLonger self.old.maker self.new.maker) }
         ensures short { IfErr result (IsShort self.new.maker) }
     {
         let node = self.words.get(operand)[0];
@@ -255,6 +271,7 @@ impl Fitter {
         requires name { at.symbol ≡ symbol }
         ensures fitted { OnOk result (IsFitted (at.wide ++ named at.id at.symbol (body.Output operand) ∷ [])
             (table_of self.new) self.new.maker) }
+        ensures grows { IfErr result (λ e. IsLonger self.old.maker self.new.maker) }
         ensures short { IfErr result (IsShort self.new.maker) }
     {
         show(alloc, &mut self.maker, symbol, self.words.get(operand))
@@ -276,6 +293,7 @@ impl Fitter {
         requires place { at.id ≡ id }
         ensures fitted { OnOk result (IsFitted (at.wide ++ named at.id at.symbol body.now ∷ [])
             (table_of self.new) self.new.maker) }
+        ensures grows { IfErr result (λ e. IsLonger self.old.maker self.new.maker) }
         ensures short { IfErr result (IsShort self.new.maker) }
     {
         match body {
@@ -315,6 +333,8 @@ impl Fitter {
         requires fitted { IsFitted wide (table_of self.old) self.old.maker }
         requires sound { IsSoundLine wide item }
         ensures fitted { OnOk result (IsFitted (wide ++ item ∷ []) (table_of self.new) self.new.maker) }
+        ensures form { OnOk result (form_fault item.body ≡ None) }
+        ensures grows { IfErr result (λ e. IsLonger self.old.maker self.new.maker) }
         ensures refused { IfErr result (IsRefused item.body self.new.maker) }
     {
         let Item { id, symbol, body } = item;

@@ -6,7 +6,7 @@ ghost use Rattle.pieces.specs.Cuts.{widths, IsCut};
 ghost use Rattle.pieces.specs.declared.shortage.Shortage.TheVariants as shortage;
 ghost use Rattle.fitting.specs.Fitted.{most_bits};
 ghost use Rattle.fitting.specs.Names.{word_names};
-ghost use Rattle.fitting.specs.Steps.{AddsLeaves};
+ghost use Rattle.fitting.specs.Steps.{AddsLeaves, IsLonger};
 
 use crate::names::piece_symbol;
 use btor2::Symbol;
@@ -19,6 +19,7 @@ fn input(maker: &mut Maker, symbol: Option<Symbol>, width: u64) -> Result<Node, 
     requires most { width ≤ 64 }
     ensures node { IfOk result (λ r. IsNode maker.new r × (r.width ≡ width)) }
     ensures adds { IfOk result (λ r. AddsLeaves true maker.old maker.new (r ∷ []) (symbol ∷ [])) }
+    ensures grows { IfErr result (λ e. IsLonger maker.old maker.new) }
     ensures short { IfErr result (IsShort maker.new) }
 {
     let node = maker.input(symbol, width)?;
@@ -32,6 +33,7 @@ fn state(maker: &mut Maker, symbol: Option<Symbol>, width: u64) -> Result<Node, 
     requires most { width ≤ 64 }
     ensures node { IfOk result (λ r. IsNode maker.new r × (r.width ≡ width)) }
     ensures adds { IfOk result (λ r. AddsLeaves false maker.old maker.new (r ∷ []) (symbol ∷ [])) }
+    ensures grows { IfErr result (λ e. IsLonger maker.old maker.new) }
     ensures short { IfErr result (IsShort maker.new) }
 {
     let node = maker.state(symbol, width)?;
@@ -50,6 +52,7 @@ fn leaf(
     requires most { width ≤ 64 }
     ensures node { IfOk result (λ r. IsNode maker.new r × (r.width ≡ width)) }
     ensures adds { IfOk result (λ r. AddsLeaves is_input maker.old maker.new (r ∷ []) (symbol ∷ [])) }
+    ensures grows { IfErr result (λ e. IsLonger maker.old maker.new) }
     ensures short { IfErr result (IsShort maker.new) }
 {
     if is_input {
@@ -86,6 +89,7 @@ fn pieces(
     ensures cut { IfOk result (λ rs. IsCut 64 (widths rs.items)) }
     ensures adds { IfOk result (λ rs. AddsLeaves is_input maker.old maker.new rs.items
         (word_names symbol.now (widths rs.items))) }
+    ensures grows { IfErr result (λ e. IsLonger maker.old maker.new) }
     ensures short { IfErr result (IsShort maker.new) }
 {
     let mut out = Vec::new(alloc);
@@ -116,6 +120,7 @@ pub(crate) fn leaves(
     ensures cut { IfOk result (λ rs. IsCut 64 (widths rs.items)) }
     ensures adds { IfOk result (λ rs. AddsLeaves is_input maker.old maker.new rs.items
         (word_names symbol (widths rs.items))) }
+    ensures grows { IfErr result (λ e. IsLonger maker.old maker.new) }
     ensures short { IfErr result (IsShort maker.new) }
 {
     if width > 64 {

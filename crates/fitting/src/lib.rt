@@ -2,14 +2,20 @@
 #![tactic(auto)]
 
 mod constants;
+mod digits;
+mod fault;
 mod fitter;
 mod forms;
+pub mod laws;
 mod leaves;
+mod models;
 mod names;
 mod operators;
 mod transitions;
 mod unfitted;
 mod words;
 
+pub use fault::FitFault;
 pub use fitter::Fitter;
+pub use models::fit;
 pub use unfitted::Unfitted;

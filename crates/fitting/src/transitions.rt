@@ -7,7 +7,7 @@ ghost use Rattle.pieces.specs.Nodes.{bits_in};
 ghost use Rattle.pieces.specs.Cuts.{widths, IsWord};
 ghost use Rattle.pieces.specs.Constants.{AreConstants};
 ghost use Rattle.fitting.specs.Names.{names_from, word_names};
-ghost use Rattle.fitting.specs.Steps.{AddsInits, AddsNexts, AddsOutputs, AreApart};
+ghost use Rattle.fitting.specs.Steps.{AddsInits, AddsNexts, AddsOutputs, AreApart, IsLonger};
 
 use crate::names::piece_symbol;
 use btor2::Symbol;
@@ -24,6 +24,7 @@ pub(crate) fn begin(maker: &mut Maker, state: &[Node], value: &[Node]) -> Result
     requires first { AllByRecursion (λ p. init_value maker.old p.id ≡ None) state.now }
     requires distinct { AreApart state.now }
     ensures adds { OnOk result (AddsInits maker.old maker.new state.now value.now) }
+    ensures grows { IfErr result (λ e. IsLonger maker.old maker.new) }
     ensures short { IfErr result (IsShort maker.new) }
 {
     for k in 0..state.len() {
@@ -41,6 +42,7 @@ pub(crate) fn follow(maker: &mut Maker, state: &[Node], value: &[Node]) -> Resul
     requires first { AllByRecursion (λ p. next_value maker.old p.id ≡ None) state.now }
     requires distinct { AreApart state.now }
     ensures adds { OnOk result (AddsNexts maker.old maker.new state.now value.now) }
+    ensures grows { IfErr result (λ e. IsLonger maker.old maker.new) }
     ensures short { IfErr result (IsShort maker.new) }
 {
     for k in 0..state.len() {
@@ -59,6 +61,7 @@ fn show_pieces(
     requires word { IsWord maker.old word.now }
     ensures adds { OnOk result (AddsOutputs maker.old maker.new word.now
         (names_from symbol.now 0 (widths word.now))) }
+    ensures grows { IfErr result (λ e. IsLonger maker.old maker.new) }
     ensures short { IfErr result (IsShort maker.new) }
 {
     let mut lower = 0;
@@ -80,6 +83,7 @@ pub(crate) fn show(
     requires word { IsWord maker.old word.now }
     ensures adds { OnOk result (AddsOutputs maker.old maker.new word.now
         (word_names symbol (widths word.now))) }
+    ensures grows { IfErr result (λ e. IsLonger maker.old maker.new) }
     ensures short { IfErr result (IsShort maker.new) }
 {
     if word.len() != 1 {

@@ -1,0 +1,49 @@
+-- Which model of the profile a whole list with words of any width is fitted into, and why one is not fitted.
+use Rattle.std.specs.Prelude.{◌≡◌, ◌≤◌, List, ◌∷◌, ◌++◌, length, Some, None}
+use Rattle.std.specs.List.{AllByRecursion}
+use Rattle.btor2.specs.declared.item.Item.{Item}
+use Rattle.btor2.specs.Check.{most_items, IsWellFormed}
+use Rattle.fit.specs.Fitting.{Layout, IsFittingOf}
+use Rattle.fitting.specs.declared.unfitted.Unfitted.TheVariants as unfitted
+use Rattle.fitting.specs.declared.fault.FitFault.{FitFault}
+use Rattle.fitting.specs.declared.fault.FitFault.TheVariants as fault
+use Rattle.fitting.specs.Forms.{form_fault}
+use Rattle.fitting.specs.Fitted.{Table, IsFitted}
+use Rattle.fitting.specs.Names.{HasNames}
+use Rattle.fitting.specs.Steps.{IsLonger}
+
+-- a list is fitted by some layout into one whose lines have the names of the pieces
+pub record IsFit (wide narrow : List Item) : Type 0 where
+  pub layout : Layout
+  pub fits : IsFittingOf wide layout narrow
+  pub names : HasNames wide layout narrow
+
+-- a list is fitted so far into one from which a model of the profile goes on that has as many items as it may have
+pub record HasNoRoom (wide : List Item) : Type 0 where
+  pub table : Table
+  pub narrow : List Item
+  pub fitted : IsFitted wide table narrow
+  pub full : List Item
+  pub longer : IsLonger narrow full
+  pub well_formed : IsWellFormed full
+  pub most : most_items ≤ length full
+
+-- why a line is not fitted that stands behind others
+abbrev pub IsUnfitLine : FitFault → List Item → Item → Type 0
+IsUnfitLine (fault.Justice id) before x = (x.id ≡ id) × (form_fault x.body ≡ Some unfitted.Justice)
+IsUnfitLine (fault.Fair id) before x = (x.id ≡ id) × (form_fault x.body ≡ Some unfitted.Fair)
+IsUnfitLine (fault.TooManyItems id) before x = (x.id ≡ id) × ((form_fault x.body ≡ None) × HasNoRoom before)
+IsUnfitLine fault.NoMemory before x = Unit {0}
+
+-- no line has a form that is not fitted
+abbrev pub HaveForms : List Item → Type 0
+HaveForms items = AllByRecursion (λ (x : Item). form_fault x.body ≡ None) items
+
+-- a list is not fitted: for a line of it, where those before it have forms that are
+pub record IsUnfit (wide : List Item) (e : FitFault) : Type 0 where
+  pub before : List Item
+  pub line : Item
+  pub after : List Item
+  pub is : wide ≡ before ++ line ∷ after
+  pub forms : HaveForms before
+  pub says : IsUnfitLine e before line
