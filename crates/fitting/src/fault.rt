@@ -5,9 +5,10 @@ ghost use Rattle.fitting.specs.Faults.{fit_fault_number, fit_fault_name, fault_o
 use crate::unfitted::Unfitted;
 use pieces::Shortage;
 use std::fmt;
+use thiserror::Error;
 
 /// Why a model with words of any width is not fitted. What is told is the id of a line: the first that is not fitted.
-#[derive(Clone, Copy, Debug, PartialEq, Eq)]
+#[derive(Clone, Copy, Debug, PartialEq, Eq, Error)]
 pub enum FitFault {
     /// It is a line of justice.
     Justice(u64),
