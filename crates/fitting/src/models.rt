@@ -11,7 +11,7 @@ ghost use Rattle.fitting.specs.Forms.{form_fault};
 ghost use Rattle.fitting.specs.Fitted.{IsSoundLine, IsFitted};
 ghost use Rattle.fitting.specs.Steps.{IsLonger, ConstantPlace};
 ghost use Rattle.fitting.specs.Tables.{table_of};
-ghost use Rattle.fitting.specs.Models.{IsFit, IsUnfit, IsUnfitLine};
+ghost use Rattle.fitting.specs.Models.{HaveForms, IsFit, IsUnfit, IsUnfitLine};
 
 use crate::digits::constant_digits;
 use crate::fault::{FitFault, fault_of};
@@ -89,6 +89,7 @@ fn add_lines(alloc: Global, fitter: &mut Fitter, lines: Vec<Line>) -> Result<(),
     requires well_formed { IsWideModel greatest_width items }
     requires fitted { IsFitted [] (table_of fitter.old) fitter.old.maker }
     ensures fitted { OnOk result (IsFitted items (table_of fitter.new) fitter.new.maker) }
+    ensures forms { OnOk result (HaveForms items) }
     ensures refused { IfErr result (IsUnfit items) }
 {
     for line in lines {
@@ -103,6 +104,7 @@ fn fit_lines(alloc: Global, lines: Vec<Line>) -> Result<Model, FitFault>
     requires items { map item_of lines.items ≡ items }
     requires well_formed { IsWideModel greatest_width items }
     ensures fits { IfOk result (IsFit items) }
+    ensures forms { OnOk result (HaveForms items) }
     ensures refused { IfErr result (IsUnfit items) }
 {
     let mut fitter = Fitter::new(alloc);
@@ -117,6 +119,7 @@ fn fit_lines(alloc: Global, lines: Vec<Line>) -> Result<Model, FitFault>
 /// where the model of the profile has no room for it; `NoMemory` tells none.
 pub fn fit(alloc: Global, model: WideModel) -> Result<Model, FitFault>
     ensures fits { IfOk result (IsFit model) }
+    ensures forms { OnOk result (HaveForms model) }
     ensures refused { IfErr result (IsUnfit model) }
 {
     fit_lines(alloc, model.into_lines())

@@ -62,3 +62,9 @@ returns-clause-fitted g c =
     let road = YieldsList-from_vec c.args.lines.items (search rules) (search rules) in
     let ended = YieldsList-end road c.loop-line.yielded _ c.loop-line.yielded_by _ c.next.new.self c.in-None.is c.next.ensures.steps in
     subst (λ (l : List Item). IsFitted l (table_of c.loop-line.fitter) c.loop-line.fitter.maker) (items_all c.args.lines.items c.loop-line.yielded g.items c.requires.0 ended.0) c.loop-line.invariant.fitted
+
+pub returns-clause-forms : goal.returns-clause-forms
+returns-clause-forms g c =
+    let road = YieldsList-from_vec c.args.lines.items (search rules) (search rules) in
+    let ended = YieldsList-end road c.loop-line.yielded _ c.loop-line.yielded_by _ c.next.new.self c.in-None.is c.next.ensures.steps in
+    subst HaveForms (items_all c.args.lines.items c.loop-line.yielded g.items c.requires.0 ended.0) c.loop-line.invariant.forms
