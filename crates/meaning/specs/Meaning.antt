@@ -33,3 +33,10 @@ pub record IsOneMeaning (items : List Item) (c : Circuit) (choice : Option ℕ) 
   pub circuit_text : RisesBy items k most ↔ IsAcceptedInCircuitBy c k most
   pub form_text : RisesBy items k most ↔ IsAcceptedInCircuitBy d (place_in choice k) most
   pub certificate : (form : ProofForm) (invariant proof : Option (List ℕ)) (line : ℕ) → IsCertified c k form invariant proof (verdict.Derived line) → ¬ CanRise items k
+
+-- That bad property k of a model with words of any width can rise, in so many frames at most, is the same as that it can in the model that it is fitted into, for
+-- which there is one meaning. And where a certificate of it is derived, it can in no number of frames.
+pub record IsOneMeaningOfFitted (wide items : List Item) (c : Circuit) (choice : Option ℕ) (d : Circuit) (k most : ℕ) : Type 0 where
+  pub model : RisesBy wide k most ↔ RisesBy items k most
+  pub fitted : IsOneMeaning items c choice d k most
+  pub certificate : (form : ProofForm) (invariant proof : Option (List ℕ)) (line : ℕ) → IsCertified c k form invariant proof (verdict.Derived line) → ¬ CanRise wide k

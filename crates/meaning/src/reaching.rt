@@ -6,12 +6,13 @@ ghost use Rattle.aiger.specs.Circuit.{Circuit, IsCircuit};
 ghost use Rattle.aiger.specs.Reachability.{CanRiseInCircuit};
 ghost use Rattle.btor2.specs.Reachability.{CanRise};
 ghost use Rattle.blast.specs.Lowering.{Lowers};
+ghost use Rattle.fit.specs.Fitting.{Layout, IsFittingOf};
 ghost use Rattle.engine_form.specs.EngineForm.{IsEngineFormOf};
 ghost use Rattle.restore.specs.Counterexample.{HasProperty};
 ghost use Rattle.witness.specs.Texts.{most_lines};
 ghost use Rattle.reached.specs.Accepted.{IsAcceptedFor, IsAcceptedForCircuit};
 ghost use Rattle.meaning.specs.Bound.{frame_bound};
-ghost use Rattle.meaning.specs.Meaning.{IsOneMeaning};
+ghost use Rattle.meaning.specs.Meaning.{IsOneMeaning, IsOneMeaningOfFitted};
 
 /// A law: what can be reached in a circuit is accepted. Where a bad property can rise, in a trace of fewer frames by four than
 /// a witness may have lines, a text that claims it is judged accepted, with no more frames.
@@ -47,4 +48,17 @@ pub fn one_meaning()
     reached::laws::accepted_is_reached_in_circuit();
     reached_in_circuit_is_accepted();
     reached_is_accepted();
+}
+
+/// A law, the same of a model with words of any width that is fitted into a model: a bad property can rise in it, by so many
+/// frames, exactly where it can in that model, for which there is one meaning; and nowhere, if a certificate of it is derived.
+pub fn one_meaning_of_fitted()
+    ensures { (wide items : List Item) (layout : Layout) (c : Circuit) (choice : Option ℕ)
+        (d : Circuit) (k most : ℕ) → IsFittingOf wide layout items → Lowers items c
+        → IsEngineFormOf c choice d → HasProperty choice k
+        → most * frame_bound items + 3 ≤ most_lines
+        → IsOneMeaningOfFitted wide items c choice d k most }
+{
+    fit::laws::bad_properties_rise_alike();
+    one_meaning();
 }
