@@ -57,6 +57,7 @@ CHECKS = [
     Check("judging", ["tests/judging.py", PROGRAM]),
     Check("hostile", ["tests/hostile.py", PROGRAM]),
     Check("start", ["tests/start.py"]),
+    Check("fitted", ["tests/fitted.py", PROGRAM]),
     Check("dumps", ["tests/dumps.py", PROGRAM]),
     Check("restored_cuts", ["tests/restored_cuts.py", PROGRAM]),
     Check("certificate_cuts", ["tests/certificate_cuts.py", PROGRAM]),

@@ -692,20 +692,12 @@ def designs(trials):
         return (trials.folder / "NEW").read_bytes()
 
     case, said, lower = trials.case, trials.said, ["lower"]
-    named = said("setundef -undriven -anyseq; setattr -unset keep; opt_clean -purge")
-    in_bits = said("techmap; simplemap; splitnets -ports")
-    as_circuit = said("setundef -undriven -anyseq; techmap; aigmap")
     of_bits = said("simplemap t:$dff t:$ff; splitnets")
-    case(5, "a wide word that is only a name", lower, written(NAMED, "named", "memory_map; dffunmap"),
-         written(NAMED, "named", f"memory_map; {named}; dffunmap"), True)
-    ring = written(RING, "ring", "memory_map; dffunmap")
-    case(5, "a wide register, in bits", lower, ring, written(RING, "ring", f"memory_map; dffunmap; {in_bits}"), True, many=20)
-    bits = written(RING, "ring", f"memory_map; dffunmap; {as_circuit}", "write_aiger -zinit -symbols NEW")
-    trials.tried += 1
-    found = differing(read(ring), read(bits), FRAMES, 20)
-    if found or trials.run(["aig-convert", "--engine"], bits).returncode:
-        trials.wrong += 1
-        print(f"remedies: 5 a wide register, as a circuit: {found}")
+    said("hwtool fit FILE >NEW`")
+    for what, wide in (("a wide word that is only a name", written(NAMED, "named", "memory_map; dffunmap")),
+                       ("a wide register", written(RING, "ring", "memory_map; dffunmap"))):
+        # that it stays the same model is tried by fitted.py
+        case(5, what, lower, wide, trials.run(["fit"], wide).stdout, False)
     partly = written(PARTLY, "partly", "memory_map; dffunmap").replace(b"5 state 4\n", b"5 state 4 free\n")
     case(11, "a register of which only some bits have an initial value", lower, partly,
          written(PARTLY, "partly", f"memory_map; dffunmap; {of_bits}"), True, {"r[2]": ("free[2]", 0), "r[3]": ("free[3]", 0)})

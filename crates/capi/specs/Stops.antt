@@ -1,11 +1,12 @@
 -- Why exported calls stop, and what is told of it.
-use Rattle.std.specs.Prelude.{◌≡◌, ℕ}
+use Rattle.std.specs.Prelude.{◌≡◌, ℕ, unwrap_or}
 use Rattle.btor2text.specs.Whys.{printed_number}
 use Rattle.aiger.specs.Refusal.{circuit_fault_number}
 use Rattle.aigertext.specs.Whys.{circuit_why_number}
 use Rattle.blast.specs.Faults.{lower_number}
 use Rattle.blast.specs.declared.fault.LowerFault.{LowerFault}
 use Rattle.blast.specs.declared.fault.LowerFault.TheVariants as lower
+use Rattle.fitting.specs.Faults.{fit_fault_item, fit_fault_number}
 use Rattle.engine_form.specs.Faults.{engine_fault_number}
 use Rattle.certificates.specs.Faults.{invariant_why_number, obligation_number}
 use Rattle.witness_circuits.specs.Faults.{test_number}
@@ -29,6 +30,7 @@ abbrev pub told_fault : Fault → Refusal
 told_fault (fault.Model e) = record { number = printed_number e.why; place = e.line }
 told_fault (fault.Circuit e) = record { number = circuit_why_number e.why; place = e.place }
 told_fault (fault.Lowering e) = record { number = lower_number e; place = fault_place e }
+told_fault (fault.Fitting e) = record { number = fit_fault_number e; place = unwrap_or (fit_fault_item e) 0 }
 told_fault (fault.Outputs e) = record { number = circuit_fault_number e; place = 0 }
 told_fault (fault.Engine e) = record { number = engine_fault_number e; place = 0 }
 told_fault (fault.Invariant e) = record { number = invariant_why_number e.why; place = e.line }

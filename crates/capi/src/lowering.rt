@@ -5,7 +5,8 @@ ghost use Rattle.verbs.specs.Refusals.{IsNoCircuit, IsNoModel, IsNotForEngines, 
 ghost use Rattle.capi.specs.Buffers.{Fills, Needs};
 ghost use Rattle.capi.specs.Flags.{choice_of};
 ghost use Rattle.capi.specs.Stops.{Stops};
-ghost use Rattle.capi.specs.Written.{CallConverts, CallConvertsForEngines, CallCosts, CallLowers};
+ghost use Rattle.capi.specs.Written.{CallConverts, CallConvertsForEngines, CallCosts, CallFits, CallLowers};
+ghost use Rattle.verbs.specs.Fitting.{IsNotFitted};
 
 use crate::answers::{DONE, Refusal, tell};
 use crate::buffers::hand_over;
@@ -13,7 +14,7 @@ use crate::flags::{choice_of, form_of};
 use base::VecSink;
 use blast::Unwatched;
 use std::alloc::Global;
-use verbs::{convert, convert_for_engines, cost_of, lower};
+use verbs::{convert, convert_for_engines, cost_of, fit, lower};
 
 /// Lowers the text of a BTOR2 model to that of an AIGER circuit, binary or ascii.
 ///
@@ -48,6 +49,37 @@ pub extern "C" fn hwtool_lower(
         &mut text,
         &mut Unwatched,
     ) {
+        Ok(()) => hand_over(text.bytes(), buffer, needed),
+        Err(against) => tell(against, refusal),
+    }
+}
+
+/// Writes the text of a BTOR2 model with words of up to 1,048,576 bits as that of one with words of at most 64, into which it
+/// is fitted: its bad properties can rise in as many frames. Of such a model it is its own text, in one spelling.
+///
+/// Answers 0 where that text stands at the front of the buffer, whose bytes behind it stay, and 1 where it is longer than the
+/// buffer, which stays then: after both `needed` is its length. 2 where the text is no such model, with the number and the line
+/// of its first fault; 3 where the model is not fitted, with the number of what speaks against it first and the id of its item;
+/// 4 where memory was wanting. With 0, 1 and 4 the refusal stays, and without 0 and 1 buffer and `needed` do.
+#[unsafe(no_mangle)]
+pub extern "C" fn hwtool_fit(
+    alloc: Global,
+    model: &[u8],
+    buffer: &mut [u8],
+    needed: &mut usize,
+    refusal: &mut Refusal,
+) -> u32
+    ensures done { result ≡ 0 → Fills (CallFits model.now) buffer.old buffer.new needed.new }
+    ensures small { result ≡ 1 → Needs (CallFits model.now) buffer.old buffer.new needed.new }
+    ensures stops { 2 ≤ result → Stops (IsNotFitted (Some model.now)) (λ _. ⊥) result refusal.old
+        refusal.new }
+    ensures statuses { result ≤ 5 }
+    ensures unwritten { 2 ≤ result → (buffer.new ≡ buffer.old) × (needed.new ≡ needed.old) }
+    ensures refusal_stays { result ≤ 1 → refusal.new ≡ refusal.old }
+{
+    let mut first = model;
+    let mut text = VecSink::new(alloc);
+    match fit(alloc, &mut first, &mut text) {
         Ok(()) => hand_over(text.bytes(), buffer, needed),
         Err(against) => tell(against, refusal),
     }

@@ -64,7 +64,7 @@ use results::fault_of_results;
 use standard_input::command_without_standard_input;
 use std::alloc::{AllocError, Global};
 use std::io;
-use too_big::is_told_too_big;
+use too_big::are_told_too_big;
 
 /// What is not as it should be, of a row; nothing where all is.
 type Fault = Option<&'static str>;
@@ -109,10 +109,10 @@ fn fault_beside_streams(alloc: Global) -> Result<Fault, AllocError> {
     if let Some(word) = command_without_standard_input(alloc)? {
         return Ok(Some(word));
     }
-    match order(alloc, &["lower", "model"]) {
-        Ok(order) if is_told_too_big(alloc, &order)? => fault_of_progress(alloc),
-        _ => Ok(Some("a model that is too big")),
+    if !are_told_too_big(alloc)? {
+        return Ok(Some("a model that is too big"));
     }
+    fault_of_progress(alloc)
 }
 
 /// Tries the rows of a text.

@@ -28,6 +28,8 @@ pub(crate) fn about(verb: Verb) -> &'static str {
         Verb::CheckBtor => "Judge a BTOR2 witness over a model",
         Verb::Show => "Write a BTOR2 model in the one spelling that this program gives",
         Verb::Cost => "Tell how many gates and variables the circuit of a BTOR2 model has at most",
+        Verb::Fit =>
+            "Write a BTOR2 model with words of up to 1,048,576 bits as one of words of at most 64, whose bad properties can rise in as many frames",
         Verb::AigConvert =>
             "Write an AIGER circuit of either form in one, its variables numbered as in the binary form",
         Verb::CheckAig => "Judge an AIGER witness over a circuit",

@@ -1,9 +1,10 @@
 -- What the exit statuses 0 and 1 of a command say.
-use Rattle.std.specs.Prelude.{ℕ, Bool, true, false, not, List, Option, None, Some, option_map}
+use Rattle.std.specs.Prelude.{ℕ, Bool, true, false, not, List, Option, None, option_map}
 use Rattle.std.specs.Borrow.{Bor}
 use Rattle.std.specs.Io.KnownBytes.{Appends}
 use Rattle.blast.specs.Conversion.{Converts}
 use Rattle.verbs.specs.Circuits.{ConvertsForEngines, LowersForEngines, Rewrites}
+use Rattle.verbs.specs.Fitting.{WritesFitting}
 use Rattle.verbs.specs.Outputs.{ConvertsOutputs, ConvertsOutputsForEngines}
 use Rattle.subcommands.specs.declared.answers.Answer.{Answer}
 use Rattle.subcommands.specs.declared.answers.Answer.TheVariants as answer
@@ -38,6 +39,7 @@ is_plain o = is_plain_as o.named o.as_json o.asked
 -- what a command has done of a task that answers so, as an order asks for it. Of `first`, `second` and `third` each, all bytes that were to come are known, or none are; `before` and `now` stand on standard output, `told` and `told'` on standard error
 unfoldable pub Answers : Order → Task → Answer → Option (List ℕ) → Option (List ℕ) → Option (List ℕ) → Option (List ℕ) → Option (List ℕ) → Option (List ℕ) → Option (List ℕ) → Type 0
 Answers o (task.Text text.Lower) answer.Done first second third before now told told' = Converts first o.form (Appends before now)
+Answers o (task.Text text.Fit) answer.Done first second third before now told told' = WritesFitting first before now
 Answers o (task.Model (model.LowerForEngines choice)) answer.Done first second third before now told told' = LowersForEngines first before now o.form choice
 Answers o (task.Model model.CheckBtor) a first second third before now told told' = ChecksModel o.named o.as_json (asked_of o) first second before now told told' a
 Answers o (task.Model model.Show) answer.Done first second third before now told told' = ShowsModel first before now

@@ -10,12 +10,14 @@ use Rattle.invocation.specs.declared.tasks.TextTask.TheVariants as text
 use Rattle.verbs.specs.declared.refusals.Claimed.TheVariants as claimed
 use Rattle.verbs.specs.declared.refusals.Fault.{Fault}
 use Rattle.verbs.specs.Asked.{IsNotJudgedOverWith, IsNotJudgedWith}
+use Rattle.verbs.specs.Fitting.{IsNotFitted}
 use Rattle.verbs.specs.Refusals.{IsFaultyCertificate, IsNoCircuit, IsNoModel, IsNoVectorList, IsNotCertifiable, IsNotClaimable, IsNotClaimed, IsNotForEngines, IsNotJudged, IsNotLowered}
 use Rattle.verbs.specs.Outputs.{IsNotWithOutputs, IsNotWithOutputsForEngines}
 
 -- the first text has this fault, for which a command refuses it that asks for the claim of a bad property or not
 unfoldable pub RefusesTask : Task → Option (List ℕ) → Option (List ℕ) → Fault → Type 0
 RefusesTask (task.Text text.Lower) asked known f = IsNotLowered known f
+RefusesTask (task.Text text.Fit) asked known f = IsNotFitted known f
 RefusesTask (task.Model (model.LowerForEngines choice)) asked known f = IsNotForEngines given.Model choice known f
 RefusesTask (task.Model model.CheckBtor) asked known f = IsNotJudgedWith asked known f
 RefusesTask (task.Model model.Show) asked known f = IsNoModel known f

@@ -26,7 +26,7 @@ use subcommands::{
 };
 use verbs::{
     Device, Refusal, convert, convert_for_engines, convert_outputs, convert_outputs_for_engines,
-    lower, lower_for_engines,
+    fit, lower, lower_for_engines,
 };
 
 /// Does a command, and answers the exit status: 0 done or accepted, 1 not accepted, 2 input refused, 3 device or memory, 4
@@ -262,6 +262,7 @@ fn obey_on_text<A: Source, O: Sink, W: Watch>(
 {
     match task {
         TextTask::Lower => answered(lower(alloc, order.form, first, out, watch)),
+        TextTask::Fit => answered(fit(alloc, first, out)),
         TextTask::TidyWitness(pick) => tidy_witness(pick, first, out),
         TextTask::Vectors => compare_vectors(alloc, first, out),
     }

@@ -21,6 +21,8 @@ ghost use Rattle.drup.specs.declared.fault.ClauseFault.{ClauseFault};
 ghost use Rattle.drup.specs.declared.fault.FormulaFault.{FormulaFault};
 ghost use Rattle.drup.specs.declared.why.Why.{Why as ProofWhy};
 ghost use Rattle.explanations.specs.Explanations.{Explains, NameOnce};
+ghost use Rattle.fitting.specs.Faults.{fit_fault_name, fit_fault_number};
+ghost use Rattle.fitting.specs.declared.fault.FitFault.{FitFault};
 ghost use Rattle.engine_form.specs.Faults.{engine_fault_name as engine_name, engine_fault_number as engine_number};
 ghost use Rattle.engine_form.specs.declared.fault.EngineFault.{EngineFault};
 ghost use Rattle.gates.specs.Faults.{gate_fault_name as gate_name, gate_fault_number as gate_number};
@@ -76,7 +78,7 @@ pub struct Part {
 /// What all refusals mean and what to do about them. A refusal may have several cases, also in several parts.
 ///
 /// Each refusal of each library is there, by the number and the name that the library gives it, and no number has two names.
-pub fn refusal_table() -> [Part; 19]
+pub fn refusal_table() -> [Part; 20]
     ensures names { NameOnce result }
     // the number of a why of a model's text that a push gives is its own, which is printed for it
     ensures models { (why : Why) → Explains result (printed_number why) (line_why_name why) }
@@ -84,6 +86,8 @@ pub fn refusal_table() -> [Part; 19]
         → Explains result (symbol_fault_number fault) (symbol_fault_name fault) }
     ensures lowerings { (fault : LowerFault)
         → Explains result (lower_number fault) (lower_name fault) }
+    ensures fittings { (fault : FitFault)
+        → Explains result (fit_fault_number fault) (fit_fault_name fault) }
     ensures conversions { (fault : ConvertFault)
         → Explains result (convert_number fault) (convert_name fault) }
     ensures runs { (fault : NewFault) → Explains result (new_number fault) (new_name fault) }
@@ -136,6 +140,10 @@ pub fn refusal_table() -> [Part; 19]
         Part {
             title: "Names",
             rows: &models::NAMES,
+        },
+        Part {
+            title: "Fitting",
+            rows: &models::FITTING,
         },
         Part {
             title: "Lowering",

@@ -1,5 +1,5 @@
 -- What is told where a model with words of any width is not fitted: a number, a space and a name are printed of it.
-use Rattle.std.specs.Prelude.{ℕ, List, codes}
+use Rattle.std.specs.Prelude.{ℕ, List, Option, Some, None, codes}
 use Rattle.pieces.specs.declared.shortage.Shortage.TheVariants as shortage
 use Rattle.fitting.specs.declared.unfitted.Unfitted.{Unfitted}
 use Rattle.fitting.specs.declared.unfitted.Unfitted.TheVariants as unfitted
@@ -12,6 +12,13 @@ fit_fault_number (fault.Justice id) = 220
 fit_fault_number (fault.Fair id) = 221
 fit_fault_number (fault.TooManyItems id) = 222
 fit_fault_number fault.NoMemory = 223
+
+-- the id of the line that it is about, where it is about one
+abbrev pub fit_fault_item : FitFault → Option ℕ
+fit_fault_item (fault.Justice id) = Some id
+fit_fault_item (fault.Fair id) = Some id
+fit_fault_item (fault.TooManyItems id) = Some id
+fit_fault_item fault.NoMemory = None
 
 -- the name that is printed for a refusal
 abbrev pub fit_fault_name : FitFault → List ℕ

@@ -1,6 +1,6 @@
 //! Why a model with words of any width is not fitted.
 ghost use Rattle.std.specs.Prelude.{◌≡◌};
-ghost use Rattle.fitting.specs.Faults.{fit_fault_number, fit_fault_name, fault_of};
+ghost use Rattle.fitting.specs.Faults.{fit_fault_item, fit_fault_number, fit_fault_name, fault_of};
 
 use crate::unfitted::Unfitted;
 use pieces::Shortage;
@@ -30,6 +30,16 @@ impl FitFault {
             FitFault::Fair(_) => 221,
             FitFault::TooManyItems(_) => 222,
             FitFault::NoMemory => 223,
+        }
+    }
+
+    /// The id of the line that it is about, where it is about one.
+    pub fn item(self) -> Option<u64>
+        ensures { result ≡ fit_fault_item self }
+    {
+        match self {
+            FitFault::Justice(id) | FitFault::Fair(id) | FitFault::TooManyItems(id) => Some(id),
+            FitFault::NoMemory => None,
         }
     }
 

@@ -40,6 +40,8 @@ pub enum Certificate {
 pub enum TextTask {
     /// Lowers a model to a circuit.
     Lower,
+    /// Writes the model of the profile that a model with words of any width is fitted into.
+    Fit,
     /// Writes the strict text of a witness as tools write it: of the one with this number in the file, from 1.
     TidyWitness(u64),
     /// Judges vectors of operators.

@@ -8,6 +8,7 @@ use Rattle.aigertext.specs.Whys.{circuit_why_number, circuit_why_name}
 use Rattle.blast.specs.declared.fault.LowerFault.{LowerFault}
 use Rattle.blast.specs.declared.fault.LowerFault.TheVariants as lower
 use Rattle.blast.specs.Faults.{lower_number, lower_name}
+use Rattle.fitting.specs.Faults.{fit_fault_item, fit_fault_name, fit_fault_number}
 use Rattle.engine_form.specs.Faults.{engine_fault_number as engine_number, engine_fault_name as engine_name}
 use Rattle.witness_circuits.specs.Faults.{test_number, test_name}
 use Rattle.certificates.specs.Faults.{invariant_why_number as invariant_number, invariant_why_name as invariant_name, obligation_number, obligation_name}
@@ -47,6 +48,11 @@ at_item (lower.Fair id) says = place_said (codes "item ") id says
 at_item (lower.NoNext id) says = place_said (codes "item ") id says
 at_item _ says = says
 
+-- what is said of an item, where there is one, or else of the model as a whole
+abbrev pub of_item : Option ℕ → List ℕ → List ℕ
+of_item (Some id) says = place_said (codes "item ") id says
+of_item None says = says
+
 -- what is said of a file of which two bad properties have one name
 abbrev pub same_name_said : ℕ → ℕ → List ℕ
 same_name_said one other =
@@ -60,6 +66,7 @@ abbrev pub fault_said : Fault → List ℕ
 fault_said (fault.Model e) = place_said (codes "line ") e.line (numbered_name (printed_number e.why) (line_why_name e.why))
 fault_said (fault.Circuit e) = place_said (codes "byte ") e.place (numbered_name (circuit_why_number e.why) (circuit_why_name e.why))
 fault_said (fault.Lowering e) = at_item e (numbered_name (lower_number e) (lower_name e))
+fault_said (fault.Fitting e) = of_item (fit_fault_item e) (numbered_name (fit_fault_number e) (fit_fault_name e))
 fault_said (fault.Outputs e) = numbered_name (circuit_fault_number e) (circuit_fault_name e)
 fault_said (fault.Engine e) = numbered_name (engine_number e) (engine_name e)
 fault_said (fault.Invariant e) = place_said (codes "line ") e.line (numbered_name (invariant_number e.why) (invariant_name e.why))

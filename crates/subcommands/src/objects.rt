@@ -3,7 +3,7 @@
 ghost use Rattle.std.specs.Prelude.{◌≡◌, ◌||◌, false, OnOk, codes};
 ghost use Rattle.std.specs.Io.KnownBytes.{Appends};
 ghost use Rattle.base.specs.Device.{CountsFaults};
-ghost use Rattle.subcommands.specs.Objects.{bad_members, certificate_object, claim_begin, claim_end, claim_object, claim_objects, claims_begin, claims_end, fault_members, fault_object, is_there, item_place, judgement_members, names, object, outcome_object, proof_members, proof_verdict, refusal_verdict, separator, verdict_name, why_member};
+ghost use Rattle.subcommands.specs.Objects.{bad_members, certificate_object, claim_begin, claim_end, claim_object, claim_objects, claims_begin, claims_end, fault_members, fault_object, is_there, item_place, judgement_members, names, object, outcome_object, place_at, proof_members, proof_verdict, refusal_verdict, separator, verdict_name, why_member};
 
 use crate::json::{
     begin_object, end_object, write_faulty, write_item, write_number, write_numbered, write_place,
@@ -313,6 +313,18 @@ fn write_item_place<O: Sink>(fault: LowerFault, out: &mut O) -> Result<(), Devic
     }
 }
 
+/// Writes an item, where there is one.
+fn write_item_at<O: Sink>(item: Option<u64>, out: &mut O) -> Result<(), DeviceFault>
+    ensures written { OnOk result (Appends (O.written out.old) (O.written out.new)
+        (place_at item)) }
+    ensures counted { CountsFaults result (O.failures out.old) (O.failures out.new) }
+{
+    match item {
+        Some(id) => write_place(b"item", id, out),
+        None => Ok(()),
+    }
+}
+
 /// Writes what is wrong with a file.
 fn write_fault<O: Sink>(fault: &Fault, out: &mut O) -> Result<(), DeviceFault>
     ensures written { OnOk result (Appends (O.written out.old) (O.written out.new)
@@ -330,6 +342,10 @@ fn write_fault<O: Sink>(fault: &Fault, out: &mut O) -> Result<(), DeviceFault>
         }
         Fault::Lowering(fault) => {
             write_item_place(*fault, out)?;
+            write_numbered(fault.number(), fault.name(), out)
+        }
+        Fault::Fitting(fault) => {
+            write_item_at(fault.item(), out)?;
             write_numbered(fault.number(), fault.name(), out)
         }
         Fault::Outputs(fault) => write_numbered(fault.number(), fault.name(), out),

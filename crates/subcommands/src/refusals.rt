@@ -51,6 +51,10 @@ pub(crate) fn fault_line(alloc: Global, fault: &Fault, file: &str) -> Result<Str
             format!(in alloc; "{file}: byte {place}: {number} {name}\n")
         }
         Fault::Lowering(fault) => lowering_line(alloc, file, *fault),
+        Fault::Fitting(fault) => match fault.item() {
+            Some(id) => item_line(alloc, file, id, fault.number(), fault.name()),
+            None => plain_line(alloc, file, fault.number(), fault.name()),
+        },
         Fault::Outputs(fault) => plain_line(alloc, file, fault.number(), fault.name()),
         Fault::Engine(fault) => plain_line(alloc, file, fault.number(), fault.name()),
         Fault::Invariant(fault) => {

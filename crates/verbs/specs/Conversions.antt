@@ -13,6 +13,8 @@ use Rattle.engine_form.specs.declared.fault.EngineFault.{EngineFault}
 use Rattle.engine_form.specs.declared.fault.EngineFault.TheVariants as engine
 use Rattle.blast.specs.declared.fault.LowerFault.{LowerFault}
 use Rattle.blast.specs.declared.fault.LowerFault.TheVariants as lower
+use Rattle.fitting.specs.declared.fault.FitFault.{FitFault}
+use Rattle.fitting.specs.declared.fault.FitFault.TheVariants as fit
 use Rattle.blast.specs.declared.fault.ConvertFault.{ConvertFault}
 use Rattle.blast.specs.declared.fault.ConvertFault.TheVariants as convert
 use Rattle.witness.specs.declared.fault.JudgeFault.{JudgeFault}
@@ -71,6 +73,11 @@ of_circuit_reading e = of_circuit_reading_for e e.why
 abbrev pub of_lowering : LowerFault → Refusal
 of_lowering lower.NoMemory = refusal.NoMemory
 of_lowering e = refusal.Input (fault.Lowering e)
+
+-- of fitting a model
+abbrev pub of_fitting : FitFault → Refusal
+of_fitting fit.NoMemory = refusal.NoMemory
+of_fitting e = refusal.Input (fault.Fitting e)
 
 -- of making an engine form
 abbrev pub of_engine_form : EngineFault → Refusal

@@ -4,6 +4,7 @@ pub mod Certificates
 pub mod Circuits
 pub mod Claims
 pub mod Conversions
+pub mod Fitting
 pub mod Given
 pub mod Judging
 pub mod Lifting

@@ -7,6 +7,7 @@ mod certifying;
 mod claims;
 mod converting;
 mod dumping;
+mod fitted;
 mod given;
 mod judging;
 mod lifting;
@@ -22,6 +23,7 @@ mod told;
 pub use certifying::{JudgedCertificate, certify, owe};
 pub use converting::{convert, convert_for_engines, convert_outputs, convert_outputs_for_engines};
 pub use dumping::dump;
+pub use fitted::fit;
 pub use given::{GivenCircuit, Lowered};
 pub use judging::{
     JudgedOverCircuit, JudgedOverModel, judge_for_circuit, judge_for_model, judge_over_circuit,

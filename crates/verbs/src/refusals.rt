@@ -2,13 +2,14 @@
 
 ghost use Rattle.std.specs.Prelude.{◌≡◌};
 ghost use Rattle.verbs.specs.declared.refusals.Refusal.TheVariants as refusal;
-ghost use Rattle.verbs.specs.Conversions.{of_reading, of_circuit_reading, of_lowering, of_outputs, of_engine_form, of_conversion, of_judging, of_dumping, of_lifting, of_reading_all, of_lines, of_invariant_for, of_obligation, of_claim, of_certificate, of_witness};
+ghost use Rattle.verbs.specs.Conversions.{of_reading, of_circuit_reading, of_lowering, of_outputs, of_engine_form, of_conversion, of_fitting, of_judging, of_dumping, of_lifting, of_reading_all, of_lines, of_invariant_for, of_obligation, of_claim, of_certificate, of_witness};
 
 use aiger::CircuitFault;
 use base::ReadAllFault;
 use blast::{ConvertFault, LowerFault};
 use certificates::{CertificateFault, ClaimFault, InvariantFault, InvariantWhy, ObligationFault};
 use engine_form::EngineFault;
+use fitting::FitFault;
 use lift::LiftFault;
 use std::alloc::AllocError;
 use vcd::WaveFault;
@@ -25,6 +26,8 @@ pub enum Fault {
     Circuit(aigertext::ReadFault),
     /// The model is not lowered.
     Lowering(LowerFault),
+    /// The model with words of any width is not fitted into one of the profile.
+    Fitting(FitFault),
     /// The circuit has more bad properties and outputs than a circuit may have bad properties.
     Outputs(CircuitFault),
     /// The circuit has no such engine form.
@@ -123,6 +126,17 @@ impl From<LowerFault> for Refusal {
         match fault {
             LowerFault::NoMemory => Refusal::NoMemory,
             _ => Refusal::Input(Fault::Lowering(fault)),
+        }
+    }
+}
+
+impl From<FitFault> for Refusal {
+    ghost from_gives = { λ e r. r ≡ of_fitting e };
+
+    fn from(fault: FitFault) -> Refusal {
+        match fault {
+            FitFault::NoMemory => Refusal::NoMemory,
+            _ => Refusal::Input(Fault::Fitting(fault)),
         }
     }
 }

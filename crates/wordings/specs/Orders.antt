@@ -85,6 +85,7 @@ task_of verb.Lower ps = Some (if has (codes "engine") ps then task.Model (model.
 task_of verb.CheckBtor ps = Some (task.Model model.CheckBtor)
 task_of verb.Show ps = Some (task.Model model.Show)
 task_of verb.Cost ps = Some (task.Model model.Cost)
+task_of verb.Fit ps = Some (task.Text text.Fit)
 task_of verb.AigConvert ps = Some (task.Circuit
     (if has (codes "engine") ps
     then (if has (codes "outputs") ps then circuit.ConvertOutputsForEngines (position ps) else circuit.ConvertForEngines (position ps))

@@ -8,7 +8,7 @@ use Rattle.wordings.specs.declared.table.Verb.TheVariants as verb
 -- the commands, in the order in which help lists them
 abbrev pub verbs : List Verb
 verbs =
-    verb.Lower ∷ verb.CheckBtor ∷ verb.Show ∷ verb.Cost ∷ verb.AigConvert ∷ verb.CheckAig ∷ verb.Lift ∷ verb.Restore
+    verb.Lower ∷ verb.CheckBtor ∷ verb.Show ∷ verb.Cost ∷ verb.Fit ∷ verb.AigConvert ∷ verb.CheckAig ∷ verb.Lift ∷ verb.Restore
     ∷ verb.Wave ∷ verb.Obligation ∷ verb.CheckProof ∷ verb.TidyWitness ∷ verb.Vectors ∷ verb.Judge ∷ []
 
 -- the word of a command
@@ -17,6 +17,7 @@ word_of verb.Lower = codes "lower"
 word_of verb.CheckBtor = codes "check-btor"
 word_of verb.Show = codes "show"
 word_of verb.Cost = codes "cost"
+word_of verb.Fit = codes "fit"
 word_of verb.AigConvert = codes "aig-convert"
 word_of verb.CheckAig = codes "check-aig"
 word_of verb.Lift = codes "lift"
@@ -39,6 +40,7 @@ words_of verb.CheckBtor =
     ∷ (codes "names", kind.Flag) ∷ (codes "bad", kind.Text) ∷ (codes "json", kind.Flag) ∷ []
 words_of verb.Show = (codes "MODEL", kind.File) ∷ (codes "quiet", kind.Flag) ∷ (codes "output", kind.Text) ∷ []
 words_of verb.Cost = (codes "MODEL", kind.File) ∷ (codes "quiet", kind.Flag) ∷ []
+words_of verb.Fit = (codes "MODEL", kind.File) ∷ (codes "quiet", kind.Flag) ∷ (codes "output", kind.Text) ∷ []
 words_of verb.AigConvert =
     (codes "CIRCUIT", kind.File) ∷ (codes "quiet", kind.Flag) ∷ (codes "output", kind.Text)
     ∷ (codes "ascii", kind.Flag) ∷ (codes "binary", kind.Flag) ∷ (codes "outputs", kind.Flag)

@@ -16,6 +16,8 @@ pub enum Verb {
     Show,
     /// `cost`
     Cost,
+    /// `fit`
+    Fit,
     /// `aig-convert`
     AigConvert,
     /// `check-aig`
@@ -199,11 +201,12 @@ const LIST_FILE: Word = Word {
 };
 
 /// The commands, in the order in which help lists them.
-const VERBS: [Verb; 14] = [
+const VERBS: [Verb; 15] = [
     Verb::Lower,
     Verb::CheckBtor,
     Verb::Show,
     Verb::Cost,
+    Verb::Fit,
     Verb::AigConvert,
     Verb::CheckAig,
     Verb::Lift,
@@ -232,6 +235,7 @@ pub fn word_of(verb: Verb) -> &'static str
         Verb::CheckBtor => "check-btor",
         Verb::Show => "show",
         Verb::Cost => "cost",
+        Verb::Fit => "fit",
         Verb::AigConvert => "aig-convert",
         Verb::CheckAig => "check-aig",
         Verb::Lift => "lift",
@@ -255,6 +259,7 @@ pub fn words_of(verb: Verb) -> &'static [Word]
         Verb::CheckBtor => &[MODEL_FILE, QUIET, WITNESS_FILE, NAMES, ASKED_BAD, JSON],
         Verb::Show => &[MODEL_FILE, QUIET, OUTPUT],
         Verb::Cost => &[MODEL_FILE, QUIET],
+        Verb::Fit => &[MODEL_FILE, QUIET, OUTPUT],
         Verb::AigConvert => &[
             CIRCUIT_FILE,
             QUIET,

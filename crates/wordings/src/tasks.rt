@@ -138,6 +138,7 @@ pub(crate) fn task_of(verb: Verb, parts: &[Part<'_>]) -> Option<Task>
         Verb::CheckBtor => Some(Task::Model(ModelTask::CheckBtor)),
         Verb::Show => Some(Task::Model(ModelTask::Show)),
         Verb::Cost => Some(Task::Model(ModelTask::Cost)),
+        Verb::Fit => Some(Task::Text(TextTask::Fit)),
         Verb::AigConvert => Some(converts(parts)),
         Verb::CheckAig => Some(Task::Circuit(CircuitTask::CheckAig)),
         Verb::Lift => Some(lifts(parts)),

@@ -45,6 +45,13 @@ pub fn worked_cost()
     ensures none { (o : Order) → ¬ Says (codes "cost" ∷ codes "-ox" ∷ codes "m" ∷ []) (request.One o) }
 {}
 
+/// Worked rows, with no code: words that say `fit`, and words that say nothing.
+pub fn worked_fit()
+    ensures says { (first : Bor (List ℕ)) → first.now ≡ codes "m"
+        → Says (codes "fit" ∷ codes "m" ∷ []) (request.One (record { task = task.Text text.Fit; named = false; as_json = false; asked = None; form = form.Ascii; first = first; second = None; third = None; output = None; tells_progress = true })) }
+    ensures none { (o : Order) → ¬ Says (codes "fit" ∷ codes "--ascii" ∷ codes "m" ∷ []) (request.One o) }
+{}
+
 /// Worked rows, with no code: words that say `aig-convert`, and words that say nothing.
 pub fn worked_aig_convert()
     ensures says { (first : Bor (List ℕ)) → first.now ≡ codes "m"

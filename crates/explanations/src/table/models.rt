@@ -90,7 +90,7 @@ pub(super) const ITEMS: [Explanation; 15] = [
         number: 12,
         name: "TooManyItems",
         when: "the model has 1,048,576 items",
-        remedy: "drop what no property or constraint needs (Yosys: `opt_clean -purge`), write one model per bad property, or go by bits, as with 5",
+        remedy: "drop what no property or constraint needs (Yosys: `opt_clean -purge`), or write one model per bad property",
     },
     Explanation {
         number: 2,
@@ -126,7 +126,7 @@ pub(super) const ITEMS: [Explanation; 15] = [
         number: 5,
         name: "WidthOutOfRange",
         when: "a sort's width is not 1 to 64",
-        remedy: "see what is met most",
+        remedy: "`hwtool fit` takes words of up to 1,048,576 bits: see what is met most",
     },
     Explanation {
         number: 7,
@@ -188,6 +188,34 @@ pub(super) const NAMES: [Explanation; 2] = [
     },
     Explanation {
         number: 17,
+        name: "NoMemory",
+        when: "out of memory",
+        remedy: "add memory",
+    },
+];
+
+/// Of fitting.
+pub(super) const FITTING: [Explanation; 4] = [
+    Explanation {
+        number: 220,
+        name: "Justice",
+        when: "of a model with words of more than 64 bits a justice line comes first in the file of what 220 to 222 refuse",
+        remedy: "as 90",
+    },
+    Explanation {
+        number: 221,
+        name: "Fair",
+        when: "of such a model a fairness line comes first of these",
+        remedy: "as 91",
+    },
+    Explanation {
+        number: 222,
+        name: "TooManyItems",
+        when: "with what is made for this item the fitted model would have more than 1,048,576 items: a division takes some ten for each bit of its words, and more as they grow",
+        remedy: "write one model per bad property, of only what it and the constraints need",
+    },
+    Explanation {
+        number: 223,
         name: "NoMemory",
         when: "out of memory",
         remedy: "add memory",

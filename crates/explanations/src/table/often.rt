@@ -26,7 +26,7 @@ pub(super) const OFTEN: [Explanation; 17] = [
         number: 5,
         name: "WidthOutOfRange",
         when: "a word has more than 64 bits, or none: of line 4, `sed -n 4p FILE` shows the width",
-        remedy: "in Yosys, before `write_btor`: `setundef -undriven -anyseq; setattr -unset keep; opt_clean -purge` where the word is only a name, else `techmap; simplemap; splitnets -ports`, which split it; or, always, as a circuit: `setundef -undriven -anyseq; techmap; aigmap; write_aiger -zinit FILE`, for `aig-convert --engine`, `obligation --aiger` and `check-proof --aiger`",
+        remedy: "`hwtool fit FILE >NEW` puts words of up to 1,048,576 bits into pieces, and what is judged over that holds of the model",
     },
     Explanation {
         number: 21,

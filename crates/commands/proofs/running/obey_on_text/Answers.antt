@@ -19,3 +19,18 @@ returns-in-Lower-clause-refused g c =
 
 pub returns-in-Lower-clause-ends : goal.returns-in-Lower-clause-ends
 returns-in-Lower-clause-ends g c = rw c.answered.ensures (answered_ends c.lower.result c.lower.ensures.ends)
+
+pub returns-in-Fit-clause-done : goal.returns-in-Fit-clause-done
+unfolding Answers
+returns-in-Fit-clause-done g c = λ second third told.
+    let is : c.args.task ≡ text.Fit = search rules in
+    rw (is, c.answered-in-Fit.ensures) (answered_done c.fit.result _ c.fit.ensures.done (λ did. did))
+
+pub returns-in-Fit-clause-refused : goal.returns-in-Fit-clause-refused
+unfolding RefusesTask
+returns-in-Fit-clause-refused g c =
+    let is : c.args.task ≡ text.Fit = search rules in
+    rw (is, c.answered-in-Fit.ensures) (answered_refused c.fit.result _ c.fit.ensures.refused)
+
+pub returns-in-Fit-clause-ends : goal.returns-in-Fit-clause-ends
+returns-in-Fit-clause-ends g c = rw c.answered-in-Fit.ensures (answered_ends c.fit.result c.fit.ensures.ends)
