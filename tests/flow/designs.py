@@ -60,7 +60,7 @@ def try_steps(place):
         "two-clocks": ["by yosys", "top two_clocks (the only root)", "2 clocks (see_clk, send_clk), by clk2fflogic"],
         "reset": ["by yosys", "top reset (the only root)", "one clock, resets or latches that do not wait for it, by clk2fflogic"],
         "undefined": ["by yosys", "top undefined (the only root)", "no clock", "undefined bits as any"],
-        "wide": ["by yosys", "top wide (the only root)", "one clock", "words as bits"],
+        "wide": ["by yosys", "top wide (the only root)", "one clock", "words of more than 64 bits in pieces"],
     }
     for name, wanted in reading.items():
         tally.same(f"{name}: what is said of it", wanted, place.results(f"{name}.flow")["reading"])
@@ -186,7 +186,7 @@ def try_words(place):
         "1 sort bitvec 1\n2 input 1\n": ("none.btor2", "bad"),
         "aag 1 1 0 0 0\n2\n": ("none.aag", "bad property"),
         "module broken(": ("broken.v", "ERROR"),
-        "1 sort bitvec 65\n": ("wide.btor2", "5 WidthOutOfRange; hwtool explain 5"),
+        "1 sort bitvec 65\n2 input 1\n3 fair 2\n": ("wide.btor2", "line 3: 6 SortMismatch; hwtool explain 6"),
         "aag x\n": ("broken.aag", "50 BadHeader"),
         "1 sort bitvec 1\n2 input 1\n3 justice 1 2\n4 bad 2\n": ("justice.btor2", "90 Justice"),
     }

@@ -110,6 +110,8 @@ class Model:
     inputs: List[str] = field(default_factory=list)
     # its constraints, by their names in the text
     constraints: List[Said] = field(default_factory=list)
+    # whether its words of more than 64 bits were put into pieces
+    in_pieces: bool = False
     # its text, once all that checks it reads nothing else
     text: Optional[Held] = None
 

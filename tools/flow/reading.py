@@ -4,7 +4,7 @@ import re
 import shutil
 from dataclasses import dataclass, replace
 from pathlib import Path
-from typing import Callable, List, Optional, Sequence, Set
+from typing import Callable, List, Optional, Sequence, Set, Tuple
 
 from . import recipe, vacuity
 from .account import Account
@@ -24,6 +24,9 @@ READS = re.compile(r"\s*(read|read_\w+|verific)\b")
 
 # A constraint of a model in the one spelling: its number, and its name if it has one.
 CONSTRAINT = r"^(\d+) constraint \d+(?: (\S+))?$"
+# The numbers of what `hwtool` refuses: a word of more than 64 bits, and an initial value that is no constant.
+TOO_WIDE, NOT_CONSTANT = 5, 11
+IN_PIECES = "words of more than 64 bits in pieces"
 WRITE_ONE = {
     "Verilog": "as in `always @* has_room: assert (count <= 4);`",
     "BTOR2": "as in `10 bad 9`, of a node of one bit",
@@ -63,9 +66,7 @@ def remedies_of(number: int, names: Names) -> List[Remedy]:
     bits = names.plain(recipe.beside("bits.v"))
     split = [f"techmap -max_iter 1 -map {bits} t:$anyseq t:$anyconst %u", "techmap", "simplemap", "splitnets -ports", "opt_clean"]
     by_bits = Remedy(["setundef -undriven -anyseq", *split], "words as bits")
-    unnamed = Remedy(["setundef -undriven -anyseq", "setattr -unset keep", "opt_clean -purge"], "wide words without names dropped")
-    table = {5: [unnamed, by_bits], 11: [Remedy(["simplemap t:$dff t:$ff", "splitnets"], "registers as bits"), by_bits]}
-    return table.get(number, [])
+    return [Remedy(["simplemap t:$dff t:$ff", "splitnets"], "registers as bits"), by_bits] if number == NOT_CONSTANT else []
 
 
 class NotTaken(InputRefused):
@@ -134,17 +135,28 @@ class Reader:
         return model
 
     def of_words(self, path: Path, place: str, role: Role) -> Model:
-        """A text in BTOR2, in the one spelling that `show` gives, with the places that Yosys noted."""
-        shown = self.made(path, "show", place)
-        lines = re.findall(r"^(\d+) bad (\d+)(?: (\S+))?$", shown, flags=re.M)
-        places = dict(re.findall(r"^(\d+) bad .*; (\S.*?)\s*$", path.read_text(encoding="utf-8", errors="replace"), flags=re.M))
+        """A text in BTOR2, in the one spelling that `show` gives, with the places that Yosys noted. One with wide words becomes the
+        text that it is fitted into, whose properties are in the same order."""
+        places = places_of_bads(path.read_text(encoding="utf-8", errors="replace"))
+        shown, in_pieces = self.shown(path, place)
+        lines = re.findall(r"^\d+ bad (\d+)(?: (\S+))?$", shown, flags=re.M)
         always = nodes_of_one(shown) if role is Role.ENABLES else set()
         properties = [
-            Property(number, name, places.get(line, ""), role, always_asked=node in always)
-            for number, (line, node, name) in enumerate(lines)
+            Property(number, name, noted, role, always_asked=node in always)
+            for number, ((node, name), noted) in enumerate(zip(lines, places))
         ]
         assumed = [Said("assume", name or f"constraint {line}", "") for line, name in re.findall(CONSTRAINT, shown, flags=re.M)]
-        return Model(Kind.WORDS, path, properties, role, constraints=assumed)
+        return Model(Kind.WORDS, path, properties, role, constraints=assumed, in_pieces=in_pieces)
+
+    def shown(self, path: Path, place: str) -> Tuple[str, bool]:
+        """A text in its one spelling, and whether it was fitted for its wide words."""
+        try:
+            return self.made(path, "show", place), False
+        except NotTaken as fault:
+            if fault.number != TOO_WIDE:
+                raise
+        os.replace(self.make(path, "fit", place), path)
+        return self.made(path, "show", place), True
 
     def of_names(self, path: Path, place: str, role: Role) -> Model:
         """A circuit, its bad properties and the names of its inputs, by its header and its table of names."""
@@ -158,7 +170,8 @@ class Reader:
 
     def of_text(self, model: Model, notes: List[str]) -> Design:
         """A design that is one text, with that about its assumptions."""
-        return Design(model, frames=self.frames_of(model, 0), notes=notes, assumptions=model.constraints)
+        told = [*notes, *in_pieces(model)]
+        return Design(model, frames=self.frames_of(model, 0), notes=told, assumptions=model.constraints)
 
     def of_circuit(self) -> Design:
         """A circuit, of which the outputs are the properties where there are no others."""
@@ -239,7 +252,7 @@ class Reader:
             covers if covers.properties else None,
             enables if enables.properties else None,
             self.frames_of(model, ahead),
-            ["by yosys", f"top {bridge.top} ({bridge.how})", str(timing), *as_what, *filter(None, [remedy.note])],
+            ["by yosys", f"top {bridge.top} ({bridge.how})", str(timing), *as_what, *filter(None, [remedy.note]), *in_pieces(model)],
             meaning,
             bridge.yosys.warnings,
             [Said(it.says.value, it.name, it.place) for it in bridge.assumed()],
@@ -271,7 +284,7 @@ class Reader:
         for it in paths:
             Path(it).write_text(names.told(text_of(Path(it))), "utf-8", "surrogateescape")
         model, covers = (self.taken(Path(it), Kind.WORDS, role) for it, role in zip(paths, (Role.MODEL, Role.COVER)))
-        notes = [f"by yosys and {script.name}", *filter(None, [remedy.note])]
+        notes = [f"by yosys and {script.name}", *filter(None, [remedy.note]), *in_pieces(model)]
         meaning, told = [BY_OWN_STEPS.format(script.name)], [names.told(it) for it in [*steps, "write_btor"]]
         return Design(
             model,
@@ -285,6 +298,17 @@ class Reader:
             steps=told,
             own_steps=script.name,
         )
+
+
+def in_pieces(model: Model) -> List[str]:
+    """What is said of a model that was fitted for its wide words."""
+    return [IN_PIECES] if model.in_pieces else []
+
+
+def places_of_bads(text: str) -> List[str]:
+    """Of each bad property of a text the place that stands behind it, or nothing."""
+    parts = (line.partition(";") for line in text.splitlines())
+    return [behind.strip() for front, _, behind in parts if front.split()[1:2] == ["bad"]]
 
 
 def nodes_of_one(shown: str) -> Set[str]:

@@ -7,8 +7,8 @@ from typing import Dict, List, Sequence, Tuple
 
 from .model import Property
 
-# The name of a bit of a word that was taken apart.
-BIT = re.compile(r"(.+)\[(\d+)\]")
+# The name of a part of a word that was taken apart: a bit, or a piece by its upper and its lower bit.
+PART = re.compile(r"(?P<word>.+)\[(?:\d+:)?(?P<lower>\d+)\]")
 
 
 class Scope(enum.Enum):
@@ -30,8 +30,8 @@ class Signal:
     name: str
     width: int
     words: List[str] = field(default_factory=list)
-    # where it is a word of bits that stand alone in the dump, these from the highest on
-    bits: List["Signal"] = field(default_factory=list)
+    # where it is a word of parts that stand alone in the dump, these from the highest on
+    parts: List["Signal"] = field(default_factory=list)
 
     @property
     def label(self) -> str:
@@ -116,38 +116,52 @@ def in_own_frame(signals: Sequence[Signal], ahead: int) -> List[Signal]:
 
 
 def joined(signals: Sequence[Signal]) -> List[Signal]:
-    """Signals, in which bits of one name, `word[0]` and on, are one word."""
+    """Signals, in which parts of one name, `word[0]` or `word[63:0]` and on, are one word."""
     found: Dict[Tuple[Scope, str], Dict[int, Signal]] = {}
     for it in signals:
-        bit = BIT.fullmatch(it.name)
-        if bit and it.width == 1 and it.scope is not Scope.PROPERTY:
-            found.setdefault((it.scope, bit[1]), {})[int(bit[2])] = it
-    words = {key: bits for key, bits in found.items() if len(bits) > 1 and sorted(bits) == list(range(len(bits)))}
+        part = PART.fullmatch(it.name)
+        if part and it.scope is not Scope.PROPERTY:
+            found.setdefault((it.scope, part["word"]), {})[int(part["lower"])] = it
+    words = {key: parts for key, parts in found.items() if len(parts) > 1 and are_whole(parts)}
     made: List[Signal] = []
     for it in signals:
-        bit = BIT.fullmatch(it.name)
-        bits = words.get((it.scope, bit[1])) if bit and it.width == 1 else None
-        if bits is None:
+        part = PART.fullmatch(it.name)
+        parts = words.get((it.scope, part["word"])) if part else None
+        if parts is None:
             made.append(it)
-        elif bits and not any(one.bits and one.bits[-1] is bits[0] for one in made):
-            made.append(word_of(bit[1], [bits[place] for place in reversed(range(len(bits)))]))
+        elif not any(one.parts and one.parts[-1] is parts[0] for one in made):
+            made.append(word_of(part["word"], [parts[lower] for lower in sorted(parts, reverse=True)]))
     return made
 
 
-def word_of(name: str, bits: List[Signal]) -> Signal:
-    """The word of some bits, from the highest on."""
-    words = ["".join(digits) for digits in zip(*(it.words for it in bits))]
-    return Signal(bits[0].scope, name, len(bits), words, bits)
+def are_whole(parts: Dict[int, Signal]) -> bool:
+    """Whether parts, by their lower bits, make a word: each begins where the one below it ends."""
+    end = 0
+    for lower in sorted(parts):
+        if lower != end:
+            return False
+        end += parts[lower].width
+    return True
+
+
+def word_of(name: str, parts: List[Signal]) -> Signal:
+    """The word of some parts, from the highest on."""
+    words = ["".join(digits) for digits in zip(*(it.words for it in parts))]
+    return Signal(parts[0].scope, name, sum(it.width for it in parts), words, parts)
 
 
 def saved_file(dump: str, signals: Sequence[Signal]) -> str:
-    """What GTKWave saves of a view: the signals that are shown, bits in binary and words in hexadecimal."""
+    """What GTKWave saves of a view: the signals that are shown, bits in binary and words in hexadecimal; of a word in pieces these."""
     lines = [f'[dumpfile] "{dump}"', "[timestart] 0", "*-1.500000 0 -1 -1"]
     for it in signals:
-        lines += ["@28" if it.width == 1 else "@22", it.in_gtkwave if not it.bits else bits_in_gtkwave(it)]
+        if it.parts and all(one.width == 1 for one in it.parts):
+            lines += ["@22", bits_in_gtkwave(it)]
+        else:
+            for one in it.parts or [it]:
+                lines += ["@28" if one.width == 1 else "@22", one.in_gtkwave]
     return "\n".join(lines) + "\n"
 
 
 def bits_in_gtkwave(it: Signal) -> str:
     """A word of bits that stand alone, as GTKWave's saved files have it."""
-    return " ".join([f"#{{{it.scope.value}.{it.name}[{it.width - 1}:0]}}", *(one.in_gtkwave for one in it.bits)])
+    return " ".join([f"#{{{it.scope.value}.{it.name}[{it.width - 1}:0]}}", *(one.in_gtkwave for one in it.parts)])
