@@ -147,7 +147,7 @@ def cost(first, file):
 FLAGS = {
     "check-btor": (("--names",), 2), "check-aig": (("--names",), 2), "lower": (("--ascii", "--binary"), 1),
     "aig-convert": (("--ascii", "--binary"), 1), "lift": (("--engine", "--abc", "--names"), 2), "restore": (("--abc",), 2),
-    "wave": (("--all",), 2), "cost": ((), 1),
+    "wave": (("--all",), 2), "cost": ((), 1), "fit": ((), 1),
     "obligation": (("--aiger", "--circuit", "--engine"), 2), "check-proof": (("--aiger", "--circuit", "--engine", "--lrat"), 3),
 }  # fmt: skip
 
@@ -188,6 +188,8 @@ def answer(command, flags, bad, names, texts):
         return checked(plain, with_claims, first, choice, second, circuit, file, by_name.value)
     if command == "lower":
         return called(library.hwtool_lower, (*first, binary), False, 1, circuit, file)
+    if command == "fit":
+        return called(library.hwtool_fit, first, False, 1, circuit, file)
     if command == "aig-convert":
         return called(library.hwtool_convert, (*first, binary), False, 1, circuit, file)
     if command == "restore" and "--abc" in flags:

@@ -32,6 +32,7 @@ from ._calls import (
     convert,
     cost,
     engine_form,
+    fit,
     lift,
     lift_engine,
     lift_engine_abc,
@@ -46,7 +47,7 @@ from ._calls import (
 )
 from ._refusals import Case, Refused, explain, name
 
-__version__ = "0.8.0"
+__version__ = "0.9.0"
 
 # so is it told where nobody catches it
 Refused.__module__ = __name__
@@ -73,6 +74,7 @@ __all__ = [
     "cost",
     "engine_form",
     "explain",
+    "fit",
     "lift",
     "lift_engine",
     "lift_engine_abc",

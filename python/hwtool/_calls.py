@@ -158,6 +158,20 @@ def lower(model: Text, *, binary: bool = False) -> bytes:
     return text
 
 
+def fit(model: Text) -> bytes:
+    """A BTOR2 model with words of up to 1,048,576 bits as one with words of at most 64, which every other call takes: its bad
+    properties can rise in as many frames. One of the latter stays as it is, in one spelling.
+
+    Raises Refused where the text is no such model, or is not fitted: it has words of more than 64 bits and a justice or fairness
+    line, or the fitted model would be too big.
+    """
+    first = _Given(model)
+    status, refusal, text = written("hwtool_fit", first.words, first.room)
+    if status != DONE:
+        _refuse(status, refusal, "model", first)
+    return text
+
+
 def cost(model: Text) -> Cost:
     """How many AND gates and variables the circuit of a BTOR2 model has at most. Raises Refused where the model is none."""
     first, gates, variables = _Given(model), ctypes.c_uint64(), ctypes.c_uint64()

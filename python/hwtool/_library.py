@@ -54,6 +54,7 @@ _CALLS = {
     "hwtool_check_btor_claims": [*_TEXT, ctypes.c_bool, ctypes.c_size_t, *_TEXT, *_VERDICT, *_CLAIMS, *_REFUSAL],
     "hwtool_check_aig_claims": [*_TEXT, ctypes.c_bool, ctypes.c_size_t, *_TEXT, *_VERDICT, *_CLAIMS, *_REFUSAL],
     "hwtool_lower": [*_TEXT, ctypes.c_bool, *_BUFFER, *_REFUSAL],
+    "hwtool_fit": [*_TEXT, *_BUFFER, *_REFUSAL],
     "hwtool_cost": [*_TEXT, *_COUNT, *_COUNT, *_REFUSAL],
     "hwtool_convert": [*_TEXT, ctypes.c_bool, *_BUFFER, *_REFUSAL],
     "hwtool_engine_form": [*_TEXT, ctypes.c_bool, ctypes.c_size_t, ctypes.c_bool, *_BUFFER, *_REFUSAL],

@@ -41,13 +41,13 @@ CASES: Dict[int, Tuple[Tuple[str, str, str, str], ...]] = {
             'What is met most',
             'WidthOutOfRange',
             'a word has more than 64 bits, or none: of line 4, `sed -n 4p FILE` shows the width',
-            'in Yosys, before `write_btor`: `setundef -undriven -anyseq; setattr -unset keep; opt_clean -purge` where the word is only a name, else `techmap; simplemap; splitnets -ports`, which split it; or, always, as a circuit: `setundef -undriven -anyseq; techmap; aigmap; write_aiger -zinit FILE`, for `aig-convert --engine`, `obligation --aiger` and `check-proof --aiger`',
+            '`hwtool fit FILE >NEW` puts words of up to 1,048,576 bits into pieces, and what is judged over that holds of the model',
         ),
         (
             'Items of a model',
             'WidthOutOfRange',
             "a sort's width is not 1 to 64",
-            'see what is met most',
+            '`hwtool fit` takes words of up to 1,048,576 bits: see what is met most',
         ),
     ),
     6: (
@@ -103,7 +103,7 @@ CASES: Dict[int, Tuple[Tuple[str, str, str, str], ...]] = {
             'Items of a model',
             'TooManyItems',
             'the model has 1,048,576 items',
-            'drop what no property or constraint needs (Yosys: `opt_clean -purge`), write one model per bad property, or go by bits, as with 5',
+            'drop what no property or constraint needs (Yosys: `opt_clean -purge`), or write one model per bad property',
         ),
     ),
     13: (
@@ -1239,6 +1239,38 @@ CASES: Dict[int, Tuple[Tuple[str, str, str, str], ...]] = {
             'Witness circuits',
             'NoMemory',
             'out of memory for a test',
+            'add memory',
+        ),
+    ),
+    220: (
+        (
+            'Fitting',
+            'Justice',
+            'of a model with words of more than 64 bits a justice line comes first in the file of what 220 to 222 refuse',
+            'take the line out: no bad property needs it; the justice property is then unchecked',
+        ),
+    ),
+    221: (
+        (
+            'Fitting',
+            'Fair',
+            'of such a model a fairness line comes first of these',
+            'take the line out: only justice properties need it',
+        ),
+    ),
+    222: (
+        (
+            'Fitting',
+            'TooManyItems',
+            'with what is made for this item the fitted model would have more than 1,048,576 items: a division takes some ten for each bit of its words, and more as they grow',
+            'write one model per bad property, of only what it and the constraints need',
+        ),
+    ),
+    223: (
+        (
+            'Fitting',
+            'NoMemory',
+            'out of memory',
             'add memory',
         ),
     ),

@@ -17,7 +17,7 @@ from rows import read_rows  # noqa: E402
 
 FILES = {
     "check-btor": 2, "check-aig": 2, "lower": 1, "cost": 1, "aig-convert": 1, "lift": 2, "wave": 2, "obligation": 2,
-    "check-proof": 3, "restore": 2,
+    "check-proof": 3, "restore": 2, "fit": 1,
 }  # fmt: skip
 # the flags of commands, beside the two forms of circuits, that a call answers to
 FLAGS = {
@@ -58,6 +58,8 @@ def answer(command, flags, bad, files, names):
         if command == "obligation":
             call = hwtool.obligation_aig if "--aiger" in flags else hwtool.obligation
             return 0, call(files[0], bad or 0, files[1]), b""
+        if command == "fit":
+            return 0, hwtool.fit(files[0]), b""
         if command == "cost":
             return 0, f"{hwtool.cost(files[0])}\n".encode(), b""
         if command in ("lift", "restore", "wave"):
