@@ -3,7 +3,7 @@ _hwtool() {
     local word=${COMP_WORDS[COMP_CWORD]} before=${COMP_WORDS[COMP_CWORD - 1]} words=
     COMPREPLY=()
     if [ "$COMP_CWORD" = 1 ]; then
-        mapfile -t COMPREPLY < <(compgen -W 'lower check-btor show cost aig-convert check-aig lift restore wave obligation check-proof tidy-witness vectors judge explain help --help --version' -- "$word")
+        mapfile -t COMPREPLY < <(compgen -W 'lower check-btor show cost fit aig-convert check-aig lift restore wave obligation check-proof tidy-witness vectors judge explain help --help --version' -- "$word")
         return
     fi
     case $before in
@@ -14,6 +14,7 @@ _hwtool() {
         check-btor) words='--quiet --names --bad --json --help' ;;
         show) words='--quiet --output --help' ;;
         cost) words='--quiet --help' ;;
+        fit) words='--quiet --output --help' ;;
         aig-convert) words='--quiet --output --ascii --binary --outputs --engine --bad --help' ;;
         check-aig) words='--quiet --names --bad --json --help' ;;
         lift) words='--quiet --output --names --engine --abc --bad --help' ;;
