@@ -188,7 +188,7 @@ class Job:
 
     def proof_before(self) -> Held:
         """The proof that an earlier run kept, in either form."""
-        with contextlib.suppress(FileNotFoundError):
+        with contextlib.suppress(OSError):
             return self.prover.folder.read(self.name(HINTED_PROOF), SOLVER_BYTES)
         return self.prover.folder.read(self.name(PROOF), SOLVER_BYTES)
 
