@@ -12,14 +12,14 @@ use Rattle.drup.specs.Numbers.{unit_behind, SpellsNumber}
 
 -- ---- a byte more
 
-more_value : (bytes : List ℕ) (b : ℕ) → coded_number (bytes ++ b ∷ []) ≡ coded_number bytes + (b % 128) * unit_behind bytes
+pub more_value : (bytes : List ℕ) (b : ℕ) → coded_number (bytes ++ b ∷ []) ≡ coded_number bytes + (b % 128) * unit_behind bytes
 more_value [] b = omega arith
 more_value (x ∷ xs) b =
     let own = more_value xs b in
     let out : (b % 128) * (128 * unit_behind xs) ≡ 128 * ((b % 128) * unit_behind xs) = mul_left_comm (b % 128) 128 (unit_behind xs) in
     omega (arith, own, out)
 
-more_unit : (bytes : List ℕ) (b : ℕ) → unit_behind (bytes ++ b ∷ []) ≡ 128 * unit_behind bytes
+pub more_unit : (bytes : List ℕ) (b : ℕ) → unit_behind (bytes ++ b ∷ []) ≡ 128 * unit_behind bytes
 more_unit [] b = refl
 more_unit (x ∷ xs) b = ap (λ (u : ℕ). 128 * u) (more_unit xs b)
 

@@ -28,6 +28,7 @@ pub mod TextJudges
 pub mod Numbers
 pub mod ProofJudges
 pub mod Hints
+pub mod Opened
 pub mod IdPlaces
 pub mod Named
 pub mod HintedJudges

@@ -128,6 +128,7 @@ impl HintedJudge {
 
     /// Takes a step that adds a clause with an id, by hints, and ends in a line: a judge that stood for some steps stands for
     /// these with this one behind them.
+    #[inline(never)]
     pub fn add(&mut self, id: u32, clause: &[u32], hints: &[u32], line: u64)
         requires { All (λ l. l < self.old.limit) clause.now }
         ensures stands { (f : Formula) (steps : List HintedEnded) → StandsForHinted f steps self.old
@@ -159,6 +160,7 @@ impl HintedJudge {
     }
 
     /// Takes a step that takes the clause of an id away, where it has one, and ends in a line, likewise.
+    #[inline(never)]
     pub fn delete(&mut self, id: u32, line: u64)
         ensures stands { (f : Formula) (steps : List HintedEnded) → StandsForHinted f steps self.old
             → StandsForHinted f (steps ++ ended line (deletion id) ∷ []) self.new }

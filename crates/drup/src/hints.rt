@@ -6,7 +6,9 @@ ghost use Rattle.drup.specs.Propagation.{Literals};
 ghost use Rattle.drup.specs.Growth.{Extends};
 ghost use Rattle.drup.specs.Named.{clause_of, AreNamed};
 ghost use Rattle.drup.specs.Hints.{and_open, with_seen, open_in, with_marked, negated, by_clause, settled, follow};
+ghost use Rattle.drup.specs.Opened.{open_of};
 ghost use Rattle.drup.specs.declared.hints.Finding.{Finding as FindingValue};
+ghost use Rattle.drup.specs.declared.hints.Open.TheVariants as opening;
 
 use crate::literal::negation;
 use crate::named::Named;
@@ -34,33 +36,64 @@ pub(crate) enum Finding {
     Unshown,
 }
 
-/// What is open with another literal, which is.
-fn and_open(found: Open, literal: u32) -> Open
-    ensures { result ≡ and_open found literal }
-{
-    match found {
-        Open::Nothing => Open::Only(literal),
-        Open::Only(one) => {
-            if one == literal {
-                Open::Only(one)
-            } else {
-                Open::More
-            }
+/// What is open of the literals so far, of which none decides a branch.
+#[derive(Clone, Copy)]
+struct Seen {
+    // a literal is open
+    some: bool,
+    // two different literals are, where one is
+    more: bool,
+    // the last that is open
+    last: u32,
+}
+
+impl Seen {
+    /// No literal.
+    fn new() -> Seen
+        ensures { open_of result ≡ opening.Nothing }
+    {
+        Seen {
+            some: false,
+            more: false,
+            last: 0,
         }
-        Open::More => Open::More,
+    }
+
+    /// The same with another literal, which may be open.
+    #[inline(always)]
+    fn with(self, literal: u32, is_open: bool) -> Seen
+        ensures { open_of result
+            ≡ (if is_open then and_open (open_of self) literal else open_of self) }
+    {
+        Seen {
+            some: self.some | is_open,
+            more: self.some & (self.more | (is_open & (literal != self.last))),
+            last: if is_open { literal } else { self.last },
+        }
+    }
+
+    /// What is open.
+    fn open(self) -> Open
+        ensures { result ≡ open_of self }
+    {
+        if !self.some {
+            return Open::Nothing;
+        }
+        if self.more {
+            return Open::More;
+        }
+        Open::Only(self.last)
     }
 }
 
 /// What is open with another literal, which may be negated.
-fn with_seen(found: Open, literal: u32, trail: &Trail) -> Open
+#[inline(always)]
+fn with_seen(found: Seen, literal: u32, trail: &Trail) -> Seen
     requires even { IsEven trail.now }
     requires inside { literal < length trail.now.marks }
-    ensures { result ≡ with_seen (set_of trail.now) found literal }
+    ensures { open_of result ≡ with_seen (set_of trail.now) (open_of found) literal }
 {
-    if trail.has(negation(literal)) {
-        return found;
-    }
-    and_open(found, literal)
+    found.with(literal, !trail.has(negation(literal)))
 }
 
 /// What is open of a clause.
@@ -69,11 +102,11 @@ fn open_in(clause: &[u32], trail: &Trail) -> Open
     requires inside { All (λ l. l < length trail.now.marks) clause.now }
     ensures { result ≡ open_in (set_of trail.now) clause.now }
 {
-    let mut found = Open::Nothing;
+    let mut found = Seen::new();
     for literal in clause {
         found = with_seen(found, *literal, trail);
     }
-    found
+    found.open()
 }
 
 /// Marks a literal, if it is not marked.

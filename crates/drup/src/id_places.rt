@@ -1,7 +1,7 @@
 //! The places of ids: one number for each.
 ghost use Rattle.std.specs.Prelude.{◌≡◌, ℕ, ◌<◌, ◌==◌, if◌then◌else◌, IfOk, OnErr, Some, None, nat_eq, slice_index_or};
 ghost use Rattle.std.specs.Map.{lookup};
-ghost use Rattle.drup.specs.IdPlaces.{near_at, place_of};
+ghost use Rattle.drup.specs.IdPlaces.{listed_at, place_of};
 
 use crate::fault::ClauseFault;
 use indexmap::IndexMap;
@@ -10,12 +10,14 @@ use std::alloc::Global;
 /// What stands for no place.
 const NO_PLACE: u32 = 4294967295;
 
-/// Places of ids. Those of ids from one on, as long as they lie close together, stand in a list by their ids; the others in a map.
+/// Places of ids. Ids before one and ids from it on have a list each, in which they stand as long as they lie close together; the
+/// others stand in a map.
 #[derive(Drop)]
 pub(crate) struct IdPlaces {
-    // the first id of the list
+    // the first id of the list of the later ids
     first: u32,
-    near: Vec<u32>,
+    early: Vec<u32>,
+    late: Vec<u32>,
     far: IndexMap<u32, u32>,
 }
 
@@ -38,51 +40,64 @@ fn at_or_none(places: &[u32], k: usize) -> u32
     }
 }
 
-/// How long the list may be for clauses before a place: four times as long, so that the list takes no more than these do.
-fn most_near(place: u32) -> usize {
+/// How long a list may be for clauses before a place: four times as long, so that it takes no more than these do.
+fn most_listed(place: u32) -> usize {
     4 * place as usize + 1024
 }
 
 /// Puts a number at a place of a list, which is made longer where that is needed.
-fn set_near(near: &mut Vec<u32>, k: usize, place: u32) -> Result<(), ClauseFault>
-    ensures ok { IfOk result (λ _. (i : ℕ) → slice_index_or near.new.items i 4294967295
-        ≡ (if i == k then place else slice_index_or near.old.items i 4294967295)) }
-    ensures err { OnErr result ((i : ℕ) → slice_index_or near.new.items i 4294967295
-        ≡ slice_index_or near.old.items i 4294967295) }
+fn set_listed(list: &mut Vec<u32>, k: usize, place: u32) -> Result<(), ClauseFault>
+    ensures ok { IfOk result (λ _. (i : ℕ) → slice_index_or list.new.items i 4294967295
+        ≡ (if i == k then place else slice_index_or list.old.items i 4294967295)) }
+    ensures err { OnErr result ((i : ℕ) → slice_index_or list.new.items i 4294967295
+        ≡ slice_index_or list.old.items i 4294967295) }
 {
-    while near.len() <= k {
-        match near.push(NO_PLACE) {
+    while list.len() <= k {
+        match list.push(NO_PLACE) {
             Ok(_) => {}
             Err(_) => return Err(ClauseFault::NoMemory),
         }
     }
-    near[k] = place;
+    list[k] = place;
     Ok(())
 }
 
+/// Puts what stands for no place at a place of a list, where it has one there.
+fn unset_at(list: &mut Vec<u32>, k: usize)
+    ensures { (i : ℕ) → slice_index_or list.new.items i 4294967295
+        ≡ (if i == k then 4294967295 else slice_index_or list.old.items i 4294967295) }
+{
+    if k < list.len() {
+        list[k] = NO_PLACE;
+    }
+}
+
 impl IdPlaces {
-    /// No places; the list is of the ids from one on.
+    /// No places; the list of the later ids begins with one.
     pub(crate) fn new(alloc: Global, first: u32) -> IdPlaces
         ensures { (id : ℕ) → place_of result id ≡ None }
     {
         IdPlaces {
             first,
-            near: Vec::new(alloc),
+            early: Vec::new(alloc),
+            late: Vec::new(alloc),
             far: IndexMap::new(alloc),
         }
     }
 
-    /// The place of an id in the list.
-    fn near_place(&self, id: u32) -> u32
-        ensures { result ≡ near_at self.now id }
+    /// The place of an id in its list.
+    #[inline(always)]
+    fn listed_place(&self, id: u32) -> u32
+        ensures { result ≡ listed_at self.now id }
     {
         if id < self.first {
-            return NO_PLACE;
+            return at_or_none(&self.early, id as usize);
         }
-        at_or_none(&self.near, (id - self.first) as usize)
+        at_or_none(&self.late, (id - self.first) as usize)
     }
 
     /// The place of an id in the map.
+    #[inline(never)]
     fn far_place(&self, id: u32) -> Option<u32>
         ensures { result ≡ lookup (nat_eq id) self.now.far }
     {
@@ -93,10 +108,11 @@ impl IdPlaces {
     }
 
     /// The place of an id.
+    #[inline(always)]
     pub(crate) fn get(&self, id: u32) -> Option<u32>
         ensures { result ≡ place_of self.now id }
     {
-        let place = self.near_place(id);
+        let place = self.listed_place(id);
         if place != NO_PLACE {
             return Some(place);
         }
@@ -111,10 +127,14 @@ impl IdPlaces {
             ≡ (if i == id then Some place else place_of self.old i)) }
         ensures err { OnErr result ((i : ℕ) → place_of self.new i ≡ place_of self.old i) }
     {
-        if id >= self.first {
+        if id < self.first {
+            if (id as usize) < most_listed(place) {
+                return set_listed(&mut self.early, id as usize, place);
+            }
+        } else {
             let k = (id - self.first) as usize;
-            if k < most_near(place) {
-                return set_near(&mut self.near, k, place);
+            if k < most_listed(place) {
+                return set_listed(&mut self.late, k, place);
             }
         }
         match self.far.insert(id, place) {
@@ -123,19 +143,17 @@ impl IdPlaces {
         }
     }
 
-    /// Lets an id have no place in the list.
-    fn unset_near(&mut self, id: u32)
-        ensures near { (i : ℕ) → near_at self.new i
-            ≡ (if i == id then 4294967295 else near_at self.old i) }
+    /// Lets an id have no place in its list.
+    fn unset_listed(&mut self, id: u32)
+        ensures listed { (i : ℕ) → listed_at self.new i
+            ≡ (if i == id then 4294967295 else listed_at self.old i) }
         ensures far { self.new.far ≡ self.old.far }
     {
         if id < self.first {
+            unset_at(&mut self.early, id as usize);
             return;
         }
-        let k = (id - self.first) as usize;
-        if k < self.near.len() {
-            self.near[k] = NO_PLACE;
-        }
+        unset_at(&mut self.late, (id - self.first) as usize);
     }
 
     /// Lets an id have no place.
@@ -143,7 +161,7 @@ impl IdPlaces {
         ensures { (i : ℕ) → place_of self.new i
             ≡ (if i == id then None else place_of self.old i) }
     {
-        self.unset_near(id);
+        self.unset_listed(id);
         if self.far.is_empty() {
             return;
         }

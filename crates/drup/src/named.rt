@@ -40,7 +40,13 @@ fn is_due(dead: usize, held: usize) -> bool
     dead > held / 2 + 1024
 }
 
-/// The clauses that stand, in their order; the list of ids is of those from one on.
+/// The first of the later ids behind a sweep: as many before the last as clauses were held.
+fn later_from(last: u32, held: usize) -> u32 {
+    let all = last as usize;
+    if held < all { (all - held) as u32 } else { 0 }
+}
+
+/// The clauses that stand, in their order; of the ids those from one on are the later.
 fn without_dead(named: &Named, first: u32) -> Result<Named, ClauseFault>
     requires { (limit : ℕ) × AreNamed named.now limit }
     ensures { IfOk result (λ swept. IsSweptTo (length named.now.clauses) named.now swept) }
@@ -53,7 +59,7 @@ fn without_dead(named: &Named, first: u32) -> Result<Named, ClauseFault>
 }
 
 impl Named {
-    /// No clauses; those of ids from one on are found soonest.
+    /// No clauses; the later ids begin with one.
     pub(crate) fn from(alloc: Global, first: u32) -> Named
         ensures none { (id : ℕ) → clause_of result id ≡ None }
         ensures named { (limit : ℕ) → AreNamed result limit }
@@ -154,8 +160,7 @@ impl Named {
         self.insert(id, named.clauses.clause(k))
     }
 
-    /// Gives the room of clauses that were taken away back where it is half of all. Ids behind one are those that are found
-    /// soonest then.
+    /// Gives the room of clauses that were taken away back where it is half of all, where this was the last id.
     ///
     /// Errors: `NoMemory` where the room for what stands was refused; nothing is changed then.
     pub(crate) fn sweep(&mut self, last: u32) -> Result<(), ClauseFault>
@@ -167,7 +172,7 @@ impl Named {
         if !is_due(self.dead, self.clauses.size()) {
             return Ok(());
         }
-        let swept = without_dead(self, last)?;
+        let swept = without_dead(self, later_from(last, self.clauses.len()))?;
         self.clauses = swept.clauses;
         self.ids = swept.ids;
         self.places = swept.places;

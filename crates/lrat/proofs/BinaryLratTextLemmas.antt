@@ -42,7 +42,7 @@ number_is said n bytes low w =
 
 -- ---- what numbers do
 
-abbrev rest_of : ℕ → Spot → List ℕ → List Mark
+abbrev pub rest_of : ℕ → Spot → List ℕ → List Mark
 rest_of k spot bytes = step_marks k spot (number_pieces bytes)
 
 coded_taken : (v id : ℕ) (before : List ℕ) (l : ℕ) → IsLiteral v l → taken v (literals id before) (literal_coded l) ≡ goes_on (literals id (before ++ l ∷ []))
@@ -53,19 +53,19 @@ coded_taken v id before l is = at (l % 2 == 0) refl
     at false odd = let one : l % 2 ≡ 1 = odd_one l odd in with_is v id before 1 (l / 2) l (omega (arith, is.0)) (omega (arith, is.1)) (omega (arith, one))
 
 -- a number among literals, and among ids
-literal_marks : (k n : ℕ) (bytes more : List ℕ) → n < 2 ^ 64 → WritesNumber n bytes → rest_of k at_literal (bytes ++ more) ≡ mark k (literal_coded n) ∷ rest_of k at_literal more
+pub literal_marks : (k n : ℕ) (bytes more : List ℕ) → n < 2 ^ 64 → WritesNumber n bytes → rest_of k at_literal (bytes ++ more) ≡ mark k (literal_coded n) ∷ rest_of k at_literal more
 literal_marks k n bytes more low w =
     ap (step_marks k at_literal) (pieces_number n bytes more w)
     ∙ ap (λ (b : Bool). mark k (if b then ends else number_in literal_coded bytes) ∷ step_marks k (if b then at_other else at_literal) (number_pieces more)) (no_end n bytes w)
     ∙ ap (λ (t : Token). mark k t ∷ rest_of k at_literal more) (number_is literal_coded n bytes low w)
 
-other_marks : (k n : ℕ) (bytes more : List ℕ) → n < 2 ^ 64 → WritesNumber n bytes → rest_of k at_other (bytes ++ more) ≡ mark k (number n) ∷ rest_of k at_other more
+pub other_marks : (k n : ℕ) (bytes more : List ℕ) → n < 2 ^ 64 → WritesNumber n bytes → rest_of k at_other (bytes ++ more) ≡ mark k (number n) ∷ rest_of k at_other more
 other_marks k n bytes more low w =
     ap (step_marks k at_other) (pieces_number n bytes more w)
     ∙ ap (λ (b : Bool). mark k (if b then ends else number_in number bytes) ∷ step_marks (if b then min (k + 1) (2 ^ 64 - 1) else k) (if b then at_step else at_other) (number_pieces more)) (no_end n bytes w)
     ∙ ap (λ (t : Token). mark k t ∷ rest_of k at_other more) (number_is number n bytes low w)
 
-id_marks : (k n : ℕ) (bytes more : List ℕ) → n < 2 ^ 64 → WritesNumber n bytes → rest_of k at_id (bytes ++ more) ≡ mark k (number n) ∷ rest_of k at_literal more
+pub id_marks : (k n : ℕ) (bytes more : List ℕ) → n < 2 ^ 64 → WritesNumber n bytes → rest_of k at_id (bytes ++ more) ≡ mark k (number n) ∷ rest_of k at_literal more
 id_marks k n bytes more low w = ap (step_marks k at_id) (pieces_number n bytes more w) ∙ ap (λ (t : Token). mark k t ∷ rest_of k at_literal more) (number_is number n bytes low w)
 
 literals_read : (v k id : ℕ) (before clause bytes more : List ℕ) → v < 2 ^ 63 → AllByRecursion (IsLiteral v) clause → WritesNumbers clause bytes
@@ -96,7 +96,7 @@ hints_read v k id clause before (h ∷ hs) bytes more all w =
 
 -- ---- a step
 
-addition_begins : (k : ℕ) (more : List ℕ) → k ≤ most_proof_lines → rest_of k at_step (97 ∷ more) ≡ mark k adds ∷ rest_of k at_id more
+pub addition_begins : (k : ℕ) (more : List ℕ) → k ≤ most_proof_lines → rest_of k at_step (97 ∷ more) ≡ mark k adds ∷ rest_of k at_id more
 addition_begins k more few = let line : nat_lt most_proof_lines k ≡ false = le-ltb most_proof_lines k few in rw line refl
 
 deletion_begins : (k : ℕ) (more : List ℕ) → k ≤ most_proof_lines → rest_of k at_step (100 ∷ more) ≡ mark k removes ∷ rest_of k at_other more

@@ -1,9 +1,10 @@
 pub mod StepReaderLemmas
 pub mod TextLemmas
-pub mod WordAtLemmas
 pub mod TextJudgeLemmas
 pub mod NumberLemmas
 pub mod ByteLemmas
 pub mod LratJudgeLemmas
 pub mod LratTextLemmas
+pub mod WordAtLemmas
 pub mod BinaryLratTextLemmas
+pub mod CodedLemmas

@@ -27,19 +27,19 @@ use Rattle.lrat.proofs.ByteLemmas.{piece_ends}
 
 -- ---- what was scanned in the binary form
 
-scanned_any : (j : LratJudge) (text : List ℕ) (marks : List Mark) (closed : Bool) → ScannedBytes j text marks → ScannedBytesAt j text marks closed
+pub scanned_any : (j : LratJudge) (text : List ℕ) (marks : List Mark) (closed : Bool) → ScannedBytes j text marks → ScannedBytesAt j text marks closed
 scanned_any j text marks true s = λ more. (step_marks j.scan.step (spot_of j.scan.spot) (number_pieces (s.bytes ++ more)), s.reads more)
 scanned_any j text marks false s = s
 
-scanned : (f : Formula) (j : LratJudge) (text : List ℕ) (b : StandsForBytes f j text) → j.text.reader.closed ≡ false → ScannedBytes j text b.marks
+pub scanned : (f : Formula) (j : LratJudge) (text : List ℕ) (b : StandsForBytes f j text) → j.text.reader.closed ≡ false → ScannedBytes j text b.marks
 scanned f j text b is = subst (ScannedBytesAt j text b.marks) is b.scanned
 
--- where nothing more is read, a byte more changes nothing
-pub byte_passed : (f : Formula) (j : LratJudge) (text : List ℕ) (byte : ℕ) → j.text.reader.closed ≡ true → StandsForBytes f j text → StandsForBytes f j (text ++ byte ∷ [])
-byte_passed f j text byte is b =
+-- where nothing more is read, a piece more changes nothing
+pub piece_passed : (f : Formula) (j : LratJudge) (text piece : List ℕ) → j.text.reader.closed ≡ true → StandsForBytes f j text → StandsForBytes f j (text ++ piece)
+piece_passed f j text piece is b =
     let s : ScannedBytesAt j text b.marks true = subst (ScannedBytesAt j text b.marks) is b.scanned in
-    let now : ScannedBytesAt j (text ++ byte ∷ []) b.marks true = λ more. ((s (byte ∷ more)).0, ap binary_marks (append_assoc text (byte ∷ []) more) ∙ (s (byte ∷ more)).1) in
-    record { variables = b.variables; marks = b.marks; words = b.words; scanned = subst (ScannedBytesAt j (text ++ byte ∷ []) b.marks) (sym is) now }
+    let now : ScannedBytesAt j (text ++ piece) b.marks true = λ more. ((s (piece ++ more)).0, ap binary_marks (append_assoc text piece more) ∙ (s (piece ++ more)).1) in
+    record { variables = b.variables; marks = b.marks; words = b.words; scanned = subst (ScannedBytesAt j (text ++ piece) b.marks) (sym is) now }
 
 no_more : (f : Formula) (r : StepReader) (marks : List Mark) → StandsForWords f r marks → StandsForWords f r (marks ++ [])
 no_more f r marks s = subst (StandsForWords f r) (sym (append-nil marks)) s

@@ -26,10 +26,10 @@ use Rattle.lrat.proofs.TextLemmas.{words_line}
 
 -- ---- words
 
-record IsWord (w : List ℕ) : Type 0 where
-  some : is_nothing w ≡ false
-  plain : list_any is_proof_blank w ≡ false
-  line : list_any (λ c. c == 10) w ≡ false
+pub record IsWord (w : List ℕ) : Type 0 where
+  pub some : is_nothing w ≡ false
+  pub plain : list_any is_proof_blank w ≡ false
+  pub line : list_any (λ c. c == 10) w ≡ false
 
 no_blank : (b : ℕ) → 48 ≤ b → is_proof_blank b ≡ false
 no_blank b low =
@@ -49,14 +49,14 @@ unfolding number_of is_decimal
 some_bytes [] n is = absurd (cc (is))
 some_bytes (b ∷ bs) n is = refl
 
-decimal_word : (n : ℕ) → n < 2 ^ 64 → IsWord (decimal n)
+pub decimal_word : (n : ℕ) → n < 2 ^ 64 → IsWord (decimal n)
 decimal_word n low = record {
   some = some_bytes (decimal n) n (number_of-decimal n low);
   plain = plain_digits (decimal n) (decimal_digits n low);
   line = decimal_without 10 n (omega arith) low;
 }
 
-minus_word : (w : List ℕ) → IsWord w → IsWord (45 ∷ w)
+pub minus_word : (w : List ℕ) → IsWord w → IsWord (45 ∷ w)
 minus_word w is = record { some = refl; plain = is.plain; line = is.line }
 
 literal_word : (v l : ℕ) → v < 2 ^ 63 → IsLiteral v l → IsWord (literal_text l)
@@ -109,13 +109,13 @@ says_plain (b ∷ bs) n is none =
     let first : (b == 45) ≡ false = parts.0 in
     ap (λ (t : Bool). if t then decimal_said true (number_of bs) else decimal_said false (number_of (b ∷ bs))) first ∙ ap (decimal_said false) is
 
-token_decimal : (n : ℕ) → 1 ≤ n → n < 2 ^ 64 → token_of (decimal n) ≡ number n
+pub token_decimal : (n : ℕ) → 1 ≤ n → n < 2 ^ 64 → token_of (decimal n) ≡ number n
 token_decimal n some low =
     let zero : bytes_eq (decimal n) (codes "0") ≡ false = not_word n (codes "0") low (no_zero n some) in
     let letter : bytes_eq (decimal n) (codes "d") ≡ false = not_word n (codes "d") low (no_letter n) in
     rw (zero, letter) (ap token_by (says_plain (decimal n) n (number_of-decimal n low) (decimal_without 45 n (omega arith) low)))
 
-token_minus : (n : ℕ) → n < 2 ^ 64 → token_of (45 ∷ decimal n) ≡ negative n
+pub token_minus : (n : ℕ) → n < 2 ^ 64 → token_of (45 ∷ decimal n) ≡ negative n
 token_minus n low = ap (λ (o : Option ℕ). token_by (decimal_said true o)) (number_of-decimal n low)
 
 -- ---- what they do

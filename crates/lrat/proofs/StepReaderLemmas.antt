@@ -15,7 +15,7 @@ use Rattle.drup.specs.HintedJudges.{HintedJudge, continued, StandsForHinted, Has
 use Rattle.lrat.specs.declared.step_reader.Part.{Part}
 use Rattle.lrat.specs.declared.step_reader.Part.TheVariants as part
 use Rattle.lrat.specs.HintedProofs.{Token, faulty, Mark, mark, Begun, between, literals, hints, deletions, Taken, goes_on, gives, refuses, with_literal, taken, behind_steps, by_taken, refused, has_begun, reading_from}
-use Rattle.lrat.specs.StepReaders.{StepReader, begun_of, HasTaken, Open, Closed, StandsAtStep, StandsForWords, Takes, HasRead, BeginsReader}
+use Rattle.lrat.specs.StepReaders.{StepReader, is_hints, begun_of, HasTaken, Open, Closed, StandsAtStep, StandsForWords, Takes, HasRead, BeginsReader}
 
 abbrev made : List HintedEnded → Option ProofFault → HintedReading
 made steps fault = record { steps = steps; fault = fault }
@@ -127,6 +127,12 @@ pub literal_more : (p : Part) (i : ℕ) (c h : List ℕ) (id : ℕ) (clause : Li
 literal_more p i c h id clause l more is by =
     let own = literals_kept p i c h id clause is in
     rw (own.0, own.1, by, own.2) refl
+
+pub hints_there : (b : Begun) → is_hints b ≡ true → (id : ℕ) × ((clause : List ℕ) × ((before : List ℕ) × (b ≡ hints id clause before)))
+hints_there between is = absurd (cc (is))
+hints_there (literals id clause) is = absurd (cc (is))
+hints_there (hints id clause before) is = (id, (clause, (before, refl)))
+hints_there deletions is = absurd (cc (is))
 
 pub hint_more : (p : Part) (i : ℕ) (c h : List ℕ) (id : ℕ) (clause before : List ℕ) (l : ℕ) (more : List ℕ) → begun_of p i c h ≡ hints id clause before → more ≡ h ++ l ∷ [] → begun_of p i c more ≡ hints id clause (before ++ l ∷ [])
 hint_more p i c h id clause before l more is by =

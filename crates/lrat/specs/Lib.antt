@@ -10,4 +10,5 @@ pub mod TextJudges
 pub mod LratJudges
 pub mod LratTexts
 pub mod BinaryLratTexts
+pub mod Codes
 pub mod Worked

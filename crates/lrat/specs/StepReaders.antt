@@ -61,6 +61,17 @@ StandsAtStep f r marks false = Open f r marks
 abbrev pub StandsForWords : Formula → StepReader → List Mark → Type 0
 StandsForWords f r marks = r.failed ≡ false → StandsAtStep f r marks r.closed
 
+-- a reader reads the hints of a step
+abbrev pub is_hints : Begun → Bool
+is_hints between = false
+is_hints (literals id clause) = false
+is_hints (hints id clause before) = true
+is_hints deletions = false
+
+pub record ReadsHints (r : StepReader) : Type 0 where
+  pub going : r.closed ≡ false
+  pub begun : is_hints r.begun ≡ true
+
 -- a reader becomes another by a word in a line that does this
 abbrev pub Takes : StepReader → ℕ → Taken → StepReader → Type 0
 Takes old line does new =

@@ -52,6 +52,11 @@ IsBetweenAt place.Comment j byte = ⊥
 abbrev pub IsBetween : TextJudge → ℕ → Type 0
 IsBetween j byte = IsBetweenAt j.place j byte
 
+-- the next byte stands in a line of words, and no word has begun
+pub record IsReady (j : TextJudge) : Type 0 where
+  pub within : j.place ≡ place.Within
+  pub none : (word : List ℕ) → SpellsWord j.word word → is_nothing word ≡ true
+
 -- where nothing more is read they are the first words, and else all
 abbrev pub ScannedAt : TextJudge → List ℕ → List ℕ → List Mark → Bool → Type 0
 ScannedAt j text pending marks true = (more : List ℕ) → (rest : List Mark) × (lines_marks 1 (all_lines (text ++ more)) ≡ marks ++ rest)

@@ -1,6 +1,7 @@
 //! Proofs with hints as texts, and how they are judged over a formula.
 #![tactic(auto)]
 
+mod coded;
 pub mod laws;
 mod lrat_judge;
 mod scan;

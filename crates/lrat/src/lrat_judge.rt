@@ -1,13 +1,21 @@
 //! The judge of proofs with hints, in the text form or in the binary form.
-ghost use Rattle.std.specs.Prelude.{◌≡◌, ◌+◌, ◌*◌, ◌<◌, ◌++◌, ◌∷◌, [], List, ℕ, false, All, IfOk};
+ghost use Rattle.std.specs.Prelude.{◌≡◌, ◌+◌, ◌*◌, ◌^◌, ◌<◌, ◌≤◌, ◌++◌, ◌∷◌, [], List, ℕ, true, false, if◌then◌else◌, All, IfOk, length, take};
 ghost use Rattle.drup.specs.Formula.{Formula as FormulaValue};
 ghost use Rattle.lrat.specs.HintedForms.{is_binary_lrat};
+ghost use Rattle.lrat.specs.HintedProofs.{number};
+ghost use Rattle.lrat.specs.BinaryHintedProofs.{literal_coded};
+ghost use Rattle.lrat.specs.BinaryLratTexts.{WritesNumber};
+ghost use Rattle.lrat.specs.Codes.{coded_said};
+ghost use Rattle.lrat.specs.Words.{token_said};
+ghost use Rattle.lrat.specs.Scans.{spot_of, BeginsNumber, EndsList, BeginsAddition};
 ghost use Rattle.lrat.specs.LratJudgements.{judge_lrat};
 ghost use Rattle.lrat.specs.LratJudges.{StandsForBytes, EndsBytes, StandsForLrat, EndsLrat};
 ghost use Rattle.lrat.specs.declared.lrat_judge.Form.TheVariants as form;
 
+use crate::coded::coded_at;
 use crate::scan::Scan;
 use crate::text_judge::TextJudge;
+use crate::token::Token;
 use base::Taker;
 use drup::{ClauseFault, Formula, Judgement};
 use std::alloc::Global;
@@ -141,7 +149,80 @@ impl LratJudge {
         self.scan = self.scan.with(byte);
     }
 
+    /// Takes a whole piece of the binary form that is a number from 1 on, which says this.
+    #[inline(always)]
+    fn take_coded(&mut self, token: Token)
+        requires open { self.old.text.reader.closed ≡ false }
+        requires begins { BeginsNumber self.old.scan }
+        ensures stands { (f : FormulaValue) (text word : List ℕ) (n : ℕ) → n < 2 ^ 64
+            → WritesNumber n word → token_said token ≡ coded_said (spot_of self.old.scan.spot) n
+            → StandsForBytes f self.old text → StandsForBytes f self.new (text ++ word) }
+        ensures form { self.new.form ≡ self.old.form }
+    {
+        self.text.take_word(self.scan.step(), token);
+        self.scan = self.scan.behind_number();
+    }
+
+    /// Whether a number is a literal where it is the piece that begins.
+    #[inline(always)]
+    fn is_literal(&self) -> bool
+        ensures { (n : ℕ) → coded_said (spot_of self.now.scan.spot) n
+            ≡ (if result then literal_coded n else number n) }
+    {
+        self.scan.is_literal()
+    }
+
+    /// Takes a number from 1 on, which is a whole piece of the binary form.
+    #[inline(always)]
+    fn take_number(&mut self, number: u64)
+        requires open { self.old.text.reader.closed ≡ false }
+        requires begins { BeginsNumber self.old.scan }
+        requires low { number < 2 ^ 64 }
+        ensures stands { (f : FormulaValue) (text word : List ℕ) → WritesNumber number word
+            → StandsForBytes f self.old text → StandsForBytes f self.new (text ++ word) }
+        ensures form { self.new.form ≡ self.old.form }
+    {
+        // the reader of steps is written out for each
+        if !self.is_literal() {
+            self.take_coded(Token::Number(number));
+            return;
+        }
+        if number % 2 == 0 {
+            self.take_coded(Token::Number(number / 2));
+            return;
+        }
+        self.take_coded(Token::Negative(number / 2));
+    }
+
+    /// Takes the byte with which a step of the binary form begins that adds a clause.
+    #[inline(always)]
+    fn begin_addition(&mut self)
+        requires open { self.old.text.reader.closed ≡ false }
+        requires begins { BeginsAddition self.old.scan 97 }
+        ensures stands { (f : FormulaValue) (text : List ℕ) → StandsForBytes f self.old text
+            → StandsForBytes f self.new (text ++ 97 ∷ []) }
+        ensures form { self.new.form ≡ self.old.form }
+    {
+        self.text.take_word(self.scan.step(), Token::Adds);
+        self.scan = self.scan.in_addition();
+    }
+
+    /// Takes the byte that ends a list of the binary form.
+    #[inline(always)]
+    fn end_list(&mut self)
+        requires open { self.old.text.reader.closed ≡ false }
+        requires begins { BeginsNumber self.old.scan }
+        requires ends { EndsList self.old.scan 0 }
+        ensures stands { (f : FormulaValue) (text : List ℕ) → StandsForBytes f self.old text
+            → StandsForBytes f self.new (text ++ 0 ∷ []) }
+        ensures form { self.new.form ≡ self.old.form }
+    {
+        self.text.take_word(self.scan.step(), Token::Ends);
+        self.scan = self.scan.behind_list();
+    }
+
     /// Takes a byte of a text in the binary form behind those before.
+    #[inline(never)]
     fn take_byte(&mut self, byte: u8)
         ensures stands { (f : FormulaValue) (text : List ℕ) → StandsForBytes f self.old text
             → StandsForBytes f self.new (text ++ byte ∷ []) }
@@ -194,14 +275,75 @@ impl LratJudge {
         }
     }
 
+    /// Whether a number begins with the next byte.
+    #[inline(always)]
+    fn begins_number(&self) -> bool
+        ensures { result ≡ true → BeginsNumber self.now.scan }
+    {
+        self.scan.begins_number()
+    }
+
+    /// Whether a list ends with the next byte, where it begins a number or ends a list.
+    #[inline(always)]
+    fn ends_list(&self, byte: u8) -> bool
+        ensures { result ≡ true → EndsList self.now.scan byte }
+    {
+        self.scan.ends_list(byte)
+    }
+
+    /// Whether a step that adds a clause begins with the next byte.
+    #[inline(always)]
+    fn begins_addition(&self, byte: u8) -> bool
+        ensures { result ≡ true → BeginsAddition self.now.scan byte }
+    {
+        self.scan.begins_addition(byte)
+    }
+
+    /// Takes bytes of a text in the binary form from a place on: a whole number where it is there, else a byte; answers the place
+    /// behind these. Where nothing more is read it takes all.
+    #[inline(always)]
+    fn take_piece(&mut self, bytes: &[u8], at: usize) -> usize
+        requires { at < length bytes.now }
+        ensures stands { (f : FormulaValue) (text : List ℕ)
+            → StandsForBytes f self.old (text ++ take at bytes.now)
+            → StandsForBytes f self.new (text ++ take result bytes.now) }
+        ensures form { self.new.form ≡ self.old.form }
+        ensures behind { (at < result) × (result ≤ length bytes.now) }
+    {
+        if self.is_closed() {
+            return bytes.len();
+        }
+        let byte = bytes[at];
+        if self.begins_number() {
+            if self.ends_list(byte) {
+                self.end_list();
+                return at + 1;
+            }
+            match coded_at(bytes, at) {
+                Some((number, end)) => {
+                    self.take_number(number);
+                    return end;
+                }
+                None => {}
+            }
+        }
+        if self.begins_addition(byte) {
+            self.begin_addition();
+            return at + 1;
+        }
+        self.take_byte(byte);
+        at + 1
+    }
+
     /// Takes bytes of a text in the binary form.
     fn feed_bytes(&mut self, bytes: &[u8])
         ensures stands { (f : FormulaValue) (text : List ℕ) → StandsForBytes f self.old text
             → StandsForBytes f self.new (text ++ bytes.now) }
         ensures form { self.new.form ≡ self.old.form }
     {
-        for byte in bytes {
-            self.take_byte(*byte);
+        let mut at = 0;
+        while at < bytes.len() {
+            at = self.take_piece(bytes, at);
         }
     }
 

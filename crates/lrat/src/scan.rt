@@ -1,5 +1,5 @@
 //! Where the next byte of a proof in the binary form stands.
-ghost use Rattle.std.specs.Prelude.{◌≡◌, ◌<◌, false, List, ℕ, [], ◌∷◌, ◌++◌, MatchOption};
+ghost use Rattle.std.specs.Prelude.{◌≡◌, ◌<◌, true, false, if◌then◌else◌, List, ℕ, [], ◌∷◌, ◌++◌, MatchOption};
 ghost use Rattle.std.specs.List.{list_any};
 ghost use Rattle.base.specs.Lines.{line_after};
 ghost use Rattle.drup.specs.BinaryProofs.{number_pieces};
@@ -8,7 +8,8 @@ ghost use Rattle.lrat.specs.HintedProofs.{number, faulty, Mark, mark};
 ghost use Rattle.lrat.specs.BinaryHintedProofs.{number_in, literal_coded, step_said, piece_said, spot_behind, step_behind, step_marks};
 ghost use Rattle.lrat.specs.Words.{token_said};
 ghost use Rattle.drup.specs.Numbers.{SpellsNumber};
-ghost use Rattle.lrat.specs.Scans.{spot_of};
+ghost use Rattle.lrat.specs.Codes.{coded_said, coded_behind, list_behind, step_after_list};
+ghost use Rattle.lrat.specs.Scans.{spot_of, BeginsNumber, EndsList, BeginsAddition};
 ghost use Rattle.lrat.specs.declared.scan.Spot.TheVariants as spot;
 
 use crate::token::Token;
@@ -203,6 +204,101 @@ impl Scan {
             spot: self.spot_behind(byte),
             step: self.step_behind(byte),
             number: Number::new(),
+        }
+    }
+
+    /// Whether a number begins where the next byte stands: none has, and it is not between two steps.
+    #[inline(always)]
+    pub(crate) fn begins_number(self) -> bool
+        ensures { result ≡ true → BeginsNumber self }
+    {
+        match self.spot {
+            Spot::Step => false,
+            Spot::Id | Spot::Literal | Spot::Other => self.number.is_empty(),
+        }
+    }
+
+    /// Whether a list ends with the byte that stands where a number begins.
+    #[inline(always)]
+    pub(crate) fn ends_list(self, byte: u8) -> bool
+        ensures { result ≡ true → EndsList self byte }
+    {
+        match self.spot {
+            Spot::Step | Spot::Id => false,
+            Spot::Literal | Spot::Other => byte == 0,
+        }
+    }
+
+    /// Whether a number is a literal where it is the piece that begins.
+    #[inline(always)]
+    pub(crate) fn is_literal(self) -> bool
+        ensures { (n : ℕ) → coded_said (spot_of self.spot) n
+            ≡ (if result then literal_coded n else number n) }
+    {
+        match self.spot {
+            Spot::Step | Spot::Id | Spot::Other => false,
+            Spot::Literal => true,
+        }
+    }
+
+    /// Whether a step that adds a clause begins with a byte, and is not one too many.
+    #[inline(always)]
+    pub(crate) fn begins_addition(self, byte: u8) -> bool
+        ensures { result ≡ true → BeginsAddition self byte }
+    {
+        match self.spot {
+            Spot::Step => byte == b'a' && self.number.is_empty() && !is_too_many(self.step),
+            Spot::Id | Spot::Literal | Spot::Other => false,
+        }
+    }
+
+    /// Behind the byte with which a step begins that adds a clause.
+    #[inline(always)]
+    pub(crate) fn in_addition(self) -> Scan
+        ensures spot { result.spot ≡ spot.Id }
+        ensures step { result.step ≡ self.step }
+        ensures number { result.number ≡ self.number }
+    {
+        Scan {
+            spot: Spot::Id,
+            step: self.step,
+            number: self.number,
+        }
+    }
+
+    /// Behind a number from 1 on.
+    #[inline(always)]
+    pub(crate) fn behind_number(self) -> Scan
+        ensures spot { spot_of result.spot ≡ coded_behind (spot_of self.spot) }
+        ensures step { result.step ≡ self.step }
+        ensures number { result.number ≡ self.number }
+    {
+        Scan {
+            spot: match self.spot {
+                Spot::Step | Spot::Other => Spot::Other,
+                Spot::Id | Spot::Literal => Spot::Literal,
+            },
+            step: self.step,
+            number: self.number,
+        }
+    }
+
+    /// Behind the end of a list.
+    #[inline(always)]
+    pub(crate) fn behind_list(self) -> Scan
+        ensures spot { spot_of result.spot ≡ list_behind (spot_of self.spot) }
+        ensures step { result.step ≡ step_after_list self.step (spot_of self.spot) }
+        ensures number { result.number ≡ self.number }
+    {
+        let (spot, step) = match self.spot {
+            Spot::Step | Spot::Literal => (Spot::Other, self.step),
+            Spot::Id => (Spot::Literal, self.step),
+            Spot::Other => (Spot::Step, step_after(self.step)),
+        };
+        Scan {
+            spot,
+            step,
+            number: self.number,
         }
     }
 

@@ -4,7 +4,7 @@ ghost use Rattle.base.specs.Decimals.{is_nothing};
 ghost use Rattle.drup.specs.Formula.{Formula};
 ghost use Rattle.drup.specs.Hints.{addition, deletion, HintedReading, judge_hinted};
 ghost use Rattle.lrat.specs.HintedProofs.{faulty, Mark, mark, between, literals, hints, deletions, goes_on, gives, refuses, has_begun, reading_from};
-ghost use Rattle.lrat.specs.StepReaders.{StandsForWords, Takes, HasRead, BeginsReader};
+ghost use Rattle.lrat.specs.StepReaders.{StandsForWords, ReadsHints, Takes, HasRead, BeginsReader};
 
 mod words;
 
@@ -94,13 +94,26 @@ impl StepReader {
     }
 
     /// Whether nothing more is read.
+    #[inline(always)]
     pub(crate) fn is_closed(&self) -> bool
         ensures { result ≡ self.now.closed }
     {
         self.closed
     }
 
+    /// Whether the next word is one of hints.
+    #[inline(always)]
+    pub(crate) fn reads_hints(&self) -> bool
+        ensures { result ≡ true → ReadsHints self.now }
+    {
+        match self.part {
+            Part::Hints => !self.closed,
+            Part::Between | Part::Literals | Part::Deletions => false,
+        }
+    }
+
     /// A fault is met in a line.
+    #[cold]
     fn refuse(&mut self, line: u64, why: Why)
         requires { self.old.closed ≡ false }
         ensures takes { Takes self.old line (refuses why) self.new }
@@ -124,6 +137,7 @@ impl StepReader {
     }
 
     /// A growth was refused.
+    #[cold]
     fn fail(&mut self)
         ensures failed { self.new.failed ≡ true }
         ensures variables { self.new.variables ≡ self.old.variables }
@@ -133,6 +147,7 @@ impl StepReader {
     }
 
     /// A step begins with an id.
+    #[inline(always)]
     fn begin(&mut self, id: u32)
         requires { self.old.closed ≡ false }
         ensures takes { (line : ℕ) → Takes self.old line (goes_on (literals id [])) self.new }
@@ -144,6 +159,7 @@ impl StepReader {
     }
 
     /// A literal of the step that has begun.
+    #[inline(always)]
     fn push_literal(&mut self, literal: u32)
         requires open { self.old.closed ≡ false }
         requires below { literal < 2 * self.old.variables + 2 }
@@ -158,6 +174,7 @@ impl StepReader {
     }
 
     /// The literals of the step that has begun end.
+    #[inline(always)]
     fn begin_hints(&mut self)
         requires { self.old.closed ≡ false }
         ensures takes { (line id : ℕ) (clause : List ℕ) → self.old.begun ≡ literals id clause
@@ -169,6 +186,7 @@ impl StepReader {
     }
 
     /// A hint of the step that has begun.
+    #[inline(always)]
     fn push_hint(&mut self, hint: u32)
         requires { self.old.closed ≡ false }
         ensures takes { (line id : ℕ) (clause before : List ℕ)
@@ -183,6 +201,7 @@ impl StepReader {
     }
 
     /// The hints of the step that has begun end in a line, and with them the step.
+    #[inline(always)]
     fn end_addition(&mut self, line: u64)
         requires { self.old.closed ≡ false }
         ensures takes { (id : ℕ) (clause before : List ℕ)
@@ -195,6 +214,7 @@ impl StepReader {
     }
 
     /// A step that takes clauses away begins, or goes on.
+    #[inline(always)]
     fn begin_deletions(&mut self)
         requires { self.old.closed ≡ false }
         ensures takes { (line : ℕ) → Takes self.old line (goes_on deletions) self.new }
@@ -204,6 +224,7 @@ impl StepReader {
     }
 
     /// A clause is taken away in a line.
+    #[inline(always)]
     fn delete(&mut self, id: u32, line: u64)
         requires { self.old.closed ≡ false }
         ensures takes { Takes self.old line (gives (deletion id) deletions) self.new }
@@ -214,6 +235,7 @@ impl StepReader {
     }
 
     /// No step has begun.
+    #[inline(always)]
     fn stand_between(&mut self)
         requires { self.old.closed ≡ false }
         ensures takes { (line : ℕ) → Takes self.old line (goes_on between) self.new }

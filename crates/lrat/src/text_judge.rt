@@ -1,18 +1,19 @@
 //! The judge of proofs with hints in the text form.
-ghost use Rattle.std.specs.Prelude.{◌≡◌, ◌+◌, ◌*◌, ◌-◌, ◌^◌, ◌<◌, ◌≤◌, ◌++◌, ◌∷◌, [], List, ℕ, true, false, min, All, IfOk, length, take};
+ghost use Rattle.std.specs.Prelude.{◌≡◌, ◌+◌, ◌*◌, ◌-◌, ◌^◌, ◌<◌, ◌≤◌, ◌++◌, ◌∷◌, ◌==◌, [], List, ℕ, true, false, min, All, IfOk, IfSome, length, slice_index_or, take};
 ghost use Rattle.drup.specs.Formula.{Formula as FormulaValue};
 ghost use Rattle.drup.specs.Hints.{HintedReading, judge_hinted};
 ghost use Rattle.lrat.specs.HintedProofs.{faulty, Mark, mark, between, reading_from, read_text_lrat};
 ghost use Rattle.drup.specs.Words.{SpellsWord};
 ghost use Rattle.lrat.specs.Words.{token_said};
-ghost use Rattle.lrat.specs.StepReaders.{StandsForWords};
-ghost use Rattle.lrat.specs.TextJudges.{word_marks, StandsBefore, StandsThrough, StandsForLines, EndsText, IsBetween};
-ghost use Rattle.lrat.specs.WordsAt.{parts_words, IsWordOf};
+ghost use Rattle.lrat.specs.StepReaders.{StandsForWords, ReadsHints};
+ghost use Rattle.lrat.specs.TextJudges.{word_marks, StandsBefore, StandsThrough, StandsForLines, EndsText, IsBetween, IsReady};
+ghost use Rattle.lrat.specs.WordsAt.{parts_words, IsWordOf, IsWordAt};
 ghost use Rattle.drup.specs.declared.lines.Place.TheVariants as place;
+ghost use Rattle.lrat.specs.declared.token.Token.TheVariants as token;
 
 use crate::step_reader::StepReader;
 use crate::token::Token;
-use crate::word_at::word_at;
+use crate::word_at::{WordAt, letter_at, negative_at, number_at, positive_at, zero_at};
 use drup::{ClauseFault, Judgement, Place, Why, Word, is_blank, is_too_many};
 use std::alloc::Global;
 
@@ -83,6 +84,7 @@ impl TextJudge {
     }
 
     /// The word that has begun ends, where one has.
+    #[inline(never)]
     fn end_word(&mut self)
         requires { self.old.reader.closed ≡ false }
         ensures words { (f : FormulaValue) (marks : List Mark) (bytes : List ℕ)
@@ -163,6 +165,7 @@ impl TextJudge {
     }
 
     /// Takes a byte of the text behind those before.
+    #[inline(never)]
     pub(crate) fn take(&mut self, byte: u8)
         ensures stands { (f : FormulaValue) (text : List ℕ) → StandsForLines f self.old text
             → StandsForLines f self.new (text ++ byte ∷ []) }
@@ -179,6 +182,7 @@ impl TextJudge {
     }
 
     /// Whether a word that begins with a byte may be taken as a whole: none has begun, and the line is one of words.
+    #[inline(always)]
     fn is_between(&self, byte: u8) -> bool
         ensures { result ≡ true → IsBetween self.now byte }
     {
@@ -190,6 +194,7 @@ impl TextJudge {
     }
 
     /// Takes a whole word, and the byte that parts it from what follows.
+    #[inline(always)]
     fn take_whole(&mut self, token: Token, behind: u8)
         requires open { self.old.reader.closed ≡ false }
         requires parts { parts_words behind ≡ true }
@@ -206,8 +211,33 @@ impl TextJudge {
         }
     }
 
+    /// Takes the word that was found at a place, and the byte behind it, or else a byte; answers the place behind these.
+    #[inline(always)]
+    fn take_found(&mut self, bytes: &[u8], at: usize, found: Option<WordAt>) -> usize
+        requires inside { at < length bytes.now }
+        requires open { self.old.reader.closed ≡ false }
+        requires between { IsBetween self.old (slice_index_or bytes.now at 0) }
+        requires word { IfSome found (λ w. IsWordAt bytes.now at w) }
+        ensures stands { (f : FormulaValue) (text : List ℕ)
+            → StandsForLines f self.old (text ++ take at bytes.now)
+            → StandsForLines f self.new (text ++ take result bytes.now) }
+        ensures behind { (at < result) × (result ≤ length bytes.now) }
+    {
+        match found {
+            Some(word) => {
+                self.take_whole(word.token, bytes[word.end]);
+                word.end + 1
+            }
+            None => {
+                self.take(bytes[at]);
+                at + 1
+            }
+        }
+    }
+
     /// Takes bytes from a place on: a whole word and the byte behind it where they are there, else a byte; answers the place
     /// behind these. Where nothing more is read it takes all.
+    #[inline(always)]
     fn take_from(&mut self, bytes: &[u8], at: usize) -> usize
         requires { at < length bytes.now }
         ensures stands { (f : FormulaValue) (text : List ℕ)
@@ -219,17 +249,94 @@ impl TextJudge {
             return bytes.len();
         }
         let byte = bytes[at];
-        if self.is_between(byte) {
-            match word_at(bytes, at) {
-                Some(word) => {
-                    self.take_whole(word.token, bytes[word.end]);
-                    return word.end + 1;
+        if !self.is_between(byte) {
+            self.take(byte);
+            return at + 1;
+        }
+        match byte {
+            b'0' => self.take_found(bytes, at, zero_at(bytes, at)),
+            b'-' => self.take_found(bytes, at, negative_at(bytes, at)),
+            b'd' => self.take_found(bytes, at, letter_at(bytes, at)),
+            _ => self.take_found(bytes, at, positive_at(bytes, at)),
+        }
+    }
+
+    /// Whether the next word is one of hints.
+    #[inline(always)]
+    fn reads_hints(&self) -> bool
+        ensures { result ≡ true → ReadsHints self.now.reader }
+    {
+        self.reader.reads_hints()
+    }
+
+    /// Whether the next word is one of hints and may be taken as a whole: none has begun, and the line is one of words.
+    #[inline(always)]
+    fn is_ready(&self) -> bool
+        ensures { result ≡ true → IsReady self.now }
+    {
+        match self.place {
+            Place::Within => self.reads_hints() && self.word.is_empty(),
+            Place::Begins | Place::Comment => false,
+        }
+    }
+
+    /// Takes a whole number among hints, and the byte that parts it from what follows in the line.
+    #[inline(always)]
+    fn take_hint(&mut self, number: u64)
+        requires ready { IsReady self.old }
+        requires hints { ReadsHints self.old.reader }
+        ensures stands { (f : FormulaValue) (text : List ℕ) (first : ℕ) (rest : List ℕ) (behind : ℕ)
+            → IsWordOf (token.Number number) (first ∷ rest) → (behind == 10) ≡ false
+            → parts_words behind ≡ true → StandsForLines f self.old text
+            → StandsForLines f self.new (text ++ ((first ∷ rest) ++ behind ∷ [])) }
+        ensures ready { IsReady self.new }
+    {
+        self.reader.take_among_hints(self.line, number);
+    }
+
+    /// Takes hints of a line from a place on, as long as each is a number and followed by a blank; answers the place behind them.
+    #[inline(always)]
+    fn take_hints(&mut self, bytes: &[u8], at: usize) -> usize
+        requires inside { at ≤ length bytes.now }
+        requires ready { IsReady self.old }
+        ensures stands { (f : FormulaValue) (text : List ℕ)
+            → StandsForLines f self.old (text ++ take at bytes.now)
+            → StandsForLines f self.new (text ++ take result bytes.now) }
+        ensures behind { (at ≤ result) × (result ≤ length bytes.now) }
+    {
+        let mut next = at;
+        while next < bytes.len() {
+            if !self.reads_hints() {
+                return next;
+            }
+            match number_at(bytes, next) {
+                Some((number, end)) => {
+                    if bytes[end] == b'\n' {
+                        return next;
+                    }
+                    self.take_hint(number);
+                    next = end + 1;
                 }
-                None => {}
+                None => return next,
             }
         }
-        self.take(byte);
-        at + 1
+        next
+    }
+
+    /// Takes bytes from a place on: a whole word or a byte, and hints behind these; answers the place behind them.
+    #[inline(always)]
+    fn take_some(&mut self, bytes: &[u8], at: usize) -> usize
+        requires { at < length bytes.now }
+        ensures stands { (f : FormulaValue) (text : List ℕ)
+            → StandsForLines f self.old (text ++ take at bytes.now)
+            → StandsForLines f self.new (text ++ take result bytes.now) }
+        ensures behind { (at < result) × (result ≤ length bytes.now) }
+    {
+        let next = self.take_from(bytes, at);
+        if self.is_ready() {
+            return self.take_hints(bytes, next);
+        }
+        next
     }
 
     /// Takes bytes of the text behind those before.
@@ -239,7 +346,7 @@ impl TextJudge {
     {
         let mut at = 0;
         while at < bytes.len() {
-            at = self.take_from(bytes, at);
+            at = self.take_some(bytes, at);
         }
     }
 
@@ -281,6 +388,7 @@ impl TextJudge {
     }
 
     /// Takes a word of a proof in the binary form, of a step with a number.
+    #[inline(always)]
     pub(crate) fn take_word(&mut self, step: u64, token: Token)
         requires { self.old.reader.closed ≡ false }
         ensures words { (f : FormulaValue) (marks : List Mark)

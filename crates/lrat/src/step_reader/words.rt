@@ -5,9 +5,9 @@ ghost use Rattle.drup.specs.Formula.{Formula};
 ghost use Rattle.drup.specs.Words.{sign_of};
 ghost use Rattle.drup.specs.Hints.{deletion};
 ghost use Rattle.lrat.specs.Words.{token_said};
-ghost use Rattle.lrat.specs.HintedProofs.{Mark, mark, literals, hints, deletions, goes_on, gives, refuses, id_numbered, by_id, with_literal, first_taken, literal_taken, hint_taken, deletion_taken};
+ghost use Rattle.lrat.specs.HintedProofs.{number as is_number, Mark, mark, literals, hints, deletions, goes_on, gives, refuses, id_numbered, by_id, with_literal, first_taken, literal_taken, hint_taken, deletion_taken};
 ghost use Rattle.drup.specs.declared.why.Why.TheVariants as why;
-ghost use Rattle.lrat.specs.StepReaders.{StandsForWords, Takes};
+ghost use Rattle.lrat.specs.StepReaders.{StandsForWords, ReadsHints, Takes};
 
 use super::{Part, StepReader, is_nothing};
 use crate::token::Token;
@@ -33,6 +33,7 @@ fn literal_of(negative: bool, number: u64) -> u32
 
 impl StepReader {
     /// Takes a number that is to be the id of a step.
+    #[inline(always)]
     fn take_id(&mut self, line: u64, number: u64)
         requires { self.old.closed ≡ false }
         ensures takes { Takes self.old line
@@ -46,6 +47,7 @@ impl StepReader {
     }
 
     /// Takes a word between two steps.
+    #[inline(always)]
     fn take_first(&mut self, line: u64, token: Token)
         requires { self.old.closed ≡ false }
         ensures takes { Takes self.old line (first_taken (token_said token)) self.new }
@@ -63,6 +65,7 @@ impl StepReader {
     }
 
     /// Takes a variable's number, which has a minus where its literal is the negation.
+    #[inline(always)]
     fn take_variable(&mut self, line: u64, negative: bool, number: u64)
         requires { self.old.closed ≡ false }
         ensures takes { (id : ℕ) (clause : List ℕ) → self.old.begun ≡ literals id clause
@@ -90,6 +93,7 @@ impl StepReader {
     }
 
     /// Takes a `d` behind an id and literals.
+    #[cold]
     fn take_letter(&mut self, line: u64)
         requires { self.old.closed ≡ false }
         ensures takes { (id : ℕ) (clause : List ℕ) → self.old.begun ≡ literals id clause
@@ -105,6 +109,7 @@ impl StepReader {
     }
 
     /// Takes a word behind an id and literals.
+    #[inline(always)]
     fn take_literal(&mut self, line: u64, token: Token)
         requires { self.old.closed ≡ false }
         ensures takes { (id : ℕ) (clause : List ℕ) → self.old.begun ≡ literals id clause
@@ -124,6 +129,7 @@ impl StepReader {
     }
 
     /// Takes a number as a hint.
+    #[inline(always)]
     fn take_hint_id(&mut self, line: u64, number: u64)
         requires { self.old.closed ≡ false }
         ensures takes { (id : ℕ) (clause before : List ℕ)
@@ -138,7 +144,19 @@ impl StepReader {
         }
     }
 
+    /// Takes a number among hints, which stands in a line.
+    #[inline(always)]
+    pub(crate) fn take_among_hints(&mut self, line: u64, number: u64)
+        requires { ReadsHints self.old }
+        ensures stands { (f : Formula) (marks : List Mark) → StandsForWords f self.old marks
+            → StandsForWords f self.new (marks ++ mark line (is_number number) ∷ []) }
+        ensures variables { self.new.variables ≡ self.old.variables }
+    {
+        self.take_hint_id(line, number);
+    }
+
     /// Takes a number with a minus in front as a hint.
+    #[cold]
     fn take_negative(&mut self, line: u64, number: u64)
         requires { self.old.closed ≡ false }
         ensures takes { Takes self.old line
@@ -152,6 +170,7 @@ impl StepReader {
     }
 
     /// Takes a word behind the `0` of a clause, and hints.
+    #[inline(always)]
     fn take_hint(&mut self, line: u64, token: Token)
         requires { self.old.closed ≡ false }
         ensures takes { (id : ℕ) (clause before : List ℕ)
@@ -171,6 +190,7 @@ impl StepReader {
     }
 
     /// Takes a number as the id of a clause that is taken away.
+    #[inline(always)]
     fn take_deleted(&mut self, line: u64, number: u64)
         requires { self.old.closed ≡ false }
         ensures takes { Takes self.old line
@@ -184,6 +204,7 @@ impl StepReader {
     }
 
     /// Takes a word behind a `d`.
+    #[inline(always)]
     fn take_deletion(&mut self, line: u64, token: Token)
         requires { self.old.closed ≡ false }
         ensures takes { Takes self.old line (deletion_taken (token_said token)) self.new }
@@ -201,6 +222,7 @@ impl StepReader {
     }
 
     /// Takes a word that stands in a line, where none before it was faulty.
+    #[inline(always)]
     pub(crate) fn take(&mut self, line: u64, token: Token)
         requires { self.old.closed ≡ false }
         ensures stands { (f : Formula) (marks : List Mark) → StandsForWords f self.old marks

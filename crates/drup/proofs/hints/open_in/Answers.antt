@@ -1,4 +1,4 @@
-use Rattle.std.proofs.Common.{ℕ, List, get_or, sym, ap, ◌∙◌, arith}
+use Rattle.std.proofs.Common.{get_or, sym, ap, ◌∙◌, arith}
 use Rattle.std.proofs.lemmas.List.{take_all}
 use Rattle.std.proofs.lemmas.List.Sums.{fold_more}
 use Rattle.drup.specs.declared.hints.Open.{Open}
@@ -13,4 +13,4 @@ loop-literal-preserved c =
     ∙ sym (fold_more (with_seen (set_of c.args.trail.now)) opening.Nothing c.args.clause.now c.loop-literal.literal-index 0 c.loop-literal-test.true)
 
 pub returns : goal.returns
-returns c = c.loop-literal.invariant ∙ ap (open_in (set_of c.args.trail.now)) (take_all c.loop-literal.literal-index c.args.clause.now (omega (arith, c.loop-literal-test.false)))
+returns c = c.open.ensures ∙ c.loop-literal.invariant ∙ ap (open_in (set_of c.args.trail.now)) (take_all c.loop-literal.literal-index c.args.clause.now (omega (arith, c.loop-literal-test.false)))

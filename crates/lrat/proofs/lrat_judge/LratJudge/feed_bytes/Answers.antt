@@ -1,14 +1,18 @@
-use Rattle.std.proofs.Common.{List, ℕ, ◌++◌, ◌∷◌, [], take, get_or, append_assoc, subst, sym, ap, ◌∙◌}
-use Rattle.std.proofs.lemmas.List.{take_more}
+use Rattle.std.proofs.Common.{List, ℕ, ◌++◌, refl, sym, subst, ◌∙◌, append-nil, arith}
+use Rattle.std.proofs.lemmas.List.{take_all}
 use Rattle.lrat.specs.LratJudges.{StandsForBytes}
 use Rattle.lrat.proofs.lrat_judge.LratJudge.feed_bytes.Goals as goal
 
-pub loop-byte-preserved : goal.loop-byte-preserved
-loop-byte-preserved c =
-    let front : List ℕ = take c.loop-byte.byte-index c.args.bytes.now in
-    let byte = get_or c.args.bytes.now c.loop-byte.byte-index 0 in
-    let whole = λ (text : List ℕ). append_assoc text front (byte ∷ []) ∙ ap (λ (l : List ℕ). text ++ l) (sym (take_more c.args.bytes.now c.loop-byte.byte-index 0 c.loop-byte-test.true)) in
-    record {
-      stands = λ f text s. subst (StandsForBytes f c.take_byte.new.self) (whole text) (c.take_byte.ensures.stands f (text ++ front) (c.loop-byte.invariant.stands f text s));
-      form = c.take_byte.ensures.form ∙ c.loop-byte.invariant.form;
-    }
+pub loop-at-init : goal.loop-at-init
+loop-at-init c = record { stands = λ f text stands. subst (StandsForBytes f c.args.self.now) (sym (append-nil text)) stands; form = refl; within = omega arith }
+
+pub loop-at-preserved : goal.loop-at-preserved
+loop-at-preserved c = record {
+  stands = λ f text stands. c.take_piece-at.ensures.stands f text (c.loop-at.invariant.stands f text stands);
+  form = c.take_piece-at.ensures.form ∙ c.loop-at.invariant.form;
+  within = c.take_piece-at.ensures.behind.1;
+}
+
+pub returns-clause-stands : goal.returns-clause-stands
+returns-clause-stands c f text stands =
+    subst (λ (t : List ℕ). StandsForBytes f c.loop-at.self (text ++ t)) (take_all c.loop-at.at c.args.bytes.now (omega (arith, c.loop-at-test.false))) (c.loop-at.invariant.stands f text stands)
