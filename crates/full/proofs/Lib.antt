@@ -1,0 +1,21 @@
+-- The lemmas of this crate.
+pub mod ListLemmas
+pub mod WideLemmas
+pub mod FullLookUps
+pub mod FullFrames
+pub mod CellLemmas
+pub mod HalfLemmas
+pub mod FitLemmas
+pub mod PlaceLemmas
+pub mod UpLemmas
+pub mod DownLemmas
+pub mod TraceLemmas
+pub mod NextsLemmas
+pub mod WorkedLemmas
+pub mod AcceptLemmas
+pub mod WrittenLemmas
+pub mod PlainLemmas
+pub mod PlainLaw
+pub mod ExistLemmas
+pub mod GivesLemmas
+pub mod FilledLemmas
