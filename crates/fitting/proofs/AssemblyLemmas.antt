@@ -181,7 +181,7 @@ filter_none u [] h = refl
 filter_none u (x ∷ xs) h = rw h.0 (filter_none u xs h.1)
 
 -- the pieces of those that pass a test, where each passes it as its pieces do
-pieces_filtered : (t u : ℕ → Bool) (layout : Layout) (ws : List ℕ) → AllByRecursion (λ w. AllByRecursion (λ p. u p ≡ t w) (layout w)) ws → flat_map layout (filter t ws) ≡ filter u (flat_map layout ws)
+pub pieces_filtered : (t u : ℕ → Bool) (layout : Layout) (ws : List ℕ) → AllByRecursion (λ w. AllByRecursion (λ p. u p ≡ t w) (layout w)) ws → flat_map layout (filter t ws) ≡ filter u (flat_map layout ws)
 pieces_filtered t u layout [] h = refl
 pieces_filtered t u layout (w ∷ ws) h = by (t w) h.0 (pieces_filtered t u layout ws h.1) ∙ sym (filter_append u (layout w) (flat_map layout ws))
   where
@@ -255,7 +255,7 @@ leaf_width wide table narrow x stands is = by x.body refl is stands.value
     by _ e is value = absurd (cc)
 
 -- the ids of a kind of leaves
-among_leaves : (P : ℕ → Type 0) (kind : Item → Bool) (xs : List Item) → ((x : Item) → kind x ≡ true → is_leaf x ≡ true) → AllByRecursion P (leaf_ids xs) → AllByRecursion P (ids_of kind xs)
+pub among_leaves : (P : ℕ → Type 0) (kind : Item → Bool) (xs : List Item) → ((x : Item) → kind x ≡ true → is_leaf x ≡ true) → AllByRecursion P (leaf_ids xs) → AllByRecursion P (ids_of kind xs)
 among_leaves P kind xs sub h = to_ids P kind xs (all_with (λ (x : Item). is_leaf x ≡ true → P x.id) (λ (x : Item). kind x ≡ true → P x.id) xs (λ x own is. own (sub x is)) (of_ids P is_leaf xs h))
 
 given_leaf : (items : List Item) (x : Item) → is_given items x ≡ true → is_leaf x ≡ true

@@ -307,6 +307,7 @@ leaf_fitted input wide table table' narrow narrow' id s symbol n rs h w sound so
           });
       constant = subst (λ (o : Option ℕ). IfSome o (λ v. AreConstantsOf narrow' v (table'.words id))) (sym (leaf_no_constant input (bits_in (table'.words id)) s)) tt;
       state = by_state input adds.kinds own;
+      input = by_input input adds.kinds own;
       names = λ is. subst (λ (ps : List Node). HaveNames narrow' ps (word_names symbol (widths ps))) (sym own) adds.named;
       init = leaf_init_made (wide ++ x ∷ []) table'.words narrow' input s;
       next = leaf_next_made table'.words narrow' input s;
@@ -324,6 +325,10 @@ leaf_fitted input wide table table' narrow narrow' id s symbol n rs h w sound so
       own_nexts = subst (AllByRecursion (Lacks next_value (wide ++ x ∷ []) table'.words narrow')) (sym leaves) (λ none. subst (AllByRecursion (λ (p : Node). next_value narrow' p.id ≡ None)) (sym own) nexts, tt);
     })
   where
+    by_input : (b : Bool) → AllByRecursion (λ (p : Node). IsLeafOf b narrow' p.id) rs → table'.words id ≡ rs → is_input (leaf_body b s) ≡ true → AllByRecursion (λ (p : Node). IsInputPiece narrow' p.id) (table'.words id)
+    by_input false kinds own is = absurd (cc)
+    by_input true kinds own is = subst (AllByRecursion (λ (p : Node). IsInputPiece narrow' p.id)) (sym own) kinds
+
     by_state : (b : Bool) → AllByRecursion (λ (p : Node). IsLeafOf b narrow' p.id) rs → table'.words id ≡ rs → is_state (leaf_body b s) ≡ true → AllByRecursion (λ (p : Node). names_state narrow' p.id ≡ true) (table'.words id)
     by_state true kinds own is = absurd (cc)
     by_state false kinds own is =

@@ -11,7 +11,7 @@ use Rattle.btor2.specs.Items.{find_item, node_sort, node_width, width_of_body, s
 use Rattle.btor2.specs.Trace.{Frame}
 use Rattle.btor2.proofs.AppendLemmas.{find_item-append, sort_width-append, node_width-append, constant_of-append, names_state-append, then_parts, some_of, is_some_from}
 use Rattle.btor2.proofs.ModelLemmas.{IsIn}
-use Rattle.fit.specs.Fitting.{init_words}
+use Rattle.fit.specs.Fitting.{init_words, IsInputPiece}
 use Rattle.fit.proofs.ListLemmas.{all_with, all_behind}
 use Rattle.fit.proofs.FrameLemmas.{AreNodes as AreNamed}
 use Rattle.pieces.specs.declared.node.Node.{Node}
@@ -182,6 +182,9 @@ stands_after wide more table table' narrow lines x named goes h =
       state = λ is.
           subst (λ (ps : List Node). AllByRecursion (λ (p : Node). names_state (narrow ++ lines) p.id ≡ true) ps) (sym same)
           (all_with (λ (p : Node). names_state narrow p.id ≡ true) (λ (p : Node). names_state (narrow ++ lines) p.id ≡ true) (table.words x.id) (λ p own. names_state-append narrow lines p.id own) (h.state is));
+      input = λ is.
+          subst (λ (ps : List Node). AllByRecursion (λ (p : Node). IsInputPiece (narrow ++ lines) p.id) ps) (sym same)
+          (all_with (λ (p : Node). IsInputPiece narrow p.id) (λ (p : Node). IsInputPiece (narrow ++ lines) p.id) (table.words x.id) (λ p own. (own.0, find_item-append narrow lines p.id own.0 own.1, own.2)) (h.input is));
       names = λ is.
           subst (λ (ps : List Node). HaveNames (narrow ++ lines) ps (word_names x.symbol (widths ps))) (sym same) (names_on narrow lines (table.words x.id) (word_names x.symbol (widths (table.words x.id))) (h.names is));
       init = init_on wide more table table' narrow lines x.body named goes.words h.init;

@@ -2,6 +2,8 @@
 pub mod GrowLemmas
 pub mod NameLemmas
 pub mod AssemblyLemmas
+pub mod LeafLemmas
+pub mod LackLemmas
 pub mod StepLemmas
 pub mod ValueLemmas
 pub mod OperatorLemmas

@@ -1,24 +1,27 @@
 -- A model of the profile is fitted into itself, each node as its own piece.
-use Rattle.std.proofs.Common.{◌≡◌, ℕ, Bool, true, cond, List, [], ◌∷◌, ◌++◌, flat_map, Option, Some, None, is_some, refl, sym, ap, subst, ◌∙◌, append_assoc, arith, eq-eqb}
+use Rattle.std.proofs.Common.{◌≡◌, ℕ, ◌≤◌, Bool, true, false, cond, ◌||◌, List, [], ◌∷◌, ◌++◌, flat_map, Option, Some, None, is_some, unwrap_or, option_and_then, refl, sym, ap, subst, ◌∙◌, append_assoc, arith, eq-eqb}
 use Rattle.std.specs.List.{AllByRecursion}
 use Rattle.std.specs.Option.{option_or}
 use Rattle.btor2.specs.declared.item.Item.{Item}
 use Rattle.btor2.specs.declared.item.Body.{Body}
 use Rattle.btor2.specs.declared.item.Body.TheVariants as body
-use Rattle.btor2.specs.Items.{constant_of, init_for, init_value, init_word, next_value}
+use Rattle.btor2.specs.Items.{find_item, node_sort, sort_width, width_of_body, node_width, constant_of, is_input, is_state, init_for, init_value, init_word, next_value}
 use Rattle.btor2.specs.Check.{IsWellFormed, IsWellFormedAfter}
 use Rattle.btor2.specs.Lists.{of_kind}
 use Rattle.btor2.specs.Trace.{Frame, bits_of, LineHolds, IsFrame, InitHolds}
 use Rattle.btor2.specs.Reachability.{nodes_of}
-use Rattle.btor2.proofs.AppendLemmas.{some_of, is_some_from}
-use Rattle.btor2.proofs.ModelLemmas.{IsIn, IsInitOf-from_value, find_item-in}
+use Rattle.btor2.proofs.AppendLemmas.{some_of, is_some_from, sort_width-append}
+use Rattle.btor2.proofs.AcceptedLemmas.{HasSort, BodyIsAccepted}
+use Rattle.btor2.proofs.ModelLemmas.{IsIn, IsAccepted-at, IsInitOf-from_value, find_item-in, node_width-range}
 use Rattle.btor2.proofs.InitLemmas.{inits_hold}
 use Rattle.btor2.proofs.TraceLemmas.{line_among}
 use Rattle.wide.proofs.GrowLemmas.{tests_false}
 use Rattle.wide.proofs.LawLemmas.{same_refusal}
-use Rattle.fit.specs.Fitting.{Layout, joined, given_ids, carried_ids, is_output, NamesEarlierAfter, HasWidthOfPieces, Carries, init_words, InitIsCarried, AbsenceIsCarried, next_pieces, NextIsCarried, IsFittingOf}
+use Rattle.fit.specs.Fitting.{Layout, ids_of, joined, given_ids, carried_ids, is_output, NamesEarlierAfter, HasWidthOfPieces, Carries, init_words, InitIsCarried, AbsenceIsCarried, next_pieces, NextIsCarried, IsFittingOf}
+use Rattle.fit.proofs.ListLemmas.{to_ids}
 use Rattle.fit.proofs.WordLemmas.{alone}
 use Rattle.fitting.specs.Names.{LeafIsNamed, shown_names, piece_widths, names_of, HasNames}
+use Rattle.fitting.specs.Models.{input_ids, state_ids, IsCutBy, IsFit}
 
 -- each node is its own piece
 abbrev pub itself : Layout
@@ -110,7 +113,7 @@ ordered : (front xs : List Item) → IsWellFormedAfter front xs → NamesEarlier
 ordered front [] h = tt
 ordered front (x ∷ xs) h = ((tests_false 64 front x (same_refusal front x ∙ h.0)).1.1.1.1.0, ordered (front ++ x ∷ []) xs h.1)
 
-pub fits_itself : (items : List Item) → IsWellFormed items → IsFittingOf items itself items
+fits_itself : (items : List Item) → IsWellFormed items → IsFittingOf items itself items
 fits_itself items h =
     record {
       ordered = ordered [] items h;
@@ -142,7 +145,7 @@ outputs_named : (items xs : List Item) → flat_map (shown_names (piece_widths i
 outputs_named items [] = refl
 outputs_named items (x ∷ xs) = output_named items xs x x.body refl (outputs_named items xs)
 
-pub named_itself : (items : List Item) → IsWellFormed items → HasNames items itself items
+named_itself : (items : List Item) → IsWellFormed items → HasNames items itself items
 named_itself items h =
     record {
       leaves = all_in (LeafIsNamed itself items) items (leaf_named items h) [] items refl;
@@ -150,3 +153,45 @@ named_itself items h =
       bads = refl;
       constraints = refl;
     }
+
+-- ---- leaves
+
+-- of each item of a kind, where each item of the kind has it
+of_kind_all : (P : ℕ → Type 0) (kind : Item → Bool) (items : List Item) → ((x : Item) → IsIn items x → kind x ≡ true → P x.id) → AllByRecursion P (ids_of kind items)
+of_kind_all P kind items own = to_ids P kind items (all_in (λ (x : Item). kind x ≡ true → P x.id) items (λ x at is. own x at is) [] items refl)
+
+own_cut : (items : List Item) → IsWellFormed items → (x : Item) → IsIn items x → (is_input x.body || is_state x.body) ≡ true → IsCutBy itself items x.id
+own_cut items h x at leaf = by x.body refl leaf (IsAccepted-at items x h at).says
+  where
+    sorted : (s : ℕ) → node_sort x.body ≡ Some s → HasSort at.before s → IsCutBy itself items x.id
+    sorted s names sort =
+        let there : sort_width items s ≡ Some sort.0 = ap (λ (l : List Item). sort_width l s) at.splits ∙ sort_width-append at.before (x ∷ at.after) s sort.0 sort.1 in
+        let width : node_width items x.id ≡ Some sort.0 =
+        ap (option_and_then (λ (y : Item). width_of_body items y.body)) (find_item-in items x h at) ∙ ap (option_and_then (sort_width items)) names ∙ there in
+        let range = node_width-range items x.id sort.0 h width in
+        let bits : bits_of items x.id ≡ sort.0 = ap (λ (o : Option ℕ). unwrap_or o 0) width in
+        (subst (λ (n : ℕ). 1 ≤ n) (sym bits) range.0, subst (λ (n : ℕ). n ≤ 64) (sym bits) range.1)
+
+    by : (b : Body) → x.body ≡ b → (is_input b || is_state b) ≡ true → BodyIsAccepted at.before b → IsCutBy itself items x.id
+    by (body.Input s) e is accepted = sorted s (ap node_sort e) accepted
+    by (body.State s) e is accepted = sorted s (ap node_sort e) accepted
+    by _ e is accepted = absurd (cc)
+
+either : (i s : Bool) → s ≡ true → (i || s) ≡ true
+either true s h = refl
+either false s h = h
+
+pub itself_is_fit : (items : List Item) → IsWellFormed items → (fit : IsFit items items) × ((id : ℕ) → fit.layout id ≡ id ∷ [])
+itself_is_fit items h = (
+  record {
+    layout = itself;
+    fits = fits_itself items h;
+    names = named_itself items h;
+    found = all_in (λ (x : Item). find_item items x.id ≡ Some x) items (λ x at. find_item-in items x h at) [] items refl;
+    inputs = each_itself (input_ids items);
+    states = each_itself (state_ids items);
+    input_cuts = of_kind_all (IsCutBy itself items) (λ x. is_input x.body) items (λ x at is. own_cut items h x at (ap (λ (b : Bool). b || is_state x.body) is));
+    state_cuts = of_kind_all (IsCutBy itself items) (λ x. is_state x.body) items (λ x at is. own_cut items h x at (either (is_input x.body) (is_state x.body) is));
+  },
+  λ id. refl,
+)

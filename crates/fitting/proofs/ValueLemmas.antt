@@ -182,6 +182,7 @@ value_fitted wide table table' narrow narrow' x rs h sound plain e line constant
           });
       constant = subst (λ (ps : List Node). IfSome (constant_word (bits_in ps) x.body) (λ w. AreConstantsOf narrow' w ps)) (sym own) constants;
       state = λ is. absurd (true≢false (sym is ∙ plain_no_state x.body plain));
+      input = λ is. absurd (true≢false (sym (ap (λ (b : Bool). b || is_state x.body) is) ∙ plain_leaf x plain));
       names = λ is. absurd (true≢false (sym is ∙ plain_leaf x plain));
       init = plain_init_made (wide ++ x ∷ []) table'.words narrow' x.body plain;
       next = plain_next_made table'.words narrow' x.body plain;
@@ -243,6 +244,7 @@ stands_without wide table narrow x none found sort init next =
       value = subst (λ (o : Option ℕ). IfSome o (HasWord wide table.words narrow x.id)) (sym none) tt;
       constant = subst (λ (o : Option ℕ). IfSome o (λ w. AreConstantsOf narrow w (table.words x.id))) (sym (no_constant (bits_in (table.words x.id)) x.body none)) tt;
       state = λ is. absurd (true≢false (sym is ∙ none_no_state x.body none));
+      input = λ is. absurd (true≢false (sym (ap (λ (b : Bool). b || is_state x.body) is) ∙ none_no_leaf x.body none));
       names = λ is. absurd (true≢false (sym is ∙ none_no_leaf x.body none));
       init = init;
       next = next;

@@ -9,7 +9,7 @@ use Rattle.btor2.specs.Check.{IsWellFormed, sort_is_missing, operand_is_missing,
 use Rattle.btor2.specs.Trace.{Frame, line_word}
 use Rattle.btor2.specs.Lists.{of_kind}
 use Rattle.btor2.specs.Reachability.{nodes_of}
-use Rattle.fit.specs.Fitting.{Layout, ids_of, is_output, Carries, init_words, NamesEarlierAfter}
+use Rattle.fit.specs.Fitting.{Layout, ids_of, is_output, IsInputPiece, Carries, init_words, NamesEarlierAfter}
 use Rattle.pieces.specs.declared.node.Node.{Node}
 use Rattle.pieces.specs.Nodes.{word_of, bits_in, MakesWord}
 use Rattle.pieces.specs.Cuts.{widths, IsCut, IsWord}
@@ -132,6 +132,7 @@ pub record LineStands (wide : List Item) (table : Table) (narrow : List Item) (x
   pub value : IfSome (node_sort x.body) (HasWord wide table.words narrow x.id)
   pub constant : IfSome (constant_word (bits_in (table.words x.id)) x.body) (λ w. AreConstantsOf narrow w (table.words x.id))
   pub state : is_state x.body ≡ true → AllByRecursion (λ (p : Node). names_state narrow p.id ≡ true) (table.words x.id)
+  pub input : is_input x.body ≡ true → AllByRecursion (λ (p : Node). IsInputPiece narrow p.id) (table.words x.id)
   pub names : is_leaf x ≡ true → HaveNames narrow (table.words x.id) (word_names x.symbol (widths (table.words x.id)))
   pub init : InitIsMade wide table.words narrow x.body
   pub next : NextIsMade table.words narrow x.body

@@ -26,14 +26,13 @@ impl Fitter {
     ghost use Rattle.btor2.specs.declared.item.Item.{Item};
     ghost use Rattle.btor2.specs.declared.item.Body.TheVariants as body;
     ghost use Rattle.btor2.specs.Items.{node_sort, sort_width, constant_word};
-    ghost use Rattle.fit.specs.Fitting.{IsFittingOf};
     ghost use Rattle.pieces.specs.Kept.{IsShort};
     ghost use Rattle.pieces.specs.Constants.{digits_value};
     ghost use Rattle.pieces.specs.Lines.{named};
     ghost use Rattle.fitting.specs.Forms.{is_operator, is_constant_line, form_fault, IsRefused};
     ghost use Rattle.fitting.specs.Fitted.{IsSoundLine, IsFitted};
     ghost use Rattle.fitting.specs.Steps.{leaf_body, IsLonger, Place, ConstantPlace};
-    ghost use Rattle.fitting.specs.Names.{HasNames};
+    ghost use Rattle.fitting.specs.Models.{IsFit};
     ghost use Rattle.fitting.specs.Tables.{table_of, layout_of};
 
     /// A model of no lines.
@@ -52,8 +51,7 @@ impl Fitter {
     pub fn finish(self) -> Model
         ghost wide: { List Item }
         requires fitted { IsFitted wide (table_of self) self.maker }
-        ensures fits { IsFittingOf wide (layout_of self) result }
-        ensures names { HasNames wide (layout_of self) result }
+        ensures { (fit : IsFit wide result) × (fit.layout ≡ layout_of self) }
     {
         let _items = self.maker.model().items();
         self.maker.finish()

@@ -14,3 +14,4 @@ pub use engine_lifting::lift_restored;
 pub use fault::LiftFault;
 pub use form_lifting::lift_form;
 pub use lifting::{lift, lift_with_rises};
+pub use pieces::add_name_in_frame;

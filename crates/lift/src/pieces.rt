@@ -72,8 +72,10 @@ fn add_digits(line: &mut Line, bits: &[u8])
 const MOST_BYTES: usize = 255;
 
 /// Puts the name of a symbol in a frame in front of a line, where that is a symbol: a space, the symbol, `@` and the frame's
-/// number.
-fn add_name_in_frame(line: &mut Line, symbol: &[u8], frame: u64)
+/// number. Of another nothing is put.
+///
+/// Condition: at most one byte is on the line.
+pub fn add_name_in_frame(line: &mut Line, symbol: &[u8], frame: u64)
     requires symbol { is_symbol symbol.now ≡ true }
     requires room { length line.old ≤ 1 }
     ensures name { line.new ≡ symbol_part (name_in_frame frame symbol.now) ++ line.old }

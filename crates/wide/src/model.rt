@@ -81,11 +81,18 @@ impl WideModel {
         }
     }
 
-    /// The width of a node with a value.
+    /// The width of a node with a value, by its id.
+    pub fn node_width(&self, id: u64) -> Option<u64>
+        ensures { result ≡ node_width self.now id }
+    {
+        node_of(self.entries.get(&id).copied())
+    }
+
+    /// The width of a node that is named.
     fn width(&self, id: u32) -> Option<u64>
         ensures { result ≡ node_width self.now id }
     {
-        node_of(self.entries.get(&u64::from(id)).copied())
+        self.node_width(u64::from(id))
     }
 
     /// The width of a node that is named.
@@ -125,18 +132,18 @@ impl WideModel {
         }
     }
 
-    /// Whether a state has an init line.
-    fn has_init(&self, state: u32) -> bool
+    /// Whether a state, by its id, has an init line.
+    pub fn has_init(&self, state: u64) -> bool
         ensures { result ≡ is_some (init_value self.now state) }
     {
-        self.inits.get(&u64::from(state)).is_some()
+        self.inits.get(&state).is_some()
     }
 
-    /// Whether a state has a next line.
-    fn has_next(&self, state: u32) -> bool
+    /// Whether a state, by its id, has a next line.
+    pub fn has_next(&self, state: u64) -> bool
         ensures { result ≡ is_some (next_value self.now state) }
     {
-        self.nexts.get(&u64::from(state)).is_some()
+        self.nexts.get(&state).is_some()
     }
 
     /// Whether each of some ids is that of a node with a value.

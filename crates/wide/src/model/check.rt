@@ -201,7 +201,7 @@ impl WideModel {
         if !is_constant {
             return Err(PushFault::InitNotConstant);
         }
-        refuse_if(self.has_init(state), PushFault::SecondInit)
+        refuse_if(self.has_init(u64::from(state)), PushFault::SecondInit)
     }
 
     /// Tests a next.
@@ -218,7 +218,7 @@ impl WideModel {
         if width != kept || width != given {
             return Err(PushFault::SortMismatch);
         }
-        refuse_if(self.has_next(state), PushFault::SecondNext)
+        refuse_if(self.has_next(u64::from(state)), PushFault::SecondNext)
     }
 
     /// Tests what marks a node of one bit.

@@ -1,0 +1,7 @@
+-- The definitions of spread texts.
+pub mod Spread
+pub mod Passing
+pub mod Words
+pub mod Stands
+pub mod Answers
+pub mod Worked
