@@ -145,9 +145,9 @@ def cost(first, file):
 
 # The flags that commands have in rows that the library has a call for, and how many files.
 FLAGS = {
-    "check-btor": (("--names",), 2), "check-aig": (("--names",), 2), "lower": (("--ascii", "--binary"), 1),
+    "check-btor": (("--names", "--fit"), 2), "check-aig": (("--names",), 2), "lower": (("--ascii", "--binary"), 1),
     "aig-convert": (("--ascii", "--binary"), 1), "lift": (("--engine", "--abc", "--names"), 2), "restore": (("--abc",), 2),
-    "wave": (("--all",), 2), "cost": ((), 1), "fit": ((), 1),
+    "wave": (("--all",), 2), "cost": ((), 1), "fit": ((), 1), "unfit": (("--names", "--back"), 2),
     "obligation": (("--aiger", "--circuit", "--engine"), 2), "check-proof": (("--aiger", "--circuit", "--engine", "--lrat"), 3),
 }  # fmt: skip
 
@@ -183,6 +183,8 @@ def answer(command, flags, bad, names, texts):
     # without a choice the only one is meant
     over, has_hints = (ctypes.c_bool("--aiger" in flags), ctypes.c_bool("--engine" in flags)), ctypes.c_bool("--lrat" in flags)
     position, choice = size(bad or 0), (ctypes.c_bool(bad is not None), size(bad or 0))
+    if command == "check-btor" and "--fit" in flags:
+        return called(library.hwtool_check_btor_fit, (*first, *second), True, 0, circuit, file)
     if command in ("check-btor", "check-aig"):
         plain, with_claims = (getattr(library, f"hwtool_{command.replace('-', '_')}{behind}") for behind in ("", "_claims"))
         return checked(plain, with_claims, first, choice, second, circuit, file, by_name.value)
@@ -190,6 +192,10 @@ def answer(command, flags, bad, names, texts):
         return called(library.hwtool_lower, (*first, binary), False, 1, circuit, file)
     if command == "fit":
         return called(library.hwtool_fit, first, False, 1, circuit, file)
+    if command == "unfit" and "--back" in flags:
+        return called(library.hwtool_unfit_back, (*first, *second), True, 1, circuit, file)
+    if command == "unfit":
+        return called(library.hwtool_unfit, (*first, by_name, *second), True, 1, circuit, file)
     if command == "aig-convert":
         return called(library.hwtool_convert, (*first, binary), False, 1, circuit, file)
     if command == "restore" and "--abc" in flags:

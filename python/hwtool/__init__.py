@@ -21,11 +21,12 @@ The library is the one that HWTOOL_LIBRARY names; without it the one that was in
 the repository that the package stands in, or the system's.
 """
 
-from ._answers import Claim, Cost, Dump, Kind, Lifted, ProofKind, ProofVerdict, Restored, Verdict
+from ._answers import Claim, Cost, Dump, Kind, Lifted, ProofKind, ProofVerdict, Restored, Unfitted, Verdict
 from ._calls import (
     Text,
     check_aig,
     check_btor,
+    check_btor_fit,
     check_proof,
     check_proof_aig,
     check_proof_circuit,
@@ -42,12 +43,14 @@ from ._calls import (
     obligation_circuit,
     restore,
     restore_abc,
+    unfit,
+    unfit_back,
     version,
     wave,
 )
 from ._refusals import Case, Refused, explain, name
 
-__version__ = "0.9.0"
+__version__ = "0.10.0"
 
 # so is it told where nobody catches it
 Refused.__module__ = __name__
@@ -64,9 +67,11 @@ __all__ = [
     "Refused",
     "Restored",
     "Text",
+    "Unfitted",
     "Verdict",
     "check_aig",
     "check_btor",
+    "check_btor_fit",
     "check_proof",
     "check_proof_aig",
     "check_proof_circuit",
@@ -85,6 +90,8 @@ __all__ = [
     "obligation_circuit",
     "restore",
     "restore_abc",
+    "unfit",
+    "unfit_back",
     "version",
     "wave",
 ]

@@ -169,6 +169,19 @@ class Lifted:
 
 
 @dataclass(frozen=True)
+class Unfitted:
+    """A witness of the model that `fit` makes as one of the model itself, or the other way round. It is true where it is accepted."""
+
+    verdict: Verdict
+    """What is said of both."""
+    text: bytes
+    """The witness that is made; of a malformed one what stands before the faulty line, and of one that claims nothing, nothing of it."""
+
+    def __bool__(self) -> bool:
+        return self.verdict.accepted
+
+
+@dataclass(frozen=True)
 class Restored:
     """What an engine found over the engine form of a circuit, as a witness of the circuit. It is true where this is accepted."""
 

@@ -7,7 +7,7 @@ import operator
 import os
 from typing import List, NoReturn, Optional, Sequence, SupportsIndex, Tuple, Union
 
-from ._answers import Claim, Cost, Dump, Kind, Lifted, ProofKind, ProofVerdict, Restored, Verdict
+from ._answers import Claim, Cost, Dump, Kind, Lifted, ProofKind, ProofVerdict, Restored, Unfitted, Verdict
 from ._library import (
     DONE,
     MODEL_REFUSED,
@@ -170,6 +170,41 @@ def fit(model: Text) -> bytes:
     if status != DONE:
         _refuse(status, refusal, "model", first)
     return text
+
+
+def check_btor_fit(model: Text, witness: Text) -> Verdict:
+    """Judges a witness of a BTOR2 model with words of up to 1,048,576 bits; the verdict has no claims.
+
+    Raises Refused where the model is none, has a state with an init and no next, or `fit` does not take it.
+    """
+    first, second, verdict = _Given(model), _Given(witness), RawVerdict()
+    status, refusal = call("hwtool_check_btor_fit", [*first.words, *second.words], ctypes.byref(verdict))
+    if status != DONE:
+        _refuse(status, refusal, "model", first)
+    return _verdict(verdict, False, ())
+
+
+def _unfitted(call_name: str, first: _Given, given: List[object], witness: _Given) -> Unfitted:
+    """Judges a witness, and writes what it is over the model that is fitted, or over the model itself."""
+    verdict = RawVerdict()
+    status, refusal, text = written(call_name, [*given, *witness.words], first.room + 64 * witness.room, ctypes.byref(verdict))
+    if status != DONE:
+        _refuse(status, refusal, "model", first)
+    return Unfitted(_verdict(verdict, False, ()), text)
+
+
+def unfit(model: Text, witness: Text, *, names: bool = False) -> Unfitted:
+    """The witness of a BTOR2 model with words of up to 1,048,576 bits that says what one of the model says that `fit` makes of it:
+    with names behind its words, or without. The verdict has no claims. Raises Refused as `check_btor_fit` does."""
+    first = _Given(model)
+    return _unfitted("hwtool_unfit", first, [*first.words, bool(names)], _Given(witness))
+
+
+def unfit_back(model: Text, witness: Text) -> Unfitted:
+    """The witness of the model that `fit` makes that says what one of the model itself says. The verdict has no claims. Raises
+    Refused as `check_btor_fit` does."""
+    first = _Given(model)
+    return _unfitted("hwtool_unfit_back", first, first.words, _Given(witness))
 
 
 def cost(model: Text) -> Cost:

@@ -17,11 +17,11 @@ from rows import read_rows  # noqa: E402
 
 FILES = {
     "check-btor": 2, "check-aig": 2, "lower": 1, "cost": 1, "aig-convert": 1, "lift": 2, "wave": 2, "obligation": 2,
-    "check-proof": 3, "restore": 2, "fit": 1,
+    "check-proof": 3, "restore": 2, "fit": 1, "unfit": 2,
 }  # fmt: skip
 # the flags of commands, beside the two forms of circuits, that a call answers to
 FLAGS = {
-    "check-btor": {"--names"}, "check-aig": {"--names"}, "wave": {"--all"}, "aig-convert": {"--engine"},
+    "check-btor": {"--names", "--fit"}, "unfit": {"--names", "--back"}, "check-aig": {"--names"}, "wave": {"--all"}, "aig-convert": {"--engine"},
     "lift": {"--engine", "--abc", "--names"}, "restore": {"--abc"}, "obligation": {"--aiger"}, "check-proof": {"--aiger", "--lrat"},
 }  # fmt: skip
 # the forms of commands that calls of their own answer to
@@ -47,6 +47,9 @@ def answer(command, flags, bad, files, names):
     """What a call answers in place of the program: status, standard output, standard error."""
     binary = "--binary" in flags
     try:
+        if command == "check-btor" and "--fit" in flags:
+            verdict = hwtool.check_btor_fit(*files)
+            return 0 if verdict.accepted else 1, f"{verdict}\n".encode(), b""
         if command in ("check-btor", "check-aig"):
             verdict = (hwtool.check_btor if command == "check-btor" else hwtool.check_aig)(*files, bad=bad)
             return 0 if verdict.accepted else 1, f"{verdict}\n".encode(), reached(verdict, flags).encode()
@@ -62,8 +65,10 @@ def answer(command, flags, bad, files, names):
             return 0, hwtool.fit(files[0]), b""
         if command == "cost":
             return 0, f"{hwtool.cost(files[0])}\n".encode(), b""
-        if command in ("lift", "restore", "wave"):
-            if command == "wave":
+        if command in ("lift", "restore", "wave", "unfit"):
+            if command == "unfit":
+                told = hwtool.unfit_back(*files) if "--back" in flags else hwtool.unfit(*files, names="--names" in flags)
+            elif command == "wave":
                 told = hwtool.wave(*files, all="--all" in flags, title=" ".join(names).encode())
             elif command == "restore":
                 told = hwtool.restore_abc(files[0], bad or 0, files[1]) if "--abc" in flags else hwtool.restore(*files, bad=bad)

@@ -42,7 +42,9 @@ struct answer {
 #define NEVER_ONE ".i 1\n.o 1\n.p 1\n.ilb lo0\n.ob inv\n1 1\n.e\n"
 
 /* A model with words of more than 64 bits. */
-#define WIDE "1 sort bitvec 70\n2 input 1 x\n3 constd 1 -5\n4 add 1 2 3\n5 output 4 y\n"
+#define WIDE "1 sort bitvec 70\n2 input 1 x\n3 constd 1 -5\n4 add 1 2 3\n5 output 4 y\n6 sort bitvec 1\n7 redor 6 4\n8 bad 7\n"
+#define WIDE_WITNESS "sat\nb0\n@0\n0 " "0000000000000000000000000000000000000000000000000000000000000000000101" "\n@1\n.\n"
+#define PIECES "sat\nb0\n@0\n1 000001\n@1\n.\n"
 
 #define OF(text) texts[text].bytes, texts[text].length
 #define LITERAL(text) (const uint8_t *)text, sizeof text - 1
@@ -61,6 +63,11 @@ static void check_aig_claims(struct answer *a) {
 }
 static void lower(struct answer *a) { a->status = hwtool_lower(OF(MODEL), false, INTO); }
 static void fit(struct answer *a) { a->status = hwtool_fit(LITERAL(WIDE), INTO); }
+static void check_btor_fit(struct answer *a) {
+    a->status = hwtool_check_btor_fit(LITERAL(WIDE), LITERAL(WIDE_WITNESS), &a->verdict, &a->refusal);
+}
+static void unfit(struct answer *a) { a->status = hwtool_unfit(LITERAL(WIDE), true, LITERAL(PIECES), &a->verdict, INTO); }
+static void unfit_back(struct answer *a) { a->status = hwtool_unfit_back(LITERAL(WIDE), LITERAL(WIDE_WITNESS), &a->verdict, INTO); }
 static void cost(struct answer *a) { a->status = hwtool_cost(OF(MODEL), &a->gates, &a->variables, &a->refusal); }
 static void convert(struct answer *a) { a->status = hwtool_convert(OF(CIRCUIT), true, INTO); }
 static void engine_form(struct answer *a) { a->status = hwtool_engine_form(OF(CIRCUIT), true, 0, true, INTO); }
@@ -103,7 +110,8 @@ static const struct {
     const char *name;
     void (*call)(struct answer *);
 } calls[] = {
-    {"check_btor", check_btor}, {"check_aig", check_aig}, {"lower", lower}, {"fit", fit}, {"cost", cost},
+    {"check_btor", check_btor}, {"check_aig", check_aig}, {"lower", lower}, {"fit", fit},
+    {"check_btor_fit", check_btor_fit}, {"unfit", unfit}, {"unfit_back", unfit_back}, {"cost", cost},
     {"convert", convert}, {"engine_form", engine_form}, {"lift", lift}, {"wave", wave},
     {"obligation", obligation}, {"check_proof", check_proof}, {"restore", restore}, {"restore_abc", restore_abc},
     {"lift_engine", lift_engine}, {"lift_engine_abc", lift_engine_abc}, {"obligation_aig", obligation_aig},

@@ -2,6 +2,7 @@
 pub mod Answers
 pub mod Buffers
 pub mod Certified
+pub mod Fitted
 pub mod Flags
 pub mod Judged
 pub mod Lifted

@@ -6,6 +6,7 @@ mod answers;
 mod buffers;
 mod certifying;
 mod claiming;
+mod fitted;
 mod flags;
 mod judging;
 mod lifting;

@@ -30,6 +30,8 @@ pub(crate) fn about(verb: Verb) -> &'static str {
         Verb::Cost => "Tell how many gates and variables the circuit of a BTOR2 model has at most",
         Verb::Fit =>
             "Write a BTOR2 model with words of up to 1,048,576 bits as one of words of at most 64, whose bad properties can rise in as many frames",
+        Verb::Unfit =>
+            "Write the BTOR2 witness of a model with words of up to 1,048,576 bits that says what one of the model that fit writes says, or with --back the other way round",
         Verb::AigConvert =>
             "Write an AIGER circuit of either form in one, its variables numbered as in the binary form",
         Verb::CheckAig => "Judge an AIGER witness over a circuit",
@@ -70,7 +72,7 @@ struct HelpLine {
 }
 
 /// What help says of words; of those of a name the first that is of the command.
-static HELPS: [HelpLine; 37] = [
+static HELPS: [HelpLine; 41] = [
     HelpLine {
         name: "MODEL",
         verbs: &[],
@@ -158,6 +160,11 @@ static HELPS: [HelpLine; 37] = [
     },
     HelpLine {
         name: "WITNESS",
+        verbs: &[Verb::Unfit],
+        text: "The file of a BTOR2 witness of the model that fit writes, or with --back of the model, or - for standard input",
+    },
+    HelpLine {
+        name: "WITNESS",
         verbs: &[],
         text: "The file of an AIGER witness, or - for standard input",
     },
@@ -178,8 +185,23 @@ static HELPS: [HelpLine; 37] = [
     },
     HelpLine {
         name: "names",
+        verbs: &[Verb::Unfit],
+        text: "Write symbols behind words",
+    },
+    HelpLine {
+        name: "names",
         verbs: &[],
         text: "Say on standard error which line of the model, or name of the circuit, the bad property is that holds",
+    },
+    HelpLine {
+        name: "fit",
+        verbs: &[],
+        text: "The model may have words of up to 1,048,576 bits, and the witness is one of it",
+    },
+    HelpLine {
+        name: "back",
+        verbs: &[],
+        text: "Write the witness of the model that fit writes that says what one of the model says",
     },
     HelpLine {
         name: "CIRCUIT",

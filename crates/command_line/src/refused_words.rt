@@ -20,6 +20,12 @@ const LIST_WITHIN: &str = "words: a list has no list within it\n";
 /// What is told of words that choose both forms of a circuit.
 const TWO_FORMS: &str = "words: choose one form\n";
 
+/// What is told of words that judge by the fitted model and ask for more than the line.
+const FIT_TELLS: &str = "words: --fit goes with none of --names, --bad and --json\n";
+
+/// What is told of words that ask for names in a witness that has none.
+const BACK_NAMES: &str = "words: --back goes without --names\n";
+
 /// What is told of words that choose a bad property and no engine form.
 const BAD_ALONE: &str = "words: --bad goes with --engine\n";
 
@@ -46,6 +52,20 @@ fn refusal_of_value(word: Word, words: &ArgMatches<'_>) -> Option<&'static str> 
     }
 }
 
+/// The line that refuses a flag that goes with none of some others, where one of them is given.
+fn refusal_of_flag(verb: Verb, word: Word, words: &ArgMatches<'_>) -> Option<&'static str> {
+    if word.kind != Kind::FlagAlone || !words.get_flag(word.name) {
+        return None;
+    }
+    if !words.get_flag("names") && !words.get_flag("json") && words.get_str("bad").is_none() {
+        return None;
+    }
+    match verb {
+        Verb::CheckBtor => Some(FIT_TELLS),
+        _ => Some(BACK_NAMES),
+    }
+}
+
 /// How many files of a command are standard input.
 fn standard_inputs(verb: Verb, words: &ArgMatches<'_>) -> usize {
     let is_input = |word: &&Word| {
@@ -64,6 +84,9 @@ pub(crate) fn refusal_of(verb: Verb, words: &ArgMatches<'_>) -> &'static str {
     }
     for word in words_of(verb) {
         if let Some(line) = refusal_of_value(*word, words) {
+            return line;
+        }
+        if let Some(line) = refusal_of_flag(verb, *word, words) {
             return line;
         }
     }

@@ -11,6 +11,7 @@ use Rattle.subcommands.specs.declared.answers.Answer.TheVariants as answer
 use Rattle.subcommands.specs.Asked.{ChecksCircuit, ChecksModel}
 use Rattle.subcommands.specs.Certificates.{CertifiesWith, WritesOwed}
 use Rattle.subcommands.specs.Done.{Compares, Dumps, Judged, ShowsModel, TellsCost, Tidies}
+use Rattle.subcommands.specs.Fitted.{Spreads, Unfits, WritesJudgedFitted}
 use Rattle.subcommands.specs.Restoring.{Lifts, LiftsForm, LiftsFound, Restores, RestoresForm}
 use Rattle.invocation.specs.declared.tasks.CertificateTask.TheVariants as certificate
 use Rattle.invocation.specs.declared.tasks.CircuitTask.TheVariants as circuit
@@ -52,6 +53,9 @@ Answers o (task.Text (text.TidyWitness pick)) answer.Done first second third bef
 Answers o (task.Circuit circuit.CheckAig) a first second third before now told told' = ChecksCircuit o.named o.as_json (asked_of o) first second before now told told' a
 Answers o (task.Model model.Lift) a first second third before now told told' = Lifts o.named first second before now told told' a
 Answers o (task.Model (model.Wave shown)) a first second third before now told told' = Judged (Dumps shown first second before now told told') a
+Answers o (task.Model model.CheckFitted) a first second third before now told told' = WritesJudgedFitted first second before now a
+Answers o (task.Model model.Unfit) a first second third before now told told' = Unfits o.named first second before now told told' a
+Answers o (task.Model model.Spread) a first second third before now told told' = Spreads first second before now told told' a
 Answers o (task.Circuit (circuit.Restore choice)) a first second third before now told told' = Restores choice first second before now told told' a
 Answers o (task.Circuit (circuit.RestoreForm choice)) a first second third before now told told' = RestoresForm choice first second before now told told' a
 Answers o (task.Model (model.LiftFound choice)) a first second third before now told told' = LiftsFound o.named choice first second before now told told' a
@@ -71,6 +75,9 @@ has_one_file (task.Circuit (circuit.RestoreForm choice)) = false
 has_one_file (task.Model (model.LiftFound choice)) = false
 has_one_file (task.Model (model.LiftForm choice)) = false
 has_one_file (task.Model (model.Wave shown)) = false
+has_one_file (task.Model model.CheckFitted) = false
+has_one_file (task.Model model.Unfit) = false
+has_one_file (task.Model model.Spread) = false
 has_one_file (task.Certificate t) = false
 has_one_file _ = true
 
@@ -87,6 +94,8 @@ is_quiet named (task.Circuit (circuit.RestoreForm choice)) = false
 is_quiet named (task.Model (model.LiftFound choice)) = false
 is_quiet named (task.Model (model.LiftForm choice)) = false
 is_quiet named (task.Model (model.Wave shown)) = false
+is_quiet named (task.Model model.Unfit) = false
+is_quiet named (task.Model model.Spread) = false
 is_quiet named (task.Model model.CheckBtor) = not named
 is_quiet named (task.Circuit circuit.CheckAig) = not named
 is_quiet named (task.Certificate (certificate.CheckProof of form)) = not named

@@ -12,6 +12,7 @@ use Rattle.verbs.specs.declared.refusals.Fault.{Fault}
 use Rattle.verbs.specs.Asked.{IsNotJudgedOverWith, IsNotJudgedWith}
 use Rattle.verbs.specs.Fitting.{IsNotFitted}
 use Rattle.verbs.specs.Refusals.{IsFaultyCertificate, IsNoCircuit, IsNoModel, IsNoVectorList, IsNotCertifiable, IsNotClaimable, IsNotClaimed, IsNotForEngines, IsNotJudged, IsNotLowered}
+use Rattle.verbs.specs.Unfitting.{IsNotReady}
 use Rattle.verbs.specs.Outputs.{IsNotWithOutputs, IsNotWithOutputsForEngines}
 
 -- the first text has this fault, for which a command refuses it that asks for the claim of a bad property or not
@@ -33,6 +34,9 @@ RefusesTask (task.Circuit (circuit.RestoreForm choice)) asked known f = IsNotFor
 RefusesTask (task.Model (model.LiftFound choice)) asked known f = IsNotClaimed claimed.Found given.Model choice known f
 RefusesTask (task.Model (model.LiftForm choice)) asked known f = IsNotForEngines given.Model choice known f
 RefusesTask (task.Model (model.Wave shown)) asked known f = IsNotJudged known f
+RefusesTask (task.Model model.CheckFitted) asked known f = IsNotReady known f
+RefusesTask (task.Model model.Unfit) asked known f = IsNotReady known f
+RefusesTask (task.Model model.Spread) asked known f = IsNotReady known f
 RefusesTask (task.Text (text.TidyWitness pick)) asked known f = ⊥
 RefusesTask (task.Text text.Vectors) asked known f = IsNoVectorList known f
 RefusesTask (task.Certificate (certificate.Obligation of)) asked known f = IsNotCertifiable of.by of.given of.choice known f

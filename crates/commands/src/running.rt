@@ -19,10 +19,10 @@ use blast::Watch;
 use invocation::{CertificateTask, CircuitTask, DEVICE, ModelTask, Order, Task, TextTask};
 use std::alloc::Global;
 use subcommands::{
-    Answer, answered, check_circuit, check_circuit_with, check_model, check_model_with,
-    check_proof, compare_vectors, dump_witness, lift_counterexample, lift_form_witness,
-    lift_witness, restore_counterexample, restore_witness, show, tell, tell_cost, tidy_witness,
-    write_obligation, write_refusal,
+    Answer, answered, check_circuit, check_circuit_with, check_fitted, check_model,
+    check_model_with, check_proof, compare_vectors, dump_witness, lift_counterexample,
+    lift_form_witness, lift_witness, restore_counterexample, restore_witness, show, spread_witness,
+    tell, tell_cost, tidy_witness, unfit_witness, write_obligation, write_refusal,
 };
 use verbs::{
     Device, Refusal, convert, convert_for_engines, convert_outputs, convert_outputs_for_engines,
@@ -34,7 +34,7 @@ use verbs::{
 ///
 /// While a model is lowered, `watch` is told behind each of its lines how many gates there are.
 ///
-/// Results go to `out`; a refusal is one line on `err`, and so is the judgement of `lift`, of `restore` and of `wave`; with
+/// Results go to `out`; a refusal is one line on `err`, and so is the judgement of `lift`, of `restore`, of `unfit` and of `wave`; with
 /// names the line that says what the judgement is about goes there too. Only a command of two or three
 /// files reads the second source, and one of three the third.
 ///
@@ -307,6 +307,9 @@ fn obey_on_model<A: Source, B: Source, O: Sink, E: Sink, W: Watch>(
             lift_form_witness(alloc, order.named, choice, first, second, out, err, watch)
         }
         ModelTask::Wave(shown) => dump_witness(alloc, order, shown, first, second, out, err),
+        ModelTask::CheckFitted => check_fitted(alloc, first, second, out),
+        ModelTask::Unfit => unfit_witness(alloc, order.named, first, second, out, err),
+        ModelTask::Spread => spread_witness(alloc, first, second, out, err),
     }
 }
 

@@ -32,6 +32,8 @@ ghost use Rattle.certificates.specs.declared.certificate_fault.CertificateFault.
 ghost use Rattle.certificates.specs.declared.claim_fault.ClaimFault.{ClaimFault};
 ghost use Rattle.certificates.specs.declared.fault.ObligationFault.{ObligationFault};
 ghost use Rattle.certificates.specs.declared.why.InvariantWhy.{InvariantWhy};
+ghost use Rattle.rejoin.specs.Faults.{unfit_fault_name, unfit_fault_number};
+ghost use Rattle.rejoin.specs.declared.fault.UnfitFault.{UnfitFault};
 ghost use Rattle.lift.specs.Answers.{lift_fault_name as lift_name, lift_fault_number as lift_number};
 ghost use Rattle.lift.specs.declared.fault.LiftFault.{LiftFault};
 ghost use Rattle.restore.specs.Faults.{restore_why_name as restore_name, restore_why_number as restore_number};
@@ -78,7 +80,7 @@ pub struct Part {
 /// What all refusals mean and what to do about them. A refusal may have several cases, also in several parts.
 ///
 /// Each refusal of each library is there, by the number and the name that the library gives it, and no number has two names.
-pub fn refusal_table() -> [Part; 20]
+pub fn refusal_table() -> [Part; 21]
     ensures names { NameOnce result }
     // the number of a why of a model's text that a push gives is its own, which is printed for it
     ensures models { (why : Why) → Explains result (printed_number why) (line_why_name why) }
@@ -101,6 +103,8 @@ pub fn refusal_table() -> [Part; 20]
     ensures lists { (fault : LooseFault)
         → Explains result (loose_fault_number fault) (loose_fault_name fault) }
     ensures liftings { (fault : LiftFault) → Explains result (lift_number fault) (lift_name fault) }
+    ensures unfittings { (fault : UnfitFault)
+        → Explains result (unfit_fault_number fault) (unfit_fault_name fault) }
     ensures engines { (fault : EngineFault)
         → Explains result (engine_number fault) (engine_name fault) }
     ensures counterexamples { (why : RestoreWhy)
@@ -172,6 +176,10 @@ pub fn refusal_table() -> [Part; 20]
         Part {
             title: "Lifting",
             rows: &witnesses::LIFTING,
+        },
+        Part {
+            title: "Witnesses of wide models",
+            rows: &witnesses::UNFITTING,
         },
         Part {
             title: "Texts of circuits",

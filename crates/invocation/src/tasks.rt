@@ -69,6 +69,12 @@ pub enum ModelTask {
     LiftForm(Option<usize>),
     /// Judges a witness over it, and dumps its frames.
     Wave(Shown),
+    /// Judges a witness over it, where it may have words of any width.
+    CheckFitted,
+    /// Writes the witness of it, where it may have words of any width, that says what one of the fitted model says.
+    Unfit,
+    /// Writes the witness of the fitted model that says what one of it says, where it may have words of any width.
+    Spread,
 }
 
 /// The commands on a circuit.

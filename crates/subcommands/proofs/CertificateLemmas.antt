@@ -1,5 +1,5 @@
 -- What a command has done that told how a certificate is judged.
-use Rattle.std.proofs.Common.{◌≡◌, ℕ, Bool, true, false, List, Option, Result, Ok, Err, IfOk, OnOk, subst}
+use Rattle.std.proofs.Common.{ℕ, Bool, true, false, List, Option, Result, Ok, Err, IfOk, OnOk}
 use Rattle.std.specs.Io.KnownBytes.{Appends}
 use Rattle.certificates.specs.declared.proof_form.ProofForm.{ProofForm}
 use Rattle.invocation.specs.declared.tasks.Certified.{Certified}

@@ -1,9 +1,9 @@
 -- What is said of what a judgement is about.
-use Rattle.std.proofs.Common.{◌≡◌, ℕ, zero, suc, Bool, true, false, cond, List, [], ◌∷◌, ◌++◌, ◌+◌, ◌<◌, drop, Option, Some, None, Result, Ok, Err, OnOk, length, append_assoc, option_and_then, slice_get, refl, sym, ap, subst, ◌∙◌, arith}
+use Rattle.std.proofs.Common.{◌≡◌, ℕ, zero, suc, Bool, List, [], ◌∷◌, ◌++◌, ◌+◌, ◌<◌, drop, Option, Some, None, Result, Ok, Err, OnOk, length, append_assoc, option_and_then, slice_get, refl, sym, ap, subst, ◌∙◌, arith}
 use Rattle.std.specs.Io.KnownBytes.{Appends}
 use Rattle.btor2.specs.declared.item.Item.{Item}
 use Rattle.btor2.specs.declared.item.Body.{Body}
-use Rattle.btor2.specs.Lists.{places, of_kind}
+use Rattle.btor2.specs.Lists.{places}
 use Rattle.subcommands.specs.Subjects.{first_said, firsts_said, says_item}
 use Rattle.verbs.specs.Subjects.{numbered_item}
 use Rattle.verbs.proofs.SubjectLemmas.{numbered}

@@ -8,7 +8,6 @@ use Rattle.btor2.specs.Check.{IsWellFormed}
 use Rattle.btor2.specs.Lists.{places}
 use Rattle.btor2text.specs.Writing.{written}
 use Rattle.witness.specs.declared.judgement.Judgement.{Judgement}
-use Rattle.witness.specs.declared.judgement.Judgement.TheVariants as judgement
 use Rattle.vcd.specs.declared.scope.Shown.{Shown}
 use Rattle.witness.specs.Printed.{judgement_text}
 use Rattle.tidy.specs.Tidied.{tidied}

@@ -4,6 +4,7 @@ pub mod Assumed
 pub mod Certificates
 pub mod Done
 pub mod Files
+pub mod Fitted
 pub mod Names
 pub mod Objects
 pub mod Refusals

@@ -1,8 +1,6 @@
 -- What is told of what is restored and lifted.
 use Rattle.std.specs.Prelude.{◌≡◌, ◌++◌, ℕ, Bool, List, length, Option, Result, Ok, Err, codes, decimal}
 use Rattle.std.specs.Io.KnownBytes.{Appends}
-use Rattle.btor2.specs.declared.item.Item.{Item}
-use Rattle.aiger.specs.Circuit.{Circuit}
 use Rattle.restore.specs.Faults.{restore_why_name, restore_why_number}
 use Rattle.restore.specs.declared.fault.RestoreFault.{RestoreFault}
 use Rattle.witness.specs.declared.judgement.Judgement.{Judgement}

@@ -38,9 +38,13 @@ impl Work {
     /// The work on the second file of a command.
     pub fn on_second(task: Task) -> Work {
         match task {
-            Task::Model(ModelTask::CheckBtor | ModelTask::Wave(_)) => {
-                Work::Judged(Counted::FramesOfModel)
-            }
+            Task::Model(
+                ModelTask::CheckBtor
+                | ModelTask::Wave(_)
+                | ModelTask::CheckFitted
+                | ModelTask::Unfit
+                | ModelTask::Spread,
+            ) => Work::Judged(Counted::FramesOfModel),
             Task::Certificate(_) => Work::Read,
             _ => Work::Judged(Counted::FramesOfCircuit),
         }

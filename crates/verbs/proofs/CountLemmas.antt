@@ -11,13 +11,16 @@ use Rattle.engine_form.specs.declared.fault.EngineFault.TheVariants as engine
 use Rattle.lift.specs.Answers.{CountsLift}
 use Rattle.lift.specs.declared.fault.LiftFault.{LiftFault}
 use Rattle.lift.specs.declared.fault.LiftFault.TheVariants as lift
+use Rattle.rejoin.specs.Faults.{CountsUnfit}
+use Rattle.rejoin.specs.declared.fault.UnfitFault.{UnfitFault}
+use Rattle.rejoin.specs.declared.fault.UnfitFault.TheVariants as unfit
 use Rattle.vcd.specs.Answers.{CountsWave}
 use Rattle.vcd.specs.declared.fault.WaveFault.{WaveFault}
 use Rattle.vcd.specs.declared.fault.WaveFault.TheVariants as wave
 use Rattle.witness.specs.Answers.{CountsJudge}
 use Rattle.witness.specs.declared.fault.JudgeFault.{JudgeFault}
 use Rattle.witness.specs.declared.fault.JudgeFault.TheVariants as judge
-use Rattle.verbs.specs.Conversions.{of_dumping, of_engine_form, of_judging, of_lifting}
+use Rattle.verbs.specs.Conversions.{of_dumping, of_engine_form, of_judging, of_lifting, of_unfitting}
 use Rattle.verbs.specs.Statuses.{Counts, CountsAll, CountsUses, Ends, EndsAll, EndsUnrefused, ErrUntold, IfInput, IfSecond, IfUsed, IsOfNoInput, OverCounts, Use}
 use Rattle.verbs.specs.Statuses.Use.{Unused, Used}
 
@@ -170,6 +173,12 @@ pub lifting_failed : (T U : Type 0) (e : LiftFault) (f f' s s' o o' : ℕ) → f
 lifting_failed T U lift.Read f f' s s' o o' first c err = (first, c.0, c.1, refl)
 lifting_failed T U lift.Write f f' s s' o o' first c err = (first, c.0, c.1, refl)
 lifting_failed T U lift.NoMemory f f' s s' o o' first c err = (first, c.0, c.1, refl)
+
+pub unfitting_failed : (T U : Type 0) (e : UnfitFault) (f f' s s' o o' : ℕ) → f' ≡ f → CountsUnfit {J = T} (Err e) s s' o o' → (err : ℕ) → Counts {T = U} (Err (of_unfitting e)) f f' s s' o o' err err
+unfitting_failed T U (unfit.NoNext id) f f' s s' o o' first c err = (first, c.0, c.1, refl)
+unfitting_failed T U unfit.Read f f' s s' o o' first c err = (first, c.0, c.1, refl)
+unfitting_failed T U unfit.Write f f' s s' o o' first c err = (first, c.0, c.1, refl)
+unfitting_failed T U unfit.NoMemory f f' s s' o o' first c err = (first, c.0, c.1, refl)
 
 -- ---- of a first text that is refused behind its reading, and of a second that is read no more
 

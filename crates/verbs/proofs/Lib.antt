@@ -6,3 +6,4 @@ pub mod FittedLemmas
 pub mod GivenLemmas
 pub mod RestoringLemmas
 pub mod SubjectLemmas
+pub mod UnfittingLemmas

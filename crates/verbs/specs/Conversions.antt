@@ -20,6 +20,8 @@ use Rattle.blast.specs.declared.fault.ConvertFault.TheVariants as convert
 use Rattle.witness.specs.declared.fault.JudgeFault.{JudgeFault}
 use Rattle.witness.specs.declared.fault.JudgeFault.TheVariants as judge
 use Rattle.lift.specs.declared.fault.LiftFault.{LiftFault}
+use Rattle.rejoin.specs.declared.fault.UnfitFault.{UnfitFault}
+use Rattle.rejoin.specs.declared.fault.UnfitFault.TheVariants as unfit
 use Rattle.lift.specs.declared.fault.LiftFault.TheVariants as lift
 use Rattle.restore.specs.declared.fault.RestoreWhy.{RestoreWhy}
 use Rattle.restore.specs.declared.fault.RestoreWhy.TheVariants as restore_why
@@ -148,6 +150,13 @@ abbrev pub of_certificate : CertificateFault → Refusal
 of_certificate (certificate.Claim e) = of_claim e
 of_certificate (certificate.Judge e) = refusal.NoMemory
 of_certificate certificate.Device = refusal.Failed device.Third
+
+-- of a witness over a fitted model that becomes one over the model, or the other way round
+abbrev pub of_unfitting : UnfitFault → Refusal
+of_unfitting (unfit.NoNext id) = refusal.Input (fault.NoNext id)
+of_unfitting unfit.Read = refusal.Failed device.Second
+of_unfitting unfit.Write = refusal.Failed device.Output
+of_unfitting unfit.NoMemory = refusal.NoMemory
 
 -- of lifting a witness
 abbrev pub of_lifting : LiftFault → Refusal

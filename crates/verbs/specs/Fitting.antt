@@ -1,5 +1,5 @@
 -- What is written of a model with words of any width that is fitted into one of the profile, and why it is not.
-use Rattle.std.specs.Prelude.{◌≡◌, ◌↔◌, ℕ, List, Option, IfSome, ◌⊎◌}
+use Rattle.std.specs.Prelude.{◌≡◌, ◌↔◌, ℕ, List, Option, Some, None, IfSome, ◌⊎◌}
 use Rattle.std.specs.Io.KnownBytes.{Appends}
 use Rattle.btor2.specs.declared.item.Item.{Item}
 use Rattle.btor2.specs.Reachability.{CanRise}
@@ -36,6 +36,11 @@ IsNotFit text _ = ⊥
 -- the same of all that was to come
 abbrev pub IsNotFitted : Option (List ℕ) → Fault → Type 0
 IsNotFitted known f = IfSome known (λ text. IsNotFit text f)
+
+-- a text stands for this model of the profile, or for none
+abbrev pub IsProfileOf : List ℕ → Option (List Item) → Type 0
+IsProfileOf text (Some items) = StandsFor text items
+IsProfileOf text None = (items : List Item) → ¬ StandsFor text items
 
 -- a text of a model of the profile is fitted into that model
 abbrev pub IsKept : List ℕ → List Item → Type 0

@@ -13,3 +13,4 @@ pub mod Refusals
 pub mod Restoring
 pub mod Statuses
 pub mod Subjects
+pub mod Unfitting

@@ -1,7 +1,8 @@
 //! Fitting models with words of any width into models of the profile.
 
-ghost use Rattle.std.specs.Prelude.{IfOk, IfErr, OnOk, Some};
-ghost use Rattle.verbs.specs.Fitting.{IsFitText, IsKept, IsNotFit, IsNotFitted, WritesFitting};
+ghost use Rattle.std.specs.Prelude.{◌≡◌, IfOk, IfErr, OnOk, Some};
+ghost use Rattle.widetext.specs.Spelling.{StandsForWide};
+ghost use Rattle.verbs.specs.Fitting.{IsFitText, IsKept, IsNotFit, IsNotFitted, IsProfileOf, WritesFitting};
 ghost use Rattle.verbs.specs.Statuses.{Ends, IfInput};
 ghost use Rattle.verbs.specs.Statuses.Use.{Unused, Used};
 
@@ -10,6 +11,37 @@ use base::{Sink, Source, read_all};
 use btor2::Model;
 use btor2text::{Why, write};
 use std::alloc::Global;
+use wide::WideModel;
+
+/// The model with words of any width that a text stands for.
+pub(crate) fn read_wide(alloc: Global, text: &[u8]) -> Result<WideModel, Refusal>
+    ensures stands { IfOk result (StandsForWide text.now) }
+    ensures refused { IfErr result (IfInput (IsNotFit text.now)) }
+    ensures ends { Ends result Unused Unused Unused Unused }
+{
+    match widetext::read(alloc, text) {
+        Ok(wide) => Ok(wide),
+        Err(fault) => match fault.why {
+            Why::NoMemory => Err(Refusal::NoMemory),
+            _ => Err(Refusal::Input(Fault::Model(fault))),
+        },
+    }
+}
+
+/// The model of the profile that a text stands for, where there is one.
+pub(crate) fn read_profile(alloc: Global, text: &[u8]) -> Result<Option<Model>, Refusal>
+    ensures read { IfOk result (IsProfileOf text.now) }
+    ensures memory { IfErr result (λ refusal. refusal ≡ Refusal.NoMemory) }
+{
+    let mut source = text;
+    match btor2text::read(alloc, &mut source) {
+        Ok(model) => Ok(Some(model)),
+        Err(fault) => match fault.why {
+            Why::NoMemory => Err(Refusal::NoMemory),
+            _ => Ok(None),
+        },
+    }
+}
 
 /// The model that a text is fitted into which stands for none of the profile.
 fn fit_wide(alloc: Global, text: &[u8]) -> Result<Model, Refusal>
@@ -18,13 +50,9 @@ fn fit_wide(alloc: Global, text: &[u8]) -> Result<Model, Refusal>
     ensures ends { Ends result Unused Unused Unused Unused }
 {
     fit::laws::bad_properties_rise_alike();
-    match widetext::read(alloc, text) {
-        Ok(wide) => Ok(fitting::fit(alloc, wide)?),
-        Err(fault) => match fault.why {
-            Why::NoMemory => Err(Refusal::NoMemory),
-            _ => Err(Refusal::Input(Fault::Model(fault))),
-        },
-    }
+    let wide = read_wide(alloc, text)?;
+    let narrow = fitting::fit(alloc, wide)?;
+    Ok(narrow)
 }
 
 /// The model that a text is fitted into: of a text of a model of the profile that model.
@@ -37,13 +65,10 @@ fn fit_text(alloc: Global, text: &[u8]) -> Result<Model, Refusal>
     fit::laws::bad_properties_rise_alike();
     fitting::laws::profile_is_fitted();
     widetext::laws::profile_is_read();
-    let mut source = text;
-    match btor2text::read(alloc, &mut source) {
-        Ok(model) => Ok(model),
-        Err(fault) => match fault.why {
-            Why::NoMemory => Err(Refusal::NoMemory),
-            _ => fit_wide(alloc, text),
-        },
+    btor2text::laws::one_model();
+    match read_profile(alloc, text)? {
+        Some(model) => Ok(model),
+        None => fit_wide(alloc, text),
     }
 }
 

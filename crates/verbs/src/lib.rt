@@ -19,6 +19,7 @@ mod refusals;
 mod restoring;
 mod subjects;
 mod told;
+mod unfitting;
 
 pub use certifying::{JudgedCertificate, certify, owe};
 pub use converting::{convert, convert_for_engines, convert_outputs, convert_outputs_for_engines};
@@ -36,3 +37,4 @@ pub use reading::read_model;
 pub use refusals::{Claimed, Device, Fault, Refusal};
 pub use restoring::{FoundRestored, Restored, restore_found, restore_from_form};
 pub use subjects::{Subject, item_of};
+pub use unfitting::{judge_fitted, spread, unfit};

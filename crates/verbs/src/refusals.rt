@@ -2,7 +2,7 @@
 
 ghost use Rattle.std.specs.Prelude.{◌≡◌};
 ghost use Rattle.verbs.specs.declared.refusals.Refusal.TheVariants as refusal;
-ghost use Rattle.verbs.specs.Conversions.{of_reading, of_circuit_reading, of_lowering, of_outputs, of_engine_form, of_conversion, of_fitting, of_judging, of_dumping, of_lifting, of_reading_all, of_lines, of_invariant_for, of_obligation, of_claim, of_certificate, of_witness};
+ghost use Rattle.verbs.specs.Conversions.{of_reading, of_circuit_reading, of_lowering, of_outputs, of_engine_form, of_conversion, of_fitting, of_judging, of_dumping, of_lifting, of_unfitting, of_reading_all, of_lines, of_invariant_for, of_obligation, of_claim, of_certificate, of_witness};
 
 use aiger::CircuitFault;
 use base::ReadAllFault;
@@ -11,6 +11,7 @@ use certificates::{CertificateFault, ClaimFault, InvariantFault, InvariantWhy, O
 use engine_form::EngineFault;
 use fitting::FitFault;
 use lift::LiftFault;
+use rejoin::UnfitFault;
 use std::alloc::AllocError;
 use vcd::WaveFault;
 use vectors::LinesFault;
@@ -208,6 +209,19 @@ impl From<LiftFault> for Refusal {
             LiftFault::Read => Refusal::Failed(Device::Second),
             LiftFault::Write => Refusal::Failed(Device::Output),
             LiftFault::NoMemory => Refusal::NoMemory,
+        }
+    }
+}
+
+impl From<UnfitFault> for Refusal {
+    ghost from_gives = { λ e r. r ≡ of_unfitting e };
+
+    fn from(fault: UnfitFault) -> Refusal {
+        match fault {
+            UnfitFault::NoNext(id) => Refusal::Input(Fault::NoNext(id)),
+            UnfitFault::Read => Refusal::Failed(Device::Second),
+            UnfitFault::Write => Refusal::Failed(Device::Output),
+            UnfitFault::NoMemory => Refusal::NoMemory,
         }
     }
 }

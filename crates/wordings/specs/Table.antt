@@ -8,7 +8,7 @@ use Rattle.wordings.specs.declared.table.Verb.TheVariants as verb
 -- the commands, in the order in which help lists them
 abbrev pub verbs : List Verb
 verbs =
-    verb.Lower ∷ verb.CheckBtor ∷ verb.Show ∷ verb.Cost ∷ verb.Fit ∷ verb.AigConvert ∷ verb.CheckAig ∷ verb.Lift ∷ verb.Restore
+    verb.Lower ∷ verb.CheckBtor ∷ verb.Show ∷ verb.Cost ∷ verb.Fit ∷ verb.Unfit ∷ verb.AigConvert ∷ verb.CheckAig ∷ verb.Lift ∷ verb.Restore
     ∷ verb.Wave ∷ verb.Obligation ∷ verb.CheckProof ∷ verb.TidyWitness ∷ verb.Vectors ∷ verb.Judge ∷ []
 
 -- the word of a command
@@ -18,6 +18,7 @@ word_of verb.CheckBtor = codes "check-btor"
 word_of verb.Show = codes "show"
 word_of verb.Cost = codes "cost"
 word_of verb.Fit = codes "fit"
+word_of verb.Unfit = codes "unfit"
 word_of verb.AigConvert = codes "aig-convert"
 word_of verb.CheckAig = codes "check-aig"
 word_of verb.Lift = codes "lift"
@@ -37,10 +38,13 @@ words_of verb.Lower =
     ∷ (codes "bad", kind.PositionWithEngine) ∷ []
 words_of verb.CheckBtor =
     (codes "MODEL", kind.File) ∷ (codes "quiet", kind.Flag) ∷ (codes "WITNESS", kind.File)
-    ∷ (codes "names", kind.Flag) ∷ (codes "bad", kind.Text) ∷ (codes "json", kind.Flag) ∷ []
+    ∷ (codes "names", kind.Flag) ∷ (codes "bad", kind.Text) ∷ (codes "json", kind.Flag) ∷ (codes "fit", kind.FlagAlone) ∷ []
 words_of verb.Show = (codes "MODEL", kind.File) ∷ (codes "quiet", kind.Flag) ∷ (codes "output", kind.Text) ∷ []
 words_of verb.Cost = (codes "MODEL", kind.File) ∷ (codes "quiet", kind.Flag) ∷ []
 words_of verb.Fit = (codes "MODEL", kind.File) ∷ (codes "quiet", kind.Flag) ∷ (codes "output", kind.Text) ∷ []
+words_of verb.Unfit =
+    (codes "MODEL", kind.File) ∷ (codes "quiet", kind.Flag) ∷ (codes "WITNESS", kind.File)
+    ∷ (codes "output", kind.Text) ∷ (codes "names", kind.Flag) ∷ (codes "back", kind.FlagAlone) ∷ []
 words_of verb.AigConvert =
     (codes "CIRCUIT", kind.File) ∷ (codes "quiet", kind.Flag) ∷ (codes "output", kind.Text)
     ∷ (codes "ascii", kind.Flag) ∷ (codes "binary", kind.Flag) ∷ (codes "outputs", kind.Flag)

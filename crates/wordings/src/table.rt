@@ -18,6 +18,8 @@ pub enum Verb {
     Cost,
     /// `fit`
     Fit,
+    /// `unfit`
+    Unfit,
     /// `aig-convert`
     AigConvert,
     /// `check-aig`
@@ -47,6 +49,8 @@ pub enum Kind {
     File,
     /// A flag.
     Flag,
+    /// A flag that goes with none of `--names`, `--bad` and `--json`.
+    FlagAlone,
     /// A flag that goes with `--circuit`.
     FlagWithCircuit,
     /// A flag that goes with `--engine`.
@@ -118,6 +122,16 @@ const NAMES: Word = Word {
 const ASKED_BAD: Word = Word {
     name: "bad",
     kind: Kind::Text,
+};
+
+const FIT: Word = Word {
+    name: "fit",
+    kind: Kind::FlagAlone,
+};
+
+const BACK: Word = Word {
+    name: "back",
+    kind: Kind::FlagAlone,
 };
 
 const JSON: Word = Word {
@@ -201,12 +215,13 @@ const LIST_FILE: Word = Word {
 };
 
 /// The commands, in the order in which help lists them.
-const VERBS: [Verb; 15] = [
+const VERBS: [Verb; 16] = [
     Verb::Lower,
     Verb::CheckBtor,
     Verb::Show,
     Verb::Cost,
     Verb::Fit,
+    Verb::Unfit,
     Verb::AigConvert,
     Verb::CheckAig,
     Verb::Lift,
@@ -236,6 +251,7 @@ pub fn word_of(verb: Verb) -> &'static str
         Verb::Show => "show",
         Verb::Cost => "cost",
         Verb::Fit => "fit",
+        Verb::Unfit => "unfit",
         Verb::AigConvert => "aig-convert",
         Verb::CheckAig => "check-aig",
         Verb::Lift => "lift",
@@ -256,10 +272,11 @@ pub fn words_of(verb: Verb) -> &'static [Word]
 {
     match verb {
         Verb::Lower => &[MODEL_FILE, QUIET, OUTPUT, ASCII, BINARY, ENGINE, ENGINE_BAD],
-        Verb::CheckBtor => &[MODEL_FILE, QUIET, WITNESS_FILE, NAMES, ASKED_BAD, JSON],
+        Verb::CheckBtor => &[MODEL_FILE, QUIET, WITNESS_FILE, NAMES, ASKED_BAD, JSON, FIT],
         Verb::Show => &[MODEL_FILE, QUIET, OUTPUT],
         Verb::Cost => &[MODEL_FILE, QUIET],
         Verb::Fit => &[MODEL_FILE, QUIET, OUTPUT],
+        Verb::Unfit => &[MODEL_FILE, QUIET, WITNESS_FILE, OUTPUT, NAMES, BACK],
         Verb::AigConvert => &[
             CIRCUIT_FILE,
             QUIET,

@@ -135,10 +135,13 @@ pub(crate) fn task_of(verb: Verb, parts: &[Part<'_>]) -> Option<Task>
             Some(Task::Model(ModelTask::LowerForEngines(position(parts))))
         }
         Verb::Lower => Some(Task::Text(TextTask::Lower)),
+        Verb::CheckBtor if has("fit", parts) => Some(Task::Model(ModelTask::CheckFitted)),
         Verb::CheckBtor => Some(Task::Model(ModelTask::CheckBtor)),
         Verb::Show => Some(Task::Model(ModelTask::Show)),
         Verb::Cost => Some(Task::Model(ModelTask::Cost)),
         Verb::Fit => Some(Task::Text(TextTask::Fit)),
+        Verb::Unfit if has("back", parts) => Some(Task::Model(ModelTask::Spread)),
+        Verb::Unfit => Some(Task::Model(ModelTask::Unfit)),
         Verb::AigConvert => Some(converts(parts)),
         Verb::CheckAig => Some(Task::Circuit(CircuitTask::CheckAig)),
         Verb::Lift => Some(lifts(parts)),

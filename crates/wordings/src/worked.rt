@@ -28,7 +28,10 @@ pub fn worked_lower()
 pub fn worked_check_btor()
     ensures says { (first second asked : Bor (List ℕ)) → first.now ≡ codes "m" → second.now ≡ codes "w" → asked.now ≡ codes "b"
         → Says (codes "check-btor" ∷ codes "m" ∷ codes "w" ∷ codes "--bad=b" ∷ codes "--json" ∷ []) (request.One (record { task = task.Model model.CheckBtor; named = false; as_json = true; asked = Some asked; form = form.Ascii; first = first; second = Some second; third = None; output = None; tells_progress = true })) }
+    ensures fitted { (first second : Bor (List ℕ)) → first.now ≡ codes "m" → second.now ≡ codes "w"
+        → Says (codes "check-btor" ∷ codes "m" ∷ codes "w" ∷ codes "--fit" ∷ []) (request.One (record { task = task.Model model.CheckFitted; named = false; as_json = false; asked = None; form = form.Ascii; first = first; second = Some second; third = None; output = None; tells_progress = true })) }
     ensures none { (o : Order) → ¬ Says (codes "check-btor" ∷ codes "-" ∷ codes "-" ∷ []) (request.One o) }
+    ensures alone { (o : Order) → ¬ Says (codes "check-btor" ∷ codes "--fit" ∷ codes "--json" ∷ codes "m" ∷ codes "w" ∷ []) (request.One o) }
 {}
 
 /// Worked rows, with no code: words that say `show`, and words that say nothing.
@@ -50,6 +53,15 @@ pub fn worked_fit()
     ensures says { (first : Bor (List ℕ)) → first.now ≡ codes "m"
         → Says (codes "fit" ∷ codes "m" ∷ []) (request.One (record { task = task.Text text.Fit; named = false; as_json = false; asked = None; form = form.Ascii; first = first; second = None; third = None; output = None; tells_progress = true })) }
     ensures none { (o : Order) → ¬ Says (codes "fit" ∷ codes "--ascii" ∷ codes "m" ∷ []) (request.One o) }
+{}
+
+/// Worked rows, with no code: words that say `unfit`, and words that say nothing.
+pub fn worked_unfit()
+    ensures says { (first second : Bor (List ℕ)) → first.now ≡ codes "m" → second.now ≡ codes "w"
+        → Says (codes "unfit" ∷ codes "--names" ∷ codes "m" ∷ codes "w" ∷ []) (request.One (record { task = task.Model model.Unfit; named = true; as_json = false; asked = None; form = form.Ascii; first = first; second = Some second; third = None; output = None; tells_progress = true })) }
+    ensures back { (first second : Bor (List ℕ)) → first.now ≡ codes "m" → second.now ≡ codes "w"
+        → Says (codes "unfit" ∷ codes "--back" ∷ codes "m" ∷ codes "w" ∷ []) (request.One (record { task = task.Model model.Spread; named = false; as_json = false; asked = None; form = form.Ascii; first = first; second = Some second; third = None; output = None; tells_progress = true })) }
+    ensures alone { (o : Order) → ¬ Says (codes "unfit" ∷ codes "--back" ∷ codes "--names" ∷ codes "m" ∷ codes "w" ∷ []) (request.One o) }
 {}
 
 /// Worked rows, with no code: words that say `aig-convert`, and words that say nothing.

@@ -174,6 +174,34 @@ pub(super) const LIFTING: [Explanation; 3] = [
     },
 ];
 
+/// Of witnesses of models with words of any width.
+pub(super) const UNFITTING: [Explanation; 4] = [
+    Explanation {
+        number: 70,
+        name: "NoNext",
+        when: "a state has an `init` and no `next`; the first in the file is named",
+        remedy: "as 92",
+    },
+    Explanation {
+        number: 138,
+        name: "NoMemory",
+        when: "out of memory, perhaps after a beginning was written",
+        remedy: "add memory",
+    },
+    Explanation {
+        number: 136,
+        name: "Read",
+        when: "reading the witness failed, perhaps after a beginning was written",
+        remedy: "name a readable file",
+    },
+    Explanation {
+        number: 137,
+        name: "Write",
+        when: "writing failed, perhaps after a beginning",
+        remedy: "make room; keep the output open",
+    },
+];
+
 /// Of dumps of witnesses.
 pub(super) const DUMPS: [Explanation; 4] = [
     Explanation {

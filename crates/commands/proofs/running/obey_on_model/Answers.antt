@@ -103,3 +103,42 @@ unfolding RefusesTask
 returns-in-Wave-clause-refused g c =
     let is : c.args.task ≡ (model.Wave c.in-Wave.shown) = search rules in
     rw is c.dump_witness.ensures.refused
+
+pub returns-in-CheckFitted-clause-done : goal.returns-in-CheckFitted-clause-done
+unfolding Answers
+returns-in-CheckFitted-clause-done g c = λ third.
+    let is : c.args.task ≡ model.CheckFitted = search rules in
+    rw is c.check_fitted.ensures.done
+
+pub returns-in-CheckFitted-clause-refused : goal.returns-in-CheckFitted-clause-refused
+unfolding RefusesTask
+returns-in-CheckFitted-clause-refused g c =
+    let is : c.args.task ≡ model.CheckFitted = search rules in
+    rw is c.check_fitted.ensures.refused
+
+pub returns-in-Unfit-clause-done : goal.returns-in-Unfit-clause-done
+unfolding Answers
+returns-in-Unfit-clause-done g c = λ third.
+    let is : c.args.task ≡ model.Unfit = search rules in
+    rw is c.unfit_witness.ensures.done
+
+pub returns-in-Unfit-clause-refused : goal.returns-in-Unfit-clause-refused
+unfolding RefusesTask
+returns-in-Unfit-clause-refused g c =
+    let is : c.args.task ≡ model.Unfit = search rules in
+    rw is c.unfit_witness.ensures.refused
+
+pub returns-in-Spread-clause-done : goal.returns-in-Spread-clause-done
+unfolding Answers
+returns-in-Spread-clause-done g c = λ third.
+    let is : c.args.task ≡ model.Spread = search rules in
+    rw is c.spread_witness.ensures.done
+
+pub returns-in-Spread-clause-refused : goal.returns-in-Spread-clause-refused
+unfolding RefusesTask
+returns-in-Spread-clause-refused g c =
+    let is : c.args.task ≡ model.Spread = search rules in
+    rw is c.spread_witness.ensures.refused
+
+pub returns-in-CheckFitted-clause-ends : goal.returns-in-CheckFitted-clause-ends
+returns-in-CheckFitted-clause-ends g c = ends_as as_is as_is as_was idle c.check_fitted.ensures.ends

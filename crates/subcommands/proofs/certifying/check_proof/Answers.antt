@@ -1,4 +1,4 @@
-use Rattle.std.proofs.Common.{rules, ◌≡◌, ℕ, List, Err, OnOk, refl, subst}
+use Rattle.std.proofs.Common.{rules, ◌≡◌, ℕ, List, Err, OnOk, subst}
 use Rattle.std.specs.Io.KnownBytes.{Appends}
 use Rattle.subcommands.specs.Certificates.{verdict_written}
 use Rattle.subcommands.specs.Subjects.{holds_said, where_named}

@@ -1,16 +1,16 @@
 use Rattle.std.proofs.Common.{inl}
 use Rattle.verbs.proofs.fitted.fit_wide.Goals as goal
 
-pub returns-in_ok-fit-in-Ok-clause-fitted : goal.returns-in_ok-fit-in-Ok-clause-fitted
-returns-in_ok-fit-in-Ok-clause-fitted c =
-    let fit = c.in_ok-fit-in-Ok.ensures.fits in
+pub returns-clause-fitted : goal.returns-clause-fitted
+returns-clause-fitted c =
+    let fit = c.in_ok-narrow.ensures.fits in
     record {
-      wide = c.in-Ok.wide;
-      stands = c.in-Ok.ensures.found;
+      wide = c.in_ok-wide.wide;
+      stands = c.in_ok-wide.ensures.stands;
       fit = fit;
-      forms = inl c.in_ok-fit-in-Ok.ensures.forms;
+      forms = inl c.in_ok-narrow.ensures.forms;
       rise_alike = λ b. (
-        λ h. (c.bad_properties_rise_alike.ensures.down c.in-Ok.wide c.in_ok-fit-in-Ok.field-0 fit.layout b fit.fits h).0,
-        λ h. (c.bad_properties_rise_alike.ensures.up c.in-Ok.wide c.in_ok-fit-in-Ok.field-0 fit.layout b fit.fits h).0,
+        λ h. (c.bad_properties_rise_alike.ensures.down c.in_ok-wide.wide c.in_ok-narrow.narrow fit.layout b fit.fits h).0,
+        λ h. (c.bad_properties_rise_alike.ensures.up c.in_ok-wide.wide c.in_ok-narrow.narrow fit.layout b fit.fits h).0,
       );
     }

@@ -1,0 +1,24 @@
+-- What the exported calls on witnesses of models with words of any width answer, said of the bytes that they are given.
+use Rattle.std.specs.Prelude.{◌≡◌, ℕ, Bool, List, [], Some}
+use Rattle.verbs.specs.Unfitting.{IsJudgedFitted, IsSpread, IsUnfitted}
+use Rattle.witness.specs.declared.judgement.Judgement.{Judgement}
+use Rattle.capi.specs.Answers.{verdict_of}
+use Rattle.capi.specs.declared.answers.Verdict.{Verdict}
+
+-- the second text, a witness, is judged so over the first text's model, which may have words of any width
+pub record CallJudgesFitted (model witness : List ℕ) (verdict : Verdict) : Type 0 where
+  pub judgement : Judgement
+  pub is : IsJudgedFitted (Some model) (Some witness) judgement
+  pub told : verdict ≡ verdict_of judgement
+
+-- some bytes are the witness of such a model that says what the second text says of the fitted model, and it is judged so
+pub record CallUnfits (named : Bool) (model witness : List ℕ) (verdict : Verdict) (bytes : List ℕ) : Type 0 where
+  pub judgement : Judgement
+  pub is : IsUnfitted named (Some model) (Some witness) (Some []) (Some bytes) judgement
+  pub told : verdict ≡ verdict_of judgement
+
+-- the same the other way round
+pub record CallSpreads (model witness : List ℕ) (verdict : Verdict) (bytes : List ℕ) : Type 0 where
+  pub judgement : Judgement
+  pub is : IsSpread (Some model) (Some witness) (Some []) (Some bytes) judgement
+  pub told : verdict ≡ verdict_of judgement

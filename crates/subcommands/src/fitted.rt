@@ -1,0 +1,71 @@
+//! The commands on witnesses of models with words of any width.
+
+ghost use Rattle.std.specs.Prelude.{IfOk, IfErr};
+ghost use Rattle.subcommands.specs.Fitted.{Spreads, Unfits, WritesJudgedFitted};
+ghost use Rattle.verbs.specs.Statuses.{Ends, IfInput};
+ghost use Rattle.verbs.specs.Statuses.Use.{Unused, Used};
+ghost use Rattle.verbs.specs.Unfitting.{IsNotReady};
+
+use crate::answers::Answer;
+use crate::judgements::{tell_line, write_judgement};
+use base::{Sink, Source};
+use std::alloc::Global;
+use verbs::{Refusal, judge_fitted, spread, unfit};
+
+/// Judges a witness over a model with words of any width, and writes the line of its judgement.
+pub fn check_fitted<A: Source, B: Source, O: Sink>(
+    alloc: Global,
+    first: &mut A,
+    second: &mut B,
+    out: &mut O,
+) -> Result<Answer, Refusal>
+    ensures done { IfOk result (WritesJudgedFitted (A.to_come first.old) (B.to_come second.old)
+        (O.written out.old) (O.written out.new)) }
+    ensures refused { IfErr result (IfInput (IsNotReady (A.to_come first.old))) }
+    ensures ends { Ends result (Used A.failures first.old first.new)
+        (Used B.failures second.old second.new) (Used O.failures out.old out.new) Unused }
+{
+    let judgement = judge_fitted(alloc, first, second)?;
+    write_judgement(alloc, &judgement, out)
+}
+
+/// Writes to standard output the witness of a model with words of any width, with names or without, that says what one of the
+/// fitted model says, and tells its judgement on standard error.
+pub fn unfit_witness<A: Source, B: Source, O: Sink, E: Sink>(
+    alloc: Global,
+    named: bool,
+    first: &mut A,
+    second: &mut B,
+    out: &mut O,
+    err: &mut E,
+) -> Result<Answer, Refusal>
+    ensures done { IfOk result (Unfits named (A.to_come first.old) (B.to_come second.old)
+        (O.written out.old) (O.written out.new) (E.written err.old) (E.written err.new)) }
+    ensures refused { IfErr result (IfInput (IsNotReady (A.to_come first.old))) }
+    ensures ends { Ends result (Used A.failures first.old first.new)
+        (Used B.failures second.old second.new) (Used O.failures out.old out.new)
+        (Used E.failures err.old err.new) }
+{
+    let judgement = unfit(alloc, named, first, second, out)?;
+    tell_line(alloc, &judgement, err)
+}
+
+/// Writes to standard output the witness of the fitted model that says what one of a model with words of any width says, and
+/// tells its judgement on standard error.
+pub fn spread_witness<A: Source, B: Source, O: Sink, E: Sink>(
+    alloc: Global,
+    first: &mut A,
+    second: &mut B,
+    out: &mut O,
+    err: &mut E,
+) -> Result<Answer, Refusal>
+    ensures done { IfOk result (Spreads (A.to_come first.old) (B.to_come second.old)
+        (O.written out.old) (O.written out.new) (E.written err.old) (E.written err.new)) }
+    ensures refused { IfErr result (IfInput (IsNotReady (A.to_come first.old))) }
+    ensures ends { Ends result (Used A.failures first.old first.new)
+        (Used B.failures second.old second.new) (Used O.failures out.old out.new)
+        (Used E.failures err.old err.new) }
+{
+    let judgement = spread(alloc, first, second, out)?;
+    tell_line(alloc, &judgement, err)
+}

@@ -1,0 +1,161 @@
+//! Witnesses of models with words of any width, by the models of the profile that these are fitted into.
+
+ghost use Rattle.std.specs.Prelude.{◌≡◌, ℕ, List, IfOk, IfErr, OnOk, None, Some};
+ghost use Rattle.btor2.specs.Lists.{first_init_without_next};
+ghost use Rattle.fitting.specs.Models.{IsFit};
+ghost use Rattle.widetext.specs.Spelling.{StandsForWide};
+ghost use Rattle.verbs.specs.Fitting.{IsNotFit};
+ghost use Rattle.verbs.specs.Unfitting.{IsJudgedFitted, IsKnown, IsNotReady, IsReadyFor, IsSpread, IsUnfitted};
+ghost use Rattle.verbs.specs.Statuses.{Ends, IfInput};
+ghost use Rattle.verbs.specs.Statuses.Use.{Unused, Used};
+
+use crate::fitted::{read_profile, read_wide};
+use crate::refusals::{Fault, Refusal};
+use base::{Sink, Source, read_all};
+use btor2::Model;
+use rejoin::{Shape, first_init_without_next};
+use std::alloc::Global;
+use unfit::Names;
+use wide::WideModel;
+use witness::Judgement;
+
+/// What is known of a model with words of any width.
+#[derive(Drop)]
+pub(crate) struct Known {
+    /// What a witness needs to know of it.
+    shape: Shape,
+    /// The names of its states and inputs.
+    names: Names,
+}
+
+/// What is needed of a model with words of any width for its witnesses.
+#[derive(Drop)]
+pub(crate) struct Ready {
+    /// What is known of it.
+    known: Known,
+    /// The model of the profile that it is fitted into.
+    narrow: Model,
+}
+
+/// What is known of a model.
+fn known_of(alloc: Global, wide: &WideModel) -> Result<Known, Refusal>
+    ensures known { IfOk result (IsKnown wide.now) }
+    ensures memory { IfErr result (λ refusal. refusal ≡ Refusal.NoMemory) }
+{
+    let shape = Shape::new(alloc, wide)?;
+    let names = Names::new(alloc, wide)?;
+    Ok(Known { shape, names })
+}
+
+/// Refuses a model of which a state has an init line and no next line.
+fn refuse_lacking(wide: &WideModel) -> Result<(), Refusal>
+    ensures none { OnOk result (first_init_without_next wide.now wide.now ≡ None) }
+    ensures some { IfErr result (λ refusal. (id : ℕ) × (refusal ≡ Refusal.Input (Fault.NoNext id))
+        × (first_init_without_next wide.now wide.now ≡ Some id)) }
+{
+    match first_init_without_next(wide) {
+        Some(id) => Err(Refusal::Input(Fault::NoNext(id))),
+        None => Ok(()),
+    }
+}
+
+/// The model of the profile that a model is fitted into, for which a text stands: that model itself, where it is one.
+fn narrow_of(alloc: Global, text: &[u8], wide: WideModel) -> Result<Model, Refusal>
+    requires stands { StandsForWide text.now wide }
+    ensures fit { IfOk result (IsFit wide) }
+    ensures refused { IfErr result (IfInput (IsNotFit text.now)) }
+    ensures ends { Ends result Unused Unused Unused Unused }
+{
+    fitting::laws::profile_is_fitted();
+    widetext::laws::profile_is_read();
+    widetext::laws::texts_are_read();
+    match read_profile(alloc, text)? {
+        Some(model) => Ok(model),
+        None => Ok(fitting::fit(alloc, wide)?),
+    }
+}
+
+/// What is needed of the model of a text.
+fn made_ready(alloc: Global, text: &[u8]) -> Result<Ready, Refusal>
+    ensures ready { IfOk result (IsReadyFor text.now) }
+    ensures refused { IfErr result (IfInput (IsNotReady (Some text.now))) }
+    ensures ends { Ends result Unused Unused Unused Unused }
+{
+    let wide = read_wide(alloc, text)?;
+    refuse_lacking(&wide)?;
+    let known = known_of(alloc, &wide)?;
+    let narrow = narrow_of(alloc, text, wide)?;
+    Ok(Ready { known, narrow })
+}
+
+/// Judges the second text, a witness, over the model with words of any width of the first.
+pub fn judge_fitted<A: Source, B: Source>(
+    alloc: Global,
+    first: &mut A,
+    second: &mut B,
+) -> Result<Judgement, Refusal>
+    ensures judged { IfOk result (IsJudgedFitted (A.to_come first.old) (B.to_come second.old)) }
+    ensures refused { IfErr result (IfInput (IsNotReady (A.to_come first.old))) }
+    ensures ends { Ends result (Used A.failures first.old first.new)
+        (Used B.failures second.old second.new) Unused Unused }
+{
+    let text = read_all(alloc, first)?;
+    let ready = made_ready(alloc, text.as_slice())?;
+    match spread::judge_spread(alloc, &ready.known.shape, &ready.narrow, second) {
+        Ok(judgement) => Ok(judgement),
+        Err(fault) => Err(Refusal::from(fault)),
+    }
+}
+
+/// Judges the second text, a witness, over the model with words of any width of the first, and writes the witness of the model
+/// that this is fitted into that says the same.
+pub fn spread<A: Source, B: Source, O: Sink>(
+    alloc: Global,
+    first: &mut A,
+    second: &mut B,
+    out: &mut O,
+) -> Result<Judgement, Refusal>
+    ensures spread { IfOk result (IsSpread (A.to_come first.old) (B.to_come second.old)
+        (O.written out.old) (O.written out.new)) }
+    ensures refused { IfErr result (IfInput (IsNotReady (A.to_come first.old))) }
+    ensures ends { Ends result (Used A.failures first.old first.new)
+        (Used B.failures second.old second.new) (Used O.failures out.old out.new) Unused }
+{
+    let text = read_all(alloc, first)?;
+    let ready = made_ready(alloc, text.as_slice())?;
+    match spread::spread(alloc, &ready.known.shape, &ready.narrow, second, out) {
+        Ok(judgement) => Ok(judgement),
+        Err(fault) => Err(Refusal::from(fault)),
+    }
+}
+
+/// Writes the witness of the model with words of any width of the first text, with names or without, that says what the second
+/// says of the model that it is fitted into, and answers what is judged of it.
+pub fn unfit<A: Source, B: Source, O: Sink>(
+    alloc: Global,
+    named: bool,
+    first: &mut A,
+    second: &mut B,
+    out: &mut O,
+) -> Result<Judgement, Refusal>
+    ensures unfitted { IfOk result (IsUnfitted named (A.to_come first.old) (B.to_come second.old)
+        (O.written out.old) (O.written out.new)) }
+    ensures refused { IfErr result (IfInput (IsNotReady (A.to_come first.old))) }
+    ensures ends { Ends result (Used A.failures first.old first.new)
+        (Used B.failures second.old second.new) (Used O.failures out.old out.new) Unused }
+{
+    let text = read_all(alloc, first)?;
+    let ready = made_ready(alloc, text.as_slice())?;
+    match unfit::unfit(
+        alloc,
+        &ready.known.shape,
+        &ready.known.names,
+        &ready.narrow,
+        named,
+        second,
+        out,
+    ) {
+        Ok(judgement) => Ok(judgement),
+        Err(fault) => Err(Refusal::from(fault)),
+    }
+}
