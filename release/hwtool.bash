@@ -3,7 +3,7 @@ _hwtool() {
     local word=${COMP_WORDS[COMP_CWORD]} before=${COMP_WORDS[COMP_CWORD - 1]} words=
     COMPREPLY=()
     if [ "$COMP_CWORD" = 1 ]; then
-        mapfile -t COMPREPLY < <(compgen -W 'lower check-btor show cost fit aig-convert check-aig lift restore wave obligation check-proof tidy-witness vectors judge explain help --help --version' -- "$word")
+        mapfile -t COMPREPLY < <(compgen -W 'lower check-btor show cost fit unfit aig-convert check-aig lift restore wave obligation check-proof tidy-witness vectors judge explain help --help --version' -- "$word")
         return
     fi
     case $before in
@@ -11,10 +11,11 @@ _hwtool() {
     esac
     case ${COMP_WORDS[1]} in
         lower) words='--quiet --output --ascii --binary --engine --bad --help' ;;
-        check-btor) words='--quiet --names --bad --json --help' ;;
+        check-btor) words='--quiet --names --bad --json --fit --help' ;;
         show) words='--quiet --output --help' ;;
         cost) words='--quiet --help' ;;
         fit) words='--quiet --output --help' ;;
+        unfit) words='--quiet --output --names --back --help' ;;
         aig-convert) words='--quiet --output --ascii --binary --outputs --engine --bad --help' ;;
         check-aig) words='--quiet --names --bad --json --help' ;;
         lift) words='--quiet --output --names --engine --abc --bad --help' ;;

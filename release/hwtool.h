@@ -29,7 +29,7 @@ extern "C" {
 #endif
 
 /* The version of the library that this header goes with. */
-#define HWTOOL_VERSION "0.9.0"
+#define HWTOOL_VERSION "0.10.0"
 
 /* The statuses. */
 enum {
@@ -109,6 +109,25 @@ uint32_t hwtool_lower(const uint8_t *model, size_t model_length, bool binary, ui
  * NO_MEMORY. */
 uint32_t hwtool_fit(const uint8_t *model, size_t model_length, uint8_t *buffer, size_t buffer_length, size_t *needed,
                     struct hwtool_refusal *refusal);
+
+/* Judges a witness of a BTOR2 model with words of up to 1,048,576 bits, as hwtool_check_btor does of one with words of at most 64.
+ * Answers DONE with `verdict`, TEXT_REFUSED, MODEL_REFUSED (a state has an init and no next, or hwtool_fit does not take it),
+ * NO_MEMORY. */
+uint32_t hwtool_check_btor_fit(const uint8_t *model, size_t model_length, const uint8_t *witness, size_t witness_length,
+                               struct hwtool_verdict *verdict, struct hwtool_refusal *refusal);
+
+/* Judges a witness of the model that hwtool_fit writes, and writes the one of the model itself that says the same, with `names` or
+ * without. The verdict is that of both. Answers DONE and TOO_SMALL with `verdict` and `needed`, TEXT_REFUSED, MODEL_REFUSED as
+ * hwtool_check_btor_fit, NO_MEMORY. */
+uint32_t hwtool_unfit(const uint8_t *model, size_t model_length, bool names, const uint8_t *witness, size_t witness_length,
+                      struct hwtool_verdict *verdict, uint8_t *buffer, size_t buffer_length, size_t *needed,
+                      struct hwtool_refusal *refusal);
+
+/* The other way round: judges a witness of the model, and writes the one of the model that hwtool_fit writes. Answers as
+ * hwtool_unfit. */
+uint32_t hwtool_unfit_back(const uint8_t *model, size_t model_length, const uint8_t *witness, size_t witness_length,
+                           struct hwtool_verdict *verdict, uint8_t *buffer, size_t buffer_length, size_t *needed,
+                           struct hwtool_refusal *refusal);
 
 /* How many AND gates and how many variables a lowered model's circuit has at most. Answers DONE, TEXT_REFUSED, NO_MEMORY. */
 uint32_t hwtool_cost(const uint8_t *model, size_t model_length, uint64_t *gates, uint64_t *variables,
