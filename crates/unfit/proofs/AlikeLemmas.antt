@@ -27,7 +27,7 @@ use Rattle.rejoin.proofs.PlaceLemmas.{Stands, all_stand}
 use Rattle.rejoin.proofs.ShapeLemmas.{map_ids}
 use Rattle.rejoin.proofs.SplitPartLemmas.{index_by_ids, given_fits}
 use Rattle.rejoin.proofs.SplitWordLemmas.{beginning, frame_of}
-use Rattle.unfit.specs.declared.pieces.Piece.{Piece}
+use Rattle.unfit.specs.declared.told_pieces.Piece.{Piece}
 use Rattle.unfit.specs.Joined.{any_told, joined_word, join_from, join_part}
 use Rattle.unfit.proofs.JoinLemmas.{pieces_at, words_with, by_id, words_at, joined_by_id, told_word, given_at, word_of_ids, none_told}
 

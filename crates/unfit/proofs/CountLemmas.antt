@@ -6,7 +6,7 @@ use Rattle.btor2.specs.declared.item.Item.{Item}
 use Rattle.witness.specs.Texts.{Shape, Assignment, Parts, Witness, assignment_line, claims_line, states_lines, frame_lines, witness_lines}
 use Rattle.witness.specs.Judgements.{pairs_of}
 use Rattle.rejoin.specs.Pieces.{piece_count}
-use Rattle.unfit.specs.declared.pieces.Piece.{Piece}
+use Rattle.unfit.specs.declared.told_pieces.Piece.{Piece}
 use Rattle.unfit.specs.Joined.{Wide, any_told, joined_word, join_word, join_from, join_part, join_states, join_inputs, join_frames, join_witness, pieces_from, state_words, input_words, name_at}
 
 -- ---- pieces that are told

@@ -8,7 +8,7 @@ use Rattle.base.specs.Word.{bit, bits, word, bit_number}
 use Rattle.base.proofs.BitLemmas.{two_more, bits_at, length-bits, word_below}
 use Rattle.witness.specs.Texts.{digit, binary}
 use Rattle.witness.specs.Admits.{is_one_bit}
-use Rattle.unfit.specs.declared.pieces.Piece.{Piece}
+use Rattle.unfit.specs.declared.told_pieces.Piece.{Piece}
 use Rattle.unfit.specs.Joined.{word_of_piece, joined_word}
 use Rattle.unfit.specs.Steps.{piece_word_at}
 

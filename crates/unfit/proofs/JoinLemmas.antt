@@ -12,7 +12,7 @@ use Rattle.witness.specs.Texts.{Assignment}
 use Rattle.witness.specs.Judgements.{pairs_of, given}
 use Rattle.rejoin.specs.Pieces.{piece_count}
 use Rattle.rejoin.proofs.PlaceLemmas.{place_own, place_later, suc_of}
-use Rattle.unfit.specs.declared.pieces.Piece.{Piece}
+use Rattle.unfit.specs.declared.told_pieces.Piece.{Piece}
 use Rattle.unfit.specs.Joined.{any_told, joined_word, join_word, join_from, pieces_from}
 
 -- the pieces with some ids, by what is told of each and what it has otherwise

@@ -13,7 +13,7 @@ use Rattle.witness.specs.Admits.{cut_at_space, is_one_bit}
 use Rattle.witness.specs.KeptLines.{AreNarrow}
 use Rattle.witness.proofs.PieceLemmas.{cut_at_space-parts, binary_digits, bits_of_digits}
 use Rattle.rejoin.specs.Pieces.{piece_count, owner}
-use Rattle.unfit.specs.declared.pieces.Piece.{Piece}
+use Rattle.unfit.specs.declared.told_pieces.Piece.{Piece}
 use Rattle.unfit.specs.Joined.{any_told, joined_word, join_word, join_from}
 use Rattle.unfit.specs.Steps.{CutsAtSpace, told_text, word_text}
 

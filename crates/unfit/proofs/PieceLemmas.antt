@@ -13,7 +13,7 @@ use Rattle.runs.proofs.StateLemmas.{init_at, init_inside}
 use Rattle.witness.specs.Texts.{Assignment}
 use Rattle.witness.specs.Judgements.{pairs_of, given}
 use Rattle.witness.proofs.AssignmentLemmas.{stands_in}
-use Rattle.unfit.specs.declared.pieces.Piece.{Piece}
+use Rattle.unfit.specs.declared.told_pieces.Piece.{Piece}
 use Rattle.unfit.specs.Joined.{pieces_from, state_words, input_words}
 use Rattle.unfit.specs.Steps.{told_at, untold}
 

@@ -26,7 +26,7 @@ use Rattle.witness.proofs.ReadLemmas.{IsSmall, parts_of, was_false}
 use Rattle.witness.proofs.ReadingLemmas.{by_test}
 use Rattle.witness.proofs.ShapeLemmas.{widths_small}
 use Rattle.witness.proofs.StepWords.{after_assignment, after_claims, states_closed}
-use Rattle.unfit.specs.declared.pieces.Piece.{Piece}
+use Rattle.unfit.specs.declared.told_pieces.Piece.{Piece}
 use Rattle.unfit.specs.declared.frame.OpenPart.{OpenPart}
 use Rattle.unfit.specs.declared.frame.OpenPart.TheVariants as part
 use Rattle.unfit.specs.Joined.{Wide, join_frames, join_states, join_inputs, join_parts, pieces_from, state_words, input_words}

@@ -24,7 +24,7 @@ use Rattle.rejoin.proofs.LeafLemmas.{IsCutTo, states_cut_to, inputs_cut_to, Free
 use Rattle.rejoin.proofs.PlaceLemmas.{place_later, suc_of}
 use Rattle.rejoin.proofs.ShapeLemmas.{map_ids, free_states}
 use Rattle.rejoin.proofs.SplitPartLemmas.{index_by_ids, given_fits}
-use Rattle.unfit.specs.declared.pieces.Piece.{Piece}
+use Rattle.unfit.specs.declared.told_pieces.Piece.{Piece}
 use Rattle.unfit.specs.Joined.{any_told, joined_word, join_word}
 use Rattle.unfit.proofs.JoinLemmas.{pieces_at, words_with, words_at, word_of_ids}
 use Rattle.unfit.proofs.AlikeLemmas.{has, of, part, part_by_id, AreBelow, joined_states}

@@ -20,7 +20,7 @@ use Rattle.rejoin.specs.Alike.{FrameAlike, AreAlike}
 use Rattle.rejoin.proofs.AlikeLemmas.{shapes_cut}
 use Rattle.rejoin.proofs.ShapeLemmas.{map_ids}
 use Rattle.rejoin.proofs.SplitWordLemmas.{beginning, frame_of}
-use Rattle.unfit.specs.declared.pieces.Piece.{Piece}
+use Rattle.unfit.specs.declared.told_pieces.Piece.{Piece}
 use Rattle.unfit.specs.Joined.{Wide, any_told, join_word, join_from, join_part, name_at, state_words, join_states, join_inputs, join_parts, join_frames, join_witness}
 use Rattle.unfit.proofs.PieceLemmas.{fresh, pieces_fresh}
 use Rattle.unfit.proofs.AlikeLemmas.{part, joined_states, begin_joined, given_joined, AreBelow, beginning_fits, given_words_fit}

@@ -9,7 +9,7 @@ use Rattle.witness.specs.Texts.{Shape, Assignment, Parts, Witness}
 use Rattle.witness.specs.Judgements.{pairs_of, given}
 use Rattle.rejoin.specs.Pieces.{piece_count}
 use Rattle.lift.specs.Lifted.{name_in_frame}
-use Rattle.unfit.specs.declared.pieces.Piece.{Piece}
+use Rattle.unfit.specs.declared.told_pieces.Piece.{Piece}
 
 -- ---- words
 

@@ -14,7 +14,7 @@ use Rattle.witness.specs.Judgements.{pairs_of}
 use Rattle.witness.specs.KeptLines.{AreNarrow}
 use Rattle.witness.specs.ClosedWords.{said_in, admitted_word_lines}
 use Rattle.witness.specs.WordStands.{StandsForWitness, WordJudge, SaidAt}
-use Rattle.unfit.specs.declared.pieces.Piece.{Piece}
+use Rattle.unfit.specs.declared.told_pieces.Piece.{Piece}
 use Rattle.unfit.specs.declared.frame.OpenPart.{OpenPart}
 use Rattle.unfit.specs.declared.frame.OpenPart.TheVariants as part
 use Rattle.unfit.specs.Joined.{Wide, word_of_piece, any_told, joined_word, join_from, name_at, pieces_from, state_words, input_words}

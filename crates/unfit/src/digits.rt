@@ -5,7 +5,7 @@ ghost use Rattle.base.specs.Writing.{WritesText};
 ghost use Rattle.witness.specs.Texts.{digit, binary};
 ghost use Rattle.unfit.specs.Joined.{joined_word};
 
-use crate::pieces::{Piece, piece_count, word_at};
+use crate::told_pieces::{Piece, piece_count, word_at};
 use base::{Line, Pen, Sink};
 
 /// The digit of a bit.

@@ -6,8 +6,8 @@ ghost use Rattle.btor2.specs.Symbols.{is_comment};
 ghost use Rattle.unfit.specs.Steps.{Holds, WritesSome, TakesAdmitted, TellsLine, keeps, opened_by, open_text, text_of_line, closed_frame};
 
 use crate::assignments::assignment;
-use crate::pieces::{Piece, forget, input_pieces, state_pieces, tell};
-use crate::wide::Wide;
+use crate::known::Wide;
+use crate::told_pieces::{Piece, forget, input_pieces, state_pieces, tell};
 use crate::words::put_part;
 use base::{Pen, Sink};
 use btor2::Model;

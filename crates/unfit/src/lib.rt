@@ -4,12 +4,12 @@
 mod assignments;
 mod digits;
 mod frame;
+mod known;
 pub mod laws;
 mod names;
-mod pieces;
+mod told_pieces;
 mod unfitter;
 mod unfitting;
-mod wide;
 mod words;
 
 pub use names::Names;

@@ -8,7 +8,7 @@ ghost use Rattle.unfit.specs.Steps.{IsAdmitted, Unfits};
 ghost use Rattle.witness.specs.WordStands.{StandsForWitness};
 
 use crate::frame::Frame;
-use crate::wide::Wide;
+use crate::known::Wide;
 use base::{Pen, Sink};
 use witness::WordJudge;
 

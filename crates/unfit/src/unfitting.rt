@@ -16,10 +16,10 @@ ghost use Rattle.unfit.specs.Unfitted.{KeepsJudgement, unfit_text};
 ghost use Rattle.unfit.specs.Steps.{TakesLines, UnfitsAll};
 
 use crate::frame::Frame;
+use crate::known::Wide;
 use crate::names::Names;
-use crate::pieces::piece_count;
+use crate::told_pieces::piece_count;
 use crate::unfitter::take_line;
-use crate::wide::Wide;
 use base::{DeviceFault, LineReader, Pen, Sink, Source};
 use btor2::Model;
 use rejoin::{Shape, UnfitFault};

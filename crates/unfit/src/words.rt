@@ -6,7 +6,7 @@ ghost use Rattle.unfit.specs.Joined.{name_at};
 ghost use Rattle.unfit.specs.Steps.{part_text, told_text, word_text};
 
 use crate::digits::put_digits;
-use crate::pieces::{Piece, any_told, cut, piece_count};
+use crate::told_pieces::{Piece, any_told, cut, piece_count};
 use base::{Line, Pen, Sink};
 use btor2::Symbol;
 use lift::add_name_in_frame;

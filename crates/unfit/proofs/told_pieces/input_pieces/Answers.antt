@@ -1,6 +1,6 @@
 use Rattle.std.proofs.Common.{ap, length, replicate, ◌≡◌, List, ℕ, arith, ◌∙◌}
 use Rattle.unfit.proofs.PieceLemmas.{fresh, fresh_inputs, input_more}
-use Rattle.unfit.proofs.pieces.input_pieces.Goals as goal
+use Rattle.unfit.proofs.told_pieces.input_pieces.Goals as goal
 
 pub loop-input-init : goal.loop-input-init
 loop-input-init c = c.new-pieces.ensures.items

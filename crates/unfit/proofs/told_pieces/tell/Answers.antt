@@ -1,5 +1,5 @@
 use Rattle.unfit.proofs.PieceLemmas.{told_is_set, told_past}
-use Rattle.unfit.proofs.pieces.tell.Goals as goal
+use Rattle.unfit.proofs.told_pieces.tell.Goals as goal
 
 pub returns-then-index-pieces : goal.returns-then-index-pieces
 returns-then-index-pieces c = told_is_set c.args.pieces.now c.args.index c.args.word _ c.if-index-pieces.true

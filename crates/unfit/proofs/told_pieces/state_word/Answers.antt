@@ -1,6 +1,6 @@
 use Rattle.std.proofs.Common.{◌∙◌}
 use Rattle.unfit.proofs.PieceLemmas.{init_place_inside, word_of_init, word_without_init}
-use Rattle.unfit.proofs.pieces.state_word.Goals as goal
+use Rattle.unfit.proofs.told_pieces.state_word.Goals as goal
 
 pub constant-requires : goal.constant-requires
 constant-requires c = init_place_inside c.args.model.now c.args.k c.requires c.in-Some.place c.in-Some.ensures
