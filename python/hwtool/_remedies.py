@@ -494,6 +494,12 @@ CASES: Dict[int, Tuple[Tuple[str, str, str, str], ...]] = {
             'give the state an input of its own as its next: any word from the second frame on, as without a next; itself only if it is to keep its word',
         ),
         (
+            'Witnesses of wide models',
+            'NoNext',
+            'a state has an `init` and no `next`; the first in the file is named',
+            'give the state an input of its own as its next: any word from the second frame on, as without a next; itself only if it is to keep its word',
+        ),
+        (
             'Dumps',
             'NoNext',
             'a state has an `init` and no `next`; the first in the file is named',
@@ -799,6 +805,30 @@ CASES: Dict[int, Tuple[Tuple[str, str, str, str], ...]] = {
             'Lifting',
             'NoMemory',
             'out of memory, before anything was read or written',
+            'add memory',
+        ),
+    ),
+    136: (
+        (
+            'Witnesses of wide models',
+            'Read',
+            'reading the witness failed, perhaps after a beginning was written',
+            'name a readable file',
+        ),
+    ),
+    137: (
+        (
+            'Witnesses of wide models',
+            'Write',
+            'writing failed, perhaps after a beginning',
+            'make room; keep the output open',
+        ),
+    ),
+    138: (
+        (
+            'Witnesses of wide models',
+            'NoMemory',
+            'out of memory, perhaps after a beginning was written',
             'add memory',
         ),
     ),
