@@ -1,0 +1,9 @@
+//! An order of numbers in which each stands behind all that it needs, or a circle of needs.
+#![tactic(auto)]
+
+mod fault;
+pub mod laws;
+mod ordering;
+
+pub use fault::OrderFault;
+pub use ordering::order;
