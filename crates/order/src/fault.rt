@@ -1,4 +1,7 @@
 //! Why numbers are not put in order.
+ghost use Rattle.std.specs.Prelude.{◌≡◌};
+
+use std::alloc::AllocError;
 
 /// Why numbers are not put in order.
 #[derive(Clone, Copy, Debug, PartialEq, Eq)]
@@ -7,4 +10,15 @@ pub enum OrderFault {
     Circle(usize),
     /// A growth was refused.
     NoMemory,
+}
+
+/// A growth that was refused.
+impl From<AllocError> for OrderFault {
+    ghost use Rattle.order.specs.declared.fault.OrderFault.TheVariants.{NoMemory};
+
+    ghost from_gives = { λ _ e. e ≡ NoMemory };
+
+    fn from(_: AllocError) -> OrderFault {
+        OrderFault::NoMemory
+    }
 }

@@ -4,6 +4,7 @@
 mod fault;
 pub mod laws;
 mod ordering;
+mod walk;
 
 pub use fault::OrderFault;
 pub use ordering::order;
