@@ -5,12 +5,13 @@ use Rattle.std.specs.List.{AllByRecursion}
 use Rattle.std.proofs.lemmas.Bool.{cases_eq, cases_lt}
 use Rattle.std.proofs.lemmas.List.{length-set, length-append, length-replicate, take_more, take_all, take-append-le}
 use Rattle.std.proofs.lemmas.List.Elements.{All-push, All-from_get_or, All-from_recursion, recursion_from_All, Contains-append_left}
-use Rattle.std.proofs.lemmas.Option.{slice_get_within, slice_get_past, slice_get-get_or, get_or_from_slice_get}
+use Rattle.std.proofs.lemmas.Option.{slice_get_within, slice_get_past, slice_get-get_or, slice_get_read, get_or_from_slice_get}
 use Rattle.order.specs.declared.walk.Progress.{Progress}
 use Rattle.order.specs.declared.walk.Progress.TheVariants.{New, Started, Done}
 use Rattle.order.specs.Orders.{needs_of, AreNumbers, IsOrder, IsPath, IsInCircle}
 use Rattle.order.specs.Walk.{started_of, done_of, IsChain, StandBehind, IsUnderway, NoneBecomesNew, steps_left, all_steps_left}
 use Rattle.order.proofs.CountLemmas.{one_if, one_if_same, one_if_other, times, times-cons, times-push, counted, contained}
+use Rattle.order.proofs.OrderLemmas.{needed}
 
 -- ---- a progress set
 
@@ -85,8 +86,8 @@ is_started (Some (Started place)) h = (place, refl)
 is_started (Some Done) h = absurd (omega arith)
 
 -- the number on the top is started
-pub top_started : (needs : List (List ℕ)) (progress : List Progress) (stack order : List ℕ) (t : ℕ) → IsUnderway needs progress stack order → slice_get stack (length stack - 1) ≡ Some t → (place : ℕ) × (slice_get progress t ≡ Some (Started place))
-top_started needs progress stack order t u e = is_started (slice_get progress t) (omega (arith, counted t stack (length stack - 1) e, u.on_stack t))
+pub top_started : {needs : List (List ℕ)} {progress : List Progress} {stack order : List ℕ} {t : ℕ} → IsUnderway needs progress stack order → slice_get stack (length stack - 1) ≡ Some t → (place : ℕ) × (slice_get progress t ≡ Some (Started place))
+top_started {progress = progress} {stack = stack} {t = t} u e = is_started (slice_get progress t) (omega (arith, counted t stack (length stack - 1) e, u.on_stack t))
 
 -- ---- what a write of a progress changes
 
@@ -262,3 +263,41 @@ fewer_look needs progress t place n started inside = omega (arith, left-set need
 
 pub fewer_finish : (needs : List (List ℕ)) (progress : List Progress) (t place : ℕ) → length progress ≡ length needs → slice_get progress t ≡ Some (Started place) → all_steps_left needs (set progress t Done) < all_steps_left needs progress
 fewer_finish needs progress t place n started = omega (arith, left-set needs progress t (Started place) Done n started)
+
+-- ---- what is read in a step
+
+-- the number on the top has a progress, which is read
+pub top_inside : {needs : List (List ℕ)} {progress : List Progress} {stack order : List ℕ} {t : ℕ} → IsUnderway needs progress stack order → slice_get stack (length stack - 1) ≡ Some t → t < length progress
+top_inside {progress = progress} {t = t} u e = let is = top_started u e in slice_get_within progress t (Started is.0) is.1
+
+pub read_progress : (progress : List Progress) (k : ℕ) (p q : Progress) → k < length progress → p ≡ get_or progress k p → p ≡ q → slice_get progress k ≡ Some q
+read_progress progress k p q inside read is = slice_get_read progress (length progress) k p refl inside read ∙ ap (λ x. Some x) is
+
+pub row_is : (needs : List (List ℕ)) (k : ℕ) (row : List ℕ) → slice_get needs k ≡ Some row → needs_of needs k ≡ row
+row_is needs k row e = ap (λ r. unwrap_or r []) e
+
+-- what the number on the top needs may come behind it
+pub top_chain : {needs : List (List ℕ)} {progress : List Progress} {stack order : List ℕ} {t m : ℕ} → IsUnderway needs progress stack order → slice_get stack (length stack - 1) ≡ Some t → Contains (needs_of needs t) m → IsChain needs (stack ++ m ∷ [])
+top_chain {needs = needs} {stack = stack} {t = t} {m = m} u e need =
+    let front = take (length stack - 1) stack in
+    subst (λ xs. IsChain needs (xs ++ m ∷ [])) (sym (top_last stack t e)) (chain-push needs front t m (subst (IsChain needs) (top_last stack t e) u.chain) need)
+
+-- the need of the number on the top at its place
+pub record IsAtNeed (needs : List (List ℕ)) (progress : List Progress) (t place : ℕ) (row : List ℕ) : Type 0 where
+  pub started : slice_get progress t ≡ Some (Started place)
+  pub inside : place < length (needs_of needs t)
+  pub within : place < length row
+  pub need : slice_get (needs_of needs t) place ≡ Some (get_or row place 0)
+  pub contained : Contains (needs_of needs t) (get_or row place 0)
+  pub low : get_or row place 0 < length progress
+
+pub at_need : {needs : List (List ℕ)} {progress : List Progress} {stack order : List ℕ} {t place : ℕ} {p : Progress} {row : List ℕ} → AreNumbers needs → IsUnderway needs progress stack order → slice_get stack (length stack - 1) ≡ Some t
+    → p ≡ get_or progress t p → p ≡ Started place → slice_get needs t ≡ Some row → (place ≡ length row → ⊥) → IsAtNeed needs progress t place row
+at_need {needs = needs} {progress = progress} {t = t} {place = place} {p = p} {row = row} numbers u top read is is_row more =
+    let started = read_progress progress t p (Started place) (top_inside u top) read is in
+    let same = row_is needs t row is_row in
+    let inside : place < length (needs_of needs t) = omega (arith, (u.looked t place started).0, ap length same) in
+    let within : place < length row = omega (arith, ap length same) in
+    let need : slice_get (needs_of needs t) place ≡ Some (get_or row place 0) = ap (λ r. slice_get r place) same ∙ slice_get-get_or row place 0 within in
+    let there : Contains (needs_of needs t) (get_or row place 0) = (place, inside, get_or_from_slice_get (needs_of needs t) place (get_or row place 0) (get_or row place 0) need) in
+    record { started = started; inside = inside; within = within; need = need; contained = there; low = omega (arith, u.as_many, needed (λ m. m < length needs) needs t (get_or row place 0) numbers there) }
