@@ -1,5 +1,5 @@
 -- How often a number stands in a list.
-use Rattle.std.proofs.Common.{◌≡◌, ℕ, zero, suc, ◌+◌, ◌<◌, ◌≤◌, inl, inr, Bool, cond, nat_eq, List, [], ◌∷◌, ◌++◌, Some, length, slice_get, get_or, refl, sym, ap, ◌∙◌, arith}
+use Rattle.std.proofs.Common.{◌≡◌, ℕ, zero, suc, ◌+◌, ◌<◌, ◌≤◌, inl, inr, Bool, cond, nat_eq, List, [], ◌∷◌, ◌++◌, Some, length, slice_get, refl, sym, ap, ◌∙◌, arith}
 use Rattle.std.specs.Prelude.{Contains}
 use Rattle.std.specs.List.{AllByRecursion, count_by}
 use Rattle.std.proofs.lemmas.Bool.{eq-eqb, ne_eqb, cases_eq}
@@ -41,10 +41,11 @@ counted k (x ∷ xs) (suc i) e = omega (arith, times-cons k x xs, counted k xs i
 pub place : (k : ℕ) (xs : List ℕ) → 1 ≤ times k xs → (i : ℕ) × (slice_get xs i ≡ Some k)
 place k [] h = absurd (omega arith)
 place k (x ∷ xs) h = elim (cases_eq x k) [
-    inl e ↦ (zero, ap (λ y. Some y) e)
+  | inl e ↦ (zero, ap (λ y. Some y) e)
   | inr e ↦
-    let rest = place k xs (omega (arith, times-cons k x xs, one_if_other x k e)) in
-    (suc rest.0, rest.1) ]
+      let rest = place k xs (omega (arith, times-cons k x xs, one_if_other x k e)) in
+      (suc rest.0, rest.1)
+]
 
 pub contained_at : (xs : List ℕ) (i k : ℕ) → slice_get xs i ≡ Some k → Contains xs k
 contained_at xs i k e = (i, slice_get_within xs i k e, get_or_from_slice_get xs i k k e)
@@ -83,8 +84,9 @@ one_below : (n x : ℕ) (xs : List ℕ) → x < n → times_below n (x ∷ xs) �
 unfolding times_below
 one_below zero x xs h = absurd (omega arith)
 one_below (suc n) x xs h = elim (cases_eq x n) [
-    inl e ↦ omega (arith, past n x xs (omega arith), times-cons n x xs, one_if_same x n e)
-  | inr e ↦ omega (arith, one_below n x xs (omega arith), times-cons n x xs, one_if_other x n e) ]
+  | inl e ↦ omega (arith, past n x xs (omega arith), times-cons n x xs, one_if_same x n e)
+  | inr e ↦ omega (arith, one_below n x xs (omega arith), times-cons n x xs, one_if_other x n e)
+]
 
 all_below : (n : ℕ) (xs : List ℕ) → AllByRecursion (λ k. k < n) xs → times_below n xs ≡ length xs
 all_below n [] h = none_below n

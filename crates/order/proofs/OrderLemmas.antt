@@ -1,5 +1,5 @@
 -- Orders and circles.
-use Rattle.std.proofs.Common.{◌≡◌, ℕ, zero, suc, ◌<◌, ◌≤◌, inl, inr, List, [], ◌∷◌, Some, None, unwrap_or, length, slice_get, take, refl, sym, ap, subst, ◌∙◌, arith}
+use Rattle.std.proofs.Common.{◌≡◌, ℕ, zero, suc, ◌<◌, inl, inr, List, [], ◌∷◌, Some, unwrap_or, length, slice_get, take, sym, ap, ◌∙◌, arith}
 use Rattle.std.specs.Prelude.{Contains}
 use Rattle.std.specs.List.{AllByRecursion}
 use Rattle.std.proofs.lemmas.List.{length-take, get_or-take}
@@ -25,10 +25,11 @@ order_length needs list o = as_long (length needs) list o.numbers o.once
 -- a number that needs another has a row
 pub has_row : (needs : List (List ℕ)) (k m : ℕ) → Contains (needs_of needs k) m → k < length needs
 has_row needs k m c = elim (cases_lt k (length needs)) [
-    inl h ↦ h
+  | inl h ↦ h
   | inr h ↦
-    let none : needs_of needs k ≡ [] = ap (λ row. unwrap_or row []) (slice_get_past needs k h) in
-    absurd (omega (arith, c.1, ap length none)) ]
+      let none : needs_of needs k ≡ [] = ap (λ row. unwrap_or row []) (slice_get_past needs k h) in
+      absurd (omega (arith, c.1, ap length none))
+]
 
 -- what a number at a place of an order needs stands at an earlier place
 stands_before : (needs : List (List ℕ)) (list : List ℕ) (i k m : ℕ) → IsOrder needs list → slice_get list i ≡ Some k → Contains (needs_of needs k) m → (j : ℕ) × (j < i) × (slice_get list j ≡ Some m)

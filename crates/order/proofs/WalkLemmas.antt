@@ -1,5 +1,5 @@
 -- The steps of a walk.
-use Rattle.std.proofs.Common.{◌≡◌, ℕ, zero, suc, ◌+◌, ◌-◌, ◌*◌, ◌<◌, ◌≤◌, ◌⊎◌, inl, inr, List, [], ◌∷◌, ◌++◌, Option, Some, None, unwrap_or, length, slice_get, set, replicate, get_or, take, drop, refl, sym, ap, subst, ◌∙◌, arith}
+use Rattle.std.proofs.Common.{◌≡◌, ℕ, zero, suc, ◌+◌, ◌-◌, ◌*◌, ◌<◌, ◌≤◌, inl, inr, List, [], ◌∷◌, ◌++◌, Option, Some, None, unwrap_or, length, slice_get, set, replicate, get_or, take, refl, sym, ap, subst, ◌∙◌, arith}
 use Rattle.std.specs.Prelude.{Contains}
 use Rattle.std.specs.List.{AllByRecursion}
 use Rattle.std.proofs.lemmas.Bool.{cases_eq, cases_lt}
@@ -8,8 +8,8 @@ use Rattle.std.proofs.lemmas.List.Elements.{All-push, All-from_get_or, All-from_
 use Rattle.std.proofs.lemmas.Option.{slice_get_within, slice_get_past, slice_get-get_or, slice_get_read, get_or_from_slice_get}
 use Rattle.order.specs.declared.walk.Progress.{Progress}
 use Rattle.order.specs.declared.walk.Progress.TheVariants.{New, Started, Done}
-use Rattle.order.specs.Orders.{needs_of, AreNumbers, IsOrder, IsPath, IsInCircle}
-use Rattle.order.specs.Walk.{started_of, done_of, IsChain, StandBehind, IsUnderway, NoneBecomesNew, steps_left, all_steps_left}
+use Rattle.order.specs.Orders.{needs_of, StandBehind, AreNumbers, IsOrder, IsPath, IsInCircle}
+use Rattle.order.specs.Walk.{started_of, done_of, IsChain, IsUnderway, NoneBecomesNew, steps_left, all_steps_left}
 use Rattle.order.proofs.CountLemmas.{one_if, one_if_same, one_if_other, times, times-cons, times-push, counted, contained}
 use Rattle.order.proofs.OrderLemmas.{needed}
 
@@ -61,11 +61,13 @@ chain-path needs x (next ∷ front) k m c h = (c.0, chain-path needs next front 
 
 circle_in : (needs : List (List ℕ)) (front : List ℕ) (k m : ℕ) → IsChain needs (front ++ k ∷ []) → Contains (needs_of needs k) m → 1 ≤ times m (front ++ k ∷ []) → IsInCircle needs m
 circle_in needs [] k m c h n = elim (cases_eq k m) [
-    inl e ↦ ([], subst (λ x. Contains (needs_of needs x) m) e h)
-  | inr e ↦ absurd (omega (arith, times-cons m k [], one_if_other k m e)) ]
+  | inl e ↦ ([], subst (λ x. Contains (needs_of needs x) m) e h)
+  | inr e ↦ absurd (omega (arith, times-cons m k [], one_if_other k m e))
+]
 circle_in needs (x ∷ front) k m c h n = elim (cases_eq x m) [
-    inl e ↦ (front ++ k ∷ [], subst (λ y. IsPath needs y (front ++ k ∷ []) m) e (chain-path needs x front k m c h))
-  | inr e ↦ circle_in needs front k m (chain-tail needs x (front ++ k ∷ []) c) h (omega (arith, times-cons m x (front ++ k ∷ []), one_if_other x m e)) ]
+  | inl e ↦ (front ++ k ∷ [], subst (λ y. IsPath needs y (front ++ k ∷ []) m) e (chain-path needs x front k m c h))
+  | inr e ↦ circle_in needs front k m (chain-tail needs x (front ++ k ∷ []) c) h (omega (arith, times-cons m x (front ++ k ∷ []), one_if_other x m e))
+]
 
 -- ---- the top
 
@@ -95,19 +97,21 @@ top_started {progress = progress} {stack = stack} {t = t} u e = is_started (slic
 value-set : (f : Option Progress → ℕ) (progress : List Progress) (m k : ℕ) (old new : Progress) → slice_get progress m ≡ Some old
     → f (slice_get (set progress m new) k) + one_if m k * f (Some old) ≡ f (slice_get progress k) + one_if m k * f (Some new)
 value-set f progress m k old new is = elim (cases_eq m k) [
-    inl e ↦
-    let now : f (slice_get (set progress m new) k) ≡ f (Some new) = ap f (ap (slice_get (set progress m new)) (sym e) ∙ set_same progress m new (slice_get_within progress m old is)) in
-    let was : f (slice_get progress k) ≡ f (Some old) = ap f (ap (slice_get progress) (sym e) ∙ is) in
-    rw (one_if_same m k e) (omega (arith, now, was))
+  | inl e ↦
+      let now : f (slice_get (set progress m new) k) ≡ f (Some new) = ap f (ap (slice_get (set progress m new)) (sym e) ∙ set_same progress m new (slice_get_within progress m old is)) in
+      let was : f (slice_get progress k) ≡ f (Some old) = ap f (ap (slice_get progress) (sym e) ∙ is) in
+      rw (one_if_same m k e) (omega (arith, now, was))
   | inr e ↦
-    let same : f (slice_get (set progress m new) k) ≡ f (slice_get progress k) = ap f (set_other progress m k new (λ h. e (sym h))) in
-    rw (one_if_other m k e) (omega (arith, same)) ]
+      let same : f (slice_get (set progress m new) k) ≡ f (slice_get progress k) = ap f (set_other progress m k new (λ h. e (sym h))) in
+      rw (one_if_other m k e) (omega (arith, same))
+]
 
 -- no number has become new
 pub none_new_set : (progress : List Progress) (m : ℕ) (p : Progress) → m < length progress → (p ≡ New → ⊥) → NoneBecomesNew progress (set progress m p)
 none_new_set progress m p inside not_new k e = elim (cases_eq k m) [
-    inl same ↦ absurd (not_new (let now = set_same progress m p inside in let there : slice_get (set progress m p) m ≡ Some New = ap (slice_get (set progress m p)) (sym same) ∙ e in cc))
-  | inr other ↦ sym (set_other progress m k p other) ∙ e ]
+  | inl same ↦ absurd (not_new (let now = set_same progress m p inside in let there : slice_get (set progress m p) m ≡ Some New = ap (slice_get (set progress m p)) (sym same) ∙ e in cc))
+  | inr other ↦ sym (set_other progress m k p other) ∙ e
+]
 
 -- ---- the walk under way
 
@@ -125,30 +129,31 @@ not_started n k place e =
 -- as it begins
 pub underway_first : (needs : List (List ℕ)) → IsUnderway needs (replicate (length needs) New) [] []
 underway_first needs = record {
-    as_many = length-replicate (length needs) New;
-    on_stack = λ k. sym (fresh started_of refl refl (length needs) k);
-    in_order = λ k. sym (fresh done_of refl refl (length needs) k);
-    chain = tt;
-    looked = λ k place e. absurd (not_started (length needs) k place e);
-    behind = λ i k e. absurd (cc);
-  }
+  as_many = length-replicate (length needs) New;
+  on_stack = λ k. sym (fresh started_of refl refl (length needs) k);
+  in_order = λ k. sym (fresh done_of refl refl (length needs) k);
+  chain = tt;
+  looked = λ k place e. absurd (not_started (length needs) k place e);
+  behind = λ i k e. absurd (cc);
+}
 
 -- a number that the walk had not come to stands on the stack
 pub underway_start : (needs : List (List ℕ)) (progress : List Progress) (stack order : List ℕ) (m : ℕ) → IsUnderway needs progress stack order → slice_get progress m ≡ Some New → IsChain needs (stack ++ m ∷ []) → IsUnderway needs (set progress m (Started 0)) (stack ++ m ∷ []) order
 underway_start needs progress stack order m u new chain = record {
-    as_many = length-set progress m (Started 0) ∙ u.as_many;
-    on_stack = λ k. omega (arith, value-set started_of progress m k New (Started 0) new, u.on_stack k, times-push k stack m);
-    in_order = λ k. omega (arith, value-set done_of progress m k New (Started 0) new, u.in_order k);
-    chain = chain;
-    looked = λ k place e. elim (cases_eq k m) [
-        inl same ↦
+  as_many = length-set progress m (Started 0) ∙ u.as_many;
+  on_stack = λ k. omega (arith, value-set started_of progress m k New (Started 0) new, u.on_stack k, times-push k stack m);
+  in_order = λ k. omega (arith, value-set done_of progress m k New (Started 0) new, u.in_order k);
+  chain = chain;
+  looked = λ k place e. elim (cases_eq k m) [
+    | inl same ↦
         let now = set_same progress m (Started 0) (slice_get_within progress m New new) in
         let there : slice_get (set progress m (Started 0)) m ≡ Some (Started place) = ap (slice_get (set progress m (Started 0))) (sym same) ∙ e in
         let none : 0 ≡ place = cc in
         subst (λ n. (n ≤ length (needs_of needs k)) × AllByRecursion (Contains order) (take n (needs_of needs k))) none (omega arith, tt)
-      | inr other ↦ u.looked k place (sym (set_other progress m k (Started 0) other) ∙ e) ];
-    behind = u.behind;
-  }
+    | inr other ↦ u.looked k place (sym (set_other progress m k (Started 0) other) ∙ e)
+  ];
+  behind = u.behind;
+}
 
 -- one more need of a number stands in the order
 one_more : (order row : List ℕ) (place m : ℕ) → AllByRecursion (Contains order) (take place row) → slice_get row place ≡ Some m → Contains order m → (place + 1 ≤ length row) × AllByRecursion (Contains order) (take (place + 1) row)
@@ -164,20 +169,21 @@ underway_look needs progress stack order t place m u started need done =
     let here : Contains order m = contained m order (omega (arith, u.in_order m, is_done)) in
     let more = one_more order (needs_of needs t) place m (u.looked t place started).1 need here in
     record {
-    as_many = length-set progress t (Started (place + 1)) ∙ u.as_many;
-    on_stack = λ k. omega (arith, value-set started_of progress t k (Started place) (Started (place + 1)) started, u.on_stack k);
-    in_order = λ k. omega (arith, value-set done_of progress t k (Started place) (Started (place + 1)) started, u.in_order k);
-    chain = u.chain;
-    looked = λ k q e. elim (cases_eq k t) [
-        inl same ↦
-        let now = set_same progress t (Started (place + 1)) (slice_get_within progress t (Started place) started) in
-        let there : slice_get (set progress t (Started (place + 1))) t ≡ Some (Started q) = ap (slice_get (set progress t (Started (place + 1)))) (sym same) ∙ e in
-        let next : place + 1 ≡ q = cc in
-        subst (λ n. (n ≤ length (needs_of needs k)) × AllByRecursion (Contains order) (take n (needs_of needs k))) next
-        (subst (λ j. (place + 1 ≤ length (needs_of needs j)) × AllByRecursion (Contains order) (take (place + 1) (needs_of needs j))) (sym same) more)
-      | inr other ↦ u.looked k q (sym (set_other progress t k (Started (place + 1)) other) ∙ e) ];
-    behind = u.behind;
-  }
+      as_many = length-set progress t (Started (place + 1)) ∙ u.as_many;
+      on_stack = λ k. omega (arith, value-set started_of progress t k (Started place) (Started (place + 1)) started, u.on_stack k);
+      in_order = λ k. omega (arith, value-set done_of progress t k (Started place) (Started (place + 1)) started, u.in_order k);
+      chain = u.chain;
+      looked = λ k q e. elim (cases_eq k t) [
+        | inl same ↦
+            let now = set_same progress t (Started (place + 1)) (slice_get_within progress t (Started place) started) in
+            let there : slice_get (set progress t (Started (place + 1))) t ≡ Some (Started q) = ap (slice_get (set progress t (Started (place + 1)))) (sym same) ∙ e in
+            let next : place + 1 ≡ q = cc in
+            subst (λ n. (n ≤ length (needs_of needs k)) × AllByRecursion (Contains order) (take n (needs_of needs k))) next
+            (subst (λ j. (place + 1 ≤ length (needs_of needs j)) × AllByRecursion (Contains order) (take (place + 1) (needs_of needs j))) (sym same) more)
+        | inr other ↦ u.looked k q (sym (set_other progress t k (Started (place + 1)) other) ∙ e)
+      ];
+      behind = u.behind;
+    }
 
 -- the number on the top, whose needs stand in the order, comes behind them
 front_get : (xs : List ℕ) (y i : ℕ) → i < length xs → slice_get (xs ++ y ∷ []) i ≡ slice_get xs i
@@ -191,16 +197,17 @@ end_get (x ∷ xs) y = end_get xs y
 
 behind-push : (needs : List (List ℕ)) (order : List ℕ) (t : ℕ) → StandBehind needs order → AllByRecursion (Contains order) (needs_of needs t) → StandBehind needs (order ++ t ∷ [])
 behind-push needs order t behind all i k e = elim (cases_lt i (length order)) [
-    inl before ↦
-    subst (λ front. AllByRecursion (Contains front) (needs_of needs k)) (sym (take-append-le i order (t ∷ []) (omega arith))) (behind i k (sym (front_get order t i before) ∙ e))
+  | inl before ↦
+      subst (λ front. AllByRecursion (Contains front) (needs_of needs k)) (sym (take-append-le i order (t ∷ []) (omega arith))) (behind i k (sym (front_get order t i before) ∙ e))
   | inr past ↦
-    let inside = slice_get_within (order ++ t ∷ []) i k e in
-    let last : i ≡ length order = omega (arith, length-append order (t ∷ [])) in
-    let at : slice_get (order ++ t ∷ []) (length order) ≡ Some k = ap (slice_get (order ++ t ∷ [])) (sym last) ∙ e in
-    let there = end_get order t in
-    let same : t ≡ k = cc in
-    let front : take i (order ++ t ∷ []) ≡ order = take-append-le i order (t ∷ []) (omega arith) ∙ take_all i order (omega arith) in
-    subst (λ xs. AllByRecursion (Contains xs) (needs_of needs k)) (sym front) (subst (λ j. AllByRecursion (Contains order) (needs_of needs j)) same all) ]
+      let inside = slice_get_within (order ++ t ∷ []) i k e in
+      let last : i ≡ length order = omega (arith, length-append order (t ∷ [])) in
+      let at : slice_get (order ++ t ∷ []) (length order) ≡ Some k = ap (slice_get (order ++ t ∷ [])) (sym last) ∙ e in
+      let there = end_get order t in
+      let same : t ≡ k = cc in
+      let front : take i (order ++ t ∷ []) ≡ order = take-append-le i order (t ∷ []) (omega arith) ∙ take_all i order (omega arith) in
+      subst (λ xs. AllByRecursion (Contains xs) (needs_of needs k)) (sym front) (subst (λ j. AllByRecursion (Contains order) (needs_of needs j)) same all)
+]
 
 wider : (order : List ℕ) (t : ℕ) (row : List ℕ) → AllByRecursion (Contains order) row → AllByRecursion (Contains (order ++ t ∷ [])) row
 wider order t [] a = tt
@@ -208,20 +215,21 @@ wider order t (m ∷ row) a = (Contains-append_left order (t ∷ []) m a.0, wide
 
 pub underway_finish : (needs : List (List ℕ)) (progress : List Progress) (front order : List ℕ) (t place : ℕ) → IsUnderway needs progress (front ++ t ∷ []) order → slice_get progress t ≡ Some (Started place) → place ≡ length (needs_of needs t) → IsUnderway needs (set progress t Done) front (order ++ t ∷ [])
 underway_finish needs progress front order t place u started all = record {
-    as_many = length-set progress t Done ∙ u.as_many;
-    on_stack = λ k. omega (arith, value-set started_of progress t k (Started place) Done started, u.on_stack k, times-push k front t);
-    in_order = λ k. omega (arith, value-set done_of progress t k (Started place) Done started, u.in_order k, times-push k order t);
-    chain = chain-front needs front (t ∷ []) u.chain;
-    looked = λ k q e. elim (cases_eq k t) [
-        inl same ↦
+  as_many = length-set progress t Done ∙ u.as_many;
+  on_stack = λ k. omega (arith, value-set started_of progress t k (Started place) Done started, u.on_stack k, times-push k front t);
+  in_order = λ k. omega (arith, value-set done_of progress t k (Started place) Done started, u.in_order k, times-push k order t);
+  chain = chain-front needs front (t ∷ []) u.chain;
+  looked = λ k q e. elim (cases_eq k t) [
+    | inl same ↦
         let now = set_same progress t Done (slice_get_within progress t (Started place) started) in
         let there : slice_get (set progress t Done) t ≡ Some (Started q) = ap (slice_get (set progress t Done)) (sym same) ∙ e in
         absurd (cc)
-      | inr other ↦
+    | inr other ↦
         let was = u.looked k q (sym (set_other progress t k Done other) ∙ e) in
-        (was.0, wider order t (take q (needs_of needs k)) was.1) ];
-    behind = behind-push needs order t u.behind (subst (AllByRecursion (Contains order)) (take_all place (needs_of needs t) (omega arith)) (u.looked t place started).1);
-  }
+        (was.0, wider order t (take q (needs_of needs k)) was.1)
+  ];
+  behind = behind-push needs order t u.behind (subst (AllByRecursion (Contains order)) (take_all place (needs_of needs t) (omega arith)) (u.looked t place started).1);
+}
 
 -- a number on the stack that the top needs lies on a circle
 pub underway_circle : (needs : List (List ℕ)) (progress : List Progress) (front order : List ℕ) (t m place : ℕ) → IsUnderway needs progress (front ++ t ∷ []) order → Contains (needs_of needs t) m → slice_get progress m ≡ Some (Started place) → IsInCircle needs m
@@ -238,20 +246,21 @@ settled (Some Done) there old none = refl
 
 has_progress : (progress : List Progress) (k : ℕ) → 1 ≤ done_of (slice_get progress k) → k < length progress
 has_progress progress k h = elim (cases_lt k (length progress)) [
-    inl inside ↦ inside
+  | inl inside ↦ inside
   | inr past ↦
-    let none : done_of (slice_get progress k) ≡ 0 = ap done_of (slice_get_past progress k past) in
-    absurd (omega arith) ]
+      let none : done_of (slice_get progress k) ≡ 0 = ap done_of (slice_get_past progress k past) in
+      absurd (omega arith)
+]
 
 pub order_at_end : (needs : List (List ℕ)) (progress : List Progress) (order : List ℕ) → IsUnderway needs progress [] order → ((k : ℕ) → k < length needs → slice_get progress k ≡ Some New → ⊥) → IsOrder needs order
 order_at_end needs progress order u none_new = record {
-    numbers = recursion_from_All (λ k. k < length needs) order (All-from_get_or (λ k. k < length needs) order 0 (λ i inside.
-        let once = counted (get_or order i 0) order i (slice_get-get_or order i 0 inside) in
-        omega (arith, u.as_many, has_progress progress (get_or order i 0) (omega (arith, once, u.in_order (get_or order i 0))))));
-    once = λ k inside.
-        u.in_order k ∙ settled (slice_get progress k) (λ e. let there = slice_get-get_or progress k New (omega (arith, u.as_many)) in cc) (none_new k inside) (sym (u.on_stack k));
-    behind = u.behind;
-  }
+  numbers = recursion_from_All (λ k. k < length needs) order (All-from_get_or (λ k. k < length needs) order 0 (λ i inside.
+      let once = counted (get_or order i 0) order i (slice_get-get_or order i 0 inside) in
+      omega (arith, u.as_many, has_progress progress (get_or order i 0) (omega (arith, once, u.in_order (get_or order i 0))))));
+  once = λ k inside.
+      u.in_order k ∙ settled (slice_get progress k) (λ e. let there = slice_get-get_or progress k New (omega (arith, u.as_many)) in cc) (none_new k inside) (sym (u.on_stack k));
+  behind = u.behind;
+}
 
 -- ---- each step leaves fewer
 

@@ -10,11 +10,15 @@ needs_of needs k = unwrap_or (slice_get needs k) []
 abbrev pub AreNumbers : List (List ℕ) → Type 0
 AreNumbers needs = AllByRecursion (AllByRecursion (λ m. m < length needs)) needs
 
+-- each of a list stands behind all that it needs
+abbrev pub StandBehind : List (List ℕ) → List ℕ → Type 0
+StandBehind needs list = (i k : ℕ) → slice_get list i ≡ Some k → AllByRecursion (Contains (take i list)) (needs_of needs k)
+
 -- A list is an order of the numbers with rows: these alone stand in it, each of them once, and behind all that it needs.
 pub record IsOrder (needs : List (List ℕ)) (list : List ℕ) : Type 0 where
   pub numbers : AllByRecursion (λ k. k < length needs) list
   pub once : (k : ℕ) → k < length needs → count_by (λ x. x == k) list ≡ 1
-  pub behind : (i k : ℕ) → slice_get list i ≡ Some k → AllByRecursion (Contains (take i list)) (needs_of needs k)
+  pub behind : StandBehind needs list
 
 -- a number needs the first of a list, each of the list the next one, and the last of them another number
 abbrev pub IsPath : List (List ℕ) → ℕ → List ℕ → ℕ → Type 0

@@ -3,7 +3,7 @@ use Rattle.std.specs.Prelude.{◌≡◌, ℕ, ◌+◌, ◌-◌, ◌≤◌, ◌==
 use Rattle.std.specs.List.{AllByRecursion}
 use Rattle.order.specs.declared.walk.Progress.{Progress}
 use Rattle.order.specs.declared.walk.Progress.TheVariants.{New, Started, Done}
-use Rattle.order.specs.Orders.{needs_of}
+use Rattle.order.specs.Orders.{needs_of, StandBehind}
 
 -- how often a number stands on the stack, and in the order, by how far it is
 abbrev pub started_of : Option Progress → ℕ
@@ -23,10 +23,6 @@ abbrev pub IsChain : List (List ℕ) → List ℕ → Type 0
 IsChain needs [] = Unit {0}
 IsChain needs (k ∷ []) = Unit {0}
 IsChain needs (k ∷ next ∷ more) = Contains (needs_of needs k) next × IsChain needs (next ∷ more)
-
--- each of a list stands behind all that it needs
-abbrev pub StandBehind : List (List ℕ) → List ℕ → Type 0
-StandBehind needs list = (i k : ℕ) → slice_get list i ≡ Some k → AllByRecursion (Contains (take i list)) (needs_of needs k)
 
 -- A walk is under way: the numbers that are started stand on the stack, those that are done in the order, and each once. Each on the stack needs the next one; of the needs of
 -- a number that is started, those that were looked at stand in the order.

@@ -1,6 +1,6 @@
 //! Laws of orders and circles, as functions with no code.
 ghost use Rattle.std.specs.Prelude.{◌≡◌, ℕ, ◌<◌, List, [], ◌∷◌, Some, length, slice_get, Contains};
-ghost use Rattle.order.specs.Orders.{IsOrder, IsInCircle};
+ghost use Rattle.order.specs.Orders.{AreNumbers, IsOrder, IsInCircle};
 
 /// Laws of orders: each number with a row stands in it, no other does, at one place alone, and there are as many places as rows.
 pub fn places_in_orders()
@@ -19,6 +19,12 @@ pub fn circles()
     ensures none { (needs : List (List ℕ)) (list : List ℕ) (k : ℕ) → IsOrder needs list
         → IsInCircle needs k → ⊥ }
     ensures within { (needs : List (List ℕ)) (k : ℕ) → IsInCircle needs k → k < length needs }
+{}
+
+/// Worked rows of needs: each number that is needed has a row, and one has none.
+pub fn worked_needs()
+    ensures all { AreNumbers ((2 ∷ 1 ∷ []) ∷ [] ∷ (1 ∷ []) ∷ []) }
+    ensures none { AreNumbers ((2 ∷ 1 ∷ []) ∷ [] ∷ []) → ⊥ }
 {}
 
 /// Worked rows of orders: 0 needs 2 and 1, and 2 needs 1. A list in which 2 stands before 1 is no order, nor is one without 0 or

@@ -3,11 +3,10 @@ ghost use Rattle.std.specs.Prelude.{◌≤◌, ◌^◌, length, IfOk, IfErr};
 ghost use Rattle.order.specs.Orders.{AreNumbers, IsOrder};
 ghost use Rattle.order.specs.Faults.{FaultHolds};
 
-use base::Rows;
-use std::alloc::Global;
-
 use crate::fault::OrderFault;
 use crate::walk::Walk;
+use base::Rows;
+use std::alloc::Global;
 
 /// An order of the numbers below the number of rows, in which each stands behind all that it needs; the row at place k has the
 /// numbers that k needs.
@@ -25,28 +24,4 @@ pub fn order(alloc: Global, needs: &Rows<u32>) -> Result<Vec<u32>, OrderFault>
         walk.visit(needs, number as u32)?;
     }
     Ok(walk.order)
-}
-
-#[cfg(test)]
-mod tests {
-    use super::order;
-    use crate::fault::OrderFault;
-    use base::Rows;
-    use std::alloc::Global;
-
-    fn rows(alloc: Global, rows: &[&[u32]]) -> Rows<u32> {
-        let mut made = Rows::new(alloc);
-        for row in rows {
-            made.push(row).unwrap();
-        }
-        made
-    }
-
-    #[test]
-    fn orders(rt: HostRuntime) {
-        let alloc = rt.alloc();
-        println!(rt; "{:?}", order(alloc, &rows(alloc, &[&[2, 1], &[], &[1]])).unwrap().as_slice()).unwrap();
-        println!(rt; "{:?}", order(alloc, &rows(alloc, &[&[], &[0], &[0, 1], &[]])).unwrap().as_slice()).unwrap();
-        println!(rt; "{:?}", order(alloc, &rows(alloc, &[&[1], &[2], &[1]])).err()).unwrap();
-    }
 }

@@ -4,10 +4,9 @@ ghost use Rattle.order.specs.Orders.{AreNumbers};
 ghost use Rattle.order.specs.Walk.{IsUnderway, NoneBecomesNew, all_steps_left};
 ghost use Rattle.order.specs.Faults.{FaultHolds};
 
+use crate::fault::OrderFault;
 use base::Rows;
 use std::alloc::{AllocError, Global};
-
-use crate::fault::OrderFault;
 
 /// How far a number is.
 #[derive(Clone, Copy)]

@@ -1,5 +1,4 @@
-use Rattle.std.proofs.Common.{◌≡◌, ℕ, ◌<◌, ◌≤◌, Some, length, slice_get, subst, arith}
-use Rattle.order.specs.declared.walk.Progress.TheVariants.{New}
+use Rattle.std.proofs.Common.{subst, arith}
 use Rattle.order.specs.Walk.{IsUnderway}
 use Rattle.order.proofs.WalkLemmas.{order_at_end}
 use Rattle.order.proofs.ordering.order.Goals as goal

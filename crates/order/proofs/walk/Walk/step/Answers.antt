@@ -1,7 +1,7 @@
-use Rattle.std.proofs.Common.{◌≡◌, ℕ, ◌+◌, ◌-◌, ◌<◌, ◌++◌, [], ◌∷◌, Some, length, slice_get, set, get_or, take, subst, refl, sym, ap, ◌∙◌, arith}
+use Rattle.std.proofs.Common.{◌≡◌, ◌+◌, ◌-◌, length, get_or, take, subst, refl, sym, ap, ◌∙◌, arith}
 use Rattle.order.specs.declared.walk.Progress.TheVariants.{New, Started, Done}
 use Rattle.order.specs.Orders.{needs_of}
-use Rattle.order.specs.Walk.{IsChain, IsUnderway, NoneBecomesNew, all_steps_left}
+use Rattle.order.specs.Walk.{IsUnderway}
 use Rattle.order.proofs.WalkLemmas.{top_last, top_inside, top_started, read_progress, none_new_set, underway_start, underway_look, underway_finish, underway_circle, top_chain, row_is, fewer_start, fewer_look, fewer_finish, at_need}
 use Rattle.order.proofs.walk.Walk.step.Goals as goal
 

@@ -1,6 +1,6 @@
-use Rattle.std.proofs.Common.{◌≡◌, ℕ, ◌<◌, ◌++◌, [], ◌∷◌, Some, length, slice_get, set, subst, sym, ap, refl, ◌∙◌, arith}
+use Rattle.std.proofs.Common.{◌<◌, ◌++◌, [], ◌∷◌, length, sym, ◌∙◌, arith}
 use Rattle.order.specs.declared.walk.Progress.TheVariants.{New, Started}
-use Rattle.order.specs.Walk.{IsUnderway, NoneBecomesNew, IsChain}
+use Rattle.order.specs.Walk.{IsChain}
 use Rattle.order.proofs.WalkLemmas.{no_top, read_progress, set_same, none_new_set, underway_start}
 use Rattle.order.proofs.walk.Walk.visit.Goals as goal
 
