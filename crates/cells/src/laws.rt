@@ -30,8 +30,8 @@ pub fn lists_go_on()
         → sort_width old s ≡ Some n → sort_width new s ≡ Some n }
     ensures nodes { (old new : List Item) (handed : List ℕ) (a n : ℕ) → Extends old new handed
         → node_width old a ≡ Some n → node_width new a ≡ Some n }
-    ensures frames { (old new : List Item) (handed : List ℕ) (Of : Frame → Type 0) → Extends old new handed
-        → InAllFrames old Of → InAllFrames new Of }
+    ensures frames { (old new : List Item) (handed : List ℕ) (value other : Frame → ℕ) → Extends old new handed
+        → InAllFrames old (λ g. value g ≡ other g) → InAllFrames new (λ g. value g ≡ other g) }
     ensures gives { (old new : List Item) (handed : List ℕ) (bits : ℕ) (value : Frame → ℕ) (w : ℕ)
         → Extends old new handed → GivesWord old bits value w → GivesWord new bits value w }
 {}

@@ -1,5 +1,6 @@
 //! A list of wide items that grows by lines under the ids 1, 2, 3, ..
-ghost use Rattle.std.specs.Prelude.{◌≡◌, ◌+◌, ◌≤◌, [], ◌∷◌, ◌++◌, length, Some, None, IfOk, IfErr};
+ghost use Rattle.std.specs.Prelude.{◌≡◌, ℕ, ◌+◌, ◌≤◌, ◌==◌, nat_eq, if◌then◌else◌, [], ◌∷◌, ◌++◌, length, Some, None, IfOk, IfErr, OnOk, OnErr};
+ghost use Rattle.std.specs.HashMap.{get};
 ghost use Rattle.btor2.specs.declared.fault.PushFault.TheVariants as fault;
 ghost use Rattle.btor2.specs.Items.{find_item, node_width, sort_width};
 ghost use Rattle.btor2.specs.Trace.{bits_of};
@@ -31,6 +32,19 @@ fn wanting(refused: PushFault) -> Shortage
     match refused {
         PushFault::NoMemory => Shortage::NoMemory,
         _ => unreachable!(),
+    }
+}
+
+/// Keeps the id of a sort by its width.
+fn keep_sort(sorts: &mut IndexMap<u64, u32>, width: u64, id: u32) -> Result<(), Shortage>
+    ensures ok { OnOk result ((k : ℕ) → get nat_eq sorts.new k
+        ≡ (if k == width then Some id else get nat_eq sorts.old k)) }
+    ensures short { IfErr result (λ e. e ≡ shortage.NoMemory) }
+    ensures same { OnErr result ((k : ℕ) → get nat_eq sorts.new k ≡ get nat_eq sorts.old k) }
+{
+    match sorts.insert(width, id) {
+        Ok(_) => Ok(()),
+        Err(_) => Err(Shortage::NoMemory),
     }
 }
 
@@ -159,14 +173,8 @@ impl ListMaker {
         if let Some(kept) = self.sorts.get(&width).copied() {
             return Ok(kept);
         }
-        if self.sorts.reserve(1).is_err() {
-            return Err(Shortage::NoMemory);
-        }
         let id = self.put(None, Body::Sort { width })?;
-        match self.sorts.insert(width, id) {
-            Ok(_) => {}
-            Err(_) => unreachable!(),
-        }
+        keep_sort(&mut self.sorts, width, id)?;
         Ok(id)
     }
 
