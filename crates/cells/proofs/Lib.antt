@@ -1,6 +1,6 @@
 -- The lemmas of this crate.
-pub mod LineLemmas
 pub mod PlaceLemmas
+pub mod LineLemmas
 pub mod KeptLemmas
 pub mod SoundLemmas
 pub mod NodeLemmas

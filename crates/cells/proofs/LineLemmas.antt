@@ -1,10 +1,11 @@
 -- How a list goes on.
-use Rattle.std.proofs.Common.{◌≡◌, ℕ, ◌+◌, ◌<◌, ◌≤◌, true, false, nat_eq, List, [], ◌∷◌, ◌++◌, length, length-append, Option, Some, ◌⊎◌, inl, inr, ⊎_elim, append_assoc, append-nil, refl, sym, ap, subst, ◌∙◌, arith}
+use Rattle.std.proofs.Common.{◌≡◌, ℕ, ◌+◌, ◌<◌, ◌≤◌, true, false, nat_eq, List, [], ◌∷◌, ◌++◌, length, length-append, Option, Some, None, ◌⊎◌, inl, inr, ⊎_elim, append_assoc, append-nil, refl, sym, ap, subst, ◌∙◌, arith}
 use Rattle.std.specs.List.{AllByRecursion}
 use Rattle.std.proofs.lemmas.Bool.{ne_eqb}
 use Rattle.btor2.specs.declared.item.Item.{Item}
 use Rattle.btor2.specs.declared.item.Body.{Body}
-use Rattle.btor2.specs.Items.{operands, sort_width, node_width}
+use Rattle.btor2.specs.declared.item.Body.TheVariants as body
+use Rattle.btor2.specs.Items.{find_item, operands, sort_width, node_width}
 use Rattle.btor2.specs.Trace.{Frame}
 use Rattle.btor2.proofs.AppendLemmas.{sort_width-append, node_width-append}
 use Rattle.wide.specs.WideModels.{greatest_width, IsWideModel}
@@ -12,6 +13,7 @@ use Rattle.full.specs.WrittenOut.{InFrames}
 use Rattle.full.specs.Gives.{InAllFrames, GivesWord}
 use Rattle.full.proofs.ListLemmas.{all_with, all_join}
 use Rattle.full.proofs.GivesLemmas.{gives_kept}
+use Rattle.cells.proofs.PlaceLemmas.{sort_last}
 use Rattle.cells.specs.Lines.{named, is_plain, IsAmong, MayName, MayNameAll, NameOnly, Extends, IsNew}
 
 -- ---- which ids may be named
@@ -88,3 +90,11 @@ frames_stay old new handed Of e h more =
 
 pub gives_stay : (old new : List Item) (handed : List ℕ) (bits : ℕ) (value : Frame → ℕ) (w : ℕ) → Extends old new handed → GivesWord old bits value w → GivesWord new bits value w
 gives_stay old new handed bits value w e h = subst (λ (l : List Item). GivesWord l bits value w) (sym e.is) (gives_kept old e.more bits value w h)
+
+-- ---- a sort that was put
+
+pub extends_sort : (old new model : List Item) (id n : ℕ) → new ≡ old ++ named id None (body.Sort n) ∷ [] → model ≡ new → Extends old model []
+extends_sort old new model id n is same = record { more = named id None (body.Sort n) ∷ []; is = same ∙ is; plain = (refl, tt); names = (tt, tt) }
+
+pub sort_made : (old new model : List Item) (id n : ℕ) → new ≡ old ++ named id None (body.Sort n) ∷ [] → find_item old id ≡ None → model ≡ new → sort_width model id ≡ Some n
+sort_made old new model id n is fresh same = ap (λ (l : List Item). sort_width l id) (same ∙ is) ∙ sort_last old id n None fresh
