@@ -4,3 +4,5 @@ pub mod LineLemmas
 pub mod KeptLemmas
 pub mod SoundLemmas
 pub mod NodeLemmas
+pub mod BitLemmas
+pub mod ArrayLemmas

@@ -66,6 +66,17 @@ extends_twice a b c handed also e d all =
 pub extends_after : (a b c : List Item) (handed : List ℕ) → Extends a b [] → Extends b c handed → Extends a c handed
 extends_after a b c handed e d = extends_twice a b c handed handed (extends_twice a a b handed [] (extends_same a handed) e tt) d (handed_over (length a) handed)
 
+-- what is handed over to both
+pub extends_again : (a b c : List Item) (handed : List ℕ) → Extends a b handed → Extends b c handed → Extends a c handed
+extends_again a b c handed e d = extends_twice a b c handed handed e d (handed_over (length a) handed)
+
+-- what is handed over to the first and to the second, by what is handed over to the whole
+pub extends_wider : (a b c : List Item) (first also handed : List ℕ) → Extends a b first → Extends b c also → MayNameAll (length a) handed first → MayNameAll (length a) handed also → Extends a c handed
+extends_wider a b c first also handed e d one other = extends_twice a b c handed also (extends_twice a a b handed first (extends_same a handed) e one) d other
+
+pub may_wider : (old : List Item) (handed : List ℕ) (a : ℕ) → MayName (length old) [] a → MayName (length old) handed a
+may_wider old handed a named = ⊎_elim (λ behind. inl behind) (λ among. absurd among) named
+
 -- a new line names no earlier node that was not handed over
 other_named : (many : ℕ) (handed : List ℕ) (w a : ℕ) → w ≤ many → (IsAmong w handed → ⊥) → MayName many handed a → nat_eq a w ≡ false
 other_named many handed w a h none named = ⊎_elim (λ behind. ne_eqb a w (λ same. absurd (omega arith))) (λ among. ne_eqb a w (λ same. none (subst (λ (k : ℕ). IsAmong k handed) same among))) named

@@ -55,11 +55,11 @@ has_bits items a u h = by (node_width items a) refl h
     by None e k = absurd (omega (arith, k))
     by (Some n) e k = (n, e, k)
 
-pub slice_there : (old new : List Item) (a u : ℕ) → Extends old new [] → u < bits_of old a → is_some (node_width new a) ≡ true
-slice_there old new a u e h = let n = has_bits old a u h in is_some_from (node_width new a) n.0 (node_stays old new [] a n.0 e n.1)
+pub slice_there : (old new : List Item) (handed : List ℕ) (a u : ℕ) → Extends old new handed → u < bits_of old a → is_some (node_width new a) ≡ true
+slice_there old new handed a u e h = let n = has_bits old a u h in is_some_from (node_width new a) n.0 (node_stays old new handed a n.0 e n.1)
 
-pub slice_within : (old new : List Item) (a u : ℕ) → Extends old new [] → u < bits_of old a → u < bits_of new a
-slice_within old new a u e h = let n = has_bits old a u h in subst (λ (k : ℕ). u < k) (sym (ap (λ (o : Option ℕ). unwrap_or o 0) (node_stays old new [] a n.0 e n.1))) n.2
+pub slice_within : (old new : List Item) (handed : List ℕ) (a u : ℕ) → Extends old new handed → u < bits_of old a → u < bits_of new a
+slice_within old new handed a u e h = let n = has_bits old a u h in subst (λ (k : ℕ). u < k) (sym (ap (λ (o : Option ℕ). unwrap_or o 0) (node_stays old new handed a n.0 e n.1))) n.2
 
 -- ---- each operator
 

@@ -94,6 +94,7 @@ impl ListMaker {
         ensures extends { Extends self.old self.new (array ∷ []) }
         ensures short { IfErr result (IsShort self.new) }
     {
+        self.know(array);
         let high = self.slice(array, half + half - 1, half)?;
         let low = self.slice(array, half - 1, 0)?;
         Ok((high, low))
