@@ -40,6 +40,12 @@ two_halves k n =
     let twice : 2 ^ (k + 1) ≡ 2 ^ k * 2 = pow-add 2 k 1 in
     ap (λ (c : ℕ). c * n) twice ∙ omega arith
 
+pub half_most : (k bits n most : ℕ) → k + 1 ≡ bits → 2 ^ bits * n ≤ most → 2 ^ k * n ≤ most
+half_most k bits n most is h = let here : 2 ^ (k + 1) * n ≤ most = subst (λ (b : ℕ). 2 ^ b * n ≤ most) (sym is) h in omega (arith, two_halves k n, here)
+
+pub both_most : (k bits n size most : ℕ) → k + 1 ≡ bits → size ≡ 2 ^ k * n → 2 ^ bits * n ≤ most → size + size ≤ most
+both_most k bits n size most is wide h = let here : 2 ^ (k + 1) * n ≤ most = subst (λ (b : ℕ). 2 ^ b * n ≤ most) (sym is) h in omega (arith, two_halves k n, here, wide)
+
 pub some_half : (k n : ℕ) → 1 ≤ n → 1 ≤ 2 ^ k * n
 some_half k n h = grind (arith, pow_pos k)
 

@@ -6,3 +6,5 @@ pub mod SoundLemmas
 pub mod NodeLemmas
 pub mod BitLemmas
 pub mod ArrayLemmas
+pub mod ReadLemmas
+pub mod WriteLemmas

@@ -1,5 +1,5 @@
 -- How a list goes on.
-use Rattle.std.proofs.Common.{◌≡◌, ℕ, ◌+◌, ◌<◌, ◌≤◌, true, false, nat_eq, List, [], ◌∷◌, ◌++◌, length, length-append, Option, Some, None, ◌⊎◌, inl, inr, ⊎_elim, append_assoc, append-nil, refl, sym, ap, subst, ◌∙◌, arith}
+use Rattle.std.proofs.Common.{◌≡◌, ℕ, ◌+◌, ◌<◌, ◌≤◌, true, false, nat_eq, List, [], ◌∷◌, ◌++◌, length, length-append, Option, Some, None, Result, Ok, Err, IfOk, ◌⊎◌, inl, inr, ⊎_elim, append_assoc, append-nil, refl, sym, ap, subst, ◌∙◌, arith}
 use Rattle.std.specs.List.{AllByRecursion}
 use Rattle.std.proofs.lemmas.Bool.{ne_eqb}
 use Rattle.btor2.specs.declared.item.Item.{Item}
@@ -13,6 +13,7 @@ use Rattle.full.specs.WrittenOut.{InFrames}
 use Rattle.full.specs.Gives.{InAllFrames, GivesWord}
 use Rattle.full.proofs.ListLemmas.{all_with, all_join}
 use Rattle.full.proofs.GivesLemmas.{gives_kept}
+use Rattle.cells.specs.declared.shortage.Shortage.{Shortage}
 use Rattle.cells.proofs.PlaceLemmas.{sort_last}
 use Rattle.cells.specs.Lines.{named, is_plain, IsAmong, MayName, MayNameAll, NameOnly, Extends, IsNew}
 
@@ -39,6 +40,13 @@ handed_over many xs = all_handed_from many xs xs (MayName many xs) (λ a among. 
 
 pub new_may : (old mid new : List Item) (handed : List ℕ) (id : ℕ) → length old ≤ length mid → IsNew mid new id → MayName (length old) handed id
 new_may old mid new handed id h is = let behind = is.0 in inl (omega arith)
+
+-- what is new once a list has gone on, by a node of it or a newer one
+pub new_from : (old mid new : List Item) (half : ℕ) (r : Result ℕ Shortage) → IsNew old mid half → length old ≤ length mid → IfOk r (MayName (length mid) (half ∷ [])) → IfOk r (λ id. id ≤ length new) → IfOk r (IsNew old new)
+new_from old mid new half (Ok id) is h named there =
+    let behind = is.0 in
+    (⊎_elim (λ newer. omega (arith, newer)) (λ among. ⊎_elim (λ same. omega (arith, same)) (λ none. absurd none) among) named, there)
+new_from old mid new half (Err e) is h named there = tt
 
 -- ---- a list that goes on
 

@@ -52,9 +52,11 @@ impl ListMaker {
         requires array { node_width self.old array ≡ Some (2 ^ bits * element) }
         requires index { node_width self.old index ≡ Some width }
         requires within { bits ≤ width }
+        requires there { array ≤ length self.old }
         ensures node { IfOk result (GivesWord self.new element
             (λ g. read_value element (g array) (g index % 2 ^ bits))) }
         ensures named { IfOk result (MayName (length self.old) (array ∷ [])) }
+        ensures there { IfOk result (λ r. r ≤ length self.new) }
         ensures extends { Extends self.old self.new (array ∷ index ∷ []) }
         ensures short { IfErr result (IsShort self.new) }
     {
