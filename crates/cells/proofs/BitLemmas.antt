@@ -106,7 +106,7 @@ bit_given mid new handed index place one off e lit dark =
     record {
       one = here;
       zero = gives_same new 1 (λ g. unary_value unary.Not 1 (g one)) (λ g. 1 - slice_value (g index) place place) off dark
-      (λ more wide state input g states inputs frame. ap (λ (w : ℕ). unary_value unary.Not 1 w) (here.word more wide state input g states inputs frame));
+          (λ more wide state input g states inputs frame. ap (λ (w : ℕ). unary_value unary.Not 1 w) (here.word more wide state input g states inputs frame));
     }
 
 -- ---- ids of bits

@@ -66,8 +66,8 @@ extends_twice a b c handed also e d all =
       is = d.is ∙ ap (λ (l : List Item). l ++ d.more) e.is ∙ append_assoc a e.more d.more;
       plain = all_join (λ (x : Item). is_plain x.body ≡ true) e.more d.more e.plain d.plain;
       names = all_join (λ (x : Item). MayNameAll (length a) handed (operands x.body)) e.more d.more e.names
-      (all_with (λ (x : Item). MayNameAll (length b) also (operands x.body)) (λ (x : Item). MayNameAll (length a) handed (operands x.body)) d.more
-      (λ x. may_name_all (length a) (length b) handed also (operands x.body) (longer a b handed e) all) d.names);
+          (all_with (λ (x : Item). MayNameAll (length b) also (operands x.body)) (λ (x : Item). MayNameAll (length a) handed (operands x.body)) d.more
+          (λ x. may_name_all (length a) (length b) handed also (operands x.body) (longer a b handed e) all) d.names);
     }
 
 -- a sort that was made first names nothing

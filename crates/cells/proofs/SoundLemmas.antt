@@ -124,5 +124,16 @@ pub sound_node : (items : List Item) (b : Body) (s n : ℕ) → node_sort b ≡ 
     → widths_agree (λ k. unwrap_or (sort_width items k) 0) (bits_of items) b ≡ true → constant_fits_within greatest_width n b ≡ true → IsSound items b
 unfolding IsSound
 sound_node items b s n names sort there slice widths fits =
-    rw (sort_there items b s n names sort, all_there items b there, no_state_line items b s names, no_sort b s names, slice, widths_same items b widths, constant_within items b s n names sort fits, (no_init items b s names).0, (no_init items b s names).1,
-    no_next items b s names, no_justice b s names) refl
+    rw (
+      sort_there items b s n names sort,
+      all_there items b there,
+      no_state_line items b s names,
+      no_sort b s names,
+      slice,
+      widths_same items b widths,
+      constant_within items b s n names sort fits,
+      (no_init items b s names).0,
+      (no_init items b s names).1,
+      no_next items b s names,
+      no_justice b s names,
+    ) refl
