@@ -1,0 +1,5 @@
+-- Models of the whole safety language, as checked lists of lines.
+pub mod Lines
+pub mod FullModels
+pub mod Entries
+pub mod Index

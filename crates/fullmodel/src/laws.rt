@@ -1,0 +1,1 @@
+//! Laws of models, and worked rows, as functions with no code.
