@@ -1,1 +1,6 @@
 -- The lemmas of this crate.
+pub mod SizeLemmas
+pub mod EntryLemmas
+pub mod RowLemmas
+pub mod AcceptedLemmas
+pub mod GrowLemmas

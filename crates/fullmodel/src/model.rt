@@ -1,8 +1,9 @@
 //! Models of the whole safety language: checked lists of lines.
-ghost use Rattle.std.specs.Prelude.{◌≡◌, ◌<◌, [], None, true, IfSome, length, map, option_map, is_some, slice_get};
+ghost use Rattle.std.specs.Prelude.{◌≡◌, ◌<◌, ◌≤◌, [], None, true, IfSome, length, map, option_map, is_some, slice_get};
 ghost use Rattle.std.specs.List.{AllByRecursion};
 ghost use Rattle.std.specs.Option.{IfNone};
-ghost use Rattle.full.specs.Lines.{find_line, sort_at, sort_of_node, init_of, next_of};
+ghost use Rattle.full.specs.Lines.{find_line, sort_size, sort_at, sort_of_node, init_of, next_of};
+ghost use Rattle.wide.specs.WideModels.{greatest_width};
 ghost use Rattle.full.specs.Agreement.{names_full_state};
 ghost use Rattle.fullmodel.specs.Lines.{line_of, operand_of, sort_value, HasNoDigits};
 ghost use Rattle.fullmodel.specs.FullModels.{IsAccepted};
@@ -84,15 +85,19 @@ impl FullModel {
 
     /// The sort with an id.
     pub fn sort_at(&self, id: u32) -> Option<Sort>
-        ensures { option_map sort_value result ≡ sort_at self.now id }
+        ensures sort { option_map sort_value result ≡ sort_at self.now id }
+        ensures size { IfSome result (λ s. (1 ≤ sort_size (sort_value s)) × (sort_size (sort_value s) ≤ greatest_width)) }
     {
+        let _ = &self.lines;
         sort_of(self.entry(id))
     }
 
     /// The sort of the node with a value that has an id.
     pub fn sort_of_node(&self, id: u32) -> Option<Sort>
-        ensures { option_map sort_value result ≡ sort_of_node self.now id }
+        ensures sort { option_map sort_value result ≡ sort_of_node self.now id }
+        ensures size { IfSome result (λ s. (1 ≤ sort_size (sort_value s)) × (sort_size (sort_value s) ≤ greatest_width)) }
     {
+        let _ = &self.lines;
         node_of(self.entry(id))
     }
 

@@ -119,12 +119,19 @@ impl FullModel {
         ids.iter().all(|id| is_bit(self.sort_of_node(*id)))
     }
 
+    /// Whether a node is a word, or stands without a minus.
+    fn minus_fits(&self, id: u32, minus: bool) -> bool
+        ensures { result ≡ (not minus || is_words (sort_of_node self.now id)) }
+    {
+        !minus || is_words(self.sort_of_node(id))
+    }
+
     /// Whether each of some nodes that stands with a minus is a word.
     fn minuses_at_words(&self, ids: &[u32], minuses: &[bool]) -> bool
         ensures { result ≡ minuses_at_words self.now ids.now minuses.now }
     {
         for (id, minus) in ids.iter().zip(minuses.iter()) {
-            if *minus && !is_words(self.sort_of_node(*id)) {
+            if !self.minus_fits(*id, *minus) {
                 return false;
             }
         }
