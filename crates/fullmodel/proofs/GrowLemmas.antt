@@ -47,13 +47,13 @@ cell_sort lines (array_sort index element) s k e h = absurd (none-some s e)
 cell_sort lines (read t array index) s k e h = there_is (sort_at lines s) (ap (λ (o : Option ℕ). option_map_or (λ (j : ℕ). is_none (sort_at lines j)) o false) (sym e) ∙ h)
 cell_sort lines (write t array index word) s k e h = there_is (sort_at lines s) (ap (λ (o : Option ℕ). option_map_or (λ (j : ℕ). is_none (sort_at lines j)) o false) (sym e) ∙ h)
 
-array_bits : (lines : List FullLine) (index element : ℕ) → is_no_array_sort lines (array_sort index element) ≡ false → (k : ℕ) × (n : ℕ) × (bits_at lines index ≡ Some k) × (bits_at lines element ≡ Some n)
+pub array_bits : (lines : List FullLine) (index element : ℕ) → is_no_array_sort lines (array_sort index element) ≡ false → (k : ℕ) × (n : ℕ) × (bits_at lines index ≡ Some k) × (bits_at lines element ≡ Some n)
 unfolding is_no_array_sort
 array_bits lines index element h =
     let parts = made (sort_at lines index) (sort_at lines element) (not-false _ h) in
     (parts.0, parts.1, bits_from lines index parts.0 parts.2, bits_from lines element parts.1 parts.3)
 
-sorts_of : (lines : List FullLine) (b : Says) → sort_is_missing lines b ≡ false → is_no_array_sort lines b ≡ false → HasItsSorts lines b
+pub sorts_of : (lines : List FullLine) (b : Says) → sort_is_missing lines b ≡ false → is_no_array_sort lines b ≡ false → HasItsSorts lines b
 sorts_of lines (array_sort index element) h row = array_bits lines index element row
 sorts_of lines (form b minuses) h row = λ s e. cell_sort lines (form b minuses) s (λ t array index k. tt) e h
 sorts_of lines (read t array index) h row = λ s e. cell_sort lines (read t array index) s (λ t array index k. tt) e h

@@ -4,3 +4,4 @@ pub mod EntryLemmas
 pub mod RowLemmas
 pub mod AcceptedLemmas
 pub mod GrowLemmas
+pub mod AgreeLemmas

@@ -3,3 +3,4 @@ pub mod Lines
 pub mod FullModels
 pub mod Entries
 pub mod Index
+pub mod Worked
