@@ -4,3 +4,4 @@ pub mod FullModels
 pub mod Entries
 pub mod Index
 pub mod Worked
+pub mod Rows

@@ -1,10 +1,10 @@
 //! Models of the whole safety language: checked lists of lines.
-ghost use Rattle.std.specs.Prelude.{◌≡◌, ◌<◌, ◌≤◌, [], None, true, IfSome, length, map, option_map, is_some, slice_get};
+ghost use Rattle.std.specs.Prelude.{◌≡◌, ◌<◌, ◌≤◌, [], None, Some, true, IfSome, length, map, option_map, is_some, slice_get};
 ghost use Rattle.std.specs.List.{AllByRecursion};
 ghost use Rattle.std.specs.Option.{IfNone};
-ghost use Rattle.full.specs.Lines.{find_line, sort_size, sort_at, sort_of_node, init_of, next_of};
+ghost use Rattle.full.specs.Lines.{FullLine, find_line, sort_size, sort_at, sort_of_node, init_of, next_of};
 ghost use Rattle.wide.specs.WideModels.{greatest_width};
-ghost use Rattle.full.specs.Agreement.{names_full_state};
+ghost use Rattle.full.specs.Agreement.{names_full_state, IsFullModel};
 ghost use Rattle.fullmodel.specs.Lines.{line_of, operand_of, sort_value, HasNoDigits};
 ghost use Rattle.fullmodel.specs.FullModels.{IsAccepted};
 ghost use Rattle.fullmodel.specs.Entries.{entry_at};
@@ -62,6 +62,8 @@ impl FullModel {
     pub fn lines(&self) -> &[Line]
         ensures lines { map line_of result.now ≡ self.now }
         ensures accepted { IsAccepted self.now }
+        ensures model { IsFullModel self.now }
+        ensures ids { AllByRecursion (λ (x : FullLine). find_line self.now x.id ≡ Some x) self.now }
         ensures forms { AllByRecursion (λ x. HasNoDigits x.says) result.now }
     {
         self.lines.as_slice()

@@ -1,13 +1,14 @@
 //! Why a line is refused: the tests of the table's rows, in the table's order.
 #![tactic(auto, unfolding(crate::specs::FullModels::line_refusal, crate::specs::FullModels::id_is_out_of_range, crate::specs::FullModels::id_is_taken, crate::specs::FullModels::sort_is_missing, crate::specs::FullModels::operand_is_missing, crate::specs::FullModels::state_is_none, crate::specs::FullModels::state_has_minus, crate::specs::FullModels::minus_is_at_array, crate::specs::FullModels::width_is_out_of_range, crate::specs::FullModels::is_no_array_sort, crate::specs::FullModels::slice_is_out_of_range, crate::specs::FullModels::sorts_differ, crate::specs::FullModels::constant_does_not_fit, crate::specs::FullModels::is_second_init, crate::specs::FullModels::is_second_next, wide::specs::WideModels::width_is_above, btor2::specs::Check::justice_is_empty))]
 
-ghost use Rattle.std.specs.Prelude.{◌≡◌, [], ◌∷◌, not, ◌||◌, None, true, false, is_some};
+ghost use Rattle.std.specs.Prelude.{◌≡◌, [], ◌∷◌, not, ◌||◌, None, Some, true, false, is_some, MatchResult};
 ghost use Rattle.std.specs.List.{list_all};
 ghost use Rattle.btor2.specs.Items.{named_sort};
 ghost use Rattle.btor2.specs.Check.{justice_is_empty};
 ghost use Rattle.wide.specs.Lines.{constant_body, number_of_digits};
 ghost use Rattle.wide.specs.Entries.{digits_sort};
-ghost use Rattle.full.specs.Lines.{form, array_sort, read, write, sort_at, sort_of_node};
+ghost use Rattle.fullmodel.specs.Rows.{HasDigitsRow, IsConstantRefused};
+ghost use Rattle.full.specs.Lines.{words, form, array_sort, read, write, sort_at, sort_of_node};
 ghost use Rattle.full.specs.Agreement.{is_words, first_is_plain};
 ghost use Rattle.fullmodel.specs.Lines.{line_of, says_of, operand_of, HasNoDigits};
 ghost use Rattle.fullmodel.specs.FullModels.{is_bit, sort_is_missing, operand_is_missing, state_is_none, state_has_minus, minuses_at_words, minus_is_at_array, width_is_out_of_range, slice_is_out_of_range, sorts_agree, constant_does_not_fit, is_second_init, is_second_next, first_fault, id_rows, said_rows, line_refusal, RefusesLine};
@@ -17,7 +18,7 @@ use crate::fault::LineFault;
 use crate::line::{Line, Operand, Says};
 use crate::model::FullModel;
 use crate::sorts::{
-    binary_agrees, concat_agrees, extension_agrees, init_agrees, is_bit, is_no_slice_of, is_words,
+    Sort, binary_agrees, concat_agrees, extension_agrees, init_agrees, is_bit, is_no_slice_of, is_words,
     ite_agrees, makes_arrays, next_agrees, read_agrees, slice_agrees, unary_agrees, width_in,
     write_agrees,
 };
@@ -524,5 +525,22 @@ impl FullModel {
     {
         self.check_id(line.id)?;
         self.check_said(&line.says)
+    }
+
+    /// The width of the sort of a constant in digits, which is to follow with an id.
+    ///
+    /// Errors: the first that applies of `TooManyItems`, `IdOutOfRange`, `IdTaken`, `NoSuchSort` and `SortMismatch`. No
+    /// other row refuses the constant but that of its digits, `ConstantDoesNotFit`.
+    pub fn constant_width(&self, id: u64, sort: u32) -> Result<u64, LineFault>
+        ensures { MatchResult result
+            (λ n. (sort_at self.now sort ≡ Some (words n)) × HasDigitsRow self.now id sort n)
+            (λ e. IsConstantRefused self.now id sort e) }
+    {
+        self.check_id(id)?;
+        match self.sort_at(sort) {
+            Some(Sort::Words(width)) => Ok(width),
+            Some(Sort::Arrays { .. }) => Err(LineFault::Push(PushFault::SortMismatch)),
+            None => Err(LineFault::Push(PushFault::NoSuchSort)),
+        }
     }
 }
