@@ -6,7 +6,7 @@ use Rattle.btor2.specs.declared.item.Body.{Body}
 use Rattle.btor2.specs.declared.item.Body.TheVariants as body
 use Rattle.full.specs.Lines.{Says, form, FullLine, find_line, is_form}
 use Rattle.fullmodel.specs.declared.fault.LineFault.{LineFault}
-use Rattle.fullmodel.specs.FullModels.{id_is_taken, sort_is_missing, operand_is_missing, state_is_none, state_has_minus, minus_is_at_array, width_is_out_of_range, is_no_array_sort, slice_is_out_of_range, sorts_differ, constant_does_not_fit, is_second_init, is_second_next, first_fault, id_rows, said_rows, line_table, line_refusal, IsAcceptedAfter, IsAccepted}
+use Rattle.fullmodel.specs.FullModels.{id_is_out_of_range, id_is_taken, sort_is_missing, operand_is_missing, state_is_none, state_has_minus, minus_is_at_array, width_is_out_of_range, is_no_array_sort, slice_is_out_of_range, sorts_differ, constant_does_not_fit, is_second_init, is_second_next, first_fault, id_rows, said_rows, line_table, line_refusal, IsAcceptedAfter, IsAccepted}
 
 -- each row's test is false
 abbrev pub AllFalse : List (Bool × LineFault) → Type 0
@@ -52,6 +52,7 @@ id_accepted lines x h = then_rest (id_rows lines x.id) (said_rows lines x.says) 
 
 -- what a line that is not refused passes
 pub record Passes (lines : List FullLine) (x : FullLine) : Type 0 where
+  pub range : id_is_out_of_range x.id ≡ false
   pub fresh : id_is_taken lines x.id ≡ false
   pub sorts : sort_is_missing lines x.says ≡ false
   pub nodes : operand_is_missing lines x.says ≡ false
@@ -75,6 +76,7 @@ passes lines x h =
     let rows = tests_false lines x h in
     let said = rows.1.1.1 in
     record {
+      range = rows.1.0;
       fresh = rows.1.1.0;
       sorts = said.0;
       nodes = said.1.0;

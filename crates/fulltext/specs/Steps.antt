@@ -3,16 +3,18 @@ use Rattle.std.specs.Prelude.{◌≡◌, ℕ, Bool, true, false, List, [], ◌++
 use Rattle.btor2text.specs.declared.fault.Why.{Why}
 use Rattle.btor2text.specs.declared.fault.Why.TheVariants as why
 use Rattle.btor2text.specs.declared.fault.ReadFault.{ReadFault}
-use Rattle.btor2text.specs.declared.forms.Form.TheVariants as form
 use Rattle.btor2text.specs.Tokens.{tokens}
 use Rattle.btor2text.specs.Reading.{◌>>=◌, Tokens, symbol_at, line_fault}
 use Rattle.wide.specs.declared.constant.Spelling.{Spelling}
 use Rattle.widetext.specs.Constants.{digits_body}
-use Rattle.full.specs.Lines.{form as form_says, FullLine}
+use Rattle.widetext.specs.Steps.{is_constant_form}
+use Rattle.btor2.specs.declared.item.Body.{Body}
+use Rattle.btor2.specs.declared.item.Body.TheVariants as body
+use Rattle.full.specs.Lines.{operand, Says, form as form_says, read, write, FullLine}
 use Rattle.fulltext.specs.declared.kinds.Kind.{Kind}
 use Rattle.fulltext.specs.declared.kinds.Kind.TheVariants as kind
 use Rattle.fulltext.specs.Signs.{signs, unsigned, signs_behind, unsigned_behind}
-use Rattle.fulltext.specs.Reading.{says_at, said_at, full_line_at, numbered, full_accepted}
+use Rattle.fulltext.specs.Reading.{first_sign, second_sign, says_at, said_at, full_line_at, numbered, full_accepted}
 
 -- the lines with one more, of this id, of whose line the tokens behind the word are left, without minuses, which stood as told
 abbrev pub plain_on : List FullLine → ℕ → Kind → Tokens → List Bool → Result (List FullLine) Why
@@ -36,7 +38,7 @@ line_on before line = do
 
 -- whether a line is one of a constant in digits
 abbrev pub is_constant_kind : Kind → Bool
-is_constant_kind (kind.Form (form.Constant c)) = true
+is_constant_kind (kind.Form f) = is_constant_form f
 is_constant_kind _ = false
 
 -- a constant of these digits is refused so, whatever its symbol is
@@ -62,6 +64,16 @@ ReadsText (Err e) items read = (e ≡ line_fault 0 why.NoMemory) ⊎ (read ≡ E
 abbrev pub ReadsAsLines : Result (List FullLine) ReadFault → List FullLine → Type 0
 ReadsAsLines (Ok model) items = model ≡ items
 ReadsAsLines (Err e) items = e ≡ line_fault 0 why.NoMemory
+
+-- ---- read and write, by the places of a concatenation and of a choice
+
+abbrev pub read_by : Body → List Bool → Result Says Why
+read_by (body.Concat s a b) ms = Ok (read s a (operand b (first_sign ms)))
+read_by _ ms = Err why.BadToken
+
+abbrev pub write_by : Body → List Bool → Result Says Why
+write_by (body.Ite s c t e) ms = Ok (write s c (operand t (first_sign ms)) (operand e (second_sign ms)))
+write_by _ ms = Err why.BadToken
 
 -- ---- lines without minuses
 

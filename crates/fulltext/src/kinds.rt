@@ -45,6 +45,7 @@ fn array_kind_at(line: &[u8]) -> Result<(Kind, &[u8]), Why>
 }
 
 /// The kind of a line, and the line behind its word.
+#[tactic(auto, unfolding(crate::specs::Reading::kind_at, btor2text::specs::Reading::form_at))]
 pub(crate) fn kind_at<'a>(words: &mut KnownWords, line: &'a [u8]) -> Result<(Kind, &'a [u8]), Why>
     ensures { IsAsLineRead (λ x. (x.0, tokens x.1.now)) result (kind_at (tokens line.now)) }
 {

@@ -4,7 +4,7 @@ ghost use Rattle.btor2text.specs.Tokens.{tokens};
 ghost use Rattle.btor2text.specs.Reading.{IsAsLineRead, GivesUnlessFull};
 ghost use Rattle.fullmodel.specs.Lines.{says_of, HasNoDigits};
 ghost use Rattle.fulltext.specs.Reading.{first_sign, second_sign, form_at, array_at, sort_said_at, read_at, write_at, says_at};
-ghost use Rattle.fulltext.specs.Steps.{is_constant_kind};
+ghost use Rattle.fulltext.specs.Steps.{is_constant_kind, read_by, write_by};
 
 use crate::kinds::{Kind, is_word};
 use btor2::Body;
@@ -74,61 +74,83 @@ fn sort_said_at(alloc: Global, line: &[u8]) -> Result<(Says, &[u8]), Why>
     }
 }
 
+/// A read of what a concatenation of the same places says.
+fn read_by(body: &Body, minuses: &[bool]) -> Result<Says, Why>
+    ensures read { IsAsLineRead says_of result (read_by body.now minuses.now) }
+    ensures digits { IfOk result HasNoDigits }
+{
+    match body {
+        Body::Concat { sort, high, low } => Ok(Says::Read {
+            sort: *sort,
+            array: *high,
+            index: Operand {
+                id: *low,
+                minus: first_sign(minuses),
+            },
+        }),
+        _ => Err(Why::BadToken),
+    }
+}
+
+/// A write of what a choice of the same places says.
+fn write_by(body: &Body, minuses: &[bool]) -> Result<Says, Why>
+    ensures read { IsAsLineRead says_of result (write_by body.now minuses.now) }
+    ensures digits { IfOk result HasNoDigits }
+{
+    match body {
+        Body::Ite {
+            sort,
+            condition,
+            first,
+            second,
+        } => Ok(Says::Write {
+            sort: *sort,
+            array: *condition,
+            index: Operand {
+                id: *first,
+                minus: first_sign(minuses),
+            },
+            word: Operand {
+                id: *second,
+                minus: second_sign(minuses),
+            },
+        }),
+        _ => Err(Why::BadToken),
+    }
+}
+
 /// A read, and the line behind it. Its places are those of a concatenation.
-fn read_at<'a>(alloc: Global, line: &'a [u8], minuses: &[bool]) -> Result<(Says, &'a [u8]), Why>
+fn read_at<'a>(
+    alloc: Global,
+    line: &'a [u8],
+    minuses: &[bool],
+) -> Result<(Says, &'a [u8]), Why>
     ensures read { GivesUnlessFull (λ x. (says_of x.0, tokens x.1.now)) result (read_at (tokens line.now) minuses.now) }
     ensures digits { IfOk result (λ x. HasNoDigits x.0) }
 {
     match body_at(alloc, Form::Concat, line) {
-        Ok((Body::Concat { sort, high, low }, rest)) => {
-            let index = Operand {
-                id: low,
-                minus: first_sign(minuses),
-            };
-            let says = Says::Read {
-                sort,
-                array: high,
-                index,
-            };
-            Ok((says, rest))
-        }
-        Ok(_) => Err(Why::NoMemory),
+        Ok((body, rest)) => match read_by(&body, minuses) {
+            Ok(says) => Ok((says, rest)),
+            Err(why) => Err(why),
+        },
         Err(why) => Err(why),
     }
 }
 
 /// A write, and the line behind it. Its places are those of a choice.
-fn write_at<'a>(alloc: Global, line: &'a [u8], minuses: &[bool]) -> Result<(Says, &'a [u8]), Why>
+fn write_at<'a>(
+    alloc: Global,
+    line: &'a [u8],
+    minuses: &[bool],
+) -> Result<(Says, &'a [u8]), Why>
     ensures read { GivesUnlessFull (λ x. (says_of x.0, tokens x.1.now)) result (write_at (tokens line.now) minuses.now) }
     ensures digits { IfOk result (λ x. HasNoDigits x.0) }
 {
     match body_at(alloc, Form::Ite, line) {
-        Ok((
-            Body::Ite {
-                sort,
-                condition,
-                first,
-                second,
-            },
-            rest,
-        )) => {
-            let index = Operand {
-                id: first,
-                minus: first_sign(minuses),
-            };
-            let word = Operand {
-                id: second,
-                minus: second_sign(minuses),
-            };
-            let says = Says::Write {
-                sort,
-                array: condition,
-                index,
-                word,
-            };
-            Ok((says, rest))
-        }
-        Ok(_) => Err(Why::NoMemory),
+        Ok((body, rest)) => match write_by(&body, minuses) {
+            Ok(says) => Ok((says, rest)),
+            Err(why) => Err(why),
+        },
         Err(why) => Err(why),
     }
 }

@@ -1,5 +1,5 @@
 //! Operands with a minus: a line is read without their minuses, which are kept beside it.
-ghost use Rattle.std.specs.Prelude.{◌≡◌, ℕ, ◌++◌, ◌∷◌, [], Bool, true, false, Some, OnOk, IfErr, MatchResult, IfSome};
+ghost use Rattle.std.specs.Prelude.{◌≡◌, ◌==◌, ℕ, ◌++◌, ◌∷◌, [], Bool, true, false, Some, OnOk, IfErr, MatchResult, IfSome};
 ghost use Rattle.std.specs.List.{list_any};
 ghost use Rattle.btor2text.specs.Tokens.{tokens};
 ghost use Rattle.btor2text.specs.declared.fault.Why.TheVariants as why;
@@ -162,15 +162,29 @@ pub(crate) fn put_unsigned(
     put_rest(bytes, rest)
 }
 
+/// Whether one of some minuses stands.
+fn has_some(minuses: &[bool]) -> bool
+    ensures { result ≡ list_any (λ m. m) minuses.now }
+{
+    minuses.iter().any(|minus| *minus)
+}
+
 /// Minuses as they are kept: none is told where no operand has one.
 pub(crate) fn kept_signs(alloc: Global, minuses: Vec<bool>) -> Vec<bool>
     ensures { result.items ≡ kept_signs minuses.items }
 {
-    if minuses.iter().any(|minus| *minus) {
+    if has_some(minuses.as_slice()) {
         minuses
     } else {
         Vec::new(alloc)
     }
+}
+
+/// Whether a line has a byte `-`.
+fn has_dash(line: &[u8]) -> bool
+    ensures { result ≡ list_any (λ b. b == 45) line.now }
+{
+    line.iter().any(|byte| *byte == b'-')
 }
 
 /// Whether a line has no byte `-`.
@@ -178,5 +192,5 @@ pub(crate) fn has_no_sign(line: &[u8]) -> bool
     ensures { result ≡ true → (before count : ℕ) → (unsigned_behind before count (tokens line.now) ≡ tokens line.now)
         × (kept_signs (signs_behind before count (tokens line.now)) ≡ []) }
 {
-    !line.iter().any(|byte| *byte == b'-')
+    !has_dash(line)
 }
