@@ -1,6 +1,7 @@
 -- What tokens say of a line is read of them.
-use Rattle.std.proofs.Common.{◌≡◌, ℕ, zero, suc, ◌+◌, ◌-◌, ◌^◌, ◌<◌, ◌≤◌, Bool, true, false, List, [], ◌∷◌, ◌++◌, length, map, Result, Ok, Err, codes, decimal, refl, sym, ap, ap₂, subst, ◌∙◌, append_assoc, arith, length-map}
+use Rattle.std.proofs.Common.{◌≡◌, ℕ, zero, suc, ◌+◌, ◌-◌, ◌^◌, ◌<◌, ◌≤◌, Bool, true, false, List, [], ◌∷◌, ◌++◌, length, map, Result, Ok, Err, codes, decimal, refl, sym, ap, ap₂, subst, ◌∙◌, append_assoc, arith}
 use Rattle.std.specs.List.{list_any}
+use Rattle.std.proofs.lemmas.List.{length-map, append-nil}
 use Rattle.btor2.specs.declared.item.Body.{Body}
 use Rattle.btor2.specs.declared.item.Body.TheVariants as body
 use Rattle.btor2.specs.Items.{operands}
@@ -25,7 +26,7 @@ use Rattle.fulltext.specs.Reading.{places_before, operand_count, first_sign, sec
 use Rattle.fulltext.specs.Spelling.{operand_token, tokens_before, AreSigns, SaysLine}
 use Rattle.fulltext.proofs.SaysLemmas.{kind_word}
 use Rattle.fulltext.proofs.BoundLemmas.{SaysFits}
-use Rattle.fulltext.proofs.SignLemmas.{id_sign, id_unsigned, filled, unsigned_ids, signs_ids, kept_none, kept_some, none_counted}
+use Rattle.fulltext.proofs.SignLemmas.{id_sign, id_unsigned, signed_front, filled, unsigned_ids, signs_ids, kept_none, kept_some, none_counted}
 use Rattle.fulltext.proofs.SpellLemmas.{OperandsStand, operands_stand, ids_fit, places_same, count_unsigned, count_said, first_kept, both_kept}
 
 -- the kind of the line that says something
@@ -45,27 +46,22 @@ pub record Again (b : Says) (tokens : Tokens) : Type 0 where
 
 module _ (n : ℕ) (ms : List Bool) (ids : List ℕ) (tail : Tokens) (h : Each IsId ids) (few : length ms ≤ length ids) (count : n ≡ length ids) where
   put_front : (ts : Tokens) → signed ms (map decimal ids ++ ts) ≡ signed ms (map decimal ids) ++ ts
-  put_front ts = by ms (map decimal ids) (omega (arith, few, length-map ids decimal))
-    where
-      by : (ns : List Bool) (front : Tokens) → length ns ≤ length front → signed ns (front ++ ts) ≡ signed ns front ++ ts
-      by [] front le = refl
-      by (m ∷ ns) [] le = absurd (omega (arith, le))
-      by (m ∷ ns) (t ∷ front) le = ap (λ (xs : Tokens). with_sign m t ∷ xs) (by ns front (omega (arith, le)))
+  put_front ts = signed_front ms (map decimal ids) ts (omega (arith, few, length-map ids decimal))
 
   -- the tokens with minuses, and more behind them
-  marked : (k : ℕ) (head : Tokens) → length head ≡ k → signed_behind k ms (head ++ map decimal ids ++ tail) ≡ head ++ signed ms (map decimal ids) ++ tail
+  marked : (k : ℕ) (head : Tokens) → length head ≡ k → signed_behind k ms (head ++ (map decimal ids ++ tail)) ≡ head ++ (signed ms (map decimal ids) ++ tail)
   marked zero [] e = put_front tail
   marked zero (t ∷ head) e = absurd (omega (arith, e))
   marked (suc k) [] e = absurd (omega (arith, e))
   marked (suc k) (t ∷ head) e = ap (λ (xs : Tokens). t ∷ xs) (marked k head (omega (arith, e)))
 
-  bare_again : (k : ℕ) (head ts : Tokens) → length head ≡ k → unsigned_behind k n (head ++ signed ms (map decimal ids) ++ ts) ≡ head ++ map decimal ids ++ ts
+  bare_again : (k : ℕ) (head ts : Tokens) → length head ≡ k → unsigned_behind k n (head ++ (signed ms (map decimal ids) ++ ts)) ≡ head ++ (map decimal ids ++ ts)
   bare_again zero [] ts e = ap (λ (j : ℕ). unsigned j (signed ms (map decimal ids) ++ ts)) count ∙ unsigned_ids ms ids ts h few
   bare_again zero (t ∷ head) ts e = absurd (omega (arith, e))
   bare_again (suc k) [] ts e = absurd (omega (arith, e))
   bare_again (suc k) (t ∷ head) ts e = ap (λ (xs : Tokens). t ∷ xs) (bare_again k head ts (omega (arith, e)))
 
-  signs_again : (k : ℕ) (head ts : Tokens) → length head ≡ k → signs_behind k n (head ++ signed ms (map decimal ids) ++ ts) ≡ filled (length ids) ms
+  signs_again : (k : ℕ) (head ts : Tokens) → length head ≡ k → signs_behind k n (head ++ (signed ms (map decimal ids) ++ ts)) ≡ filled (length ids) ms
   signs_again zero [] ts e = ap (λ (j : ℕ). signs j (signed ms (map decimal ids) ++ ts)) count ∙ signs_ids ms ids ts h
   signs_again zero (t ∷ head) ts e = absurd (omega (arith, e))
   signs_again (suc k) [] ts e = absurd (omega (arith, e))
@@ -106,10 +102,10 @@ head_of : (w v : List ℕ) (a b : Tokens) → w ∷ a ≡ v ∷ b → a ≡ b
 head_of w v a b e = cc
 
 -- the head behind the word
-behind_word : (b : Body) (bb head tail : Tokens) → form_name (body_form b) ∷ bb ≡ head ++ map decimal (operands b) ++ tail → length head ≡ suc (places_before (kind.Form (body_form b)))
-    → (rest : Tokens) × (bb ≡ rest ++ map decimal (operands b) ++ tail) × (length rest ≡ places_before (kind.Form (body_form b)))
+behind_word : (b : Body) (bb head tail : Tokens) → form_name (body_form b) ∷ bb ≡ head ++ (map decimal (operands b) ++ tail) → length head ≡ suc (places_before (kind.Form (body_form b)))
+    → (rest : Tokens) × (bb ≡ rest ++ (map decimal (operands b) ++ tail)) × (length rest ≡ places_before (kind.Form (body_form b)))
 behind_word b bb [] tail e count = absurd (omega (arith, count))
-behind_word b bb (t ∷ head) tail e count = (head, head_of (form_name (body_form b)) t bb (head ++ map decimal (operands b) ++ tail) e, omega (arith, count))
+behind_word b bb (t ∷ head) tail e count = (head, head_of (form_name (body_form b)) t bb (head ++ (map decimal (operands b) ++ tail)) e, omega (arith, count))
 
 sort_again : (n : ℕ) (ms : List Bool) (tokens : Tokens) → SaysLine (form_says (body.Sort n) ms) tokens → WideBodyFits (body.Sort n) → Again (form_says (body.Sort n) ms) tokens
 unfolding said_at
@@ -138,15 +134,15 @@ plain_again b ms tokens no_sort says fits =
     let head = behind_word b a.behind stand.head stand.tail (sym a.parts ∙ stand.parts) (stand.count ∙ places_same b) in
     let each = ids_fit b fits in
     let few = few_signs n ms says.3 in
-    let behind = head.0 ++ signed ms (map decimal ids) ++ stand.tail in
+    let behind = head.0 ++ (signed ms (map decimal ids) ++ stand.tail) in
     let is : signed_behind k ms a.behind ≡ behind = ap (signed_behind k ms) head.1 ∙ marked n ms ids stand.tail each few refl k head.0 head.2 in
     let own : WideSaysBody b (form_name f ∷ a.behind) = subst (WideSaysBody b) a.parts says.2 in
     record {
       behind = behind;
       parts = says.1 ∙ (ap₂ (λ (j : ℕ) (l : Tokens). signed_behind j ms l) (places_same b) a.parts ∙ ap (λ (l : Tokens). form_name f ∷ l) is);
       again = λ rest.
-          let joined : behind ++ rest ≡ head.0 ++ signed ms (map decimal ids) ++ (stand.tail ++ rest) = append_assoc head.0 (signed ms (map decimal ids) ++ stand.tail) rest ∙ ap (λ (l : Tokens). head.0 ++ l) (append_assoc (signed ms (map decimal ids)) stand.tail rest) in
-          let unjoined : head.0 ++ map decimal ids ++ (stand.tail ++ rest) ≡ a.behind ++ rest =
+          let joined : behind ++ rest ≡ head.0 ++ (signed ms (map decimal ids) ++ (stand.tail ++ rest)) = append_assoc head.0 (signed ms (map decimal ids) ++ stand.tail) rest ∙ ap (λ (l : Tokens). head.0 ++ l) (append_assoc (signed ms (map decimal ids)) stand.tail rest) in
+          let unjoined : head.0 ++ (map decimal ids ++ (stand.tail ++ rest)) ≡ a.behind ++ rest =
                 sym (append_assoc head.0 (map decimal ids ++ stand.tail) rest ∙ ap (λ (l : Tokens). head.0 ++ l) (append_assoc (map decimal ids) stand.tail rest)) ∙ ap (λ (l : Tokens). l ++ rest) (sym head.1) in
           let bare : unsigned_behind k n (behind ++ rest) ≡ a.behind ++ rest = ap (unsigned_behind k n) joined ∙ (bare_again n ms ids [] each few refl k head.0 (stand.tail ++ rest) head.2 ∙ unjoined) in
           let kept : kept_signs (signs_behind k n (behind ++ rest)) ≡ ms =

@@ -80,7 +80,7 @@ kept_behind k ms ts = by (list_any (λ (m : Bool). m) ms) refl
     by false e = none_behind k [] ts refl ∙ sym (none_behind k ms ts e)
 
 -- those of a front stay there
-signed_front : (ms : List Bool) (front rest : Tokens) → length ms ≤ length front → signed ms (front ++ rest) ≡ signed ms front ++ rest
+pub signed_front : (ms : List Bool) (front rest : Tokens) → length ms ≤ length front → signed ms (front ++ rest) ≡ signed ms front ++ rest
 signed_front [] front rest h = refl
 signed_front (m ∷ ms) [] rest h = absurd (omega (arith, h))
 signed_front (m ∷ ms) (t ∷ ts) rest h = ap (λ (xs : Tokens). with_sign m t ∷ xs) (signed_front ms ts rest (omega (arith, h)))

@@ -1,6 +1,7 @@
 -- What the tokens behind a line's word are read as is what they say, and what they say is read.
-use Rattle.std.proofs.Common.{◌≡◌, ℕ, zero, suc, ◌+◌, ◌-◌, ◌^◌, ◌<◌, ◌≤◌, Bool, true, false, cond, List, [], ◌∷◌, ◌++◌, length, map, Option, Some, None, Result, Ok, Err, codes, decimal, refl, sym, ap, ap₂, subst, ◌∙◌, append_assoc, inl, inr, arith, length-append, length-map, append-nil}
+use Rattle.std.proofs.Common.{◌≡◌, ℕ, zero, suc, ◌+◌, ◌-◌, ◌^◌, ◌<◌, ◌≤◌, Bool, true, false, cond, List, [], ◌∷◌, ◌++◌, length, map, Option, Some, None, Result, Ok, Err, codes, decimal, refl, sym, ap, ap₂, subst, ◌∙◌, append_assoc, inl, inr, arith, length-append}
 use Rattle.std.specs.List.{list_any}
+use Rattle.std.proofs.lemmas.List.{length-map, append-nil}
 use Rattle.std.specs.Str.{bytes_eq}
 use Rattle.base.proofs.DecimalLemmas.{chosen}
 use Rattle.btor2.specs.declared.item.Body.{Body}
@@ -35,7 +36,7 @@ use Rattle.fulltext.proofs.SignLemmas.{id_sign, id_unsigned, behind_again, kept_
 pub record OperandsStand (b : Body) (plain : Tokens) : Type 0 where
   pub head : Tokens
   pub tail : Tokens
-  pub parts : plain ≡ head ++ map decimal (operands b) ++ tail
+  pub parts : plain ≡ head ++ (map decimal (operands b) ++ tail)
   pub count : length head ≡ tokens_before b
 
 pub operands_stand : (b : Body) (plain : Tokens) → WideSaysBody b plain → OperandsStand b plain

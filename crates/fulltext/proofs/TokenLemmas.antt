@@ -34,11 +34,11 @@ kept_all P (p ∷ ps) h = by (not (is_nothing p)) (kept_all P ps h.1)
 
 some_all : (ps : List (List ℕ)) → AllByRecursion (λ p. is_nothing p ≡ false) (filter (λ p. not (is_nothing p)) ps)
 some_all [] = tt
-some_all (p ∷ ps) = by (is_nothing p) refl
+some_all (p ∷ ps) = by (is_nothing p) refl (some_all ps)
   where
-    by : (b : Bool) → is_nothing p ≡ b → AllByRecursion (λ q. is_nothing q ≡ false) (cond (not b) (p ∷ filter (λ q. not (is_nothing q)) ps) (filter (λ q. not (is_nothing q)) ps))
-    by true e = some_all ps
-    by false e = (e, some_all ps)
+    by : (b : Bool) → is_nothing p ≡ b → AllByRecursion (λ q. is_nothing q ≡ false) (filter (λ q. not (is_nothing q)) ps) → AllByRecursion (λ q. is_nothing q ≡ false) (cond (not b) (p ∷ filter (λ q. not (is_nothing q)) ps) (filter (λ q. not (is_nothing q)) ps))
+    by true e rest = rest
+    by false e rest = (e, rest)
 
 front_all : (P : List ℕ → Type 0) (ps : List (List ℕ)) → AllByRecursion P ps → AllByRecursion P (before_comment ps)
 front_all P [] h = tt
@@ -50,11 +50,11 @@ front_all P (p ∷ ps) h = by (is_comment p) (front_all P ps h.1)
 
 no_comment : (ps : List (List ℕ)) → AllByRecursion (λ p. is_comment p ≡ false) (before_comment ps)
 no_comment [] = tt
-no_comment (p ∷ ps) = by (is_comment p) refl
+no_comment (p ∷ ps) = by (is_comment p) refl (no_comment ps)
   where
-    by : (b : Bool) → is_comment p ≡ b → AllByRecursion (λ q. is_comment q ≡ false) (cond b [] (p ∷ before_comment ps))
-    by true e = tt
-    by false e = (e, no_comment ps)
+    by : (b : Bool) → is_comment p ≡ b → AllByRecursion (λ q. is_comment q ≡ false) (before_comment ps) → AllByRecursion (λ q. is_comment q ≡ false) (cond b [] (p ∷ before_comment ps))
+    by true e rest = tt
+    by false e rest = (e, rest)
 
 pub tokens_all : (P : ℕ → Bool) (line : List ℕ) → list_all (λ b. is_blank b || P b) line ≡ true → AllByRecursion (λ t. list_all P t ≡ true) (tokens line)
 tokens_all P line h =
@@ -112,12 +112,12 @@ module _ (old word new : List ℕ) (is : new ≡ old ++ word ++ 32 ∷ []) (whol
   word_put : (line : List ℕ) → tokens (new ++ line) ≡ tokens old ++ word ∷ tokens line
   word_put line =
       ap (λ (l : List ℕ). tokens (l ++ line)) is
-      ∙ (ap tokens (append_assoc old (word ++ 32 ∷ []) line ∙ ap (λ (l : List ℕ). old ++ l) (append_assoc word (32 ∷ []) line))
+      ∙ (ap tokens (append_assoc (old ++ word) (32 ∷ []) line ∙ append_assoc old word (32 ∷ line))
       ∙ (whole (word ++ 32 ∷ line) ∙ ap (λ (ts : Tokens). tokens old ++ ts) (word_on word line w)))
 
   pub tokens_put : tokens new ≡ tokens old ++ word ∷ []
   tokens_put =
-      ap tokens is ∙ (whole (word ++ 32 ∷ []) ∙ ap (λ (ts : Tokens). tokens old ++ ts) (word_on word [] w))
+      ap tokens (is ∙ append_assoc old word (32 ∷ [])) ∙ (whole (word ++ 32 ∷ []) ∙ ap (λ (ts : Tokens). tokens old ++ ts) (word_on word [] w))
 
   pub whole_put : IsWhole new
   whole_put line = word_put line ∙ (sym (append_assoc (tokens old) (word ∷ []) (tokens line)) ∙ ap (λ (ts : Tokens). ts ++ tokens line) (sym tokens_put))

@@ -52,13 +52,13 @@ pub record IsFaultAt (e : ReadFault) (line : ℕ) (w : Why) : Type 0 where
 
 -- a line was read onto a model, unless memory ran out
 abbrev pub ReadsFullLine : Result (Unit {0}) Why → List FullLine → Result (List FullLine) Why → Type 0
-ReadsFullLine (Ok u) items read = read ≡ Ok items
-ReadsFullLine (Err e) items read = (e ≡ why.NoMemory) ⊎ (read ≡ Err e)
+ReadsFullLine (Ok u) items given = given ≡ Ok items
+ReadsFullLine (Err e) items given = (e ≡ why.NoMemory) ⊎ (given ≡ Err e)
 
 -- lines were read onto a model, unless memory ran out
 abbrev pub ReadsText : Result (Unit {0}) ReadFault → List FullLine → Result (List FullLine) ReadFault → Type 0
-ReadsText (Ok u) items read = read ≡ Ok items
-ReadsText (Err e) items read = (e ≡ line_fault 0 why.NoMemory) ⊎ (read ≡ Err e)
+ReadsText (Ok u) items given = given ≡ Ok items
+ReadsText (Err e) items given = (e ≡ line_fault 0 why.NoMemory) ⊎ (given ≡ Err e)
 
 -- a text that stands for lines was read as them, unless memory ran out
 abbrev pub ReadsAsLines : Result (List FullLine) ReadFault → List FullLine → Type 0
