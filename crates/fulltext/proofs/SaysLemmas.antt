@@ -9,7 +9,7 @@ use Rattle.btor2text.specs.declared.fault.Why.TheVariants as why
 use Rattle.btor2text.specs.declared.forms.Form.{Form}
 use Rattle.btor2text.specs.declared.forms.Form.TheVariants as form
 use Rattle.btor2text.specs.Words.{form_name, form_of, form_named, known_form, no_form, unary_of, binary_of}
-use Rattle.btor2text.specs.Reading.{◌>>=◌, Tokens, triple_at, operand_at, body_at}
+use Rattle.btor2text.specs.Reading.{IsAsLineRead, GivesUnlessFull, ◌>>=◌, Tokens, triple_at, operand_at, body_at}
 use Rattle.btor2text.proofs.PlaceLemmas.{bind_ok, ok_is, is_word}
 use Rattle.btor2text.proofs.FormLemmas.{form_takes}
 use Rattle.btor2text.specs.Reading.{form_at as word_at}
@@ -19,7 +19,7 @@ use Rattle.widetext.proofs.StepLemmas.{other_body}
 use Rattle.full.specs.Lines.{operand, Says, form as form_says, read, write}
 use Rattle.fulltext.specs.declared.kinds.Kind.{Kind}
 use Rattle.fulltext.specs.declared.kinds.Kind.TheVariants as kind
-use Rattle.fulltext.specs.Steps.{read_by, write_by}
+use Rattle.fulltext.specs.Steps.{read_by, write_by, said_before}
 use Rattle.fulltext.specs.Reading.{kind_by, kind_at, first_sign, second_sign, form_at, read_at, write_at}
 
 -- ---- forms
@@ -46,10 +46,6 @@ choice_of a b c e = Ok (body.Ite a b c e.0, e.1)
 
 abbrev write_of : List Bool → ℕ → ℕ → ℕ → ℕ × Tokens → Result (Says × Tokens) Why
 write_of ms a b c e = Ok (write a b (operand c (first_sign ms)) (operand e.0 (second_sign ms)), e.1)
-
--- what is said, and the tokens behind it
-abbrev pub said_before : Tokens → Says → Result (Says × Tokens) Why
-said_before rest b = Ok (b, rest)
 
 read_steps : (r : Result (ℕ × ℕ × ℕ × Tokens) Why) (ms : List Bool) (x : Body × Tokens) → (r >>= concat_of) ≡ Ok x → (r >>= read_of ms) ≡ (read_by x.0 ms >>= said_before x.1)
 read_steps (Ok y) ms x e = ap (λ (z : Body × Tokens). read_by z.0 ms >>= said_before z.1) (ok_is (body.Concat y.0 y.1 y.2, y.3) x e)
@@ -105,6 +101,15 @@ pub write_fails : (ts : Tokens) (ms : List Bool) (e : Why) → (e ≡ why.NoMemo
 unfolding body_at write_at
 write_fails ts ms e (inl full) = inl full
 write_fails ts ms e (inr given) = inr (write_errs (triple_at ts) ms e given)
+
+-- what was made of what was read is what reading gives
+pub gives_read : {X : Type 0} (view : X → Says × Tokens) (r : Result X Why) (ts : Tokens) (ms : List Bool) (x : Body × Tokens) → body_at form.Concat ts ≡ Ok x → IsAsLineRead view r (read_by x.0 ms >>= said_before x.1) → GivesUnlessFull view r (read_at ts ms)
+gives_read view (Ok y) ts ms x e h = read_ok ts ms x e ∙ h
+gives_read view (Err w) ts ms x e h = inr (read_ok ts ms x e ∙ h)
+
+pub gives_write : {X : Type 0} (view : X → Says × Tokens) (r : Result X Why) (ts : Tokens) (ms : List Bool) (x : Body × Tokens) → body_at form.Ite ts ≡ Ok x → IsAsLineRead view r (write_by x.0 ms >>= said_before x.1) → GivesUnlessFull view r (write_at ts ms)
+gives_write view (Ok y) ts ms x e h = write_ok ts ms x e ∙ h
+gives_write view (Err w) ts ms x e h = inr (write_ok ts ms x e ∙ h)
 
 -- ---- words
 

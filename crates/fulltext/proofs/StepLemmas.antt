@@ -70,15 +70,23 @@ module _ (before : List FullLine) (id : ℕ) (k : Kind) (line : Tokens) (ms : Li
   plain_is x s said symbol = rw (said, symbol) refl
 
 -- a constant in digits
-constant_said : (c : Constant) (line : Tokens) → said_at (kind.Form (form.Constant c)) line ≡ (sort_at line >>= λ s. digits_at c s.0 s.1 >>= λ x. Ok (form_says x.0 [], x.1))
+abbrev constant_of : Body × Tokens → Result (Says × Tokens) Why
+constant_of x = Ok (form_says x.0 [], x.1)
+
+abbrev digits_of : Constant → ℕ × Tokens → Result (Says × Tokens) Why
+digits_of c s = digits_at c s.0 s.1 >>= constant_of
+
+abbrev named_by : List FullLine → ℕ → Says × Tokens → Result (List FullLine) Why
+named_by before id b = symbol_at b.1 >>= λ s. full_accepted before (numbered id s b.0)
+
+constant_said : (c : Constant) (line : Tokens) → said_at (kind.Form (form.Constant c)) line ≡ (sort_at line >>= digits_of c)
 unfolding said_at form_at wide_body_at
 constant_said c line =
     let none = none_counted 1 line in
-    ap₂ (λ (l : Tokens) (ms : List Bool). form_at (form.Constant c) l (kept_signs ms)) none.0 none.1 ∙ bind_assoc (sort_at line) (λ s. digits_at c s.0 s.1) (λ x. Ok (form_says x.0 [], x.1))
+    ap₂ (λ (l : Tokens) (ms : List Bool). form_at (form.Constant c) l (kept_signs ms)) none.0 none.1 ∙ bind_assoc (sort_at line) (λ s. digits_at c s.0 s.1) constant_of
 
-constant_steps : (before : List FullLine) (id : ℕ) (c : Constant) (line : Tokens)
-    → said_on before id (kind.Form (form.Constant c)) line ≡ ((sort_at line >>= λ s. digits_at c s.0 s.1 >>= λ x. Ok (form_says x.0 [], x.1)) >>= λ b. symbol_at b.1 >>= λ s. full_accepted before (numbered id s b.0))
-constant_steps before id c line = ap (λ (r : Result (Says × Tokens) Why). r >>= λ b. symbol_at b.1 >>= λ s. full_accepted before (numbered id s b.0)) (constant_said c line)
+constant_steps : (before : List FullLine) (id : ℕ) (c : Constant) (line : Tokens) → said_on before id (kind.Form (form.Constant c)) line ≡ ((sort_at line >>= digits_of c) >>= named_by before id)
+constant_steps before id c line = ap (λ (r : Result (Says × Tokens) Why). r >>= named_by before id) (constant_said c line)
 
 module _ (before : List FullLine) (id : ℕ) (c : Constant) (line : Tokens) where
   pub sort_fails : (e : Why) → sort_at line ≡ Err e → said_on before id (kind.Form (form.Constant c)) line ≡ Err e

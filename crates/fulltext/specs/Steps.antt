@@ -75,6 +75,16 @@ abbrev pub write_by : Body → List Bool → Result Says Why
 write_by (body.Ite s c t e) ms = Ok (write s c (operand t (first_sign ms)) (operand e (second_sign ms)))
 write_by _ ms = Err why.BadToken
 
+-- what is said, and the tokens behind it
+abbrev pub said_before : Tokens → Says → Result (Says × Tokens) Why
+said_before rest b = Ok (b, rest)
+
+abbrev pub read_before : Body → List Bool → Tokens → Result (Says × Tokens) Why
+read_before b ms rest = read_by b ms >>= said_before rest
+
+abbrev pub write_before : Body → List Bool → Tokens → Result (Says × Tokens) Why
+write_before b ms rest = write_by b ms >>= said_before rest
+
 -- ---- lines without minuses
 
 -- whatever is put behind bytes, their tokens stay

@@ -4,7 +4,7 @@ ghost use Rattle.btor2text.specs.Tokens.{tokens};
 ghost use Rattle.btor2text.specs.Reading.{IsAsLineRead, GivesUnlessFull};
 ghost use Rattle.fullmodel.specs.Lines.{says_of, HasNoDigits};
 ghost use Rattle.fulltext.specs.Reading.{first_sign, second_sign, form_at, array_at, sort_said_at, read_at, write_at, says_at};
-ghost use Rattle.fulltext.specs.Steps.{is_constant_kind, read_by, write_by};
+ghost use Rattle.fulltext.specs.Steps.{is_constant_kind, read_by, write_by, read_before, write_before};
 
 use crate::kinds::{Kind, is_word};
 use btor2::Body;
@@ -119,6 +119,22 @@ fn write_by(body: &Body, minuses: &[bool]) -> Result<Says, Why>
     }
 }
 
+/// A read of what a concatenation of the same places says, and the line behind it.
+fn read_before<'a>(
+    body: &Body,
+    minuses: &[bool],
+    rest: &'a [u8],
+) -> Result<(Says, &'a [u8]), Why>
+    ensures read { IsAsLineRead (λ x. (says_of x.0, tokens x.1.now)) result
+        (read_before body.now minuses.now (tokens rest.now)) }
+    ensures digits { IfOk result (λ x. HasNoDigits x.0) }
+{
+    match read_by(body, minuses) {
+        Ok(says) => Ok((says, rest)),
+        Err(why) => Err(why),
+    }
+}
+
 /// A read, and the line behind it. Its places are those of a concatenation.
 fn read_at<'a>(
     alloc: Global,
@@ -129,10 +145,23 @@ fn read_at<'a>(
     ensures digits { IfOk result (λ x. HasNoDigits x.0) }
 {
     match body_at(alloc, Form::Concat, line) {
-        Ok((body, rest)) => match read_by(&body, minuses) {
-            Ok(says) => Ok((says, rest)),
-            Err(why) => Err(why),
-        },
+        Ok((body, rest)) => read_before(&body, minuses, rest),
+        Err(why) => Err(why),
+    }
+}
+
+/// A write of what a choice of the same places says, and the line behind it.
+fn write_before<'a>(
+    body: &Body,
+    minuses: &[bool],
+    rest: &'a [u8],
+) -> Result<(Says, &'a [u8]), Why>
+    ensures read { IsAsLineRead (λ x. (says_of x.0, tokens x.1.now)) result
+        (write_before body.now minuses.now (tokens rest.now)) }
+    ensures digits { IfOk result (λ x. HasNoDigits x.0) }
+{
+    match write_by(body, minuses) {
+        Ok(says) => Ok((says, rest)),
         Err(why) => Err(why),
     }
 }
@@ -147,10 +176,7 @@ fn write_at<'a>(
     ensures digits { IfOk result (λ x. HasNoDigits x.0) }
 {
     match body_at(alloc, Form::Ite, line) {
-        Ok((body, rest)) => match write_by(&body, minuses) {
-            Ok(says) => Ok((says, rest)),
-            Err(why) => Err(why),
-        },
+        Ok((body, rest)) => write_before(&body, minuses, rest),
         Err(why) => Err(why),
     }
 }
