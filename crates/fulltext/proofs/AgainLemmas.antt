@@ -143,10 +143,10 @@ plain_again b ms tokens no_sort says fits =
       again = λ rest.
           let joined : behind ++ rest ≡ head.0 ++ (signed ms (map decimal ids) ++ (stand.tail ++ rest)) = append_assoc head.0 (signed ms (map decimal ids) ++ stand.tail) rest ∙ ap (λ (l : Tokens). head.0 ++ l) (append_assoc (signed ms (map decimal ids)) stand.tail rest) in
           let unjoined : head.0 ++ (map decimal ids ++ (stand.tail ++ rest)) ≡ a.behind ++ rest =
-                sym (append_assoc head.0 (map decimal ids ++ stand.tail) rest ∙ ap (λ (l : Tokens). head.0 ++ l) (append_assoc (map decimal ids) stand.tail rest)) ∙ ap (λ (l : Tokens). l ++ rest) (sym head.1) in
+          sym (append_assoc head.0 (map decimal ids ++ stand.tail) rest ∙ ap (λ (l : Tokens). head.0 ++ l) (append_assoc (map decimal ids) stand.tail rest)) ∙ ap (λ (l : Tokens). l ++ rest) (sym head.1) in
           let bare : unsigned_behind k n (behind ++ rest) ≡ a.behind ++ rest = ap (unsigned_behind k n) joined ∙ (bare_again n ms ids [] each few refl k head.0 (stand.tail ++ rest) head.2 ∙ unjoined) in
           let kept : kept_signs (signs_behind k n (behind ++ rest)) ≡ ms =
-                ap (λ (l : Tokens). kept_signs (signs_behind k n l)) joined ∙ (ap kept_signs (signs_again n ms ids [] each few refl k head.0 (stand.tail ++ rest) head.2) ∙ kept_again n ms says.3) in
+          ap (λ (l : Tokens). kept_signs (signs_behind k n l)) joined ∙ (ap kept_signs (signs_again n ms ids [] each few refl k head.0 (stand.tail ++ rest) head.2) ∙ kept_again n ms says.3) in
           let count : operand_count (kind.Form f) (behind ++ rest) ≡ n = count_unsigned f n (behind ++ rest) ∙ (ap (operand_count (kind.Form f)) bare ∙ count_said b a.behind rest own) in
           ap (λ (j : ℕ). says_at (kind.Form f) (unsigned_behind k j (behind ++ rest)) (kept_signs (signs_behind k j (behind ++ rest)))) count
           ∙ (ap₂ (λ (l : Tokens) (ns : List Bool). says_at (kind.Form f) l ns) bare kept ∙ (says_form b (a.behind ++ rest) ms no_sort ∙ body_again f (a.behind ++ rest) rest b ms (a.again rest)));

@@ -195,7 +195,7 @@ no_decimal h = cc
 
 digit_begins : (bs : List ℕ) (n : ℕ) → number_of bs ≡ Some n → list_any is_blank bs ≡ false → begins_token bs ≡ true
 unfolding number_of
-digit_begins [] n e h = elim (chosen (is_decimal []) (Some (capped_value [])) None (Some n) e) [ | inl x ↦ absurd (no_decimal x.0) | inr x ↦ absurd (cc (x.1)) ]
+digit_begins [] n e h = elim (chosen (is_decimal []) (Some (capped_value [])) None (Some n) e) [ inl x ↦ absurd (no_decimal x.0) | inr x ↦ absurd (cc (x.1)) ]
 digit_begins (b ∷ bs) n e h =
     elim (chosen (is_decimal (b ∷ bs)) (Some (capped_value (b ∷ bs))) None (Some n) e) [
       | inl x ↦ let range = digit_range b (and_parts (is_digit b) _ (decimal_are_digits (b ∷ bs) x.0)).0 in not_from_false (is_blank b || nat_eq b 59) (or_from (is_blank b) (nat_eq b 59) (or_parts (is_blank b) _ h).0 (ne_eqb b 59 (λ z. omega (arith, z, range.1, range.0))))

@@ -179,7 +179,7 @@ form_said f k n ts rest front b ke ne fe parts says =
     let stand = operands_stand b (form_name f ∷ front) says in
     let own : WideSaysBody b (form_name (body_form b) ∷ front) = subst (λ (g : Form). WideSaysBody b (form_name g ∷ front)) (sym fe) says in
     let count : n ≡ length (operands b) =
-          ne ∙ (count_unsigned f n ts ∙ (ap (λ (j : ℕ). operand_count (kind.Form f) (unsigned_behind j n ts)) (sym ke) ∙ (ap (operand_count (kind.Form f)) parts ∙ (ap (λ (g : Form). operand_count (kind.Form g) (front ++ rest)) (sym fe) ∙ count_said b front rest own)))) in
+    ne ∙ (count_unsigned f n ts ∙ (ap (λ (j : ℕ). operand_count (kind.Form f) (unsigned_behind j n ts)) (sym ke) ∙ (ap (operand_count (kind.Form f)) parts ∙ (ap (λ (g : Form). operand_count (kind.Form g) (front ++ rest)) (sym fe) ∙ count_said b front rest own)))) in
     let places : tokens_before b ≡ suc k = places_same b ∙ ap (λ (g : Form). suc (places_before (kind.Form g))) fe ∙ ap suc (sym ke) in
     let long : k + n ≤ length front = omega (arith, ap length stand.parts, length-append stand.head (map decimal (operands b) ++ stand.tail), length-append (map decimal (operands b)) stand.tail, length-map (operands b) decimal, stand.count, count, places) in
     let all : length ss ≡ n = behind_all k n ts (omega (arith, ap length parts, length-append front rest, long)) in

@@ -138,6 +138,22 @@ fn read_said(
     }
 }
 
+/// Reads what is behind the word of a form onto a model.
+fn read_form(
+    alloc: Global,
+    id: u64,
+    form: Form,
+    line: &[u8],
+    model: &mut FullModel,
+) -> Result<(), Why>
+    ensures { ReadsFullLine result model.new (said_on model.old id (kind.Form form) (tokens line.now)) }
+{
+    match form {
+        Form::Constant(constant) => read_constant(alloc, id, constant, line, model),
+        _ => read_said(alloc, id, Kind::Form(form), line, model),
+    }
+}
+
 /// Reads a line with a token onto a model.
 fn read_tokens(
     alloc: Global,
@@ -150,7 +166,7 @@ fn read_tokens(
     let (id, rest) = plain_at(line)?;
     let (kind, rest) = kind_at(words, rest)?;
     match kind {
-        Kind::Form(Form::Constant(constant)) => read_constant(alloc, id, constant, rest, model),
+        Kind::Form(form) => read_form(alloc, id, form, rest, model),
         _ => read_said(alloc, id, kind, rest, model),
     }
 }

@@ -120,11 +120,7 @@ fn write_by(body: &Body, minuses: &[bool]) -> Result<Says, Why>
 }
 
 /// A read of what a concatenation of the same places says, and the line behind it.
-fn read_before<'a>(
-    body: &Body,
-    minuses: &[bool],
-    rest: &'a [u8],
-) -> Result<(Says, &'a [u8]), Why>
+fn read_before<'a>(body: &Body, minuses: &[bool], rest: &'a [u8]) -> Result<(Says, &'a [u8]), Why>
     ensures read { IsAsLineRead (λ x. (says_of x.0, tokens x.1.now)) result
         (read_before body.now minuses.now (tokens rest.now)) }
     ensures digits { IfOk result (λ x. HasNoDigits x.0) }
@@ -136,11 +132,7 @@ fn read_before<'a>(
 }
 
 /// A read, and the line behind it. Its places are those of a concatenation.
-fn read_at<'a>(
-    alloc: Global,
-    line: &'a [u8],
-    minuses: &[bool],
-) -> Result<(Says, &'a [u8]), Why>
+fn read_at<'a>(alloc: Global, line: &'a [u8], minuses: &[bool]) -> Result<(Says, &'a [u8]), Why>
     ensures read { GivesUnlessFull (λ x. (says_of x.0, tokens x.1.now)) result (read_at (tokens line.now) minuses.now) }
     ensures digits { IfOk result (λ x. HasNoDigits x.0) }
 {
@@ -151,11 +143,7 @@ fn read_at<'a>(
 }
 
 /// A write of what a choice of the same places says, and the line behind it.
-fn write_before<'a>(
-    body: &Body,
-    minuses: &[bool],
-    rest: &'a [u8],
-) -> Result<(Says, &'a [u8]), Why>
+fn write_before<'a>(body: &Body, minuses: &[bool], rest: &'a [u8]) -> Result<(Says, &'a [u8]), Why>
     ensures read { IsAsLineRead (λ x. (says_of x.0, tokens x.1.now)) result
         (write_before body.now minuses.now (tokens rest.now)) }
     ensures digits { IfOk result (λ x. HasNoDigits x.0) }
@@ -167,11 +155,7 @@ fn write_before<'a>(
 }
 
 /// A write, and the line behind it. Its places are those of a choice.
-fn write_at<'a>(
-    alloc: Global,
-    line: &'a [u8],
-    minuses: &[bool],
-) -> Result<(Says, &'a [u8]), Why>
+fn write_at<'a>(alloc: Global, line: &'a [u8], minuses: &[bool]) -> Result<(Says, &'a [u8]), Why>
     ensures read { GivesUnlessFull (λ x. (says_of x.0, tokens x.1.now)) result (write_at (tokens line.now) minuses.now) }
     ensures digits { IfOk result (λ x. HasNoDigits x.0) }
 {

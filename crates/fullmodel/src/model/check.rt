@@ -18,9 +18,9 @@ use crate::fault::LineFault;
 use crate::line::{Line, Operand, Says};
 use crate::model::FullModel;
 use crate::sorts::{
-    Sort, binary_agrees, concat_agrees, extension_agrees, init_agrees, is_bit, is_no_slice_of, is_words,
-    ite_agrees, makes_arrays, next_agrees, read_agrees, slice_agrees, unary_agrees, width_in,
-    write_agrees,
+    Sort, binary_agrees, concat_agrees, extension_agrees, init_agrees, is_bit, is_no_slice_of,
+    is_words, ite_agrees, makes_arrays, next_agrees, read_agrees, slice_agrees, unary_agrees,
+    width_in, write_agrees,
 };
 use btor2::{Body, PushFault};
 use wide::{Spelling, constant_fits};

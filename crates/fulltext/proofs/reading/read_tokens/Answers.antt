@@ -17,11 +17,11 @@ returns-in_err-kind c =
     let id : plain_at (tokens c.args.line.now) ≡ Ok (c.in_ok-id.id, tokens c.in_ok-id.rest.now) = search rules in
     rw (is.1, is.2) (inr (kind_fails c.args.model.now (tokens c.args.line.now) _ _ id c.in_err-kind.ensures))
 
-pub returns-in-Form-Constant : goal.returns-in-Form-Constant
-returns-in-Form-Constant c =
+pub returns-in-Form : goal.returns-in-Form
+returns-in-Form c =
     let id : plain_at (tokens c.args.line.now) ≡ Ok (c.in_ok-id.id, tokens c.in_ok-id.rest.now) = search rules in
     let kind : kind_at (tokens c.in_ok-id.rest.now) ≡ Ok (c.in_ok-kind.kind, tokens c.in_ok-kind.rest.now) = search rules in
-    rw (line_is c.args.model.now (tokens c.args.line.now) _ _ id kind, c.in-Form-Constant.is, c.in-Form-Constant.field-0-is) c.read_constant.ensures
+    rw (line_is c.args.model.now (tokens c.args.line.now) _ _ id kind, c.in-Form.is) c.read_form.ensures
 
 pub returns-in_default : goal.returns-in_default
 returns-in_default c =
