@@ -5,3 +5,4 @@ pub mod RowLemmas
 pub mod AcceptedLemmas
 pub mod GrowLemmas
 pub mod AgreeLemmas
+pub mod PlainLemmas

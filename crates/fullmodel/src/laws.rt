@@ -5,7 +5,9 @@ ghost use Rattle.base.specs.declared.operators.Binary.TheVariants as binary;
 ghost use Rattle.base.specs.declared.operators.Unary.TheVariants as unary;
 ghost use Rattle.btor2.specs.declared.item.Body.TheVariants as body;
 ghost use Rattle.btor2.specs.declared.fault.PushFault.TheVariants as push;
-ghost use Rattle.wide.specs.WideModels.{greatest_width};
+ghost use Rattle.btor2.specs.declared.item.Item.{Item};
+ghost use Rattle.wide.specs.WideModels.{greatest_width, IsWideModel};
+ghost use Rattle.full.specs.Plain.{plain_lines};
 ghost use Rattle.full.specs.Lines.{operand, plain, form, array_sort, read, write, FullLine, Operand, operands_of, Sort, sort_size, sort_at, sort_of_node};
 ghost use Rattle.full.specs.Agreement.{IsFullModel};
 ghost use Rattle.full.specs.Worked.{lines_numbered, memory, filled};
@@ -23,6 +25,11 @@ pub fn accepted_lines()
         → sort_of_node lines id ≡ Some s → (1 ≤ sort_size s) × (sort_size s ≤ greatest_width) }
     ensures earlier { (before after : List FullLine) (x : FullLine) → IsAccepted (before ++ x ∷ after)
         → AllByRecursion (λ (o : Operand). is_some (sort_of_node before o.id) ≡ true) (operands_of x.says) }
+{}
+
+/// A law: the lines of a model of wide words are accepted.
+pub fn wide_models_are_accepted()
+    ensures { (items : List Item) → IsWideModel greatest_width items → IsAccepted (plain_lines items) }
 {}
 
 /// Worked rows: what is refused, and what is not.

@@ -10,3 +10,4 @@ pub mod LineLemmas
 pub mod StandsLemmas
 pub mod FaultLemmas
 pub mod StepLemmas
+pub mod WideLemmas
