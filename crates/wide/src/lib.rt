@@ -8,4 +8,4 @@ mod model;
 mod numbers;
 
 pub use constant::{Constant, Line, Spelling};
-pub use model::WideModel;
+pub use model::{WideModel, constant_fits};

@@ -11,6 +11,7 @@ mod push;
 use crate::constant::Line;
 use crate::entries::{Entry, is_constant, is_state, node_of, sort_of};
 use btor2::PushFault;
+pub use check::constant_fits;
 use indexmap::IndexMap;
 use std::alloc::Global;
 

@@ -6,4 +6,5 @@ mod digits;
 pub mod laws;
 mod reading;
 
+pub use constants::{cannot_fit, digits_at, number_of};
 pub use reading::read;

@@ -2,14 +2,14 @@
 //! Each id that a line names is looked up once.
 #![tactic(auto, unfolding(crate::specs::WideModels::wide_refusal, crate::specs::WideModels::width_is_above, crate::specs::WideModels::constant_is_above, btor2::specs::Check::id_is_out_of_range, btor2::specs::Check::id_is_taken, btor2::specs::Check::sort_is_missing, btor2::specs::Check::operand_is_missing, btor2::specs::Check::state_is_none, btor2::specs::Check::slice_is_out_of_range, btor2::specs::Check::widths_differ, btor2::specs::Check::init_is_not_constant, btor2::specs::Check::is_second_init, btor2::specs::Check::is_second_next, btor2::specs::Check::justice_is_empty))]
 
-ghost use Rattle.std.specs.Prelude.{◌≡◌, [], ◌∷◌, ◌+◌, ◌-◌, ◌*◌, ◌^◌, ◌==◌, ◌≤◌, nat_le, nat_lt, not, ◌&&◌, ◌||◌, Some, None, IfOk, MatchResult};
+ghost use Rattle.std.specs.Prelude.{◌≡◌, ℕ, [], ◌∷◌, ◌+◌, ◌-◌, ◌*◌, ◌^◌, ◌==◌, ◌≤◌, nat_le, nat_lt, not, ◌&&◌, ◌||◌, Some, None, IfOk, MatchResult};
 ghost use Rattle.wide.specs.Rows.{HasDigitsRow, IsConstantRefused};
 ghost use Rattle.btor2.specs.Items.{sort_width};
 ghost use Rattle.base.specs.Widths.{binary_width, is_of_bits};
 ghost use Rattle.btor2.specs.declared.item.Body.TheVariants as body;
 ghost use Rattle.btor2.specs.Check.{first_row, Refuses};
 ghost use Rattle.wide.specs.Entries.{digits_sort};
-ghost use Rattle.wide.specs.Lines.{constant_item, number_of_digits};
+ghost use Rattle.wide.specs.Lines.{constant_body, constant_item, number_of_digits};
 ghost use Rattle.wide.specs.WideModels.{greatest_width, constant_fits_within, wide_said_rows, wide_id_rows, wide_refusal};
 
 use crate::constant::{Constant, Spelling};
@@ -78,18 +78,21 @@ fn hex_digits_fit(width: u64, count: usize, number: &[u64]) -> bool
     is_below(number, 4 * count as u64)
 }
 
-/// Whether a constant in digits fits a sort of so many bits.
-fn constant_fits(width: u64, constant: &Constant) -> bool
+/// Whether a constant in digits fits a sort of so many bits: as many binary digits as the width, a decimal from -2^(width - 1)
+/// to 2^width - 1, 1 to 262,144 hexadecimal digits, and a value below 2^width.
+///
+/// Condition: the width is 1 to 1,048,576.
+pub fn constant_fits(width: u64, spelling: Spelling, count: usize, number: &[u64]) -> bool
     requires least { 1 ≤ width }
     requires most { width ≤ greatest_width }
-    ensures { result ≡ constant_fits_within greatest_width width (constant_item constant.now).body }
+    ensures { (sort : ℕ) → result ≡ constant_fits_within greatest_width width
+        (constant_body spelling sort count (number_of_digits number.now)) }
 {
-    let number = constant.number.as_slice();
-    match constant.spelling {
-        Spelling::Binary => constant.count as u64 == width && is_below(number, width),
+    match spelling {
+        Spelling::Binary => count as u64 == width && is_below(number, width),
         Spelling::Decimal => is_below(number, width),
         Spelling::Negative => is_at_most(number, width - 1),
-        Spelling::Hexadecimal => hex_digits_fit(width, constant.count, number),
+        Spelling::Hexadecimal => hex_digits_fit(width, count, number),
     }
 }
 
@@ -347,9 +350,12 @@ impl WideModel {
         ensures { Refuses result (wide_refusal greatest_width self.now (constant_item constant.now)) }
     {
         let width = self.constant_width(constant.id, constant.sort)?;
-        refuse_if(
-            !constant_fits(width, constant),
-            PushFault::ConstantDoesNotFit,
-        )
+        let fits = constant_fits(
+            width,
+            constant.spelling,
+            constant.count,
+            constant.number.as_slice(),
+        );
+        refuse_if(!fits, PushFault::ConstantDoesNotFit)
     }
 }

@@ -14,4 +14,4 @@ pub returns : goal.returns
 returns c =
     let k = c.args.constant.now in
     let row = c.in_ok-width.ensures.answer.1 (constant_item k) refl (constant_sort k.spelling k.sort k.count (number_of_digits k.number.items)) in
-    rw row (row_refuses c.refuse_if.result _ _ c.constant_fits.ensures c.refuse_if.ensures)
+    rw row (row_refuses c.refuse_if.result _ _ (rw c.as_slice.ensures.value at (c.constant_fits-fits.ensures k.sort)) c.refuse_if.ensures)

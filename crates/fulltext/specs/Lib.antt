@@ -1,0 +1,6 @@
+-- Texts of models of the whole safety language.
+pub mod Signs
+pub mod Reading
+pub mod Spelling
+pub mod FirstFault
+pub mod Steps
