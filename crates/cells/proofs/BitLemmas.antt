@@ -1,5 +1,5 @@
 -- The bits of an index, and halves of arrays.
-use Rattle.std.proofs.Common.{◌≡◌, ℕ, zero, suc, ◌+◌, ◌-◌, ◌*◌, ◌/◌, ◌%◌, ◌^◌, ◌<◌, ◌≤◌, List, [], ◌∷◌, ◌++◌, length, slice_get, Option, Some, None, IfSome, Result, Ok, Err, IfOk, unwrap_or, ◌⊎◌, inl, inr, refl, sym, ap, ap₂, subst, ◌∙◌, pow_pos, arith}
+use Rattle.std.proofs.Common.{◌≡◌, ℕ, zero, suc, ◌+◌, ◌-◌, ◌*◌, ◌^◌, ◌<◌, ◌≤◌, List, [], ◌∷◌, ◌++◌, length, slice_get, Option, Some, None, IfSome, Result, IfOk, ◌⊎◌, inl, inr, sym, ap, ap₂, subst, ◌∙◌, pow_pos, arith}
 use Rattle.std.specs.List.{AllByRecursion}
 use Rattle.std.proofs.Math.Pow.{pow_mono}
 use Rattle.std.proofs.Math.Nat.{mul-le-mul_left}
@@ -8,13 +8,11 @@ use Rattle.std.proofs.lemmas.Nat.{pow-add}
 use Rattle.base.specs.declared.operators.Unary.TheVariants as unary
 use Rattle.base.specs.Operator.{unary_value, ite_value, slice_value}
 use Rattle.btor2.specs.declared.item.Item.{Item}
-use Rattle.btor2.specs.Items.{node_width}
-use Rattle.btor2.specs.Trace.{Frame, bits_of}
-use Rattle.full.specs.Gives.{InAllFrames, GivesWord}
+use Rattle.full.specs.Gives.{GivesWord}
 use Rattle.full.proofs.GivesLemmas.{gives_same}
 use Rattle.cells.specs.declared.maker.bits.Bit.{Bit}
 use Rattle.cells.specs.declared.shortage.Shortage.{Shortage}
-use Rattle.cells.specs.Lines.{MayName, MayNameAll, Extends}
+use Rattle.cells.specs.Lines.{Extends}
 use Rattle.cells.specs.Bits.{GivesBit, GiveBits, ids_of_bits}
 use Rattle.cells.proofs.LineLemmas.{gives_stay}
 use Rattle.cells.proofs.NodeLemmas.{ok_with}

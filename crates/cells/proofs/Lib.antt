@@ -8,3 +8,4 @@ pub mod BitLemmas
 pub mod ArrayLemmas
 pub mod ReadLemmas
 pub mod WriteLemmas
+pub mod WorkedLemmas

@@ -1,5 +1,5 @@
 -- How a list goes on.
-use Rattle.std.proofs.Common.{◌≡◌, ℕ, ◌+◌, ◌<◌, ◌≤◌, true, false, nat_eq, List, [], ◌∷◌, ◌++◌, length, length-append, Option, Some, None, Result, Ok, Err, IfOk, ◌⊎◌, inl, inr, ⊎_elim, append_assoc, append-nil, refl, sym, ap, subst, ◌∙◌, arith}
+use Rattle.std.proofs.Common.{◌≡◌, ℕ, ◌≤◌, true, false, nat_eq, List, [], ◌∷◌, ◌++◌, length, length-append, Option, Some, None, Result, Ok, Err, IfOk, inl, inr, ⊎_elim, append_assoc, append-nil, refl, sym, ap, subst, ◌∙◌, arith}
 use Rattle.std.specs.List.{AllByRecursion}
 use Rattle.std.proofs.lemmas.Bool.{ne_eqb}
 use Rattle.btor2.specs.declared.item.Item.{Item}
@@ -15,7 +15,7 @@ use Rattle.full.proofs.ListLemmas.{all_with, all_join}
 use Rattle.full.proofs.GivesLemmas.{gives_kept}
 use Rattle.cells.specs.declared.shortage.Shortage.{Shortage}
 use Rattle.cells.proofs.PlaceLemmas.{sort_last}
-use Rattle.cells.specs.Lines.{named, is_plain, IsAmong, MayName, MayNameAll, NameOnly, Extends, IsNew}
+use Rattle.cells.specs.Lines.{named, is_plain, IsAmong, MayName, MayNameAll, Extends, IsNew}
 
 -- ---- which ids may be named
 

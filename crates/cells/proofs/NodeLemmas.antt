@@ -1,7 +1,6 @@
 -- What the lines of operators give.
-use Rattle.std.proofs.Common.{◌≡◌, ℕ, ◌+◌, ◌-◌, ◌<◌, ◌≤◌, true, false, List, [], ◌∷◌, ◌++◌, Option, Some, None, Result, Ok, Err, IfOk, is_some, unwrap_or, refl, sym, ap, ap₂, subst, ◌∙◌, arith}
+use Rattle.std.proofs.Common.{◌≡◌, ℕ, ◌+◌, ◌<◌, true, false, List, [], ◌∷◌, ◌++◌, Option, Some, None, Result, Ok, Err, IfOk, is_some, unwrap_or, refl, sym, ap, subst, ◌∙◌, arith}
 use Rattle.std.specs.List.{AllByRecursion}
-use Rattle.std.proofs.lemmas.Option.{none-some}
 use Rattle.base.specs.declared.operators.Unary.TheVariants as unary
 use Rattle.base.specs.declared.operators.Binary.TheVariants as binary
 use Rattle.base.specs.Operator.{ones, unary_value, binary_value, ite_value, slice_value, concat_value}
@@ -9,9 +8,9 @@ use Rattle.btor2.specs.declared.item.Item.{Item}
 use Rattle.btor2.specs.declared.item.Body.{Body}
 use Rattle.btor2.specs.declared.item.Body.TheVariants as body
 use Rattle.btor2.specs.Items.{find_item, node_sort, operands, is_input, is_state, node_width, sort_width, width_of_body}
-use Rattle.btor2.specs.Trace.{Frame, bits_of}
+use Rattle.btor2.specs.Trace.{bits_of}
 use Rattle.btor2.proofs.AppendLemmas.{node_width-append, some_of, is_some_from}
-use Rattle.full.specs.Gives.{InAllFrames, GivesWord, form_word}
+use Rattle.full.specs.Gives.{GivesWord, form_word}
 use Rattle.full.proofs.GivesLemmas.{gives_same, line_gives}
 use Rattle.full.proofs.ListLemmas.{all_with}
 use Rattle.cells.specs.declared.shortage.Shortage.{Shortage}

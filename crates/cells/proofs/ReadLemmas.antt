@@ -1,22 +1,18 @@
 -- What the lines of arrays give in frames.
-use Rattle.std.proofs.Common.{◌≡◌, ℕ, ◌+◌, ◌-◌, ◌*◌, ◌/◌, ◌%◌, ◌^◌, ◌<◌, ◌≤◌, bit_and, List, [], ◌∷◌, Option, Some, Result, Ok, Err, IfOk, refl, sym, ap, ap₂, subst, ◌∙◌, arith}
+use Rattle.std.proofs.Common.{◌≡◌, ℕ, ◌+◌, ◌-◌, ◌*◌, ◌%◌, ◌^◌, ◌<◌, ◌≤◌, List, Some, Result, IfOk, sym, ap, ap₂, subst, ◌∙◌, arith}
 use Rattle.std.proofs.Math.Nat.{mod-eq_of_lt}
-use Rattle.base.specs.declared.operators.Binary.TheVariants as binary
-use Rattle.base.specs.Operator.{binary_value, ite_value, slice_value, concat_value}
+use Rattle.base.specs.Operator.{ite_value, slice_value, concat_value}
 use Rattle.btor2.specs.declared.item.Item.{Item}
 use Rattle.btor2.specs.Items.{node_width}
-use Rattle.btor2.specs.Trace.{Frame}
-use Rattle.full.specs.Cells.{read_value, write_value, repeat_value}
+use Rattle.full.specs.Cells.{read_value, repeat_value}
 use Rattle.full.specs.Gives.{InAllFrames, GivesWord}
 use Rattle.full.proofs.GivesLemmas.{gives_itself, gives_same, gives_below}
-use Rattle.cells.specs.declared.maker.bits.Bit.{Bit}
 use Rattle.cells.specs.declared.shortage.Shortage.{Shortage}
 use Rattle.cells.specs.Lines.{Extends}
-use Rattle.cells.specs.Bits.{GivesBit}
 use Rattle.cells.proofs.LineLemmas.{node_stays, frames_stay, gives_stay}
 use Rattle.cells.proofs.NodeLemmas.{ok_with}
 use Rattle.cells.proofs.BitLemmas.{two_halves}
-use Rattle.cells.proofs.ArrayLemmas.{read_half, read_one, write_half, write_top, write_one, repeat_half, repeat_once}
+use Rattle.cells.proofs.ArrayLemmas.{read_half, read_one, repeat_half, repeat_once}
 
 -- a node's word fits
 fits : (items : List Item) (a n : ℕ) → node_width items a ≡ Some n → InAllFrames items (λ g. g a < 2 ^ n)

@@ -1,5 +1,5 @@
 -- Lines that no row refuses for what they say.
-use Rattle.std.proofs.Common.{◌≡◌, ℕ, ◌+◌, ◌-◌, ◌<◌, ◌≤◌, Bool, true, false, not, ◌&&◌, nat_le, le-leb, lt-ltb, eq-eqb, List, [], ◌∷◌, Option, Some, None, is_some, option_and_then, unwrap_or, refl, sym, ap, subst, ◌∙◌}
+use Rattle.std.proofs.Common.{◌≡◌, ℕ, ◌+◌, ◌-◌, ◌<◌, ◌≤◌, true, false, not, le-leb, lt-ltb, eq-eqb, List, Some, None, is_some, unwrap_or, refl, ap}
 use Rattle.std.specs.List.{list_all}
 use Rattle.std.proofs.lemmas.Option.{none-some}
 use Rattle.base.specs.declared.operators.Unary.TheVariants as unary

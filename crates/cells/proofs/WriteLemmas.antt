@@ -1,7 +1,5 @@
 -- What is written into an array, half by half.
-use Rattle.std.proofs.Common.{◌≡◌, ℕ, ◌+◌, ◌-◌, ◌*◌, ◌/◌, ◌%◌, ◌^◌, ◌<◌, ◌≤◌, bit_and, List, [], ◌∷◌, ◌++◌, length, Option, Some, Result, Ok, Err, IfOk, ◌⊎◌, inl, inr, ⊎_elim, append_assoc, refl, sym, ap, ap₂, subst, ◌∙◌, arith}
-use Rattle.std.specs.List.{AllByRecursion}
-use Rattle.std.proofs.Math.Nat.{mod-eq_of_lt}
+use Rattle.std.proofs.Common.{◌≡◌, ℕ, ◌+◌, ◌-◌, ◌*◌, ◌%◌, ◌^◌, ◌<◌, ◌≤◌, bit_and, List, [], ◌∷◌, ◌++◌, length, Some, Result, IfOk, inl, inr, ⊎_elim, append_assoc, refl, sym, ap, ap₂, subst, ◌∙◌, arith}
 use Rattle.base.specs.declared.operators.Binary.TheVariants as binary
 use Rattle.base.specs.Operator.{binary_value, ite_value, slice_value, concat_value}
 use Rattle.btor2.specs.declared.item.Item.{Item}
@@ -14,9 +12,9 @@ use Rattle.full.proofs.GivesLemmas.{gives_kept, gives_itself, gives_same, gives_
 use Rattle.full.proofs.ListLemmas.{all_with}
 use Rattle.cells.specs.declared.maker.bits.Bit.{Bit}
 use Rattle.cells.specs.declared.shortage.Shortage.{Shortage}
-use Rattle.cells.specs.Lines.{MayName, MayNameAll, Extends, IsNew}
+use Rattle.cells.specs.Lines.{MayName, MayNameAll, Extends}
 use Rattle.cells.specs.Bits.{GivesBit, ids_of_bits}
-use Rattle.cells.proofs.LineLemmas.{handed_over, extends_same, extends_twice, longer, new_may}
+use Rattle.cells.proofs.LineLemmas.{handed_over, extends_same, extends_twice}
 use Rattle.cells.proofs.NodeLemmas.{ok_with}
 use Rattle.cells.proofs.BitLemmas.{two_halves, ids_lower, ids_top}
 use Rattle.cells.proofs.ArrayLemmas.{write_half, write_top, write_one}

@@ -1,5 +1,5 @@
 -- The bits of an index, each as a node and as the node of its negation.
-use Rattle.std.specs.Prelude.{ℕ, ◌-◌, List, [], ◌∷◌, ◌++◌, slice_get, IfSome}
+use Rattle.std.specs.Prelude.{ℕ, ◌-◌, List, [], ◌∷◌, slice_get, IfSome}
 use Rattle.base.specs.Operator.{slice_value}
 use Rattle.btor2.specs.declared.item.Item.{Item}
 use Rattle.full.specs.Gives.{GivesWord}

@@ -34,6 +34,7 @@ IsAmong a (x ∷ xs) = (a ≡ x) ⊎ IsAmong a xs
 abbrev pub MayName : ℕ → List ℕ → ℕ → Type 0
 MayName many handed a = (many < a) ⊎ IsAmong a handed
 
+-- each of some ids is, and each operand of some lines
 abbrev pub MayNameAll : ℕ → List ℕ → List ℕ → Type 0
 MayNameAll many handed ids = AllByRecursion (MayName many handed) ids
 

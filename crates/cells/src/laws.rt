@@ -1,6 +1,7 @@
 //! Laws of lists that grow, as functions with no code.
 ghost use Rattle.std.specs.Prelude.{◌≡◌, ℕ, ◌+◌, ◌-◌, ◌<◌, ◌≤◌, List, [], ◌∷◌, ◌++◌, Option, None, Some, length, slice_get, is_some, unwrap_or, true, false, ◌==◌};
 ghost use Rattle.std.specs.List.{AllByRecursion, list_all};
+ghost use Rattle.base.specs.declared.operators.Unary.TheVariants as unary;
 ghost use Rattle.btor2.specs.declared.item.Item.{Item};
 ghost use Rattle.btor2.specs.declared.item.Body.{Body};
 ghost use Rattle.btor2.specs.declared.item.Body.TheVariants as body;
@@ -9,7 +10,9 @@ ghost use Rattle.btor2.specs.Trace.{Frame, bits_of};
 ghost use Rattle.btor2.specs.Check.{widths_agree, slice_is_out_of_range};
 ghost use Rattle.wide.specs.WideModels.{greatest_width, constant_fits_within};
 ghost use Rattle.full.specs.Gives.{InAllFrames, GivesWord};
+ghost use Rattle.btor2.specs.Worked.{line};
 ghost use Rattle.cells.specs.Kept.{IsSound};
+ghost use Rattle.cells.specs.Worked.{one_input};
 ghost use Rattle.cells.specs.Lines.{named, is_plain, IsNumbered, IsAmong, MayNameAll, Extends};
 
 /// Laws of lists that go on: such steps follow each other, a list goes on by nothing and by a plain line, no new line names an
@@ -75,4 +78,16 @@ pub fn lines_are_sound()
         → IsSound items (body.Constraint a) }
     ensures output { (items : List Item) (a n : ℕ) → node_width items a ≡ Some n
         → IsSound items (body.Output a) }
+{}
+
+/// Worked rows: how a list of a sort and an input goes on by a negation of the input, which names what was handed over; by no leaf;
+/// which lists are numbered, and which lines are sound.
+pub fn worked_lists()
+    ensures negated { Extends one_input (one_input ++ line 3 (body.Unary unary.Not 1 2) ∷ []) (2 ∷ []) }
+    ensures not_handed { ¬ Extends one_input (one_input ++ line 3 (body.Unary unary.Not 1 2) ∷ []) [] }
+    ensures leaf { ¬ Extends one_input (one_input ++ line 3 (body.Input 1) ∷ []) [] }
+    ensures numbered { IsNumbered one_input }
+    ensures not_numbered { ¬ IsNumbered (line 2 (body.Sort 1) ∷ []) }
+    ensures sound { IsSound [] (body.Sort 1) }
+    ensures not_sound { ¬ IsSound [] (body.Input 1) }
 {}

@@ -1,10 +1,10 @@
-use Rattle.std.proofs.Common.{◌≡◌, ℕ, ◌+◌, ◌-◌, ◌*◌, ◌%◌, ◌^◌, ◌<◌, ◌≤◌, [], ◌∷◌, length, Some, IfOk, inl, inr, refl, sym, subst, arith}
+use Rattle.std.proofs.Common.{◌≡◌, ℕ, ◌+◌, ◌-◌, ◌*◌, ◌^◌, ◌<◌, [], ◌∷◌, IfOk, subst, arith}
 use Rattle.wide.specs.WideModels.{greatest_width}
 use Rattle.full.specs.Cells.{repeat_value}
 use Rattle.full.specs.Gives.{GivesWord}
 use Rattle.cells.proofs.LineLemmas.{extends_twice}
 use Rattle.cells.proofs.BitLemmas.{half_most, both_most}
-use Rattle.cells.proofs.ReadLemmas.{one_repeated, twice_repeated}
+use Rattle.cells.proofs.ReadLemmas.{twice_repeated}
 use Rattle.cells.proofs.maker.ListMaker.+doubled.Goals as goal
 
 pub array_width-width-requires-clause-most : goal.array_width-width-requires-clause-most

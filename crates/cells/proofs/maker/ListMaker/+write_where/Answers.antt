@@ -1,4 +1,4 @@
-use Rattle.std.proofs.Common.{◌≡◌, ℕ, ◌+◌, ◌-◌, ◌*◌, ◌%◌, ◌^◌, ◌<◌, ◌≤◌, List, [], ◌∷◌, length, Some, IfOk, inl, inr, refl, sym, ap, subst, ◌∙◌, arith}
+use Rattle.std.proofs.Common.{◌≡◌, ℕ, ◌+◌, ◌*◌, ◌%◌, ◌^◌, ◌<◌, [], ◌∷◌, length, Some, IfOk, inl, inr, refl, sym, ap, subst, ◌∙◌, arith}
 use Rattle.base.specs.Operator.{ite_value}
 use Rattle.btor2.specs.Items.{node_width}
 use Rattle.wide.specs.WideModels.{greatest_width}

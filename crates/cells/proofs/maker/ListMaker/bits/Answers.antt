@@ -1,4 +1,4 @@
-use Rattle.std.proofs.Common.{◌≡◌, ◌+◌, ◌≤◌, [], ◌∷◌, length, length-append, ap, ◌∙◌, arith}
+use Rattle.std.proofs.Common.{[], ◌∷◌, length, length-append, ap, ◌∙◌, arith}
 use Rattle.cells.specs.Lines.{MayName}
 use Rattle.cells.proofs.LineLemmas.{node_stays, longer, may_name_all, extends_again}
 use Rattle.cells.proofs.BitLemmas.{bits_more, ids_more}

@@ -1,4 +1,4 @@
-use Rattle.std.proofs.Common.{◌≡◌, ◌≤◌, [], ◌∷◌, length}
+use Rattle.std.proofs.Common.{◌≡◌, [], ◌∷◌, length}
 use Rattle.cells.specs.Lines.{Extends, MayNameAll}
 use Rattle.cells.specs.Bits.{GiveBits, ids_of_bits}
 use Rattle.cells.proofs.maker.ListMaker.bits.Given as goal

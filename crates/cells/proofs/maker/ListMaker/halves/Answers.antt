@@ -1,4 +1,4 @@
-use Rattle.std.proofs.Common.{◌≡◌, ℕ, ◌+◌, ◌-◌, ◌<◌, [], ◌∷◌, Option, unwrap_or, ap, arith}
+use Rattle.std.proofs.Common.{◌≡◌, ℕ, ◌+◌, ◌-◌, [], ◌∷◌, Option, unwrap_or, ap, arith}
 use Rattle.btor2.specs.Trace.{bits_of}
 use Rattle.cells.proofs.LineLemmas.{extends_again}
 use Rattle.cells.proofs.NodeLemmas.{slice_within}

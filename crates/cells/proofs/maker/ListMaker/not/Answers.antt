@@ -1,4 +1,4 @@
-use Rattle.std.proofs.Common.{refl, ◌+◌, ◌-◌, [], ◌∷◌}
+use Rattle.std.proofs.Common.{[], ◌∷◌}
 use Rattle.cells.proofs.LineLemmas.{node_stays, extends_after}
 use Rattle.cells.proofs.SoundLemmas.{sound_not}
 use Rattle.cells.proofs.NodeLemmas.{gives_not}

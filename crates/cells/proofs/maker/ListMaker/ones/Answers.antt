@@ -1,5 +1,5 @@
-use Rattle.std.proofs.Common.{refl, ◌+◌, ◌-◌, [], ◌∷◌}
-use Rattle.cells.proofs.LineLemmas.{node_stays, extends_after}
+use Rattle.std.proofs.Common.{[]}
+use Rattle.cells.proofs.LineLemmas.{extends_after}
 use Rattle.cells.proofs.SoundLemmas.{sound_constant}
 use Rattle.cells.proofs.NodeLemmas.{gives_ones}
 use Rattle.cells.proofs.maker.ListMaker.ones.Goals as goal

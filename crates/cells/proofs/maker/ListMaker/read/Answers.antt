@@ -1,5 +1,4 @@
-use Rattle.std.proofs.Common.{◌≡◌, ℕ, ◌+◌, ◌-◌, ◌*◌, ◌%◌, ◌^◌, ◌<◌, ◌≤◌, [], ◌∷◌, length, Some, IfOk, inl, inr, refl, sym, subst, arith}
-use Rattle.btor2.specs.Items.{node_width}
+use Rattle.std.proofs.Common.{◌≡◌, ℕ, ◌+◌, ◌-◌, ◌%◌, ◌^◌, [], ◌∷◌, IfOk, inl, inr, refl, subst, arith}
 use Rattle.full.specs.Cells.{read_value}
 use Rattle.full.specs.Gives.{GivesWord}
 use Rattle.cells.proofs.LineLemmas.{node_stays, longer, new_from, extends_twice}

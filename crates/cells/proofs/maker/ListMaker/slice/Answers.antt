@@ -1,7 +1,5 @@
-use Rattle.std.proofs.Common.{◌≡◌, ◌+◌, ◌-◌, ◌<◌, ◌≤◌, [], ◌∷◌, true, is_some, refl, subst, sym, arith}
-use Rattle.btor2.specs.Trace.{bits_of}
-use Rattle.btor2.specs.Items.{node_width}
-use Rattle.cells.proofs.LineLemmas.{node_stays, extends_after}
+use Rattle.std.proofs.Common.{◌+◌, ◌-◌, [], ◌∷◌, refl}
+use Rattle.cells.proofs.LineLemmas.{extends_after}
 use Rattle.cells.proofs.SoundLemmas.{sound_slice}
 use Rattle.cells.proofs.NodeLemmas.{gives_slice, slice_there, slice_within}
 use Rattle.cells.proofs.maker.ListMaker.slice.Goals as goal

@@ -1,5 +1,5 @@
-use Rattle.std.proofs.Common.{refl, ◌+◌, ◌-◌, [], ◌∷◌}
-use Rattle.cells.proofs.LineLemmas.{node_stays, extends_after}
+use Rattle.std.proofs.Common.{[]}
+use Rattle.cells.proofs.LineLemmas.{extends_after}
 use Rattle.cells.proofs.SoundLemmas.{sound_constant}
 use Rattle.cells.proofs.NodeLemmas.{gives_zero}
 use Rattle.cells.proofs.maker.ListMaker.zero.Goals as goal
