@@ -67,10 +67,12 @@ ReadsAsLines (Err e) items = e ≡ line_fault 0 why.NoMemory
 
 -- ---- read and write, by the places of a concatenation and of a choice
 
+-- the read that stands in the places of a concatenation, with the minuses before them
 abbrev pub read_by : Body → List Bool → Result Says Why
 read_by (body.Concat s a b) ms = Ok (read s a (operand b (first_sign ms)))
 read_by _ ms = Err why.BadToken
 
+-- the write that stands in the places of a choice
 abbrev pub write_by : Body → List Bool → Result Says Why
 write_by (body.Ite s c t e) ms = Ok (write s c (operand t (first_sign ms)) (operand e (second_sign ms)))
 write_by _ ms = Err why.BadToken
@@ -79,9 +81,11 @@ write_by _ ms = Err why.BadToken
 abbrev pub said_before : Tokens → Says → Result (Says × Tokens) Why
 said_before rest b = Ok (b, rest)
 
+-- a read, and the tokens behind it
 abbrev pub read_before : Body → List Bool → Tokens → Result (Says × Tokens) Why
 read_before b ms rest = read_by b ms >>= said_before rest
 
+-- a write, and the tokens behind it
 abbrev pub write_before : Body → List Bool → Tokens → Result (Says × Tokens) Why
 write_before b ms rest = write_by b ms >>= said_before rest
 
