@@ -17,7 +17,7 @@ use Rattle.cells.specs.Lines.{named, is_plain, ArePlain}
 use Rattle.writeout.specs.declared.way.Way.TheVariants as way
 use Rattle.writeout.specs.Ways.{way_of}
 use Rattle.writeout.specs.Leaves.{input_nodes}
-use Rattle.writeout.specs.Putting.{Adds, IsStateLeaf, PutsLeaf, LeafMade, IsMade, is_early, LeavesMade}
+use Rattle.writeout.specs.Putting.{Adds, IsStateLeaf, PutsLeaf, LeafMade, IsStateOf, is_early, LeavesMade}
 use Rattle.writeout.proofs.LeafLemmas.{kind_none, kind_join, plain_no_leaves, IsNoLeaf}
 use Rattle.writeout.proofs.FirstLemmas.{line_stands, line_width, width_still, stands_still}
 use Rattle.writeout.proofs.NodeLemmas.{id_given}
@@ -92,7 +92,7 @@ leaf_made_on full items new more source source' id node leaf (form (body.State s
 }
 leaf_made_on full items new more source source' id node leaf _ e same h = h
 
-made_on : (front : List FullLine) (x : FullLine) (leaves : List ℕ) (leaf a : ℕ) (b : Body) → length leaves ≡ length front → IsMade front leaves a b → IsMade (front ++ x ∷ []) (leaves ++ leaf ∷ []) a b
+made_on : (front : List FullLine) (x : FullLine) (leaves : List ℕ) (leaf a : ℕ) (b : Body) → length leaves ≡ length front → IsStateOf front leaves a b → IsStateOf (front ++ x ∷ []) (leaves ++ leaf ∷ []) a b
 made_on front x leaves leaf a (body.State s) e h =
     let within : h.0 < length leaves = subst (λ (n : ℕ). h.0 < n) (sym e) (slice_get_within front h.0 h.1 h.2) in
     (h.0, h.1, get_push front x h.1 h.0 h.2, h.3, at_push leaves leaf h.0 within ∙ h.4)
@@ -103,7 +103,7 @@ made_on front x leaves leaf a _ e h = tt
 made_more : (full front : List FullLine) (x : FullLine) (items new more : List Item) (nodes leaves : List ℕ) (any : Bool) (node leaf : ℕ) (by_first : Bool) (source' : ℕ → ℕ) → (h : LeavesMade full front items nodes leaves any)
     → new ≡ items ++ more → ((a : ℕ) (y : Item) → find_item items a ≡ Some y → source' a ≡ h.source a) → LeafMade full new source' x.id node leaf x.says
     → (is_form is_state x.says ≡ true → way_of full x.id ≡ way.First → by_first ≡ true) → cond (is_form is_input x.says) (node ∷ []) [] ≡ map (λ (y : Item). y.id) (of_kind is_input more)
-    → AllByRecursion (λ (y : Item). IsMade (front ++ x ∷ []) (leaves ++ leaf ∷ []) y.id y.body) more → AllByRecursion (λ (y : Item). is_early y.body ≡ true) more
+    → AllByRecursion (λ (y : Item). IsStateOf (front ++ x ∷ []) (leaves ++ leaf ∷ []) y.id y.body) more → AllByRecursion (λ (y : Item). is_early y.body ≡ true) more
     → LeavesMade full (front ++ x ∷ []) new (nodes ++ node ∷ []) (leaves ++ leaf ∷ []) (any || by_first)
 made_more full front x items new more nodes leaves any node leaf by_first source' h e same own firsts order others early = record {
   nodes_length = lengths_push nodes node front x h.nodes_length;
@@ -112,9 +112,9 @@ made_more full front x items new more nodes leaves any node leaf by_first source
   each = λ k y at. each k y (push_cases front x y k at);
   any_first = λ k y at state is. any_first k y state is (push_cases front x y k at);
   in_order = input_push front x nodes node h.nodes_length ∙ ap₂ ◌++◌ h.in_order order ∙ sym (map-append (λ (y : Item). y.id) (of_kind is_input items) (of_kind is_input more)) ∙ ap (map (λ (y : Item). y.id)) (sym (ap (of_kind is_input) e ∙ kind_join is_input items more));
-  no_others = subst (λ (l : List Item). AllByRecursion (λ (y : Item). IsMade (front ++ x ∷ []) (leaves ++ leaf ∷ []) y.id y.body) l) (sym e)
-      (all_join (λ (y : Item). IsMade (front ++ x ∷ []) (leaves ++ leaf ∷ []) y.id y.body) items more
-      (all_with (λ (y : Item). IsMade front leaves y.id y.body) (λ (y : Item). IsMade (front ++ x ∷ []) (leaves ++ leaf ∷ []) y.id y.body) items (λ y. made_on front x leaves leaf y.id y.body h.leaves_length) h.no_others) others);
+  no_others = subst (λ (l : List Item). AllByRecursion (λ (y : Item). IsStateOf (front ++ x ∷ []) (leaves ++ leaf ∷ []) y.id y.body) l) (sym e)
+      (all_join (λ (y : Item). IsStateOf (front ++ x ∷ []) (leaves ++ leaf ∷ []) y.id y.body) items more
+      (all_with (λ (y : Item). IsStateOf front leaves y.id y.body) (λ (y : Item). IsStateOf (front ++ x ∷ []) (leaves ++ leaf ∷ []) y.id y.body) items (λ y. made_on front x leaves leaf y.id y.body h.leaves_length) h.no_others) others);
   early = subst (λ (l : List Item). AllByRecursion (λ (y : Item). is_early y.body ≡ true) l) (sym e) (all_join (λ (y : Item). is_early y.body ≡ true) items more h.early early);
 }
   where
@@ -165,15 +165,15 @@ leaf_other : (source : ℕ → ℕ) (a id b : ℕ) → eqb b a ≡ false → wit
 unfolding with_leaf
 leaf_other source a id b h = ap (λ (t : Bool). cond t id (source b)) h
 
-no_made : (front : List FullLine) (leaves : List ℕ) (a : ℕ) (b : Body) → is_state b ≡ false → IsMade front leaves a b
+no_made : (front : List FullLine) (leaves : List ℕ) (a : ℕ) (b : Body) → is_state b ≡ false → IsStateOf front leaves a b
 no_made front leaves a (body.State s) h = absurd (cc)
 no_made front leaves a _ h = tt
 
 pub plain_early : (b : Body) → is_plain b ≡ true → is_early b ≡ true
 plain_early b h = ap (λ (t : Bool). t || (is_input b || is_state b)) h
 
-made_plain : (front : List FullLine) (leaves : List ℕ) (more : List Item) → ArePlain more → AllByRecursion (λ (y : Item). IsMade front leaves y.id y.body) more
-made_plain front leaves more plain = all_with (λ (y : Item). IsNoLeaf y.body) (λ (y : Item). IsMade front leaves y.id y.body) more (λ y no. no_made front leaves y.id y.body no.1) (plain_no_leaves more plain)
+made_plain : (front : List FullLine) (leaves : List ℕ) (more : List Item) → ArePlain more → AllByRecursion (λ (y : Item). IsStateOf front leaves y.id y.body) more
+made_plain front leaves more plain = all_with (λ (y : Item). IsNoLeaf y.body) (λ (y : Item). IsStateOf front leaves y.id y.body) more (λ y no. no_made front leaves y.id y.body no.1) (plain_no_leaves more plain)
 
 early_plain : (more : List Item) → ArePlain more → AllByRecursion (λ (y : Item). is_early y.body ≡ true) more
 early_plain more plain = all_with (λ (y : Item). is_plain y.body ≡ true) (λ (y : Item). is_early y.body ≡ true) more (λ y. plain_early y.body) plain
@@ -201,7 +201,7 @@ input_more full front x s minuses items new nodes leaves any node leaf by_first 
     (subst (LeafMade full new source' x.id node leaf) (sym e) own)
     (λ state is. absurd (false≢true (sym (ap (is_form is_state) e) ∙ state)))
     (ap (λ (b : Says). cond (is_form is_input b) (node ∷ []) []) e ∙ ap (map (λ (y : Item). y.id)) (sym (inputs_plain add.extends.more (last ∷ []) add.extends.plain)))
-    (all_join (λ (y : Item). IsMade (front ++ x ∷ []) (leaves ++ leaf ∷ []) y.id y.body) add.extends.more (last ∷ []) (made_plain (front ++ x ∷ []) (leaves ++ leaf ∷ []) add.extends.more add.extends.plain) (tt, tt))
+    (all_join (λ (y : Item). IsStateOf (front ++ x ∷ []) (leaves ++ leaf ∷ []) y.id y.body) add.extends.more (last ∷ []) (made_plain (front ++ x ∷ []) (leaves ++ leaf ∷ []) add.extends.more add.extends.plain) (tt, tt))
     (all_join (λ (y : Item). is_early y.body ≡ true) add.extends.more (last ∷ []) (early_plain add.extends.more add.extends.plain) (refl, tt))
 
 state_more : (full front : List FullLine) (x : FullLine) (s : ℕ) (minuses : List Bool) (items new : List Item) (nodes leaves : List ℕ) (any : Bool) (node leaf : ℕ) (by_first : Bool) → x.says ≡ form (body.State s) minuses
@@ -225,7 +225,7 @@ state_more full front x s minuses items new nodes leaves any node leaf by_first 
     (subst (LeafMade full new source' x.id node leaf) (sym e) own)
     (λ state is. (ways.first is).1)
     (ap (λ (b : Says). cond (is_form is_input b) (node ∷ []) []) e ∙ ap (map (λ (y : Item). y.id)) (sym (inputs_plain add.extends.more (last ∷ []) add.extends.plain)))
-    (all_join (λ (y : Item). IsMade (front ++ x ∷ []) (leaves ++ leaf ∷ []) y.id y.body) add.extends.more (last ∷ []) (made_plain (front ++ x ∷ []) (leaves ++ leaf ∷ []) add.extends.more add.extends.plain)
+    (all_join (λ (y : Item). IsStateOf (front ++ x ∷ []) (leaves ++ leaf ∷ []) y.id y.body) add.extends.more (last ∷ []) (made_plain (front ++ x ∷ []) (leaves ++ leaf ∷ []) add.extends.more add.extends.plain)
     ((length front, x, get_end front x, ap (is_form is_state) e, ap (at_place (leaves ++ leaf ∷ [])) (sym h.leaves_length) ∙ at_end leaves leaf), tt))
     (all_join (λ (y : Item). is_early y.body ≡ true) add.extends.more (last ∷ []) (early_plain add.extends.more add.extends.plain) (refl, tt))
 

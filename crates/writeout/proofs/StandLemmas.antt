@@ -29,7 +29,7 @@ use Rattle.writeout.specs.Nodes.{IsConstantOf, LineStands, NodesStand}
 use Rattle.writeout.specs.Writings.{Writing, IsGiven, IsOther, first_of, Settled}
 use Rattle.writeout.specs.Leaves.{leaf_at, IsLeaf, FirstIsWritten, LeavesWritten}
 use Rattle.writeout.specs.Late.{PropertiesStand, LateWritten}
-use Rattle.writeout.specs.Putting.{AddsFirst, PutsFirst, first_lines, HasNoNexts, InputMade, StateMade, LeafMade, IsMade, is_early, LeavesMade, LeafNodes}
+use Rattle.writeout.specs.Putting.{AddsFirst, PutsFirst, first_lines, HasNoNexts, InputMade, StateMade, LeafMade, IsStateOf, is_early, LeavesMade, LeafNodes}
 use Rattle.writeout.proofs.StepLemmas.{only_by}
 use Rattle.writeout.proofs.EndLemmas.{way_cases, first_some, state_line}
 use Rattle.writeout.proofs.LeafLemmas.{next_value-after, kind_none, kind_join, plain_no_leaves, IsNoLeaf, no_leaf}
@@ -315,7 +315,7 @@ leaves_stand full items new nodes leaves any first h puts = record {
     f : HasFirst full items new any first
     f = first_by full items new any first h.early puts
 
-made_leaf : (full : List FullLine) (w : Writing) (leaves : List ℕ) (a : ℕ) (b : Body) → w.leaves ≡ leaves → IsMade full leaves a b → IsLeaf full w a b
+made_leaf : (full : List FullLine) (w : Writing) (leaves : List ℕ) (a : ℕ) (b : Body) → w.leaves ≡ leaves → IsStateOf full leaves a b → IsLeaf full w a b
 made_leaf full w leaves a (body.State s) same h = inr (h.0, h.1, h.2, h.3, ap (λ (l : List ℕ). at_place l h.0) same ∙ h.4)
 made_leaf full w leaves a _ same h = tt
 
@@ -329,7 +329,7 @@ leaves_written full items new nodes leaves any first h puts = record {
   states = λ k x is state. (state_made full items h.source x.id (at_place nodes k) (at_place leaves k) x.says state (h.each k x is)).own;
   no_others = subst (λ (l : List Item). AllByRecursion (λ (y : Item). IsLeaf full (wrote new nodes leaves first) y.id y.body) l) (sym f.is)
       (all_join (λ (y : Item). IsLeaf full (wrote new nodes leaves first) y.id y.body) items f.more
-      (all_with (λ (y : Item). IsMade full leaves y.id y.body) (λ (y : Item). IsLeaf full (wrote new nodes leaves first) y.id y.body) items (λ y. made_leaf full (wrote new nodes leaves first) leaves y.id y.body refl) h.no_others)
+      (all_with (λ (y : Item). IsStateOf full leaves y.id y.body) (λ (y : Item). IsLeaf full (wrote new nodes leaves first) y.id y.body) items (λ y. made_leaf full (wrote new nodes leaves first) leaves y.id y.body refl) h.no_others)
       (f.states (wrote new nodes leaves first) refl));
   first = λ given. f.written (wrote new nodes leaves first) refl refl given;
 }

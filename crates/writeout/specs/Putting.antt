@@ -99,9 +99,9 @@ LeafMade full items source id node leaf (form (body.State s) minuses) = StateMad
 LeafMade full items source id node leaf _ = node ≡ 0
 
 -- a state of the list is that of a state line
-abbrev pub IsMade : List FullLine → List ℕ → ℕ → Body → Type 0
-IsMade front leaves a (body.State s) = (k : ℕ) × (x : FullLine) × (slice_get front k ≡ Some x) × (is_form is_state x.says ≡ true) × (at_place leaves k ≡ a)
-IsMade front leaves a _ = Unit {0}
+abbrev pub IsStateOf : List FullLine → List ℕ → ℕ → Body → Type 0
+IsStateOf front leaves a (body.State s) = (k : ℕ) × (x : FullLine) × (slice_get front k ≡ Some x) × (is_form is_state x.says ≡ true) × (at_place leaves k ≡ a)
+IsStateOf front leaves a _ = Unit {0}
 
 -- a sort, a constant, an operator or a leaf
 abbrev pub is_early : Body → Bool
@@ -115,7 +115,7 @@ pub record LeavesMade (full front : List FullLine) (items : List Item) (nodes le
   pub each : (k : ℕ) (x : FullLine) → slice_get front k ≡ Some x → LeafMade full items source x.id (at_place nodes k) (at_place leaves k) x.says
   pub any_first : (k : ℕ) (x : FullLine) → slice_get front k ≡ Some x → is_form is_state x.says ≡ true → way_of full x.id ≡ way.First → any ≡ true
   pub in_order : input_nodes front nodes ≡ map (λ (y : Item). y.id) (of_kind is_input items)
-  pub no_others : AllByRecursion (λ (y : Item). IsMade front leaves y.id y.body) items
+  pub no_others : AllByRecursion (λ (y : Item). IsStateOf front leaves y.id y.body) items
   pub early : AllByRecursion (λ (y : Item). is_early y.body ≡ true) items
 
 -- the nodes that the leaves give the lines
