@@ -379,13 +379,26 @@ def models(trials):
     """Models that are changed by hand, as the remedies say."""
     case = trials.case
     lower = ["lower"]
-    section = (TOP / "docs/FORMATS.md").read_text().split("### Init values that are no constants\n")[1].split("\n#")[0]
-    pair, kept = (it.encode() for it in re.findall(r"```btor2\n(.*?)```", section, re.S))
-    case(11, "the lines of docs/FORMATS.md", lower, pair, kept, True)
+    trials.said("hwtool fit FILE >NEW`")
+    fitted = lambda model: trials.run(["fit"], model).stdout
+    pair = text("""
+        1 sort bitvec 1
+        2 sort bitvec 2
+        3 state 2 a
+        4 state 2 b
+        5 init 2 4 3
+        6 inc 2 3
+        7 next 2 3 6
+        8 inc 2 4
+        9 next 2 4 8
+        10 neq 1 3 4
+        11 bad 10
+    """)
+    case(11, "the init's value is a state", lower, pair, fitted(pair), True)
     free = pair.replace(b"5 init 2 4 3\n", b"")
     trials.control("an init that is left out", pair, free)
     trials.control("an init that is left out and constrained", pair, free + b"12 eq 1 4 3\n13 constraint 12\n")
-    case(11, "the init's value is an expression, and a second init reads the state", lower, text("""
+    second = text("""
         1 sort bitvec 1
         2 sort bitvec 2
         3 input 2 x
@@ -403,30 +416,8 @@ def models(trials):
         15 bad 14
         16 redor 1 4
         17 constraint 16
-    """), text("""
-        1 sort bitvec 1
-        2 sort bitvec 2
-        3 input 2 x
-        4 state 2 a
-        5 state 2 b
-        20 one 1
-        21 zero 1
-        22 state 1 first
-        23 init 1 22 20
-        24 next 1 22 21
-        6 inc 2 3
-        25 ite 2 22 6 4
-        8 not 2 25
-        26 ite 2 22 8 5
-        10 add 2 25 3
-        11 next 2 4 10
-        12 xor 2 26 25
-        13 next 2 5 12
-        14 redand 1 26
-        15 bad 14
-        16 redor 1 25
-        17 constraint 16
-    """), True)
+    """)
+    case(11, "the init's value is an expression, and a second init reads the state", lower, second, fitted(second), True)
     negative = text("""
         1 sort bitvec 1
         2 sort bitvec 2
@@ -441,6 +432,7 @@ def models(trials):
     """)
     case(24, "negative operands", lower, negative, negative.replace(b"7 and 2 4 -6", b"11 not 2 6\n7 and 2 4 11").replace(b"10 bad -9", b"12 not 1 9\n10 bad 12"), True)
     trials.control("a negative operand as `neg`", negative, negative.replace(b"7 and 2 4 -6", b"11 neg 2 6\n7 and 2 4 11"))
+    case(24, "negative operands, fitted", lower, negative, fitted(negative), True)
     case(24, "a negative init", lower, negative.replace(b"init 2 4 3", b"init 2 4 -3").replace(b"-6", b"6").replace(b"bad -9", b"bad 9"),
          negative.replace(b"5 init 2 4 3", b"13 zero 2\n5 init 2 4 13").replace(b"-6", b"6").replace(b"bad -9", b"bad 9"), True)
     stuck = text("""
@@ -456,6 +448,7 @@ def models(trials):
     trials.control("a state that is its own next", stuck, stuck + b"8 next 2 4 4\n")
     trials.control("a state without its init", stuck, stuck.replace(b"5 init 2 4 3\n", b""))
     case(92, "a state with an init and no next", lower, stuck, moving, True, {"later": ("s", 1)})
+    case(92, "a state with an init and no next, fitted", lower, stuck, fitted(stuck), True)
     (trials.folder / "claimed").write_bytes(b"sat\nb0\n@0\n0 11\n@1\n.\n")
     for command in ("check-btor", "wave"):
         case(70, "a state with an init and no next", [command, "FILE", "@claimed"], stuck, moving, False)
@@ -692,17 +685,15 @@ def designs(trials):
         return (trials.folder / "NEW").read_bytes()
 
     case, said, lower = trials.case, trials.said, ["lower"]
-    of_bits = said("simplemap t:$dff t:$ff; splitnets")
-    said("hwtool fit FILE >NEW`")
     for what, wide in (("a wide word that is only a name", written(NAMED, "named", "memory_map; dffunmap")),
                        ("a wide register", written(RING, "ring", "memory_map; dffunmap"))):
         # that it stays the same model is tried by fitted.py
         case(5, what, lower, wide, trials.run(["fit"], wide).stdout, False)
     partly = written(PARTLY, "partly", "memory_map; dffunmap").replace(b"5 state 4\n", b"5 state 4 free\n")
-    case(11, "a register of which only some bits have an initial value", lower, partly,
-         written(PARTLY, "partly", f"memory_map; dffunmap; {of_bits}"), True, {"r[2]": ("free[2]", 0), "r[3]": ("free[3]", 0)})
+    case(11, "a register of which only some bits have an initial value", lower, partly, trials.run(["fit"], partly).stdout, True)
     case(20, "`z` in a constant", lower, written(BUS, "bus", "memory_map; dffunmap"),
          written(BUS, "bus", f"memory_map; {said('setundef -zero')}; dffunmap"), False)
+    case(21, "a memory, fitted", lower, written(MEMORY, "memory", "dffunmap"), trials.run(["fit"], written(MEMORY, "memory", "dffunmap")).stdout, False)
     case(21, "a memory", lower, written(MEMORY, "memory", "dffunmap"),
          written(MEMORY, "memory", f"{said('memory_map')}; dffunmap"), True, frames=3)
     case(21, "a memory with two write clocks", lower, written(TWO_WRITERS, "writers", "memory_map; dffunmap"),

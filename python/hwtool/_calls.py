@@ -159,11 +159,12 @@ def lower(model: Text, *, binary: bool = False) -> bytes:
 
 
 def fit(model: Text) -> bytes:
-    """A BTOR2 model with words of up to 1,048,576 bits as one with words of at most 64, which every other call takes: its bad
-    properties can rise in as many frames. One of the latter stays as it is, in one spelling.
+    """A BTOR2 model of the whole language as one that every other call takes: its bad properties can rise in as many frames. The
+    whole language has arrays, words of up to 1,048,576 bits, operands with a minus and inits by any line. A model that `lower`
+    takes stays as it is, in one spelling.
 
-    Raises Refused where the text is no such model, or is not fitted: it has words of more than 64 bits and a justice or fairness
-    line, or the fitted model would be too big.
+    Raises Refused where the text is no such model, or is not fitted: it is none that `lower` takes and has a justice or fairness
+    line, a first word needs itself, or the fitted model would be too big.
     """
     first = _Given(model)
     status, refusal, text = written("hwtool_fit", first.words, first.room)

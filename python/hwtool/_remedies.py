@@ -47,7 +47,7 @@ CASES: Dict[int, Tuple[Tuple[str, str, str, str], ...]] = {
             'Items of a model',
             'WidthOutOfRange',
             "a sort's width is not 1 to 64",
-            '`hwtool fit` takes words of up to 1,048,576 bits: see what is met most',
+            '`hwtool fit FILE >NEW` takes words of up to 1,048,576 bits: see what is met most',
         ),
     ),
     6: (
@@ -95,7 +95,7 @@ CASES: Dict[int, Tuple[Tuple[str, str, str, str], ...]] = {
             'Items of a model',
             'InitNotConstant',
             "an init's value is no constant (`zero`, `one`, `ones`, `const`, `constd`, `consth`)",
-            "replace it as FORMATS shows, by a 1-bit state with init `one` and next `zero` and, where the state is read, an `ite` of that, the init's value and the state; by no constraint, which is for every frame. Of a register with an initial value for some bits only, `simplemap t:$dff t:$ff; splitnets` in Yosys before `write_btor` makes bits",
+            '`hwtool fit FILE >NEW` takes any line, also a register of which only some bits have an initial value; no constraint does, which is for every frame',
         ),
     ),
     12: (
@@ -189,13 +189,13 @@ CASES: Dict[int, Tuple[Tuple[str, str, str, str], ...]] = {
             'What is met most',
             'ArraySort',
             'the model has memories',
-            'in Yosys, `memory_map` before `write_btor`',
+            '`hwtool fit FILE >NEW` makes them words, and what is judged over that holds of the model; in Yosys, `memory_map` before `write_btor`',
         ),
         (
             'Texts of models',
             'ArraySort',
-            '`sort array`',
-            'in Yosys, `memory_map` before `write_btor`; `clk2fflogic; memory_map -formal` for a memory with two write clocks',
+            '`sort array`; of `fit` one of arrays, or of more than 1,048,576 bits together',
+            '`hwtool fit FILE >NEW` takes arrays of words; in Yosys, `memory_map` before `write_btor`; `clk2fflogic; memory_map -formal` for a memory with two write clocks',
         ),
     ),
     22: (
@@ -203,13 +203,13 @@ CASES: Dict[int, Tuple[Tuple[str, str, str, str], ...]] = {
             'What is met most',
             'ArrayOperator',
             'the model reads or writes a memory',
-            'in Yosys, `memory_map` before `write_btor`',
+            '`hwtool fit FILE >NEW` makes them words, and what is judged over that holds of the model; in Yosys, `memory_map` before `write_btor`',
         ),
         (
             'Texts of models',
             'ArrayOperator',
             'the form is `read` or `write`',
-            'in Yosys, `memory_map` before `write_btor`; `clk2fflogic; memory_map -formal` for a memory with two write clocks',
+            '`hwtool fit FILE >NEW` takes arrays of words; in Yosys, `memory_map` before `write_btor`; `clk2fflogic; memory_map -formal` for a memory with two write clocks',
         ),
     ),
     23: (
@@ -224,8 +224,8 @@ CASES: Dict[int, Tuple[Tuple[str, str, str, str], ...]] = {
         (
             'Texts of models',
             'NegativeOperand',
-            'an operand is `-` and a decimal',
-            'it means all bits inverted: give `not` of the operand a line and name that; in an `init`, name a constant with inverted bits',
+            'an operand is `-` and a decimal; of `fit` where that is an array, or the state of an `init` or a `next`',
+            'it means all bits inverted: `hwtool fit FILE >NEW` takes it; or give `not` of the operand a line and name that; in an `init`, name a constant with inverted bits',
         ),
     ),
     25: (
@@ -491,19 +491,19 @@ CASES: Dict[int, Tuple[Tuple[str, str, str, str], ...]] = {
             'Runs and judges',
             'NoNext',
             'a state has an `init` and no `next`; the first in the file is named',
-            'give the state an input of its own as its next: any word from the second frame on, as without a next; itself only if it is to keep its word',
+            '`hwtool fit FILE >NEW` takes it; or give the state an input of its own as its next: any word from the second frame on, as without a next; itself only if it is to keep its word',
         ),
         (
             'Witnesses of wide models',
             'NoNext',
             'a state has an `init` and no `next`; the first in the file is named',
-            'give the state an input of its own as its next: any word from the second frame on, as without a next; itself only if it is to keep its word',
+            '`hwtool fit FILE >NEW` takes it; or give the state an input of its own as its next: any word from the second frame on, as without a next; itself only if it is to keep its word',
         ),
         (
             'Dumps',
             'NoNext',
             'a state has an `init` and no `next`; the first in the file is named',
-            'give the state an input of its own as its next: any word from the second frame on, as without a next; itself only if it is to keep its word',
+            '`hwtool fit FILE >NEW` takes it; or give the state an input of its own as its next: any word from the second frame on, as without a next; itself only if it is to keep its word',
         ),
     ),
     71: (
@@ -551,7 +551,7 @@ CASES: Dict[int, Tuple[Tuple[str, str, str, str], ...]] = {
             'Lowering',
             'NoNext',
             'a state with an `init` and no `next` comes first in the file of what 90 to 92 refuse',
-            'give the state an input of its own as its next: any word from the second frame on, as without a next; itself only if it is to keep its word',
+            '`hwtool fit FILE >NEW` takes it; or give the state an input of its own as its next: any word from the second frame on, as without a next; itself only if it is to keep its word',
         ),
     ),
     93: (
@@ -1276,7 +1276,7 @@ CASES: Dict[int, Tuple[Tuple[str, str, str, str], ...]] = {
         (
             'Fitting',
             'Justice',
-            'of a model with words of more than 64 bits a justice line comes first in the file of what 220 to 222 refuse',
+            'of a model that has to be fitted a justice line comes first in the file of what 220 to 222 refuse',
             'take the line out: no bad property needs it; the justice property is then unchecked',
         ),
     ),
@@ -1295,6 +1295,12 @@ CASES: Dict[int, Tuple[Tuple[str, str, str, str], ...]] = {
             'with what is made for this item the fitted model would have more than 1,048,576 items: a division takes some ten for each bit of its words, and more as they grow',
             'write one model per bad property, of only what it and the constraints need',
         ),
+        (
+            'Fitting',
+            'TooManyItems',
+            'no item is told: so it is with what is made of arrays, of operands with a minus and of inits by lines; a write takes some six items for each cell',
+            'make the memory smaller, or write one model per bad property, of only what it and the constraints need',
+        ),
     ),
     223: (
         (
@@ -1302,6 +1308,14 @@ CASES: Dict[int, Tuple[Tuple[str, str, str, str], ...]] = {
             'NoMemory',
             'out of memory',
             'add memory',
+        ),
+    ),
+    224: (
+        (
+            'Fitting',
+            'InitCircle',
+            "the word that this line has in the first frame needs itself: a state's init names what the state is needed for",
+            'give one of the states on the circle an init that does not lead back to it, or none',
         ),
     ),
 }

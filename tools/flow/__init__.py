@@ -5,7 +5,7 @@
     verilog        a design in Verilog on its way: what was read, one flat module, what is written
     names          names of files that Yosys neither expands nor runs
     yosys          runs of Yosys, what it warns of, and how it fails
-    recipe         its steps, with clocked.v, free-x.v, enables.v and bits.v, which are maps of cells
+    recipe         its steps, with clocked.v, free-x.v and enables.v, which are maps of cells
     rtlil          the text of a netlist, and what drives each bit
     clocks         what a flat design waits for, and so what a frame is
     statements     what the source asserts, assumes and covers

@@ -110,8 +110,8 @@ class Model:
     inputs: List[str] = field(default_factory=list)
     # its constraints, by their names in the text
     constraints: List[Said] = field(default_factory=list)
-    # whether its words of more than 64 bits were put into pieces
-    in_pieces: bool = False
+    # what is said of it where it was fitted
+    fitted: str = ""
     # its text, once all that checks it reads nothing else
     text: Optional[Held] = None
 

@@ -2,11 +2,11 @@
 import os
 import re
 import shutil
-from dataclasses import dataclass, replace
+from dataclasses import replace
 from pathlib import Path
 from typing import Callable, List, Optional, Sequence, Set, Tuple
 
-from . import recipe, vacuity
+from . import vacuity
 from .account import Account
 from .clocks import Timing
 from .engines import InputRefused, WordsRefused
@@ -24,9 +24,9 @@ READS = re.compile(r"\s*(read|read_\w+|verific)\b")
 
 # A constraint of a model in the one spelling: its number, and its name if it has one.
 CONSTRAINT = r"^(\d+) constraint \d+(?: (\S+))?$"
-# The numbers of what `hwtool` refuses: a word of more than 64 bits, and an initial value that is no constant.
-TOO_WIDE, NOT_CONSTANT = 5, 11
-IN_PIECES = "words of more than 64 bits in pieces"
+# The number of what is refused of a word of more than 64 bits.
+TOO_WIDE = 5
+IN_PIECES, FITTED = "words of more than 64 bits in pieces", "fitted, since the model is beyond what the other commands take"
 WRITE_ONE = {
     "Verilog": "as in `always @* has_room: assert (count <= 4);`",
     "BTOR2": "as in `10 bad 9`, of a node of one bit",
@@ -51,22 +51,6 @@ def script_reads(script: Path) -> bool:
         return any(map(READS.match, script.read_text(encoding="utf-8", errors="replace").splitlines()))
     except OSError:
         return False
-
-
-@dataclass(frozen=True)
-class Remedy:
-    """What Yosys may do at the end, so that a model is taken: its steps, and what to say of it."""
-
-    steps: Sequence[str]
-    note: str = ""
-
-
-def remedies_of(number: int, names: Names) -> List[Remedy]:
-    """What to try in order where `hwtool` refuses a model by this number; what is of bits alone always goes."""
-    bits = names.plain(recipe.beside("bits.v"))
-    split = [f"techmap -max_iter 1 -map {bits} t:$anyseq t:$anyconst %u", "techmap", "simplemap", "splitnets -ports", "opt_clean"]
-    by_bits = Remedy(["setundef -undriven -anyseq", *split], "words as bits")
-    return [Remedy(["simplemap t:$dff t:$ff", "splitnets"], "registers as bits"), by_bits] if number == NOT_CONSTANT else []
 
 
 class NotTaken(InputRefused):
@@ -135,10 +119,10 @@ class Reader:
         return model
 
     def of_words(self, path: Path, place: str, role: Role) -> Model:
-        """A text in BTOR2, in the one spelling that `show` gives, with the places that Yosys noted. One with wide words becomes the
+        """A text in BTOR2, in the one spelling that `show` gives, with the places that Yosys noted. One of the whole language becomes the
         text that it is fitted into, whose properties are in the same order."""
         places = places_of_bads(path.read_text(encoding="utf-8", errors="replace"))
-        shown, in_pieces = self.shown(path, place)
+        shown, fitted = self.shown(path, place)
         lines = re.findall(r"^\d+ bad (\d+)(?: (\S+))?$", shown, flags=re.M)
         always = nodes_of_one(shown) if role is Role.ENABLES else set()
         properties = [
@@ -146,17 +130,19 @@ class Reader:
             for number, ((node, name), noted) in enumerate(zip(lines, places))
         ]
         assumed = [Said("assume", name or f"constraint {line}", "") for line, name in re.findall(CONSTRAINT, shown, flags=re.M)]
-        return Model(Kind.WORDS, path, properties, role, constraints=assumed, in_pieces=in_pieces)
+        return Model(Kind.WORDS, path, properties, role, constraints=assumed, fitted=fitted)
 
-    def shown(self, path: Path, place: str) -> Tuple[str, bool]:
-        """A text in its one spelling, and whether it was fitted for its wide words."""
+    def shown(self, path: Path, place: str) -> Tuple[str, str]:
+        """A text in its one spelling, and what is to be said where it was fitted."""
         try:
-            return self.made(path, "show", place), False
+            shown, note = self.made(path, "show", place), FITTED
         except NotTaken as fault:
-            if fault.number != TOO_WIDE:
-                raise
-        os.replace(self.make(path, "fit", place), path)
-        return self.made(path, "show", place), True
+            shown, note = "", IN_PIECES if fault.number == TOO_WIDE else FITTED
+        fitted = self.made(path, "fit", place)
+        if shown.rpartition(";")[0] == fitted:
+            return shown, ""
+        os.replace(self.work / "made", path)
+        return self.made(path, "show", place), note
 
     def of_names(self, path: Path, place: str, role: Role) -> Model:
         """A circuit, its bad properties and the names of its inputs, by its header and its table of names."""
@@ -170,7 +156,7 @@ class Reader:
 
     def of_text(self, model: Model, notes: List[str]) -> Design:
         """A design that is one text, with that about its assumptions."""
-        told = [*notes, *in_pieces(model)]
+        told = [*notes, *filter(None, [model.fitted])]
         return Design(model, frames=self.frames_of(model, 0), notes=told, assumptions=model.constraints)
 
     def of_circuit(self) -> Design:
@@ -217,24 +203,11 @@ class Reader:
         if self.wanted.script:
             return self.by_own_steps(self.wanted.script, yosys, names)
         bridge = Bridge(self.wanted, yosys, names)
-        timing = bridge.flatten()
-        return self.remedied(lambda remedy: self.bridged(bridge, timing, remedy), names)
+        return self.bridged(bridge, bridge.flatten())
 
-    def remedied(self, made_with: Callable[[Remedy], Design], names: Names) -> Design:
-        """What is made without a remedy, or with the first one that makes it go."""
-        try:
-            return made_with(Remedy([]))
-        except NotTaken as fault:
-            for remedy in remedies_of(fault.number, names):
-                try:
-                    return made_with(remedy)
-                except NotTaken:
-                    pass
-            raise
-
-    def bridged(self, bridge: Bridge, timing: Timing, remedy: Remedy) -> Design:
+    def bridged(self, bridge: Bridge, timing: Timing) -> Design:
         """The texts of a design by the recipe, each bad property tied to its statement."""
-        paths = bridge.write(timing, remedy.steps)
+        paths = bridge.write(timing)
         account, ahead = bridge.account, int(timing.in_steps)
         model = self.tied(self.taken(paths["model"], Kind.WORDS), account, Says.ASSERT)
         account.count_constraints(len(model.constraints))
@@ -252,7 +225,7 @@ class Reader:
             covers if covers.properties else None,
             enables if enables.properties else None,
             self.frames_of(model, ahead),
-            ["by yosys", f"top {bridge.top} ({bridge.how})", str(timing), *as_what, *filter(None, [remedy.note]), *in_pieces(model)],
+            ["by yosys", f"top {bridge.top} ({bridge.how})", str(timing), *as_what, *filter(None, [model.fitted])],
             meaning,
             bridge.yosys.warnings,
             [Said(it.says.value, it.name, it.place) for it in bridge.assumed()],
@@ -260,7 +233,7 @@ class Reader:
             timing.clock,
             ahead,
             RESETS_HINT if timing.resets_open else "",
-            bridge.told_steps(timing, remedy.steps),
+            bridge.told_steps(timing),
             bridge.left_out(),
         )
 
@@ -275,16 +248,13 @@ class Reader:
         """The texts that a script of one's own makes, which the flow cannot look into."""
         steps = script.read_text(encoding="utf-8", errors="surrogateescape").splitlines()
         reads = [] if script_reads(script) else reading_steps(self.wanted, names, False)
-        return self.remedied(lambda remedy: self.scripted([*reads, *steps, *remedy.steps], script, remedy, yosys, names), names)
-
-    def scripted(self, steps: List[str], script: Path, remedy: Remedy, yosys: Yosys, names: Names) -> Design:
-        """The texts behind such steps."""
+        steps = [*reads, *steps]
         paths = [names.own(f"{it.value}.btor2") for it in (Role.MODEL, Role.COVER)]
         yosys.run("own", [*steps, f"write_btor {paths[0]}", f"write_btor -c {paths[1]}"])
         for it in paths:
             Path(it).write_text(names.told(text_of(Path(it))), "utf-8", "surrogateescape")
         model, covers = (self.taken(Path(it), Kind.WORDS, role) for it, role in zip(paths, (Role.MODEL, Role.COVER)))
-        notes = [f"by yosys and {script.name}", *filter(None, [remedy.note]), *in_pieces(model)]
+        notes = [f"by yosys and {script.name}", *filter(None, [model.fitted])]
         meaning, told = [BY_OWN_STEPS.format(script.name)], [names.told(it) for it in [*steps, "write_btor"]]
         return Design(
             model,
@@ -298,11 +268,6 @@ class Reader:
             steps=told,
             own_steps=script.name,
         )
-
-
-def in_pieces(model: Model) -> List[str]:
-    """What is said of a model that was fitted for its wide words."""
-    return [IN_PIECES] if model.in_pieces else []
 
 
 def places_of_bads(text: str) -> List[str]:

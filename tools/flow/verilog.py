@@ -232,27 +232,27 @@ class Bridge:
 
     # ---- what is written
 
-    def steps(self, timing: Timing, remedy: Sequence[str]) -> List[str]:
-        """The steps from the named design to a model, with a remedy at their end."""
+    def steps(self, timing: Timing) -> List[str]:
+        """The steps from the named design to a model."""
         boxes = [f"\\{it[1:]}" for it in self.boxes]
         free = self.names.plain(recipe.beside("free-x.v"))
         named = self.names.own("named.il")
         with_async = timing.asynchronous and not timing.in_steps
-        return [*recipe.whole(named, self.top, boxes, timing.in_steps, with_async, free, self.wanted.zero_undefined), *remedy]
+        return recipe.whole(named, self.top, boxes, timing.in_steps, with_async, free, self.wanted.zero_undefined)
 
-    def write(self, timing: Timing, remedy: Sequence[str]) -> Dict[str, Path]:
+    def write(self, timing: Timing) -> Dict[str, Path]:
         """Writes the models: `model`, `cover` and `enables`."""
         paths = {it: Path(self.names.own(f"{it}.btor2")) for it in ("model", "cover", "enables")}
         written = recipe.writing(*map(str, paths.values()), self.names.plain(recipe.beside("enables.v")))
-        self.yosys.run("model", [*self.steps(timing, remedy), *written])
+        self.yosys.run("model", [*self.steps(timing), *written])
         for it in paths.values():
             it.write_text(self.names.told(text_of(it)), "utf-8", "surrogateescape")
         return paths
 
-    def told_steps(self, timing: Timing, remedy: Sequence[str]) -> List[str]:
+    def told_steps(self, timing: Timing) -> List[str]:
         """All steps from the source to the model, with the names of the user."""
-        steps = [*reading_steps(self.wanted, self.names, False), *self.flattening(), *self.steps(timing, remedy), "write_btor model.btor2"]
-        maps = f"{recipe.beside('bits.v').parent}/"
+        steps = [*reading_steps(self.wanted, self.names, False), *self.flattening(), *self.steps(timing), "write_btor model.btor2"]
+        maps = f"{recipe.beside('enables.v').parent}/"
         return [printable(self.names.told(it)).replace(maps, "") for it in steps]
 
     def left_out(self) -> List[str]:

@@ -7,6 +7,7 @@ use Rattle.blast.specs.Faults.{lower_number}
 use Rattle.blast.specs.declared.fault.LowerFault.{LowerFault}
 use Rattle.blast.specs.declared.fault.LowerFault.TheVariants as lower
 use Rattle.fitting.specs.Faults.{fit_fault_item, fit_fault_number}
+use Rattle.writeout.specs.Numbers.{write_fault_item, write_fault_number}
 use Rattle.engine_form.specs.Faults.{engine_fault_number}
 use Rattle.certificates.specs.Faults.{invariant_why_number, obligation_number}
 use Rattle.witness_circuits.specs.Faults.{test_number}
@@ -31,6 +32,7 @@ told_fault (fault.Model e) = record { number = printed_number e.why; place = e.l
 told_fault (fault.Circuit e) = record { number = circuit_why_number e.why; place = e.place }
 told_fault (fault.Lowering e) = record { number = lower_number e; place = fault_place e }
 told_fault (fault.Fitting e) = record { number = fit_fault_number e; place = unwrap_or (fit_fault_item e) 0 }
+told_fault (fault.Writing e) = record { number = write_fault_number e; place = unwrap_or (write_fault_item e) 0 }
 told_fault (fault.Outputs e) = record { number = circuit_fault_number e; place = 0 }
 told_fault (fault.Engine e) = record { number = engine_fault_number e; place = 0 }
 told_fault (fault.Invariant e) = record { number = invariant_why_number e.why; place = e.line }

@@ -165,6 +165,7 @@ impl Refusal {
             Fault::Circuit(fault) => (fault.why.number(), fault.place),
             Fault::Lowering(fault) => (fault.number(), fault_place(fault)),
             Fault::Fitting(fault) => (fault.number(), fault.item().unwrap_or(0)),
+            Fault::Writing(fault) => (fault.number(), fault.item().unwrap_or(0)),
             Fault::Outputs(fault) => (fault.number(), 0),
             Fault::Engine(fault) => (fault.number(), 0),
             Fault::Invariant(fault) => (fault.why.number(), fault.line),

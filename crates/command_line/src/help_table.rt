@@ -72,7 +72,7 @@ struct HelpLine {
 }
 
 /// What help says of words; of those of a name the first that is of the command.
-static HELPS: [HelpLine; 41] = [
+static HELPS: [HelpLine; 42] = [
     HelpLine {
         name: "MODEL",
         verbs: &[],
@@ -195,8 +195,13 @@ static HELPS: [HelpLine; 41] = [
     },
     HelpLine {
         name: "fit",
-        verbs: &[],
+        verbs: &[Verb::CheckBtor],
         text: "The model may have words of up to 1,048,576 bits, and the witness is one of it",
+    },
+    HelpLine {
+        name: "fit",
+        verbs: &[],
+        text: "Take what fit takes: a model of the whole language, which is fitted first",
     },
     HelpLine {
         name: "back",

@@ -60,7 +60,9 @@ fn arg_of<'a>(alloc: Global, verb: Verb, word: &'a Word) -> Result<Arg<'a>, Allo
     let arg = Arg::new(alloc, word.name).help(help(verb, word.name));
     match word.kind {
         Kind::File => Ok(arg.required(true).action(ArgAction::Set)),
-        Kind::Flag | Kind::FlagAlone => Ok(arg.long(word.name).action(ArgAction::SetTrue)),
+        Kind::Flag | Kind::FlagAlone | Kind::FlagOnModel => Ok(
+            arg.long(word.name).action(ArgAction::SetTrue),
+        ),
         Kind::FlagWithCircuit => flag_with(arg, word.name, CIRCUIT),
         Kind::FlagWithEngine => flag_with(arg, word.name, ENGINE),
         Kind::Text if word.name == OUTPUT => Ok(option(arg, word.name).short(OUTPUT_LETTER)),

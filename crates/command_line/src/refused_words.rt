@@ -26,6 +26,9 @@ const FIT_TELLS: &str = "words: --fit goes with none of --names, --bad and --jso
 /// What is told of words that ask for names in a witness that has none.
 const BACK_NAMES: &str = "words: --back goes without --names\n";
 
+/// What is told of words that fit a circuit.
+const FIT_CIRCUIT: &str = "words: --fit goes with a model, and so without --aiger\n";
+
 /// What is told of words that choose a bad property and no engine form.
 const BAD_ALONE: &str = "words: --bad goes with --engine\n";
 
@@ -54,6 +57,9 @@ fn refusal_of_value(word: Word, words: &ArgMatches<'_>) -> Option<&'static str> 
 
 /// The line that refuses a flag that goes with none of some others, where one of them is given.
 fn refusal_of_flag(verb: Verb, word: Word, words: &ArgMatches<'_>) -> Option<&'static str> {
+    if word.kind == Kind::FlagOnModel && words.get_flag(word.name) && words.get_flag("aiger") {
+        return Some(FIT_CIRCUIT);
+    }
     if word.kind != Kind::FlagAlone || !words.get_flag(word.name) {
         return None;
     }

@@ -3,14 +3,14 @@ use Rattle.std.specs.Prelude.{ℕ, Bool, true, false, not, List, Option, None, o
 use Rattle.std.specs.Borrow.{Bor}
 use Rattle.std.specs.Io.KnownBytes.{Appends}
 use Rattle.blast.specs.Conversion.{Converts}
-use Rattle.verbs.specs.Circuits.{ConvertsForEngines, LowersForEngines, Rewrites}
+use Rattle.verbs.specs.Circuits.{ConvertsForEngines, LowersForEngines, Rewrites, WritesFittedCircuit, WritesFittedForm}
 use Rattle.verbs.specs.Fitting.{WritesFitting}
 use Rattle.verbs.specs.Outputs.{ConvertsOutputs, ConvertsOutputsForEngines}
 use Rattle.subcommands.specs.declared.answers.Answer.{Answer}
 use Rattle.subcommands.specs.declared.answers.Answer.TheVariants as answer
 use Rattle.subcommands.specs.Asked.{ChecksCircuit, ChecksModel}
 use Rattle.subcommands.specs.Certificates.{CertifiesWith, WritesOwed}
-use Rattle.subcommands.specs.Done.{Compares, Dumps, Judged, ShowsModel, TellsCost, Tidies}
+use Rattle.subcommands.specs.Done.{Compares, Dumps, Judged, ShowsModel, TellsCost, TellsCostFitted, Tidies}
 use Rattle.subcommands.specs.Fitted.{Spreads, Unfits, WritesJudgedFitted}
 use Rattle.subcommands.specs.Restoring.{Lifts, LiftsForm, LiftsFound, Restores, RestoresForm}
 use Rattle.invocation.specs.declared.tasks.CertificateTask.TheVariants as certificate
@@ -42,9 +42,12 @@ unfoldable pub Answers : Order → Task → Answer → Option (List ℕ) → Opt
 Answers o (task.Text text.Lower) answer.Done first second third before now told told' = Converts first o.form (Appends before now)
 Answers o (task.Text text.Fit) answer.Done first second third before now told told' = WritesFitting first before now
 Answers o (task.Model (model.LowerForEngines choice)) answer.Done first second third before now told told' = LowersForEngines first before now o.form choice
+Answers o (task.Model model.LowerFitted) answer.Done first second third before now told told' = WritesFittedCircuit first before now o.form
+Answers o (task.Model (model.LowerFittedForEngines choice)) answer.Done first second third before now told told' = WritesFittedForm first before now o.form choice
 Answers o (task.Model model.CheckBtor) a first second third before now told told' = ChecksModel o.named o.as_json (asked_of o) first second before now told told' a
 Answers o (task.Model model.Show) answer.Done first second third before now told told' = ShowsModel first before now
 Answers o (task.Model model.Cost) answer.Done first second third before now told told' = TellsCost first before now
+Answers o (task.Model model.CostFitted) answer.Done first second third before now told told' = TellsCostFitted first before now
 Answers o (task.Circuit circuit.AigConvert) answer.Done first second third before now told told' = Rewrites first before now o.form
 Answers o (task.Circuit (circuit.ConvertForEngines choice)) answer.Done first second third before now told told' = ConvertsForEngines first before now o.form choice
 Answers o (task.Circuit circuit.ConvertOutputs) answer.Done first second third before now told told' = ConvertsOutputs first before now o.form

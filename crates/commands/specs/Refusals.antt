@@ -11,7 +11,7 @@ use Rattle.verbs.specs.declared.refusals.Claimed.TheVariants as claimed
 use Rattle.verbs.specs.declared.refusals.Fault.{Fault}
 use Rattle.verbs.specs.Asked.{IsNotJudgedOverWith, IsNotJudgedWith}
 use Rattle.verbs.specs.Fitting.{IsNotFitted}
-use Rattle.verbs.specs.Refusals.{IsFaultyCertificate, IsNoCircuit, IsNoModel, IsNoVectorList, IsNotCertifiable, IsNotClaimable, IsNotClaimed, IsNotForEngines, IsNotJudged, IsNotLowered}
+use Rattle.verbs.specs.Refusals.{IsFaultyCertificate, IsNoCircuit, IsNoModel, IsNoVectorList, IsNotCertifiable, IsNotClaimable, IsNotClaimed, IsNotForEngines, IsNotGiven, IsNotJudged, IsNotLowered}
 use Rattle.verbs.specs.Unfitting.{IsNotReady}
 use Rattle.verbs.specs.Outputs.{IsNotWithOutputs, IsNotWithOutputsForEngines}
 
@@ -20,9 +20,12 @@ unfoldable pub RefusesTask : Task → Option (List ℕ) → Option (List ℕ) �
 RefusesTask (task.Text text.Lower) asked known f = IsNotLowered known f
 RefusesTask (task.Text text.Fit) asked known f = IsNotFitted known f
 RefusesTask (task.Model (model.LowerForEngines choice)) asked known f = IsNotForEngines given.Model choice known f
+RefusesTask (task.Model model.LowerFitted) asked known f = IsNotGiven given.Fitted known f
+RefusesTask (task.Model (model.LowerFittedForEngines choice)) asked known f = IsNotForEngines given.Fitted choice known f
 RefusesTask (task.Model model.CheckBtor) asked known f = IsNotJudgedWith asked known f
 RefusesTask (task.Model model.Show) asked known f = IsNoModel known f
 RefusesTask (task.Model model.Cost) asked known f = IsNoModel known f
+RefusesTask (task.Model model.CostFitted) asked known f = IsNotFitted known f
 RefusesTask (task.Circuit circuit.AigConvert) asked known f = IsNoCircuit known f
 RefusesTask (task.Circuit (circuit.ConvertForEngines choice)) asked known f = IsNotForEngines given.Circuit choice known f
 RefusesTask (task.Circuit circuit.ConvertOutputs) asked known f = IsNotWithOutputs known f

@@ -22,11 +22,12 @@ use subcommands::{
     Answer, answered, check_circuit, check_circuit_with, check_fitted, check_model,
     check_model_with, check_proof, compare_vectors, dump_witness, lift_counterexample,
     lift_form_witness, lift_witness, restore_counterexample, restore_witness, show, spread_witness,
-    tell, tell_cost, tidy_witness, unfit_witness, write_obligation, write_refusal,
+    tell, tell_cost, tell_cost_fitted, tidy_witness, unfit_witness, write_obligation,
+    write_refusal,
 };
 use verbs::{
     Device, Refusal, convert, convert_for_engines, convert_outputs, convert_outputs_for_engines,
-    fit, lower, lower_for_engines,
+    fit, lower, lower_fitted, lower_fitted_for_engines, lower_for_engines,
 };
 
 /// Does a command, and answers the exit status: 0 done or accepted, 1 not accepted, 2 input refused, 3 device or memory, 4
@@ -296,9 +297,14 @@ fn obey_on_model<A: Source, B: Source, O: Sink, E: Sink, W: Watch>(
         ModelTask::LowerForEngines(choice) => answered(lower_for_engines(
             alloc, order.form, choice, first, out, watch,
         )),
+        ModelTask::LowerFitted => answered(lower_fitted(alloc, order.form, first, out, watch)),
+        ModelTask::LowerFittedForEngines(choice) => answered(lower_fitted_for_engines(
+            alloc, order.form, choice, first, out, watch,
+        )),
         ModelTask::CheckBtor => judge_on_model(alloc, order, first, second, out, err),
         ModelTask::Show => show(alloc, first, out),
         ModelTask::Cost => tell_cost(alloc, first, out),
+        ModelTask::CostFitted => tell_cost_fitted(alloc, first, out),
         ModelTask::Lift => lift_witness(alloc, order.named, first, second, out, err, watch),
         ModelTask::LiftFound(choice) => {
             lift_counterexample(alloc, order.named, choice, first, second, out, err, watch)

@@ -48,6 +48,8 @@ ghost use Rattle.witness.specs.Answers.{judge_name, judge_number};
 ghost use Rattle.witness.specs.Printed.{why_number as witness_number, why_name as witness_name};
 ghost use Rattle.witness.specs.declared.fault.JudgeFault.{JudgeFault};
 ghost use Rattle.witness.specs.declared.why.Why.{Why as WitnessWhy};
+ghost use Rattle.writeout.specs.Numbers.{write_fault_name, write_fault_number};
+ghost use Rattle.writeout.specs.declared.fault.WriteFault.{WriteFault};
 
 mod certified;
 mod circuits;
@@ -90,6 +92,8 @@ pub fn refusal_table() -> [Part; 21]
         → Explains result (lower_number fault) (lower_name fault) }
     ensures fittings { (fault : FitFault)
         → Explains result (fit_fault_number fault) (fit_fault_name fault) }
+    ensures writings { (fault : WriteFault)
+        → Explains result (write_fault_number fault) (write_fault_name fault) }
     ensures conversions { (fault : ConvertFault)
         → Explains result (convert_number fault) (convert_name fault) }
     ensures runs { (fault : NewFault) → Explains result (new_number fault) (new_name fault) }

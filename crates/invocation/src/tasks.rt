@@ -20,6 +20,8 @@ pub const STANDARD_OUTPUT: &str = "-";
 pub enum Given {
     /// A model, which is lowered.
     Model,
+    /// A model of the whole language, which is fitted and lowered.
+    Fitted,
     /// A circuit.
     Circuit,
 }
@@ -53,12 +55,18 @@ pub enum TextTask {
 pub enum ModelTask {
     /// Lowers it, and writes the engine form of its circuit: with all bad properties, or with the one at a position.
     LowerForEngines(Option<usize>),
+    /// Fits it, where it is one of the whole language, and lowers that to a circuit.
+    LowerFitted,
+    /// The same, and writes the engine form of the circuit: with all bad properties, or with the one at a position.
+    LowerFittedForEngines(Option<usize>),
     /// Judges a witness over it.
     CheckBtor,
     /// Writes its text in the writer's form.
     Show,
     /// Tells how many gates and variables its lowering has at most.
     Cost,
+    /// Fits it, where it is one of the whole language, and tells the same of that.
+    CostFitted,
     /// Lifts a witness of its circuit to one of the model.
     Lift,
     /// Lifts a counterexample in the form that ABC writes over the engine form of its circuit to a witness of the model; it

@@ -16,7 +16,7 @@ use Rattle.vectors.specs.Vectors.{AreVectorsOf, IsRight, numbered, lines_that_di
 use Rattle.btor2text.specs.Spelling.{IsModelOf}
 use Rattle.subcommands.specs.declared.answers.Answer.{Answer}
 use Rattle.subcommands.specs.declared.answers.Answer.TheVariants as answer
-use Rattle.verbs.specs.Circuits.{IsCost}
+use Rattle.verbs.specs.Circuits.{IsCost, IsCostFitted}
 use Rattle.verbs.specs.Judging.{IsAccepted, IsDumped, IsJudged, IsJudgedOver}
 use Rattle.verbs.specs.declared.lowering.Cost.{Cost}
 use Rattle.verbs.specs.declared.refusals.Refusal.{Refusal}
@@ -71,6 +71,12 @@ cost_lines r = codes "gates " ++ (decimal r.gates ++ (codes "\nvariables " ++ (d
 pub record TellsCost (known before now : Option (List ℕ)) : Type 0 where
   pub cost : Cost
   pub is_cost : IsCost known cost
+  pub appends : Appends before now (cost_lines cost)
+
+-- the same of the model that this is fitted into
+pub record TellsCostFitted (known before now : Option (List ℕ)) : Type 0 where
+  pub cost : Cost
+  pub is_cost : IsCostFitted known cost
   pub appends : Appends before now (cost_lines cost)
 
 -- What is written is the line of the judgement of a witness over a model.

@@ -11,6 +11,7 @@ use Rattle.blast.specs.declared.fault.LowerFault.{LowerFault}
 use Rattle.blast.specs.declared.fault.LowerFault.TheVariants as lower
 use Rattle.blast.specs.Faults.{lower_number, lower_name}
 use Rattle.fitting.specs.Faults.{fit_fault_item, fit_fault_name, fit_fault_number}
+use Rattle.writeout.specs.Numbers.{write_fault_item, write_fault_name, write_fault_number}
 use Rattle.engine_form.specs.Faults.{engine_fault_number, engine_fault_name}
 use Rattle.certificates.specs.Faults.{invariant_why_number, invariant_why_name, obligation_number, obligation_name}
 use Rattle.witness_circuits.specs.Faults.{test_number, test_name}
@@ -208,6 +209,7 @@ fault_members (fault.Model e) = faulty_members (codes "line") e.line (printed_nu
 fault_members (fault.Circuit e) = faulty_members (codes "byte") e.place (circuit_why_number e.why) (circuit_why_name e.why)
 fault_members (fault.Lowering e) = item_place e ++ numbered_members (lower_number e) (lower_name e)
 fault_members (fault.Fitting e) = place_at (fit_fault_item e) ++ numbered_members (fit_fault_number e) (fit_fault_name e)
+fault_members (fault.Writing e) = place_at (write_fault_item e) ++ numbered_members (write_fault_number e) (write_fault_name e)
 fault_members (fault.Outputs e) = numbered_members (circuit_fault_number e) (circuit_fault_name e)
 fault_members (fault.Engine e) = numbered_members (engine_fault_number e) (engine_fault_name e)
 fault_members (fault.Invariant e) = faulty_members (codes "line") e.line (invariant_why_number e.why) (invariant_why_name e.why)

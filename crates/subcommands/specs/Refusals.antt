@@ -9,6 +9,7 @@ use Rattle.blast.specs.declared.fault.LowerFault.{LowerFault}
 use Rattle.blast.specs.declared.fault.LowerFault.TheVariants as lower
 use Rattle.blast.specs.Faults.{lower_number, lower_name}
 use Rattle.fitting.specs.Faults.{fit_fault_item, fit_fault_name, fit_fault_number}
+use Rattle.writeout.specs.Numbers.{write_fault_item, write_fault_name, write_fault_number}
 use Rattle.engine_form.specs.Faults.{engine_fault_number as engine_number, engine_fault_name as engine_name}
 use Rattle.witness_circuits.specs.Faults.{test_number, test_name}
 use Rattle.certificates.specs.Faults.{invariant_why_number as invariant_number, invariant_why_name as invariant_name, obligation_number, obligation_name}
@@ -67,6 +68,7 @@ fault_said (fault.Model e) = place_said (codes "line ") e.line (numbered_name (p
 fault_said (fault.Circuit e) = place_said (codes "byte ") e.place (numbered_name (circuit_why_number e.why) (circuit_why_name e.why))
 fault_said (fault.Lowering e) = at_item e (numbered_name (lower_number e) (lower_name e))
 fault_said (fault.Fitting e) = of_item (fit_fault_item e) (numbered_name (fit_fault_number e) (fit_fault_name e))
+fault_said (fault.Writing e) = of_item (write_fault_item e) (numbered_name (write_fault_number e) (write_fault_name e))
 fault_said (fault.Outputs e) = numbered_name (circuit_fault_number e) (circuit_fault_name e)
 fault_said (fault.Engine e) = numbered_name (engine_number e) (engine_name e)
 fault_said (fault.Invariant e) = place_said (codes "line ") e.line (numbered_name (invariant_number e.why) (invariant_name e.why))

@@ -31,7 +31,7 @@ pub use circuits::{check_circuit, check_circuit_with};
 pub use files::{LateFile, NoFile, Stream, open_input};
 pub use fitted::{check_fitted, spread_witness, unfit_witness};
 pub use lifting::{lift_counterexample, lift_form_witness, lift_witness};
-pub use models::{check_model, check_model_with, show, tell_cost};
+pub use models::{check_model, check_model_with, show, tell_cost, tell_cost_fitted};
 pub use named_files::{NamedFiles, NoName, ResultName};
 pub use objects::write_failed;
 pub use progress::{Counted, Progress, Watched, Work};

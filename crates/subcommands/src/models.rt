@@ -5,11 +5,12 @@ ghost use Rattle.std.specs.Io.KnownBytes.{Appends};
 ghost use Rattle.std.specs.String.{string_bytes};
 ghost use Rattle.btor2text.specs.Spelling.{IsModelOf};
 ghost use Rattle.verbs.specs.Asked.{IsNotJudgedWith};
+ghost use Rattle.verbs.specs.Fitting.{IsNotFitted};
 ghost use Rattle.verbs.specs.Refusals.{IsNoModel, IsNotJudged};
 ghost use Rattle.verbs.specs.Statuses.{Ends, EndsUnrefused, IfInput};
 ghost use Rattle.verbs.specs.Statuses.Use.{Unused, Used};
 ghost use Rattle.subcommands.specs.Asked.{IsJudgedWith};
-ghost use Rattle.subcommands.specs.Done.{ShowsModel, TellsCost, WritesJudged, cost_lines, counts_line};
+ghost use Rattle.subcommands.specs.Done.{ShowsModel, TellsCost, TellsCostFitted, WritesJudged, cost_lines, counts_line};
 
 use crate::answers::Answer;
 use crate::judgements::{answer_told, write_judgement};
@@ -20,7 +21,8 @@ use btor2text::write;
 use invocation::Order;
 use std::alloc::{AllocError, Global};
 use verbs::{
-    Cost, Device, Refusal, Subject, cost_of, judge_for_model, judge_over_model, read_model,
+    Cost, Device, Refusal, Subject, cost_of, cost_of_fitted, judge_for_model, judge_over_model,
+    read_model,
 };
 
 /// Judges a witness over a model, and writes the line of its judgement.
@@ -138,6 +140,23 @@ pub fn tell_cost<A: Source, O: Sink>(
         (Used O.failures out.old out.new) Unused }
 {
     let cost = cost_of(alloc, first)?;
+    write_cost(alloc, cost, out)
+}
+
+/// Writes how many gates and variables the lowering of the model has at most that a text's model is fitted into.
+pub fn tell_cost_fitted<A: Source, O: Sink>(
+    alloc: Global,
+    first: &mut A,
+    out: &mut O,
+) -> Result<Answer, Refusal>
+    ensures done { OnOk result (TellsCostFitted (A.to_come first.old) (O.written out.old)
+        (O.written out.new)) }
+    ensures answer { IfOk result (λ answer. answer ≡ Answer.Done) }
+    ensures refused { IfErr result (IfInput (IsNotFitted (A.to_come first.old))) }
+    ensures ends { Ends result (Used A.failures first.old first.new) Unused
+        (Used O.failures out.old out.new) Unused }
+{
+    let cost = cost_of_fitted(alloc, first)?;
     write_cost(alloc, cost, out)
 }
 

@@ -348,6 +348,10 @@ fn write_fault<O: Sink>(fault: &Fault, out: &mut O) -> Result<(), DeviceFault>
             write_item_at(fault.item(), out)?;
             write_numbered(fault.number(), fault.name(), out)
         }
+        Fault::Writing(fault) => {
+            write_item_at(fault.item(), out)?;
+            write_numbered(fault.number(), fault.name(), out)
+        }
         Fault::Outputs(fault) => write_numbered(fault.number(), fault.name(), out),
         Fault::Engine(fault) => write_numbered(fault.number(), fault.name(), out),
         Fault::Invariant(fault) => {

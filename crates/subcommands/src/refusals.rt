@@ -55,6 +55,10 @@ pub(crate) fn fault_line(alloc: Global, fault: &Fault, file: &str) -> Result<Str
             Some(id) => item_line(alloc, file, id, fault.number(), fault.name()),
             None => plain_line(alloc, file, fault.number(), fault.name()),
         },
+        Fault::Writing(fault) => match fault.item() {
+            Some(id) => item_line(alloc, file, id, fault.number(), fault.name()),
+            None => plain_line(alloc, file, fault.number(), fault.name()),
+        },
         Fault::Outputs(fault) => plain_line(alloc, file, fault.number(), fault.name()),
         Fault::Engine(fault) => plain_line(alloc, file, fault.number(), fault.name()),
         Fault::Invariant(fault) => {

@@ -121,6 +121,7 @@ counted_proof certificate.Device f s t t' o err of h = (refl, refl, (h 0).1, ref
 -- what never rises in the circuit never does in what the first text gives
 pub never : (g : Given) (known : Option (List ℕ)) (c : Circuit) (gives : GivesItsCircuit g known c) (k : ℕ) → ((items : List Item) (d : Circuit) (b : ℕ) → Lowers items d → CanRise items b ↔ CanRiseInCircuit d b) → (CanRiseInCircuit c k → ⊥) → NeverRises g known c gives k
 never given.Model known c gives k alike cannot = λ rise. cannot ((alike gives.items c k gives.lowers).0 rise)
+never given.Fitted known c gives k alike cannot = λ rise. cannot ((alike gives.narrow c k gives.lowers).0 ((gives.fits.rise_alike k).0 rise))
 never given.Circuit known c gives k alike cannot = cannot
 
 -- ---- what is refused of the first file

@@ -134,7 +134,7 @@ ends_all {T} {r} {first} {second} {out} {err} h = record {
   untold = h.untold;
 }
 
-no_input : {T : Type 0} (r : Result T Refusal) (P : Fault → Type 0) → IsOfNoInput r → IfErr r (IfInput P)
+pub no_input : {T : Type 0} (r : Result T Refusal) (P : Fault → Type 0) → IsOfNoInput r → IfErr r (IfInput P)
 no_input (Err (refusal.Input f)) P h = absurd h
 no_input _ P h = tt
 

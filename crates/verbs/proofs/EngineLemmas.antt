@@ -8,13 +8,15 @@ use Rattle.aigertext.specs.declared.forms.Form.{Form}
 use Rattle.aigertext.specs.Binary.{circuit_text}
 use Rattle.blast.specs.Lowering.{Lowers}
 use Rattle.btor2.specs.Reachability.{CanRise}
+use Rattle.full.specs.Runs.{CanRiseFull}
 use Rattle.blast.specs.Refusal.{lowering_refusal}
 use Rattle.engine_form.specs.EngineForm.{IsEngineFormOf}
 use Rattle.engine_form.specs.Outputs.{HasOutputsAsBads, OutputCanBeOne}
 use Rattle.verbs.specs.declared.refusals.Refusal.{Refusal}
 use Rattle.btor2text.specs.Spelling.{IsModelOf}
 use Rattle.aigertext.specs.Spelling.{IsCircuitText}
-use Rattle.verbs.specs.Circuits.{ConvertsForEngines, LowersForEngines, RiseAlike, WritesEngineForm}
+use Rattle.verbs.specs.Circuits.{ConvertsForEngines, LowersForEngines, RiseAlike, WritesEngineForm, WritesFittedCircuit, WritesFittedForm}
+use Rattle.verbs.specs.Given.{LowersFitted}
 use Rattle.verbs.specs.Outputs.{ConvertsOutputs, ConvertsOutputsForEngines}
 
 -- the laws of engine forms: with all bad properties, and with a chosen one
@@ -100,3 +102,26 @@ outputs_for_engines (Ok x) known before now form choice c made text outputs rise
   appends = w.appends;
 }
 outputs_for_engines (Err e) known before now form choice c made text outputs rise others all one w = w
+
+-- ---- models that are fitted
+
+-- properties that rise as those of a model that a circuit lowers rise as those of the circuit
+fitted_alike : (known : Option (List ℕ)) (c : Circuit) (l : LowersFitted known c) → ((b : ℕ) → CanRise l.narrow b ↔ CanRiseInCircuit c b) → (b : ℕ) → CanRiseFull l.fits.lines b ↔ CanRiseInCircuit c b
+fitted_alike known c l rise = λ b. composed (l.fits.rise_alike b) (rise b)
+
+pub fitted_written : (r : Result (Unit {0}) Refusal) (known before now : Option (List ℕ)) (form : Form) (c : Circuit) → (l : LowersFitted known c) → ((b : ℕ) → CanRise l.narrow b ↔ CanRiseInCircuit c b)
+    → OnOk r (Appends before now (circuit_text form c)) → OnOk r (WritesFittedCircuit known before now form)
+fitted_written (Ok x) known before now form c l rise appends = record { circuit = c; lowers = l; rise_alike = fitted_alike known c l rise; appends = appends }
+fitted_written (Err e) known before now form c l rise appends = appends
+
+pub fitted_for_engines : (r : Result (Unit {0}) Refusal) (known before now : Option (List ℕ)) (form : Form) (choice : Option ℕ) (c : Circuit) → (l : LowersFitted known c)
+    → ((b : ℕ) → CanRise l.narrow b ↔ CanRiseInCircuit c b) → AllRise → OneRises → OnOk r (WritesEngineForm c choice before now form) → OnOk r (WritesFittedForm known before now form choice)
+fitted_for_engines (Ok x) known before now form choice c l rise all one w = record {
+  lowered = c;
+  circuit = w.circuit;
+  lowers = l;
+  is_form = w.is_form;
+  rise_alike = behind (CanRiseFull l.fits.lines) choice c w.circuit (fitted_alike known c l rise) (rise_alike choice c w.circuit all one w.is_form);
+  appends = w.appends;
+}
+fitted_for_engines (Err e) known before now form choice c l rise all one w = w

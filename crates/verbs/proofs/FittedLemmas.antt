@@ -1,16 +1,92 @@
--- A text that stands for no model of the profile.
-use Rattle.std.proofs.Common.{◌⊎◌, inl, inr, ℕ, List, Result, Ok, Err, IfOk}
+-- Texts that are fitted, and that are not.
+use Rattle.std.proofs.Common.{◌≡◌, ◌≢◌, ◌⊎◌, inl, inr, ℕ, List, Option, None, Some, IfSome, MatchOption, Result, Ok, Err, IfOk, IfErr, subst, sym}
 use Rattle.btor2.specs.declared.item.Item.{Item}
+use Rattle.btor2.specs.Lists.{first_init_without_next}
 use Rattle.btor2text.specs.Spelling.{StandsFor}
+use Rattle.fitting.specs.Models.{IsUnfit}
+use Rattle.fitting.specs.declared.fault.FitFault.{FitFault}
+use Rattle.fitting.specs.declared.fault.FitFault.TheVariants as fit
+use Rattle.full.specs.Lines.{FullLine}
+use Rattle.full.specs.WrittenOut.{Places, IsWrittenOut}
+use Rattle.fulltext.specs.Spelling.{StandsForFull}
+use Rattle.widetext.specs.Spelling.{StandsForWide}
+use Rattle.writeout.specs.Faults.{IsUnwritten}
+use Rattle.writeout.specs.declared.fault.WriteFault.{WriteFault}
+use Rattle.writeout.specs.declared.fault.WriteFault.TheVariants as write
+use Rattle.verbs.specs.declared.refusals.Fault.{Fault}
+use Rattle.verbs.specs.declared.refusals.Fault.TheVariants as fault
 use Rattle.verbs.specs.declared.refusals.Refusal.{Refusal}
-use Rattle.verbs.specs.Fitting.{IsKept}
+use Rattle.verbs.specs.declared.refusals.Refusal.TheVariants as refusal
+use Rattle.verbs.specs.Conversions.{of_fitting, of_fitting_written}
+use Rattle.verbs.specs.Fitting.{FitsFirst, IsFitText, IsKept, IsNotFit, IsNotFitted, IsOfWords, IsProfileOf, IsUnwrittenOrLong, IsWritingFault}
+use Rattle.verbs.specs.Statuses.{IfInput}
 
 -- it is kept by whatever is made of it
-pub all_kept : (r : Result (List Item) Refusal) (text : List ℕ) → ((items : List Item) → StandsFor text items → ⊥) → IfOk r (IsKept text)
-all_kept (Ok m) text none = λ items stands. absurd (none items stands)
+pub all_kept : (r : Result (List Item) Refusal) (text : List ℕ) → ((items : List Item) → StandsFor text items → ¬ (first_init_without_next items items ≡ None)) → IfOk r (IsKept text)
+all_kept (Ok m) text none = λ items stands ready. absurd (none items stands ready)
 all_kept (Err e) text none = tt
+
+-- a model of the profile that was read, and what there is of it where each of its states has a next or is free
+pub profile_of : (text : List ℕ) (m : List Item) (r : Option (List Item)) → ((items : List Item) → StandsFor text items → StandsFor text m → items ≡ m) → StandsFor text m
+    → MatchOption r (first_init_without_next m m ≢ None) (λ x. (x ≡ m) × (first_init_without_next m m ≡ None)) → IsProfileOf text r
+profile_of text m (Some x) same stands h = (subst (StandsFor text) (sym h.0) stands, subst (λ (y : List Item). first_init_without_next y y ≡ None) (sym h.0) h.1)
+profile_of text m None same stands h = λ items also ready. h (subst (λ (y : List Item). first_init_without_next y y ≡ None) (same items also stands) ready)
+
+-- the same of a model with words of any width
+pub words_of_text : (text : List ℕ) (m : List Item) (r : Option (List Item)) → StandsForWide text m → IfSome r (λ x. (x ≡ m) × (first_init_without_next m m ≡ None)) → IsOfWords text r
+words_of_text text m (Some x) stands h = (subst (StandsForWide text) (sym h.0) stands, subst (λ (y : List Item). first_init_without_next y y ≡ None) (sym h.0) h.1)
+words_of_text text m None stands h = tt
+
+-- ---- refusals
+
+-- a model with words of any width that is not fitted
+pub not_fit_words : (text : List ℕ) (wide : List Item) (e : FitFault) → StandsForWide text wide → IsUnfit wide e → IfInput (IsNotFit text) (of_fitting e)
+not_fit_words text wide fit.NoMemory stands unfit = tt
+not_fit_words text wide _ stands unfit = inl (record { wide = wide; stands = stands; unfit = unfit })
+
+-- a list that a model was written out as, and that is not fitted
+pub not_fit_written : (text : List ℕ) (lines : List FullLine) (p : Places) (wide : List Item) (e : FitFault) → StandsForFull text lines → IsWrittenOut lines p wide → IsUnfit wide e
+    → IfInput (IsNotFit text) (of_fitting_written e)
+not_fit_written text lines p wide fit.NoMemory stands written unfit = tt
+not_fit_written text lines p wide (fit.TooManyItems id) stands written unfit =
+    record { lines = lines; stands = stands; unwritten = inr (record { places = p; wide = wide; written = written; id = id; unfit = unfit }) }
+not_fit_written text lines p wide _ stands written unfit = inr (record { lines = lines; stands = stands; places = p; wide = wide; written = written; unfit = unfit })
+
+-- a model that is not written out
+or_long : (lines : List FullLine) (e : WriteFault) → IsUnwritten lines e → IsUnwrittenOrLong lines e
+or_long lines write.TooManyItems h = inl h
+or_long lines _ h = h
+
+pub unwritten_text : (text : List ℕ) (lines : List FullLine) (x : Refusal) → StandsForFull text lines → IfInput (IsWritingFault lines) x → IfInput (IsNotFit text) x
+unwritten_text text lines (refusal.Input (fault.Writing e)) stands h = record { lines = lines; stands = stands; unwritten = or_long lines e h }
+unwritten_text text lines (refusal.Input _) stands h = absurd h
+unwritten_text text lines _ stands h = tt
 
 -- none of two that cannot be
 pub neither : {P Q : Type 0} → (P → ⊥) → (Q → ⊥) → P ⊎ Q → ⊥
 neither {P} {Q} p q (inl h) = p h
 neither {P} {Q} p q (inr h) = q h
+
+-- ---- a text that is all that was to come
+
+-- what is so of the text is so of all that was to come
+pub seen : (P : List ℕ → Type 0) (known : Option (List ℕ)) (text : List ℕ) → IfSome known (λ all. text ≡ all) → P text → IfSome known P
+seen P None text same p = tt
+seen P (Some all) text same p = subst P same p
+
+pub fits_first : (r : Result (List Item) Refusal) (known : Option (List ℕ)) (text : List ℕ) → IfSome known (λ all. text ≡ all) → IfOk r (IsFitText text) → IfOk r (FitsFirst known)
+fits_first (Ok narrow) known text same fit = record {
+  lines = fit.lines;
+  stands = seen (λ t. StandsForFull t fit.lines) known text same fit.stands;
+  fitted = seen (λ t. IsFitText t narrow) known text same fit;
+  rise_alike = fit.rise_alike;
+}
+fits_first (Err x) known text same fit = tt
+
+-- what keeps the text from being fitted keeps all that was to come from it
+pub not_fitted : (known : Option (List ℕ)) (text : List ℕ) (x : Refusal) → IfSome known (λ all. text ≡ all) → IfInput (IsNotFit text) x → IfInput (IsNotFitted known) x
+not_fitted known text (refusal.Input (fault.Model e)) same is = seen (λ t. IsNotFit t (fault.Model e)) known text same is
+not_fitted known text (refusal.Input (fault.Fitting e)) same is = seen (λ t. IsNotFit t (fault.Fitting e)) known text same is
+not_fitted known text (refusal.Input (fault.Writing e)) same is = seen (λ t. IsNotFit t (fault.Writing e)) known text same is
+not_fitted known text (refusal.Input _) same is = absurd is
+not_fitted known text _ same is = tt

@@ -29,14 +29,36 @@ use Rattle.verbs.specs.declared.refusals.Refusal.TheVariants as refusal
 use Rattle.verbs.specs.Claims.{IsClaim}
 use Rattle.verbs.specs.Asked.{IsNotJudgedWith}
 use Rattle.verbs.specs.Conversions.{of_dumping, of_engine_form, of_judging, of_lifting}
-use Rattle.verbs.specs.Given.{GivesItsCircuit, IsLowered}
-use Rattle.verbs.specs.Refusals.{HasOutputsAlone, IsNotClaimable, IsNotClaimed, IsNotForEngines, IsNotGiven, IsNotJudged, IsUnclaimed, IsWithoutForm}
+use Rattle.verbs.specs.Fitting.{FitsFirst, IsNotFitted}
+use Rattle.verbs.specs.Given.{GivesItsCircuit, IsLowered, IsLoweredFitted, LowersFitted}
+use Rattle.verbs.specs.Refusals.{HasOutputsAlone, IsAgainst, IsNotClaimable, IsNotClaimed, IsNotForEngines, IsNotGiven, IsNotJudged, IsNotLowered, IsNotLoweredFitted, IsUnclaimed, IsWithoutForm}
 use Rattle.verbs.specs.Outputs.{IsNotWithOutputsForEngines}
 use Rattle.verbs.specs.Statuses.{IfInput}
 
 -- a text whose model is lowered gives that circuit
 pub gives_lowered : (first : Option (List ℕ)) (r : Lowered) → IsLowered first r → GivesItsCircuit given.Model first r.circuit
 gives_lowered first r is = record { items = r.model; text = is.text; accepted = is.accepted; lowers = is.lowers }
+
+-- so does one whose fitted model is
+pub gives_fitted : (first : Option (List ℕ)) (r : Lowered) → IsLoweredFitted first r → LowersFitted first r.circuit
+gives_fitted first r is = record { narrow = r.model; fits = is.fits; accepted = is.accepted; lowers = is.lowers }
+
+-- what speaks against lowering the text's model, and the model that it is fitted into
+pub not_lowered : (known : Option (List ℕ)) (items : List Item) (x : Refusal) → IsModelOf known items → IsWellFormed items → IfInput (IsAgainst items) x → IfInput (IsNotLowered known) x
+not_lowered known items (refusal.Input (fault.Lowering e)) text valid against = record { items = items; text = text; well_formed = valid; first = against }
+not_lowered known items (refusal.Input _) text valid against = absurd against
+not_lowered known items _ text valid against = tt
+
+pub not_lowered_fitted : (known : Option (List ℕ)) (narrow : List Item) (x : Refusal) → FitsFirst known narrow → IfInput (IsAgainst narrow) x → IfInput (IsNotLoweredFitted known) x
+not_lowered_fitted known narrow (refusal.Input (fault.Lowering e)) fits against = record { narrow = narrow; fits = fits; first = against }
+not_lowered_fitted known narrow (refusal.Input _) fits against = absurd against
+not_lowered_fitted known narrow _ fits against = tt
+
+-- a text that is not fitted
+pub unfitted : (known : Option (List ℕ)) (x : Refusal) → IfInput (IsNotFitted known) x → IfInput (IsNotLoweredFitted known) x
+unfitted known (refusal.Input (fault.Lowering e)) is = absurd is
+unfitted known (refusal.Input _) is = is
+unfitted known _ is = tt
 
 -- no bad property of it is claimed so
 pub not_claimed : (m : Claimed) (g : Given) (known : Option (List ℕ)) (c : Circuit) (f : Fault) → GivesItsCircuit g known c → IsUnclaimed m c f → IsNotClaimed m g None known f
@@ -74,20 +96,24 @@ not_claimable g known c _ gives alone = tt
 
 pub none_claimable : (g : Given) (known : Option (List ℕ)) (x : Refusal) → IfInput (IsNotGiven g known) x → IfInput (IsNotClaimable g known) x
 none_claimable given.Model known (refusal.Input (fault.Engine e)) none = absurd none
+none_claimable given.Fitted known (refusal.Input (fault.Engine e)) none = absurd none
 none_claimable given.Circuit known (refusal.Input (fault.Engine e)) none = absurd none
 none_claimable g known (refusal.Input _) none = none
 none_claimable g known _ none = tt
 
 pub none_claimed : (m : Claimed) (g : Given) (choice : Option ℕ) (known : Option (List ℕ)) (x : Refusal) → IfInput (IsNotGiven g known) x → IfInput (IsNotClaimed m g choice known) x
 none_claimed m given.Model choice known (refusal.Input (fault.Engine e)) none = absurd none
+none_claimed m given.Fitted choice known (refusal.Input (fault.Engine e)) none = absurd none
 none_claimed m given.Circuit choice known (refusal.Input (fault.Engine e)) none = absurd none
 none_claimed m given.Model choice known (refusal.Input (fault.Unchosen n)) none = absurd none
+none_claimed m given.Fitted choice known (refusal.Input (fault.Unchosen n)) none = absurd none
 none_claimed m given.Circuit choice known (refusal.Input (fault.Unchosen n)) none = absurd none
 none_claimed m g choice known (refusal.Input _) none = none
 none_claimed m g choice known _ none = tt
 
 pub none_for_engines : (g : Given) (choice : Option ℕ) (known : Option (List ℕ)) (x : Refusal) → IfInput (IsNotGiven g known) x → IfInput (IsNotForEngines g choice known) x
 none_for_engines given.Model choice known (refusal.Input (fault.Engine e)) none = absurd none
+none_for_engines given.Fitted choice known (refusal.Input (fault.Engine e)) none = absurd none
 none_for_engines given.Circuit choice known (refusal.Input (fault.Engine e)) none = absurd none
 none_for_engines g choice known (refusal.Input _) none = none
 none_for_engines g choice known _ none = tt

@@ -25,28 +25,30 @@ use Rattle.verbs.specs.declared.refusals.Fault.TheVariants as fault
 use Rattle.verbs.specs.declared.refusals.Refusal.{Refusal}
 use Rattle.verbs.specs.declared.refusals.Refusal.TheVariants as refusal
 use Rattle.verbs.specs.Conversions.{of_judging, of_unfitting}
-use Rattle.verbs.specs.Fitting.{IsNotFit}
 use Rattle.verbs.specs.Statuses.{Ends, IfInput}
 use Rattle.verbs.specs.Statuses.Use.{Unused}
-use Rattle.verbs.specs.Unfitting.{IsKnown, IsNotReady, IsReady, IsReadyFor, IsUnfitted, known_of}
+use Rattle.verbs.specs.Unfitting.{IsKnown, IsNotReady, IsNotWide, IsReady, IsReadyFor, IsUnfitted, known_of}
 
 -- ---- refusals
 
 pub memory_ends : {T : Type 0} → Ends {T = T} (Err refusal.NoMemory) Unused Unused Unused Unused
 memory_ends {T} = record { counted = λ a b c d. (refl, refl, refl, refl); unwritten = tt; untold = tt }
 
-not_ready_of : (text : List ℕ) (f : Fault) → IsNotFit text f → IsNotReady (Some text) f
-not_ready_of text (fault.NoNext id) h = absurd h
-not_ready_of text _ h = h
+not_ready_of : (text : List ℕ) (f : Fault) → IsNotWide text f → IsNotReady (Some text) f
+not_ready_of text (fault.Model e) h = h
+not_ready_of text (fault.Fitting e) h = h
+not_ready_of text _ h = absurd h
 
 -- a text that is not fitted is of no list over which something is judged
-pub not_ready : (text : List ℕ) (x : Refusal) → IfInput (IsNotFit text) x → IfInput (IsNotReady (Some text)) x
+pub not_ready : (text : List ℕ) (x : Refusal) → IfInput (IsNotWide text) x → IfInput (IsNotReady (Some text)) x
 not_ready text (refusal.Input f) h = not_ready_of text f h
 not_ready text _ h = tt
 
 unready_of : (text : List ℕ) (f : Fault) → IsNotReady (Some text) f → IsNotReady None f
 unready_of text (fault.NoNext id) h = record { wide = h.wide; stands = tt; first = h.first }
-unready_of text _ h = tt
+unready_of text (fault.Model e) h = tt
+unready_of text (fault.Fitting e) h = tt
+unready_of text _ h = absurd h
 
 unready_for : (known : Option (List ℕ)) (text : List ℕ) (f : Fault) → IfSome known (λ all. text ≡ all) → IsNotReady (Some text) f → IsNotReady known f
 unready_for None text f same h = unready_of text f h

@@ -4,6 +4,7 @@ use Rattle.std.specs.Io.KnownBytes.{Appends}
 use Rattle.btor2.specs.declared.item.Item.{Item}
 use Rattle.btor2.specs.Check.{IsWellFormed}
 use Rattle.btor2.specs.Reachability.{CanRise}
+use Rattle.full.specs.Runs.{CanRiseFull}
 use Rattle.btor2text.specs.Spelling.{IsModelOf}
 use Rattle.aiger.specs.Circuit.{Circuit, IsCircuit}
 use Rattle.aiger.specs.Reachability.{CanRiseInCircuit}
@@ -15,6 +16,8 @@ use Rattle.blast.specs.Lowering.{Lowers}
 use Rattle.blast.specs.Refusal.{lowering_refusal}
 use Rattle.engine_form.specs.EngineForm.{IsEngineFormOf}
 use Rattle.verbs.specs.declared.lowering.Cost.{Cost}
+use Rattle.verbs.specs.Fitting.{FitsFirst}
+use Rattle.verbs.specs.Given.{LowersFitted}
 
 -- all that was to come is a text of some circuit, and what was written is the writer's text of it in a form
 pub record Rewrites (known before now : Option (List ℕ)) (form : Form) : Type 0 where
@@ -62,3 +65,26 @@ pub record IsCost (known : Option (List ℕ)) (r : Cost) : Type 0 where
   pub well_formed : IsWellFormed items
   pub gates : r.gates ≡ cost items
   pub variables : r.variables ≡ bound items
+
+-- All that was to come is fitted into a model that nothing speaks against, and what was written is the text of a circuit that lowers that. Its bad properties can rise exactly where those can of the model of the whole language that the text stands for.
+pub record WritesFittedCircuit (known before now : Option (List ℕ)) (form : Form) : Type 0 where
+  pub circuit : Circuit
+  pub lowers : LowersFitted known circuit
+  pub rise_alike : RiseAlike (CanRiseFull lowers.fits.lines) None circuit
+  pub appends : Appends before now (circuit_text form circuit)
+
+-- The same of an engine form of such a circuit.
+pub record WritesFittedForm (known before now : Option (List ℕ)) (form : Form) (choice : Option ℕ) : Type 0 where
+  pub lowered : Circuit
+  pub circuit : Circuit
+  pub lowers : LowersFitted known lowered
+  pub is_form : IsEngineFormOf lowered choice circuit
+  pub rise_alike : RiseAlike (CanRiseFull lowers.fits.lines) choice circuit
+  pub appends : Appends before now (circuit_text form circuit)
+
+-- all that was to come is fitted into a model, and so many gates and variables the lowering of that has at most
+pub record IsCostFitted (known : Option (List ℕ)) (r : Cost) : Type 0 where
+  pub narrow : List Item
+  pub fits : FitsFirst known narrow
+  pub gates : r.gates ≡ cost narrow
+  pub variables : r.variables ≡ bound narrow

@@ -15,6 +15,7 @@ use Rattle.blast.specs.declared.fault.LowerFault.{LowerFault}
 use Rattle.blast.specs.declared.fault.LowerFault.TheVariants as lower
 use Rattle.fitting.specs.declared.fault.FitFault.{FitFault}
 use Rattle.fitting.specs.declared.fault.FitFault.TheVariants as fit
+use Rattle.writeout.specs.declared.fault.WriteFault.TheVariants as write
 use Rattle.blast.specs.declared.fault.ConvertFault.{ConvertFault}
 use Rattle.blast.specs.declared.fault.ConvertFault.TheVariants as convert
 use Rattle.witness.specs.declared.fault.JudgeFault.{JudgeFault}
@@ -80,6 +81,12 @@ of_lowering e = refusal.Input (fault.Lowering e)
 abbrev pub of_fitting : FitFault → Refusal
 of_fitting fit.NoMemory = refusal.NoMemory
 of_fitting e = refusal.Input (fault.Fitting e)
+
+-- of fitting a list that a model was written out as: no line of the model is told
+abbrev pub of_fitting_written : FitFault → Refusal
+of_fitting_written fit.NoMemory = refusal.NoMemory
+of_fitting_written (fit.TooManyItems id) = refusal.Input (fault.Writing write.TooManyItems)
+of_fitting_written e = refusal.Input (fault.Fitting e)
 
 -- of making an engine form
 abbrev pub of_engine_form : EngineFault → Refusal

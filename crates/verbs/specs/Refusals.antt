@@ -25,6 +25,7 @@ use Rattle.invocation.specs.declared.tasks.Certificate.{Certificate}
 use Rattle.invocation.specs.declared.tasks.Certificate.TheVariants as certificate
 use Rattle.invocation.specs.declared.tasks.Given.{Given}
 use Rattle.invocation.specs.declared.tasks.Given.TheVariants as given
+use Rattle.verbs.specs.Fitting.{FitsFirst, IsNotFitted}
 use Rattle.verbs.specs.Given.{GivesItsCircuit, IsGivenNumbering}
 use Rattle.btor2text.specs.Spelling.{IsModelOf}
 use Rattle.aigertext.specs.Spelling.{IsCircuitText}
@@ -81,9 +82,26 @@ abbrev pub IsWithoutForm : Circuit → Option ℕ → Fault → Type 0
 IsWithoutForm c choice (fault.Engine e) = engine_refusal c choice ≡ Some e
 IsWithoutForm c choice _ = ⊥
 
--- the first text is no model, or is of one that is not lowered; or it is no circuit
+-- this is the first that speaks against lowering a model
+abbrev pub IsAgainst : List Item → Fault → Type 0
+IsAgainst items (fault.Lowering e) = lowering_refusal items ≡ Some e
+IsAgainst items _ = ⊥
+
+-- the first text is fitted into a model, and this is the first that speaks against lowering that
+pub record IsUnloweredFitted (known : Option (List ℕ)) (e : LowerFault) : Type 0 where
+  pub narrow : List Item
+  pub fits : FitsFirst known narrow
+  pub first : lowering_refusal narrow ≡ Some e
+
+-- the first text is not fitted, or into a model that is not lowered
+abbrev pub IsNotLoweredFitted : Option (List ℕ) → Fault → Type 0
+IsNotLoweredFitted known (fault.Lowering e) = IsUnloweredFitted known e
+IsNotLoweredFitted known f = IsNotFitted known f
+
+-- the first text is no model, or is of one that is not lowered; or it is not fitted, or into such a one; or it is no circuit
 abbrev pub IsNotGiven : Given → Option (List ℕ) → Fault → Type 0
 IsNotGiven given.Model known f = IsNotLowered known f
+IsNotGiven given.Fitted known f = IsNotLoweredFitted known f
 IsNotGiven given.Circuit known f = IsNoCircuit known f
 
 -- the first text gives a circuit that has outputs and no bad property

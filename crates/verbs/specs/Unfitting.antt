@@ -11,6 +11,7 @@ use Rattle.spread.specs.Spread.{IsShort, spread_text}
 use Rattle.unfit.specs.Joined.{Wide}
 use Rattle.unfit.specs.Naming.{names_of}
 use Rattle.unfit.specs.Unfitted.{KeepsJudgement, unfit_text}
+use Rattle.widetext.specs.FirstFault.{IsWideFaultOf}
 use Rattle.widetext.specs.Spelling.{StandsForWide}
 use Rattle.witness.specs.declared.judgement.Judgement.{Judgement}
 use Rattle.witness.specs.Texts.{shape_of}
@@ -19,7 +20,7 @@ use Rattle.verbs.specs.declared.refusals.Fault.{Fault}
 use Rattle.verbs.specs.declared.refusals.Fault.TheVariants as fault
 use Rattle.verbs.specs.declared.unfitting.Known.{Known}
 use Rattle.verbs.specs.declared.unfitting.Ready.{Ready}
-use Rattle.verbs.specs.Fitting.{IsNotFitted}
+use Rattle.verbs.specs.Fitting.{IsUnfitText}
 
 -- All that was to come is a text that stands for a list with words of any width, each of whose states has a next or is free, and which is fitted into a model.
 pub record IsReady (known : Option (List ℕ)) (wide narrow : List Item) : Type 0 where
@@ -74,7 +75,15 @@ pub record LacksNextWide (known : Option (List ℕ)) (id : ℕ) : Type 0 where
   pub stands : IfSome known (λ text. StandsForWide text wide)
   pub first : first_init_without_next wide wide ≡ Some id
 
+-- a text stands for no list with words of any width, and this is its first fault; or for one that is not fitted
+abbrev pub IsNotWide : List ℕ → Fault → Type 0
+IsNotWide text (fault.Model e) = IsWideFaultOf text e
+IsNotWide text (fault.Fitting e) = IsUnfitText text e
+IsNotWide text _ = ⊥
+
 -- the first text stands for no list with words of any width, or for one that is not fitted, or over which nothing is judged
 abbrev pub IsNotReady : Option (List ℕ) → Fault → Type 0
 IsNotReady known (fault.NoNext id) = LacksNextWide known id
-IsNotReady known f = IsNotFitted known f
+IsNotReady known (fault.Model e) = IfSome known (λ text. IsNotWide text (fault.Model e))
+IsNotReady known (fault.Fitting e) = IfSome known (λ text. IsNotWide text (fault.Fitting e))
+IsNotReady known _ = ⊥

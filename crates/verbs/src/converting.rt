@@ -20,7 +20,11 @@ use engine_form::{engine_form, outputs_as_bads};
 use std::alloc::Global;
 
 /// Writes a circuit in a form.
-fn write_circuit<O: Sink>(circuit: &Circuit, form: Form, out: &mut O) -> Result<(), Refusal>
+pub(crate) fn write_circuit<O: Sink>(
+    circuit: &Circuit,
+    form: Form,
+    out: &mut O,
+) -> Result<(), Refusal>
     ensures done { OnOk result (Appends (O.written out.old) (O.written out.new)
         (circuit_text form circuit.now)) }
     ensures ends { EndsUnrefused result Unused Unused (Used O.failures out.old out.new) Unused }

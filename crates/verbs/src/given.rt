@@ -1,15 +1,16 @@
 //! The circuit that a first text gives.
 
-ghost use Rattle.std.specs.Prelude.{◌≡◌, ℕ, List, None, Option, IfOk, IfErr, OnOk};
+ghost use Rattle.std.specs.Prelude.{◌≡◌, None, IfOk, IfErr, OnOk};
 ghost use Rattle.blast.specs.Lowering.{Lowers};
 ghost use Rattle.blast.specs.Refusal.{lowering_refusal};
-ghost use Rattle.btor2text.specs.Spelling.{IsModelOf};
+ghost use Rattle.btor2.specs.Check.{IsWellFormed};
 ghost use Rattle.invocation.specs.declared.tasks.Given.TheVariants as given_is;
-ghost use Rattle.verbs.specs.Given.{IsGiven, IsLowered};
-ghost use Rattle.verbs.specs.Refusals.{IsNoCircuit, IsNotGiven, IsNotLowered};
+ghost use Rattle.verbs.specs.Given.{IsGiven, IsLowered, IsLoweredFitted};
+ghost use Rattle.verbs.specs.Refusals.{IsAgainst, IsNoCircuit, IsNotGiven, IsNotLowered, IsNotLoweredFitted};
 ghost use Rattle.verbs.specs.Statuses.{Ends, IfInput};
 ghost use Rattle.verbs.specs.Statuses.Use.{Unused, Used};
 
+use crate::fitted::read_fitted;
 use crate::reading::read_model;
 use crate::refusals::Refusal;
 use aiger::Circuit;
@@ -30,8 +31,8 @@ pub struct Lowered {
     pub circuit: Circuit,
 }
 
-/// What a first text gives: a circuit, the model that it lowers, where that is what is given, and the numbering of the
-/// circuit's text.
+/// What a first text gives: a circuit, the model that it lowers, where that is what is given or what it is fitted into, and the
+/// numbering of the circuit's text.
 #[derive(Drop)]
 pub struct GivenCircuit {
     /// The model, where the text is of one.
@@ -46,8 +47,8 @@ pub struct GivenCircuit {
 fn lower_model<W: Watch>(alloc: Global, model: &Model, watch: &mut W) -> Result<Circuit, Refusal>
     ensures accepted { OnOk result (lowering_refusal model.now ≡ None) }
     ensures lowers { IfOk result (Lowers model.now) }
-    ensures refused { (known : Option (List ℕ)) → IsModelOf known model.now
-        → IfErr result (IfInput (IsNotLowered known)) }
+    ensures valid { IsWellFormed model.now }
+    ensures refused { IfErr result (IfInput (IsAgainst model.now)) }
     ensures ends { Ends result Unused Unused Unused Unused }
 {
     // a model's items are well-formed
@@ -70,6 +71,21 @@ pub(crate) fn lower_first<A: Source, W: Watch>(
     Ok(Lowered { model, circuit })
 }
 
+/// Reads the first text as a model of the whole language, fits it, and lowers that.
+pub(crate) fn lower_fitted_first<A: Source, W: Watch>(
+    alloc: Global,
+    first: &mut A,
+    watch: &mut W,
+) -> Result<Lowered, Refusal>
+    ensures lowered { IfOk result (IsLoweredFitted (A.to_come first.old)) }
+    ensures refused { IfErr result (IfInput (IsNotLoweredFitted (A.to_come first.old))) }
+    ensures ends { Ends result (Used A.failures first.old first.new) Unused Unused Unused }
+{
+    let model = read_fitted(alloc, first)?;
+    let circuit = lower_model(alloc, &model, watch)?;
+    Ok(Lowered { model, circuit })
+}
+
 /// What is given by a first text that is of a model.
 fn give_lowered<A: Source, W: Watch>(
     alloc: Global,
@@ -81,6 +97,24 @@ fn give_lowered<A: Source, W: Watch>(
     ensures ends { Ends result (Used A.failures first.old first.new) Unused Unused Unused }
 {
     let Lowered { model, circuit } = lower_first(alloc, first, watch)?;
+    Ok(GivenCircuit {
+        model: Some(model),
+        circuit,
+        numbering: Numbering::own(),
+    })
+}
+
+/// What is given by one that is of a model of the whole language.
+fn give_fitted<A: Source, W: Watch>(
+    alloc: Global,
+    first: &mut A,
+    watch: &mut W,
+) -> Result<GivenCircuit, Refusal>
+    ensures given { IfOk result (IsGiven given_is.Fitted (A.to_come first.old)) }
+    ensures refused { IfErr result (IfInput (IsNotLoweredFitted (A.to_come first.old))) }
+    ensures ends { Ends result (Used A.failures first.old first.new) Unused Unused Unused }
+{
+    let Lowered { model, circuit } = lower_fitted_first(alloc, first, watch)?;
     Ok(GivenCircuit {
         model: Some(model),
         circuit,
@@ -121,6 +155,7 @@ pub(crate) fn give<A: Source, W: Watch>(
 {
     match given {
         Given::Model => give_lowered(alloc, first, watch),
+        Given::Fitted => give_fitted(alloc, first, watch),
         Given::Circuit => give_circuit(alloc, first),
     }
 }

@@ -31,7 +31,9 @@ pub use judging::{
     judge_over_model,
 };
 pub use lifting::{FoundLifted, Lifted, lift, lift_found, lift_from_form};
-pub use lowering::{Cost, cost_of, lower, lower_for_engines};
+pub use lowering::{
+    Cost, cost_of, cost_of_fitted, lower, lower_fitted, lower_fitted_for_engines, lower_for_engines,
+};
 pub use outcomes::Outcome;
 pub use reading::read_model;
 pub use refusals::{Claimed, Device, Fault, Refusal};

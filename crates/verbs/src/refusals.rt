@@ -17,6 +17,7 @@ use vcd::WaveFault;
 use vectors::LinesFault;
 use witness::JudgeFault;
 use witness_circuits::{TestFault, WitnessFault};
+use writeout::WriteFault;
 
 /// What is wrong with a file.
 #[derive(Clone, Copy)]
@@ -29,6 +30,8 @@ pub enum Fault {
     Lowering(LowerFault),
     /// The model with words of any width is not fitted into one of the profile.
     Fitting(FitFault),
+    /// The model of the whole language is not written out as one with words of any width.
+    Writing(WriteFault),
     /// The circuit has more bad properties and outputs than a circuit may have bad properties.
     Outputs(CircuitFault),
     /// The circuit has no such engine form.

@@ -4,8 +4,7 @@ ghost use Rattle.std.specs.Prelude.{◌≡◌, ℕ, List, IfOk, IfErr, OnOk, Non
 ghost use Rattle.btor2.specs.Lists.{first_init_without_next};
 ghost use Rattle.fitting.specs.Models.{IsFit};
 ghost use Rattle.widetext.specs.Spelling.{StandsForWide};
-ghost use Rattle.verbs.specs.Fitting.{IsNotFit};
-ghost use Rattle.verbs.specs.Unfitting.{IsJudgedFitted, IsKnown, IsNotReady, IsReadyFor, IsSpread, IsUnfitted};
+ghost use Rattle.verbs.specs.Unfitting.{IsJudgedFitted, IsKnown, IsNotReady, IsNotWide, IsReadyFor, IsSpread, IsUnfitted};
 ghost use Rattle.verbs.specs.Statuses.{Ends, IfInput};
 ghost use Rattle.verbs.specs.Statuses.Use.{Unused, Used};
 
@@ -63,7 +62,7 @@ fn refuse_lacking(wide: &WideModel) -> Result<(), Refusal>
 fn narrow_of(alloc: Global, text: &[u8], wide: WideModel) -> Result<Model, Refusal>
     requires stands { StandsForWide text.now wide }
     ensures fit { IfOk result (IsFit wide) }
-    ensures refused { IfErr result (IfInput (IsNotFit text.now)) }
+    ensures refused { IfErr result (IfInput (IsNotWide text.now)) }
     ensures ends { Ends result Unused Unused Unused Unused }
 {
     fitting::laws::profile_is_fitted();

@@ -62,6 +62,7 @@ abbrev pub fits : List Said → Kind → List ℕ → Said → Bool
 fits ps kind.File name (a_file w) = true
 fits ps kind.Flag name (a_flag n) = bytes_eq n name
 fits ps kind.FlagAlone name (a_flag n) = bytes_eq n name && not (has_telling ps)
+fits ps kind.FlagOnModel name (a_flag n) = bytes_eq n name && not (has (codes "aiger") ps)
 fits ps kind.FlagWithCircuit name (a_flag n) = bytes_eq n name && has (codes "circuit") ps
 fits ps kind.FlagWithEngine name (a_flag n) = bytes_eq n name && has (codes "engine") ps
 fits ps kind.Text name (an_option n v) = bytes_eq n name
@@ -79,17 +80,20 @@ position ps = option_and_then number_of (value (codes "bad") ps)
 -- what a certificate is about: a bad property of a model or a circuit, by an invariant or by a witness circuit of either
 abbrev pub certified : List Said → Certified
 certified ps = record {
-  given = if has (codes "aiger") ps then given.Circuit else given.Model;
+  given = if has (codes "aiger") ps then given.Circuit else (if has (codes "fit") ps then given.Fitted else given.Model);
   by = if has (codes "circuit") ps then (if has (codes "engine") ps then by.CircuitOfForm else by.Circuit) else by.Invariant;
   choice = position ps;
 }
 
 -- the task of a command; the judgement of a list is none
 abbrev pub task_of : Verb → List Said → Option Task
-task_of verb.Lower ps = Some (if has (codes "engine") ps then task.Model (model.LowerForEngines (position ps)) else task.Text text.Lower)
+task_of verb.Lower ps = Some
+    (if has (codes "engine") ps
+    then (if has (codes "fit") ps then task.Model (model.LowerFittedForEngines (position ps)) else task.Model (model.LowerForEngines (position ps)))
+    else (if has (codes "fit") ps then task.Model model.LowerFitted else task.Text text.Lower))
 task_of verb.CheckBtor ps = Some (task.Model (if has (codes "fit") ps then model.CheckFitted else model.CheckBtor))
 task_of verb.Show ps = Some (task.Model model.Show)
-task_of verb.Cost ps = Some (task.Model model.Cost)
+task_of verb.Cost ps = Some (task.Model (if has (codes "fit") ps then model.CostFitted else model.Cost))
 task_of verb.Fit ps = Some (task.Text text.Fit)
 task_of verb.Unfit ps = Some (task.Model (if has (codes "back") ps then model.Spread else model.Unfit))
 task_of verb.AigConvert ps = Some (task.Circuit

@@ -35,12 +35,12 @@ abbrev pub words_of : Verb → List (List ℕ × Kind)
 words_of verb.Lower =
     (codes "MODEL", kind.File) ∷ (codes "quiet", kind.Flag) ∷ (codes "output", kind.Text)
     ∷ (codes "ascii", kind.Flag) ∷ (codes "binary", kind.Flag) ∷ (codes "engine", kind.Flag)
-    ∷ (codes "bad", kind.PositionWithEngine) ∷ []
+    ∷ (codes "bad", kind.PositionWithEngine) ∷ (codes "fit", kind.FlagOnModel) ∷ []
 words_of verb.CheckBtor =
     (codes "MODEL", kind.File) ∷ (codes "quiet", kind.Flag) ∷ (codes "WITNESS", kind.File)
     ∷ (codes "names", kind.Flag) ∷ (codes "bad", kind.Text) ∷ (codes "json", kind.Flag) ∷ (codes "fit", kind.FlagAlone) ∷ []
 words_of verb.Show = (codes "MODEL", kind.File) ∷ (codes "quiet", kind.Flag) ∷ (codes "output", kind.Text) ∷ []
-words_of verb.Cost = (codes "MODEL", kind.File) ∷ (codes "quiet", kind.Flag) ∷ []
+words_of verb.Cost = (codes "MODEL", kind.File) ∷ (codes "quiet", kind.Flag) ∷ (codes "fit", kind.FlagOnModel) ∷ []
 words_of verb.Fit = (codes "MODEL", kind.File) ∷ (codes "quiet", kind.Flag) ∷ (codes "output", kind.Text) ∷ []
 words_of verb.Unfit =
     (codes "MODEL", kind.File) ∷ (codes "quiet", kind.Flag) ∷ (codes "WITNESS", kind.File)
@@ -65,12 +65,12 @@ words_of verb.Wave =
 words_of verb.Obligation =
     (codes "MODEL", kind.File) ∷ (codes "quiet", kind.Flag) ∷ (codes "output", kind.Text)
     ∷ (codes "CERTIFICATE", kind.File) ∷ (codes "aiger", kind.Flag) ∷ (codes "circuit", kind.Flag)
-    ∷ (codes "engine", kind.FlagWithCircuit) ∷ (codes "bad", kind.Position) ∷ []
+    ∷ (codes "engine", kind.FlagWithCircuit) ∷ (codes "bad", kind.Position) ∷ (codes "fit", kind.FlagOnModel) ∷ []
 words_of verb.CheckProof =
     (codes "MODEL", kind.File) ∷ (codes "quiet", kind.Flag) ∷ (codes "names", kind.Flag)
     ∷ (codes "CERTIFICATE", kind.File) ∷ (codes "aiger", kind.Flag) ∷ (codes "circuit", kind.Flag)
     ∷ (codes "engine", kind.FlagWithCircuit) ∷ (codes "bad", kind.Position) ∷ (codes "PROOF", kind.File)
-    ∷ (codes "lrat", kind.Flag) ∷ (codes "json", kind.Flag) ∷ []
+    ∷ (codes "lrat", kind.Flag) ∷ (codes "json", kind.Flag) ∷ (codes "fit", kind.FlagOnModel) ∷ []
 words_of verb.TidyWitness =
     (codes "WITNESS", kind.File) ∷ (codes "quiet", kind.Flag) ∷ (codes "output", kind.Text)
     ∷ (codes "pick", kind.Number) ∷ []

@@ -51,6 +51,8 @@ pub enum Kind {
     Flag,
     /// A flag that goes with none of `--names`, `--bad` and `--json`.
     FlagAlone,
+    /// A flag that goes with a model, and so without `--aiger`.
+    FlagOnModel,
     /// A flag that goes with `--circuit`.
     FlagWithCircuit,
     /// A flag that goes with `--engine`.
@@ -125,6 +127,11 @@ const ASKED_BAD: Word = Word {
 };
 
 const FIT: Word = Word {
+    name: "fit",
+    kind: Kind::FlagOnModel,
+};
+
+const JUDGED_FIT: Word = Word {
     name: "fit",
     kind: Kind::FlagAlone,
 };
@@ -271,10 +278,20 @@ pub fn words_of(verb: Verb) -> &'static [Word]
     ensures { map (λ word. (word.name.now, word.kind)) result.now ≡ words_of verb }
 {
     match verb {
-        Verb::Lower => &[MODEL_FILE, QUIET, OUTPUT, ASCII, BINARY, ENGINE, ENGINE_BAD],
-        Verb::CheckBtor => &[MODEL_FILE, QUIET, WITNESS_FILE, NAMES, ASKED_BAD, JSON, FIT],
+        Verb::Lower => &[
+            MODEL_FILE, QUIET, OUTPUT, ASCII, BINARY, ENGINE, ENGINE_BAD, FIT,
+        ],
+        Verb::CheckBtor => &[
+            MODEL_FILE,
+            QUIET,
+            WITNESS_FILE,
+            NAMES,
+            ASKED_BAD,
+            JSON,
+            JUDGED_FIT,
+        ],
         Verb::Show => &[MODEL_FILE, QUIET, OUTPUT],
-        Verb::Cost => &[MODEL_FILE, QUIET],
+        Verb::Cost => &[MODEL_FILE, QUIET, FIT],
         Verb::Fit => &[MODEL_FILE, QUIET, OUTPUT],
         Verb::Unfit => &[MODEL_FILE, QUIET, WITNESS_FILE, OUTPUT, NAMES, BACK],
         Verb::AigConvert => &[
@@ -309,6 +326,7 @@ pub fn words_of(verb: Verb) -> &'static [Word]
             CIRCUIT,
             CERTIFIED_ENGINE,
             BAD,
+            FIT,
         ],
         Verb::CheckProof => &[
             MODEL_FILE,
@@ -322,6 +340,7 @@ pub fn words_of(verb: Verb) -> &'static [Word]
             PROOF_FILE,
             LRAT,
             JSON,
+            FIT,
         ],
         Verb::TidyWitness => &[WITNESS_FILE, QUIET, OUTPUT, PICK],
         Verb::Vectors => &[FILE_FILE, QUIET],

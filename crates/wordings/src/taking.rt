@@ -47,6 +47,7 @@ fn fits(parts: &[Part<'_>], kind: Kind, name: &str, part: Part<'_>) -> bool
         (Kind::File, Part::File(_)) => true,
         (Kind::Flag, Part::Flag(flag)) => flag == name,
         (Kind::FlagAlone, Part::Flag(flag)) => flag == name && !has_telling(parts),
+        (Kind::FlagOnModel, Part::Flag(flag)) => flag == name && !has("aiger", parts),
         (Kind::FlagWithCircuit, Part::Flag(flag)) => flag == name && has("circuit", parts),
         (Kind::FlagWithEngine, Part::Flag(flag)) => flag == name && has("engine", parts),
         (Kind::Text, Part::Valued(option, _)) => option == name,

@@ -48,10 +48,13 @@ fn picked(parts: &[Part<'_>]) -> u64
 
 /// What the first file of a command on certificates gives.
 fn given(parts: &[Part<'_>]) -> Given
-    ensures { result ≡ (if has (codes "aiger") (map said parts.now) then given.Circuit else given.Model) }
+    ensures { result ≡ (if has (codes "aiger") (map said parts.now) then given.Circuit
+        else (if has (codes "fit") (map said parts.now) then given.Fitted else given.Model)) }
 {
     if has("aiger", parts) {
         Given::Circuit
+    } else if has("fit", parts) {
+        Given::Fitted
     } else {
         Given::Model
     }
@@ -94,6 +97,23 @@ fn proof_form(parts: &[Part<'_>]) -> ProofForm
     }
 }
 
+/// The task of `lower`.
+fn lowers(parts: &[Part<'_>]) -> Task
+    ensures { Some result ≡ task_of verb.Lower (map said parts.now) }
+{
+    if has("engine", parts) {
+        if has("fit", parts) {
+            Task::Model(ModelTask::LowerFittedForEngines(position(parts)))
+        } else {
+            Task::Model(ModelTask::LowerForEngines(position(parts)))
+        }
+    } else if has("fit", parts) {
+        Task::Model(ModelTask::LowerFitted)
+    } else {
+        Task::Text(TextTask::Lower)
+    }
+}
+
 /// The task of `aig-convert`.
 fn converts(parts: &[Part<'_>]) -> Task
     ensures { Some result ≡ task_of verb.AigConvert (map said parts.now) }
@@ -131,13 +151,11 @@ pub(crate) fn task_of(verb: Verb, parts: &[Part<'_>]) -> Option<Task>
     ensures { result ≡ task_of verb (map said parts.now) }
 {
     match verb {
-        Verb::Lower if has("engine", parts) => {
-            Some(Task::Model(ModelTask::LowerForEngines(position(parts))))
-        }
-        Verb::Lower => Some(Task::Text(TextTask::Lower)),
+        Verb::Lower => Some(lowers(parts)),
         Verb::CheckBtor if has("fit", parts) => Some(Task::Model(ModelTask::CheckFitted)),
         Verb::CheckBtor => Some(Task::Model(ModelTask::CheckBtor)),
         Verb::Show => Some(Task::Model(ModelTask::Show)),
+        Verb::Cost if has("fit", parts) => Some(Task::Model(ModelTask::CostFitted)),
         Verb::Cost => Some(Task::Model(ModelTask::Cost)),
         Verb::Fit => Some(Task::Text(TextTask::Fit)),
         Verb::Unfit if has("back", parts) => Some(Task::Model(ModelTask::Spread)),

@@ -21,6 +21,10 @@ ghost use Rattle.wordings.specs.Orders.{Says};
 pub fn worked_lower()
     ensures says { (first output : Bor (List ℕ)) → first.now ≡ codes "m" → output.now ≡ codes "x"
         → Says (codes "lower" ∷ codes "-o" ∷ codes "x" ∷ codes "--binary" ∷ codes "m" ∷ []) (request.One (record { task = task.Text text.Lower; named = false; as_json = false; asked = None; form = form.Binary; first = first; second = None; third = None; output = Some output; tells_progress = true })) }
+    ensures fitted { (first : Bor (List ℕ)) → first.now ≡ codes "m"
+        → Says (codes "lower" ∷ codes "--fit" ∷ codes "m" ∷ []) (request.One (record { task = task.Model model.LowerFitted; named = false; as_json = false; asked = None; form = form.Ascii; first = first; second = None; third = None; output = None; tells_progress = true })) }
+    ensures fitted_for_engines { (first : Bor (List ℕ)) → first.now ≡ codes "m"
+        → Says (codes "lower" ∷ codes "--fit" ∷ codes "--engine" ∷ codes "m" ∷ []) (request.One (record { task = task.Model (model.LowerFittedForEngines None); named = false; as_json = false; asked = None; form = form.Ascii; first = first; second = None; third = None; output = None; tells_progress = true })) }
     ensures none { (o : Order) → ¬ Says (codes "lower" ∷ codes "--ascii" ∷ codes "--binary" ∷ codes "m" ∷ []) (request.One o) }
 {}
 
@@ -45,6 +49,8 @@ pub fn worked_show()
 pub fn worked_cost()
     ensures says { (first : Bor (List ℕ)) → first.now ≡ codes "m"
         → Says (codes "cost" ∷ codes "m" ∷ codes "--quiet" ∷ []) (request.One (record { task = task.Model model.Cost; named = false; as_json = false; asked = None; form = form.Ascii; first = first; second = None; third = None; output = None; tells_progress = false })) }
+    ensures fitted { (first : Bor (List ℕ)) → first.now ≡ codes "m"
+        → Says (codes "cost" ∷ codes "--fit" ∷ codes "m" ∷ []) (request.One (record { task = task.Model model.CostFitted; named = false; as_json = false; asked = None; form = form.Ascii; first = first; second = None; third = None; output = None; tells_progress = true })) }
     ensures none { (o : Order) → ¬ Says (codes "cost" ∷ codes "-ox" ∷ codes "m" ∷ []) (request.One o) }
 {}
 
@@ -110,6 +116,9 @@ pub fn worked_obligation()
 pub fn worked_check_proof()
     ensures says { (first second third : Bor (List ℕ)) → first.now ≡ codes "m" → second.now ≡ codes "w" → third.now ≡ codes "p"
         → Says (codes "check-proof" ∷ codes "--circuit" ∷ codes "--engine" ∷ codes "m" ∷ codes "w" ∷ codes "p" ∷ []) (request.One (record { task = task.Certificate (certificate.CheckProof (record { given = given.Model; by = by.CircuitOfForm; choice = None }) proof.Plain); named = false; as_json = false; asked = None; form = form.Ascii; first = first; second = Some second; third = Some third; output = None; tells_progress = true })) }
+    ensures fitted { (first second third : Bor (List ℕ)) → first.now ≡ codes "m" → second.now ≡ codes "w" → third.now ≡ codes "p"
+        → Says (codes "check-proof" ∷ codes "--fit" ∷ codes "m" ∷ codes "w" ∷ codes "p" ∷ []) (request.One (record { task = task.Certificate (certificate.CheckProof (record { given = given.Fitted; by = by.Invariant; choice = None }) proof.Plain); named = false; as_json = false; asked = None; form = form.Ascii; first = first; second = Some second; third = Some third; output = None; tells_progress = true })) }
+    ensures fitted_circuit { (o : Order) → ¬ Says (codes "check-proof" ∷ codes "--fit" ∷ codes "--aiger" ∷ codes "m" ∷ codes "w" ∷ codes "p" ∷ []) (request.One o) }
     ensures none { (o : Order) → ¬ Says (codes "check-proof" ∷ codes "m" ∷ codes "w" ∷ []) (request.One o) }
 {}
 

@@ -31,8 +31,8 @@ pub(super) const TEXTS: [Explanation; 13] = [
     Explanation {
         number: 21,
         name: "ArraySort",
-        when: "`sort array`",
-        remedy: "in Yosys, `memory_map` before `write_btor`; `clk2fflogic; memory_map -formal` for a memory with two write clocks",
+        when: "`sort array`; of `fit` one of arrays, or of more than 1,048,576 bits together",
+        remedy: "`hwtool fit FILE >NEW` takes arrays of words; in Yosys, `memory_map` before `write_btor`; `clk2fflogic; memory_map -formal` for a memory with two write clocks",
     },
     Explanation {
         number: 22,
@@ -49,8 +49,8 @@ pub(super) const TEXTS: [Explanation; 13] = [
     Explanation {
         number: 24,
         name: "NegativeOperand",
-        when: "an operand is `-` and a decimal",
-        remedy: "it means all bits inverted: give `not` of the operand a line and name that; in an `init`, name a constant with inverted bits",
+        when: "an operand is `-` and a decimal; of `fit` where that is an array, or the state of an `init` or a `next`",
+        remedy: "it means all bits inverted: `hwtool fit FILE >NEW` takes it; or give `not` of the operand a line and name that; in an `init`, name a constant with inverted bits",
     },
     Explanation {
         number: 20,
@@ -126,7 +126,7 @@ pub(super) const ITEMS: [Explanation; 15] = [
         number: 5,
         name: "WidthOutOfRange",
         when: "a sort's width is not 1 to 64",
-        remedy: "`hwtool fit` takes words of up to 1,048,576 bits: see what is met most",
+        remedy: "`hwtool fit FILE >NEW` takes words of up to 1,048,576 bits: see what is met most",
     },
     Explanation {
         number: 7,
@@ -150,7 +150,7 @@ pub(super) const ITEMS: [Explanation; 15] = [
         number: 11,
         name: "InitNotConstant",
         when: "an init's value is no constant (`zero`, `one`, `ones`, `const`, `constd`, `consth`)",
-        remedy: "replace it as FORMATS shows, by a 1-bit state with init `one` and next `zero` and, where the state is read, an `ite` of that, the init's value and the state; by no constraint, which is for every frame. Of a register with an initial value for some bits only, `simplemap t:$dff t:$ff; splitnets` in Yosys before `write_btor` makes bits",
+        remedy: "`hwtool fit FILE >NEW` takes any line, also a register of which only some bits have an initial value; no constraint does, which is for every frame",
     },
     Explanation {
         number: 9,
@@ -195,11 +195,11 @@ pub(super) const NAMES: [Explanation; 2] = [
 ];
 
 /// Of fitting.
-pub(super) const FITTING: [Explanation; 4] = [
+pub(super) const FITTING: [Explanation; 6] = [
     Explanation {
         number: 220,
         name: "Justice",
-        when: "of a model with words of more than 64 bits a justice line comes first in the file of what 220 to 222 refuse",
+        when: "of a model that has to be fitted a justice line comes first in the file of what 220 to 222 refuse",
         remedy: "as 90",
     },
     Explanation {
@@ -213,6 +213,18 @@ pub(super) const FITTING: [Explanation; 4] = [
         name: "TooManyItems",
         when: "with what is made for this item the fitted model would have more than 1,048,576 items: a division takes some ten for each bit of its words, and more as they grow",
         remedy: "write one model per bad property, of only what it and the constraints need",
+    },
+    Explanation {
+        number: 222,
+        name: "TooManyItems",
+        when: "no item is told: so it is with what is made of arrays, of operands with a minus and of inits by lines; a write takes some six items for each cell",
+        remedy: "make the memory smaller, or write one model per bad property, of only what it and the constraints need",
+    },
+    Explanation {
+        number: 224,
+        name: "InitCircle",
+        when: "the word that this line has in the first frame needs itself: a state's init names what the state is needed for",
+        remedy: "give one of the states on the circle an init that does not lead back to it, or none",
     },
     Explanation {
         number: 223,
@@ -252,7 +264,7 @@ pub(super) const LOWERING: [Explanation; 8] = [
         number: 92,
         name: "NoNext",
         when: "a state with an `init` and no `next` comes first in the file of what 90 to 92 refuse",
-        remedy: "give the state an input of its own as its next: any word from the second frame on, as without a next; itself only if it is to keep its word",
+        remedy: "`hwtool fit FILE >NEW` takes it; or give the state an input of its own as its next: any word from the second frame on, as without a next; itself only if it is to keep its word",
     },
     Explanation {
         number: 93,

@@ -32,7 +32,7 @@ pub(super) const OFTEN: [Explanation; 17] = [
         number: 21,
         name: "ArraySort",
         when: "the model has memories",
-        remedy: "in Yosys, `memory_map` before `write_btor`",
+        remedy: "`hwtool fit FILE >NEW` makes them words, and what is judged over that holds of the model; in Yosys, `memory_map` before `write_btor`",
     },
     Explanation {
         number: 22,

@@ -7,6 +7,6 @@ pub returns-in-Some-clause-fit : goal.returns-in-Some-clause-fit
 returns-in-Some-clause-fit c =
     let text = c.args.text.now in
     let model = c.in-Some.model in
-    let stands : StandsFor text model = subst (IsProfileOf text) c.in-Some.is c.in_ok-model.ensures.read in
+    let stands : StandsFor text model = (subst (IsProfileOf text) c.in-Some.is c.in_ok-model.ensures.read).0 in
     let same : c.args.wide ≡ model = c.texts_are_read.ensures.same text c.args.wide model c.requires.stands (c.profile_is_read.ensures text model stands) in
     rw same (c.profile_is_fitted.ensures model stands.well_formed).0

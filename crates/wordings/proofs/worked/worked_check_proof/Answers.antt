@@ -1,4 +1,4 @@
-use Rattle.std.proofs.Common.{◌≡◌, Some, refl, sym, ap, arith}
+use Rattle.std.proofs.Common.{◌≡◌, Some, true, false, refl, sym, ap, arith}
 use Rattle.wordings.proofs.worked.worked_check_proof.Goals as goal
 
 pub returns-clause-says : goal.returns-clause-says
@@ -19,3 +19,22 @@ returns-clause-says c = λ first second third is_first is_second is_third. recor
 
 pub returns-clause-none : goal.returns-clause-none
 returns-clause-none c = λ o s. let bad : 2 ≡ 3 = s.takes.count in absurd (omega (arith, bad))
+
+pub returns-clause-fitted : goal.returns-clause-fitted
+returns-clause-fitted c = λ first second third is_first is_second is_third. record {
+  takes = record { known = refl; once = refl; count = refl; one_form = refl };
+  task = refl;
+  named = refl;
+  as_json = refl;
+  asked = refl;
+  form = refl;
+  first = ap (λ name. Some name) (sym is_first);
+  second = ap (λ name. Some name) is_second;
+  third = ap (λ name. Some name) is_third;
+  input = refl;
+  output = refl;
+  progress = refl;
+}
+
+pub returns-clause-fitted_circuit : goal.returns-clause-fitted_circuit
+returns-clause-fitted_circuit c = λ o s. let bad : false ≡ true = s.takes.known in absurd cc
