@@ -11,6 +11,7 @@ ghost use Rattle.fullmodel.specs.Entries.{entry_at};
 
 mod check;
 mod push;
+mod rows;
 
 use crate::entries::{Entry, is_state, node_of, sort_of};
 use crate::line::{Line, Operand};
