@@ -1,13 +1,17 @@
 //! Why a line is refused: the rows of the table, in its order.
-#![tactic(auto, unfolding(crate::specs::FullModels::line_refusal, crate::specs::FullModels::id_is_out_of_range, crate::specs::FullModels::id_is_taken, crate::specs::FullModels::sort_is_missing, crate::specs::FullModels::operand_is_missing, crate::specs::FullModels::is_no_array_sort, crate::specs::FullModels::sorts_differ, crate::specs::FullModels::constant_does_not_fit))]
+#![tactic(auto, unfolding(crate::specs::FullModels::line_refusal, crate::specs::FullModels::id_is_out_of_range, crate::specs::FullModels::id_is_taken, crate::specs::FullModels::sort_is_missing, crate::specs::FullModels::operand_is_missing, crate::specs::FullModels::state_is_none, crate::specs::FullModels::state_has_minus, crate::specs::FullModels::minus_is_at_array, crate::specs::FullModels::width_is_out_of_range, crate::specs::FullModels::is_no_array_sort, crate::specs::FullModels::slice_is_out_of_range, crate::specs::FullModels::sorts_differ, crate::specs::FullModels::constant_does_not_fit, crate::specs::FullModels::is_second_init, crate::specs::FullModels::is_second_next, wide::specs::WideModels::width_is_above, btor2::specs::Check::justice_is_empty))]
 
-ghost use Rattle.std.specs.Prelude.{◌≡◌, [], ◌∷◌, None, Some, MatchResult};
+ghost use Rattle.std.specs.Prelude.{◌≡◌, [], ◌∷◌, not, ◌||◌, None, Some, true, false, is_some, MatchResult};
+ghost use Rattle.std.specs.List.{list_all};
+ghost use Rattle.btor2.specs.Items.{named_sort};
+ghost use Rattle.btor2.specs.Check.{justice_is_empty};
 ghost use Rattle.wide.specs.Lines.{constant_body, number_of_digits};
 ghost use Rattle.wide.specs.Entries.{digits_sort};
 ghost use Rattle.fullmodel.specs.Rows.{HasDigitsRow, IsConstantRefused};
-ghost use Rattle.full.specs.Lines.{words, form, array_sort, read, write, sort_at};
+ghost use Rattle.full.specs.Lines.{words, form, array_sort, read, write, sort_at, sort_of_node};
+ghost use Rattle.full.specs.Agreement.{is_words, first_is_plain};
 ghost use Rattle.fullmodel.specs.Lines.{line_of, says_of, operand_of, HasNoDigits};
-ghost use Rattle.fullmodel.specs.FullModels.{first_fault, id_rows, said_rows, line_refusal, RefusesLine};
+ghost use Rattle.fullmodel.specs.FullModels.{is_bit, sort_is_missing, operand_is_missing, state_is_none, state_has_minus, minuses_at_words, minus_is_at_array, width_is_out_of_range, slice_is_out_of_range, sorts_agree, constant_does_not_fit, is_second_init, is_second_next, first_fault, id_rows, said_rows, line_refusal, RefusesLine};
 
 use crate::fault::LineFault;
 use crate::line::{Line, Operand, Says};
