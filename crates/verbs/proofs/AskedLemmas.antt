@@ -7,6 +7,7 @@ use Rattle.btor2.specs.Check.{IsWellFormed}
 use Rattle.btor2.specs.Lists.{places}
 use Rattle.btor2.specs.Reachability.{nodes_of}
 use Rattle.btor2.specs.Trace.{Frame}
+use Rattle.btor2text.specs.Spelling.{IsModelOf}
 use Rattle.aiger.specs.Circuit.{Circuit, IsCircuit}
 use Rattle.base.specs.Literal.{Valuation}
 use Rattle.witness.specs.declared.judgement.Judgement.{Judgement}
@@ -17,7 +18,9 @@ use Rattle.witness.specs.ClosedWords.{IsClosedTrace}
 use Rattle.witness.specs.Reached.{word_claimed, bit_claimed, IsClosedBitTrace}
 use Rattle.witness.proofs.FrameLemmas.{bad_names, length-nodes}
 use Rattle.rises.specs.FirstRises.{word_first_rises, bit_first_rises, AreBitFirstRises}
-use Rattle.verbs.specs.Asked.{AsksFor, IsAskedBy, is_claim_noted, is_claimed, is_name_of, is_noted, is_symbol_of}
+use Rattle.verbs.specs.declared.refusals.Fault.{Fault}
+use Rattle.verbs.specs.declared.refusals.Fault.TheVariants as fault
+use Rattle.verbs.specs.Asked.{AsksFor, AsksForNone, IsAskedBy, IsNotJudgedWith, is_claim_noted, is_claimed, is_name_of, is_noted, is_symbol_of}
 use Rattle.verbs.specs.Judging.{IsAccepted}
 
 -- the entry of a list of first rises
@@ -98,3 +101,10 @@ claimed_bits (Some k) word witness c verdict firsts valid asked is rises exists 
 pub each_reached : {P Q : List ℕ → Type 0} (witness : Option (List ℕ)) → IfSome witness P → ((text : List ℕ) → P text → Q text) → IfSome witness Q
 each_reached None h reaches = tt
 each_reached (Some text) h reaches = reaches text h
+
+-- what a word asks for in vain is what a text is refused for
+pub unasked_words : (word known : Option (List ℕ)) (items : List Item) (f : Fault) → IsModelOf known items → AsksForNone word (length (places is_bad 0 items)) (is_symbol_of items) f → IsNotJudgedWith word known f
+unasked_words None known items f text none = absurd none
+unasked_words (Some word) known items (fault.Engine e) text none = record { items = items; text = text; unasked = none }
+unasked_words (Some word) known items (fault.SameName j k) text none = record { items = items; text = text; unasked = none }
+unasked_words (Some word) known items _ text none = absurd none

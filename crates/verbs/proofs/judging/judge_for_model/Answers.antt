@@ -2,10 +2,15 @@ use Rattle.std.proofs.Common.{ℕ, List, Bor, refl}
 use Rattle.std.specs.Prelude.{option_map}
 use Rattle.verbs.specs.declared.refusals.Refusal.TheVariants as refusal
 use Rattle.verbs.specs.Asked.{is_claim_noted}
-use Rattle.verbs.proofs.AskedLemmas.{claimed_words, each_reached}
+use Rattle.verbs.proofs.AskedLemmas.{claimed_words, each_reached, unasked_words}
 use Rattle.verbs.proofs.CountLemmas.{as_was, ends_as, failed, handed_on, input_ends, judging_failed, unfailed}
 use Rattle.verbs.proofs.GivenLemmas.{unjudged_with}
 use Rattle.verbs.proofs.judging.judge_for_model.Goals as goal
+
+pub returns-in_err-claim-clause-refused : goal.returns-in_err-claim-clause-refused
+returns-in_err-claim-clause-refused g c =
+    let is = failed c.from_residual-in_err-claim.result (refusal.Input c.in_err-claim.field-0.0) c.from_residual-in_err-claim.ensures in
+    rw is (unasked_words (option_map (λ (word : Bor (List ℕ)). word.now) c.args.word) (g.A.Source.to_come c.args.first.now) c.in_ok-model.model c.in_err-claim.field-0.0 c.in_ok-model.ensures.read c.in_err-claim.ensures.unasked)
 
 pub returns-in_err-claim-clause-ends : goal.returns-in_err-claim-clause-ends
 returns-in_err-claim-clause-ends g c =
