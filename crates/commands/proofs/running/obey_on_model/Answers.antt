@@ -147,31 +147,31 @@ pub returns-in-LowerFitted-clause-done : goal.returns-in-LowerFitted-clause-done
 unfolding Answers
 returns-in-LowerFitted-clause-done g c = λ third.
     let is : c.args.task ≡ model.LowerFitted = search rules in
-    rw (is, c.answered.ensures) (answered_done c.lower_fitted.result _ c.lower_fitted.ensures.done (λ did. did))
+    rw (is, c.answered-in-LowerFitted.ensures) (answered_done c.lower_fitted.result _ c.lower_fitted.ensures.done (λ did. did))
 
 pub returns-in-LowerFitted-clause-refused : goal.returns-in-LowerFitted-clause-refused
 unfolding RefusesTask
 returns-in-LowerFitted-clause-refused g c =
     let is : c.args.task ≡ model.LowerFitted = search rules in
-    rw (is, c.answered.ensures) (answered_refused c.lower_fitted.result _ c.lower_fitted.ensures.refused)
+    rw (is, c.answered-in-LowerFitted.ensures) (answered_refused c.lower_fitted.result _ c.lower_fitted.ensures.refused)
 
 pub returns-in-LowerFitted-clause-ends : goal.returns-in-LowerFitted-clause-ends
-returns-in-LowerFitted-clause-ends g c = rw c.answered.ensures (ends_as as_is (unfailed refl) as_was idle (answered_ends c.lower_fitted.result c.lower_fitted.ensures.ends))
+returns-in-LowerFitted-clause-ends g c = rw c.answered-in-LowerFitted.ensures (ends_as as_is (unfailed refl) as_was idle (answered_ends c.lower_fitted.result c.lower_fitted.ensures.ends))
 
 pub returns-in-LowerFittedForEngines-clause-done : goal.returns-in-LowerFittedForEngines-clause-done
 unfolding Answers
 returns-in-LowerFittedForEngines-clause-done g c = λ third.
     let is : c.args.task ≡ (model.LowerFittedForEngines c.in-LowerFittedForEngines.choice) = search rules in
-    rw (is, c.answered.ensures) (answered_done c.lower_fitted_for_engines.result _ c.lower_fitted_for_engines.ensures.done (λ did. did))
+    rw (is, c.answered-in-LowerFittedForEngines.ensures) (answered_done c.lower_fitted_for_engines.result _ c.lower_fitted_for_engines.ensures.done (λ did. did))
 
 pub returns-in-LowerFittedForEngines-clause-refused : goal.returns-in-LowerFittedForEngines-clause-refused
 unfolding RefusesTask
 returns-in-LowerFittedForEngines-clause-refused g c =
     let is : c.args.task ≡ (model.LowerFittedForEngines c.in-LowerFittedForEngines.choice) = search rules in
-    rw (is, c.answered.ensures) (answered_refused c.lower_fitted_for_engines.result _ c.lower_fitted_for_engines.ensures.refused)
+    rw (is, c.answered-in-LowerFittedForEngines.ensures) (answered_refused c.lower_fitted_for_engines.result _ c.lower_fitted_for_engines.ensures.refused)
 
 pub returns-in-LowerFittedForEngines-clause-ends : goal.returns-in-LowerFittedForEngines-clause-ends
-returns-in-LowerFittedForEngines-clause-ends g c = rw c.answered.ensures (ends_as as_is (unfailed refl) as_was idle (answered_ends c.lower_fitted_for_engines.result c.lower_fitted_for_engines.ensures.ends))
+returns-in-LowerFittedForEngines-clause-ends g c = rw c.answered-in-LowerFittedForEngines.ensures (ends_as as_is (unfailed refl) as_was idle (answered_ends c.lower_fitted_for_engines.result c.lower_fitted_for_engines.ensures.ends))
 
 pub returns-in-CostFitted-clause-done : goal.returns-in-CostFitted-clause-done
 unfolding Answers
