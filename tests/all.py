@@ -58,6 +58,7 @@ CHECKS = [
     Check("hostile", ["tests/hostile.py", PROGRAM]),
     Check("start", ["tests/start.py"]),
     Check("fitted", ["tests/fitted.py", PROGRAM]),
+    Check("whole", ["tests/whole.py", PROGRAM]),
     Check("dumps", ["tests/dumps.py", PROGRAM]),
     Check("restored_cuts", ["tests/restored_cuts.py", PROGRAM]),
     Check("certificate_cuts", ["tests/certificate_cuts.py", PROGRAM]),

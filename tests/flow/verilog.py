@@ -173,7 +173,13 @@ def try_own_steps(place):
     tally.true("the last line", "all checked that own.ys wrote" in done.stdout, done.stdout)
     (place.folder / "arrays.ys").write_text("prep -flatten -top memory\ndffunmap\n")
     done = place.run("--yosys", "arrays.ys", design("memory.v"))
-    said = re.search(r"model\.btor2: line \d+: 21 ArraySort, in `\d+ sort array .*`, of \S*memory\.v:\d+", done.stderr)
+    tally.true("a memory that stays an array is fitted", "fitted, since the model is beyond" in done.stdout, done.stdout)
+    said = re.findall(r"^b\d (\w+) +(holds|fails)", done.stdout, flags=re.M)
+    tally.same("and judged", [("a_init", "fails"), ("a_read", "holds"), ("a_sync", "holds")], sorted(said))
+    words = "reg [31:0] m [0:65535]; always @(posedge clk) if (we) m[at] <= d; always @* a_read: assert (m[at] == 0);"
+    (place.folder / "large.v").write_text(f"module memory(input clk, input we, input [15:0] at, input [31:0] d);\n{words}\nendmodule\n")
+    done = place.run("--yosys", "arrays.ys", "large.v")
+    said = re.search(r"model\.btor2: line \d+: 21 ArraySort, in `\d+ sort array .*`, of \S*large\.v:\d+", done.stderr)
     tally.true("a refused line is the model's, with its place", done.returncode == REFUSED and said, done.stderr)
 
 
