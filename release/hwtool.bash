@@ -10,10 +10,10 @@ _hwtool() {
         --bad|--pick) return ;;
     esac
     case ${COMP_WORDS[1]} in
-        lower) words='--quiet --output --ascii --binary --engine --bad --help' ;;
+        lower) words='--quiet --output --ascii --binary --engine --bad --fit --help' ;;
         check-btor) words='--quiet --names --bad --json --fit --help' ;;
         show) words='--quiet --output --help' ;;
-        cost) words='--quiet --help' ;;
+        cost) words='--quiet --fit --help' ;;
         fit) words='--quiet --output --help' ;;
         unfit) words='--quiet --output --names --back --help' ;;
         aig-convert) words='--quiet --output --ascii --binary --outputs --engine --bad --help' ;;
@@ -21,8 +21,8 @@ _hwtool() {
         lift) words='--quiet --output --names --engine --abc --bad --help' ;;
         restore) words='--quiet --output --abc --bad --help' ;;
         wave) words='--quiet --output --all --help' ;;
-        obligation) words='--quiet --output --aiger --circuit --engine --bad --help' ;;
-        check-proof) words='--quiet --names --aiger --circuit --engine --bad --lrat --json --help' ;;
+        obligation) words='--quiet --output --aiger --circuit --engine --bad --fit --help' ;;
+        check-proof) words='--quiet --names --aiger --circuit --engine --bad --lrat --json --fit --help' ;;
         tidy-witness) words='--quiet --output --pick --help' ;;
         vectors) words='--quiet --help' ;;
         judge) words='--json --help' ;;

@@ -29,7 +29,7 @@ extern "C" {
 #endif
 
 /* The version of the library that this header goes with. */
-#define HWTOOL_VERSION "0.10.0"
+#define HWTOOL_VERSION "0.11.0"
 
 /* The statuses. */
 enum {
@@ -104,9 +104,9 @@ uint32_t hwtool_check_aig_claims(const uint8_t *circuit, size_t circuit_length, 
 uint32_t hwtool_lower(const uint8_t *model, size_t model_length, bool binary, uint8_t *buffer, size_t buffer_length,
                       size_t *needed, struct hwtool_refusal *refusal);
 
-/* Writes a BTOR2 model with words of up to 1,048,576 bits as one with words of at most 64, whose bad properties can rise in as many
- * frames; one of the latter as it is, in one spelling. Answers DONE and TOO_SMALL with `needed`, TEXT_REFUSED, MODEL_REFUSED,
- * NO_MEMORY. */
+/* Writes a BTOR2 model of the whole language, with arrays, words of up to 1,048,576 bits, operands with a minus and inits by any
+ * line, as one that the other calls take, whose bad properties can rise in as many frames; one that hwtool_lower takes as it is, in
+ * one spelling. Answers DONE and TOO_SMALL with `needed`, TEXT_REFUSED, MODEL_REFUSED, NO_MEMORY. */
 uint32_t hwtool_fit(const uint8_t *model, size_t model_length, uint8_t *buffer, size_t buffer_length, size_t *needed,
                     struct hwtool_refusal *refusal);
 
