@@ -94,6 +94,7 @@ filled_is_written = record {
   well_formed = filled_written_is_model;
   lines = ((λ state input g states inputs frame. tt), ((λ state input g states inputs frame. tt), ((λ state input g states inputs frame. tt), (two_is 5, (array_fits, ((λ state input g states inputs frame. tt), ((λ state input g states inputs frame. tt), (index_is_carried, (cell_is_carried, ((λ state input g states inputs frame. tt), tt))))))))));
   inputs = refl;
+  states = refl;
   leaves = (tt, (tt, (tt, (tt, (array_is_written, (tt, (tt, (tt, (tt, (tt, tt))))))))));
   no_others = (tt, (tt, (tt, (tt, (inr (refl, refl), (tt, (tt, (tt, (tt, (tt, (tt, tt)))))))))));
   first = tt;

@@ -1,5 +1,5 @@
 -- A list of wide items in which each state with an init line has a next line is written out as itself.
-use Rattle.std.proofs.Common.{◌≡◌, ℕ, ◌*◌, ◌^◌, ◌<◌, Bool, true, false, cond, not, ◌&&◌, nat_le, nat_lt, arith, nat_eq, eqb-true, List, [], ◌∷◌, ◌++◌, map, flat_map, length, Option, Some, None, is_some, IfSome, unwrap_or, option_map, option_and_then, refl, sym, ap, ap₂, subst, ◌∙◌, inl, inr}
+use Rattle.std.proofs.Common.{◌≡◌, ℕ, ◌*◌, ◌^◌, ◌<◌, Bool, true, false, cond, not, ◌&&◌, nat_le, nat_lt, arith, nat_eq, eqb-true, List, [], ◌∷◌, ◌++◌, map, flat_map, length, append-nil, Option, Some, None, is_some, IfSome, unwrap_or, option_map, option_and_then, refl, sym, ap, ap₂, subst, ◌∙◌, inl, inr}
 use Rattle.std.specs.List.{AllByRecursion, AllZip}
 use Rattle.std.proofs.lemmas.Option.{none-some, same_Some}
 use Rattle.std.proofs.lemmas.Bool.{and_parts, leb-true, le-leb}
@@ -184,6 +184,7 @@ written_as_itself items w none =
       well_formed = w;
       lines = lines_are_carried items w;
       inputs = ids_same is_input items;
+      states = append-nil (map same_places.leaf (full_ids is_state (plain_lines items))) ∙ ids_same is_state items;
       leaves = map_all (λ (x : FullLine). LeafIsWritten (plain_lines items) same_places items x.id x.says) items
           (all_with (λ (x : Item). find_item items x.id ≡ Some x) (λ (x : Item). LeafIsWritten (plain_lines items) same_places items x.id (form x.body [])) items (λ x e. leaf_is_written items x x.body refl e) found);
       no_others = all_with (λ (x : Item). find_item items x.id ≡ Some x) (λ (x : Item). IsNoOther (plain_lines items) same_places x.id x.body) items (λ x e. no_other_state items x x.body refl e) found;

@@ -145,6 +145,7 @@ memory_is_written = record {
   well_formed = written_is_model;
   lines = ((λ state input g states inputs frame. tt), ((λ state input g states inputs frame. tt), ((λ state input g states inputs frame. tt), ((λ state input g states inputs frame. (leaves_fit state input g states inputs frame).cell), ((λ state input g states inputs frame. (leaves_fit state input g states inputs frame).word), ((λ state input g states inputs frame. (leaves_fit state input g states inputs frame).held), (write_is_carried, ((λ state input g states inputs frame. tt), (state_is_carried, ((λ state input g states inputs frame. tt), (read_is_carried, (eq_is_carried, ((λ state input g states inputs frame. tt), tt)))))))))))));
   inputs = refl;
+  states = refl;
   leaves = (tt, (tt, (tt, (((1, (line 4 (body.Input 1), refl, refl)), refl, refl), (((2, (line 5 (body.Input 2), refl, refl)), refl, refl), (held_is_written, (tt, (tt, (state_is_written, (tt, (tt, (tt, (tt, tt)))))))))))));
   no_others = (tt, (tt, (tt, (tt, (tt, (inr (refl, refl), (inr (refl, refl), (inl refl, (tt, (tt, (tt, (tt, (tt, (tt, (tt, (tt, (tt, (tt, (tt, (tt, (tt, (tt, (tt, tt)))))))))))))))))))))));
   first = first_is;

@@ -1,11 +1,11 @@
 -- A model written out as a list of wide items: without arrays, operands with a minus, and inits that are no constants.
 -- Both lists have their own meaning, that of `Runs.antt` and that of `Trace.antt` of `btor2`, which bounds no width.
-use Rattle.std.specs.Prelude.{◌≡◌, ℕ, ◌%◌, ◌^◌, if◌then◌else◌, Bool, true, false, List, [], ◌∷◌, map, Option, Some, None, IfSome, is_some, ◌==◌, ◌⊎◌}
+use Rattle.std.specs.Prelude.{◌≡◌, ℕ, ◌%◌, ◌^◌, if◌then◌else◌, Bool, true, false, List, [], ◌∷◌, ◌++◌, map, Option, Some, None, IfSome, is_some, ◌==◌, ◌⊎◌}
 use Rattle.std.specs.List.{AllByRecursion, AllZip}
 use Rattle.btor2.specs.declared.item.Item.{Item}
 use Rattle.btor2.specs.declared.item.Body.{Body}
 use Rattle.btor2.specs.declared.item.Body.TheVariants as body
-use Rattle.btor2.specs.Items.{find_item, node_sort, operands, names_state, is_input, is_bad, is_constraint, constant_of, init_value, init_word, next_value}
+use Rattle.btor2.specs.Items.{find_item, node_sort, operands, names_state, is_input, is_state, is_bad, is_constraint, constant_of, init_value, init_word, next_value}
 use Rattle.btor2.specs.Trace.{Frame, bits_of, IsFrame, IsInput, IsState}
 use Rattle.btor2.specs.Lists.{of_kind}
 use Rattle.btor2.specs.Reachability.{nodes_of}
@@ -127,6 +127,11 @@ abbrev pub is_output : Body → Bool
 is_output (body.Output a) = true
 is_output _ = false
 
+-- an id, where there is one
+abbrev pub one_id : Option ℕ → List ℕ
+one_id None = []
+one_id (Some w) = w ∷ []
+
 -- A model is written out as a list of wide items.
 pub record IsWrittenOut (full : List FullLine) (p : Places) (wide : List Item) : Type 0 where
   -- both are models
@@ -134,8 +139,9 @@ pub record IsWrittenOut (full : List FullLine) (p : Places) (wide : List Item) :
   pub well_formed : IsWideModel greatest_width wide
   -- each line is carried
   pub lines : AllByRecursion (IsCarried full p wide) full
-  -- the inputs are the inputs, in file order, and the states those of the states, with one more for the first frame
+  -- the inputs are the inputs, and the states those of the states, in file order, with one more behind them for the first frame
   pub inputs : map p.node (full_ids is_input full) ≡ map (λ (x : Item). x.id) (of_kind is_input wide)
+  pub states : map p.leaf (full_ids is_state full) ++ one_id p.first ≡ map (λ (x : Item). x.id) (of_kind is_state wide)
   pub leaves : AllByRecursion (λ (x : FullLine). LeafIsWritten full p wide x.id x.says) full
   pub no_others : AllByRecursion (λ (x : Item). IsNoOther full p x.id x.body) wide
   pub first : IfSome p.first (IsFirstAlone full p wide)

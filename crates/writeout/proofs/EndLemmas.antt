@@ -14,7 +14,7 @@ use Rattle.wide.specs.WideModels.{greatest_width, IsWideModel}
 use Rattle.full.specs.Lines.{Operand, Says, form, FullLine, lines_of, full_ids, full_nodes, is_form, find_line, second, sort_named, width_of, AtInit, AtNext, init_by, next_by, init_of, next_of}
 use Rattle.full.specs.Agreement.{names_full_state, SaysAgree, IsFullAfter, IsFullModel}
 use Rattle.full.specs.Runs.{at_place}
-use Rattle.full.specs.WrittenOut.{Places, IsCarried, HasWord, Stands, InputIsWritten, StateIsWritten, LeafIsWritten, IsNoOther, InitIsWritten, NextIsWritten, IsFirstAlone, is_output, IsWrittenOut}
+use Rattle.full.specs.WrittenOut.{one_id, Places, IsCarried, HasWord, Stands, InputIsWritten, StateIsWritten, LeafIsWritten, IsNoOther, InitIsWritten, NextIsWritten, IsFirstAlone, is_output, IsWrittenOut}
 use Rattle.full.proofs.ListLemmas.{all_with}
 use Rattle.full.proofs.FullLookUps.{each_found, inits_named, next_said, both_init, at_init, at_next}
 use Rattle.full.proofs.GivesLemmas.{carried_nothing}
@@ -25,7 +25,7 @@ use Rattle.writeout.specs.Ways.{way_with, way_of}
 use Rattle.writeout.specs.Needs.{place_of}
 use Rattle.writeout.specs.Nodes.{StateNode, NodesStand}
 use Rattle.writeout.specs.Writings.{Writing, IsGiven, first_of, GoesOn, Settled}
-use Rattle.writeout.specs.Leaves.{node_at, leaf_at, input_nodes, HasNodes, IsLeaf, LeavesWritten, places_by}
+use Rattle.writeout.specs.Leaves.{node_at, leaf_at, of_kind_lines, HasNodes, IsLeaf, LeavesWritten, places_by}
 use Rattle.writeout.specs.Late.{InitStands, NextStands, PropertiesStand, LateWritten}
 use Rattle.writeout.proofs.PlaceLemmas.{place_is, place_get, found_id}
 use Rattle.writeout.proofs.NeedLemmas.{all_get}
@@ -147,16 +147,16 @@ first_if P n h = by (nat_eq n 0) refl
     by true e = tt
     by false e = h e
 
--- ---- inputs
+-- ---- inputs and states
 
-pub inputs_by : (node : ℕ → ℕ) (xs : List FullLine) (nodes : List ℕ) → length nodes ≡ length xs → ((k : ℕ) (x : FullLine) → slice_get xs k ≡ Some x → node x.id ≡ at_place nodes k)
-    → map node (full_ids is_input xs) ≡ input_nodes xs nodes
-inputs_by node [] nodes e h = refl
-inputs_by node (x ∷ xs) [] e h = absurd (cc)
-inputs_by node (x ∷ xs) (a ∷ nodes) e h = by (is_form is_input x.says) (inputs_by node xs nodes (grind (arith, e)) (λ k y is. h (suc k) y is))
+pub kind_by : (kind : Body → Bool) (node : ℕ → ℕ) (xs : List FullLine) (nodes : List ℕ) → length nodes ≡ length xs → ((k : ℕ) (x : FullLine) → slice_get xs k ≡ Some x → node x.id ≡ at_place nodes k)
+    → map node (full_ids kind xs) ≡ of_kind_lines kind xs nodes
+kind_by kind node [] nodes e h = refl
+kind_by kind node (x ∷ xs) [] e h = absurd (cc)
+kind_by kind node (x ∷ xs) (a ∷ nodes) e h = by (is_form kind x.says) (kind_by kind node xs nodes (grind (arith, e)) (λ k y is. h (suc k) y is))
   where
-    by : (b : Bool) → map node (full_ids is_input xs) ≡ input_nodes xs nodes
-        → map node (map (λ (y : FullLine). y.id) (cond b (x ∷ lines_of is_input xs) (lines_of is_input xs))) ≡ cond b (a ∷ input_nodes xs nodes) (input_nodes xs nodes)
+    by : (b : Bool) → map node (full_ids kind xs) ≡ of_kind_lines kind xs nodes
+        → map node (map (λ (y : FullLine). y.id) (cond b (x ∷ lines_of kind xs) (lines_of kind xs))) ≡ cond b (a ∷ of_kind_lines kind xs nodes) (of_kind_lines kind xs nodes)
     by true rest = ap₂ ◌∷◌ (h 0 x refl) rest
     by false rest = rest
 
@@ -321,7 +321,8 @@ all_written full w h = record {
   agrees = h.model;
   well_formed = h.wide;
   lines = all_by_place (IsCarried full (places full w h) w.items) full (line_carried full w h);
-  inputs = inputs_by (node_at full w) full w.nodes h.stand.nodes_length (λ k x is. node_here full w k x h is) ∙ h.leaves.in_order;
+  inputs = kind_by is_input (node_at full w) full w.nodes h.stand.nodes_length (λ k x is. node_here full w k x h is) ∙ h.leaves.in_order;
+  states = ap (λ (l : List ℕ). l ++ one_id (first_of w.first)) (kind_by is_state (leaf_at full w) full w.leaves h.stand.leaves_length (λ k x is. ap (at_place w.leaves) (place_is full k x h.model is))) ∙ h.leaves.states_in_order;
   leaves = all_by_place (λ (x : FullLine). LeafIsWritten full (places full w h) w.items x.id x.says) full
       (λ k x is. leaf_written full (places full w h) w.items x.id x.says (input_written full w h k x is) (state_written full w h k x is));
   no_others = all_with (λ (y : Item). IsLeaf full w y.id y.body) (λ (y : Item). IsNoOther full (places full w h) y.id y.body) w.items (λ y. no_other full w h y.id y.body) h.leaves.no_others;

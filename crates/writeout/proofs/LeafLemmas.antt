@@ -19,7 +19,7 @@ use Rattle.full.proofs.FullLookUps.{at_init, at_next}
 use Rattle.cells.specs.Lines.{is_plain, ArePlain}
 use Rattle.writeout.specs.Faults.{is_live_body, NoneIsLiveItem}
 use Rattle.writeout.specs.Writings.{Writing, Settled, with_items, Grows}
-use Rattle.writeout.specs.Leaves.{leaf_at, input_nodes, InputStands, IsLeaf, FirstIsWritten, LeavesWritten}
+use Rattle.writeout.specs.Leaves.{leaf_at, of_kind_lines, InputStands, IsLeaf, FirstIsWritten, LeavesWritten}
 use Rattle.writeout.specs.Late.{BeginsSo, InitStands, NextStands, PropertiesStand, LateWritten}
 use Rattle.writeout.proofs.GrowLemmas.{Keeps, goes_with}
 use Rattle.writeout.proofs.EndLemmas.{zip_with}
@@ -112,6 +112,8 @@ leaves_on full w items more e others h = record {
       };
   in_order = h.in_order
       ∙ ap (map (λ (y : Item). y.id)) (sym (kind_on is_input items w.items more e (all_with (λ (y : Item). IsNoLeaf y.body) (λ (y : Item). is_input y.body ≡ false) more (λ y no. no.0) others)));
+  states_in_order = h.states_in_order
+      ∙ ap (map (λ (y : Item). y.id)) (sym (kind_on is_state items w.items more e (all_with (λ (y : Item). IsNoLeaf y.body) (λ (y : Item). is_state y.body ≡ false) more (λ y no. no.1) others)));
   states = h.states;
   no_others = subst (λ (l : List Item). AllByRecursion (λ (y : Item). IsLeaf full (with_items w items) y.id y.body) l) (sym e)
       (all_join (λ (y : Item). IsLeaf full (with_items w items) y.id y.body) w.items more
@@ -227,14 +229,14 @@ late_grow full done w items g h =
 -- ---- nodes at places that have none
 
 inputs_with : (xs : List FullLine) (old new : List ℕ) → length new ≡ length old → ((k : ℕ) (x : FullLine) → slice_get xs k ≡ Some x → is_form is_input x.says ≡ true → at_place new k ≡ at_place old k)
-    → input_nodes xs new ≡ input_nodes xs old
+    → of_kind_lines is_input xs new ≡ of_kind_lines is_input xs old
 inputs_with [] old new e h = refl
 inputs_with (x ∷ xs) [] [] e h = refl
 inputs_with (x ∷ xs) [] (a ∷ new) e h = absurd (cc)
 inputs_with (x ∷ xs) (b ∷ old) [] e h = absurd (cc)
 inputs_with (x ∷ xs) (b ∷ old) (a ∷ new) e h = by (is_form is_input x.says) refl (inputs_with xs old new (grind (arith, e)) (λ k y is. h (suc k) y is))
   where
-    by : (t : Bool) → is_form is_input x.says ≡ t → input_nodes xs new ≡ input_nodes xs old → cond t (a ∷ input_nodes xs new) (input_nodes xs new) ≡ cond t (b ∷ input_nodes xs old) (input_nodes xs old)
+    by : (t : Bool) → is_form is_input x.says ≡ t → of_kind_lines is_input xs new ≡ of_kind_lines is_input xs old → cond t (a ∷ of_kind_lines is_input xs new) (of_kind_lines is_input xs new) ≡ cond t (b ∷ of_kind_lines is_input xs old) (of_kind_lines is_input xs old)
     by true input rest = ap₂ ◌∷◌ (h 0 x refl input) rest
     by false input rest = rest
 
@@ -246,6 +248,7 @@ leaves_with full w nodes same keeps h = record {
       let there = sym (keeps k own.given) in
       subst (λ (a : ℕ). InputStands (record w { nodes = nodes }) h.source x a) there (record { given = own.given; sort = own.sort; input = own.input; own = own.own });
   in_order = inputs_with full w.nodes nodes same (λ k x is input. keeps k (h.inputs k x is input).given) ∙ h.in_order;
+  states_in_order = h.states_in_order;
   states = h.states;
   no_others = all_with (λ (y : Item). IsLeaf full w y.id y.body) (λ (y : Item). IsLeaf full (record w { nodes = nodes }) y.id y.body) w.items (λ y. leaf_still y.id y.body) h.no_others;
   first = λ given.

@@ -16,7 +16,7 @@ use Rattle.full.proofs.ListLemmas.{all_with, all_join}
 use Rattle.cells.specs.Lines.{named, is_plain, ArePlain}
 use Rattle.writeout.specs.declared.way.Way.TheVariants as way
 use Rattle.writeout.specs.Ways.{way_of}
-use Rattle.writeout.specs.Leaves.{input_nodes}
+use Rattle.writeout.specs.Leaves.{of_kind_lines}
 use Rattle.writeout.specs.Putting.{Adds, IsStateLeaf, PutsLeaf, LeafMade, IsStateOf, is_early, LeavesMade}
 use Rattle.writeout.proofs.LeafLemmas.{kind_none, kind_join, plain_no_leaves, IsNoLeaf}
 use Rattle.writeout.proofs.FirstLemmas.{line_stands, line_width, width_still, stands_still}
@@ -52,14 +52,14 @@ pub at_end : (xs : List ℕ) (n : ℕ) → at_place (xs ++ n ∷ []) (length xs)
 at_end [] n = refl
 at_end (z ∷ zs) n = at_end zs n
 
-input_push : (xs : List FullLine) (x : FullLine) (nodes : List ℕ) (a : ℕ) → length nodes ≡ length xs → input_nodes (xs ++ x ∷ []) (nodes ++ a ∷ []) ≡ input_nodes xs nodes ++ cond (is_form is_input x.says) (a ∷ []) []
-input_push [] x [] a e = refl
-input_push [] x (b ∷ nodes) a e = absurd (cc)
-input_push (y ∷ ys) x [] a e = absurd (cc)
-input_push (y ∷ ys) x (b ∷ nodes) a e = by (is_form is_input y.says) (input_push ys x nodes a (grind (arith, e)))
+kind_push : (kind : Body → Bool) (xs : List FullLine) (x : FullLine) (nodes : List ℕ) (a : ℕ) → length nodes ≡ length xs → of_kind_lines kind (xs ++ x ∷ []) (nodes ++ a ∷ []) ≡ of_kind_lines kind xs nodes ++ cond (is_form kind x.says) (a ∷ []) []
+kind_push kind [] x [] a e = refl
+kind_push kind [] x (b ∷ nodes) a e = absurd (cc)
+kind_push kind (y ∷ ys) x [] a e = absurd (cc)
+kind_push kind (y ∷ ys) x (b ∷ nodes) a e = by (is_form kind y.says) (kind_push kind ys x nodes a (grind (arith, e)))
   where
-    by : (t : Bool) → input_nodes (ys ++ x ∷ []) (nodes ++ a ∷ []) ≡ input_nodes ys nodes ++ cond (is_form is_input x.says) (a ∷ []) []
-        → cond t (b ∷ input_nodes (ys ++ x ∷ []) (nodes ++ a ∷ [])) (input_nodes (ys ++ x ∷ []) (nodes ++ a ∷ [])) ≡ cond t (b ∷ input_nodes ys nodes) (input_nodes ys nodes) ++ cond (is_form is_input x.says) (a ∷ []) []
+    by : (t : Bool) → of_kind_lines kind (ys ++ x ∷ []) (nodes ++ a ∷ []) ≡ of_kind_lines kind ys nodes ++ cond (is_form kind x.says) (a ∷ []) []
+        → cond t (b ∷ of_kind_lines kind (ys ++ x ∷ []) (nodes ++ a ∷ [])) (of_kind_lines kind (ys ++ x ∷ []) (nodes ++ a ∷ [])) ≡ cond t (b ∷ of_kind_lines kind ys nodes) (of_kind_lines kind ys nodes) ++ cond (is_form kind x.says) (a ∷ []) []
     by true rest = ap (λ (l : List ℕ). b ∷ l) rest
     by false rest = rest
 
@@ -100,18 +100,25 @@ made_on front x leaves leaf a _ e h = tt
 
 -- ---- one line more
 
+kind_more : (kind : Body → Bool) (front : List FullLine) (x : FullLine) (items new more : List Item) (numbers : List ℕ) (a : ℕ) → length numbers ≡ length front → new ≡ items ++ more
+    → of_kind_lines kind front numbers ≡ map (λ (y : Item). y.id) (of_kind kind items) → cond (is_form kind x.says) (a ∷ []) [] ≡ map (λ (y : Item). y.id) (of_kind kind more)
+    → of_kind_lines kind (front ++ x ∷ []) (numbers ++ a ∷ []) ≡ map (λ (y : Item). y.id) (of_kind kind new)
+kind_more kind front x items new more numbers a same e order last =
+    kind_push kind front x numbers a same ∙ ap₂ ◌++◌ order last ∙ sym (map-append (λ (y : Item). y.id) (of_kind kind items) (of_kind kind more)) ∙ ap (map (λ (y : Item). y.id)) (sym (ap (of_kind kind) e ∙ kind_join kind items more))
+
 made_more : (full front : List FullLine) (x : FullLine) (items new more : List Item) (nodes leaves : List ℕ) (any : Bool) (node leaf : ℕ) (by_first : Bool) (source' : ℕ → ℕ) → (h : LeavesMade full front items nodes leaves any)
     → new ≡ items ++ more → ((a : ℕ) (y : Item) → find_item items a ≡ Some y → source' a ≡ h.source a) → LeafMade full new source' x.id node leaf x.says
-    → (is_form is_state x.says ≡ true → way_of full x.id ≡ way.First → by_first ≡ true) → cond (is_form is_input x.says) (node ∷ []) [] ≡ map (λ (y : Item). y.id) (of_kind is_input more)
+    → (is_form is_state x.says ≡ true → way_of full x.id ≡ way.First → by_first ≡ true) → cond (is_form is_input x.says) (node ∷ []) [] ≡ map (λ (y : Item). y.id) (of_kind is_input more) → cond (is_form is_state x.says) (leaf ∷ []) [] ≡ map (λ (y : Item). y.id) (of_kind is_state more)
     → AllByRecursion (λ (y : Item). IsStateOf (front ++ x ∷ []) (leaves ++ leaf ∷ []) y.id y.body) more → AllByRecursion (λ (y : Item). is_early y.body ≡ true) more
     → LeavesMade full (front ++ x ∷ []) new (nodes ++ node ∷ []) (leaves ++ leaf ∷ []) (any || by_first)
-made_more full front x items new more nodes leaves any node leaf by_first source' h e same own firsts order others early = record {
+made_more full front x items new more nodes leaves any node leaf by_first source' h e same own firsts order states others early = record {
   nodes_length = lengths_push nodes node front x h.nodes_length;
   leaves_length = lengths_push leaves leaf front x h.leaves_length;
   source = source';
   each = λ k y at. each k y (push_cases front x y k at);
   any_first = λ k y at state is. any_first k y state is (push_cases front x y k at);
-  in_order = input_push front x nodes node h.nodes_length ∙ ap₂ ◌++◌ h.in_order order ∙ sym (map-append (λ (y : Item). y.id) (of_kind is_input items) (of_kind is_input more)) ∙ ap (map (λ (y : Item). y.id)) (sym (ap (of_kind is_input) e ∙ kind_join is_input items more));
+  in_order = kind_more is_input front x items new more nodes node h.nodes_length e h.in_order order;
+  states_in_order = kind_more is_state front x items new more leaves leaf h.leaves_length e h.states_in_order states;
   no_others = subst (λ (l : List Item). AllByRecursion (λ (y : Item). IsStateOf (front ++ x ∷ []) (leaves ++ leaf ∷ []) y.id y.body) l) (sym e)
       (all_join (λ (y : Item). IsStateOf (front ++ x ∷ []) (leaves ++ leaf ∷ []) y.id y.body) items more
       (all_with (λ (y : Item). IsStateOf front leaves y.id y.body) (λ (y : Item). IsStateOf (front ++ x ∷ []) (leaves ++ leaf ∷ []) y.id y.body) items (λ y. made_on front x leaves leaf y.id y.body h.leaves_length) h.no_others) others);
@@ -182,6 +189,10 @@ inputs_plain : (more rest : List Item) → ArePlain more → of_kind is_input (m
 inputs_plain more rest plain =
     kind_join is_input more rest ∙ ap (λ (l : List Item). l ++ of_kind is_input rest) (kind_none is_input more (all_with (λ (y : Item). IsNoLeaf y.body) (λ (y : Item). is_input y.body ≡ false) more (λ y no. no.0) (plain_no_leaves more plain)))
 
+pub states_plain : (more rest : List Item) → ArePlain more → of_kind is_state (more ++ rest) ≡ of_kind is_state rest
+states_plain more rest plain =
+    kind_join is_state more rest ∙ ap (λ (l : List Item). l ++ of_kind is_state rest) (kind_none is_state more (all_with (λ (y : Item). IsNoLeaf y.body) (λ (y : Item). is_state y.body ≡ false) more (λ y no. no.1) (plain_no_leaves more plain)))
+
 input_more : (full front : List FullLine) (x : FullLine) (s : ℕ) (minuses : List Bool) (items new : List Item) (nodes leaves : List ℕ) (any : Bool) (node leaf : ℕ) (by_first : Bool) → x.says ≡ form (body.Input s) minuses
     → LeavesMade full front items nodes leaves any → Adds items new (λ r. body.Input r) (width_of full x.id) node
     → LeavesMade full (front ++ x ∷ []) new (nodes ++ node ∷ []) (leaves ++ leaf ∷ []) (any || by_first)
@@ -201,6 +212,7 @@ input_more full front x s minuses items new nodes leaves any node leaf by_first 
     (subst (LeafMade full new source' x.id node leaf) (sym e) own)
     (λ state is. absurd (false≢true (sym (ap (is_form is_state) e) ∙ state)))
     (ap (λ (b : Says). cond (is_form is_input b) (node ∷ []) []) e ∙ ap (map (λ (y : Item). y.id)) (sym (inputs_plain add.extends.more (last ∷ []) add.extends.plain)))
+    (ap (λ (b : Says). cond (is_form is_state b) (leaf ∷ []) []) e ∙ ap (map (λ (y : Item). y.id)) (sym (states_plain add.extends.more (last ∷ []) add.extends.plain)))
     (all_join (λ (y : Item). IsStateOf (front ++ x ∷ []) (leaves ++ leaf ∷ []) y.id y.body) add.extends.more (last ∷ []) (made_plain (front ++ x ∷ []) (leaves ++ leaf ∷ []) add.extends.more add.extends.plain) (tt, tt))
     (all_join (λ (y : Item). is_early y.body ≡ true) add.extends.more (last ∷ []) (early_plain add.extends.more add.extends.plain) (refl, tt))
 
@@ -225,6 +237,7 @@ state_more full front x s minuses items new nodes leaves any node leaf by_first 
     (subst (LeafMade full new source' x.id node leaf) (sym e) own)
     (λ state is. (ways.first is).1)
     (ap (λ (b : Says). cond (is_form is_input b) (node ∷ []) []) e ∙ ap (map (λ (y : Item). y.id)) (sym (inputs_plain add.extends.more (last ∷ []) add.extends.plain)))
+    (ap (λ (b : Says). cond (is_form is_state b) (leaf ∷ []) []) e ∙ ap (map (λ (y : Item). y.id)) (sym (states_plain add.extends.more (last ∷ []) add.extends.plain)))
     (all_join (λ (y : Item). IsStateOf (front ++ x ∷ []) (leaves ++ leaf ∷ []) y.id y.body) add.extends.more (last ∷ []) (made_plain (front ++ x ∷ []) (leaves ++ leaf ∷ []) add.extends.more add.extends.plain)
     ((length front, x, get_end front x, ap (is_form is_state) e, ap (at_place (leaves ++ leaf ∷ [])) (sym h.leaves_length) ∙ at_end leaves leaf), tt))
     (all_join (λ (y : Item). is_early y.body ≡ true) add.extends.more (last ∷ []) (early_plain add.extends.more add.extends.plain) (refl, tt))
@@ -242,7 +255,7 @@ none_more : (full front : List FullLine) (x : FullLine) (items new : List Item) 
     → LeavesMade full (front ++ x ∷ []) new (nodes ++ node ∷ []) (leaves ++ leaf ∷ []) (any || by_first)
 none_more full front x items new nodes leaves any node leaf by_first neither h e none =
     made_more full front x items new [] nodes leaves any node leaf by_first h.source h (e ∙ sym (append-nil items)) (λ a y found. refl) (no_line_made full new h.source x.id node leaf x.says neither none)
-    (λ state is. absurd (false≢true (sym neither.1 ∙ state))) (ap (λ (t : Bool). cond t (node ∷ []) []) neither.0) tt tt
+    (λ state is. absurd (false≢true (sym neither.1 ∙ state))) (ap (λ (t : Bool). cond t (node ∷ []) []) neither.0) (ap (λ (t : Bool). cond t (leaf ∷ []) []) neither.1) tt tt
 
 pub line_more : (full front : List FullLine) (x : FullLine) (items new : List Item) (nodes leaves : List ℕ) (any : Bool) (node leaf : ℕ) (by_first : Bool) → LeavesMade full front items nodes leaves any
     → PutsLeaf full x.id items new node leaf by_first x.says → LeavesMade full (front ++ x ∷ []) new (nodes ++ node ∷ []) (leaves ++ leaf ∷ []) (any || by_first)
@@ -265,6 +278,7 @@ none_made full = record {
   each = λ k x at. absurd (none-some x at);
   any_first = λ k x at. absurd (none-some x at);
   in_order = refl;
+  states_in_order = refl;
   no_others = tt;
   early = tt;
 }

@@ -1,5 +1,6 @@
 -- What stands of a writing that has the leaves of a model.
-use Rattle.std.proofs.Common.{◌≡◌, ℕ, ◌+◌, ◌≤◌, Bool, true, false, cond, nat_eq, eqb, eq-eqb, List, [], ◌∷◌, ◌++◌, length, map, flat_map, Option, Some, None, is_some, option_and_then, append_assoc, append-nil, length-append, refl, sym, ap, subst, ◌∙◌, ◌⊎◌, inl, inr, arith}
+use Rattle.std.proofs.Common.{◌≡◌, ℕ, ◌+◌, ◌≤◌, Bool, true, false, cond, nat_eq, eqb, eq-eqb, List, [], ◌∷◌, ◌++◌, length, map, flat_map, Option, Some, None, is_some, option_and_then, append_assoc, append-nil, length-append, refl, sym, ap, ap₂, subst, ◌∙◌, ◌⊎◌, inl, inr, arith}
+use Rattle.std.proofs.lemmas.List.{map-append}
 use Rattle.std.specs.List.{AllByRecursion, AllZip, list_all}
 use Rattle.std.specs.Option.{option_or}
 use Rattle.std.proofs.lemmas.Bool.{false≢true, and_parts, not-false}
@@ -16,7 +17,7 @@ use Rattle.wide.proofs.GrowLemmas.{tests_false}
 use Rattle.full.specs.Lines.{Says, form, FullLine, is_form, width_of, full_nodes}
 use Rattle.full.specs.Agreement.{names_full_state}
 use Rattle.full.specs.Runs.{at_place}
-use Rattle.full.specs.WrittenOut.{Places, HasWord, OnlyChooses, is_output}
+use Rattle.full.specs.WrittenOut.{one_id, Places, HasWord, OnlyChooses, is_output}
 use Rattle.full.proofs.ListLemmas.{all_with, all_join}
 use Rattle.full.proofs.PlaceLemmas.{stands_as_state}
 use Rattle.full.proofs.GivesLemmas.{carried_input, carried_state}
@@ -34,7 +35,7 @@ use Rattle.writeout.proofs.StepLemmas.{only_by}
 use Rattle.writeout.proofs.EndLemmas.{way_cases, first_some, state_line}
 use Rattle.writeout.proofs.LeafLemmas.{next_value-after, kind_none, kind_join, plain_no_leaves, IsNoLeaf, no_leaf}
 use Rattle.writeout.proofs.FirstLemmas.{width_still, stands_still}
-use Rattle.writeout.proofs.MadeLemmas.{found_apart, plain_early}
+use Rattle.writeout.proofs.MadeLemmas.{states_plain, found_apart, plain_early}
 use Rattle.writeout.proofs.NodeLemmas.{id_given}
 
 -- ---- early lines
@@ -130,6 +131,7 @@ record HasFirst (full : List FullLine) (items new : List Item) (any : Bool) (fir
   only : IsGiven first → (p : Places) (wide : List Item) → AllByRecursion (λ (y : Item). OnlyChooses full p wide first y.body) new
   written : (w : Writing) → w.items ≡ new → w.first ≡ first → IsGiven w.first → FirstIsWritten w
   no_inputs : of_kind is_input more ≡ []
+  its_state : one_id (first_of first) ≡ map (λ (y : Item). y.id) (of_kind is_state more)
   states : (w : Writing) → w.first ≡ first → AllByRecursion (λ (y : Item). IsLeaf full w y.id y.body) more
   no_init : (b : ℕ) → IsOther first b → init_value new b ≡ None
   no_next : (b : ℕ) → IsOther first b → next_value new b ≡ None
@@ -151,6 +153,7 @@ no_first full items new first early e zero =
       only = λ given. absurd (false≢true (sym given ∙ ap (λ (n : ℕ). nat_eq n 0) zero));
       written = λ w is same given. absurd (false≢true (sym given ∙ ap (λ (n : ℕ). nat_eq n 0) (same ∙ zero)));
       no_inputs = refl;
+      its_state = ap (λ (n : ℕ). one_id (first_of n)) zero;
       states = λ w same. tt;
       no_init = λ b other. ap (λ (l : List Item). init_value l b) e ∙ (early_no_nexts items early b).0;
       no_next = λ b other. ap (λ (l : List Item). next_value l b) e ∙ (early_no_nexts items early b).1;
@@ -200,6 +203,7 @@ has_first full items new a early h = record {
       }));
   no_inputs = kind_join is_input h.extends.more (first_lines a h.sort h.one h.zero h.i h.j)
       ∙ ap (λ (l : List Item). l ++ of_kind is_input (first_lines a h.sort h.one h.zero h.i h.j)) (kind_none is_input h.extends.more (all_with (λ (y : Item). IsNoLeaf y.body) (λ (y : Item). is_input y.body ≡ false) h.extends.more (λ y no. no.0) (plain_no_leaves h.extends.more h.extends.plain)));
+  its_state = ap one_id (first_some a given) ∙ ap (map (λ (y : Item). y.id)) (sym (states_plain h.extends.more (first_lines a h.sort h.one h.zero h.i h.j) h.extends.plain));
   states = λ w same.
       all_join (λ (y : Item). IsLeaf full w y.id y.body) h.extends.more (first_lines a h.sort h.one h.zero h.i h.j)
       (all_with (λ (y : Item). IsNoLeaf y.body) (λ (y : Item). IsLeaf full w y.id y.body) h.extends.more (λ y no. no_leaf full w y.id y.body no.1) (plain_no_leaves h.extends.more h.extends.plain))
@@ -326,6 +330,7 @@ leaves_written full items new nodes leaves any first h puts = record {
       let own = input_made full items h.source x.id (at_place nodes k) (at_place leaves k) x.says input (h.each k x is) in
       record { given = own.given; sort = own.sort; input = stands_still items new f.more (at_place nodes k) (body.Input own.sort) f.is own.stands; own = own.own };
   in_order = h.in_order ∙ ap (map (λ (y : Item). y.id)) (sym (ap (of_kind is_input) f.is ∙ kind_join is_input items f.more ∙ ap (λ (l : List Item). of_kind is_input items ++ l) f.no_inputs ∙ append-nil (of_kind is_input items)));
+  states_in_order = ap₂ ◌++◌ h.states_in_order f.its_state ∙ sym (map-append (λ (y : Item). y.id) (of_kind is_state items) (of_kind is_state f.more)) ∙ ap (map (λ (y : Item). y.id)) (sym (ap (of_kind is_state) f.is ∙ kind_join is_state items f.more));
   states = λ k x is state. (state_made full items h.source x.id (at_place nodes k) (at_place leaves k) x.says state (h.each k x is)).own;
   no_others = subst (λ (l : List Item). AllByRecursion (λ (y : Item). IsLeaf full (wrote new nodes leaves first) y.id y.body) l) (sym f.is)
       (all_join (λ (y : Item). IsLeaf full (wrote new nodes leaves first) y.id y.body) items f.more

@@ -1,5 +1,5 @@
 -- What stands of the leaves of a writing.
-use Rattle.std.specs.Prelude.{◌≡◌, ℕ, true, List, [], ◌∷◌, map, Some, slice_get, is_some, ◌⊎◌, if◌then◌else◌}
+use Rattle.std.specs.Prelude.{◌≡◌, ℕ, Bool, true, List, [], ◌∷◌, ◌++◌, map, Some, slice_get, is_some, ◌⊎◌, if◌then◌else◌}
 use Rattle.std.specs.List.{AllByRecursion}
 use Rattle.btor2.specs.declared.item.Item.{Item}
 use Rattle.btor2.specs.declared.item.Body.{Body}
@@ -8,7 +8,7 @@ use Rattle.btor2.specs.Items.{is_input, is_state, constant_of, init_value, next_
 use Rattle.btor2.specs.Lists.{of_kind}
 use Rattle.full.specs.Lines.{FullLine, is_form, sort_named}
 use Rattle.full.specs.Runs.{at_place}
-use Rattle.full.specs.WrittenOut.{Places, Stands}
+use Rattle.full.specs.WrittenOut.{Places, Stands, one_id}
 use Rattle.writeout.specs.Needs.{place_of}
 use Rattle.writeout.specs.Writings.{Writing, IsGiven, first_of}
 
@@ -19,11 +19,11 @@ node_at full w id = at_place w.nodes (place_of full id)
 abbrev pub leaf_at : List FullLine → Writing → ℕ → ℕ
 leaf_at full w id = at_place w.leaves (place_of full id)
 
--- the nodes of the input lines among some lines, in file order, by the nodes of these lines
-abbrev pub input_nodes : List FullLine → List ℕ → List ℕ
-input_nodes [] nodes = []
-input_nodes (x ∷ xs) [] = []
-input_nodes (x ∷ xs) (a ∷ nodes) = if is_form is_input x.says then a ∷ input_nodes xs nodes else input_nodes xs nodes
+-- the numbers of the lines of a kind among some lines, in file order, by the numbers of these lines
+abbrev pub of_kind_lines : (Body → Bool) → List FullLine → List ℕ → List ℕ
+of_kind_lines kind [] numbers = []
+of_kind_lines kind (x ∷ xs) [] = []
+of_kind_lines kind (x ∷ xs) (a ∷ numbers) = if is_form kind x.says then a ∷ of_kind_lines kind xs numbers else of_kind_lines kind xs numbers
 
 -- each line with a value has its node
 abbrev pub HasNodes : List FullLine → Writing → Type 0
@@ -52,12 +52,13 @@ pub record FirstIsWritten (w : Writing) : Type 0 where
   pub next : next_value w.items w.first ≡ Some zero
   pub is_zero : constant_of w.items zero ≡ Some 0
 
--- The inputs of the list are the nodes of the model's input lines, in file order, and its states those of the state lines, with one more for the first frame.
+-- The inputs of the list are the nodes of the model's input lines, in file order, and its states those of the state lines, with one more behind them for the first frame.
 -- `source` answers the line of each such leaf, so no two lines have one.
 pub record LeavesWritten (full : List FullLine) (w : Writing) : Type 0 where
   pub source : ℕ → ℕ
   pub inputs : (k : ℕ) (x : FullLine) → slice_get full k ≡ Some x → is_form is_input x.says ≡ true → InputStands w source x (at_place w.nodes k)
-  pub in_order : input_nodes full w.nodes ≡ map (λ (y : Item). y.id) (of_kind is_input w.items)
+  pub in_order : of_kind_lines is_input full w.nodes ≡ map (λ (y : Item). y.id) (of_kind is_input w.items)
+  pub states_in_order : of_kind_lines is_state full w.leaves ++ one_id (first_of w.first) ≡ map (λ (y : Item). y.id) (of_kind is_state w.items)
   pub states : (k : ℕ) (x : FullLine) → slice_get full k ≡ Some x → is_form is_state x.says ≡ true → source (at_place w.leaves k) ≡ x.id
   pub no_others : AllByRecursion (λ (y : Item). IsLeaf full w y.id y.body) w.items
   pub first : IsGiven w.first → FirstIsWritten w

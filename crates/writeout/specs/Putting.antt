@@ -14,7 +14,7 @@ use Rattle.cells.specs.Lines.{named, is_plain, Extends}
 use Rattle.writeout.specs.declared.way.Way.TheVariants as way
 use Rattle.writeout.specs.Ways.{way_of}
 use Rattle.writeout.specs.Writings.{Writing, IsGiven}
-use Rattle.writeout.specs.Leaves.{input_nodes}
+use Rattle.writeout.specs.Leaves.{of_kind_lines}
 
 -- ---- one line
 
@@ -114,7 +114,8 @@ pub record LeavesMade (full front : List FullLine) (items : List Item) (nodes le
   pub source : ℕ → ℕ
   pub each : (k : ℕ) (x : FullLine) → slice_get front k ≡ Some x → LeafMade full items source x.id (at_place nodes k) (at_place leaves k) x.says
   pub any_first : (k : ℕ) (x : FullLine) → slice_get front k ≡ Some x → is_form is_state x.says ≡ true → way_of full x.id ≡ way.First → any ≡ true
-  pub in_order : input_nodes front nodes ≡ map (λ (y : Item). y.id) (of_kind is_input items)
+  pub in_order : of_kind_lines is_input front nodes ≡ map (λ (y : Item). y.id) (of_kind is_input items)
+  pub states_in_order : of_kind_lines is_state front leaves ≡ map (λ (y : Item). y.id) (of_kind is_state items)
   pub no_others : AllByRecursion (λ (y : Item). IsStateOf front leaves y.id y.body) items
   pub early : AllByRecursion (λ (y : Item). is_early y.body ≡ true) items
 

@@ -1,0 +1,4 @@
+-- Lemmas of witnesses over models of the whole language.
+pub mod ReadingLemmas
+pub mod RunLemmas
+pub mod TextLemmas

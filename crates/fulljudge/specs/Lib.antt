@@ -1,0 +1,6 @@
+-- The definitions of witnesses over models of the whole language.
+pub mod Shapes
+pub mod Lines
+pub mod Told
+pub mod Judgements
+pub mod Written
