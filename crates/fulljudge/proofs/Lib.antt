@@ -1,4 +1,5 @@
 -- Lemmas of witnesses over models of the whole language.
 pub mod ReadingLemmas
 pub mod RunLemmas
+pub mod CellLemmas
 pub mod TextLemmas

@@ -6,10 +6,12 @@ use Rattle.base.specs.Word.{word}
 use Rattle.base.specs.Decimals.{number_of}
 use Rattle.full.specs.Lines.{Sort, words, arrays}
 use Rattle.witness.specs.Texts.{symbol_part}
-use Rattle.witness.specs.Readings.{Reader, Reading, so_far, next_line}
+use Rattle.witness.specs.Readings.{Reader}
 use Rattle.witness.specs.Admits.{Place, InStates, InFrame, Read, nothing_read, admit, begins_part, cut_at_space, is_at_end, is_bit}
 use Rattle.base.specs.Lines.{text_of_lines, unfinished, whole_lines}
-use Rattle.witness.specs.declared.why.Why.{Why}
+use Rattle.spread.specs.declared.spreader.Part.{Part}
+use Rattle.spread.specs.declared.spreader.Part.TheVariants as part
+use Rattle.spread.specs.Stands.{part_behind}
 use Rattle.fulljudge.specs.Shapes.{FullShape, first_index, word_shape}
 
 -- the bytes between brackets, where a token begins with the one and ends with the other, given from its end
@@ -53,10 +55,11 @@ line_by_index sorts (Some i) rest = value_line (first_index sorts i) (slice_get 
 unfoldable pub word_line : List Sort → List ℕ → List ℕ
 word_line sorts line = line_by_index sorts (number_of (cut_at_space line).0) (cut_at_space line).1
 
--- the same of a line in a part, which may open another part or end the text, and of a line at a place
+-- the same of a line in a part, which may open another part or end the text
 abbrev pub line_in : List Sort → List ℕ → List ℕ
 line_in sorts line = if begins_part line then line else word_line sorts line
 
+-- of a line at a place
 abbrev pub line_at : FullShape → Place → List ℕ → List ℕ
 line_at shape InStates line = line_in shape.states line
 line_at shape InFrame line = line_in shape.inputs line
@@ -68,16 +71,17 @@ full_reader shape = record { nothing = nothing_read; admit = λ r line. admit (w
 
 -- ---- the text of words
 
--- the line that goes on for a line; none does behind a faulty one
-abbrev pub going_line : FullShape → Place → List ℕ → Option Why → List (List ℕ)
-going_line shape at line None = line_at shape at line ∷ []
-going_line shape at line (Some w) = []
+-- a line where a part is open
+abbrev pub line_in_part : FullShape → Part → List ℕ → List ℕ
+line_in_part shape part.Outside line = line
+line_in_part shape part.States line = line_in shape.states line
+line_in_part shape part.Inputs line = line_in shape.inputs line
 
--- those that go on for some lines, behind what is read
-abbrev pub going_lines : FullShape → Reading Read → List (List ℕ) → List (List ℕ)
-going_lines shape g [] = []
-going_lines shape g (line ∷ lines) = going_line shape g.read.place line g.refused ++ going_lines shape (next_line (full_reader shape) g line) lines
+-- some lines, where a part is open before the first
+abbrev pub lines_of_words : FullShape → Part → List (List ℕ) → List (List ℕ)
+lines_of_words shape p [] = []
+lines_of_words shape p (line ∷ lines) = line_in_part shape p line ∷ lines_of_words shape (part_behind p line) lines
 
 -- the text that says with words what a text says with values
 abbrev pub words_text : FullShape → List ℕ → List ℕ
-words_text shape text = text_of_lines (going_lines shape (so_far 0 nothing_read) (whole_lines text)) ++ unfinished text
+words_text shape text = text_of_lines (lines_of_words shape part.Outside (whole_lines text)) ++ unfinished text

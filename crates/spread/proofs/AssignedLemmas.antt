@@ -39,7 +39,7 @@ pub plain_line : (line : List ℕ) → begins_part line ≡ false → IsPlain li
 plain_line [] h = record { no_frame = λ others. refl; no_states = λ others. refl; no_end = refl; no_part = refl }
 plain_line (b ∷ bs) h = begins_none b bs h
 
-digits_begin_none : (digits rest : List ℕ) → are_digits digits ≡ true → 0 < length digits → begins_part (digits ++ rest) ≡ false
+pub digits_begin_none : (digits rest : List ℕ) → are_digits digits ≡ true → 0 < length digits → begins_part (digits ++ rest) ≡ false
 digits_begin_none [] rest all some = absurd (omega (arith, some))
 digits_begin_none (b ∷ bs) rest all some =
     let range = digit_range b (and_parts (is_digit b) (are_digits bs) all).0 in

@@ -10,4 +10,5 @@ mod spreading;
 mod words;
 
 pub use judging::judge_spread;
+pub use spreader::Part;
 pub use spreading::spread;

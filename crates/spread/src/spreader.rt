@@ -23,7 +23,7 @@ use witness::{Judgement, WordJudge};
 
 /// Which part of a frame is open.
 #[derive(Clone, Copy, PartialEq, Eq)]
-pub(crate) enum Part {
+pub enum Part {
     /// None.
     Outside,
     /// The words of states.
