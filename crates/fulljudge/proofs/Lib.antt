@@ -1,5 +1,6 @@
 -- Lemmas of witnesses over models of the whole language.
 pub mod ReadingLemmas
 pub mod RunLemmas
+pub mod JudgedLemmas
 pub mod CellLemmas
 pub mod TextLemmas

@@ -42,7 +42,7 @@ of_leaves full kind P (x ∷ xs) h = by (is_form kind x.says) refl (of_leaves fu
 named_by : (o : Option FullLine) (x : FullLine) → o ≡ Some x → is_form is_state x.says ≡ true → unwrap_or (option_map (λ (y : FullLine). is_form is_state y.says) o) false ≡ true
 named_by o x e is = ap (λ (o : Option FullLine). unwrap_or (option_map (λ (y : FullLine). is_form is_state y.says) o) false) e ∙ is
 
-states_named : (full : List FullLine) (p : Places) (wide : List Item) → IsWrittenOut full p wide → AllByRecursion (λ (l : Leaf). names_full_state full l.id ≡ true) (leaves_of is_state full)
+pub states_named : (full : List FullLine) (p : Places) (wide : List Item) → IsWrittenOut full p wide → AllByRecursion (λ (l : Leaf). names_full_state full l.id ≡ true) (leaves_of is_state full)
 states_named full p wide h =
     of_leaves full is_state (λ id. names_full_state full id ≡ true) full
     (all_with (λ (x : FullLine). find_line full x.id ≡ Some x) (λ (x : FullLine). is_form is_state x.says ≡ true → names_full_state full x.id ≡ true) full

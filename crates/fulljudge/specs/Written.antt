@@ -1,8 +1,8 @@
 -- What the list that a model is written out as is told in a trace, where a run of the model is told something.
-use Rattle.std.specs.Prelude.{◌≡◌, ℕ, List, [], ◌∷◌, None}
+use Rattle.std.specs.Prelude.{◌≡◌, ℕ, true, List, [], ◌∷◌, Some, None, is_some}
 use Rattle.std.specs.List.{AllZip}
 use Rattle.btor2.specs.declared.item.Item.{Item}
-use Rattle.btor2.specs.Items.{is_input, is_state}
+use Rattle.btor2.specs.Items.{is_input, is_state, init_word}
 use Rattle.btor2.specs.Trace.{Frame, state_word}
 use Rattle.full.specs.Lines.{FullLine, init_of, next_of}
 use Rattle.full.specs.WrittenOut.{Places}
@@ -36,3 +36,22 @@ AreGiven full p wide state [] [] = Unit {0}
 AreGiven full p wide state [] (input ∷ inputs) = ⊥
 AreGiven full p wide state (w ∷ ws) [] = ⊥
 AreGiven full p wide state (w ∷ ws) (input ∷ inputs) = IsFirstGiven full p wide state w input × AllZip (IsLaterGiven full p) ws inputs
+
+-- ---- first words
+
+-- what is told of a state whose state begins with a constant is that constant
+abbrev pub ConstantTold : Places → List Item → List (ℕ × ℕ) → ℕ → Leaf → Type 0
+ConstantTold p wide list i l = (x : ℕ) → init_word wide (p.leaf l.id) ≡ Some x → told list l.sort i x ≡ x
+
+-- what is told of another state with an init line is its word in the first frame
+abbrev pub OtherTold : List FullLine → Places → List Item → List (ℕ × ℕ) → Frame → ℕ → Leaf → Type 0
+OtherTold full p wide list f i l = is_some (init_of full l.id) ≡ true → init_word wide (p.leaf l.id) ≡ None → told list l.sort i (f l.id) ≡ f l.id
+
+-- of the first of some frames
+abbrev pub ConstantsTold : List FullLine → Places → List Item → List FrameWords → Type 0
+ConstantsTold full p wide [] = Unit {0}
+ConstantsTold full p wide (w ∷ ws) = ByIndex (ConstantTold p wide w.states) 0 (leaves_of is_state full)
+
+abbrev pub OthersTold : List FullLine → Places → List Item → List FrameWords → List Frame → Type 0
+OthersTold full p wide (w ∷ ws) (f ∷ fs) = ByIndex (OtherTold full p wide w.states f) 0 (leaves_of is_state full)
+OthersTold full p wide _ _ = Unit {0}
