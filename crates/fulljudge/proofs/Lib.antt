@@ -1,6 +1,8 @@
 -- Lemmas of witnesses over models of the whole language.
 pub mod ReadingLemmas
 pub mod RunLemmas
+pub mod CelledLemmas
+pub mod ToldLemmas
 pub mod JudgedLemmas
 pub mod CellLemmas
 pub mod TextLemmas

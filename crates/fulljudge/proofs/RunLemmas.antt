@@ -23,7 +23,7 @@ use Rattle.fulljudge.specs.Written.{InputGiven, FirstGiven, LaterGiven, IsFirstG
 
 -- ---- the leaves of a kind
 
-by_index : (Known : Leaf → Type 0) (P Q : ℕ → Leaf → Type 0) (i : ℕ) (leaves : List Leaf) → ((i : ℕ) (l : Leaf) → Known l → P i l → Q i l) → AllByRecursion Known leaves → ByIndex P i leaves → ByIndex Q i leaves
+pub by_index : (Known : Leaf → Type 0) (P Q : ℕ → Leaf → Type 0) (i : ℕ) (leaves : List Leaf) → ((i : ℕ) (l : Leaf) → Known l → P i l → Q i l) → AllByRecursion Known leaves → ByIndex P i leaves → ByIndex Q i leaves
 by_index Known P Q i [] step known h = tt
 by_index Known P Q i (l ∷ leaves) step known h = (step i l known.0 h.0, by_index Known P Q (i + word_count l.sort) leaves step known.1 h.1)
 

@@ -4,3 +4,4 @@ pub mod Lines
 pub mod Told
 pub mod Judgements
 pub mod Written
+pub mod Cells
