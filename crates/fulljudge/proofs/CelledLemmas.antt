@@ -69,9 +69,6 @@ by_part kind items list q = unwrap_or (given_to kind items list q) 0
 pub have_given : (kind : Body → Bool) (items : List Item) (list : List (ℕ × ℕ)) → AreDistinct (ids_of (λ x. kind x.body) items) → HaveGiven list (by_part kind items list) (ids_of (λ x. kind x.body) items)
 have_given kind items list distinct before after p e = ap (λ (o : Option ℕ). unwrap_or o 0) (given_at kind items list before after p distinct e)
 
-abbrev words_by : List ℕ → List FrameWords → Words
-words_by claims frames = record { claims = claims; frames = frames }
-
 only_given : (o init : Option ℕ) → init ≡ None → unwrap_or (option_or o init) 0 ≡ unwrap_or o 0
 only_given None init e = ap (λ (i : Option ℕ). unwrap_or i 0) e
 only_given (Some v) init e = refl
@@ -140,46 +137,45 @@ module _ (full : List FullLine) (p : Places) (wide : List Item) (layout : Layout
         inputs = inputs_given w;
       }
 
-  -- what a state without an init line begins with
-  begins_given : (w : FrameWords) (ws : List FrameWords) (claims : List ℕ) (ps : List ℕ) → AllByRecursion (λ q. init_value celled q ≡ None) ps
-      → pieces_word width (initial_words celled (record { claims = claims; frames = w ∷ ws })) ps ≡ pieces_word width (by_part is_state celled w.states) ps
-  begins_given w ws claims ps none =
-      word_same width (initial_words celled (record { claims = claims; frames = w ∷ ws })) (by_part is_state celled w.states) ps
-      (all_with (λ q. init_value celled q ≡ None) (λ q. initial_words celled (record { claims = claims; frames = w ∷ ws }) q ≡ by_part is_state celled w.states q) ps
-      (λ q e. only_given (given_to is_state celled w.states q) (init_word celled q) (no_init_word celled q e)) none)
+  -- what a state without an init line begins with, where its words begin with what is given to them
+  module _ (w : FrameWords) (begin : Frame) (begins : (q : ℕ) → init_word celled q ≡ None → begin q ≡ by_part is_state celled w.states q) where
+    begins_given : (ps : List ℕ) → AllByRecursion (λ q. init_value celled q ≡ None) ps → pieces_word width begin ps ≡ pieces_word width (by_part is_state celled w.states) ps
+    begins_given ps none =
+        word_same width begin (by_part is_state celled w.states) ps
+        (all_with (λ q. init_value celled q ≡ None) (λ q. begin q ≡ by_part is_state celled w.states q) ps (λ q e. begins q (no_init_word celled q e)) none)
 
-  first_state : (w : FrameWords) (ws : List FrameWords) (claims : List ℕ) (l : Leaf) → names_full_state full l.id ≡ true → AllByRecursion (IsOfKind is_state celled) (layout (p.leaf l.id)) → init_of full l.id ≡ None
-      → state_word wide (joined celled layout (initial_words celled (record { claims = claims; frames = w ∷ ws }))) (joined celled layout (given_words celled w)) (p.leaf l.id) ≡ pieces_word width (by_part is_state celled w.states) (layout (p.leaf l.id))
-  first_state w ws claims l names kinds none = by (is_free wide (p.leaf l.id)) refl
-    where
-      by : (b : Bool) → is_free wide (p.leaf l.id) ≡ b
-          → cond b (joined celled layout (given_words celled w) (p.leaf l.id)) (joined celled layout (initial_words celled (record { claims = claims; frames = w ∷ ws })) (p.leaf l.id)) ≡ pieces_word width (by_part is_state celled w.states) (layout (p.leaf l.id))
-      by true free = given_state w (layout (p.leaf l.id)) kinds
-      by false carried =
-          let place = placed full p wide l.id h names in
-          begins_given w ws claims (layout (p.leaf l.id)) (carried_absence wide celled layout c.fits (p.leaf l.id) place.state carried (place.no_init none).1)
+    first_state : (l : Leaf) → names_full_state full l.id ≡ true → AllByRecursion (IsOfKind is_state celled) (layout (p.leaf l.id)) → init_of full l.id ≡ None
+        → state_word wide (joined celled layout begin) (joined celled layout (given_words celled w)) (p.leaf l.id) ≡ pieces_word width (by_part is_state celled w.states) (layout (p.leaf l.id))
+    first_state l names kinds none = by (is_free wide (p.leaf l.id)) refl
+      where
+        by : (b : Bool) → is_free wide (p.leaf l.id) ≡ b
+            → cond b (joined celled layout (given_words celled w) (p.leaf l.id)) (joined celled layout begin (p.leaf l.id)) ≡ pieces_word width (by_part is_state celled w.states) (layout (p.leaf l.id))
+        by true free = given_state w (layout (p.leaf l.id)) kinds
+        by false carried =
+            let place = placed full p wide l.id h names in
+            begins_given (layout (p.leaf l.id)) (carried_absence wide celled layout c.fits (p.leaf l.id) place.state carried (place.no_init none).1)
 
-  pub first_given : (w : FrameWords) (ws : List FrameWords) (claims : List ℕ) → IsFirstGiven full p wide (joined celled layout (initial_words celled (record { claims = claims; frames = w ∷ ws }))) w (joined celled layout (given_words celled w))
-  first_given w ws claims =
-      record {
-        states =
-            by_index (λ (l : Leaf). (names_full_state full l.id ≡ true) × AllByRecursion (IsOfKind is_state celled) (layout (p.leaf l.id))) (λ i l. pieces_word width (by_part is_state celled w.states) (layout (p.leaf l.id)) ≡ told w.states l.sort i 0)
-            (FirstGiven full p wide w.states (joined celled layout (initial_words celled (record { claims = claims; frames = w ∷ ws }))) (joined celled layout (given_words celled w))) 0 (leaves_of is_state full)
-            (λ i l known e none. first_state w ws claims l known.0 known.1 none ∙ e)
-            (all_both (λ (l : Leaf). names_full_state full l.id ≡ true) (λ (l : Leaf). AllByRecursion (IsOfKind is_state celled) (layout (p.leaf l.id))) (leaves_of is_state full) (states_named full p wide h) state_pieces) (states_by_words w.states);
-        inputs = inputs_given w;
-      }
+    pub first_given : IsFirstGiven full p wide (joined celled layout begin) w (joined celled layout (given_words celled w))
+    first_given =
+        record {
+          states =
+              by_index (λ (l : Leaf). (names_full_state full l.id ≡ true) × AllByRecursion (IsOfKind is_state celled) (layout (p.leaf l.id))) (λ i l. pieces_word width (by_part is_state celled w.states) (layout (p.leaf l.id)) ≡ told w.states l.sort i 0)
+              (FirstGiven full p wide w.states (joined celled layout begin) (joined celled layout (given_words celled w))) 0 (leaves_of is_state full)
+              (λ i l known e none. first_state l known.0 known.1 none ∙ e)
+              (all_both (λ (l : Leaf). names_full_state full l.id ≡ true) (λ (l : Leaf). AllByRecursion (IsOfKind is_state celled) (layout (p.leaf l.id))) (leaves_of is_state full) (states_named full p wide h) state_pieces) (states_by_words w.states);
+          inputs = inputs_given w;
+        }
 
   rest_given : (ws : List FrameWords) → AllZip (IsLaterGiven full p) ws (map (joined celled layout) (map (given_words celled) ws))
   rest_given [] = tt
   rest_given (w ∷ ws) = (later_given w, rest_given ws)
 
   -- what the words of a witness give
-  pub are_given : (w : Words) → AreGiven full p wide (joined celled layout (initial_words celled w)) w.frames (map (joined celled layout) (map (given_words celled) w.frames))
-  are_given w = by w.frames refl
-    where
-      by : (fs : List FrameWords) → w.frames ≡ fs → AreGiven full p wide (joined celled layout (initial_words celled w)) fs (map (joined celled layout) (map (given_words celled) fs))
-      by [] e = tt
-      by (f ∷ fs) e =
-          subst (λ (v : Words). AreGiven full p wide (joined celled layout (initial_words celled v)) (f ∷ fs) (map (joined celled layout) (map (given_words celled) (f ∷ fs)))) (ap (λ (l : List FrameWords). words_by w.claims l) (sym e))
-          (first_given f fs w.claims, rest_given fs)
+  pub are_given : (begin : Frame) (ws : List FrameWords) → ((q : ℕ) → init_word celled q ≡ None → begin q ≡ by_part is_state celled (initial_part ws) q)
+      → AreGiven full p wide (joined celled layout begin) ws (map (joined celled layout) (map (given_words celled) ws))
+  are_given begin [] begins = tt
+  are_given begin (w ∷ ws) begins = (first_given w begin begins, rest_given ws)
+
+-- the words that a witness begins with are such
+pub begins_with_given : (celled : List Item) (w : Words) (q : ℕ) → init_word celled q ≡ None → initial_words celled w q ≡ by_part is_state celled (initial_part w.frames) q
+begins_with_given celled w q e = only_given (given_to is_state celled (initial_part w.frames) q) (init_word celled q) e
