@@ -47,7 +47,7 @@ cells_told list g width ids before (p ∷ ps) after first c n has e at widths =
     let word : g p ≡ unwrap_or (given list (first + c)) (read_value n 0 c) = has before (ps ++ after) p e ∙ ap (λ (k : ℕ). unwrap_or (given list k) 0) at ∙ given_or (given list (first + c)) 0 (read_value n 0 c) (sym (nothing_read n c)) in
     ap (λ (x : ℕ). concat_value x (width p) (g p)) rest ∙ ap₂ (λ (m x : ℕ). concat_value (told_cells list n first 0 (suc c) (length ps)) m x) widths.0 word
 
-widths_all : (width : ℕ → ℕ) (ps : List ℕ) (m n : ℕ) → map width ps ≡ replicate m n → AllByRecursion (λ p. width p ≡ n) ps × (length ps ≡ m)
+pub widths_all : (width : ℕ → ℕ) (ps : List ℕ) (m n : ℕ) → map width ps ≡ replicate m n → AllByRecursion (λ p. width p ≡ n) ps × (length ps ≡ m)
 widths_all width [] zero n e = (tt, refl)
 widths_all width [] (suc m) n e = absurd (cc)
 widths_all width (p ∷ ps) zero n e = absurd (cc)

@@ -77,7 +77,7 @@ no_init_word : (items : List Item) (q : ℕ) → init_value items q ≡ None →
 no_init_word items q e = ap (option_and_then (constant_of items)) e
 
 -- a state that is carried and has no init line has words without one
-carried_absence : (wide celled : List Item) (layout : Layout) → IsFittingOf wide layout celled → (a : ℕ) → names_state wide a ≡ true → is_free wide a ≡ false → init_value wide a ≡ None → AllByRecursion (λ q. init_value celled q ≡ None) (layout a)
+pub carried_absence : (wide celled : List Item) (layout : Layout) → IsFittingOf wide layout celled → (a : ℕ) → names_state wide a ≡ true → is_free wide a ≡ false → init_value wide a ≡ None → AllByRecursion (λ q. init_value celled q ≡ None) (layout a)
 carried_absence wide celled layout fits a names carried none =
     let found = state_item wide a names in
     let x : Item = found.0 in

@@ -70,7 +70,7 @@ at_index Of k (suc i) (m ∷ leaves) l h e =
 pub at_first : (Of : ℕ → Leaf → Type 0) (i : ℕ) (leaves : List Leaf) (l : Leaf) → ByIndex Of 0 leaves → slice_get leaves i ≡ Some l → Of (first_index (map (λ (m : Leaf). m.sort) leaves) i) l
 at_first Of i leaves l h e = subst (λ (n : ℕ). Of n l) (omega arith) (at_index Of 0 i leaves l h e)
 
-all_get : {A : Type 0} (P : A → Type 0) (xs : List A) (i : ℕ) (x : A) → AllByRecursion P xs → slice_get xs i ≡ Some x → P x
+pub all_get : {A : Type 0} (P : A → Type 0) (xs : List A) (i : ℕ) (x : A) → AllByRecursion P xs → slice_get xs i ≡ Some x → P x
 all_get P [] i x h e = absurd (none-some x e)
 all_get P (y ∷ ys) zero x h e = subst P (same_Some y x e) h.0
 all_get P (y ∷ ys) (suc i) x h e = all_get P ys i x h.1 e
@@ -78,7 +78,7 @@ all_get P (y ∷ ys) (suc i) x h e = all_get P ys i x h.1 e
 -- ---- first words
 
 module _ (full : List FullLine) (p : Places) (wide : List Item) (h : IsWrittenOut full p wide) where
-  constant_first : (state input g : Frame) (id x : ℕ) → IsInitial wide state → IsFrame wide state input g → names_full_state full id ≡ true → p.node id ≡ p.leaf id → init_word wide (p.leaf id) ≡ Some x → g (p.node id) ≡ x
+  pub constant_first : (state input g : Frame) (id x : ℕ) → IsInitial wide state → IsFrame wide state input g → names_full_state full id ≡ true → p.node id ≡ p.leaf id → init_word wide (p.leaf id) ≡ Some x → g (p.node id) ≡ x
   constant_first state input g id x initial frame names same begins =
       let init = then_parts (constant_of wide) (init_value wide (p.leaf id)) x begins in
       ap g same ∙ carried_word wide state input g (p.leaf id) frame (placed full p wide id h names).state (init_not_free wide (p.leaf id) init.0 init.1) ∙ sym (init_words_say wide state initial.inits (p.leaf id) x begins)

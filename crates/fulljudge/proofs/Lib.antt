@@ -1,6 +1,9 @@
 -- Lemmas of witnesses over models of the whole language.
 pub mod ReadingLemmas
 pub mod RunLemmas
+pub mod FullLemmas
+pub mod DifferLemmas
+pub mod FirstLemmas
 pub mod CelledLemmas
 pub mod ToldLemmas
 pub mod JudgedLemmas

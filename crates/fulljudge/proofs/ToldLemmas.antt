@@ -23,7 +23,7 @@ chosen_below : (o : Option ℕ) (n a i : ℕ) → IfSome o (λ v. v < 2 ^ n) →
 chosen_below None n a i h = read_below n a i
 chosen_below (Some v) n a i h = h
 
-high_cell : (n hi lo j : ℕ) → lo < 2 ^ n → read_value n (concat_value hi n lo) (suc j) ≡ read_value n hi j
+pub high_cell : (n hi lo j : ℕ) → lo < 2 ^ n → read_value n (concat_value hi n lo) (suc j) ≡ read_value n hi j
 high_cell n hi lo j h =
     let one : 1 * n ≡ n = omega arith in
     let next : 1 + j ≡ suc j = omega arith in

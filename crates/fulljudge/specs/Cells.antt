@@ -1,13 +1,15 @@
 -- A list in which each word by which a value is told has a leaf of its own.
-use Rattle.std.specs.Prelude.{◌≡◌, ℕ, List, ◌++◌, flat_map, map}
+use Rattle.std.specs.Prelude.{◌≡◌, ℕ, ◌+◌, ◌<◌, ◌^◌, List, ◌++◌, Some, IfSome, flat_map, length, map}
 use Rattle.std.specs.List.{AllByRecursion}
 use Rattle.btor2.specs.declared.item.Item.{Item}
 use Rattle.btor2.specs.Items.{is_input, is_state}
-use Rattle.btor2.specs.Trace.{bits_of}
+use Rattle.btor2.specs.Trace.{bits_of, IsInput, IsState}
 use Rattle.fit.specs.Fitting.{Layout, ids_of, IsFittingOf}
 use Rattle.full.specs.Lines.{FullLine}
 use Rattle.full.specs.WrittenOut.{Places}
-use Rattle.fulljudge.specs.Shapes.{Leaf, leaves_of, word_widths}
+use Rattle.witness.specs.Judgements.{Words, given, initial_part, initial_words, given_frames}
+use Rattle.fulljudge.specs.Shapes.{Leaf, leaves_of, word_count, word_width, word_widths}
+use Rattle.fulljudge.specs.Told.{ByIndex}
 
 -- the pieces of a leaf are words of its sort
 abbrev pub HasWords : Layout → List Item → (ℕ → ℕ) → Leaf → Type 0
@@ -22,3 +24,10 @@ pub record HasWordsOf (full : List FullLine) (p : Places) (wide : List Item) (la
   pub states : flat_map (λ (l : Leaf). layout (p.leaf l.id)) (leaves_of is_state full) ++ more ≡ ids_of (λ x. is_state x.body) celled
   pub input_words : AllByRecursion (HasWords layout celled p.node) (leaves_of is_input full)
   pub state_words : AllByRecursion (HasWords layout celled p.leaf) (leaves_of is_state full)
+
+-- What a witness tells over such a list fits it: its words do, and those of the first states' part are words of the model's states.
+pub record TellsWords (full : List FullLine) (celled : List Item) (w : Words) : Type 0 where
+  pub state : IsState celled (initial_words celled w)
+  pub inputs : AllByRecursion (IsInput celled) (given_frames celled w)
+  pub words : ByIndex (λ i l. (c : ℕ) → c < word_count l.sort → IfSome (given (initial_part w.frames) (i + c)) (λ v. v < 2 ^ word_width l.sort)) 0 (leaves_of is_state full)
+  pub few : (k v : ℕ) → given (initial_part w.frames) k ≡ Some v → k < length (flat_map (λ (l : Leaf). word_widths l.sort) (leaves_of is_state full))

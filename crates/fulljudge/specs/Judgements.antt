@@ -1,16 +1,16 @@
 -- The judgement of a text over a model of the whole language, as `Judgements.antt` of `witness` has it over one of the profile.
-use Rattle.std.specs.Prelude.{◌≡◌, ℕ, List, None, length, map, ◌⊎◌}
+use Rattle.std.specs.Prelude.{◌≡◌, ℕ, List, Option, Some, None, length, map, ◌⊎◌}
 use Rattle.base.specs.Lines.{whole_lines}
 use Rattle.btor2.specs.Items.{is_bad}
 use Rattle.btor2.specs.Trace.{Frame}
-use Rattle.full.specs.Lines.{FullLine, lines_of}
+use Rattle.full.specs.Lines.{FullLine, Sort, lines_of}
 use Rattle.full.specs.Runs.{IsRun, full_shows}
 use Rattle.witness.specs.declared.judgement.Judgement.{Judgement}
 use Rattle.witness.specs.declared.judgement.Judgement.TheVariants as judgement
 use Rattle.witness.specs.Readings.{text_read}
 use Rattle.witness.specs.Admits.{witness_of}
 use Rattle.witness.specs.Judgements.{Words, words_of, verdict, makes_no_claim, JudgesAs}
-use Rattle.fulljudge.specs.Shapes.{full_shape}
+use Rattle.fulljudge.specs.Shapes.{full_shape, value_of_word}
 use Rattle.fulljudge.specs.Lines.{full_reader}
 use Rattle.fulljudge.specs.Told.{AreTold, FirstDiffers}
 
@@ -26,6 +26,13 @@ pub record IsJudged (full : List FullLine) (w : Words) (j : Judgement) : Type 0 
   pub run : IsRun full frames
   pub told : AreTold full w.frames frames
   pub says : SaysOfRun full w frames j
+
+-- What is judged over a model, by what is judged over a list in which each word of a state of these sorts has a state: a word that differs is that of its state. Else the state
+-- is named, if there is one, of which something else is told than its init line gives.
+abbrev pub judged_by : List Sort → Option ℕ → Judgement → Judgement
+judged_by sorts d (judgement.InitDiffers k) = judgement.InitDiffers (value_of_word sorts k)
+judged_by sorts (Some i) j = judgement.InitDiffers i
+judged_by sorts None j = j
 
 -- The judgement of a text over a model.
 abbrev pub JudgesFull : List FullLine → List ℕ → Judgement → Type 0

@@ -1,5 +1,5 @@
 -- What the list that a model is written out as is told in a trace, where a run of the model is told something.
-use Rattle.std.specs.Prelude.{◌≡◌, ℕ, true, List, [], ◌∷◌, Some, None, is_some}
+use Rattle.std.specs.Prelude.{◌≡◌, ℕ, true, List, [], ◌∷◌, Option, Some, None, is_some}
 use Rattle.std.specs.List.{AllZip}
 use Rattle.btor2.specs.declared.item.Item.{Item}
 use Rattle.btor2.specs.Items.{is_input, is_state, init_word}
@@ -8,7 +8,7 @@ use Rattle.full.specs.Lines.{FullLine, init_of, next_of}
 use Rattle.full.specs.WrittenOut.{Places}
 use Rattle.witness.specs.Judgements.{FrameWords}
 use Rattle.fulljudge.specs.Shapes.{Leaf, leaves_of}
-use Rattle.fulljudge.specs.Told.{told, ByIndex}
+use Rattle.fulljudge.specs.Told.{told, ByIndex, FirstDiffers}
 
 -- the input of an input is given what is told
 abbrev pub InputGiven : Places → List (ℕ × ℕ) → Frame → ℕ → Leaf → Type 0
@@ -55,3 +55,8 @@ ConstantsTold full p wide (w ∷ ws) = ByIndex (ConstantTold p wide w.states) 0 
 abbrev pub OthersTold : List FullLine → Places → List Item → List FrameWords → List Frame → Type 0
 OthersTold full p wide (w ∷ ws) (f ∷ fs) = ByIndex (OtherTold full p wide w.states f) 0 (leaves_of is_state full)
 OthersTold full p wide _ _ = Unit {0}
+
+-- what is found where the first words of states that begin with no constant are compared: none is another than is told, or this state's is
+abbrev pub IsCompared : List FullLine → Places → List Item → List FrameWords → List Frame → Option ℕ → Type 0
+IsCompared full p wide ws fs None = OthersTold full p wide ws fs
+IsCompared full p wide ws fs (Some i) = FirstDiffers full ws fs i
