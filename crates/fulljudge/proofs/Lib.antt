@@ -1,6 +1,7 @@
 -- Lemmas of witnesses over models of the whole language.
 pub mod ReadingLemmas
 pub mod RunLemmas
+pub mod ExtraLemmas
 pub mod FullLemmas
 pub mod DifferLemmas
 pub mod FirstLemmas

@@ -20,7 +20,7 @@ use Rattle.spread.specs.declared.spreader.Part.TheVariants as part
 use Rattle.spread.specs.Stands.{part_behind, part_at}
 use Rattle.spread.proofs.AssignedLemmas.{digits_begin_none}
 use Rattle.spread.proofs.AdmittedLemmas.{part_opens}
-use Rattle.witness.specs.Texts.{symbol_part, is_comment, most_lines}
+use Rattle.witness.specs.Texts.{Shape, symbol_part, is_comment, most_lines}
 use Rattle.witness.specs.Readings.{Reader, Reading, Fault, so_far, one_more_line, next_line, lines_behind, lines_read, reading, read_or_fault, text_read}
 use Rattle.witness.specs.Admits.{Place, AtStatus, AtClaims, AtParts, InStates, InFrame, AtEnd, Read, nothing_read, admit, begins_part, cut_at_space, word_reader, is_at_end, is_bit}
 use Rattle.witness.specs.Judgements.{makes_no_claim}
@@ -28,7 +28,7 @@ use Rattle.witness.proofs.PieceLemmas.{parts_of_cut}
 use Rattle.witness.proofs.ReadingLemmas.{line_admitted}
 use Rattle.fulljudge.specs.Shapes.{FullShape, word_count, word_width, word_widths, word_shape, first_index}
 use Rattle.fulljudge.specs.Lines.{in_brackets, digits_number, address_of, indexed, cell_line, value_line, line_by_index, word_line, line_in, line_at, full_reader, line_in_part, lines_of_words, words_text}
-use Rattle.fulljudge.proofs.ReadingLemmas.{line_read}
+use Rattle.fulljudge.proofs.ReadingLemmas.{AdmitsWords, line_read}
 
 -- ---- lines
 
@@ -76,10 +76,10 @@ indexed_is_line sorts None rest few names is = refl
 indexed_is_line sorts (Some i) rest few names is =
     list_any-append (λ b. b == 10) (decimal i) (symbol_part rest) ∙ or_from _ _ (decimal_without 10 i (omega arith) (omega (arith, few, names))) is
 
-named_first : (sorts : List Sort) (i n : ℕ) → slice_get sorts i ≡ Some (words n) → Names sorts (Some (first_index sorts i))
+pub named_first : (sorts : List Sort) (i n : ℕ) → slice_get sorts i ≡ Some (words n) → Names sorts (Some (first_index sorts i))
 named_first sorts i n e = omega (arith, first_within sorts i (words n) e)
 
-cell_named : (sorts : List Sort) (i k n : ℕ) (token : List ℕ) → slice_get sorts i ≡ Some (arrays k n) → Names sorts (option_and_then (λ a. Some (first_index sorts i + a)) (address_of k token))
+pub cell_named : (sorts : List Sort) (i k n : ℕ) (token : List ℕ) → slice_get sorts i ≡ Some (arrays k n) → Names sorts (option_and_then (λ a. Some (first_index sorts i + a)) (address_of k token))
 cell_named sorts i k n token e = by (address_of k token) refl
   where
     by : (o : Option ℕ) → address_of k token ≡ o → Names sorts (option_and_then (λ a. Some (first_index sorts i + a)) o)
@@ -204,18 +204,18 @@ module _ (shape : FullShape) (few : AreCounted shape) (bads : shape.bads < 2 ^ 6
           sym (at_opens_alike shape g.read.place (part_at g.read.place) line few) ∙ part_opens (word_shape shape) bads g.read (line_at shape g.read.place line) next e
 
   -- the lines of words are read as the lines are
-  pub lines_alike : (g : Reading Read) (p : Part) (lines : List (List ℕ)) → KnowsPart p g → lines_behind (word_reader (word_shape shape)) g (lines_of_words shape p lines) ≡ lines_behind (full_reader shape) g lines
-  lines_alike g p [] known = refl
-  lines_alike g p (line ∷ lines) known = by g.refused refl (λ next. lines_alike next (part_behind p line) lines)
+  pub lines_alike : (over : Shape) (g : Reading Read) (p : Part) (lines : List (List ℕ)) → KnowsPart p g → AdmitsWords shape over → lines_behind (word_reader over) g (lines_of_words shape p lines) ≡ lines_behind (full_reader shape) g lines
+  lines_alike over g p [] known admits = refl
+  lines_alike over g p (line ∷ lines) known admits = by g.refused refl (λ next known. lines_alike over next (part_behind p line) lines known admits)
     where
       by : (o : Option Why) → g.refused ≡ o
-          → ((next : Reading Read) → KnowsPart (part_behind p line) next → lines_behind (word_reader (word_shape shape)) next (lines_of_words shape (part_behind p line) lines) ≡ lines_behind (full_reader shape) next lines)
-          → lines_behind (word_reader (word_shape shape)) g (lines_of_words shape p (line ∷ lines)) ≡ lines_behind (full_reader shape) g (line ∷ lines)
-      by (Some w) e rest = all_behind_refused (word_reader (word_shape shape)) g (lines_of_words shape p (line ∷ lines)) w e ∙ sym (all_behind_refused (full_reader shape) g (line ∷ lines) w e)
+          → ((next : Reading Read) → KnowsPart (part_behind p line) next → lines_behind (word_reader over) next (lines_of_words shape (part_behind p line) lines) ≡ lines_behind (full_reader shape) next lines)
+          → lines_behind (word_reader over) g (lines_of_words shape p (line ∷ lines)) ≡ lines_behind (full_reader shape) g (line ∷ lines)
+      by (Some w) e rest = all_behind_refused (word_reader over) g (lines_of_words shape p (line ∷ lines)) w e ∙ sym (all_behind_refused (full_reader shape) g (line ∷ lines) w e)
       by None e rest =
           let same : line_in_part shape p line ≡ line_at shape g.read.place line = ap (λ (q : Part). line_in_part shape q line) (known e) ∙ in_its_part shape g.read.place line in
-          let step : next_line (word_reader (word_shape shape)) g (line_in_part shape p line) ≡ next_line (full_reader shape) g line = ap (next_line (word_reader (word_shape shape)) g) same ∙ sym (line_read shape g line) in
-          ap (λ (h : Reading Read). lines_behind (word_reader (word_shape shape)) h (lines_of_words shape (part_behind p line) lines)) step
+          let step : next_line (word_reader over) g (line_in_part shape p line) ≡ next_line (full_reader shape) g line = ap (next_line (word_reader over) g) same ∙ sym (line_read shape over g line admits) in
+          ap (λ (h : Reading Read). lines_behind (word_reader over) h (lines_of_words shape (part_behind p line) lines)) step
           ∙ rest (next_line (full_reader shape) g line) (subst (λ (q : Part). KnowsPart (part_behind q line) (next_line (full_reader shape) g line)) (sym (known e)) (still_known g line e))
 
   module _ (text : List ℕ) where
@@ -230,15 +230,15 @@ module _ (shape : FullShape) (few : AreCounted shape) (bads : shape.bads < 2 ^ 6
     words_rest : unfinished (words_text shape text) ≡ unfinished text
     words_rest = unfinished-lines of_words (unfinished text) ∙ unfinished-last (unfinished text) (unfinished_is_line text)
 
-    all_alike : lines_behind (word_reader (word_shape shape)) (so_far 0 nothing_read) of_words ≡ lines_behind (full_reader shape) (so_far 0 nothing_read) (whole_lines text)
-    all_alike = lines_alike (so_far 0 nothing_read) part.Outside (whole_lines text) (λ e. refl)
+    all_alike : (over : Shape) → AdmitsWords shape over → lines_behind (word_reader over) (so_far 0 nothing_read) of_words ≡ lines_behind (full_reader shape) (so_far 0 nothing_read) (whole_lines text)
+    all_alike over admits = lines_alike over (so_far 0 nothing_read) part.Outside (whole_lines text) (λ e. refl) admits
 
     -- a text reads as the text of words does
-    pub reads_alike : text_read (word_reader (word_shape shape)) (words_text shape text) ≡ text_read (full_reader shape) text
+    pub reads_alike : (over : Shape) → AdmitsWords shape over → text_read (word_reader over) (words_text shape text) ≡ text_read (full_reader shape) text
     unfolding reading
-    reads_alike =
-        ap (λ (ls : List (List ℕ)). read_or_fault (λ r. is_at_end r.place) (lines_read (word_reader (word_shape shape)) ls) (unfinished (words_text shape text)) (lines_read (word_reader (word_shape shape)) ls).refused) words_lines
-        ∙ (ap (λ (g : Reading Read). read_or_fault (λ r. is_at_end r.place) g (unfinished (words_text shape text)) g.refused) all_alike
+    reads_alike over admits =
+        ap (λ (ls : List (List ℕ)). read_or_fault (λ r. is_at_end r.place) (lines_read (word_reader over) ls) (unfinished (words_text shape text)) (lines_read (word_reader over) ls).refused) words_lines
+        ∙ (ap (λ (g : Reading Read). read_or_fault (λ r. is_at_end r.place) g (unfinished (words_text shape text)) g.refused) (all_alike over admits)
         ∙ ap (λ (l : List ℕ). read_or_fault (λ r. is_at_end r.place) (lines_read (full_reader shape) (whole_lines text)) l (lines_read (full_reader shape) (whole_lines text)).refused) words_rest)
 
 -- ---- whether there is a claim

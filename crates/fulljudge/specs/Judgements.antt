@@ -27,9 +27,11 @@ pub record IsJudged (full : List FullLine) (w : Words) (j : Judgement) : Type 0 
   pub told : AreTold full w.frames frames
   pub says : SaysOfRun full w frames j
 
--- What is judged over a model, by what is judged over a list in which each word of a state of these sorts has a state: a word that differs is that of its state. Else the state
--- is named, if there is one, of which something else is told than its init line gives.
+-- What is judged over a model, by what is judged over a list in which each word of a state of these sorts has a state: a word that differs is that of its state. Of a witness
+-- whose words do not, the state is named, if there is one, of which something else is told than its init line gives.
 abbrev pub judged_by : List Sort → Option ℕ → Judgement → Judgement
+judged_by sorts d judgement.NoClaim = judgement.NoClaim
+judged_by sorts d (judgement.Malformed line why) = judgement.Malformed line why
 judged_by sorts d (judgement.InitDiffers k) = judgement.InitDiffers (value_of_word sorts k)
 judged_by sorts (Some i) j = judgement.InitDiffers i
 judged_by sorts None j = j
