@@ -3,6 +3,7 @@ pub mod ListLemmas
 pub mod PieceLemmas
 pub mod SplitLemmas
 pub mod FrameLemmas
+pub mod ModelLemmas
 pub mod LawLemmas
 pub mod LineLemmas
 pub mod WordLemmas

@@ -1,5 +1,5 @@
 -- The worked rows: sums of 128 bits by pieces of 64.
-use Rattle.std.proofs.Common.{◌≡◌, ℕ, ◌-◌, ◌^◌, Bool, true, false, cond, ◌&&◌, nat_eq, List, [], ◌∷◌, ◌++◌, Option, Some, None, is_none, unwrap_or, refl, sym, ap, ap₂, ◌∙◌, arith}
+use Rattle.std.proofs.Common.{◌≡◌, ℕ, ◌-◌, ◌^◌, Bool, true, false, cond, ◌&&◌, nat_eq, List, [], ◌∷◌, ◌++◌, Option, Some, None, is_none, refl, sym, ap, ap₂, ◌∙◌, arith}
 use Rattle.std.proofs.lemmas.Bool.{and_parts}
 use Rattle.base.specs.declared.operators.Binary.TheVariants as binary
 use Rattle.base.specs.Operator.{binary_value, concat_value, slice_value}
@@ -9,11 +9,14 @@ use Rattle.btor2.specs.declared.fault.PushFault.{PushFault}
 use Rattle.btor2.specs.Check.{IsWellFormed, IsWellFormedAfter, refusal, id_is_out_of_range, id_is_taken, sort_is_missing, operand_is_missing, state_is_none, width_is_out_of_range, widths_differ, init_is_not_constant, is_second_init, is_second_next, slice_is_out_of_range, constant_does_not_fit, justice_is_empty}
 use Rattle.btor2.specs.Trace.{Frame, line_word, IsInput, IsState}
 use Rattle.btor2.specs.Worked.{line}
-use Rattle.btor2.proofs.TraceLemmas.{frame_exists, words_fit_frame}
+use Rattle.btor2.proofs.TraceLemmas.{words_fit_frame}
+use Rattle.wide.specs.WideModels.{greatest_width}
+use Rattle.full.proofs.PlainLaw.{profile_is_wide}
+use Rattle.full.proofs.WideLemmas.{wide_frame_exists}
 use Rattle.fit.specs.Fitting.{Layout, NamesEarlierAfter, Carries, IsFittingOf}
 use Rattle.fit.specs.Worked.{wide_adder, narrow_adder, adder_without_carry, without, adder_layout}
 use Rattle.fit.proofs.FrameLemmas.{state_from_ids, input_from_ids}
-use Rattle.fit.proofs.LineLemmas.{line_found, carries_input, carries_state, carries_no_word}
+use Rattle.fit.proofs.LineLemmas.{next_by_pieces, outputs_by_pieces, line_found, carries_input, carries_state, carries_no_word}
 use Rattle.fit.proofs.WordLemmas.{alone, sum_by_carry, slice_high}
 
 -- ---- what computing says of a list
@@ -87,7 +90,7 @@ pub fits : IsFittingOf wide_adder layout narrow_adder
 fits =
     record {
       ordered = wide_is_ordered;
-      well_formed = narrow_is_model;
+      well_formed = profile_is_wide narrow_adder narrow_is_model;
       given = refl;
       carried = refl;
       given_widths = (refl, tt);
@@ -95,19 +98,11 @@ fits =
       lines = (none (line 1 (body.Sort 128)) (λ state input f. refl), (none (line 2 (body.Sort 1)) (λ state input f. refl), (carries_zero, (carries_states, (none (line 5 (body.Init 1 4 3)) (λ state input f. refl), (carries_inputs, (carries_sum, (none (line 8 (body.Next 1 4 7)) (λ state input f. refl), (carries_top, (none (line 10 (body.Bad 9)) (λ state input f. refl), (none (line 11 (body.Constraint 9)) (λ state input f. refl), (none (line 12 (body.Output 7)) (λ state input f. refl), tt))))))))))));
       inits = (tt, (tt, (tt, (tt, (((refl, (refl, tt)), refl), (tt, (tt, (tt, (tt, (tt, (tt, (tt, tt))))))))))));
       no_other_inits = (λ e. absurd (cc), tt);
-      nexts = (refl, tt);
-      outputs = refl;
+      nexts = (next_by_pieces wide_adder narrow_adder layout 4 refl, tt);
+      outputs = outputs_by_pieces wide_adder narrow_adder layout refl;
       bads = refl;
       constraints = refl;
     }
-
-first : List (Option ℕ) → ℕ
-first [] = 0
-first (o ∷ more) = unwrap_or o 0
-
-pub exchanged : IsFittingOf wide_adder (adder_layout (14 ∷ 10 ∷ [])) narrow_adder → ⊥
-unfolding first
-exchanged h = let e : 10 ≡ 14 = ap first h.nexts.0 in omega (arith, e)
 
 pub no_init : IsFittingOf wide_adder layout (without 7 narrow_adder) → ⊥
 no_init h = let e : false ≡ true = h.inits.1.1.1.1.0.0.1.0 in absurd (cc)
@@ -130,7 +125,7 @@ one id = cond (nat_eq id 8) 1 0
 pub no_carry : IsFittingOf wide_adder layout adder_without_carry → ⊥
 unfolding greatest one
 no_carry h =
-    let found = frame_exists adder_without_carry greatest one h.well_formed in
+    let found = wide_frame_exists greatest_width adder_without_carry greatest one h.well_formed in
     let g : Frame = found.0 in
     let frame = found.1 in
     let state : IsState adder_without_carry greatest = state_from_ids adder_without_carry greatest (omega arith, (omega arith, tt)) in
@@ -150,4 +145,37 @@ no_carry h =
     let words : binary_value binary.Add 128 (concat_value (concat_value 0 64 (g 6)) 64 (g 4)) (concat_value (concat_value 0 64 (g 9)) 64 (g 8)) ≡ 2 ^ 64 =
     ap₂ (λ (i j : ℕ). binary_value binary.Add 128 (concat_value (concat_value 0 64 i) 64 j) (concat_value (concat_value 0 64 (g 9)) 64 (g 8))) high low
     ∙ ap₂ (λ (i j : ℕ). binary_value binary.Add 128 (concat_value (concat_value 0 64 0) 64 (2 ^ 64 - 1)) (concat_value (concat_value 0 64 i) 64 j)) none by in
+    omega (arith, sym made ∙ carried ∙ words)
+
+-- from words of 0, to which 1 is added, the high piece would be 1
+nothing : Frame
+nothing id = 0
+
+pub exchanged : IsFittingOf wide_adder (adder_layout (14 ∷ 10 ∷ [])) narrow_adder → ⊥
+unfolding nothing one
+exchanged h =
+    let found = wide_frame_exists greatest_width narrow_adder nothing one h.well_formed in
+    let g : Frame = found.0 in
+    let frame = found.1 in
+    let state : IsState narrow_adder nothing = state_from_ids narrow_adder nothing (omega arith, (omega arith, tt)) in
+    let input : IsInput narrow_adder one = input_from_ids narrow_adder one (omega arith, (omega arith, tt)) in
+    let low : g 4 ≡ 0 = line_found narrow_adder nothing one g 4 (line 4 (body.State 1)) frame refl in
+    let high : g 6 ≡ 0 = line_found narrow_adder nothing one g 6 (line 6 (body.State 1)) frame refl in
+    let by : g 8 ≡ 1 = line_found narrow_adder nothing one g 8 (line 8 (body.Input 1)) frame refl in
+    let none : g 9 ≡ 0 = line_found narrow_adder nothing one g 9 (line 9 (body.Input 1)) frame refl in
+    let sum : g 10 ≡ binary_value binary.Add 64 (g 4) (g 8) = line_found narrow_adder nothing one g 10 (line 10 (body.Binary binary.Add 1 4 8)) frame refl in
+    let carry : g 11 ≡ binary_value binary.Ult 64 (g 10) (g 4) = line_found narrow_adder nothing one g 11 (line 11 (body.Binary binary.Ult 2 10 4)) frame refl in
+    let wide : g 12 ≡ g 11 = line_found narrow_adder nothing one g 12 (line 12 (body.Uext 1 11 63)) frame refl in
+    let above : g 13 ≡ binary_value binary.Add 64 (g 6) (g 9) = line_found narrow_adder nothing one g 13 (line 13 (body.Binary binary.Add 1 6 9)) frame refl in
+    let top : g 14 ≡ binary_value binary.Add 64 (g 13) (g 12) = line_found narrow_adder nothing one g 14 (line 14 (body.Binary binary.Add 1 13 12)) frame refl in
+    let one_low : g 10 ≡ 1 = sum ∙ ap₂ (λ (i j : ℕ). binary_value binary.Add 64 i j) low by in
+    let no_carry : g 12 ≡ 0 = wide ∙ carry ∙ ap₂ (λ (i j : ℕ). binary_value binary.Ult 64 i j) one_low low in
+    let nil : g 13 ≡ 0 = above ∙ ap₂ (λ (i j : ℕ). binary_value binary.Add 64 i j) high none in
+    let zero_high : g 14 ≡ 0 = top ∙ ap₂ (λ (i j : ℕ). binary_value binary.Add 64 i j) nil no_carry in
+    let carried : concat_value (concat_value 0 64 (g 10)) 64 (g 14) ≡ binary_value binary.Add 128 (concat_value (concat_value 0 64 (g 6)) 64 (g 4)) (concat_value (concat_value 0 64 (g 9)) 64 (g 8)) =
+    h.lines.1.1.1.1.1.1.0 nothing one g state input frame in
+    let made : concat_value (concat_value 0 64 (g 10)) 64 (g 14) ≡ 2 ^ 64 = ap₂ (λ (i j : ℕ). concat_value (concat_value 0 64 i) 64 j) one_low zero_high in
+    let words : binary_value binary.Add 128 (concat_value (concat_value 0 64 (g 6)) 64 (g 4)) (concat_value (concat_value 0 64 (g 9)) 64 (g 8)) ≡ 1 =
+    ap₂ (λ (i j : ℕ). binary_value binary.Add 128 (concat_value (concat_value 0 64 i) 64 j) (concat_value (concat_value 0 64 (g 9)) 64 (g 8))) high low
+    ∙ ap₂ (λ (i j : ℕ). binary_value binary.Add 128 (concat_value (concat_value 0 64 0) 64 0) (concat_value (concat_value 0 64 i) 64 j)) none by in
     omega (arith, sym made ∙ carried ∙ words)

@@ -1,4 +1,4 @@
--- Models of words of any width, and the models of the profile that they are fitted into.
+-- Lists with words of any width, and those with narrower words that they are fitted into.
 pub mod Fitting
 pub mod Gives
 pub mod Worked

@@ -1,4 +1,4 @@
-//! Models with words of any width, fitted into models of the profile.
+//! Lists with words of any width, fitted into lists with narrower words, as into models of the profile.
 #![tactic(auto)]
 
 pub mod laws;

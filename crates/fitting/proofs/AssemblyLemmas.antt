@@ -13,10 +13,11 @@ use Rattle.btor2.specs.Trace.{Frame, bits_of}
 use Rattle.btor2.proofs.AppendLemmas.{then_parts, some_of}
 use Rattle.btor2.proofs.ModelLemmas.{IsIn-from_find, IsInitOf-from_value, IsNextOf-from_value}
 use Rattle.btor2.proofs.IdLemmas.{ids_named, input_is_no_state}
-use Rattle.fit.specs.Fitting.{Layout, is_output, pieces_word, pieces_width, is_given, ids_of, carried_ids, HasWidthOfPieces, Carries, init_words, InitIsCarried, AbsenceIsCarried, next_pieces, NextIsCarried, IsFittingOf}
+use Rattle.full.proofs.PlainLaw.{profile_is_wide}
+use Rattle.fit.specs.Fitting.{Layout, is_output, pieces_word, pieces_width, is_given, ids_of, carried_ids, HasWidthOfPieces, Carries, init_words, InitIsCarried, AbsenceIsCarried, next_pieces, NextIsByPieces, NextIsCarried, IsFittingOf}
 use Rattle.fit.proofs.ListLemmas.{all_with, all_both, of_ids, to_ids}
 use Rattle.fit.proofs.FrameLemmas.{AreNodes as AreNamed, all_named}
-use Rattle.fit.proofs.LineLemmas.{carries_state}
+use Rattle.fit.proofs.LineLemmas.{next_by_pieces, outputs_by_pieces, carries_state}
 use Rattle.pieces.specs.declared.node.Node.{Node}
 use Rattle.pieces.specs.Nodes.{word_of, bits_in, IsNode, AreNodes}
 use Rattle.pieces.specs.Cuts.{widths, IsWord}
@@ -202,7 +203,7 @@ none_map : (narrow : List Item) (ps : List Node) → AllByRecursion (λ (p : Nod
 none_map narrow [] h = refl
 none_map narrow (p ∷ ps) h = ap₂ (λ (o : Option ℕ) (l : List (Option ℕ)). o ∷ l) h.0 (none_map narrow ps h.1)
 
-next_carried : (wide : List Item) (table : Table) (narrow : List Item) (id : ℕ) → AllByRecursion (LineStands wide table narrow) wide → Lacks next_value wide table.words narrow id → NextIsCarried wide (layout_by table.words) narrow id
+pub next_carried : (wide : List Item) (table : Table) (narrow : List Item) (id : ℕ) → AllByRecursion (LineStands wide table narrow) wide → Lacks next_value wide table.words narrow id → NextIsByPieces wide (layout_by table.words) narrow id
 next_carried wide table narrow id stand lacks = by (next_value wide id) refl
   where
     by : (o : Option ℕ) → next_value wide id ≡ o → map (next_value narrow) (layout_by table.words id) ≡ next_pieces (layout_by table.words) o (layout_by table.words id)
@@ -266,7 +267,7 @@ given_leaf items x is = by (is_input x.body) (is_state x.body) (is_free items x.
     by false true f is = refl
     by false false f is = is
 
-carried_leaf : (items : List Item) (x : Item) → is_carried_state items x ≡ true → is_leaf x ≡ true
+pub carried_leaf : (items : List Item) (x : Item) → is_carried_state items x ≡ true → is_leaf x ≡ true
 carried_leaf items x is = by (is_input x.body) (is_state x.body) (is_free items x.id) is
   where
     by : (i s f : Bool) → (s && not f) ≡ true → (i || s) ≡ true
@@ -285,7 +286,7 @@ fitting wide table narrow h w =
     let widths = to_ids (HasWidthOfPieces wide layout narrow) is_leaf wide (all_with (LineStands wide table narrow) (λ (x : Item). is_leaf x ≡ true → HasWidthOfPieces wide layout narrow x.id) wide (λ x stands is. leaf_width wide table narrow x stands is) h.stand) in
     record {
       ordered = h.ordered;
-      well_formed = w;
+      well_formed = profile_is_wide narrow w;
       given = ap (flat_map layout) (given_by wide wide wide_inputs) ∙ pieces_filtered (is_free wide) (is_free narrow) layout (leaf_ids wide) free ∙ ap (filter (is_free narrow)) h.leaves ∙ sym (given_by narrow narrow narrow_inputs);
       carried = ap (flat_map layout) (carried_by wide wide wide_inputs)
           ∙ pieces_filtered (λ id. not (is_free wide id)) (λ id. not (is_free narrow id)) layout (leaf_ids wide)
@@ -301,9 +302,9 @@ fitting wide table narrow h w =
           (λ x both. init_carried wide table narrow x.body h.stand both.1 both.0.init) (all_both (LineStands wide table narrow) (λ (x : Item). AreNamed wide (operands x.body)) wide h.stand (all_named wide h.ordered));
       no_other_inits = all_with (Lacks init_value wide table.words narrow) (AbsenceIsCarried wide layout narrow) (carried_ids wide) (λ id lacks none. all_ids (λ p. init_value narrow p ≡ None) (table.words id) (lacks none))
           (among_leaves (Lacks init_value wide table.words narrow) (is_carried_state wide) wide (carried_leaf wide) h.no_inits);
-      nexts = all_with (Lacks next_value wide table.words narrow) (NextIsCarried wide layout narrow) (carried_ids wide) (λ id lacks. next_carried wide table narrow id h.stand lacks)
+      nexts = all_with (Lacks next_value wide table.words narrow) (NextIsCarried wide layout narrow) (carried_ids wide) (λ id lacks. next_by_pieces wide narrow layout id (next_carried wide table narrow id h.stand lacks))
           (among_leaves (Lacks next_value wide table.words narrow) (is_carried_state wide) wide (carried_leaf wide) h.no_nexts);
-      outputs = h.outputs;
+      outputs = outputs_by_pieces wide narrow layout h.outputs;
       bads = h.bads;
       constraints = h.constraints;
     }

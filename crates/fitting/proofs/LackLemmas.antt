@@ -7,7 +7,7 @@ use Rattle.btor2.specs.Items.{names_state, is_input, is_state, is_free, init_val
 use Rattle.btor2.specs.Check.{IsWellFormed}
 use Rattle.btor2.specs.Lists.{has_init_without_next, first_init_without_next}
 use Rattle.btor2.proofs.IdLemmas.{ids_named, input_is_no_state}
-use Rattle.fit.specs.Fitting.{Layout, is_given, given_ids, next_pieces, NextIsCarried}
+use Rattle.fit.specs.Fitting.{Layout, is_given, given_ids, next_pieces, NextIsByPieces}
 use Rattle.fit.proofs.ListLemmas.{all_with, all_both, all_pieces, from_pieces, of_ids, to_ids}
 use Rattle.fitting.specs.Models.{state_ids, IsFit}
 use Rattle.fitting.proofs.AssemblyLemmas.{not_state_free}
@@ -73,7 +73,7 @@ carried_has_next (Some v) p h k = k
 
 -- ---- pieces
 
-carried_pieces : (wide narrow : List Item) (layout : Layout) (id : ℕ) → is_free wide id ≡ false → HasNo wide id → NextIsCarried wide layout narrow id → AllByRecursion (HasNo narrow) (layout id)
+carried_pieces : (wide narrow : List Item) (layout : Layout) (id : ℕ) → is_free wide id ≡ false → HasNo wide id → NextIsByPieces wide layout narrow id → AllByRecursion (HasNo narrow) (layout id)
 carried_pieces wide narrow layout id carried has next = by (next_value wide id) (carried_has_next (init_value wide id) (next_value wide id) carried has) next
   where
     by : (o : Option ℕ) → is_none o ≡ false → map (next_value narrow) (layout id) ≡ next_pieces layout o (layout id) → AllByRecursion (HasNo narrow) (layout id)
@@ -92,7 +92,7 @@ given_free items w =
     by x false true f in_i in_f none is = in_f ∙ is
     by x false false f in_i in_f none is = absurd (cc)
 
-state_pieces : (wide narrow : List Item) (layout : Layout) (x : Item) → (is_given wide x ≡ true → AllByRecursion (λ p. is_free narrow p ≡ true) (layout x.id)) → ((is_state x.body && not (is_free wide x.id)) ≡ true → NextIsCarried wide layout narrow x.id)
+state_pieces : (wide narrow : List Item) (layout : Layout) (x : Item) → (is_given wide x ≡ true → AllByRecursion (λ p. is_free narrow p ≡ true) (layout x.id)) → ((is_state x.body && not (is_free wide x.id)) ≡ true → NextIsByPieces wide layout narrow x.id)
     → (is_state x.body ≡ true → HasNo wide x.id) → is_state x.body ≡ true → AllByRecursion (HasNo narrow) (layout x.id)
 state_pieces wide narrow layout x given carried has is = by (is_free wide x.id) refl
   where
@@ -110,11 +110,11 @@ pub nothing_lacks : (wide narrow : List Item) → IsFit wide narrow → first_in
 nothing_lacks wide narrow fit none =
     let layout = fit.layout in
     let free = of_ids (λ id. AllByRecursion (λ p. is_free narrow p ≡ true) (layout id)) (is_given wide) wide
-    (all_pieces (λ p. is_free narrow p ≡ true) layout (given_ids wide) (subst (AllByRecursion (λ p. is_free narrow p ≡ true)) (sym fit.fits.given) (given_free narrow fit.fits.well_formed))) in
-    let nexts = of_ids (NextIsCarried wide layout narrow) (λ x. is_state x.body && not (is_free wide x.id)) wide fit.fits.nexts in
+    (all_pieces (λ p. is_free narrow p ≡ true) layout (given_ids wide) (subst (AllByRecursion (λ p. is_free narrow p ≡ true)) (sym fit.fits.given) (given_free narrow fit.well_formed))) in
+    let nexts = of_ids (NextIsByPieces wide layout narrow) (λ x. is_state x.body && not (is_free wide x.id)) wide fit.nexts in
     let pieces = to_ids (λ id. AllByRecursion (HasNo narrow) (layout id)) (λ x. is_state x.body) wide
-    (all_with (λ (x : Item). (is_given wide x ≡ true → AllByRecursion (λ p. is_free narrow p ≡ true) (layout x.id)) × (((is_state x.body && not (is_free wide x.id)) ≡ true → NextIsCarried wide layout narrow x.id) × (is_state x.body ≡ true → HasNo wide x.id)))
+    (all_with (λ (x : Item). (is_given wide x ≡ true → AllByRecursion (λ p. is_free narrow p ≡ true) (layout x.id)) × (((is_state x.body && not (is_free wide x.id)) ≡ true → NextIsByPieces wide layout narrow x.id) × (is_state x.body ≡ true → HasNo wide x.id)))
     (λ (x : Item). is_state x.body ≡ true → AllByRecursion (HasNo narrow) (layout x.id)) wide (λ x all is. state_pieces wide narrow layout x all.0 all.1.0 all.1.1 is)
-    (all_both (λ (x : Item). is_given wide x ≡ true → AllByRecursion (λ p. is_free narrow p ≡ true) (layout x.id)) (λ (x : Item). ((is_state x.body && not (is_free wide x.id)) ≡ true → NextIsCarried wide layout narrow x.id) × (is_state x.body ≡ true → HasNo wide x.id)) wide free
-    (all_both (λ (x : Item). (is_state x.body && not (is_free wide x.id)) ≡ true → NextIsCarried wide layout narrow x.id) (λ (x : Item). is_state x.body ≡ true → HasNo wide x.id) wide nexts (none_found wide wide none)))) in
+    (all_both (λ (x : Item). is_given wide x ≡ true → AllByRecursion (λ p. is_free narrow p ≡ true) (layout x.id)) (λ (x : Item). ((is_state x.body && not (is_free wide x.id)) ≡ true → NextIsByPieces wide layout narrow x.id) × (is_state x.body ≡ true → HasNo wide x.id)) wide free
+    (all_both (λ (x : Item). (is_state x.body && not (is_free wide x.id)) ≡ true → NextIsByPieces wide layout narrow x.id) (λ (x : Item). is_state x.body ≡ true → HasNo wide x.id) wide nexts (none_found wide wide none)))) in
     finds_none narrow narrow (of_ids (HasNo narrow) (λ x. is_state x.body) narrow (subst (AllByRecursion (HasNo narrow)) fit.states (from_pieces (HasNo narrow) layout (state_ids wide) pieces)))

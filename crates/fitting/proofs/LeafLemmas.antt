@@ -4,17 +4,17 @@ use Rattle.std.specs.List.{AllByRecursion}
 use Rattle.btor2.specs.declared.item.Item.{Item}
 use Rattle.btor2.specs.declared.item.Body.{Body}
 use Rattle.btor2.specs.declared.item.Body.TheVariants as body
-use Rattle.btor2.specs.Items.{find_item, node_sort, names_state, is_input, is_state}
+use Rattle.btor2.specs.Items.{find_item, node_sort, names_state, is_input, is_state, is_carried_state, next_value}
 use Rattle.btor2.specs.Check.{IsWellFormed}
 use Rattle.btor2.proofs.IdLemmas.{ids_named, input_is_no_state}
-use Rattle.fit.specs.Fitting.{IsInputPiece}
+use Rattle.fit.specs.Fitting.{carried_ids, NextIsByPieces, IsInputPiece}
 use Rattle.fit.proofs.ListLemmas.{all_with, all_both, to_ids}
 use Rattle.pieces.specs.declared.node.Node.{Node}
 use Rattle.pieces.specs.Cuts.{IsCut, IsWord}
 use Rattle.fitting.specs.Models.{input_ids, state_ids, IsCutBy, IsFit}
-use Rattle.fitting.specs.Fitted.{Table, layout_by, HasWord, LineStands, is_leaf, leaf_ids, IsFitted}
+use Rattle.fitting.specs.Fitted.{Table, layout_by, HasWord, Lacks, LineStands, is_leaf, leaf_ids, IsFitted}
 use Rattle.fitting.proofs.NameLemmas.{widths_known}
-use Rattle.fitting.proofs.AssemblyLemmas.{all_ids, pieces_filtered, among_leaves, fitting, has_names}
+use Rattle.fitting.proofs.AssemblyLemmas.{all_ids, pieces_filtered, among_leaves, carried_leaf, next_carried, fitting, has_names}
 
 -- ---- the ids of a kind of leaves
 
@@ -108,6 +108,7 @@ is_fit wide table narrow h w =
       record {
         layout = layout;
         fits = fitting wide table narrow h w;
+        well_formed = w;
         names = has_names wide table narrow h;
         found = all_with (LineStands wide table narrow) (λ (x : Item). find_item wide x.id ≡ Some x) wide (λ x stands. stands.found) h.stand;
         inputs = ap (flat_map layout) (inputs_by wide wide wide_named)
@@ -117,6 +118,9 @@ is_fit wide table narrow h w =
             ∙ ap (filter (λ id. not (names_state narrow id))) h.leaves ∙ sym (inputs_by narrow narrow narrow_named);
         states = ap (flat_map layout) (states_by wide wide wide_named) ∙ pieces_filtered (names_state wide) (names_state narrow) layout (leaf_ids wide) alike
             ∙ ap (filter (names_state narrow)) h.leaves ∙ sym (states_by narrow narrow narrow_named);
+        nexts = all_with (Lacks next_value wide table.words narrow) (NextIsByPieces wide layout narrow) (carried_ids wide) (λ id lacks. next_carried wide table narrow id h.stand lacks)
+            (among_leaves (Lacks next_value wide table.words narrow) (is_carried_state wide) wide (carried_leaf wide) h.no_nexts);
+        outputs = h.outputs;
         input_cuts = among_leaves (IsCutBy layout narrow) (λ x. is_input x.body) wide input_leaf cuts;
         state_cuts = among_leaves (IsCutBy layout narrow) (λ x. is_state x.body) wide state_leaf cuts;
       },

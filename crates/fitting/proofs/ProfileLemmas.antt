@@ -17,7 +17,9 @@ use Rattle.btor2.proofs.InitLemmas.{inits_hold}
 use Rattle.btor2.proofs.TraceLemmas.{line_among}
 use Rattle.wide.proofs.GrowLemmas.{tests_false}
 use Rattle.wide.proofs.LawLemmas.{same_refusal}
-use Rattle.fit.specs.Fitting.{Layout, ids_of, joined, given_ids, carried_ids, is_output, NamesEarlierAfter, HasWidthOfPieces, Carries, init_words, InitIsCarried, AbsenceIsCarried, next_pieces, NextIsCarried, IsFittingOf}
+use Rattle.full.proofs.PlainLaw.{profile_is_wide}
+use Rattle.fit.specs.Fitting.{Layout, ids_of, joined, given_ids, carried_ids, is_output, NamesEarlierAfter, HasWidthOfPieces, Carries, init_words, InitIsCarried, AbsenceIsCarried, next_pieces, NextIsByPieces, NextIsCarried, IsFittingOf}
+use Rattle.fit.proofs.LineLemmas.{next_by_pieces, outputs_by_pieces}
 use Rattle.fit.proofs.ListLemmas.{to_ids}
 use Rattle.fit.proofs.WordLemmas.{alone}
 use Rattle.fitting.specs.Names.{LeafIsNamed, shown_names, piece_widths, names_of, HasNames}
@@ -100,7 +102,7 @@ inits_carried items h front [] e holds = tt
 inits_carried items h front (x ∷ xs) e holds =
     (init_carried items h x (record { before = front; after = xs; splits = e }) holds.0, inits_carried items h (front ++ x ∷ []) xs (e ∙ sym (append_assoc front (x ∷ []) xs)) holds.1)
 
-next_carried : (items : List Item) (id : ℕ) → NextIsCarried items itself items id
+next_carried : (items : List Item) (id : ℕ) → NextIsByPieces items itself items id
 next_carried items id = by (next_value items id)
   where
     by : (o : Option ℕ) → o ∷ [] ≡ next_pieces itself o (id ∷ [])
@@ -117,7 +119,7 @@ fits_itself : (items : List Item) → IsWellFormed items → IsFittingOf items i
 fits_itself items h =
     record {
       ordered = ordered [] items h;
-      well_formed = h;
+      well_formed = profile_is_wide items h;
       given = each_itself (given_ids items);
       carried = each_itself (carried_ids items);
       given_widths = all_are (HasWidthOfPieces items itself items) (given_ids items) (own_width items);
@@ -125,8 +127,8 @@ fits_itself items h =
       lines = all_in (Carries items itself items) items (carries_line items) [] items refl;
       inits = inits_carried items h [] items refl (words_hold items h);
       no_other_inits = all_are (AbsenceIsCarried items itself items) (carried_ids items) (λ id none. (none, tt));
-      nexts = all_are (NextIsCarried items itself items) (carried_ids items) (next_carried items);
-      outputs = each_itself (nodes_of is_output items);
+      nexts = all_are (NextIsCarried items itself items) (carried_ids items) (λ id. next_by_pieces items items itself id (next_carried items id));
+      outputs = outputs_by_pieces items items itself (each_itself (nodes_of is_output items));
       bads = refl;
       constraints = refl;
     }
@@ -186,10 +188,13 @@ itself_is_fit items h = (
   record {
     layout = itself;
     fits = fits_itself items h;
+    well_formed = h;
     names = named_itself items h;
     found = all_in (λ (x : Item). find_item items x.id ≡ Some x) items (λ x at. find_item-in items x h at) [] items refl;
     inputs = each_itself (input_ids items);
     states = each_itself (state_ids items);
+    nexts = all_are (NextIsByPieces items itself items) (carried_ids items) (next_carried items);
+    outputs = each_itself (nodes_of is_output items);
     input_cuts = of_kind_all (IsCutBy itself items) (λ x. is_input x.body) items (λ x at is. own_cut items h x at (ap (λ (b : Bool). b || is_state x.body) is));
     state_cuts = of_kind_all (IsCutBy itself items) (λ x. is_state x.body) items (λ x at is. own_cut items h x at (either (is_input x.body) (is_state x.body) is));
   },

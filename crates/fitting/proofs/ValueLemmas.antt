@@ -11,6 +11,8 @@ use Rattle.btor2.specs.Check.{IsWellFormed}
 use Rattle.btor2.specs.Trace.{Frame, bits_of, line_word, IsFrame, IsInput, IsState}
 use Rattle.btor2.proofs.AppendLemmas.{find_item-append, find_item-after, sort_width-append, node_width-append, then_parts, some_of, is_some_from}
 use Rattle.btor2.proofs.ModelLemmas.{IsIn-from_find, find_item-own}
+use Rattle.wide.specs.WideModels.{greatest_width, IsWideModel}
+use Rattle.full.proofs.PlainLaw.{profile_is_wide}
 use Rattle.fit.specs.Fitting.{pieces_word, joined}
 use Rattle.fit.specs.Gives.{InFrames, Gives}
 use Rattle.fit.proofs.ListLemmas.{all_with}
@@ -40,7 +42,7 @@ sort_kept wide table narrow s n stand h =
 
 in_frames_on : (items lines : List Item) (Says : Frame → Type 0) → InFrames items Says → InFrames (items ++ lines) Says
 in_frames_on items lines Says h more state input g =
-    subst (λ (l : List Item). IsWellFormed l → IsState l state → IsInput l input → IsFrame l state input g → Says g) (sym (append_assoc items lines more)) (h (lines ++ more) state input g)
+    subst (λ (l : List Item). IsWideModel greatest_width l → IsState l state → IsInput l input → IsFrame l state input g → Says g) (sym (append_assoc items lines more)) (h (lines ++ more) state input g)
 
 makes_on : (items lines : List Item) (bits : ℕ) (value : Frame → ℕ) (rs : List Node) → MakesWord items bits value rs → MakesWord (items ++ lines) bits value rs
 makes_on items lines bits value rs h = record { nodes = nodes_on items lines rs h.nodes; wide = h.wide; word = in_frames_on items lines (λ g. word_of g rs ≡ value g) h.word }
@@ -112,7 +114,7 @@ value_settled wide table table' narrow narrow' x rs h sound plain to line own wi
     let found' = is_some_from (find_item (wide ++ x ∷ []) x.id) x (last_found wide x sound.fresh) in
     let width = last_width wide x line.sort line.bits sound.fresh line.names line.wide_sort in
     let pieces : table''.words x.id ≡ rs = on.words x.id found' ∙ own in
-    carries_word wide'' narrow'' (layout_by table''.words) x line.bits line.value w
+    carries_word wide'' narrow'' (layout_by table''.words) x line.bits line.value (profile_is_wide narrow'' w)
     (λ state input g.
     line_same wide'' (wide ++ x ∷ []) state input (joined narrow'' (layout_by table''.words) g) (words_in table.words g) x.id x.body plain
     (all_with (λ a. is_some (node_width wide a) ≡ true) (λ a. (joined narrow'' (layout_by table''.words) g a ≡ words_in table.words g a) × (bits_of wide'' a ≡ bits_of (wide ++ x ∷ []) a)) (operands x.body)

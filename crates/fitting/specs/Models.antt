@@ -4,7 +4,8 @@ use Rattle.std.specs.List.{AllByRecursion}
 use Rattle.btor2.specs.declared.item.Item.{Item}
 use Rattle.btor2.specs.Check.{most_items, IsWellFormed}
 use Rattle.btor2.specs.Items.{find_item, is_input, is_state}
-use Rattle.fit.specs.Fitting.{Layout, ids_of, IsFittingOf}
+use Rattle.btor2.specs.Reachability.{nodes_of}
+use Rattle.fit.specs.Fitting.{Layout, ids_of, carried_ids, is_output, NextIsByPieces, IsFittingOf}
 use Rattle.pieces.specs.Cuts.{IsCut}
 use Rattle.fitting.specs.declared.unfitted.Unfitted.TheVariants as unfitted
 use Rattle.fitting.specs.declared.fault.FitFault.{FitFault}
@@ -25,15 +26,19 @@ state_ids items = ids_of (λ x. is_state x.body) items
 abbrev pub IsCutBy : Layout → List Item → ℕ → Type 0
 IsCutBy layout narrow id = IsCut 64 (piece_widths layout narrow id)
 
--- A list, no two of whose lines have one id, is fitted by some layout into one whose lines have the names of the pieces. The pieces of its inputs are the inputs of the other, in file order, and those of
+-- A list, no two of whose lines have one id, is fitted by some layout into a model of the profile whose lines have the names of the pieces. The pieces of its inputs are the inputs of the other, in file order, and those of
 -- its states the states.
 pub record IsFit (wide narrow : List Item) : Type 0 where
   pub layout : Layout
   pub fits : IsFittingOf wide layout narrow
+  pub well_formed : IsWellFormed narrow
   pub names : HasNames wide layout narrow
   pub found : AllByRecursion (λ (x : Item). find_item wide x.id ≡ Some x) wide
   pub inputs : flat_map layout (input_ids wide) ≡ input_ids narrow
   pub states : flat_map layout (state_ids wide) ≡ state_ids narrow
+  -- the pieces of states take the pieces of their next nodes, and the pieces of outputs are outputs, in file order
+  pub nexts : AllByRecursion (NextIsByPieces wide layout narrow) (carried_ids wide)
+  pub outputs : flat_map layout (nodes_of is_output wide) ≡ nodes_of is_output narrow
   pub input_cuts : AllByRecursion (IsCutBy layout narrow) (input_ids wide)
   pub state_cuts : AllByRecursion (IsCutBy layout narrow) (state_ids wide)
 

@@ -15,7 +15,10 @@ mod transitions;
 mod unfitted;
 mod words;
 
+pub use constants::body_digits;
+pub use digits::constant_digits;
 pub use fault::FitFault;
 pub use fitter::Fitter;
 pub use models::fit;
+pub use names::symbol_before;
 pub use unfitted::Unfitted;

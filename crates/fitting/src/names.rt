@@ -1,6 +1,7 @@
 //! Names of pieces.
 ghost use Rattle.std.specs.Prelude.{◌≡◌, ◌+◌, ◌^◌, ◌≤◌, true, length, IfOk, IfErr};
-ghost use Rattle.btor2.specs.Symbols.{is_symbol};
+ghost use Rattle.std.specs.List.{list_all};
+ghost use Rattle.btor2.specs.Symbols.{is_printed, is_symbol};
 ghost use Rattle.pieces.specs.declared.shortage.Shortage.TheVariants as shortage;
 ghost use Rattle.fitting.specs.Names.{range_text, with_range, piece_name, piece_symbol};
 
@@ -38,14 +39,41 @@ fn with_range(alloc: Global, name: &[u8], range: &[u8]) -> Result<Vec<u8>, Alloc
     Ok(text)
 }
 
-/// The bytes of the name of a piece.
-fn piece_bytes(alloc: Global, name: &[u8], upper: u64, lower: u64) -> Result<Vec<u8>, AllocError>
+/// An upper and a lower bit in brackets, as printed bytes.
+fn printed_range(alloc: Global, upper: u64, lower: u64) -> Result<Vec<u8>, AllocError>
+    ensures text { IfOk result (λ text. text.items ≡ range_text upper lower) }
+    ensures short { IfOk result (λ text. length text.items ≤ 83) }
+    ensures printed { IfOk result (λ text. list_all is_printed text.items ≡ true) }
+{
+    range_text(alloc, upper, lower)
+}
+
+/// The bytes of a name, cut where it is too long, in front of printed bytes: they are a name.
+fn name_before(alloc: Global, name: &[u8], range: &[u8]) -> Result<Vec<u8>, AllocError>
     requires name { is_symbol name.now ≡ true }
-    ensures bytes { IfOk result (λ text. text.items ≡ piece_name name.now upper lower) }
+    requires short { length range.now ≤ 83 }
+    requires printed { list_all is_printed range.now ≡ true }
+    ensures bytes { IfOk result (λ text. text.items ≡ with_range name.now range.now) }
     ensures valid { IfOk result (λ text. is_symbol text.items ≡ true) }
 {
-    let range = range_text(alloc, upper, lower)?;
-    with_range(alloc, name, range.as_slice())
+    with_range(alloc, name, range)
+}
+
+/// A name, cut where it is too long, in front of printed bytes.
+pub fn symbol_before(alloc: Global, symbol: &Symbol, range: &[u8]) -> Result<Symbol, Shortage>
+    requires short { length range.now ≤ 83 }
+    requires printed { list_all is_printed range.now ≡ true }
+    ensures symbol { IfOk result (λ s. s ≡ with_range symbol.now range.now) }
+    ensures memory { IfErr result (λ e. e ≡ shortage.NoMemory) }
+{
+    match name_before(alloc, symbol.bytes(), range) {
+        Ok(bytes) => match Symbol::new(alloc, bytes.as_slice()) {
+            Ok(symbol) => Ok(symbol),
+            Err(SymbolFault::NoMemory) => Err(Shortage::NoMemory),
+            Err(SymbolFault::BadBytes) => unreachable!(),
+        },
+        Err(_) => Err(Shortage::NoMemory),
+    }
 }
 
 /// The name of a piece of a word with a name.
@@ -53,12 +81,8 @@ fn named(alloc: Global, symbol: &Symbol, upper: u64, lower: u64) -> Result<Symbo
     ensures symbol { IfOk result (λ s. s ≡ piece_name symbol.now upper lower) }
     ensures short { IfErr result (λ e. e ≡ shortage.NoMemory) }
 {
-    match piece_bytes(alloc, symbol.bytes(), upper, lower) {
-        Ok(bytes) => match Symbol::new(alloc, bytes.as_slice()) {
-            Ok(symbol) => Ok(symbol),
-            Err(SymbolFault::NoMemory) => Err(Shortage::NoMemory),
-            Err(SymbolFault::BadBytes) => unreachable!(),
-        },
+    match printed_range(alloc, upper, lower) {
+        Ok(range) => symbol_before(alloc, symbol, range.as_slice()),
         Err(_) => Err(Shortage::NoMemory),
     }
 }

@@ -10,13 +10,14 @@ use Rattle.btor2.specs.declared.item.Item.{Item}
 use Rattle.btor2.specs.declared.item.Body.{Body}
 use Rattle.btor2.specs.declared.item.Body.TheVariants as body
 use Rattle.btor2.specs.Items.{find_item, node_width, node_sort, sort_width, sort_bits, width_of_body, names_state, constant_word, constant_of_body, constant_of, init_value, init_for, next_value, next_for}
-use Rattle.btor2.specs.Check.{IsWellFormed, sort_is_missing, operand_is_missing, state_is_none, width_is_out_of_range, widths_differ, init_is_not_constant, is_second_init, is_second_next, slice_is_out_of_range, constant_does_not_fit, justice_is_empty}
+use Rattle.btor2.specs.Check.{sort_is_missing, operand_is_missing, state_is_none, width_is_out_of_range, widths_differ, init_is_not_constant, is_second_init, is_second_next, slice_is_out_of_range, constant_does_not_fit, justice_is_empty}
 use Rattle.btor2.specs.Trace.{Frame, bits_of, LineHolds, IsFrame, IsInput, IsState}
 use Rattle.btor2.specs.Worked.{line}
 use Rattle.btor2.proofs.AppendLemmas.{names_state-append, constant_of_body-append, constant_of-append, node_width-append, sort_width-append, width_of_body-append, find_item-append, find_item-after, is_some_from}
 use Rattle.btor2.proofs.ModelLemmas.{find_item-own}
 use Rattle.btor2.proofs.ConstantLemmas.{init_value-after}
-use Rattle.btor2.proofs.TraceLemmas.{words_fit_frame}
+use Rattle.wide.specs.WideModels.{greatest_width, IsWideModel}
+use Rattle.full.proofs.PlainLaw.{wide_words_fit}
 use Rattle.fit.specs.Gives.{InFrames}
 use Rattle.fit.proofs.LineLemmas.{line_found}
 use Rattle.pieces.specs.declared.node.Node.{Node}
@@ -47,13 +48,13 @@ sort_kept old new s n e h = ap (λ (l : List Item). sort_width l s) e.is ∙ sor
 pub later : (old new : List Item) (Says : Frame → Type 0) → Extends old new → InFrames old Says → InFrames new Says
 later old new Says e h more state input g =
     let same : new ++ more ≡ old ++ (e.more ++ more) = ap (λ (l : List Item). l ++ more) e.is ∙ append_assoc old e.more more in
-    subst (λ (l : List Item). IsWellFormed l → IsState l state → IsInput l input → IsFrame l state input g → Says g) (sym same) (h (e.more ++ more) state input g)
+    subst (λ (l : List Item). IsWideModel greatest_width l → IsState l state → IsInput l input → IsFrame l state input g → Says g) (sym same) (h (e.more ++ more) state input g)
 
 -- a node's word fits its width
 pub word_fits : (items : List Item) (a : Node) → IsNode items a → InFrames items (λ g. g a.id < 2 ^ a.width)
 word_fits items a h more state input g w states inputs frame =
     let there = node_width-append items more a.id a.width h in
-    subst (λ (k : ℕ). g a.id < 2 ^ k) (ap (λ (o : Option ℕ). unwrap_or o 0) there) (words_fit_frame (items ++ more) state input g w states inputs frame a.id (is_some_from (node_width (items ++ more) a.id) a.width there))
+    subst (λ (k : ℕ). g a.id < 2 ^ k) (ap (λ (o : Option ℕ). unwrap_or o 0) there) (wide_words_fit (items ++ more) state input g w states inputs frame a.id (is_some_from (node_width (items ++ more) a.id) a.width there))
 
 -- ---- a line that was put
 

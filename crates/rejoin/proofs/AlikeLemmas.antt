@@ -6,8 +6,8 @@ use Rattle.base.specs.Shown.{Shown}
 use Rattle.btor2.specs.declared.item.Item.{Item}
 use Rattle.btor2.specs.Items.{is_bad, is_input, is_state}
 use Rattle.btor2.specs.Reachability.{nodes_of, model_shows}
-use Rattle.fit.specs.Fitting.{Layout, IsFittingOf}
-use Rattle.fit.proofs.LawLemmas.{MakesInput, trace_below}
+use Rattle.fit.specs.Fitting.{Layout, IsFittingOf, MakesInput}
+use Rattle.fit.proofs.LawLemmas.{trace_below}
 use Rattle.runs.proofs.RankLemmas.{length-places}
 use Rattle.witness.specs.declared.judgement.Judgement.{Judgement}
 use Rattle.witness.specs.Texts.{Shape, shape_of, widths_of, free_of}

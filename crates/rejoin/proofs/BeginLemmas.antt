@@ -5,7 +5,7 @@ use Rattle.std.proofs.lemmas.Bool.{both_ways, false_from_ne_true}
 use Rattle.std.proofs.lemmas.Nat.{same_from_place}
 use Rattle.btor2.specs.declared.item.Item.{Item}
 use Rattle.btor2.specs.Items.{is_state, is_free, constant_of, init_value, init_word}
-use Rattle.btor2.specs.Check.{IsWellFormed}
+use Rattle.wide.specs.WideModels.{greatest_width, IsWideModel}
 use Rattle.btor2.specs.Lists.{of_kind}
 use Rattle.btor2.specs.Trace.{Frame, bits_of, IsState}
 use Rattle.btor2.proofs.InitLemmas.{init_not_free}
@@ -13,14 +13,15 @@ use Rattle.fit.specs.Fitting.{Layout, pieces_word, joined, init_words, given_ids
 use Rattle.fit.proofs.ListLemmas.{all_with, all_both, all_pieces}
 use Rattle.fit.proofs.PieceLemmas.{word_zero}
 use Rattle.fit.proofs.FrameLemmas.{FitAt, state_to_ids}
-use Rattle.fit.proofs.LawLemmas.{init_says, init_words_fit}
+use Rattle.fit.proofs.LawLemmas.{init_says}
+use Rattle.fit.proofs.ModelLemmas.{given_are_free, init_words_fit}
 use Rattle.witness.specs.Texts.{widths_of}
 use Rattle.witness.specs.Judgements.{differs, first_different}
 use Rattle.rejoin.specs.Pieces.{owner}
 use Rattle.fitting.specs.Models.{state_ids, IsFit}
 use Rattle.rejoin.proofs.PlaceLemmas.{place_map, none_passes}
 use Rattle.rejoin.proofs.PieceIndexLemmas.{first_owner}
-use Rattle.rejoin.proofs.LeafLemmas.{states_from, given_are_free}
+use Rattle.rejoin.proofs.LeafLemmas.{states_from}
 use Rattle.rejoin.proofs.ShapeLemmas.{state_counts}
 
 -- ---- init lines
@@ -81,7 +82,7 @@ differs_some (Some c) x h = refl
 abbrev differs_at : List Item → Frame → ℕ → Bool
 differs_at items f k = differs (init_word items k) (f k)
 
-pieces_differ : (narrow : List Item) (t : Frame) (ps : List ℕ) → IsWellFormed narrow → AllByRecursion (λ p. is_some (init_word narrow p) ≡ true) ps → FitAt narrow t ps
+pieces_differ : (narrow : List Item) (t : Frame) (ps : List ℕ) → IsWideModel greatest_width narrow → AllByRecursion (λ p. is_some (init_word narrow p) ≡ true) ps → FitAt narrow t ps
     → not (nat_eq (pieces_word (bits_of narrow) (init_words narrow) ps) (pieces_word (bits_of narrow) t ps)) ≡ list_any (differs_at narrow t) ps
 pieces_differ narrow t [] w there fits = refl
 pieces_differ narrow t (p ∷ ps) w there fits =
@@ -95,7 +96,7 @@ none_differs narrow t ps h = none_passes (differs_at narrow t) ps (all_with (λ 
 abbrev DiffersAlike : List Item → Layout → List Item → Frame → Frame → ℕ → Type 0
 DiffersAlike wide layout narrow s t k = differs_at wide s k ≡ list_any (differs_at narrow t) (layout k)
 
-carried_differs : (wide narrow : List Item) (layout : Layout) (s t : Frame) (k : ℕ) → IsWellFormed narrow → joined narrow layout t k ≡ s k → FitAt narrow t (layout k) → InitsAgree wide layout narrow k
+carried_differs : (wide narrow : List Item) (layout : Layout) (s t : Frame) (k : ℕ) → IsWideModel greatest_width narrow → joined narrow layout t k ≡ s k → FitAt narrow t (layout k) → InitsAgree wide layout narrow k
     → DiffersAlike wide layout narrow s t k
 carried_differs wide narrow layout s t k w same fits (inl none) = ap (λ (o : Option ℕ). differs o (s k)) none.0 ∙ sym (none_differs narrow t (layout k) none.1)
 carried_differs wide narrow layout s t k w same fits (inr some) =

@@ -9,6 +9,7 @@ use Rattle.btor2.specs.Trace.{bits_of}
 use Rattle.btor2.proofs.ModelLemmas.{IsInitOf-from_value, IsNextOf-from_value}
 use Rattle.btor2.proofs.IdLemmas.{ids_named, input_is_no_state}
 use Rattle.fit.specs.Fitting.{Layout, is_given, given_ids, carried_ids, HasWidthOfPieces, IsFittingOf}
+use Rattle.fit.proofs.ModelLemmas.{found_names, given_are_free}
 use Rattle.fit.proofs.ListLemmas.{all_with, all_both, all_pieces, of_ids, to_ids}
 use Rattle.rejoin.specs.Pieces.{cut_width}
 use Rattle.fitting.specs.Models.{input_ids, state_ids, IsCutBy, IsFit}
@@ -65,27 +66,6 @@ carried_from items P states =
 
 -- ---- which are free
 
--- what names no state has neither line
-no_state_is_free : (items : List Item) (id : ℕ) → IsWellFormed items → names_state items id ≡ false → is_free items id ≡ true
-no_state_is_free items id w none = by (init_value items id) refl (next_value items id) refl
-  where
-    by : (o : Option ℕ) → init_value items id ≡ o → (n : Option ℕ) → next_value items id ≡ n → (is_none o && is_none n) ≡ true
-    by (Some v) e n d = absurd (both_ways (names_state items id) none (IsInitOf-from_value items id v w e).state)
-    by None e (Some v) d = absurd (both_ways (names_state items id) none (IsNextOf-from_value items id v w d).state)
-    by None e None d = refl
-
-pub given_are_free : (items : List Item) → IsWellFormed items → AllByRecursion (λ k. is_free items k ≡ true) (given_ids items)
-given_are_free items w =
-    to_ids (λ k. is_free items k ≡ true) (is_given items) items
-    (all_with (λ (x : Item). is_input x.body ≡ true → names_state items x.id ≡ false) (λ (x : Item). is_given items x ≡ true → is_free items x.id ≡ true) items
-    (λ x h. by (is_input x.body) (is_state x.body) (is_free items x.id) (λ e. no_state_is_free items x.id w (h e)))
-    (ids_named items (λ (x : Item). is_input x.body) false w (λ x e. input_is_no_state x.body e)))
-  where
-    by : (i s f : Bool) → (i ≡ true → f ≡ true) → (i || (s && f)) ≡ true → f ≡ true
-    by true s f h e = h refl
-    by false true f h e = e
-    by false false f h e = absurd (cc)
-
 pub carried_are_not : (items : List Item) → AllByRecursion (λ k. is_free items k ≡ false) (carried_ids items)
 carried_are_not items =
     to_ids (λ k. is_free items k ≡ false) (is_carried_state items) items (each items)
@@ -115,11 +95,6 @@ free_alike wide narrow layout fit =
 
 -- ---- what their ids name
 
--- an item that is found by its id names a state by it where it is one
-found_names : (items : List Item) (x : Item) (b : Bool) → find_item items x.id ≡ Some x → is_state x.body ≡ b → names_state items x.id ≡ b
-found_names items x true found is = rw (found, is) refl
-found_names items x false found is = rw (found, is) refl
-
 pub states_named : (wide narrow : List Item) → IsFit wide narrow → AllByRecursion (λ k. names_state wide k ≡ true) (state_ids wide)
 states_named wide narrow fit =
     to_ids (λ k. names_state wide k ≡ true) (λ (x : Item). is_state x.body) wide
@@ -137,12 +112,12 @@ PiecesName layout narrow b k = AllByRecursion (λ p. names_state narrow p ≡ b)
 pub state_pieces_name : (wide narrow : List Item) (fit : IsFit wide narrow) → AllByRecursion (PiecesName fit.layout narrow true) (state_ids wide)
 state_pieces_name wide narrow fit =
     all_pieces (λ p. names_state narrow p ≡ true) fit.layout (state_ids wide) (subst (AllByRecursion (λ p. names_state narrow p ≡ true)) (sym fit.states)
-    (to_ids (λ p. names_state narrow p ≡ true) (λ (x : Item). is_state x.body) narrow (ids_named narrow (λ (x : Item). is_state x.body) true fit.fits.well_formed (λ x e. e))))
+    (to_ids (λ p. names_state narrow p ≡ true) (λ (x : Item). is_state x.body) narrow (ids_named narrow (λ (x : Item). is_state x.body) true fit.well_formed (λ x e. e))))
 
 pub input_pieces_name : (wide narrow : List Item) (fit : IsFit wide narrow) → AllByRecursion (PiecesName fit.layout narrow false) (input_ids wide)
 input_pieces_name wide narrow fit =
     all_pieces (λ p. names_state narrow p ≡ false) fit.layout (input_ids wide) (subst (AllByRecursion (λ p. names_state narrow p ≡ false)) (sym fit.inputs)
-    (to_ids (λ p. names_state narrow p ≡ false) (λ (x : Item). is_input x.body) narrow (ids_named narrow (λ (x : Item). is_input x.body) false fit.fits.well_formed (λ x e. input_is_no_state x.body e))))
+    (to_ids (λ p. names_state narrow p ≡ false) (λ (x : Item). is_input x.body) narrow (ids_named narrow (λ (x : Item). is_input x.body) false fit.well_formed (λ x e. input_is_no_state x.body e))))
 
 -- ---- how wide they are
 

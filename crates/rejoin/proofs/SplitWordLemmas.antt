@@ -4,13 +4,14 @@ use Rattle.std.specs.List.{AllByRecursion}
 use Rattle.std.specs.Option.{option_or}
 use Rattle.btor2.specs.declared.item.Item.{Item}
 use Rattle.btor2.specs.Items.{is_input, is_state, is_free, names_state, init_word}
-use Rattle.btor2.specs.Check.{IsWellFormed}
+use Rattle.wide.specs.WideModels.{greatest_width, IsWideModel}
 use Rattle.btor2.specs.Trace.{Frame, bits_of}
 use Rattle.btor2.proofs.IdLemmas.{ids_fresh}
 use Rattle.fit.specs.Fitting.{Layout, init_words, given_ids, carried_ids}
 use Rattle.fit.proofs.ListLemmas.{all_with, all_both, distinct_ids}
 use Rattle.fit.proofs.PieceLemmas.{word_same, word_zero}
-use Rattle.fit.proofs.LawLemmas.{all_of, init_words_fit}
+use Rattle.fit.proofs.LawLemmas.{all_of}
+use Rattle.fit.proofs.ModelLemmas.{init_words_fit}
 use Rattle.witness.specs.Texts.{Assignment, IsAssignment, widths_of}
 use Rattle.witness.specs.Judgements.{pairs_of, given_to, FrameWords, given_words}
 use Rattle.rejoin.specs.Pieces.{split_part}
@@ -42,7 +43,7 @@ make_told wide narrow layout has f k x cut fits pieces says =
 abbrev pub beginning : List Item → List (ℕ × ℕ) → Frame
 beginning items part k = unwrap_or (option_or (given_to is_state items part k) (init_word items k)) 0
 
-begin_by : (wide narrow : List Item) (layout : Layout) (has : ℕ → Option ℕ) (o : Option ℕ) (k : ℕ) → IsWellFormed narrow → InitsAgree wide layout narrow k → IsCutTo wide layout narrow k → IfSome o (λ x. x < 2 ^ bits_of wide k) → HavePieces has o 0 (layout k)
+begin_by : (wide narrow : List Item) (layout : Layout) (has : ℕ → Option ℕ) (o : Option ℕ) (k : ℕ) → IsWideModel greatest_width narrow → InitsAgree wide layout narrow k → IsCutTo wide layout narrow k → IfSome o (λ x. x < 2 ^ bits_of wide k) → HavePieces has o 0 (layout k)
     → Make (bits_of narrow) (λ p. unwrap_or (option_or (has p) (init_word narrow p)) 0) (unwrap_or (option_or o (init_word wide k)) 0) (layout k)
 begin_by wide narrow layout has (Some x) k w agree cut fits pieces =
     make_told wide narrow layout has (λ p. unwrap_or (option_or (has p) (init_word narrow p)) 0) k x cut fits pieces (λ p v e. ap (λ (q : Option ℕ). unwrap_or (option_or q (init_word narrow p)) 0) e)
@@ -65,12 +66,12 @@ below widths list h = all_with (IsAssignment widths) (λ (a : Assignment). a.wor
 
 state_part : (wide narrow : List Item) (fit : IsFit wide narrow) (list : List Assignment) → AreOf (widths_of is_state wide) list → AllByRecursion (SplitsAt is_state wide fit.layout narrow list) (state_ids wide)
 state_part wide narrow fit list h =
-    part_splits is_state wide narrow fit.layout list (state_counts wide narrow fit) fit.states (distinct_ids (λ x. is_state x.body) narrow (ids_fresh narrow fit.fits.well_formed)) (states_cut_to wide narrow fit)
+    part_splits is_state wide narrow fit.layout list (state_counts wide narrow fit) fit.states (distinct_ids (λ x. is_state x.body) narrow (ids_fresh narrow fit.well_formed)) (states_cut_to wide narrow fit)
     (inside (widths_of is_state wide) list h)
 
 input_part : (wide narrow : List Item) (fit : IsFit wide narrow) (list : List Assignment) → AreOf (widths_of is_input wide) list → AllByRecursion (SplitsAt is_input wide fit.layout narrow list) (input_ids wide)
 input_part wide narrow fit list h =
-    part_splits is_input wide narrow fit.layout list (input_counts wide narrow fit) fit.inputs (distinct_ids (λ x. is_input x.body) narrow (ids_fresh narrow fit.fits.well_formed)) (inputs_cut_to wide narrow fit)
+    part_splits is_input wide narrow fit.layout list (input_counts wide narrow fit) fit.inputs (distinct_ids (λ x. is_input x.body) narrow (ids_fresh narrow fit.well_formed)) (inputs_cut_to wide narrow fit)
     (inside (widths_of is_input wide) list h)
 
 -- The words that states begin with by a part that is split make those that they begin with by the part.

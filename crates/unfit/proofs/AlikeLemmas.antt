@@ -6,13 +6,14 @@ use Rattle.std.proofs.lemmas.Bool.{both_ways}
 use Rattle.btor2.specs.declared.item.Item.{Item}
 use Rattle.btor2.specs.declared.item.Body.{Body}
 use Rattle.btor2.specs.Items.{is_input, is_state, is_free, names_state, find_item, constant_of, init_value, init_word}
-use Rattle.btor2.specs.Check.{IsWellFormed}
+use Rattle.wide.specs.WideModels.{greatest_width, IsWideModel}
 use Rattle.btor2.specs.Trace.{Frame, bits_of, IsState, IsInput}
 use Rattle.btor2.proofs.IdLemmas.{ids_fresh, input_is_no_state}
 use Rattle.btor2.proofs.InitLemmas.{init_not_free}
 use Rattle.fit.specs.Fitting.{Layout, joined, init_words, given_ids, carried_ids, ids_of}
 use Rattle.fit.proofs.FrameLemmas.{state_from_ids, input_from_ids}
-use Rattle.fit.proofs.LawLemmas.{all_of, init_words_fit}
+use Rattle.fit.proofs.LawLemmas.{all_of}
+use Rattle.fit.proofs.ModelLemmas.{init_words_fit}
 use Rattle.fit.proofs.ListLemmas.{AreDistinct, all_with, all_both, distinct_ids, to_ids}
 use Rattle.fit.proofs.PieceLemmas.{word_same, word_zero}
 use Rattle.fitting.specs.Models.{input_ids, state_ids, IsCutBy, IsFit}
@@ -92,7 +93,7 @@ module _ (wide narrow : List Item) (fit : IsFit wide narrow) (list : List Assign
   -- the pieces of states are cut
   pub states_give : AllByRecursion (λ id. given_to is_state wide (pairs_of joined_states) id ≡ told_word (pieces id)) (state_ids wide)
   states_give =
-      part_gives is_state wide narrow layout (init_words narrow) list name fit.states (distinct_ids (λ x. is_state x.body) narrow (ids_fresh narrow fit.fits.well_formed)) (states_cut_to wide narrow fit)
+      part_gives is_state wide narrow layout (init_words narrow) list name fit.states (distinct_ids (λ x. is_state x.body) narrow (ids_fresh narrow fit.well_formed)) (states_cut_to wide narrow fit)
 
   begin_by : (id : ℕ) (b : Bool) → any_told (pieces id) ≡ b → IsCutBy layout narrow id → InitsAgree wide layout narrow id → given_to is_state wide (pairs_of joined_states) id ≡ told_word (pieces id)
       → joined narrow layout (beginning narrow (pairs_of list)) id ≡ beginning wide (pairs_of joined_states) id
@@ -172,7 +173,7 @@ module _ (wide narrow : List Item) (fit : IsFit wide narrow) (list ins : List As
 
   inputs_give : AllByRecursion (λ id. given_to is_input wide (pairs_of joined_inputs) id ≡ told_word (of is_input wide narrow fit.layout (λ p. 0) ins input_name id)) (input_ids wide)
   inputs_give =
-      part_gives is_input wide narrow fit.layout (λ p. 0) ins input_name fit.inputs (distinct_ids (λ x. is_input x.body) narrow (ids_fresh narrow fit.fits.well_formed)) (inputs_cut_to wide narrow fit)
+      part_gives is_input wide narrow fit.layout (λ p. 0) ins input_name fit.inputs (distinct_ids (λ x. is_input x.body) narrow (ids_fresh narrow fit.well_formed)) (inputs_cut_to wide narrow fit)
 
   of_input : AllByRecursion Makes (input_ids wide)
   of_input =
@@ -210,7 +211,7 @@ module _ (wide narrow : List Item) (fit : IsFit wide narrow) (list ins : List As
 
 -- ---- words fit
 
-word_fits : (narrow : List Item) (p : ℕ) (o : Option ℕ) → IsWellFormed narrow → IfSome o (λ x. x < 2 ^ bits_of narrow p) → unwrap_or (option_or o (init_word narrow p)) 0 < 2 ^ bits_of narrow p
+word_fits : (narrow : List Item) (p : ℕ) (o : Option ℕ) → IsWideModel greatest_width narrow → IfSome o (λ x. x < 2 ^ bits_of narrow p) → unwrap_or (option_or o (init_word narrow p)) 0 < 2 ^ bits_of narrow p
 word_fits narrow p None well h = init_words_fit narrow p well
 word_fits narrow p (Some x) well h = h
 
@@ -222,7 +223,7 @@ given_word_fits n (Some x) h = h
 abbrev pub AreBelow : List ℕ → List Assignment → Type 0
 AreBelow widths list = AllByRecursion (λ (a : Assignment). a.word < 2 ^ slice_index widths a.index) list
 
-pub beginning_fits : (narrow : List Item) (list : List Assignment) → IsWellFormed narrow → AreBelow (widths_of is_state narrow) list → IsState narrow (beginning narrow (pairs_of list))
+pub beginning_fits : (narrow : List Item) (list : List Assignment) → IsWideModel greatest_width narrow → AreBelow (widths_of is_state narrow) list → IsState narrow (beginning narrow (pairs_of list))
 beginning_fits narrow list well below =
     state_from_ids narrow (beginning narrow (pairs_of list)) (all_of (λ p. beginning narrow (pairs_of list) p < 2 ^ bits_of narrow p) (carried_ids narrow) (λ p. word_fits narrow p (given_to is_state narrow (pairs_of list) p) well (given_fits is_state narrow list p below)))
 

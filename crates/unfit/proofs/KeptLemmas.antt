@@ -52,7 +52,7 @@ module _ (wide narrow : List Item) (fit : IsFit wide narrow) (w : Wide) (shape :
 
   written_says : (r : Read) → read_text (shape_of narrow) text ≡ Ok r → Says (shape_of wide) (unfit_text w narrow text) (join_witness w narrow (witness_of r))
   written_says r read =
-      let says = read_says (shape_of narrow) text r (shape_is_small narrow fit.fits.well_formed) read in
+      let says = read_says (shape_of narrow) text r (shape_is_small narrow fit.well_formed) read in
       let fewer = lines_counted w narrow (shape_of narrow) says.comments (witness_of r) in
       let same = ap (λ (s : Shape). length (witness_lines s [] (join_witness w narrow (witness_of r)))) shape in
       record {
@@ -66,7 +66,7 @@ module _ (wide narrow : List Item) (fit : IsFit wide narrow) (w : Wide) (shape :
 
   words_kept : (r : Read) (j : Judgement) → read_text (shape_of narrow) text ≡ Ok r → JudgesWords narrow (words_of (witness_of r)) j → Judges wide (unfit_text w narrow text) (joined_judgement (shape_of wide) j)
   words_kept r j read judged =
-      let says = read_says (shape_of narrow) text r (shape_is_small narrow fit.fits.well_formed) read in
+      let says = read_says (shape_of narrow) text r (shape_is_small narrow fit.well_formed) read in
       judged_by_words wide (unfit_text w narrow text) (join_witness w narrow (witness_of r)) (joined_judgement (shape_of wide) j) small (written_says r read)
       (alike_judged wide narrow fit (words_of (join_witness w narrow (witness_of r))) (words_of (witness_of r)) j (joined_alike wide narrow fit w shape (witness_of r) says.valid) judged)
 
@@ -81,7 +81,7 @@ module _ (wide narrow : List Item) (fit : IsFit wide narrow) (w : Wide) (shape :
 -- indices over a list that a model is fitted to can be read
 pub small_shape : (wide narrow : List Item) → IsFit wide narrow → (s : Shape) → s ≡ shape_of wide → length s.states < 2 ^ 64 → length s.inputs < 2 ^ 64 → IsSmall (shape_of wide)
 small_shape wide narrow fit s is states inputs = record {
-  bads = subst (λ (n : ℕ). n < 2 ^ 64) (ap (λ (t : Shape). t.bads) (shapes_cut wide narrow fit)) (shape_is_small narrow fit.fits.well_formed).bads;
+  bads = subst (λ (n : ℕ). n < 2 ^ 64) (ap (λ (t : Shape). t.bads) (shapes_cut wide narrow fit)) (shape_is_small narrow fit.well_formed).bads;
   states = subst (λ (t : Shape). length t.states < 2 ^ 64) is states;
   inputs = subst (λ (t : Shape). length t.inputs < 2 ^ 64) is inputs;
 }

@@ -13,7 +13,8 @@ use Rattle.btor2.specs.Symbols.{is_symbol}
 use Rattle.btor2.specs.Trace.{bits_of}
 use Rattle.btor2.proofs.IdLemmas.{ids_fresh}
 use Rattle.fit.specs.Fitting.{Layout, HasWidthOfPieces, ids_of, init_words, given_ids, carried_ids}
-use Rattle.fit.proofs.LawLemmas.{all_of, init_words_fit}
+use Rattle.fit.proofs.LawLemmas.{all_of}
+use Rattle.fit.proofs.ModelLemmas.{init_words_fit}
 use Rattle.fit.proofs.ListLemmas.{AreDistinct, all_with, all_both, all_join, distinct_ids}
 use Rattle.fit.proofs.PieceLemmas.{word_below}
 use Rattle.fitting.specs.Models.{state_ids, IsCutBy, IsFit}
@@ -184,12 +185,12 @@ module _ (wide narrow : List Item) (fit : IsFit wide narrow) (list : List Assign
 
   pub states_valid : AreBelow (widths_of is_state narrow) list → IsPart (widths_of is_state wide) (joined_states wide narrow fit list name)
   states_valid below =
-      part_valid is_state wide narrow fit.layout (init_words narrow) list name fit.states (distinct_ids (λ x. is_state x.body) narrow (ids_fresh narrow fit.fits.well_formed)) (states_cut_to wide narrow fit) fit.state_cuts state_widths below
+      part_valid is_state wide narrow fit.layout (init_words narrow) list name fit.states (distinct_ids (λ x. is_state x.body) narrow (ids_fresh narrow fit.well_formed)) (states_cut_to wide narrow fit) fit.state_cuts state_widths below
       (λ p. init_words_fit narrow p fit.fits.well_formed) symbols
 
   pub inputs_valid : AreBelow (widths_of is_input narrow) list → IsPart (widths_of is_input wide) (part is_input wide narrow fit.layout (λ p. 0) list name)
   inputs_valid below =
-      part_valid is_input wide narrow fit.layout (λ p. 0) list name fit.inputs (distinct_ids (λ x. is_input x.body) narrow (ids_fresh narrow fit.fits.well_formed)) (inputs_cut_to wide narrow fit) fit.input_cuts
+      part_valid is_input wide narrow fit.layout (λ p. 0) list name fit.inputs (distinct_ids (λ x. is_input x.body) narrow (ids_fresh narrow fit.well_formed)) (inputs_cut_to wide narrow fit) fit.input_cuts
       (inputs_from wide (HasWidthOfPieces wide fit.layout narrow) fit.fits.given_widths) below (λ p. pow_pos (bits_of narrow p)) symbols
 
   free_at : (k id : ℕ) → k < length (state_ids wide) → get_or (state_ids wide) k 0 ≡ id → is_free_index (shape_of wide) k ≡ is_free wide id
@@ -199,7 +200,7 @@ module _ (wide narrow : List Item) (fit : IsFit wide narrow) (list : List Assign
   pub free_valid : AreBelow (widths_of is_state narrow) list → has_free (shape_of narrow) ≡ true → AllByRecursion (λ (a : Assignment). is_free_index (shape_of narrow) a.index ≡ true) list → IsFreePart (shape_of wide) (joined_states wide narrow fit list name)
   free_valid below some free =
       let told : ℕ → Option ℕ = has is_state wide narrow fit.layout (init_words narrow) list name in
-      let by_id = part_by_id is_state wide narrow fit.layout (init_words narrow) list name fit.states (distinct_ids (λ x. is_state x.body) narrow (ids_fresh narrow fit.fits.well_formed)) (states_cut_to wide narrow fit) in
+      let by_id = part_by_id is_state wide narrow fit.layout (init_words narrow) list name fit.states (distinct_ids (λ x. is_state x.body) narrow (ids_fresh narrow fit.well_formed)) (states_cut_to wide narrow fit) in
       record {
         some = any_repeated (widths_of is_state wide) (free_of wide) (sym (ap (λ (l : List Bool). list_any (λ b. b) l) (free_states wide narrow fit)) ∙ some);
         part = states_valid below;
