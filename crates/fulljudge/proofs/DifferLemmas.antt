@@ -12,10 +12,10 @@ use Rattle.btor2.proofs.AppendLemmas.{some_of, then_parts}
 use Rattle.btor2.proofs.IdLemmas.{state_item}
 use Rattle.wide.specs.WideModels.{greatest_width, IsWideModel}
 use Rattle.full.specs.Lines.{Sort}
-use Rattle.full.proofs.ListLemmas.{all_at}
-use Rattle.fit.specs.Fitting.{Layout, pieces_word, joined, ids_of, is_given, given_ids, init_words, IsFittingOf}
+use Rattle.full.proofs.ListLemmas.{all_at, all_of}
+use Rattle.fit.specs.Fitting.{Layout, pieces_word, joined, ids_of, is_given, given_ids, carried_ids, init_words, IsFittingOf}
 use Rattle.fit.proofs.LawLemmas.{init_says}
-use Rattle.fit.proofs.ListLemmas.{all_with, all_pieces, of_ids, AreDistinct}
+use Rattle.fit.proofs.ListLemmas.{all_with, all_pieces, of_ids, to_ids, AreDistinct}
 use Rattle.fit.proofs.ModelLemmas.{given_are_free}
 use Rattle.witness.specs.Judgements.{Words, given, given_to, initial_part, initial_words, differs, first_different}
 use Rattle.rejoin.proofs.PlaceLemmas.{place_map}
@@ -105,18 +105,17 @@ located pieces (l ∷ leaves) k q counts e = by (get_either (pieces l) (flat_map
 
 -- ---- init lines
 
--- a state without an init line has words without one
-free_absence : (wide celled : List Item) (layout : Layout) → IsFittingOf wide layout celled → IsWideModel greatest_width celled → (a : ℕ) → names_state wide a ≡ true → is_free wide a ≡ true → AllByRecursion (λ q. init_value celled q ≡ None) (layout a)
-free_absence wide celled layout fits model a names free =
+-- the words of a free state are free, and those of another are not
+pub free_pieces : (wide celled : List Item) (layout : Layout) → IsFittingOf wide layout celled → IsWideModel greatest_width celled → (a : ℕ) → names_state wide a ≡ true → is_free wide a ≡ true → AllByRecursion (λ q. is_free celled q ≡ true) (layout a)
+free_pieces wide celled layout fits model a names free =
     let found = state_item wide a names in
     let x : Item = found.0 in
     let inside = found.1 in
     let pieces = all_pieces (λ q. is_free celled q ≡ true) layout (given_ids wide) (subst (AllByRecursion (λ q. is_free celled q ≡ true)) (sym fits.given) (given_are_free celled model)) in
     let all = subst (AllByRecursion (λ (y : Item). is_given wide y ≡ true → AllByRecursion (λ q. is_free celled q ≡ true) (layout y.id))) inside.splits (of_ids (λ k. AllByRecursion (λ q. is_free celled q ≡ true) (layout k)) (is_given wide) wide pieces) in
-    let one = all_at (λ (y : Item). is_given wide y ≡ true → AllByRecursion (λ q. is_free celled q ≡ true) (layout y.id)) inside.before inside.after x all
-    (given_state (is_input x.body) (is_state x.body) (is_free wide x.id) found.3 (ap (is_free wide) (sym found.2) ∙ free)) in
-    subst (λ (k : ℕ). AllByRecursion (λ q. init_value celled q ≡ None) (layout k)) (sym found.2)
-    (all_with (λ q. is_free celled q ≡ true) (λ q. init_value celled q ≡ None) (layout x.id) (λ q e. no_init (init_value celled q) _ e) one)
+    subst (λ (k : ℕ). AllByRecursion (λ q. is_free celled q ≡ true) (layout k)) (sym found.2)
+    (all_at (λ (y : Item). is_given wide y ≡ true → AllByRecursion (λ q. is_free celled q ≡ true) (layout y.id)) inside.before inside.after x all
+    (given_state (is_input x.body) (is_state x.body) (is_free wide x.id) found.3 (ap (is_free wide) (sym found.2) ∙ free)))
   where
     given_state : (i s f : Bool) → s ≡ true → f ≡ true → (i || (s && f)) ≡ true
     given_state true s f e d = refl
@@ -124,6 +123,30 @@ free_absence wide celled layout fits model a names free =
     given_state false true false e d = absurd (cc d)
     given_state false false f e d = absurd (cc e)
 
+carried_are_not : (items : List Item) → AllByRecursion (λ k. is_free items k ≡ false) (carried_ids items)
+carried_are_not items = to_ids (λ k. is_free items k ≡ false) (is_carried_state items) items (all_of (λ (x : Item). is_carried_state items x ≡ true → is_free items x.id ≡ false) items (λ x. by (is_state x.body) (is_free items x.id)))
+  where
+    by : (s f : Bool) → (s && not f) ≡ true → f ≡ false
+    by true false e = refl
+    by true true e = absurd (cc e)
+    by false f e = absurd (cc e)
+
+pub carried_pieces : (wide celled : List Item) (layout : Layout) → IsFittingOf wide layout celled → (a : ℕ) → names_state wide a ≡ true → is_free wide a ≡ false → AllByRecursion (λ q. is_free celled q ≡ false) (layout a)
+carried_pieces wide celled layout fits a names carried =
+    let found = state_item wide a names in
+    let x : Item = found.0 in
+    let inside = found.1 in
+    let pieces = all_pieces (λ q. is_free celled q ≡ false) layout (carried_ids wide) (subst (AllByRecursion (λ q. is_free celled q ≡ false)) (sym fits.carried) (carried_are_not celled)) in
+    let all = subst (AllByRecursion (λ (y : Item). is_carried_state wide y ≡ true → AllByRecursion (λ q. is_free celled q ≡ false) (layout y.id))) inside.splits (of_ids (λ k. AllByRecursion (λ q. is_free celled q ≡ false) (layout k)) (is_carried_state wide) wide pieces) in
+    let free : is_free wide x.id ≡ false = ap (is_free wide) (sym found.2) ∙ carried in
+    subst (λ (k : ℕ). AllByRecursion (λ q. is_free celled q ≡ false) (layout k)) (sym found.2)
+    (all_at (λ (y : Item). is_carried_state wide y ≡ true → AllByRecursion (λ q. is_free celled q ≡ false) (layout y.id)) inside.before inside.after x all (rw (found.3, free) refl))
+
+-- a state without an init line has words without one
+free_absence : (wide celled : List Item) (layout : Layout) → IsFittingOf wide layout celled → IsWideModel greatest_width celled → (a : ℕ) → names_state wide a ≡ true → is_free wide a ≡ true → AllByRecursion (λ q. init_value celled q ≡ None) (layout a)
+free_absence wide celled layout fits model a names free =
+    all_with (λ q. is_free celled q ≡ true) (λ q. init_value celled q ≡ None) (layout a) (λ q e. no_init (init_value celled q) _ e) (free_pieces wide celled layout fits model a names free)
+  where
     no_init : (o : Option ℕ) (b : Bool) → (is_none o && b) ≡ true → o ≡ None
     no_init None b e = refl
     no_init (Some v) b e = absurd (cc e)

@@ -240,7 +240,7 @@ module _ (full : List FullLine) (p : Places) (wide : List Item) (layout : Layout
 
   -- ---- the judgement
 
-  bads_count : length (nodes_of is_bad celled) ≡ length (nodes_of is_bad wide)
+  pub bads_count : length (nodes_of is_bad celled) ≡ length (nodes_of is_bad wide)
   bads_count = sym (length-map (nodes_of is_bad celled) (λ q. q ∷ [])) ∙ sym (ap length c.fits.bads) ∙ length-map (nodes_of is_bad wide) layout
 
   stays_judged : (breach : Option Violation) (unreached : Option ℕ) (n : ℕ) → judged_by sorts None (first_of None breach unreached n) ≡ first_of None breach unreached n

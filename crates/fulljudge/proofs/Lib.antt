@@ -1,6 +1,9 @@
 -- Lemmas of witnesses over models of the whole language.
 pub mod ReadingLemmas
 pub mod RunLemmas
+pub mod LawLemmas
+pub mod ShapeLemmas
+pub mod ValidLemmas
 pub mod ExtraLemmas
 pub mod FullLemmas
 pub mod DifferLemmas

@@ -67,7 +67,7 @@ input_word full p wide state input g id is frame =
     subst (λ (b : Body). LineHolds wide state input g (p.node id) b) stands.2 (line_found wide state input g (p.node id) stands.0 stands.1 frame)
 
 -- the state of a state without a next line is given its words
-open_state : (full : List FullLine) (p : Places) (wide : List Item) (id : ℕ) → IsWrittenOut full p wide → names_full_state full id ≡ true → next_of full id ≡ None → is_free wide (p.leaf id) ≡ true
+pub open_state : (full : List FullLine) (p : Places) (wide : List Item) (id : ℕ) → IsWrittenOut full p wide → names_full_state full id ≡ true → next_of full id ≡ None → is_free wide (p.leaf id) ≡ true
 open_state full p wide id h names none = by (init_of full id) refl
   where
     place : StateIsWritten full p wide id

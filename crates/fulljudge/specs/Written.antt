@@ -1,13 +1,17 @@
 -- What the list that a model is written out as is told in a trace, where a run of the model is told something.
-use Rattle.std.specs.Prelude.{◌≡◌, ℕ, true, List, [], ◌∷◌, Option, Some, None, is_some}
+use Rattle.std.specs.Prelude.{◌≡◌, ℕ, true, List, [], ◌∷◌, Option, Some, None, Ok, is_some, map}
 use Rattle.std.specs.List.{AllZip}
 use Rattle.btor2.specs.declared.item.Item.{Item}
 use Rattle.btor2.specs.Items.{is_input, is_state, init_word}
-use Rattle.btor2.specs.Trace.{Frame, state_word}
+use Rattle.btor2.specs.Trace.{Frame, state_word, IsTrace}
+use Rattle.fit.specs.Fitting.{Layout, joined}
 use Rattle.full.specs.Lines.{FullLine, init_of, next_of}
-use Rattle.full.specs.WrittenOut.{Places}
-use Rattle.witness.specs.Judgements.{FrameWords}
-use Rattle.fulljudge.specs.Shapes.{Leaf, leaves_of}
+use Rattle.full.specs.WrittenOut.{Places, read_by}
+use Rattle.witness.specs.Readings.{text_read}
+use Rattle.witness.specs.Admits.{Read, witness_of}
+use Rattle.witness.specs.Judgements.{FrameWords, words_of, initial_words, given_frames}
+use Rattle.fulljudge.specs.Shapes.{Leaf, leaves_of, full_shape}
+use Rattle.fulljudge.specs.Lines.{full_reader}
 use Rattle.fulljudge.specs.Told.{told, ByIndex, FirstDiffers}
 
 -- the input of an input is given what is told
@@ -60,3 +64,9 @@ OthersTold full p wide _ _ = Unit {0}
 abbrev pub IsCompared : List FullLine → Places → List Item → List FrameWords → List Frame → Option ℕ → Type 0
 IsCompared full p wide ws fs None = OthersTold full p wide ws fs
 IsCompared full p wide ws fs (Some i) = FirstDiffers full ws fs i
+
+-- where a text reads as a witness, this is found of it, by each trace of a list in which each word has a leaf
+abbrev pub ComparesText : List FullLine → Places → List Item → Layout → List Item → List ℕ → Option ℕ → Type 0
+ComparesText full p wide layout celled text d =
+    (r : Read) (gs : List Frame) → text_read (full_reader (full_shape full)) text ≡ Ok r → IsTrace celled (initial_words celled (words_of (witness_of r))) (given_frames celled (words_of (witness_of r))) gs
+    → IsCompared full p wide (words_of (witness_of r)).frames (map (read_by p) (map (joined celled layout) gs)) d

@@ -1,9 +1,29 @@
 //! Laws of witnesses over models of the whole language, as functions with no code.
-ghost use Rattle.std.specs.Prelude.{◌≡◌, [], ◌∷◌, codes};
-ghost use Rattle.full.specs.Lines.{words, arrays};
-ghost use Rattle.fulljudge.specs.Shapes.{first_index, value_of_word, word_shape};
-ghost use Rattle.fulljudge.specs.Lines.{word_line};
+ghost use Rattle.std.specs.Prelude.{◌≡◌, ℕ, List, [], ◌∷◌, Option, codes, map};
+ghost use Rattle.btor2.specs.declared.item.Item.{Item};
+ghost use Rattle.btor2.specs.Items.{is_state};
+ghost use Rattle.wide.specs.WideModels.{greatest_width, IsWideModel};
+ghost use Rattle.full.specs.Lines.{FullLine, words, arrays};
+ghost use Rattle.full.specs.WrittenOut.{Places, IsWrittenOut};
+ghost use Rattle.fit.specs.Fitting.{Layout};
+ghost use Rattle.witness.specs.declared.judgement.Judgement.{Judgement};
+ghost use Rattle.witness.specs.Judgements.{Judges};
+ghost use Rattle.fulljudge.specs.Shapes.{Leaf, leaves_of, full_shape, first_index, value_of_word};
+ghost use Rattle.fulljudge.specs.Lines.{word_line, words_text};
+ghost use Rattle.fulljudge.specs.Judgements.{judged_by, JudgesFull};
+ghost use Rattle.fulljudge.specs.Written.{ComparesText};
+ghost use Rattle.fulljudge.specs.Cells.{HasWordsOf, CanBeCounted};
 ghost use Rattle.fulljudge.specs.Told.{told};
+
+/// A law: what is judged of the text of words, over a list in which each word has a leaf, makes what is judged of the text over the
+/// model that is written out.
+pub fn texts_are_judged_by_words()
+    ensures { (full : List FullLine) (p : Places) (wide : List Item) (layout : Layout) (celled : List Item)
+        (text : List ℕ) (d : Option ℕ) (j : Judgement) → IsWrittenOut full p wide
+        → HasWordsOf full p wide layout celled → IsWideModel greatest_width celled → CanBeCounted celled
+        → ComparesText full p wide layout celled text d → Judges celled (words_text (full_shape full) text) j
+        → JudgesFull full text (judged_by (map (λ (l : Leaf). l.sort) (leaves_of is_state full)) d j) }
+{}
 
 /// Worked rows: lines of a word of 3 bits, of an array of 4 cells of 2 bits, and of a word of 8 bits, as lines of words.
 pub fn worked_lines()

@@ -24,7 +24,7 @@ use Rattle.rejoin.proofs.BeginLemmas.{first_alike}
 bads_alike : (wide narrow : List Item) (layout : Layout) → IsFittingOf wide layout narrow → length (nodes_of is_bad narrow) ≡ length (nodes_of is_bad wide)
 bads_alike wide narrow layout fit = sym (length-map (nodes_of is_bad narrow) (λ p. p ∷ [])) ∙ sym (ap length fit.bads) ∙ length-map (nodes_of is_bad wide) layout
 
-bad_nodes : (items : List Item) → length (nodes_of is_bad items) ≡ length (filter (λ (x : Item). is_bad x.body) items)
+pub bad_nodes : (items : List Item) → length (nodes_of is_bad items) ≡ length (filter (λ (x : Item). is_bad x.body) items)
 bad_nodes items = length-nodes is_bad items bad_names ∙ length-places is_bad 0 items
 
 -- ---- the shape

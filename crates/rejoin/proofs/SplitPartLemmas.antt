@@ -97,7 +97,7 @@ part_splits kind wide narrow layout list counts same distinct cuts inside =
 
 -- ---- words that are given fit
 
-given_below : (ns : List ℕ) (list : List Assignment) (k : ℕ) → AllByRecursion (λ (a : Assignment). a.word < 2 ^ slice_index ns a.index) list → IfSome (given (pairs_of list) k) (λ x. x < 2 ^ slice_index ns k)
+pub given_below : (ns : List ℕ) (list : List Assignment) (k : ℕ) → AllByRecursion (λ (a : Assignment). a.word < 2 ^ slice_index ns a.index) list → IfSome (given (pairs_of list) k) (λ x. x < 2 ^ slice_index ns k)
 given_below ns [] k h = tt
 given_below ns (a ∷ list) k h = by (nat_eq a.index k) refl (given_below ns list k h.1)
   where

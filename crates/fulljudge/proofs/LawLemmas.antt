@@ -1,0 +1,121 @@
+-- A text is judged over a model of the whole language by what is judged of the text of words that says the same.
+use Rattle.std.proofs.Common.{◌≡◌, ℕ, ◌+◌, ◌<◌, ◌^◌, Bool, true, false, List, [], ◌∷◌, ◌++◌, map, flat_map, length, Option, Some, None, IfSome, Result, Ok, Err, refl, sym, ap, ap₂, subst, ◌∙◌, arith}
+use Rattle.std.specs.List.{AllByRecursion}
+use Rattle.base.specs.Lines.{whole_lines}
+use Rattle.btor2.specs.declared.item.Item.{Item}
+use Rattle.btor2.specs.Items.{is_input, is_state, is_bad, is_free}
+use Rattle.btor2.specs.Trace.{Frame, bits_of, IsTrace, IsInput}
+use Rattle.wide.specs.WideModels.{greatest_width, IsWideModel}
+use Rattle.full.specs.Lines.{FullLine, Sort}
+use Rattle.full.specs.WrittenOut.{Places, read_by, IsWrittenOut}
+use Rattle.fit.specs.Fitting.{Layout, joined, ids_of}
+use Rattle.fit.proofs.ListLemmas.{AreDistinct, distinct_ids}
+use Rattle.fit.proofs.ModelLemmas.{wide_ids_fresh}
+use Rattle.std.proofs.lemmas.List.{length-append}
+use Rattle.witness.specs.declared.judgement.Judgement.{Judgement}
+use Rattle.witness.specs.Texts.{Shape, Parts, Witness, AreFrames, IsWitness, shape_of, widths_of, free_of}
+use Rattle.witness.specs.Readings.{Fault, text_read}
+use Rattle.witness.specs.Admits.{Read, word_reader, witness_of}
+use Rattle.witness.specs.Judgements.{FrameWords, Words, frame_words, words_of, given, initial_part, initial_words, given_words, given_frames, makes_no_claim, JudgesWords, JudgesAs, Judges}
+use Rattle.witness.proofs.ReadLemmas.{IsSmall}
+use Rattle.witness.proofs.ReadTextLemmas.{read_says}
+use Rattle.rejoin.proofs.AlikeLemmas.{bad_nodes}
+use Rattle.fulljudge.specs.Shapes.{Leaf, leaves_of, full_shape, word_count, word_width, word_widths, word_shape}
+use Rattle.fulljudge.specs.Told.{ByIndex}
+use Rattle.fulljudge.specs.Lines.{full_reader, words_text}
+use Rattle.fulljudge.specs.Judgements.{judged_by, IsJudged, JudgesFull}
+use Rattle.fulljudge.specs.Written.{IsCompared, ComparesText}
+use Rattle.fulljudge.specs.Cells.{HasWordsOf, TellsWords, CanBeCounted}
+use Rattle.fulljudge.proofs.ReadingLemmas.{AdmitsWords}
+use Rattle.fulljudge.proofs.TextLemmas.{AreCounted, reads_alike, claims_alike}
+use Rattle.fulljudge.proofs.ExtraLemmas.{with_states, admits_alike}
+use Rattle.fulljudge.proofs.JudgedLemmas.{bads_alike}
+use Rattle.fulljudge.proofs.FullLemmas.{bads_count, judged}
+use Rattle.fulljudge.proofs.ShapeLemmas.{shape_by, flat_fused, state_widths, input_widths, state_flags, none_more_free, as_many}
+use Rattle.fulljudge.proofs.ValidLemmas.{had, all_had, state_fits, all_inputs_fit, words_fit, given_within}
+
+module _ (full : List FullLine) (p : Places) (wide : List Item) (layout : Layout) (celled : List Item) (h : IsWrittenOut full p wide) (c : HasWordsOf full p wide layout celled) (model : IsWideModel greatest_width celled)
+    (distinct_inputs : AreDistinct (ids_of (λ x. is_input x.body) celled)) (distinct_states : AreDistinct (ids_of (λ x. is_state x.body) celled)) where
+  abbrev base : Shape
+  base = word_shape (full_shape full)
+
+  abbrev more : List ℕ
+  more = map (bits_of celled) c.more
+
+  abbrev flags : List Bool
+  flags = map (is_free celled) c.more
+
+  pub shape_is : shape_of celled ≡ with_states base more flags
+  shape_is =
+      let bads : (shape_of celled).bads ≡ base.bads = sym (bad_nodes celled) ∙ bads_count full p wide layout celled h c model distinct_inputs distinct_states ∙ bads_alike full p wide h in
+      ap (λ (n : ℕ). shape_by n (widths_of is_state celled) (free_of celled) (widths_of is_input celled)) bads
+      ∙ ap (λ (l : List ℕ). shape_by base.bads l (free_of celled) (widths_of is_input celled)) (state_widths full p wide layout celled h c model)
+      ∙ ap₂ (shape_by base.bads (base.states ++ more)) (state_flags full p wide layout celled h c model) (input_widths full p wide layout celled h c model)
+
+  -- what a valid witness tells fits
+  tells : (w : Witness) (frames : List Parts) → w.frames ≡ frames → AreFrames (shape_of celled) frames → AreFrames base frames → TellsWords full celled (words_of w)
+  tells w [] e valid own = absurd valid
+  tells w (first ∷ later) e valid own =
+      let over = all_had (shape_of celled) (first ∷ later) valid in
+      let below = all_had base (first ∷ later) own in
+      let part = ap (λ (l : List Parts). initial_part (map frame_words l)) e in
+      let fused = flat_fused word_widths (λ (l : Leaf). l.sort) (leaves_of is_state full) in
+      record {
+        state = state_fits celled w model (had first.states) part over.0.0;
+        inputs = subst (λ (l : List Parts). AllByRecursion (IsInput celled) (map (given_words celled) (map frame_words l))) (sym e) (all_inputs_fit celled (shape_of celled) (first ∷ later) refl refl over);
+        words = subst (λ (list : List (ℕ × ℕ)). ByIndex (λ i l. (k : ℕ) → k < word_count l.sort → IfSome (given list (i + k)) (λ v. v < 2 ^ word_width l.sort)) 0 (leaves_of is_state full)) (sym part)
+            (words_fit (had first.states) base.states [] (leaves_of is_state full) 0 fused refl below.0.0);
+        few = λ k v told. subst (λ (l : List ℕ). k < length l) fused (given_within base.states (had first.states) k v below.0.0 (ap (λ (list : List (ℕ × ℕ)). given list k) (sym part) ∙ told));
+      }
+
+  module _ (text : List ℕ) (few : AreCounted (full_shape full)) (small : IsSmall (shape_of celled)) (own_small : IsSmall base) where
+    admits : AdmitsWords (full_shape full) (shape_of celled)
+    admits = subst (AdmitsWords (full_shape full)) (sym shape_is) (admits_alike (full_shape full) few more flags (as_many full p wide layout celled h c model) (none_more_free full p wide layout celled h c model))
+
+    over_read : text_read (word_reader (shape_of celled)) (words_text (full_shape full) text) ≡ text_read (full_reader (full_shape full)) text
+    over_read = reads_alike (full_shape full) few own_small.bads text (shape_of celled) admits
+
+    own_read : text_read (word_reader base) (words_text (full_shape full) text) ≡ text_read (full_reader (full_shape full)) text
+    own_read = reads_alike (full_shape full) few own_small.bads text base (λ r line. refl)
+
+    read_tells : (r : Read) → text_read (full_reader (full_shape full)) text ≡ Ok r → TellsWords full celled (words_of (witness_of r))
+    read_tells r e =
+        tells (witness_of r) (witness_of r).frames refl (read_says (shape_of celled) (words_text (full_shape full) text) r small (over_read ∙ e)).valid.frames
+        (read_says base (words_text (full_shape full) text) r own_small (own_read ∙ e)).valid.frames
+
+    -- what is found of a witness where first words are compared
+    abbrev Compares : Words → Option ℕ → Type 0
+    Compares w d = (gs : List Frame) → IsTrace celled (initial_words celled w) (given_frames celled w) gs → IsCompared full p wide w.frames (map (read_by p) (map (joined celled layout) gs)) d
+
+    abbrev sorts : List Sort
+    sorts = map (λ (l : Leaf). l.sort) (leaves_of is_state full)
+
+    by_read : (d : Option ℕ) (j : Judgement) (none : Bool) (read : Result Read Fault) → text_read (full_reader (full_shape full)) text ≡ read → ((r : Read) → read ≡ Ok r → Compares (words_of (witness_of r)) d)
+        → JudgesAs (λ r. JudgesWords celled (words_of (witness_of r))) none read j → JudgesAs (λ r. IsJudged full (words_of (witness_of r))) none read (judged_by sorts d j)
+    by_read d j true read e compares judges = ap (judged_by sorts d) judges
+    by_read d j false (Err fault) e compares judges = ap (judged_by sorts d) judges
+    by_read d j false (Ok r) e compares judges =
+        judged full p wide layout celled h c model distinct_inputs distinct_states (words_of (witness_of r)) (read_tells r e) j d judges (compares r refl)
+
+    pub text_judged : (d : Option ℕ) (j : Judgement) → ((r : Read) → text_read (full_reader (full_shape full)) text ≡ Ok r → Compares (words_of (witness_of r)) d) → Judges celled (words_text (full_shape full) text) j
+        → JudgesFull full text (judged_by sorts d j)
+    text_judged d j compares judges =
+        by_read d j (makes_no_claim 0 (whole_lines text)) (text_read (full_reader (full_shape full)) text) refl compares
+        (subst (λ (b : Bool). JudgesAs (λ r. JudgesWords celled (words_of (witness_of r))) b (text_read (full_reader (full_shape full)) text) j) (claims_alike (full_shape full) text few own_small.bads)
+        (subst (λ (read : Result Read Fault). JudgesAs (λ r. JudgesWords celled (words_of (witness_of r))) (makes_no_claim 0 (whole_lines (words_text (full_shape full) text))) read j) over_read judges))
+
+-- the same of any such list
+pub text_is_judged : (full : List FullLine) (p : Places) (wide : List Item) (layout : Layout) (celled : List Item) (text : List ℕ) (d : Option ℕ) (j : Judgement) → IsWrittenOut full p wide → HasWordsOf full p wide layout celled
+    → IsWideModel greatest_width celled → CanBeCounted celled → ComparesText full p wide layout celled text d → Judges celled (words_text (full_shape full) text) j
+    → JudgesFull full text (judged_by (map (λ (l : Leaf). l.sort) (leaves_of is_state full)) d j)
+text_is_judged full p wide layout celled text d j h c model few compares judges =
+    let fresh = wide_ids_fresh celled model in
+    let inputs = distinct_ids (λ x. is_input x.body) celled fresh in
+    let states = distinct_ids (λ x. is_state x.body) celled fresh in
+    let shape = shape_is full p wide layout celled h c model inputs states in
+    let more = ap (λ (s : Shape). length s.states) shape ∙ length-append (word_shape (full_shape full)).states (map (bits_of celled) c.more) in
+    let own_states : length (word_shape (full_shape full)).states < 2 ^ 64 = omega (arith, few.states, more) in
+    let own_inputs : length (word_shape (full_shape full)).inputs < 2 ^ 64 = subst (λ (n : ℕ). n < 2 ^ 64) (ap (λ (s : Shape). length s.inputs) shape) few.inputs in
+    let own_bads : (word_shape (full_shape full)).bads < 2 ^ 64 = subst (λ (n : ℕ). n < 2 ^ 64) (ap (λ (s : Shape). s.bads) shape) few.bads in
+    text_judged full p wide layout celled h c model inputs states text (record { states = own_states; inputs = own_inputs }) (record { bads = few.bads; states = few.states; inputs = few.inputs })
+    (record { bads = own_bads; states = own_states; inputs = own_inputs }) d j (λ r e gs trace. compares r gs e trace) judges
