@@ -28,5 +28,6 @@ pub mod BytesLemmas
 pub mod ProofJudgeLemmas
 pub mod NamedLemmas
 pub mod HintLemmas
+mod OpenedLemmas
 pub mod HintedLemmas
 pub mod HintSoundLemmas

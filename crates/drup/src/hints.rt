@@ -1,14 +1,13 @@
 //! What the hints of a step show, one after the other.
-ghost use Rattle.std.specs.Prelude.{◌≡◌, ℕ, false, ◌<◌, ◌||◌, if◌then◌else◌, All, length, Option, Some, None};
+ghost use Rattle.std.specs.Prelude.{◌≡◌, ℕ, false, ◌<◌, ◌++◌, ◌∷◌, [], List, All, length};
 ghost use Rattle.base.specs.Literal.{negation};
 ghost use Rattle.drup.specs.Marked.{IsEven, set_of};
 ghost use Rattle.drup.specs.Propagation.{Literals};
 ghost use Rattle.drup.specs.Growth.{Extends};
 ghost use Rattle.drup.specs.Named.{clause_of, AreNamed};
-ghost use Rattle.drup.specs.Hints.{and_open, with_seen, open_in, with_marked, negated, by_clause, settled, follow};
-ghost use Rattle.drup.specs.Opened.{open_of};
+ghost use Rattle.drup.specs.Hints.{and_open, open_in, with_marked, negated, by_clause, settled, follow};
+ghost use Rattle.drup.specs.Opened.{HasSeen};
 ghost use Rattle.drup.specs.declared.hints.Finding.{Finding as FindingValue};
-ghost use Rattle.drup.specs.declared.hints.Open.TheVariants as opening;
 
 use crate::literal::negation;
 use crate::named::Named;
@@ -25,6 +24,25 @@ pub(crate) enum Open {
     More,
 }
 
+impl Open {
+    /// What is open with another literal, which is.
+    fn with(self, literal: u32) -> Open
+        ensures { result ≡ and_open self literal }
+    {
+        match self {
+            Open::Nothing => Open::Only(literal),
+            Open::Only(one) => {
+                if one == literal {
+                    Open::Only(one)
+                } else {
+                    Open::More
+                }
+            }
+            Open::More => Open::More,
+        }
+    }
+}
+
 /// What hints show.
 #[derive(Clone, Copy)]
 pub(crate) enum Finding {
@@ -36,77 +54,70 @@ pub(crate) enum Finding {
     Unshown,
 }
 
-/// What is open of the literals so far, of which none decides a branch.
+/// What is open of a clause, where a literal may stand in it more than once.
+#[inline(never)]
+fn open_among(clause: &[u32], trail: &Trail) -> Open
+    requires even { IsEven trail.now }
+    requires inside { All (λ l. l < length trail.now.marks) clause.now }
+    ensures { result ≡ open_in (set_of trail.now) clause.now }
+{
+    let mut open = Open::Nothing;
+    for literal in clause {
+        if !trail.has(negation(*literal)) {
+            open = open.with(*literal);
+        }
+    }
+    open
+}
+
+/// How many of the literals so far are negated, and the last that is not. Nothing that is found decides a branch.
 #[derive(Clone, Copy)]
 struct Seen {
-    // a literal is open
-    some: bool,
-    // two different literals are, where one is
-    more: bool,
-    // the last that is open
+    negated: usize,
     last: u32,
 }
 
 impl Seen {
     /// No literal.
     fn new() -> Seen
-        ensures { open_of result ≡ opening.Nothing }
+        ensures { (s : Literals) → HasSeen s [] result }
     {
         Seen {
-            some: false,
-            more: false,
+            negated: 0,
             last: 0,
         }
     }
 
-    /// The same with another literal, which may be open.
+    /// The same with another literal, which may be negated.
     #[inline(always)]
-    fn with(self, literal: u32, is_open: bool) -> Seen
-        ensures { open_of result
-            ≡ (if is_open then and_open (open_of self) literal else open_of self) }
+    fn with(self, literal: u32, is_negated: bool) -> Seen
+        requires { self.negated < 18446744073709551615 }
+        ensures { (s : Literals) (before : List ℕ) → s (negation literal) ≡ is_negated
+            → HasSeen s before self → HasSeen s (before ++ literal ∷ []) result }
     {
         Seen {
-            some: self.some | is_open,
-            more: self.some & (self.more | (is_open & (literal != self.last))),
-            last: if is_open { literal } else { self.last },
+            negated: self.negated + usize::from(is_negated),
+            last: if is_negated { self.last } else { literal },
         }
     }
-
-    /// What is open.
-    fn open(self) -> Open
-        ensures { result ≡ open_of self }
-    {
-        if !self.some {
-            return Open::Nothing;
-        }
-        if self.more {
-            return Open::More;
-        }
-        Open::Only(self.last)
-    }
-}
-
-/// What is open with another literal, which may be negated.
-#[inline(always)]
-fn with_seen(found: Seen, literal: u32, trail: &Trail) -> Seen
-    requires even { IsEven trail.now }
-    requires inside { literal < length trail.now.marks }
-    ensures { open_of result ≡ with_seen (set_of trail.now) (open_of found) literal }
-{
-    found.with(literal, !trail.has(negation(literal)))
 }
 
 /// What is open of a clause.
+#[inline(always)]
 fn open_in(clause: &[u32], trail: &Trail) -> Open
     requires even { IsEven trail.now }
     requires inside { All (λ l. l < length trail.now.marks) clause.now }
     ensures { result ≡ open_in (set_of trail.now) clause.now }
 {
-    let mut found = Seen::new();
+    let mut seen = Seen::new();
     for literal in clause {
-        found = with_seen(found, *literal, trail);
+        seen = seen.with(*literal, trail.has(negation(*literal)));
     }
-    found.open()
+    match clause.len() - seen.negated {
+        0 => Open::Nothing,
+        1 => Open::Only(seen.last),
+        _ => open_among(clause, trail),
+    }
 }
 
 /// Marks a literal, if it is not marked.

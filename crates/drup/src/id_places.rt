@@ -40,9 +40,9 @@ fn at_or_none(places: &[u32], k: usize) -> u32
     }
 }
 
-/// How long a list may be for clauses before a place: four times as long, so that it takes no more than these do.
+/// How long a list may be for clauses before a place: 64 bytes for each of these, about what its literals take, and 256 KB.
 fn most_listed(place: u32) -> usize {
-    4 * place as usize + 1024
+    16 * place as usize + 65536
 }
 
 /// Puts a number at a place of a list, which is made longer where that is needed.

@@ -1,5 +1,5 @@
 -- Whole numbers of the binary form.
-use Rattle.std.proofs.Common.{◌≡◌, ℕ, suc, ◌+◌, ◌-◌, ◌*◌, ◌%◌, ◌^◌, ◌<◌, ◌≤◌, nat_lt, true, false, List, [], ◌∷◌, ◌++◌, length, take, drop, get_or, append_assoc, append-nil, refl, sym, ap, ap₂, subst, ◌∙◌, arith}
+use Rattle.std.proofs.Common.{◌≡◌, ℕ, suc, ◌+◌, ◌-◌, ◌*◌, ◌/◌, ◌%◌, ◌^◌, ◌<◌, ◌≤◌, ◌==◌, nat_lt, Bool, true, false, not, List, [], ◌∷◌, ◌++◌, length, take, drop, get_or, append_assoc, append-nil, refl, sym, ap, ap₂, subst, ◌∙◌, arith}
 use Rattle.std.specs.List.{list_any}
 use Rattle.std.proofs.Math.Nat.{pow-suc, pow-le-pow_right, mul-le-mul_right}
 use Rattle.std.proofs.lemmas.Bool.{ltb-false}
@@ -16,7 +16,8 @@ use Rattle.drup.proofs.NumberLemmas.{more_value, more_unit}
 use Rattle.lrat.specs.declared.scan.Scan.{Scan}
 use Rattle.lrat.specs.declared.scan.Spot.{Spot as CodeSpot}
 use Rattle.lrat.specs.declared.scan.Spot.TheVariants as spot
-use Rattle.lrat.specs.HintedProofs.{Token, ends, adds, Mark, mark}
+use Rattle.lrat.specs.HintedProofs.{Token, ends, adds, number, Mark, mark}
+use Rattle.lrat.specs.Words.{token_said, signed}
 use Rattle.lrat.specs.BinaryHintedProofs.{Spot, binary_marks}
 use Rattle.lrat.specs.BinaryLratTexts.{WritesNumber}
 use Rattle.lrat.specs.Codes.{IsCodedAt, coded_said, coded_behind, list_behind, step_after_list}
@@ -127,6 +128,25 @@ number_taken f old t s text word n going begins low writes at step kept same ove
     taken_piece f old t s text word (coded_said (spot_of old.scan.spot) n) going begins.none
     (λ more. number_marks old.scan.step n old.scan.spot word more low begins.within writes ∙ ap₂ (λ (k : ℕ) (p : Spot). mark old.scan.step (coded_said (spot_of old.scan.spot) n) ∷ rest_of k p more) (sym step) (sym at))
     kept same over b
+
+-- a number among literals or ids, where the scan stays the same
+pub literal_taken : (f : Formula) (old : LratJudge) (t : TextJudge) (text word : List ℕ) (n : ℕ) (even : Bool) → old.text.reader.closed ≡ false → BeginsNumber old.scan → old.scan.spot ≡ spot.Literal → n < 2 ^ 64 → WritesNumber n word → (n % 2 == 0) ≡ even
+    → t.reader.variables ≡ old.text.reader.variables → TakesWord old t (token_said (signed (not even) (n / 2)))
+    → StandsForBytes f old text → StandsForBytes f (record { text = t; variables = t.reader.variables; form = old.form; scan = old.scan }) (text ++ word)
+literal_taken f old t text word n even going begins at low writes is same over b =
+    number_taken f old t old.scan text word n going begins low writes (ap spot_of at ∙ sym (ap (λ (p : CodeSpot). coded_behind (spot_of p)) at)) refl refl same
+    (subst (TakesWord old t) (said even is ∙ sym (ap (λ (p : CodeSpot). coded_said (spot_of p) n) at)) over) b
+  where
+    said : (e : Bool) → (n % 2 == 0) ≡ e → token_said (signed (not e) (n / 2)) ≡ coded_said (spot_of spot.Literal) n
+    said true h = rw h refl
+    said false h = rw h refl
+
+pub hint_taken : (f : Formula) (old : LratJudge) (t : TextJudge) (text word : List ℕ) (n : ℕ) → old.text.reader.closed ≡ false → BeginsNumber old.scan → old.scan.spot ≡ spot.Other → n < 2 ^ 64 → WritesNumber n word
+    → t.reader.variables ≡ old.text.reader.variables → TakesWord old t (number n)
+    → StandsForBytes f old text → StandsForBytes f (record { text = t; variables = t.reader.variables; form = old.form; scan = old.scan }) (text ++ word)
+hint_taken f old t text word n going begins at low writes same over b =
+    number_taken f old t old.scan text word n going begins low writes (ap spot_of at ∙ sym (ap (λ (p : CodeSpot). coded_behind (spot_of p)) at)) refl refl same
+    (subst (TakesWord old t) (sym (ap (λ (p : CodeSpot). coded_said (spot_of p) n) at)) over) b
 
 list_marks : (k : ℕ) (p : CodeSpot) (more : List ℕ) → IsInList p → rest_of k (spot_of p) (0 ∷ more) ≡ mark k ends ∷ rest_of (step_after_list k (spot_of p)) (list_behind (spot_of p)) more
 list_marks k spot.Step more within = absurd within

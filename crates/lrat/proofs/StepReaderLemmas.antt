@@ -14,8 +14,10 @@ use Rattle.drup.specs.Hints.{Named, named_from, HintedStep, HintedEnded, ended, 
 use Rattle.drup.specs.HintedJudges.{HintedJudge, continued, StandsForHinted, HasJudgedHinted, BeginsHintedAt, BeginsHinted}
 use Rattle.lrat.specs.declared.step_reader.Part.{Part}
 use Rattle.lrat.specs.declared.step_reader.Part.TheVariants as part
-use Rattle.lrat.specs.HintedProofs.{Token, faulty, Mark, mark, Begun, between, literals, hints, deletions, Taken, goes_on, gives, refuses, with_literal, taken, behind_steps, by_taken, refused, has_begun, reading_from}
-use Rattle.lrat.specs.StepReaders.{StepReader, is_hints, begun_of, HasTaken, Open, Closed, StandsAtStep, StandsForWords, Takes, HasRead, BeginsReader}
+use Rattle.lrat.specs.HintedProofs.{Token, faulty, Mark, mark, Begun, between, literals, hints, deletions, Taken, goes_on, gives, refuses, with_literal, literal_taken, taken, behind_steps, by_taken, refused, has_begun, reading_from}
+use Rattle.drup.specs.Words.{sign_of}
+use Rattle.lrat.specs.Words.{token_said, signed}
+use Rattle.lrat.specs.StepReaders.{StepReader, is_literals, is_hints, begun_of, HasTaken, Open, Closed, StandsAtStep, StandsForWords, Takes, HasRead, BeginsReader}
 
 abbrev made : List HintedEnded → Option ProofFault → HintedReading
 made steps fault = record { steps = steps; fault = fault }
@@ -127,6 +129,17 @@ pub literal_more : (p : Part) (i : ℕ) (c h : List ℕ) (id : ℕ) (clause : Li
 literal_more p i c h id clause l more is by =
     let own = literals_kept p i c h id clause is in
     rw (own.0, own.1, by, own.2) refl
+
+pub literals_there : (b : Begun) → is_literals b ≡ true → (id : ℕ) × ((clause : List ℕ) × (b ≡ literals id clause))
+literals_there between is = absurd (cc (is))
+literals_there (literals id clause) is = (id, (clause, refl))
+literals_there (hints id clause before) is = absurd (cc (is))
+literals_there deletions is = absurd (cc (is))
+
+-- a number with a minus or without, as a literal
+pub signed_taken : (v id : ℕ) (clause : List ℕ) (negative : Bool) (n : ℕ) → literal_taken v id clause (token_said (signed negative n)) ≡ with_literal v id clause (sign_of negative) n
+signed_taken v id clause false n = refl
+signed_taken v id clause true n = refl
 
 pub hints_there : (b : Begun) → is_hints b ≡ true → (id : ℕ) × ((clause : List ℕ) × ((before : List ℕ) × (b ≡ hints id clause before)))
 hints_there between is = absurd (cc (is))

@@ -17,10 +17,9 @@ use Rattle.drup.specs.Words.{SpellsWord}
 use Rattle.drup.specs.TextJudges.{next_lines, IsTokenAt, IsFew}
 use Rattle.drup.proofs.TextLemmas.{lines_same}
 use Rattle.lrat.specs.HintedProofs.{token_of, Token, faulty, Mark, mark, lines_marks, between, reading_from, read_text_lrat}
-use Rattle.lrat.specs.StepReaders.{StepReader, StandsAtStep, StandsForWords, ReadsHints}
+use Rattle.lrat.specs.StepReaders.{StepReader, StandsAtStep, StandsForWords}
 use Rattle.base.proofs.DecimalLemmas.{nothing}
 use Rattle.lrat.specs.declared.token.Token.{Token as CodeToken}
-use Rattle.lrat.specs.declared.token.Token.TheVariants as code
 use Rattle.lrat.specs.Words.{token_said}
 use Rattle.lrat.specs.WordsAt.{parts_words, IsWordOf, IsWordAt}
 use Rattle.lrat.specs.TextJudges.{TextJudge, IsBetweenAt, IsBetween, IsReady, word_marks, marks_behind, Scanned, ScannedAt, StandsBefore, StandsThrough, BeginsText, StandsForLines, AreMarksAt, EndsText}
@@ -384,6 +383,9 @@ goes_on_words f old text pending b reader m q added same words plain few on =
     } in
     record { variables = same ∙ b.variables; marks = b.marks ++ added; words = words; scanned = scanned_any new text [] (b.marks ++ added) reader.closed now }
 
+pub ready_between : (j : TextJudge) (first : ℕ) → IsReady j → IsBetween j first
+ready_between j first ready = subst (λ (p : Place). IsBetweenAt p j first) (sym ready.within) ready.none
+
 -- a reader took a word that says this
 abbrev pub TakesToken : TextJudge → CodeToken → StepReader → Type 0
 TakesToken old token reader =
@@ -417,13 +419,12 @@ whole_word f old text first rest behind token reader going ready word not parts 
     (word_then old.line (first ∷ rest) behind place.Within old.line word.whole
     (on_blank place.Within old.line (first ∷ rest) behind refl (no_blanks (first ∷ rest) word.whole) not blank)))
 
--- a number among hints, and a blank behind it
-pub hint_word : (f : Formula) (old : TextJudge) (text : List ℕ) (first : ℕ) (rest : List ℕ) (behind n : ℕ) (reader : StepReader) → IsReady old → ReadsHints old.reader → IsWordOf (code.Number n) (first ∷ rest) → (behind == 10) ≡ false → parts_words behind ≡ true
-    → TakesToken old (code.Number n) reader → StandsForLines f old text → StandsForLines f (record { reader = reader; line = old.line; place = old.place; word = old.word }) (text ++ ((first ∷ rest) ++ behind ∷ []))
-hint_word f old text first rest behind n reader ready reads word not parts takes stands =
-    let between : IsBetween old first = subst (λ (p : Place). IsBetweenAt p old first) (sym ready.within) ready.none in
+-- a whole word where none has begun in a line of words, and a blank behind it
+pub ready_word : (f : Formula) (old : TextJudge) (text : List ℕ) (first : ℕ) (rest : List ℕ) (behind : ℕ) (token : CodeToken) (reader : StepReader) → IsReady old → old.reader.closed ≡ false → IsWordOf token (first ∷ rest) → (behind == 10) ≡ false → parts_words behind ≡ true
+    → TakesToken old token reader → StandsForLines f old text → StandsForLines f (record { reader = reader; line = old.line; place = old.place; word = old.word }) (text ++ ((first ∷ rest) ++ behind ∷ []))
+ready_word f old text first rest behind token reader ready going word not parts takes stands =
     subst (λ (p : Place). StandsForLines f (record { reader = reader; line = old.line; place = p; word = old.word }) (text ++ ((first ∷ rest) ++ behind ∷ []))) (sym ready.within)
-    (whole_word f old text first rest behind (code.Number n) reader reads.going between word not parts takes stands)
+    (whole_word f old text first rest behind token reader going (ready_between old first ready) word not parts takes stands)
 
 -- what was taken from a place on: all, where nothing more is read, or a whole word and the byte behind it
 pub taken_all : (f : Formula) (j : TextJudge) (text bytes : List ℕ) (at : ℕ) → j.reader.closed ≡ true → at < length bytes → StandsForLines f j (text ++ take at bytes) → StandsForLines f j (text ++ take (length bytes) bytes)

@@ -1,14 +1,17 @@
 -- Whole words of a text: a number is read digit by digit.
-use Rattle.std.proofs.Common.{◌≡◌, ℕ, zero, suc, ◌+◌, ◌-◌, ◌*◌, ◌/◌, ◌%◌, ◌^◌, ◌<◌, ◌≤◌, ◌==◌, true, false, List, [], ◌∷◌, ◌++◌, length, take, drop, get_or, decimal, append_assoc, refl, sym, ap, ◌∙◌, arith}
+use Rattle.std.proofs.Common.{◌≡◌, ℕ, zero, suc, Bool, ◌+◌, ◌-◌, ◌*◌, ◌/◌, ◌%◌, ◌^◌, ◌<◌, ◌≤◌, ◌==◌, true, false, List, [], ◌∷◌, ◌++◌, length, take, drop, get_or, decimal, append_assoc, refl, sym, ap, subst, ◌∙◌, arith, length-append}
+use Rattle.std.specs.Int.{from_bool}
 use Rattle.std.specs.List.{list_any}
 use Rattle.std.proofs.Math.Nat.{pow-suc, pow-le-pow_right}
-use Rattle.std.proofs.lemmas.Bool.{or_parts, or_from}
+use Rattle.std.proofs.lemmas.Bool.{or_parts, or_from, eqb-true}
 use Rattle.std.proofs.lemmas.Fmt.{decimal_digit, decimal_step}
-use Rattle.std.proofs.lemmas.List.{take_more}
+use Rattle.std.proofs.lemmas.List.{take_more, length-take}
 use Rattle.base.specs.Decimals.{is_nothing, is_digit}
 use Rattle.base.proofs.DecimalLemmas.{digit_range}
 use Rattle.lrat.specs.declared.token.Token.TheVariants as code
 use Rattle.drup.specs.Proofs.{is_proof_blank}
+use Rattle.lrat.specs.declared.word_at.WordAt.{WordAt}
+use Rattle.lrat.specs.Words.{signed}
 use Rattle.lrat.specs.WordsAt.{parts_words, IsNumberAt, IsWordAt}
 use Rattle.lrat.proofs.LratTextLemmas.{decimal_word, minus_word, token_decimal, token_minus}
 
@@ -94,6 +97,20 @@ negative_word bytes at value end inside minus n =
       inside = n.inside;
       behind = n.behind;
     }
+
+-- a number behind a minus, or without
+pub signed_word : (bytes : List ℕ) (at value end : ℕ) (negative : Bool) (start : ℕ) → at < length bytes → (get_or bytes at 0 == 45) ≡ negative → start ≡ at + from_bool negative → IsNumberAt bytes start value end → IsWordAt bytes at (record { token = signed negative value; end = end })
+signed_word bytes at value end true start inside minus is n = negative_word bytes at value end inside (eqb-true (get_or bytes at 0) 45 minus) (subst (λ (k : ℕ). IsNumberAt bytes k value end) is n)
+signed_word bytes at value end false start inside minus is n = number_word bytes at value end (subst (λ (k : ℕ). IsNumberAt bytes k value end) (omega (arith, is)) n)
+
+some_long : (w : List ℕ) → is_nothing w ≡ false → 0 < length w
+some_long [] some = absurd (cc)
+some_long (x ∷ xs) some = omega arith
+
+-- a word ends behind its place
+pub word_order : (bytes : List ℕ) (at : ℕ) (w : WordAt) → at < length bytes → IsWordAt bytes at w → at < w.end
+word_order bytes at w inside h =
+    omega (arith, inside, h.inside, some_long h.word h.some, ap length h.is, length-append (take at bytes) h.word, length-take at bytes, length-take w.end bytes)
 
 -- the first byte of a word is the one at its place
 pub first_there : (bytes word : List ℕ) (at end : ℕ) → take end bytes ≡ take at bytes ++ word → is_nothing word ≡ false → at < length bytes → (rest : List ℕ) × (word ≡ get_or bytes at 0 ∷ rest)

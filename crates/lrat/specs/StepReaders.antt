@@ -61,6 +61,17 @@ StandsAtStep f r marks false = Open f r marks
 abbrev pub StandsForWords : Formula → StepReader → List Mark → Type 0
 StandsForWords f r marks = r.failed ≡ false → StandsAtStep f r marks r.closed
 
+-- a reader reads the literals of a step
+abbrev pub is_literals : Begun → Bool
+is_literals between = false
+is_literals (literals id clause) = true
+is_literals (hints id clause before) = false
+is_literals deletions = false
+
+pub record ReadsLiterals (r : StepReader) : Type 0 where
+  pub going : r.closed ≡ false
+  pub begun : is_literals r.begun ≡ true
+
 -- a reader reads the hints of a step
 abbrev pub is_hints : Begun → Bool
 is_hints between = false

@@ -7,10 +7,12 @@ ghost use Rattle.lrat.specs.BinaryHintedProofs.{literal_coded};
 ghost use Rattle.lrat.specs.BinaryLratTexts.{WritesNumber};
 ghost use Rattle.lrat.specs.Codes.{coded_said};
 ghost use Rattle.lrat.specs.Words.{token_said};
+ghost use Rattle.lrat.specs.StepReaders.{ReadsLiterals, ReadsHints};
 ghost use Rattle.lrat.specs.Scans.{spot_of, BeginsNumber, EndsList, BeginsAddition};
 ghost use Rattle.lrat.specs.LratJudgements.{judge_lrat};
 ghost use Rattle.lrat.specs.LratJudges.{StandsForBytes, EndsBytes, StandsForLrat, EndsLrat};
 ghost use Rattle.lrat.specs.declared.lrat_judge.Form.TheVariants as form;
+ghost use Rattle.lrat.specs.declared.scan.Spot.TheVariants as spot;
 
 use crate::coded::coded_at;
 use crate::scan::Scan;
@@ -335,6 +337,111 @@ impl LratJudge {
         at + 1
     }
 
+    /// Takes a number from 1 on among literals.
+    #[inline(always)]
+    fn take_literal(&mut self, number: u64)
+        requires begins { BeginsNumber self.old.scan }
+        requires literal { self.old.scan.spot ≡ spot.Literal }
+        requires reads { ReadsLiterals self.old.text.reader }
+        requires low { number < 2 ^ 64 }
+        ensures stands { (f : FormulaValue) (text word : List ℕ) → WritesNumber number word
+            → StandsForBytes f self.old text → StandsForBytes f self.new (text ++ word) }
+        ensures form { self.new.form ≡ self.old.form }
+        ensures scan { self.new.scan ≡ self.old.scan }
+    {
+        self.text
+            .take_among_literals(self.scan.step(), number % 2 != 0, number / 2);
+    }
+
+    /// Takes a number from 1 on among hints.
+    #[inline(always)]
+    fn take_hint(&mut self, number: u64)
+        requires begins { BeginsNumber self.old.scan }
+        requires other { self.old.scan.spot ≡ spot.Other }
+        requires reads { ReadsHints self.old.text.reader }
+        requires low { number < 2 ^ 64 }
+        ensures stands { (f : FormulaValue) (text word : List ℕ) → WritesNumber number word
+            → StandsForBytes f self.old text → StandsForBytes f self.new (text ++ word) }
+        ensures form { self.new.form ≡ self.old.form }
+        ensures scan { self.new.scan ≡ self.old.scan }
+    {
+        self.text.take_among_hints(self.scan.step(), number);
+    }
+
+    /// Takes literals of a step from a place on, where one begins there; answers the place behind them.
+    #[inline(always)]
+    fn take_literals(&mut self, bytes: &[u8], at: usize) -> usize
+        requires { at ≤ length bytes.now }
+        ensures stands { (f : FormulaValue) (text : List ℕ)
+            → StandsForBytes f self.old (text ++ take at bytes.now)
+            → StandsForBytes f self.new (text ++ take result bytes.now) }
+        ensures form { self.new.form ≡ self.old.form }
+        ensures behind { (at ≤ result) × (result ≤ length bytes.now) }
+    {
+        if !self.scan.begins_literal() {
+            return at;
+        }
+        let mut next = at;
+        while next < bytes.len() {
+            if !self.text.reads_literals() {
+                return next;
+            }
+            match coded_at(bytes, next) {
+                Some((number, end)) => {
+                    self.take_literal(number);
+                    next = end;
+                }
+                None => return next,
+            }
+        }
+        next
+    }
+
+    /// Takes hints of a step from a place on, where one begins there; answers the place behind them.
+    #[inline(always)]
+    fn take_hints(&mut self, bytes: &[u8], at: usize) -> usize
+        requires { at ≤ length bytes.now }
+        ensures stands { (f : FormulaValue) (text : List ℕ)
+            → StandsForBytes f self.old (text ++ take at bytes.now)
+            → StandsForBytes f self.new (text ++ take result bytes.now) }
+        ensures form { self.new.form ≡ self.old.form }
+        ensures behind { (at ≤ result) × (result ≤ length bytes.now) }
+    {
+        if !self.scan.begins_other() {
+            return at;
+        }
+        let mut next = at;
+        while next < bytes.len() {
+            if !self.text.reads_hints() {
+                return next;
+            }
+            match coded_at(bytes, next) {
+                Some((number, end)) => {
+                    self.take_hint(number);
+                    next = end;
+                }
+                None => return next,
+            }
+        }
+        next
+    }
+
+    /// Takes bytes of a text in the binary form from a place on: a whole number or a byte, and behind it literals or hints;
+    /// answers the place behind these.
+    #[inline(always)]
+    fn take_some(&mut self, bytes: &[u8], at: usize) -> usize
+        requires { at < length bytes.now }
+        ensures stands { (f : FormulaValue) (text : List ℕ)
+            → StandsForBytes f self.old (text ++ take at bytes.now)
+            → StandsForBytes f self.new (text ++ take result bytes.now) }
+        ensures form { self.new.form ≡ self.old.form }
+        ensures behind { (at < result) × (result ≤ length bytes.now) }
+    {
+        let next = self.take_piece(bytes, at);
+        let behind = self.take_literals(bytes, next);
+        self.take_hints(bytes, behind)
+    }
+
     /// Takes bytes of a text in the binary form.
     fn feed_bytes(&mut self, bytes: &[u8])
         ensures stands { (f : FormulaValue) (text : List ℕ) → StandsForBytes f self.old text
@@ -343,7 +450,7 @@ impl LratJudge {
     {
         let mut at = 0;
         while at < bytes.len() {
-            at = self.take_piece(bytes, at);
+            at = self.take_some(bytes, at);
         }
     }
 

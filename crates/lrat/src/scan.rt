@@ -218,6 +218,28 @@ impl Scan {
         }
     }
 
+    /// Whether a number begins among literals where the next byte stands.
+    #[inline(always)]
+    pub(crate) fn begins_literal(self) -> bool
+        ensures { result ≡ true → BeginsNumber self × (self.spot ≡ spot.Literal) }
+    {
+        match self.spot {
+            Spot::Literal => self.number.is_empty(),
+            Spot::Step | Spot::Id | Spot::Other => false,
+        }
+    }
+
+    /// Whether a number begins among ids where the next byte stands.
+    #[inline(always)]
+    pub(crate) fn begins_other(self) -> bool
+        ensures { result ≡ true → BeginsNumber self × (self.spot ≡ spot.Other) }
+    {
+        match self.spot {
+            Spot::Other => self.number.is_empty(),
+            Spot::Step | Spot::Id | Spot::Literal => false,
+        }
+    }
+
     /// Whether a list ends with the byte that stands where a number begins.
     #[inline(always)]
     pub(crate) fn ends_list(self, byte: u8) -> bool

@@ -4,7 +4,7 @@ ghost use Rattle.base.specs.Decimals.{is_nothing};
 ghost use Rattle.drup.specs.Formula.{Formula};
 ghost use Rattle.drup.specs.Hints.{addition, deletion, HintedReading, judge_hinted};
 ghost use Rattle.lrat.specs.HintedProofs.{faulty, Mark, mark, between, literals, hints, deletions, goes_on, gives, refuses, has_begun, reading_from};
-ghost use Rattle.lrat.specs.StepReaders.{StandsForWords, ReadsHints, Takes, HasRead, BeginsReader};
+ghost use Rattle.lrat.specs.StepReaders.{StandsForWords, ReadsLiterals, ReadsHints, Takes, HasRead, BeginsReader};
 
 mod words;
 
@@ -99,6 +99,17 @@ impl StepReader {
         ensures { result ≡ self.now.closed }
     {
         self.closed
+    }
+
+    /// Whether the next word is one of literals.
+    #[inline(always)]
+    pub(crate) fn reads_literals(&self) -> bool
+        ensures { result ≡ true → ReadsLiterals self.now }
+    {
+        match self.part {
+            Part::Literals => !self.closed,
+            Part::Between | Part::Hints | Part::Deletions => false,
+        }
     }
 
     /// Whether the next word is one of hints.

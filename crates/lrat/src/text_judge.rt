@@ -2,10 +2,10 @@
 ghost use Rattle.std.specs.Prelude.{◌≡◌, ◌+◌, ◌*◌, ◌-◌, ◌^◌, ◌<◌, ◌≤◌, ◌++◌, ◌∷◌, ◌==◌, [], List, ℕ, true, false, min, All, IfOk, IfSome, length, slice_index_or, take};
 ghost use Rattle.drup.specs.Formula.{Formula as FormulaValue};
 ghost use Rattle.drup.specs.Hints.{HintedReading, judge_hinted};
-ghost use Rattle.lrat.specs.HintedProofs.{faulty, Mark, mark, between, reading_from, read_text_lrat};
+ghost use Rattle.lrat.specs.HintedProofs.{number as is_number, faulty, Mark, mark, between, reading_from, read_text_lrat};
 ghost use Rattle.drup.specs.Words.{SpellsWord};
-ghost use Rattle.lrat.specs.Words.{token_said};
-ghost use Rattle.lrat.specs.StepReaders.{StandsForWords, ReadsHints};
+ghost use Rattle.lrat.specs.Words.{token_said, signed};
+ghost use Rattle.lrat.specs.StepReaders.{StandsForWords, ReadsLiterals, ReadsHints};
 ghost use Rattle.lrat.specs.TextJudges.{word_marks, StandsBefore, StandsThrough, StandsForLines, EndsText, IsBetween, IsReady};
 ghost use Rattle.lrat.specs.WordsAt.{parts_words, IsWordOf, IsWordAt};
 ghost use Rattle.drup.specs.declared.lines.Place.TheVariants as place;
@@ -13,7 +13,7 @@ ghost use Rattle.lrat.specs.declared.token.Token.TheVariants as token;
 
 use crate::step_reader::StepReader;
 use crate::token::Token;
-use crate::word_at::{WordAt, letter_at, negative_at, number_at, positive_at, zero_at};
+use crate::word_at::{WordAt, letter_at, negative_at, number_at, positive_at, signed_at, zero_at};
 use drup::{ClauseFault, Judgement, Place, Why, Word, is_blank, is_too_many};
 use std::alloc::Global;
 
@@ -261,23 +261,79 @@ impl TextJudge {
         }
     }
 
+    /// Whether the next byte stands in a line of words, and no word has begun.
+    #[inline(always)]
+    fn is_ready(&self) -> bool
+        ensures { result ≡ true → IsReady self.now }
+    {
+        if !self.word.is_empty() {
+            return false;
+        }
+        match self.place {
+            Place::Within => true,
+            Place::Begins | Place::Comment => false,
+        }
+    }
+
+    /// Whether the next word is one of literals.
+    #[inline(always)]
+    pub(crate) fn reads_literals(&self) -> bool
+        ensures { result ≡ true → ReadsLiterals self.now.reader }
+    {
+        self.reader.reads_literals()
+    }
+
     /// Whether the next word is one of hints.
     #[inline(always)]
-    fn reads_hints(&self) -> bool
+    pub(crate) fn reads_hints(&self) -> bool
         ensures { result ≡ true → ReadsHints self.now.reader }
     {
         self.reader.reads_hints()
     }
 
-    /// Whether the next word is one of hints and may be taken as a whole: none has begun, and the line is one of words.
+    /// Takes a whole number among literals, and the byte that parts it from what follows in the line.
     #[inline(always)]
-    fn is_ready(&self) -> bool
-        ensures { result ≡ true → IsReady self.now }
+    fn take_literal(&mut self, negative: bool, number: u64)
+        requires ready { IsReady self.old }
+        requires literals { ReadsLiterals self.old.reader }
+        ensures stands { (f : FormulaValue) (text : List ℕ) (first : ℕ) (rest : List ℕ) (behind : ℕ)
+            → IsWordOf (signed negative number) (first ∷ rest) → (behind == 10) ≡ false
+            → parts_words behind ≡ true → StandsForLines f self.old text
+            → StandsForLines f self.new (text ++ ((first ∷ rest) ++ behind ∷ [])) }
+        ensures ready { IsReady self.new }
     {
-        match self.place {
-            Place::Within => self.reads_hints() && self.word.is_empty(),
-            Place::Begins | Place::Comment => false,
+        self.reader.take_among_literals(self.line, negative, number);
+    }
+
+    /// Takes literals of a line from a place on, as long as each is a number and followed by a blank; answers the place behind
+    /// them.
+    #[inline(always)]
+    fn take_literals(&mut self, bytes: &[u8], at: usize) -> usize
+        requires inside { at ≤ length bytes.now }
+        requires ready { IsReady self.old }
+        ensures stands { (f : FormulaValue) (text : List ℕ)
+            → StandsForLines f self.old (text ++ take at bytes.now)
+            → StandsForLines f self.new (text ++ take result bytes.now) }
+        ensures behind { (at ≤ result) × (result ≤ length bytes.now) }
+        ensures ready { IsReady self.new }
+    {
+        let mut next = at;
+        while next < bytes.len() {
+            if !self.reads_literals() {
+                return next;
+            }
+            match signed_at(bytes, next) {
+                Some((negative, number, behind)) => {
+                    if bytes[behind] == b'\n' {
+                        return next;
+                    }
+                    self.take_literal(negative, number);
+                    next = behind + 1;
+                }
+                None => return next,
+            }
         }
+        next
     }
 
     /// Takes a whole number among hints, and the byte that parts it from what follows in the line.
@@ -303,6 +359,7 @@ impl TextJudge {
             → StandsForLines f self.old (text ++ take at bytes.now)
             → StandsForLines f self.new (text ++ take result bytes.now) }
         ensures behind { (at ≤ result) × (result ≤ length bytes.now) }
+        ensures ready { IsReady self.new }
     {
         let mut next = at;
         while next < bytes.len() {
@@ -323,7 +380,50 @@ impl TextJudge {
         next
     }
 
-    /// Takes bytes from a place on: a whole word or a byte, and hints behind these; answers the place behind them.
+    /// Takes the `0` at a place and the byte behind it, where it stands alone; answers the place behind these.
+    #[inline(always)]
+    fn take_zero(&mut self, bytes: &[u8], at: usize) -> usize
+        requires inside { at ≤ length bytes.now }
+        requires ready { IsReady self.old }
+        ensures stands { (f : FormulaValue) (text : List ℕ)
+            → StandsForLines f self.old (text ++ take at bytes.now)
+            → StandsForLines f self.new (text ++ take result bytes.now) }
+        ensures behind { (at ≤ result) × (result ≤ length bytes.now) }
+    {
+        if at >= bytes.len() || self.is_closed() {
+            return at;
+        }
+        if bytes[at] != b'0' {
+            return at;
+        }
+        match zero_at(bytes, at) {
+            Some(zero) => {
+                self.take_whole(zero.token, bytes[zero.end]);
+                zero.end + 1
+            }
+            None => at,
+        }
+    }
+
+    /// Takes hints of a line from a place on, and the `0` behind them, where the next word is one of hints; answers the place
+    /// behind these.
+    #[inline(always)]
+    fn end_step(&mut self, bytes: &[u8], at: usize) -> usize
+        requires { at ≤ length bytes.now }
+        ensures stands { (f : FormulaValue) (text : List ℕ)
+            → StandsForLines f self.old (text ++ take at bytes.now)
+            → StandsForLines f self.new (text ++ take result bytes.now) }
+        ensures behind { (at ≤ result) × (result ≤ length bytes.now) }
+    {
+        if !self.is_ready() {
+            return at;
+        }
+        let next = self.take_hints(bytes, at);
+        self.take_zero(bytes, next)
+    }
+
+    /// Takes bytes from a place on: a whole word or a byte, and behind it what is there of the rest of a step in a line, which are
+    /// literals, a `0`, hints and a `0`; answers the place behind these.
     #[inline(always)]
     fn take_some(&mut self, bytes: &[u8], at: usize) -> usize
         requires { at < length bytes.now }
@@ -333,10 +433,12 @@ impl TextJudge {
         ensures behind { (at < result) × (result ≤ length bytes.now) }
     {
         let next = self.take_from(bytes, at);
-        if self.is_ready() {
-            return self.take_hints(bytes, next);
+        if !self.is_ready() {
+            return next;
         }
-        next
+        let behind = self.take_literals(bytes, next);
+        let zero = self.take_zero(bytes, behind);
+        self.end_step(bytes, zero)
     }
 
     /// Takes bytes of the text behind those before.
@@ -397,6 +499,31 @@ impl TextJudge {
         ensures variables { self.new.reader.variables ≡ self.old.reader.variables }
     {
         self.reader.take(step, token);
+    }
+
+    /// Takes a variable's number among literals of a proof in the binary form, with a minus or without, of a step with a number.
+    #[inline(always)]
+    pub(crate) fn take_among_literals(&mut self, step: u64, negative: bool, number: u64)
+        requires { ReadsLiterals self.old.reader }
+        ensures words { (f : FormulaValue) (marks : List Mark)
+            → StandsForWords f self.old.reader marks
+            → StandsForWords f self.new.reader
+            (marks ++ mark step (token_said (signed negative number)) ∷ []) }
+        ensures variables { self.new.reader.variables ≡ self.old.reader.variables }
+    {
+        self.reader.take_among_literals(step, negative, number);
+    }
+
+    /// Takes a number among hints of a proof in the binary form, of a step with a number.
+    #[inline(always)]
+    pub(crate) fn take_among_hints(&mut self, step: u64, number: u64)
+        requires { ReadsHints self.old.reader }
+        ensures words { (f : FormulaValue) (marks : List Mark)
+            → StandsForWords f self.old.reader marks
+            → StandsForWords f self.new.reader (marks ++ mark step (is_number number) ∷ []) }
+        ensures variables { self.new.reader.variables ≡ self.old.reader.variables }
+    {
+        self.reader.take_among_hints(step, number);
     }
 
     /// A fault is met in a step of a proof in the binary form.

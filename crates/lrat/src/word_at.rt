@@ -2,7 +2,7 @@
 //! or without.
 ghost use Rattle.std.specs.Prelude.{◌≡◌, ◌<◌, true, false, IfSome, [], ◌∷◌, length, slice_index_or};
 ghost use Rattle.lrat.specs.HintedProofs.{token_of};
-ghost use Rattle.lrat.specs.Words.{token_said};
+ghost use Rattle.lrat.specs.Words.{token_said, signed};
 ghost use Rattle.lrat.specs.WordsAt.{parts_words, IsNumberAt, IsWordAt};
 
 use crate::token::Token;
@@ -128,4 +128,20 @@ pub(crate) fn negative_at(bytes: &[u8], at: usize) -> Option<WordAt>
         token: Token::Negative(value),
         end,
     })
+}
+
+/// The number at a place, with a minus or without, and the place behind it.
+#[inline(always)]
+pub(crate) fn signed_at(bytes: &[u8], at: usize) -> Option<(bool, u64, usize)>
+    requires { at < length bytes.now }
+    ensures { IfSome result
+        (λ x. IsWordAt bytes.now at (record { token = signed x.0 x.1; end = x.2 })) }
+{
+    let negative = bytes[at] == b'-';
+    let start = at + usize::from(negative);
+    if start >= bytes.len() {
+        return None;
+    }
+    let (value, end) = number_at(bytes, start)?;
+    Some((negative, value, end))
 }

@@ -4,10 +4,10 @@ ghost use Rattle.base.specs.Decimals.{is_nothing};
 ghost use Rattle.drup.specs.Formula.{Formula};
 ghost use Rattle.drup.specs.Words.{sign_of};
 ghost use Rattle.drup.specs.Hints.{deletion};
-ghost use Rattle.lrat.specs.Words.{token_said};
+ghost use Rattle.lrat.specs.Words.{token_said, signed};
 ghost use Rattle.lrat.specs.HintedProofs.{number as is_number, Mark, mark, literals, hints, deletions, goes_on, gives, refuses, id_numbered, by_id, with_literal, first_taken, literal_taken, hint_taken, deletion_taken};
 ghost use Rattle.drup.specs.declared.why.Why.TheVariants as why;
-ghost use Rattle.lrat.specs.StepReaders.{StandsForWords, ReadsHints, Takes};
+ghost use Rattle.lrat.specs.StepReaders.{StandsForWords, ReadsLiterals, ReadsHints, Takes};
 
 use super::{Part, StepReader, is_nothing};
 use crate::token::Token;
@@ -82,6 +82,18 @@ impl StepReader {
             return;
         }
         self.push_literal(literal_of(negative, number));
+    }
+
+    /// Takes a variable's number among literals, with a minus or without, which stands in a line.
+    #[inline(always)]
+    pub(crate) fn take_among_literals(&mut self, line: u64, negative: bool, number: u64)
+        requires { ReadsLiterals self.old }
+        ensures stands { (f : Formula) (marks : List Mark) → StandsForWords f self.old marks
+            → StandsForWords f self.new
+            (marks ++ mark line (token_said (signed negative number)) ∷ []) }
+        ensures variables { self.new.variables ≡ self.old.variables }
+    {
+        self.take_variable(line, negative, number);
     }
 
     /// Whether the step that has begun has no literals.

@@ -8,9 +8,9 @@ loop-at-init c = record { stands = λ f text stands. subst (StandsForBytes f c.a
 
 pub loop-at-preserved : goal.loop-at-preserved
 loop-at-preserved c = record {
-  stands = λ f text stands. c.take_piece-at.ensures.stands f text (c.loop-at.invariant.stands f text stands);
-  form = c.take_piece-at.ensures.form ∙ c.loop-at.invariant.form;
-  within = c.take_piece-at.ensures.behind.1;
+  stands = λ f text stands. c.take_some-at.ensures.stands f text (c.loop-at.invariant.stands f text stands);
+  form = c.take_some-at.ensures.form ∙ c.loop-at.invariant.form;
+  within = c.take_some-at.ensures.behind.1;
 }
 
 pub returns-clause-stands : goal.returns-clause-stands
