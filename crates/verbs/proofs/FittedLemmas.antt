@@ -7,7 +7,7 @@ use Rattle.fitting.specs.Models.{IsUnfit}
 use Rattle.fitting.specs.declared.fault.FitFault.{FitFault}
 use Rattle.fitting.specs.declared.fault.FitFault.TheVariants as fit
 use Rattle.full.specs.Lines.{FullLine}
-use Rattle.full.specs.WrittenOut.{Places, IsWrittenOut}
+use Rattle.celled.specs.Written.{IsWrittenInCells}
 use Rattle.fulltext.specs.Spelling.{StandsForFull}
 use Rattle.widetext.specs.Spelling.{StandsForWide}
 use Rattle.writeout.specs.Faults.{IsUnwritten}
@@ -45,12 +45,12 @@ not_fit_words text wide fit.NoMemory stands unfit = tt
 not_fit_words text wide _ stands unfit = inl (record { wide = wide; stands = stands; unfit = unfit })
 
 -- a list that a model was written out as, and that is not fitted
-pub not_fit_written : (text : List ℕ) (lines : List FullLine) (p : Places) (wide : List Item) (e : FitFault) → StandsForFull text lines → IsWrittenOut lines p wide → IsUnfit wide e
+pub not_fit_written : (text : List ℕ) (lines : List FullLine) (wide : List Item) (e : FitFault) → StandsForFull text lines → IsWrittenInCells lines wide → IsUnfit wide e
     → IfInput (IsNotFit text) (of_fitting_written e)
-not_fit_written text lines p wide fit.NoMemory stands written unfit = tt
-not_fit_written text lines p wide (fit.TooManyItems id) stands written unfit =
-    record { lines = lines; stands = stands; unwritten = inr (record { places = p; wide = wide; written = written; id = id; unfit = unfit }) }
-not_fit_written text lines p wide _ stands written unfit = inr (record { lines = lines; stands = stands; places = p; wide = wide; written = written; unfit = unfit })
+not_fit_written text lines wide fit.NoMemory stands written unfit = tt
+not_fit_written text lines wide (fit.TooManyItems id) stands written unfit =
+    record { lines = lines; stands = stands; unwritten = inr (record { wide = wide; written = written; id = id; unfit = unfit }) }
+not_fit_written text lines wide _ stands written unfit = inr (record { lines = lines; stands = stands; wide = wide; written = written; unfit = unfit })
 
 -- a model that is not written out
 or_long : (lines : List FullLine) (e : WriteFault) → IsUnwritten lines e → IsUnwrittenOrLong lines e

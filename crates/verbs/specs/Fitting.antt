@@ -12,7 +12,7 @@ use Rattle.fitting.specs.declared.fault.FitFault.TheVariants as fit
 use Rattle.full.specs.Lines.{FullLine}
 use Rattle.full.specs.Plain.{plain_lines}
 use Rattle.full.specs.Runs.{CanRiseFull}
-use Rattle.full.specs.WrittenOut.{Places, IsWrittenOut}
+use Rattle.celled.specs.Written.{IsWrittenInCells}
 use Rattle.fulltext.specs.FirstFault.{IsFullFaultOf}
 use Rattle.fulltext.specs.Spelling.{StandsForFull}
 use Rattle.widetext.specs.Spelling.{StandsForWide}
@@ -32,11 +32,10 @@ pub record FitsWords (text : List ℕ) (lines : List FullLine) (narrow : List It
   pub fit : IsFit wide narrow
   pub forms : HaveForms wide ⊎ (narrow ≡ wide)
 
--- A model is written out as such a list, which is fitted.
+-- A model is written out as such a list, with a leaf for each cell of an array, and this is fitted.
 pub record FitsWrittenOut (lines : List FullLine) (narrow : List Item) : Type 0 where
-  pub places : Places
   pub wide : List Item
-  pub written : IsWrittenOut lines places wide
+  pub written : IsWrittenInCells lines wide
   pub fit : IsFit wide narrow
   pub forms : HaveForms wide
 
@@ -57,16 +56,14 @@ pub record IsUnfitText (text : List ℕ) (e : FitFault) : Type 0 where
 pub record IsUnfitWrittenText (text : List ℕ) (e : FitFault) : Type 0 where
   pub lines : List FullLine
   pub stands : StandsForFull text lines
-  pub places : Places
   pub wide : List Item
-  pub written : IsWrittenOut lines places wide
+  pub written : IsWrittenInCells lines wide
   pub unfit : IsUnfit wide e
 
 -- for what a model is written out as there is no room
 pub record HasNoRoomWritten (lines : List FullLine) : Type 0 where
-  pub places : Places
   pub wide : List Item
-  pub written : IsWrittenOut lines places wide
+  pub written : IsWrittenInCells lines wide
   pub id : ℕ
   pub unfit : IsUnfit wide (fit.TooManyItems id)
 

@@ -2,7 +2,7 @@
 
 ghost use Rattle.std.specs.Prelude.{◌≡◌, ◌≢◌, None, IfOk, IfErr, IfSome, MatchOption, OnOk, Some};
 ghost use Rattle.btor2.specs.Lists.{first_init_without_next};
-ghost use Rattle.full.specs.WrittenOut.{Places, IsWrittenOut};
+ghost use Rattle.celled.specs.Written.{IsWrittenInCells};
 ghost use Rattle.fulltext.specs.Spelling.{StandsForFull};
 ghost use Rattle.widetext.specs.Spelling.{StandsForWide};
 ghost use Rattle.verbs.specs.Conversions.{of_fitting_written};
@@ -15,12 +15,13 @@ use crate::refusals::{Device, Fault, Refusal};
 use base::{Sink, Source, read_all};
 use btor2::Model;
 use btor2text::{Why, write};
+use celled::write_out;
 use fitting::FitFault;
 use fullmodel::FullModel;
 use rejoin::first_init_without_next;
 use std::alloc::Global;
 use wide::WideModel;
-use writeout::{WriteFault, write_out};
+use writeout::WriteFault;
 
 /// The model with words of any width that a text stands for.
 pub(crate) fn read_wide(alloc: Global, text: &[u8]) -> Result<WideModel, Refusal>
@@ -118,9 +119,9 @@ fn read_whole(alloc: Global, text: &[u8]) -> Result<FullModel, Refusal>
     }
 }
 
-/// The list of words that a model of the whole language is written out as.
+/// The list of words that a model of the whole language is written out as, with a leaf for each cell of an array.
 fn written_out(alloc: Global, model: &FullModel) -> Result<WideModel, Refusal>
-    ensures written { IfOk result (λ wide. (p : Places) × IsWrittenOut model.now p wide) }
+    ensures written { IfOk result (IsWrittenInCells model.now) }
     ensures refused { IfErr result (IfInput (IsWritingFault model.now)) }
     ensures ends { Ends result Unused Unused Unused Unused }
 {
