@@ -22,14 +22,14 @@ use std::alloc::Global;
 fn plain_judge(alloc: Global, formula: Formula) -> Result<ProofJudge, ClauseFault>
     ensures { IfOk result (λ judge. StandsForText formula judge []) }
 {
-    ProofJudge::over(alloc, &formula)
+    ProofJudge::taking_over(alloc, formula)
 }
 
 /// A judge of proofs with hints over a formula, which it has taken over.
 fn hinted_judge(alloc: Global, formula: Formula) -> Result<LratJudge, ClauseFault>
     ensures { IfOk result (λ judge. StandsForLrat formula judge []) }
 {
-    LratJudge::over(alloc, &formula)
+    LratJudge::taking_over(alloc, formula)
 }
 
 /// Judges the text of a source as a proof without hints.

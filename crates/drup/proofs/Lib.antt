@@ -9,6 +9,7 @@ pub mod WalkLemmas
 pub mod FlatLemmas
 pub mod AddLemmas
 pub mod ClauseListLemmas
+mod ClauseBlockLemmas
 pub mod FormulaTextLemmas
 pub mod WorkedLemmas
 pub mod AlikeLemmas

@@ -5,6 +5,7 @@ pub mod Proofs
 pub mod BinaryProofs
 pub mod ProofForms
 pub mod ClauseLists
+pub mod ClauseBlocks
 pub mod FormulaKept
 pub mod Without
 pub mod Judgements

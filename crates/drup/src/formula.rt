@@ -3,7 +3,7 @@ ghost use Rattle.std.specs.Prelude.{◌≡◌, ℕ, ◌+◌, ◌*◌, ◌<◌, �
 ghost use Rattle.drup.specs.Formula.{IsLiteral, IsFormula};
 ghost use Rattle.drup.specs.FormulaKept.{RefusesClause};
 
-use crate::clause_list::ClauseList;
+use crate::clause_blocks::ClauseBlocks;
 use crate::fault::FormulaFault;
 use std::alloc::Global;
 use std::marker::Model;
@@ -37,7 +37,7 @@ fn are_literals(variables: u32, clause: &[u32]) -> bool
 #[derive(Drop)]
 pub struct Formula {
     variables: u32,
-    clauses: ClauseList,
+    clauses: ClauseBlocks,
 }
 
 impl Model for Formula {
@@ -59,7 +59,7 @@ impl Formula {
     {
         Formula {
             variables,
-            clauses: ClauseList::new(alloc),
+            clauses: ClauseBlocks::new(alloc),
         }
     }
 
@@ -105,5 +105,19 @@ impl Formula {
         ensures literals { All (IsLiteral self.now.variables) result.now }
     {
         self.clauses.clause(k)
+    }
+
+    /// Takes clauses away that come first, some where there is one, and answers the formula that they are. Their memory is
+    /// held by that alone.
+    pub fn take_front(&mut self) -> Formula
+        ensures clauses { result.clauses ++ self.new.clauses ≡ self.old.clauses }
+        ensures variables { (result.variables ≡ self.old.variables)
+            × (self.new.variables ≡ self.old.variables) }
+        ensures some { 0 < length self.old.clauses → 0 < length result.clauses }
+    {
+        Formula {
+            variables: self.variables,
+            clauses: self.clauses.take_front(),
+        }
     }
 }

@@ -2,6 +2,7 @@
 #![tactic(auto)]
 
 mod alike;
+mod clause_blocks;
 mod clause_list;
 mod clauses;
 mod fault;

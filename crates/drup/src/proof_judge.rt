@@ -83,19 +83,44 @@ impl ProofJudge {
         ensures { IfOk result (λ judge. StandsForText formula.now judge []) }
     {
         let mut judge = ProofJudge::new(alloc, formula.variables())?;
+        judge.give_each(formula);
+        Ok(judge)
+    }
+
+    /// The same of a formula that it takes over: what it was given of that is held no longer, but for the last clauses.
+    ///
+    /// Errors: `NoMemory` where a growth was refused.
+    pub fn taking_over(alloc: Global, formula: Formula) -> Result<ProofJudge, ClauseFault>
+        ensures { IfOk result (λ judge. StandsForText formula judge []) }
+    {
+        let mut judge = ProofJudge::new(alloc, formula.variables())?;
         judge.give_all(formula);
         Ok(judge)
     }
 
-    /// Takes all clauses of a formula of its variables.
-    fn give_all(&mut self, formula: &Formula)
-        requires variables { self.old.variables ≡ formula.now.variables }
-        requires begins { StandsForText (record { variables = formula.now.variables; clauses = [] })
-            self.old [] }
-        ensures { StandsForText formula.now self.new [] }
+    /// Takes all clauses of a formula of its variables, behind those before, and before any byte of the text.
+    fn give_each(&mut self, formula: &Formula)
+        requires { self.old.variables ≡ formula.now.variables }
+        ensures stands { (f : FormulaValue) → StandsForText f self.old []
+            → StandsForText (record f { clauses = f.clauses ++ formula.now.clauses }) self.new [] }
+        ensures variables { self.new.variables ≡ self.old.variables }
     {
         for k in 0..formula.clause_count() {
             self.give(formula.clause(k));
+        }
+    }
+
+    /// Takes all clauses of a formula of its variables, and gives its memory back.
+    fn give_all(&mut self, formula: Formula)
+        requires variables { self.old.variables ≡ formula.variables }
+        requires begins { StandsForText (record { variables = formula.variables; clauses = [] })
+            self.old [] }
+        ensures { StandsForText formula self.new [] }
+    {
+        let mut rest = formula;
+        while rest.clause_count() > 0 {
+            let front = rest.take_front();
+            self.give_each(&front);
         }
     }
 

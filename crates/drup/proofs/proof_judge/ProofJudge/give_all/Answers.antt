@@ -1,22 +1,31 @@
-use Rattle.std.proofs.Common.{◌≡◌, ◌<◌, ℕ, ◌+◌, List, [], ◌∷◌, ◌++◌, length, take, sym, ap, subst, ◌∙◌, arith}
-use Rattle.std.proofs.lemmas.List.{take_all, take_more}
+use Rattle.std.proofs.Common.{◌≡◌, ℕ, List, [], ◌++◌, refl, sym, ap, subst, ◌∙◌, append_assoc, append-nil, arith}
+use Rattle.std.proofs.lemmas.List.{nil_from_length}
 use Rattle.drup.specs.ProofJudges.{StandsForText}
 use Rattle.drup.proofs.proof_judge.ProofJudge.give_all.Goals as goal
 
-pub give-requires : goal.give-requires
-give-requires c = λ i d below. let own = c.clause.ensures.literals i d below in omega (arith, own.1, c.loop-k.invariant.variables)
+pub loop-rest-init : goal.loop-rest-init
+loop-rest-init c = record { given = ([], (refl, c.requires.begins)); same = refl; variables = c.requires.variables }
 
-pub loop-k-preserved : goal.loop-k-preserved
-loop-k-preserved c =
-    let below : c.loop-k.k < length c.args.formula.now.clauses = omega (arith, c.loop-k-test.true, c.clause_count-k-end.ensures) in
-    let more : take c.loop-k.k c.args.formula.now.clauses ++ c.clause.result.now ∷ [] ≡ take (c.loop-k.k + 1) c.args.formula.now.clauses =
-    ap (λ (x : List ℕ). take c.loop-k.k c.args.formula.now.clauses ++ x ∷ []) c.clause.ensures.clause ∙ sym (take_more c.args.formula.now.clauses c.loop-k.k [] below) in
+pub give_each-requires : goal.give_each-requires
+give_each-requires c = c.loop-rest.invariant.variables ∙ sym c.loop-rest.invariant.same ∙ sym c.take_front-front.ensures.variables.0
+
+pub loop-rest-preserved : goal.loop-rest-preserved
+loop-rest-preserved c =
+    let given : List (List ℕ) = c.loop-rest.invariant.given.0 in
     record {
-      stands = subst (λ (cs : List (List ℕ)). StandsForText (record { variables = c.args.formula.now.variables; clauses = cs }) c.give.new.self []) more (c.give.ensures.stands (record { variables = c.args.formula.now.variables; clauses = take c.loop-k.k c.args.formula.now.clauses }) c.loop-k.invariant.stands);
-      variables = c.give.ensures.variables ∙ c.loop-k.invariant.variables;
+      given = (
+        given ++ c.take_front-front.result.clauses,
+        (
+          append_assoc given c.take_front-front.result.clauses c.take_front-front.new.self.clauses ∙ ap (λ (cs : List (List ℕ)). given ++ cs) c.take_front-front.ensures.clauses ∙ c.loop-rest.invariant.given.1.0,
+          c.give_each.ensures.stands (record { variables = c.args.formula.variables; clauses = given }) c.loop-rest.invariant.given.1.1,
+        ),
+      );
+      same = c.take_front-front.ensures.variables.1 ∙ c.loop-rest.invariant.same;
+      variables = c.give_each.ensures.variables ∙ c.loop-rest.invariant.variables;
     }
 
 pub returns : goal.returns
 returns c =
-    subst (λ (cs : List (List ℕ)). StandsForText (record { variables = c.args.formula.now.variables; clauses = cs }) c.loop-k.self [])
-    (take_all c.loop-k.k c.args.formula.now.clauses (omega (arith, c.loop-k-test.false, c.clause_count-k-end.ensures))) c.loop-k.invariant.stands
+    let none : c.loop-rest.rest.clauses ≡ [] = nil_from_length c.loop-rest.rest.clauses (omega (arith, c.loop-rest-test.false, c.clause_count.ensures)) in
+    let all : c.loop-rest.invariant.given.0 ≡ c.args.formula.clauses = sym (append-nil c.loop-rest.invariant.given.0) ∙ ap (λ (cs : List (List ℕ)). c.loop-rest.invariant.given.0 ++ cs) (sym none) ∙ c.loop-rest.invariant.given.1.0 in
+    subst (λ (cs : List (List ℕ)). StandsForText (record { variables = c.args.formula.variables; clauses = cs }) c.loop-rest.self []) all c.loop-rest.invariant.given.1.1
