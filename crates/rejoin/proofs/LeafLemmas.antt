@@ -1,12 +1,9 @@
 -- The inputs and states of a list, and their pieces: which are free, and how wide they are.
-use Rattle.std.proofs.Common.{◌≡◌, ℕ, Bool, true, false, not, ◌&&◌, ◌||◌, List, [], ◌∷◌, map, Option, Some, None, is_none, refl, sym, ap, subst, ◌∙◌}
+use Rattle.std.proofs.Common.{◌≡◌, ℕ, Bool, true, false, not, ◌&&◌, ◌||◌, List, [], ◌∷◌, map, Some, refl, sym, ap, subst, ◌∙◌}
 use Rattle.std.specs.List.{AllByRecursion}
-use Rattle.std.proofs.lemmas.Bool.{both_ways}
 use Rattle.btor2.specs.declared.item.Item.{Item}
-use Rattle.btor2.specs.Items.{find_item, is_input, is_state, is_free, is_free_state, is_carried_state, names_state, init_value, next_value}
-use Rattle.btor2.specs.Check.{IsWellFormed}
+use Rattle.btor2.specs.Items.{find_item, is_input, is_state, is_free, is_free_state, is_carried_state, names_state}
 use Rattle.btor2.specs.Trace.{bits_of}
-use Rattle.btor2.proofs.ModelLemmas.{IsInitOf-from_value, IsNextOf-from_value}
 use Rattle.btor2.proofs.IdLemmas.{ids_named, input_is_no_state}
 use Rattle.fit.specs.Fitting.{Layout, is_given, given_ids, carried_ids, HasWidthOfPieces, IsFittingOf}
 use Rattle.fit.proofs.ModelLemmas.{found_names, given_are_free}

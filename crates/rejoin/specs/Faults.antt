@@ -1,5 +1,5 @@
 -- What is answered where no judgement is: the numbers and the names of the faults.
-use Rattle.std.specs.Prelude.{◌≡◌, ℕ, List, Option, Some, None, Result, Ok, Err, codes}
+use Rattle.std.specs.Prelude.{◌≡◌, ℕ, List, Option, Some, None, Result, Err, codes}
 use Rattle.base.specs.Device.{HasRisen}
 use Rattle.base.specs.declared.sources.ReadAllFault.{ReadAllFault}
 use Rattle.base.specs.declared.sources.ReadAllFault.TheVariants as cause
