@@ -1,18 +1,18 @@
 -- The words of a list are those that are told: leaves that stand one behind the other make the value of which they are the words.
-use Rattle.std.proofs.Common.{◌≡◌, ℕ, zero, suc, ◌+◌, ◌*◌, ◌%◌, ◌^◌, Bool, true, false, nat_eq, List, [], ◌∷◌, ◌++◌, map, flat_map, replicate, length, Option, Some, None, unwrap_or, option_and_then, append_assoc, append-nil, refl, sym, ap, ap₂, subst, ◌∙◌, arith}
+use Rattle.std.proofs.Common.{◌≡◌, ℕ, zero, suc, ◌+◌, ◌*◌, ◌%◌, ◌^◌, Bool, nat_eq, List, [], ◌∷◌, ◌++◌, map, flat_map, replicate, length, Option, Some, None, unwrap_or, option_and_then, append_assoc, refl, sym, ap, ap₂, subst, ◌∙◌, arith}
 use Rattle.std.specs.List.{AllByRecursion, position_from}
 use Rattle.std.proofs.lemmas.List.{length-append, length-map, length-replicate}
 use Rattle.std.proofs.Math.Nat.{zero-div, zero-mod}
 use Rattle.base.specs.Operator.{concat_value}
 use Rattle.btor2.specs.declared.item.Item.{Item}
 use Rattle.btor2.specs.declared.item.Body.{Body}
-use Rattle.btor2.specs.Trace.{Frame, bits_of}
+use Rattle.btor2.specs.Trace.{Frame}
 use Rattle.btor2.specs.Lists.{of_kind}
-use Rattle.fit.specs.Fitting.{Layout, pieces_word, ids_of}
+use Rattle.fit.specs.Fitting.{pieces_word, ids_of}
 use Rattle.fit.proofs.ListLemmas.{AreDistinct, apart, heads}
 use Rattle.full.specs.Cells.{read_value}
 use Rattle.full.specs.Lines.{Sort, words, arrays}
-use Rattle.witness.specs.Judgements.{given, given_to, index_of}
+use Rattle.witness.specs.Judgements.{given, given_to}
 use Rattle.rejoin.proofs.PlaceLemmas.{place_map, place_own}
 use Rattle.fulljudge.specs.Shapes.{Leaf, word_count, word_width, word_widths}
 use Rattle.fulljudge.specs.Told.{told, told_cells, ByIndex}
@@ -73,7 +73,8 @@ pub values_told : (list : List (ℕ × ℕ)) (g : Frame) (width : ℕ → ℕ) (
 values_told list g width pieces ids before rest [] i has e at widths = tt
 values_told list g width pieces ids before rest (l ∷ leaves) i has e at widths =
     let count : length (pieces l) ≡ word_count l.sort = sym (length-map (pieces l) width) ∙ ap length widths.0 ∙ length-replicate (word_count l.sort) (word_width l.sort) in
-    let front : ids ≡ before ++ (pieces l ++ (flat_map pieces leaves ++ rest)) = e ∙ ap (λ (xs : List ℕ). before ++ xs) (append_assoc (pieces l) (flat_map pieces leaves) rest) in
-    (value_told list g width ids before (pieces l) (flat_map pieces leaves ++ rest) l.sort i has front at widths.0,
-    values_told list g width pieces ids (before ++ pieces l) rest leaves (i + word_count l.sort) has (front ∙ sym (append_assoc before (pieces l) (flat_map pieces leaves ++ rest)))
-    (length-append before (pieces l) ∙ omega (arith, at, count)) widths.1)
+    let front : ids ≡ before ++ (pieces l ++ (flat_map pieces leaves ++ rest)) = e ∙ ap (λ (xs : List ℕ). before ++ xs) (append_assoc (pieces l) (flat_map pieces leaves) rest) in (
+      value_told list g width ids before (pieces l) (flat_map pieces leaves ++ rest) l.sort i has front at widths.0,
+      values_told list g width pieces ids (before ++ pieces l) rest leaves (i + word_count l.sort) has (front ∙ sym (append_assoc before (pieces l) (flat_map pieces leaves ++ rest)))
+          (length-append before (pieces l) ∙ omega (arith, at, count)) widths.1,
+    )

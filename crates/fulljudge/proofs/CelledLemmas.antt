@@ -1,5 +1,5 @@
 -- The words that a list is told in which each word has a leaf are those that the list is told that a model is written out as.
-use Rattle.std.proofs.Common.{◌≡◌, ℕ, zero, suc, ◌+◌, ◌^◌, ◌<◌, Bool, true, false, cond, nat_eq, List, [], ◌∷◌, ◌++◌, map, flat_map, filter, length, Option, Some, None, is_some, unwrap_or, option_map, option_and_then, append-nil, append_assoc, refl, sym, ap, ap₂, subst, ◌∙◌, arith}
+use Rattle.std.proofs.Common.{◌≡◌, ℕ, Bool, true, false, cond, List, [], ◌∷◌, ◌++◌, map, flat_map, filter, Option, Some, None, unwrap_or, option_and_then, append-nil, refl, sym, ap, subst, ◌∙◌}
 use Rattle.std.specs.List.{AllByRecursion, AllZip}
 use Rattle.std.specs.Option.{option_or}
 use Rattle.btor2.specs.declared.item.Item.{Item}
@@ -9,20 +9,20 @@ use Rattle.btor2.specs.Trace.{Frame, bits_of, state_word}
 use Rattle.btor2.proofs.IdLemmas.{input_is_no_state, state_item}
 use Rattle.full.proofs.ListLemmas.{all_at}
 use Rattle.wide.specs.WideModels.{greatest_width, IsWideModel}
-use Rattle.full.specs.Lines.{FullLine, init_of, next_of}
+use Rattle.full.specs.Lines.{FullLine, init_of}
 use Rattle.full.specs.Agreement.{names_full_state}
 use Rattle.full.specs.WrittenOut.{Places, IsWrittenOut}
 use Rattle.full.proofs.WideLemmas.{found_by_id}
 use Rattle.full.proofs.PlaceLemmas.{placed}
-use Rattle.fit.specs.Fitting.{Layout, pieces_word, joined, ids_of, carried_ids, AbsenceIsCarried, IsFittingOf}
+use Rattle.fit.specs.Fitting.{Layout, pieces_word, joined, ids_of, AbsenceIsCarried, IsFittingOf}
 use Rattle.fit.proofs.ListLemmas.{all_with, all_both, AreDistinct, of_ids}
 use Rattle.fit.proofs.PieceLemmas.{word_same}
-use Rattle.witness.specs.Judgements.{FrameWords, Words, given, given_to, initial_part, initial_words, given_words}
+use Rattle.witness.specs.Judgements.{FrameWords, Words, given_to, initial_part, initial_words, given_words}
 use Rattle.witness.proofs.GivenWordLemmas.{named_state}
-use Rattle.fulljudge.specs.Shapes.{Leaf, leaves_of, word_count}
+use Rattle.fulljudge.specs.Shapes.{Leaf, leaves_of}
 use Rattle.fulljudge.specs.Told.{told, ByIndex}
 use Rattle.fulljudge.specs.Written.{InputGiven, FirstGiven, LaterGiven, IsFirstGiven, IsLaterGiven, AreGiven}
-use Rattle.fulljudge.specs.Cells.{HasWords, HasWordsOf}
+use Rattle.fulljudge.specs.Cells.{HasWordsOf}
 use Rattle.fulljudge.proofs.RunLemmas.{by_index, states_named}
 use Rattle.fulljudge.proofs.CellLemmas.{HaveGiven, given_at, values_told}
 

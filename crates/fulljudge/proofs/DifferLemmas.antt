@@ -1,26 +1,22 @@
 -- A word that a state begins with and that is not its init line's is one of a state of the model of which something else is told.
-use Rattle.std.proofs.Common.{◌≡◌, ℕ, zero, suc, ◌+◌, ◌-◌, ◌<◌, ◌≤◌, ◌==◌, ◌⊎◌, Bool, true, false, cond, not, ◌&&◌, ◌||◌, nat_eq, nat_lt, eq-eqb, List, [], ◌∷◌, ◌++◌, map, flat_map, length, slice_get, Option, Some, None, is_some, is_none, unwrap_or, option_and_then, refl, sym, ap, ap₂, subst, ◌∙◌, inl, inr, ⊎_elim, arith}
+use Rattle.std.proofs.Common.{◌≡◌, ℕ, zero, suc, ◌+◌, ◌-◌, ◌<◌, ◌≤◌, ◌⊎◌, Bool, true, false, cond, not, ◌&&◌, ◌||◌, eq-eqb, List, [], ◌∷◌, ◌++◌, map, flat_map, length, slice_get, Option, Some, None, is_none, unwrap_or, refl, sym, ap, ap₂, subst, ◌∙◌, inl, inr, ⊎_elim, arith}
 use Rattle.std.specs.List.{AllByRecursion, position_from}
 use Rattle.std.specs.Option.{option_or}
-use Rattle.std.proofs.lemmas.Bool.{true≢false, and_parts, cases_Bool, both_ways, lt-ltb, le-ltb}
+use Rattle.std.proofs.lemmas.Bool.{true≢false, lt-ltb, le-ltb}
 use Rattle.std.proofs.lemmas.Option.{none-some, same_Some}
 use Rattle.btor2.specs.declared.item.Item.{Item}
-use Rattle.btor2.specs.Items.{is_input, is_state, is_free, is_carried_state, names_state, constant_of, init_value, init_word}
+use Rattle.btor2.specs.Items.{is_input, is_state, is_free, is_carried_state, names_state, init_value, init_word}
 use Rattle.btor2.specs.Lists.{of_kind}
-use Rattle.btor2.specs.Trace.{Frame, bits_of}
-use Rattle.btor2.proofs.AppendLemmas.{some_of, then_parts}
 use Rattle.btor2.proofs.IdLemmas.{state_item}
 use Rattle.wide.specs.WideModels.{greatest_width, IsWideModel}
 use Rattle.full.specs.Lines.{Sort}
 use Rattle.full.proofs.ListLemmas.{all_at, all_of}
-use Rattle.fit.specs.Fitting.{Layout, pieces_word, joined, ids_of, is_given, given_ids, carried_ids, init_words, IsFittingOf}
-use Rattle.fit.proofs.LawLemmas.{init_says}
-use Rattle.fit.proofs.ListLemmas.{all_with, all_pieces, of_ids, to_ids, AreDistinct}
+use Rattle.fit.specs.Fitting.{Layout, ids_of, is_given, given_ids, carried_ids, IsFittingOf}
+use Rattle.fit.proofs.ListLemmas.{all_with, all_pieces, of_ids, to_ids}
 use Rattle.fit.proofs.ModelLemmas.{given_are_free}
-use Rattle.witness.specs.Judgements.{Words, given, given_to, initial_part, initial_words, differs, first_different}
+use Rattle.witness.specs.Judgements.{Words, given_to, initial_part, initial_words, differs, first_different}
 use Rattle.rejoin.proofs.PlaceLemmas.{place_map}
-use Rattle.fulljudge.specs.Shapes.{Leaf, leaves_of, word_count, word_widths, first_index, value_of_word}
-use Rattle.fulljudge.proofs.CellLemmas.{given_at}
+use Rattle.fulljudge.specs.Shapes.{Leaf, word_count, first_index, value_of_word}
 use Rattle.fulljudge.proofs.CelledLemmas.{carried_absence}
 
 -- ---- places

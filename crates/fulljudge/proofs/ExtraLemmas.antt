@@ -1,7 +1,6 @@
 -- A shape with more states behind those of a model admits the lines of the model's words alike.
-use Rattle.std.proofs.Common.{◌≡◌, ℕ, ◌+◌, ◌<◌, ◌^◌, ◌==◌, ◌⊎◌, Bool, true, false, cond, ◌&&◌, ◌||◌, nat_lt, List, [], ◌∷◌, ◌++◌, Option, Some, None, IfSome, Result, Ok, Err, decimal, codes, length, flat_map, slice_index, slice_get, option_and_then, suc, refl, sym, ap, ap₂, subst, ◌∙◌, inl, inr, ⊎_elim, arith}
+use Rattle.std.proofs.Common.{◌≡◌, ℕ, ◌+◌, ◌<◌, ◌^◌, ◌==◌, Bool, true, false, cond, ◌&&◌, ◌||◌, List, [], ◌∷◌, ◌++◌, Option, Some, None, IfSome, Result, Ok, Err, decimal, codes, length, flat_map, slice_index, slice_get, option_and_then, suc, refl, sym, ap, ap₂, subst, ◌∙◌, arith}
 use Rattle.std.specs.List.{AllByRecursion, list_any}
-use Rattle.std.specs.Option.{option_map_or}
 use Rattle.std.specs.Str.{bytes_eq}
 use Rattle.std.proofs.lemmas.Bool.{lt-ltb}
 use Rattle.std.proofs.lemmas.List.{length-append, get_or_append_left}
@@ -11,12 +10,11 @@ use Rattle.base.proofs.DecimalLemmas.{number_of-decimal, decimal_without}
 use Rattle.full.specs.Lines.{Sort, words, arrays}
 use Rattle.witness.specs.declared.why.Why.{Why}
 use Rattle.witness.specs.declared.why.Why.TheVariants as why
-use Rattle.witness.specs.Texts.{Shape, Assignment, is_free_index, has_free, symbol_part}
-use Rattle.witness.specs.Readings.{with_said}
+use Rattle.witness.specs.Texts.{Shape, Assignment, has_free, symbol_part}
 use Rattle.witness.specs.Admits.{Place, AtStatus, AtClaims, AtParts, InStates, InFrame, AtEnd, Read, cut_at_space, with_symbol, with_value, with_index, value_of, assignment_at, may_name, state_assignment_at, begins_part, opens_frame, opens_states, frame_closed, in_part, admit_at, admit}
 use Rattle.witness.proofs.PieceLemmas.{cut_at_space-parts}
 use Rattle.fulljudge.specs.Shapes.{FullShape, word_widths, word_shape, first_index}
-use Rattle.fulljudge.specs.Lines.{address_of, indexed, cell_line, value_line, line_by_index, word_line, line_in, line_at}
+use Rattle.fulljudge.specs.Lines.{address_of, indexed, value_line, line_by_index, word_line, line_in, line_at}
 use Rattle.fulljudge.proofs.ReadingLemmas.{AdmitsWords}
 use Rattle.fulljudge.proofs.TextLemmas.{IsCounted, Names, named_first, cell_named, AreCounted}
 

@@ -1,8 +1,7 @@
 -- The words that states begin with: what is told of a state agrees with its init line where that is so of each of its words.
-use Rattle.std.proofs.Common.{◌≡◌, ℕ, zero, suc, ◌+◌, ◌*◌, ◌^◌, ◌<◌, ◌==◌, Bool, true, false, cond, not, nat_eq, eq-eqb, eqb-true, List, [], ◌∷◌, ◌++◌, map, flat_map, replicate, length, slice_get, Option, Some, None, IfSome, is_some, unwrap_or, option_and_then, append_assoc, append-nil, refl, sym, ap, ap₂, subst, ◌∙◌, ⊎_elim, arith, lit<}
-use Rattle.std.specs.List.{AllByRecursion, position_from}
+use Rattle.std.proofs.Common.{◌≡◌, ℕ, zero, suc, ◌+◌, ◌*◌, ◌^◌, ◌<◌, true, List, [], ◌∷◌, ◌++◌, map, flat_map, length, slice_get, Option, Some, is_some, unwrap_or, option_and_then, append_assoc, refl, sym, ap, ap₂, subst, ◌∙◌, arith}
+use Rattle.std.specs.List.{AllByRecursion}
 use Rattle.std.specs.Option.{option_or}
-use Rattle.std.proofs.lemmas.Bool.{true≢false, false_from_ne_true}
 use Rattle.std.proofs.lemmas.List.{length-append, length-map, length-replicate}
 use Rattle.std.proofs.lemmas.Option.{none-some, same_Some}
 use Rattle.base.specs.Operator.{concat_value}
@@ -10,28 +9,25 @@ use Rattle.btor2.specs.declared.item.Item.{Item}
 use Rattle.btor2.specs.declared.item.Body.{Body}
 use Rattle.btor2.specs.declared.item.Body.TheVariants as body
 use Rattle.btor2.specs.Items.{is_state, names_state, constant_of, init_value, init_word}
-use Rattle.btor2.specs.Lists.{of_kind}
 use Rattle.btor2.specs.Trace.{Frame, bits_of, InitHolds}
 use Rattle.btor2.proofs.AppendLemmas.{some_of, then_parts}
 use Rattle.wide.specs.WideModels.{greatest_width, IsWideModel}
 use Rattle.full.specs.Cells.{read_value}
-use Rattle.full.specs.Lines.{Sort, words, arrays, FullLine}
-use Rattle.full.specs.WrittenOut.{Places, IsWrittenOut}
+use Rattle.full.specs.Lines.{Sort, words, arrays}
+use Rattle.full.specs.WrittenOut.{Places}
 use Rattle.full.proofs.CellLemmas.{lowest_cell}
 use Rattle.full.proofs.WideLemmas.{IsInitLine, init_lines}
 use Rattle.fit.specs.Fitting.{Layout, pieces_word, pieces_width, joined, ids_of, init_words, IsFittingOf}
 use Rattle.fit.proofs.LawLemmas.{init_says}
-use Rattle.fit.proofs.ListLemmas.{all_with, AreDistinct, heads}
+use Rattle.fit.proofs.ListLemmas.{all_with, AreDistinct}
 use Rattle.fit.proofs.ModelLemmas.{init_words_fit}
 use Rattle.fit.proofs.PieceLemmas.{word_below}
-use Rattle.witness.specs.Judgements.{Words, given, given_to, initial_part, initial_words, differs, first_different}
-use Rattle.rejoin.proofs.PlaceLemmas.{place_map}
-use Rattle.fulljudge.specs.Shapes.{Leaf, leaves_of, word_count, word_width, word_widths, first_index, value_of_word}
+use Rattle.witness.specs.Judgements.{Words, given, given_to, initial_part, initial_words}
+use Rattle.fulljudge.specs.Shapes.{Leaf, word_count, word_width, word_widths}
 use Rattle.fulljudge.specs.Told.{told, ByIndex}
 use Rattle.fulljudge.specs.Written.{ConstantTold}
-use Rattle.fulljudge.specs.Cells.{HasWords, HasWordsOf}
 use Rattle.fulljudge.proofs.CellLemmas.{given_at, widths_all}
-use Rattle.fulljudge.proofs.ToldLemmas.{own_word, WordsFit, WordsAre, high_cell, told_own, told_other}
+use Rattle.fulljudge.proofs.ToldLemmas.{own_word, WordsFit, WordsAre, high_cell, told_own}
 
 -- ---- the words of a value
 
@@ -84,10 +80,11 @@ pub leaves_stand : (width : ℕ → ℕ) (pieces : Leaf → List ℕ) (ids befor
 leaves_stand width pieces ids before rest [] i e at widths = tt
 leaves_stand width pieces ids before rest (l ∷ leaves) i e at widths =
     let count : length (pieces l) ≡ word_count l.sort = sym (length-map (pieces l) width) ∙ ap length widths.0 ∙ length-replicate (word_count l.sort) (word_width l.sort) in
-    let front : ids ≡ before ++ (pieces l ++ (flat_map pieces leaves ++ rest)) = e ∙ ap (λ (xs : List ℕ). before ++ xs) (append_assoc (pieces l) (flat_map pieces leaves) rest) in
-    ((record { before = before; after = flat_map pieces leaves ++ rest; is = front; at = at }, widths.0),
-    leaves_stand width pieces ids (before ++ pieces l) rest leaves (i + word_count l.sort) (front ∙ sym (append_assoc before (pieces l) (flat_map pieces leaves ++ rest)))
-    (length-append before (pieces l) ∙ omega (arith, at, count)) widths.1)
+    let front : ids ≡ before ++ (pieces l ++ (flat_map pieces leaves ++ rest)) = e ∙ ap (λ (xs : List ℕ). before ++ xs) (append_assoc (pieces l) (flat_map pieces leaves) rest) in (
+      (record { before = before; after = flat_map pieces leaves ++ rest; is = front; at = at }, widths.0),
+      leaves_stand width pieces ids (before ++ pieces l) rest leaves (i + word_count l.sort) (front ∙ sym (append_assoc before (pieces l) (flat_map pieces leaves ++ rest)))
+          (length-append before (pieces l) ∙ omega (arith, at, count)) widths.1,
+    )
 
 module _ (celled : List Item) (model : IsWideModel greatest_width celled) (distinct : AreDistinct (ids_of (λ x. is_state x.body) celled)) where
   abbrev states : List ℕ

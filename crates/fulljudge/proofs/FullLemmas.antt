@@ -1,8 +1,7 @@
 -- What is judged over a model of the whole language by what is judged over a list in which each word of a value has a leaf.
-use Rattle.std.proofs.Common.{◌≡◌, ℕ, zero, suc, ◌+◌, ◌^◌, ◌<◌, ◌==◌, Bool, true, false, cond, not, nat_eq, eqb-true, List, [], ◌∷◌, ◌++◌, map, flat_map, filter, length, slice_get, Option, Some, None, is_some, unwrap_or, option_and_then, refl, sym, ap, ap₂, subst, ◌∙◌, inl, inr, arith}
-use Rattle.std.specs.List.{AllByRecursion, AllZip, position_from}
-use Rattle.std.specs.Option.{option_or}
-use Rattle.std.proofs.lemmas.Bool.{true≢false, false_from_ne_true}
+use Rattle.std.proofs.Common.{◌≡◌, ℕ, zero, suc, ◌+◌, ◌^◌, ◌<◌, ◌==◌, Bool, true, false, cond, not, nat_eq, eqb-true, List, [], ◌∷◌, ◌++◌, map, flat_map, length, slice_get, Option, Some, None, is_some, unwrap_or, option_and_then, refl, sym, ap, ap₂, subst, ◌∙◌, inl, inr, arith}
+use Rattle.std.specs.List.{AllByRecursion, position_from}
+use Rattle.std.proofs.lemmas.Bool.{false_from_ne_true}
 use Rattle.std.proofs.lemmas.List.{length-append, length-map, length-replicate}
 use Rattle.std.proofs.lemmas.Option.{none-some, same_Some}
 use Rattle.base.specs.Shown.{Shown}
@@ -13,36 +12,35 @@ use Rattle.btor2.specs.Items.{is_input, is_state, is_bad, names_state, constant_
 use Rattle.btor2.specs.Lists.{of_kind}
 use Rattle.btor2.specs.Trace.{Frame, bits_of, IsFrame, next_state, IsTrace, StateFits, IsInput, IsState, IsInitial}
 use Rattle.btor2.specs.Reachability.{nodes_of, model_shows}
-use Rattle.btor2.proofs.AppendLemmas.{some_of}
 use Rattle.btor2.proofs.IdLemmas.{state_item}
 use Rattle.wide.specs.WideModels.{greatest_width, IsWideModel}
 use Rattle.full.specs.Lines.{FullLine, Sort, Operand, init_of}
 use Rattle.full.specs.Agreement.{names_full_state}
-use Rattle.full.specs.WrittenOut.{Places, read_by, IsAsItIs, IsByFirstWord, InitIsWritten, IsWrittenOut}
+use Rattle.full.specs.WrittenOut.{Places, read_by, InitIsWritten, IsWrittenOut}
 use Rattle.full.proofs.FullLookUps.{init_said}
 use Rattle.full.proofs.ListLemmas.{all_at}
 use Rattle.full.proofs.PlaceLemmas.{placed}
 use Rattle.full.proofs.WideLemmas.{wide_frame_exists}
-use Rattle.fit.specs.Fitting.{Layout, pieces_word, joined, ids_of, init_words, IsFittingOf}
+use Rattle.fit.specs.Fitting.{Layout, joined, ids_of, init_words}
 use Rattle.fit.proofs.LawLemmas.{init_says, trace_above, wide_initial}
 use Rattle.fit.proofs.ModelLemmas.{init_words_fit}
 use Rattle.fit.proofs.ListLemmas.{all_with, of_ids, AreDistinct}
 use Rattle.witness.specs.declared.judgement.Judgement.{Judgement}
 use Rattle.witness.specs.declared.judgement.Judgement.TheVariants as judgement
-use Rattle.witness.specs.Judgements.{FrameWords, Words, given, given_to, index_of, initial_part, initial_words, given_words, given_frames, differs, first_different, Violation, violation_from, unreached_from, first_of, verdict, JudgesWords}
+use Rattle.witness.specs.Judgements.{FrameWords, Words, given, given_to, index_of, initial_part, initial_words, given_frames, differs, first_different, Violation, violation_from, unreached_from, first_of, verdict, JudgesWords}
 use Rattle.witness.proofs.GivenWordLemmas.{named_state}
 use Rattle.rejoin.proofs.PlaceLemmas.{place_map}
 use Rattle.fulljudge.specs.Shapes.{Leaf, leaves_of, word_count, word_width, word_widths, first_index, value_of_word}
 use Rattle.fulljudge.specs.Told.{told, ByIndex, DiffersAt, FirstDiffers}
 use Rattle.fulljudge.specs.Judgements.{judged_by, IsJudged}
-use Rattle.fulljudge.specs.Written.{AreGiven, ConstantTold, ConstantsTold, OthersTold, IsCompared}
-use Rattle.fulljudge.specs.Cells.{HasWords, HasWordsOf, TellsWords}
+use Rattle.fulljudge.specs.Written.{AreGiven, ConstantTold, ConstantsTold, IsCompared}
+use Rattle.fulljudge.specs.Cells.{HasWordsOf, TellsWords}
 use Rattle.fulljudge.proofs.RunLemmas.{by_index, states_named}
 use Rattle.fulljudge.proofs.CellLemmas.{given_at}
 use Rattle.fulljudge.proofs.CelledLemmas.{IsOfKind, by_part, state_pieces, are_given, begins_with_given}
-use Rattle.fulljudge.proofs.ToldLemmas.{own_word, WordsFit, told_other}
-use Rattle.fulljudge.proofs.FirstLemmas.{StandAt, leaves_stand, BeginsSo, inits_hold, constant_told, constant_is, given_word, own_of_pieces, init_fits}
-use Rattle.fulljudge.proofs.DifferLemmas.{FoundAt, get_at, Located, located, absence, WordDiffers, word_differs}
+use Rattle.fulljudge.proofs.ToldLemmas.{WordsFit, told_other}
+use Rattle.fulljudge.proofs.FirstLemmas.{StandAt, leaves_stand, BeginsSo, inits_hold, constant_told, own_of_pieces, init_fits}
+use Rattle.fulljudge.proofs.DifferLemmas.{get_at, Located, located, absence, WordDiffers, word_differs}
 use Rattle.fulljudge.proofs.JudgedLemmas.{at_first, all_get, constant_first, judged_by_trace, judged_to_differ}
 
 -- ---- traces

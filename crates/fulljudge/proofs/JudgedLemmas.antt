@@ -1,12 +1,11 @@
 -- What is judged by a trace of the list that a model is written out as.
-use Rattle.std.proofs.Common.{◌≡◌, ℕ, zero, suc, ◌+◌, ◌==◌, Bool, true, false, cond, eq-eqb, List, [], ◌∷◌, ◌++◌, map, flat_map, length, slice_get, Option, Some, None, is_some, option_and_then, refl, sym, ap, ap₂, subst, ◌∙◌, ⊎_elim, inl, inr, arith}
+use Rattle.std.proofs.Common.{◌≡◌, ℕ, zero, suc, ◌+◌, Bool, true, false, cond, eq-eqb, List, [], ◌∷◌, map, flat_map, length, slice_get, Some, None, is_some, option_and_then, refl, sym, ap, ap₂, subst, ◌∙◌, ⊎_elim, inl, inr, arith}
 use Rattle.std.specs.List.{AllByRecursion, AllZip}
 use Rattle.std.proofs.lemmas.Bool.{true≢false}
 use Rattle.std.proofs.lemmas.List.{length-append}
 use Rattle.std.proofs.lemmas.Option.{none-some, same_Some}
 use Rattle.base.specs.Shown.{Shown}
 use Rattle.btor2.specs.declared.item.Item.{Item}
-use Rattle.btor2.specs.declared.item.Body.{Body}
 use Rattle.btor2.specs.declared.item.Body.TheVariants as body
 use Rattle.btor2.specs.Items.{is_state, is_bad, constant_of, init_value, init_word}
 use Rattle.btor2.specs.Trace.{Frame, IsFrame, IsTrace, IsInput, IsInitial}
@@ -14,19 +13,18 @@ use Rattle.btor2.specs.Reachability.{nodes_of, model_shows}
 use Rattle.btor2.proofs.AppendLemmas.{some_of, then_parts}
 use Rattle.btor2.proofs.StateWords.{carried_word}
 use Rattle.btor2.proofs.InitLemmas.{init_not_free, init_words_say}
-use Rattle.full.specs.Lines.{Operand, Says, form, FullLine, Sort, with_minuses, operands_of, is_form, lines_of, full_nodes, init_of}
+use Rattle.full.specs.Lines.{Operand, Says, form, FullLine, with_minuses, operands_of, is_form, lines_of, full_nodes, init_of}
 use Rattle.full.specs.Agreement.{names_full_state}
-use Rattle.full.specs.Runs.{IsRun, full_shows}
+use Rattle.full.specs.Runs.{full_shows}
 use Rattle.full.specs.WrittenOut.{Places, read_by, HasWord, IsAsItIs, IsByFirstWord, InitIsWritten, IsWrittenOut}
 use Rattle.full.proofs.FullLookUps.{init_said}
 use Rattle.full.proofs.PlaceLemmas.{placed}
 use Rattle.full.proofs.UpLemmas.{run_up}
-use Rattle.witness.specs.declared.judgement.Judgement.{Judgement}
 use Rattle.witness.specs.declared.judgement.Judgement.TheVariants as judgement
 use Rattle.witness.specs.Judgements.{FrameWords, Words, verdict}
-use Rattle.fulljudge.specs.Shapes.{Leaf, leaf_of, leaves_of, word_count, first_index}
-use Rattle.fulljudge.specs.Told.{told, ByIndex, AreTold, DiffersAt, FirstDiffers}
-use Rattle.fulljudge.specs.Judgements.{SaysOfRun, IsJudged}
+use Rattle.fulljudge.specs.Shapes.{Leaf, leaves_of, word_count, first_index}
+use Rattle.fulljudge.specs.Told.{told, ByIndex, DiffersAt, FirstDiffers}
+use Rattle.fulljudge.specs.Judgements.{IsJudged}
 use Rattle.fulljudge.specs.Written.{AreGiven, ConstantTold, OtherTold, ConstantsTold, OthersTold}
 use Rattle.fulljudge.proofs.RunLemmas.{states_named, are_told}
 

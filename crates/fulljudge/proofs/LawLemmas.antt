@@ -1,9 +1,9 @@
 -- A text is judged over a model of the whole language by what is judged of the text of words that says the same.
-use Rattle.std.proofs.Common.{◌≡◌, ℕ, ◌+◌, ◌<◌, ◌^◌, Bool, true, false, List, [], ◌∷◌, ◌++◌, map, flat_map, length, Option, Some, None, IfSome, Result, Ok, Err, refl, sym, ap, ap₂, subst, ◌∙◌, arith}
+use Rattle.std.proofs.Common.{◌≡◌, ℕ, ◌+◌, ◌<◌, ◌^◌, Bool, true, false, List, [], ◌∷◌, ◌++◌, map, length, Option, IfSome, Result, Ok, Err, refl, sym, ap, ap₂, subst, ◌∙◌, arith}
 use Rattle.std.specs.List.{AllByRecursion}
 use Rattle.base.specs.Lines.{whole_lines}
 use Rattle.btor2.specs.declared.item.Item.{Item}
-use Rattle.btor2.specs.Items.{is_input, is_state, is_bad, is_free}
+use Rattle.btor2.specs.Items.{is_input, is_state, is_free}
 use Rattle.btor2.specs.Trace.{Frame, bits_of, IsTrace, IsInput}
 use Rattle.wide.specs.WideModels.{greatest_width, IsWideModel}
 use Rattle.full.specs.Lines.{FullLine, Sort}
@@ -13,10 +13,10 @@ use Rattle.fit.proofs.ListLemmas.{AreDistinct, distinct_ids}
 use Rattle.fit.proofs.ModelLemmas.{wide_ids_fresh}
 use Rattle.std.proofs.lemmas.List.{length-append}
 use Rattle.witness.specs.declared.judgement.Judgement.{Judgement}
-use Rattle.witness.specs.Texts.{Shape, Parts, Witness, AreFrames, IsWitness, shape_of, widths_of, free_of}
+use Rattle.witness.specs.Texts.{Shape, Parts, Witness, AreFrames, shape_of, widths_of, free_of}
 use Rattle.witness.specs.Readings.{Fault, text_read}
 use Rattle.witness.specs.Admits.{Read, word_reader, witness_of}
-use Rattle.witness.specs.Judgements.{FrameWords, Words, frame_words, words_of, given, initial_part, initial_words, given_words, given_frames, makes_no_claim, JudgesWords, JudgesAs, Judges}
+use Rattle.witness.specs.Judgements.{Words, frame_words, words_of, given, initial_part, initial_words, given_words, given_frames, makes_no_claim, JudgesWords, JudgesAs, Judges}
 use Rattle.witness.proofs.ReadLemmas.{IsSmall}
 use Rattle.witness.proofs.ReadTextLemmas.{read_says}
 use Rattle.rejoin.proofs.AlikeLemmas.{bad_nodes}

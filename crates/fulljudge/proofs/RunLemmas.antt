@@ -1,24 +1,23 @@
 -- A run of a model, by a trace of the list that it is written out as, is as is told where the words of that are.
-use Rattle.std.proofs.Common.{◌≡◌, ℕ, ◌+◌, Bool, true, false, cond, List, [], ◌∷◌, map, filter, Option, Some, None, is_some, unwrap_or, option_map, refl, sym, ap, subst, ◌∙◌, ⊎_elim}
+use Rattle.std.proofs.Common.{◌≡◌, ℕ, ◌+◌, Bool, true, false, cond, List, [], ◌∷◌, map, Option, Some, None, unwrap_or, option_map, refl, ap, subst, ◌∙◌, ⊎_elim}
 use Rattle.std.specs.List.{AllByRecursion, AllZip}
-use Rattle.std.proofs.lemmas.Bool.{both_ways}
 use Rattle.btor2.specs.declared.item.Item.{Item}
 use Rattle.btor2.specs.declared.item.Body.{Body}
 use Rattle.btor2.specs.declared.item.Body.TheVariants as body
-use Rattle.btor2.specs.Items.{is_input, is_state, is_free, init_value, next_value, names_state}
-use Rattle.btor2.specs.Trace.{Frame, state_word, LineHolds, IsFrame, next_state, IsTrace, IsInput, IsInitial}
+use Rattle.btor2.specs.Items.{is_input, is_state, is_free, init_value}
+use Rattle.btor2.specs.Trace.{Frame, LineHolds, IsFrame, next_state, IsTrace}
 use Rattle.btor2.proofs.StateWords.{state_has_word, free_word}
 use Rattle.full.specs.Lines.{Operand, Says, form, FullLine, find_line, is_form, lines_of, init_of, next_of}
 use Rattle.full.specs.Agreement.{names_full_state}
-use Rattle.full.specs.WrittenOut.{Places, read_by, Stands, InputIsWritten, LeafIsWritten, StateIsWritten, IsAsItIs, IsByFirstWord, InitIsWritten, IsWrittenOut}
-use Rattle.full.proofs.ListLemmas.{all_with, all_both}
+use Rattle.full.specs.WrittenOut.{Places, read_by, InputIsWritten, LeafIsWritten, StateIsWritten, IsAsItIs, IsByFirstWord, InitIsWritten, IsWrittenOut}
+use Rattle.full.proofs.ListLemmas.{all_with}
 use Rattle.full.proofs.FullLookUps.{each_found, init_said}
 use Rattle.full.proofs.WideLemmas.{line_found}
 use Rattle.full.proofs.PlaceLemmas.{placed, later_word}
-use Rattle.full.proofs.UpLemmas.{IsFitFrame, next_state_fits, is_later}
+use Rattle.full.proofs.UpLemmas.{is_later}
 use Rattle.witness.specs.Judgements.{FrameWords}
 use Rattle.fulljudge.specs.Shapes.{Leaf, leaf_of, leaves_of, word_count}
-use Rattle.fulljudge.specs.Told.{told, ByIndex, InputTold, FirstTold, LaterTold, IsFirst, IsLater, AreTold}
+use Rattle.fulljudge.specs.Told.{ByIndex, InputTold, FirstTold, LaterTold, IsFirst, IsLater, AreTold}
 use Rattle.fulljudge.specs.Written.{InputGiven, FirstGiven, LaterGiven, IsFirstGiven, IsLaterGiven, AreGiven}
 
 -- ---- the leaves of a kind

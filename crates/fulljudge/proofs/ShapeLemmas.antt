@@ -1,32 +1,26 @@
 -- What a witness needs to know of a list in which each word of a value has a leaf.
-use Rattle.std.proofs.Common.{◌≡◌, ℕ, ◌+◌, Bool, true, false, not, List, [], ◌∷◌, ◌++◌, map, flat_map, filter, length, replicate, Option, Some, None, is_some, refl, sym, ap, ap₂, subst, ◌∙◌}
+use Rattle.std.proofs.Common.{◌≡◌, ℕ, ◌+◌, Bool, true, false, not, List, [], ◌∷◌, ◌++◌, map, flat_map, filter, length, replicate, Option, Some, None, is_some, refl, sym, ap, ap₂, ◌∙◌}
 use Rattle.std.specs.List.{AllByRecursion}
 use Rattle.std.proofs.lemmas.List.{length-append, length-map, length-replicate, map-append}
 use Rattle.btor2.specs.declared.item.Item.{Item}
-use Rattle.btor2.specs.declared.item.Body.{Body}
-use Rattle.btor2.specs.Items.{is_input, is_state, is_bad, is_free, next_value}
+use Rattle.btor2.specs.Items.{is_input, is_state, is_free, next_value}
 use Rattle.btor2.specs.Trace.{bits_of}
-use Rattle.btor2.specs.Reachability.{nodes_of}
 use Rattle.btor2.proofs.AppendLemmas.{is_some_from}
 use Rattle.btor2.proofs.StateWords.{not_free}
 use Rattle.wide.specs.WideModels.{greatest_width, IsWideModel}
-use Rattle.full.specs.Lines.{FullLine, Sort, Operand, next_of}
+use Rattle.full.specs.Lines.{FullLine, Operand, next_of}
 use Rattle.full.specs.Agreement.{names_full_state}
 use Rattle.full.specs.WrittenOut.{Places, NextIsWritten, IsWrittenOut}
 use Rattle.full.proofs.FullLookUps.{next_said}
 use Rattle.full.proofs.PlaceLemmas.{placed}
-use Rattle.fit.specs.Fitting.{Layout, ids_of}
+use Rattle.fit.specs.Fitting.{Layout}
 use Rattle.fit.proofs.ListLemmas.{all_with, all_both}
-use Rattle.witness.specs.Texts.{Shape, shape_of, widths_of, free_of}
-use Rattle.rejoin.proofs.AlikeLemmas.{bad_nodes}
+use Rattle.witness.specs.Texts.{Shape, widths_of, free_of}
 use Rattle.rejoin.proofs.ShapeLemmas.{map_ids}
 use Rattle.fulljudge.specs.Shapes.{Leaf, leaves_of, full_shape, word_count, word_width, word_widths, of_words, word_shape}
 use Rattle.fulljudge.specs.Cells.{HasWords, HasWordsOf}
 use Rattle.fulljudge.proofs.RunLemmas.{open_state, states_named}
-use Rattle.fulljudge.proofs.JudgedLemmas.{bads_alike}
 use Rattle.fulljudge.proofs.DifferLemmas.{free_pieces, carried_pieces}
-use Rattle.fulljudge.proofs.ExtraLemmas.{with_states}
-use Rattle.fulljudge.proofs.FullLemmas.{bads_count}
 
 pub flat_fused : {A B C : Type 0} (f : B → List C) (g : A → B) (xs : List A) → flat_map f (map g xs) ≡ flat_map (λ x. f (g x)) xs
 flat_fused f g [] = refl

@@ -1,13 +1,13 @@
 -- A text is read as the text of words that says the same.
-use Rattle.std.proofs.Common.{◌≡◌, ℕ, zero, suc, nat_le, map, reverse, ◌&&◌, inl, inr, ◌+◌, ◌<◌, ◌≤◌, ◌^◌, ◌==◌, Bool, true, false, cond, List, [], ◌∷◌, ◌++◌, Option, Some, None, IfSome, Result, Ok, Err, decimal, length, flat_map, slice_get, option_and_then, append-nil, refl, sym, ap, subst, ◌∙◌, arith}
+use Rattle.std.proofs.Common.{◌≡◌, ℕ, zero, suc, nat_le, map, reverse, ◌&&◌, ◌+◌, ◌<◌, ◌≤◌, ◌^◌, ◌==◌, Bool, true, false, cond, List, [], ◌∷◌, ◌++◌, Option, Some, None, IfSome, Result, Ok, Err, decimal, length, flat_map, slice_get, option_and_then, append-nil, refl, sym, ap, subst, ◌∙◌, arith}
 use Rattle.std.specs.List.{list_any, list_all}
 use Rattle.base.specs.Word.{word}
 use Rattle.base.proofs.BitLemmas.{word_below}
-use Rattle.std.proofs.lemmas.Bool.{cases_Bool, and_parts, eqb-true, leb-false, or_from, or_parts}
+use Rattle.std.proofs.lemmas.Bool.{and_parts, eqb-true, or_from, or_parts}
 use Rattle.std.proofs.lemmas.List.{length-append, length-map, length-replicate, length-reverse}
 use Rattle.std.proofs.lemmas.Option.{none-some, same_Some}
 use Rattle.std.proofs.lemmas.List.Folds.{list_any-append}
-use Rattle.base.specs.Lines.{IsLine, whole_lines, unfinished, text_of_lines}
+use Rattle.base.specs.Lines.{IsLine, whole_lines, unfinished}
 use Rattle.base.specs.Decimals.{number_of}
 use Rattle.base.proofs.LineLemmas.{EachLine, lines_are_lines, unfinished_is_line, whole_lines-lines, whole_lines-last, unfinished-lines, unfinished-last}
 use Rattle.base.proofs.DecimalLemmas.{decimal_digits, decimal_without}
@@ -21,13 +21,12 @@ use Rattle.spread.specs.Stands.{part_behind, part_at}
 use Rattle.spread.proofs.AssignedLemmas.{digits_begin_none}
 use Rattle.spread.proofs.AdmittedLemmas.{part_opens}
 use Rattle.witness.specs.Texts.{Shape, symbol_part, is_comment, most_lines}
-use Rattle.witness.specs.Readings.{Reader, Reading, Fault, so_far, one_more_line, next_line, lines_behind, lines_read, reading, read_or_fault, text_read}
+use Rattle.witness.specs.Readings.{Reader, Reading, so_far, one_more_line, next_line, lines_behind, lines_read, reading, read_or_fault, text_read}
 use Rattle.witness.specs.Admits.{Place, AtStatus, AtClaims, AtParts, InStates, InFrame, AtEnd, Read, nothing_read, admit, begins_part, cut_at_space, word_reader, is_at_end, is_bit}
 use Rattle.witness.specs.Judgements.{makes_no_claim}
 use Rattle.witness.proofs.PieceLemmas.{parts_of_cut}
-use Rattle.witness.proofs.ReadingLemmas.{line_admitted}
 use Rattle.fulljudge.specs.Shapes.{FullShape, word_count, word_width, word_widths, word_shape, first_index}
-use Rattle.fulljudge.specs.Lines.{in_brackets, digits_number, address_of, indexed, cell_line, value_line, line_by_index, word_line, line_in, line_at, full_reader, line_in_part, lines_of_words, words_text}
+use Rattle.fulljudge.specs.Lines.{in_brackets, digits_number, address_of, indexed, value_line, line_by_index, word_line, line_in, line_at, full_reader, line_in_part, lines_of_words, words_text}
 use Rattle.fulljudge.proofs.ReadingLemmas.{AdmitsWords, line_read}
 
 -- ---- lines
@@ -53,7 +52,7 @@ first_within (t ∷ ts) (suc i) s e =
     omega (arith, whole, first_within ts i s e)
 
 -- an address is one of a cell
-address_below : (k : ℕ) (token : List ℕ) (a : ℕ) → address_of k token ≡ Some a → a < 2 ^ k
+pub address_below : (k : ℕ) (token : List ℕ) (a : ℕ) → address_of k token ≡ Some a → a < 2 ^ k
 address_below k token a e = by (in_brackets token) refl
   where
     by_test : (digits : List ℕ) (b : Bool) → ((length digits == k) && list_all is_bit digits) ≡ b → cond b (Some (word (reverse (map (λ c. c == 49) digits)))) None ≡ Some a → a < 2 ^ k

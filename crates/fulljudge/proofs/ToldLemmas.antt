@@ -1,5 +1,5 @@
 -- What is told of a value is the value where it is so of each word that is told.
-use Rattle.std.proofs.Common.{◌≡◌, ℕ, zero, suc, ◌+◌, ◌*◌, ◌%◌, ◌^◌, ◌<◌, List, [], ◌∷◌, Option, Some, None, IfSome, unwrap_or, refl, sym, ap, subst, ◌∙◌, arith, pow_pos, lit<}
+use Rattle.std.proofs.Common.{◌≡◌, ℕ, zero, suc, ◌+◌, ◌*◌, ◌^◌, ◌<◌, List, Option, Some, None, IfSome, unwrap_or, refl, sym, ap, subst, ◌∙◌, arith, pow_pos, lit<}
 use Rattle.base.specs.Operator.{concat_value}
 use Rattle.base.proofs.ValueLaws.{concat_below}
 use Rattle.full.specs.Cells.{read_value}

@@ -1,25 +1,23 @@
 -- The words of a witness over a list in which each word of a value has a leaf fit it.
-use Rattle.std.proofs.Common.{◌≡◌, ℕ, zero, suc, ◌+◌, ◌^◌, ◌<◌, ◌==◌, Bool, true, false, cond, nat_eq, eqb-true, List, [], ◌∷◌, ◌++◌, map, flat_map, length, replicate, slice_index, Option, Some, None, IfSome, unwrap_or, option_map, append_assoc, refl, sym, ap, subst, ◌∙◌, arith, pow_pos}
+use Rattle.std.proofs.Common.{◌≡◌, ℕ, ◌+◌, ◌^◌, ◌<◌, ◌==◌, Bool, true, false, cond, nat_eq, eqb-true, List, [], ◌∷◌, ◌++◌, map, flat_map, length, replicate, slice_index, Option, Some, None, IfSome, unwrap_or, option_map, append_assoc, refl, sym, ap, subst, ◌∙◌, arith, pow_pos}
 use Rattle.std.specs.List.{AllByRecursion, find}
 use Rattle.std.specs.Option.{option_or}
 use Rattle.std.proofs.lemmas.List.Elements.{recursion_from_All}
 use Rattle.std.proofs.lemmas.List.{length-append, length-replicate, get_or_append_left, get_or-append-add, get_or-replicate}
-use Rattle.std.proofs.lemmas.Option.{none-some, same_Some}
+use Rattle.std.proofs.lemmas.Option.{none-some}
 use Rattle.btor2.specs.declared.item.Item.{Item}
 use Rattle.btor2.specs.declared.item.Body.{Body}
 use Rattle.btor2.specs.declared.item.Body.TheVariants as body
 use Rattle.btor2.specs.Items.{is_input, is_state, names_state, init_word}
-use Rattle.btor2.specs.Trace.{Frame, bits_of, InputFits, StateFits, IsInput, IsState}
+use Rattle.btor2.specs.Trace.{bits_of, InputFits, StateFits, IsInput, IsState}
 use Rattle.wide.specs.WideModels.{greatest_width, IsWideModel}
-use Rattle.full.specs.Lines.{FullLine, Sort}
 use Rattle.full.proofs.ListLemmas.{all_with, all_of}
 use Rattle.fit.proofs.ModelLemmas.{init_words_fit}
-use Rattle.witness.specs.Texts.{Shape, Assignment, IsAssignment, Parts, Witness, IsPart, IsFreePart, AreParts, AreFrames, IsWitness, widths_of}
-use Rattle.witness.specs.Judgements.{FrameWords, Words, pairs_of, frame_words, words_of, given, given_to, initial_part, initial_words, given_words, given_frames}
+use Rattle.witness.specs.Texts.{Shape, Assignment, IsAssignment, Parts, Witness, IsPart, IsFreePart, AreParts, AreFrames, widths_of}
+use Rattle.witness.specs.Judgements.{pairs_of, frame_words, words_of, given, given_to, initial_part, initial_words, given_words}
 use Rattle.rejoin.proofs.SplitPartLemmas.{given_below, given_fits}
-use Rattle.fulljudge.specs.Shapes.{Leaf, leaves_of, word_count, word_width, word_widths}
+use Rattle.fulljudge.specs.Shapes.{Leaf, word_count, word_width, word_widths}
 use Rattle.fulljudge.specs.Told.{ByIndex}
-use Rattle.fulljudge.specs.Cells.{TellsWords}
 
 -- ---- parts
 
@@ -109,9 +107,9 @@ words_fit list widths before [] i e at h = tt
 words_fit list widths before (l ∷ leaves) i e at h =
     let rest : List ℕ = flat_map (λ (m : Leaf). word_widths m.sort) leaves in (
       (λ c within.
-      subst (λ (n : ℕ). IfSome (given (pairs_of list) (i + c)) (λ v. v < 2 ^ n))
-      (ap (λ (k : ℕ). slice_index widths k) (ap (λ (n : ℕ). n + c) (sym at)) ∙ ap (λ (ws : List ℕ). slice_index ws (length before + c)) e ∙ width_at before rest (word_count l.sort) (word_width l.sort) c within)
-      (given_below widths list (i + c) (below widths list h))),
+          subst (λ (n : ℕ). IfSome (given (pairs_of list) (i + c)) (λ v. v < 2 ^ n))
+          (ap (λ (k : ℕ). slice_index widths k) (ap (λ (n : ℕ). n + c) (sym at)) ∙ ap (λ (ws : List ℕ). slice_index ws (length before + c)) e ∙ width_at before rest (word_count l.sort) (word_width l.sort) c within)
+          (given_below widths list (i + c) (below widths list h))),
       words_fit list widths (before ++ word_widths l.sort) leaves (i + word_count l.sort) (e ∙ sym (append_assoc before (word_widths l.sort) rest))
           (length-append before (word_widths l.sort) ∙ omega (arith, at, length-replicate (word_count l.sort) (word_width l.sort))) h,
     )

@@ -1,6 +1,6 @@
 -- Lines of a witness over a model of the whole language ("Btor2, BtorMC and Boolector 3.0", witness format: the assignment of an array names a cell by its address,
 -- in binary digits and brackets; that as many digits stand there as an index has bits is this project's). Each is read as one of the words by which values are told.
-use Rattle.std.specs.Prelude.{ℕ, ◌+◌, Bool, ◌&&◌, ◌==◌, nat_lt, List, [], ◌∷◌, ◌++◌, Option, Some, None, decimal, length, map, option_and_then, reverse, slice_get, if◌then◌else◌}
+use Rattle.std.specs.Prelude.{ℕ, ◌+◌, ◌&&◌, ◌==◌, List, [], ◌∷◌, ◌++◌, Option, Some, None, decimal, length, map, option_and_then, reverse, slice_get, if◌then◌else◌}
 use Rattle.std.specs.List.{list_all}
 use Rattle.base.specs.Word.{word}
 use Rattle.base.specs.Decimals.{number_of}

@@ -1,6 +1,6 @@
 -- What a witness tells of a run of a model of the whole language: what is left open in a frame is told, or 0 ("Btor2, BtorMC and Boolector 3.0", semantics of witnesses;
 -- that 0 is meant where nothing is told is this project's).
-use Rattle.std.specs.Prelude.{◌≡◌, ℕ, zero, suc, ◌+◌, ◌^◌, ◌==◌, true, false, List, [], ◌∷◌, Option, Some, None, is_some, map, unwrap_or, slice_get}
+use Rattle.std.specs.Prelude.{◌≡◌, ℕ, zero, suc, ◌+◌, ◌^◌, ◌==◌, true, false, List, [], ◌∷◌, Some, None, is_some, map, unwrap_or, slice_get}
 use Rattle.std.specs.List.{AllZip}
 use Rattle.base.specs.Operator.{concat_value}
 use Rattle.btor2.specs.Items.{is_input, is_state}
