@@ -13,3 +13,6 @@ pub mod ToldLemmas
 pub mod JudgedLemmas
 pub mod CellLemmas
 pub mod TextLemmas
+pub mod AddressLemmas
+pub mod ValuesLemmas
+pub mod WordLineLemmas

@@ -52,7 +52,7 @@ first_within (t ∷ ts) (suc i) s e =
     omega (arith, whole, first_within ts i s e)
 
 -- an address is one of a cell
-address_below : (k : ℕ) (token : List ℕ) (a : ℕ) → address_of k token ≡ Some a → a < 2 ^ k
+pub address_below : (k : ℕ) (token : List ℕ) (a : ℕ) → address_of k token ≡ Some a → a < 2 ^ k
 address_below k token a e = by (in_brackets token) refl
   where
     by_test : (digits : List ℕ) (b : Bool) → ((length digits == k) && list_all is_bit digits) ≡ b → cond b (Some (word (reverse (map (λ c. c == 49) digits)))) None ≡ Some a → a < 2 ^ k

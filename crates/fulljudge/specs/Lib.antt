@@ -5,3 +5,4 @@ pub mod Told
 pub mod Judgements
 pub mod Written
 pub mod Cells
+pub mod Kept

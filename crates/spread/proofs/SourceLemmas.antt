@@ -1,5 +1,5 @@
 -- The lines of a source, one after the other.
-use Rattle.std.proofs.Common.{◌≡◌, ℕ, List, [], ◌∷◌, ◌++◌, Option, Some, None, IfSome, Ok, Err, length, append-nil, length-append, refl, sym, ap, subst, ◌∙◌, arith}
+use Rattle.std.proofs.Common.{◌≡◌, ℕ, List, [], ◌∷◌, ◌++◌, Option, Some, None, IfSome, Ok, Err, length, append-nil, append_assoc, length-append, refl, sym, ap, ap₂, subst, ◌∙◌, arith}
 use Rattle.std.specs.Io.KnownBytes.{prepend_known, Keeps, Consumes, IsAtEnd}
 use Rattle.std.proofs.KnownBytes.{Consumes-nil, Consumes-trans, prepend_known-nil}
 use Rattle.base.specs.declared.pen.Pen.{Pen}
@@ -11,21 +11,101 @@ use Rattle.witness.specs.Texts.{Shape, shape_of}
 use Rattle.witness.specs.Readings.{Reading, next_line, lines_behind, so_far}
 use Rattle.witness.specs.Admits.{Read, nothing_read, word_reader}
 use Rattle.witness.proofs.TextEndLemmas.{lines_behind_text, whole_lines-part}
+use Rattle.base.proofs.LineLemmas.{parts_of_text, whole_lines-line, whole_lines-last, unfinished-line, unfinished-last, unfinished-lines}
+use Rattle.spread.specs.declared.spreader.Part.{Part}
+use Rattle.spread.specs.declared.spreader.Part.TheVariants as part
+use Rattle.spread.specs.Made.{lines_made, text_made, source_made}
 use Rattle.base.specs.Device.{BeginsWith}
 use Rattle.rejoin.specs.Pieces.{cut_shape}
 use Rattle.spread.proofs.GivingLemmas.{lines_by-both, text_of_both}
 use Rattle.rejoin.specs.declared.fault.UnfitFault.{UnfitFault}
 use Rattle.spread.specs.Spread.{IsShort, spread_text, lines_by, admitted_line}
-use Rattle.spread.specs.Stands.{Spreader, IsWideShape, StandsFor, EndsFor, Takes, TakesAll}
+use Rattle.spread.specs.Stands.{Spreader, part_behind, IsWideShape, StandsFor, EndsFor, Takes, TakesAll}
 
--- a front of what a source gives was taken
-pub record Followed {K : Type 0} (written : K → Option (List ℕ)) (failures : K → ℕ) (s t : K) (p q : Pen) (before after : Spreader) (known now : Option (List ℕ)) : Type 0 where
+-- the part that is open behind some lines
+abbrev pub part_after : Part → List (List ℕ) → Part
+part_after p [] = p
+part_after p (line ∷ lines) = part_after (part_behind p line) lines
+
+-- what the lines of a front of what a source gives become was taken
+pub record Followed {K : Type 0} (written : K → Option (List ℕ)) (failures : K → ℕ) (make : Part → List ℕ → List ℕ) (open' : Part) (s t : K) (p q : Pen) (before after : Spreader) (known now : Option (List ℕ)) : Type 0 where
   pub front : List ℕ
   pub consumes : Consumes known now front
+  pub ended : unfinished front ≡ []
+  pub is_open : open' ≡ part_after part.Outside (whole_lines front)
   pub out : List ℕ
   pub writes : WritesText written failures s t p q out
   pub takes :
-      (shape : Shape) (narrow : List Item) → IsWideShape shape → shape_of narrow ≡ cut_shape shape → IsShort front → StandsFor shape narrow before [] → StandsFor shape narrow after front × (out ≡ spread_text shape front)
+      (shape : Shape) (narrow : List Item) → IsWideShape shape → shape_of narrow ≡ cut_shape shape → IsShort (text_made make front) → StandsFor shape narrow before [] → StandsFor shape narrow after (text_made make front) × (out ≡ spread_text shape (text_made make front))
+
+-- ---- what lines become
+
+made-both : (make : Part → List ℕ → List ℕ) (p : Part) (front back : List (List ℕ)) → lines_made make p (front ++ back) ≡ lines_made make p front ++ lines_made make (part_after p front) back
+made-both make p [] back = refl
+made-both make p (line ∷ front) back = ap (λ (ls : List (List ℕ)). make p line ∷ ls) (made-both make (part_behind p line) front back)
+
+after-both : (p : Part) (front back : List (List ℕ)) → part_after p (front ++ back) ≡ part_after (part_after p front) back
+after-both p [] back = refl
+after-both p (line ∷ front) back = after-both (part_behind p line) front back
+
+-- lines that stay as they are are those of the text
+as_they_are : (p : Part) (lines : List (List ℕ)) → lines_made (λ p line. line) p lines ≡ lines
+as_they_are p [] = refl
+as_they_are p (line ∷ lines) = ap (λ (ls : List (List ℕ)). line ∷ ls) (as_they_are (part_behind p line) lines)
+
+pub same_text : (text : List ℕ) → text_made (λ p line. line) text ≡ text
+same_text text = ap (λ (ls : List (List ℕ)). text_of_lines ls ++ unfinished text) (as_they_are part.Outside (whole_lines text)) ∙ parts_of_text text
+
+pub same_source : (source : Option (List ℕ)) → source_made (λ p line. line) source ≡ source
+same_source None = refl
+same_source (Some text) = ap Some (same_text text)
+
+-- what a text behind whole lines becomes stands behind what they become
+module _ (make : Part → List ℕ → List ℕ) (front behind : List ℕ) (ended : unfinished front ≡ []) where
+  abbrev open_behind : Part
+  open_behind = part_after part.Outside (whole_lines front)
+
+  whole_behind : whole_lines (front ++ behind) ≡ whole_lines front ++ whole_lines behind
+  whole_behind = lines_behind_text front behind ∙ ap (λ (l : List ℕ). whole_lines front ++ whole_lines (l ++ behind)) ended
+
+  whole_front : text_of_lines (whole_lines front) ≡ front
+  whole_front = sym (append-nil _) ∙ (ap (λ (l : List ℕ). text_of_lines (whole_lines front) ++ l) (sym ended) ∙ parts_of_text front)
+
+  rest_behind : unfinished (front ++ behind) ≡ unfinished behind
+  rest_behind = ap (λ (l : List ℕ). unfinished (l ++ behind)) (sym whole_front) ∙ unfinished-lines (whole_lines front) behind
+
+  alone : text_made make front ≡ text_of_lines (lines_made make part.Outside (whole_lines front))
+  alone = ap (λ (l : List ℕ). text_of_lines (lines_made make part.Outside (whole_lines front)) ++ l) ended ∙ append-nil _
+
+  pub made_behind : text_made make (front ++ behind) ≡ text_made make front ++ (text_of_lines (lines_made make open_behind (whole_lines behind)) ++ unfinished behind)
+  made_behind =
+      ap₂ (λ (ls : List (List ℕ)) (l : List ℕ). text_of_lines (lines_made make part.Outside ls) ++ l) whole_behind rest_behind
+      ∙ (ap (λ (ls : List (List ℕ)). text_of_lines ls ++ unfinished behind) (made-both make part.Outside (whole_lines front) (whole_lines behind))
+      ∙ (ap (λ (l : List ℕ). l ++ unfinished behind) (text_of_both (lines_made make part.Outside (whole_lines front)) (lines_made make open_behind (whole_lines behind)))
+      ∙ (append_assoc (text_of_lines (lines_made make part.Outside (whole_lines front))) (text_of_lines (lines_made make open_behind (whole_lines behind))) (unfinished behind)
+      ∙ ap (λ (l : List ℕ). l ++ (text_of_lines (lines_made make open_behind (whole_lines behind)) ++ unfinished behind)) (sym alone))))
+
+  pub open_after : part_after part.Outside (whole_lines (front ++ behind)) ≡ part_after open_behind (whole_lines behind)
+  open_after = ap (part_after part.Outside) whole_behind ∙ after-both part.Outside (whole_lines front) (whole_lines behind)
+
+-- a line, and what stands behind the last
+one_line : (line : List ℕ) → IsLine line → whole_lines (line ++ 10 ∷ []) ≡ line ∷ []
+one_line line is = whole_lines-line line [] is
+
+made_line : (make : Part → List ℕ → List ℕ) (front line : List ℕ) → unfinished front ≡ [] → IsLine line
+    → text_made make (front ++ (line ++ 10 ∷ [])) ≡ text_made make front ++ (make (part_after part.Outside (whole_lines front)) line ++ 10 ∷ [])
+made_line make front line ended is =
+    made_behind make front (line ++ 10 ∷ []) ended
+    ∙ ap (λ (l : List ℕ). text_made make front ++ l)
+    (ap₂ (λ (ls : List (List ℕ)) (l : List ℕ). text_of_lines (lines_made make (part_after part.Outside (whole_lines front)) ls) ++ l) (one_line line is) (unfinished-line line [])
+    ∙ (append-nil _ ∙ append-nil _))
+
+made_rest : (make : Part → List ℕ → List ℕ) (front rest : List ℕ) → unfinished front ≡ [] → IsLine rest → text_made make (front ++ rest) ≡ text_made make front ++ rest
+made_rest make front rest ended is =
+    made_behind make front rest ended
+    ∙ ap (λ (l : List ℕ). text_made make front ++ l) (ap₂ (λ (ls : List (List ℕ)) (l : List ℕ). text_of_lines (lines_made make (part_after part.Outside (whole_lines front)) ls) ++ l) (whole_lines-last rest is) (unfinished-last rest is))
+
+-- ---- the lines of a source
 
 nothing_spread : (shape : Shape) → spread_text shape [] ≡ []
 unfolding spread_text
@@ -51,31 +131,40 @@ spread_front shape front behind =
           ∙ (ap text_of_lines (lines_by-both shape going (so_far 0 nothing_read) (whole_lines front) (whole_lines (unfinished front ++ behind))) ∙ text_of_both (lines_by shape going (so_far 0 nothing_read) (whole_lines front)) others),
     )
 
-module _ {K : Type 0} {written : K → Option (List ℕ)} {failures : K → ℕ} where
-  pub follows_none : {s : K} {p : Pen} {a : Spreader} (known : Option (List ℕ)) → Followed written failures s s p p a a known (prepend_known [] known)
+module _ {K : Type 0} {written : K → Option (List ℕ)} {failures : K → ℕ} {make : Part → List ℕ → List ℕ} where
+  pub follows_none : {s : K} {p : Pen} {a : Spreader} (known : Option (List ℕ)) → Followed written failures make part.Outside s s p p a a known (prepend_known [] known)
   follows_none known = record {
     front = [];
     consumes = subst (λ (now : Option (List ℕ)). Consumes known now []) (sym (prepend_known-nil known)) (Consumes-nil known);
+    ended = refl;
+    is_open = refl;
     out = [];
     writes = writes_none;
     takes = λ shape narrow good cut short h. (h, sym (nothing_spread shape));
   }
 
-  pub follows_line : {s t u : K} {p q r : Pen} {a b c : Spreader} {known now then' : Option (List ℕ)} {line : List ℕ} → Followed written failures s t p q a b known now → Consumes now then' (line ++ 10 ∷ []) → Takes written failures t u q r b c line
-      → Followed written failures s u p r a c known then'
-  follows_line {known = known} {now = now} {then' = then'} {line = line} so took takes = record {
-    front = so.front ++ (line ++ 10 ∷ []);
-    consumes = Consumes-trans known now then' so.front (line ++ 10 ∷ []) so.consumes took;
-    out = so.out ++ takes.out;
-    writes = writes_then so.writes takes.writes;
-    takes = λ shape narrow good cut short h.
-        let first = so.takes shape narrow good cut (short_front so.front (line ++ 10 ∷ []) short) h in
-        let next = takes.takes shape narrow so.front good cut short first.0 in
-        (next.0, ap (λ (l : List ℕ). l ++ takes.out) first.1 ∙ sym next.1);
-  }
+  pub follows_line : {s t u : K} {p q r : Pen} {a b c : Spreader} {known now then' : Option (List ℕ)} {open' : Part} {line : List ℕ} → Followed written failures make open' s t p q a b known now → IsLine line → Consumes now then' (line ++ 10 ∷ []) → Takes written failures t u q r b c (make open' line)
+      → Followed written failures make (part_behind open' line) s u p r a c known then'
+  follows_line {a = a} {c = c} {known = known} {now = now} {then' = then'} {open' = open'} {line = line} so is took takes =
+      let made : text_made make (so.front ++ (line ++ 10 ∷ [])) ≡ text_made make so.front ++ (make open' line ++ 10 ∷ []) =
+      made_line make so.front line so.ended is ∙ ap (λ (p : Part). text_made make so.front ++ (make p line ++ 10 ∷ [])) (sym so.is_open) in
+      record {
+        front = so.front ++ (line ++ 10 ∷ []);
+        consumes = Consumes-trans known now then' so.front (line ++ 10 ∷ []) so.consumes took;
+        ended = rest_behind make so.front (line ++ 10 ∷ []) so.ended ∙ unfinished-line line [];
+        is_open = ap (λ (p : Part). part_behind p line) so.is_open ∙ sym (open_after make so.front (line ++ 10 ∷ []) so.ended ∙ ap (part_after (part_after part.Outside (whole_lines so.front))) (one_line line is));
+        out = so.out ++ takes.out;
+        writes = writes_then so.writes takes.writes;
+        takes = λ shape narrow good cut.
+            subst (λ (text : List ℕ). IsShort text → StandsFor shape narrow a [] → StandsFor shape narrow c text × (so.out ++ takes.out ≡ spread_text shape text)) (sym made)
+            (λ short h.
+            let first = so.takes shape narrow good cut (short_front (text_made make so.front) (make open' line ++ 10 ∷ []) short) h in
+            let next = takes.takes shape narrow (text_made make so.front) good cut short first.0 in
+            (next.0, ap (λ (l : List ℕ). l ++ takes.out) first.1 ∙ sym next.1));
+      }
 
-  pub follows_all : {s t : K} {p q : Pen} {a b c : Spreader} (known now left : Option (List ℕ)) (rest : List ℕ) → Followed written failures s t p q a b known now → Keeps now (prepend_known rest left) → IsAtEnd left → IsLine rest
-      → ((shape : Shape) (narrow : List Item) (text : List ℕ) → IsLine rest → StandsFor shape narrow b text → EndsFor shape narrow c (text ++ rest)) → TakesAll {E = UnfitFault} (Ok tt) written failures s t p q a c known
+  pub follows_all : {s t : K} {p q : Pen} {a b c : Spreader} {open' : Part} (known now left : Option (List ℕ)) (rest : List ℕ) → Followed written failures make open' s t p q a b known now → Keeps now (prepend_known rest left) → IsAtEnd left → IsLine rest
+      → ((shape : Shape) (narrow : List Item) (text : List ℕ) → IsLine rest → StandsFor shape narrow b text → EndsFor shape narrow c (text ++ rest)) → TakesAll {E = UnfitFault} (Ok tt) written failures s t p q a c (source_made make known)
   follows_all {a = a} {c = c} known now left rest so kept end' is ends = record {
     out = so.out;
     writes = so.writes;
@@ -84,27 +173,28 @@ module _ {K : Type 0} {written : K → Option (List ℕ)} {failures : K → ℕ}
   }
     where
       by : (shape : Shape) (narrow : List Item) → IsWideShape shape → shape_of narrow ≡ cut_shape shape → StandsFor shape narrow a [] → (known now left : Option (List ℕ)) → Consumes known now so.front → Keeps now (prepend_known rest left) → IsAtEnd left
-          → IfSome known (λ text. IsShort text → EndsFor shape narrow c text × (so.out ≡ spread_text shape text))
+          → IfSome (source_made make known) (λ text. IsShort text → EndsFor shape narrow c text × (so.out ≡ spread_text shape text))
       by shape narrow good cut h None now left consumes kept end' = tt
       by shape narrow good cut h (Some text) None left consumes kept end' = absurd consumes
       by shape narrow good cut h (Some text) (Some behind) None consumes kept end' = absurd kept
       by shape narrow good cut h (Some text) (Some behind) (Some none) consumes kept end' =
           let whole : text ≡ so.front ++ rest = consumes ∙ ap (λ (l : List ℕ). so.front ++ l) (sym kept ∙ (ap (λ (l : List ℕ). rest ++ l) end' ∙ append-nil rest)) in
-          subst (λ (t : List ℕ). IsShort t → EndsFor shape narrow c t × (so.out ≡ spread_text shape t)) (sym whole)
+          subst (λ (t : List ℕ). IsShort t → EndsFor shape narrow c t × (so.out ≡ spread_text shape t)) (sym (ap (text_made make) whole ∙ made_rest make so.front rest so.ended is))
           (λ short.
-          let took = so.takes shape narrow good cut (short_front so.front rest short) h in
-          (ends shape narrow so.front is took.0, took.1 ∙ sym (same_spread shape so.front rest is)))
+          let took = so.takes shape narrow good cut (short_front (text_made make so.front) rest short) h in
+          (ends shape narrow (text_made make so.front) is took.0, took.1 ∙ sym (same_spread shape (text_made make so.front) rest is)))
 
   -- where it is not to its end
-  pub follows_fault : {E : Type 0} {s t : K} {p q : Pen} {a b c : Spreader} (known now : Option (List ℕ)) (e : E) → Followed written failures s t p q a b known now → TakesAll (Err e) written failures s t p q a c known
+  pub follows_fault : {E : Type 0} {s t : K} {p q : Pen} {a b c : Spreader} {open' : Part} (known now : Option (List ℕ)) (e : E) → Followed written failures make open' s t p q a b known now → TakesAll (Err e) written failures s t p q a c (source_made make known)
   follows_fault {a = a} known now e so = record { out = so.out; writes = so.writes; ends = tt; stops = λ shape narrow good cut h. by shape narrow good cut h known now so.consumes }
     where
-      by : (shape : Shape) (narrow : List Item) → IsWideShape shape → shape_of narrow ≡ cut_shape shape → StandsFor shape narrow a [] → (known now : Option (List ℕ)) → Consumes known now so.front → IfSome known (λ text. IsShort text → BeginsWith (spread_text shape text) so.out)
+      by : (shape : Shape) (narrow : List Item) → IsWideShape shape → shape_of narrow ≡ cut_shape shape → StandsFor shape narrow a [] → (known now : Option (List ℕ)) → Consumes known now so.front → IfSome (source_made make known) (λ text. IsShort text → BeginsWith (spread_text shape text) so.out)
       by shape narrow good cut h None now consumes = tt
       by shape narrow good cut h (Some text) None consumes = absurd consumes
       by shape narrow good cut h (Some text) (Some behind) consumes =
-          subst (λ (t : List ℕ). IsShort t → BeginsWith (spread_text shape t) so.out) (sym consumes)
+          subst (λ (t : List ℕ). IsShort t → BeginsWith (spread_text shape t) so.out) (sym (ap (text_made make) consumes ∙ made_behind make so.front behind so.ended))
           (λ short.
-          let took = so.takes shape narrow good cut (short_front so.front behind short) h in
-          let more = spread_front shape so.front behind in
+          let others : List ℕ = text_of_lines (lines_made make (part_after part.Outside (whole_lines so.front)) (whole_lines behind)) ++ unfinished behind in
+          let took = so.takes shape narrow good cut (short_front (text_made make so.front) others short) h in
+          let more = spread_front shape (text_made make so.front) others in
           (more.0, ap (λ (l : List ℕ). l ++ more.0) took.1 ∙ sym more.1))

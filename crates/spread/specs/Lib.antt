@@ -3,5 +3,6 @@ pub mod Spread
 pub mod Passing
 pub mod Words
 pub mod Stands
+pub mod Made
 pub mod Answers
 pub mod Worked

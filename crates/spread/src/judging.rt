@@ -7,8 +7,10 @@ ghost use Rattle.witness.specs.Answers.{AnswersJudge, CountsJudge, NamesState};
 ghost use Rattle.witness.specs.Judgements.{Judges};
 ghost use Rattle.spread.specs.Answers.{IsOfFitted};
 ghost use Rattle.spread.specs.Spread.{IsShort};
+ghost use Rattle.spread.specs.Made.{source_made};
 
-use crate::spreading::spread;
+use crate::making::{AsTheyAre, Lines};
+use crate::spreading::spread_by;
 use base::{DeviceFault, Sink, Source};
 use btor2::Model;
 use rejoin::{Shape, UnfitFault};
@@ -24,6 +26,38 @@ impl Sink for Nowhere {
 
     fn write(&mut self, bytes: &[u8]) -> Result<usize, DeviceFault> {
         Ok(bytes.len())
+    }
+}
+
+/// Judges, as `judge_spread` does, the text that the lines of a source become. Beside what that holds, it holds what the last line
+/// became.
+///
+/// Conditions and errors: those of `judge_spread`, of the text that the lines become. `NoMemory` also where there is none for a line.
+pub fn judge_spread_by<S: Source, L: Lines>(
+    alloc: Global,
+    shape: &Shape,
+    narrow: &Model,
+    source: &mut S,
+    lines: &L,
+) -> Result<Judgement, JudgeFault>
+    requires fitted { (wide : List Item) × IsOfFitted shape.now narrow.now wide }
+    // the judgement is that of the whole text over the model
+    ensures judged { (wide : List Item) → IsOfFitted shape.now narrow.now wide
+        → IfOk result (λ judgement. IfSome (source_made (L.becomes lines.now) (S.to_come source.old))
+        (λ text. IsShort text → Judges wide text judgement)) }
+    // a state with an init and no next is named exactly where there is one, the first
+    ensures answer { AnswersJudge result (first_init_without_next narrow.now narrow.now) }
+    ensures unread { IfErr result (λ e. NamesState e → source.new ≡ source.old) }
+    ensures end { OnOk result (IsAtEnd (S.to_come source.new)) }
+    // the source failed once where a device's fault is answered, and else not at all
+    ensures counted { CountsJudge result (S.failures source.old) (S.failures source.new) }
+{
+    match spread_by(alloc, shape, narrow, source, &mut Nowhere, lines) {
+        Ok(judgement) => Ok(judgement),
+        Err(UnfitFault::Read) => Err(JudgeFault::Device),
+        Err(UnfitFault::NoMemory) => Err(JudgeFault::NoMemory),
+        Err(UnfitFault::NoNext(id)) => Err(JudgeFault::NoNext(id)),
+        Err(UnfitFault::Write) => unreachable!(),
     }
 }
 
@@ -53,11 +87,5 @@ pub fn judge_spread<S: Source>(
     // the source failed once where a device's fault is answered, and else not at all
     ensures counted { CountsJudge result (S.failures source.old) (S.failures source.new) }
 {
-    match spread(alloc, shape, narrow, source, &mut Nowhere) {
-        Ok(judgement) => Ok(judgement),
-        Err(UnfitFault::Read) => Err(JudgeFault::Device),
-        Err(UnfitFault::NoMemory) => Err(JudgeFault::NoMemory),
-        Err(UnfitFault::NoNext(id)) => Err(JudgeFault::NoNext(id)),
-        Err(UnfitFault::Write) => unreachable!(),
-    }
+    judge_spread_by(alloc, shape, narrow, source, &AsTheyAre)
 }

@@ -5,10 +5,12 @@ mod assigned;
 mod giving;
 mod judging;
 pub mod laws;
+mod making;
 mod spreader;
 mod spreading;
 mod words;
 
-pub use judging::judge_spread;
+pub use judging::{judge_spread, judge_spread_by};
+pub use making::Lines;
 pub use spreader::Part;
-pub use spreading::spread;
+pub use spreading::{spread, spread_by};

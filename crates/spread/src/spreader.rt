@@ -43,7 +43,7 @@ fn begins_part(line: &[u8]) -> bool
 }
 
 /// The part that is open behind an admitted line.
-fn part_behind(part: Part, line: &[u8]) -> Part
+pub(crate) fn part_behind(part: Part, line: &[u8]) -> Part
     ensures { result ≡ part_behind part line.now }
 {
     match line {
