@@ -24,11 +24,11 @@ use Rattle.spread.proofs.WidthLemmas.{HaveBits}
 abbrev HasSort : (Body → Bool) → Type 0
 HasSort kind = (b : Body) → kind b ≡ true → (s : ℕ) × ((node_sort b ≡ Some s) × (named_sort b ≡ Some s))
 
-states_have_sort : HasSort is_state
+pub states_have_sort : HasSort is_state
 states_have_sort (body.State s) h = (s, (refl, refl))
 states_have_sort _ h = absurd cc
 
-inputs_have_sort : HasSort is_input
+pub inputs_have_sort : HasSort is_input
 inputs_have_sort (body.Input s) h = (s, (refl, refl))
 inputs_have_sort _ h = absurd cc
 
@@ -61,7 +61,7 @@ leaf_range before after x s names named w =
     let range = sort_range greatest_width whole s sort.0 w width in
     (omega (arith, is, range.0), omega (arith, is, range.1))
 
-leaves_range : (kind : Body → Bool) → HasSort kind → (items before xs : List Item) → items ≡ before ++ xs → IsWideModel greatest_width items → HaveBits (map (λ x. bits_of items x.id) (filter (λ x. kind x.body) xs))
+pub leaves_range : (kind : Body → Bool) → HasSort kind → (items before xs : List Item) → items ≡ before ++ xs → IsWideModel greatest_width items → HaveBits (map (λ x. bits_of items x.id) (filter (λ x. kind x.body) xs))
 leaves_range kind has items before [] is w = tt
 leaves_range kind has items before (x ∷ xs) is w =
     let rest = leaves_range kind has items (before ++ x ∷ []) xs (is ∙ sym (append_assoc before (x ∷ []) xs)) w in
