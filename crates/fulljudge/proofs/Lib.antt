@@ -16,3 +16,4 @@ pub mod TextLemmas
 pub mod AddressLemmas
 pub mod ValuesLemmas
 pub mod WordLineLemmas
+pub mod JudgeLemmas
