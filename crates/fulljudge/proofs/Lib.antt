@@ -17,3 +17,4 @@ pub mod AddressLemmas
 pub mod ValuesLemmas
 pub mod WordLineLemmas
 pub mod CellsLemmas
+pub mod JudgeLemmas

@@ -101,7 +101,7 @@ word_line_is_line : (sorts : List Sort) (line : List ℕ) → IsCounted sorts �
 unfolding word_line
 word_line_is_line sorts line few is = by_index_is_line sorts (number_of (cut_at_space line).0) (cut_at_space line).1 few (cut_lines line is)
 
-in_is_line : (sorts : List Sort) (line : List ℕ) → IsCounted sorts → IsLine line → IsLine (line_in sorts line)
+pub in_is_line : (sorts : List Sort) (line : List ℕ) → IsCounted sorts → IsLine line → IsLine (line_in sorts line)
 in_is_line sorts line few is = by (begins_part line)
   where
     by : (b : Bool) → IsLine (cond b line (word_line sorts line))
@@ -113,7 +113,7 @@ pub record AreCounted (shape : FullShape) : Type 0 where
   pub states : IsCounted shape.states
   pub inputs : IsCounted shape.inputs
 
-in_part_is_line : (shape : FullShape) (p : Part) (line : List ℕ) → AreCounted shape → IsLine line → IsLine (line_in_part shape p line)
+pub in_part_is_line : (shape : FullShape) (p : Part) (line : List ℕ) → AreCounted shape → IsLine line → IsLine (line_in_part shape p line)
 in_part_is_line shape part.Outside line few is = is
 in_part_is_line shape part.States line few is = in_is_line shape.states line few.states is
 in_part_is_line shape part.Inputs line few is = in_is_line shape.inputs line few.inputs is
@@ -121,6 +121,19 @@ in_part_is_line shape part.Inputs line few is = in_is_line shape.inputs line few
 words_are_lines : (shape : FullShape) (p : Part) (lines : List (List ℕ)) → AreCounted shape → EachLine lines → EachLine (lines_of_words shape p lines)
 words_are_lines shape p [] few each = tt
 words_are_lines shape p (line ∷ lines) few each = (in_part_is_line shape p line few each.0, words_are_lines shape (part_behind p line) lines few each.1)
+
+-- the whole lines of the text of words, and what stands behind them
+module _ (shape : FullShape) (few : AreCounted shape) (text : List ℕ) where
+  abbrev words_of_text : List (List ℕ)
+  words_of_text = lines_of_words shape part.Outside (whole_lines text)
+
+  pub words_lines : whole_lines (words_text shape text) ≡ words_of_text
+  words_lines =
+      whole_lines-lines words_of_text (unfinished text) (words_are_lines shape part.Outside (whole_lines text) few (lines_are_lines text))
+      ∙ (ap (λ (ls : List (List ℕ)). words_of_text ++ ls) (whole_lines-last (unfinished text) (unfinished_is_line text)) ∙ append-nil words_of_text)
+
+  words_rest : unfinished (words_text shape text) ≡ unfinished text
+  words_rest = unfinished-lines words_of_text (unfinished text) ∙ unfinished-last (unfinished text) (unfinished_is_line text)
 
 -- ---- which part is open
 
@@ -221,14 +234,6 @@ module _ (shape : FullShape) (few : AreCounted shape) (bads : shape.bads < 2 ^ 6
     abbrev of_words : List (List ℕ)
     of_words = lines_of_words shape part.Outside (whole_lines text)
 
-    pub words_lines : whole_lines (words_text shape text) ≡ of_words
-    words_lines =
-        whole_lines-lines of_words (unfinished text) (words_are_lines shape part.Outside (whole_lines text) few (lines_are_lines text))
-        ∙ (ap (λ (ls : List (List ℕ)). of_words ++ ls) (whole_lines-last (unfinished text) (unfinished_is_line text)) ∙ append-nil of_words)
-
-    words_rest : unfinished (words_text shape text) ≡ unfinished text
-    words_rest = unfinished-lines of_words (unfinished text) ∙ unfinished-last (unfinished text) (unfinished_is_line text)
-
     all_alike : (over : Shape) → AdmitsWords shape over → lines_behind (word_reader over) (so_far 0 nothing_read) of_words ≡ lines_behind (full_reader shape) (so_far 0 nothing_read) (whole_lines text)
     all_alike over admits = lines_alike over (so_far 0 nothing_read) part.Outside (whole_lines text) (λ e. refl) admits
 
@@ -236,9 +241,9 @@ module _ (shape : FullShape) (few : AreCounted shape) (bads : shape.bads < 2 ^ 6
     pub reads_alike : (over : Shape) → AdmitsWords shape over → text_read (word_reader over) (words_text shape text) ≡ text_read (full_reader shape) text
     unfolding reading
     reads_alike over admits =
-        ap (λ (ls : List (List ℕ)). read_or_fault (λ r. is_at_end r.place) (lines_read (word_reader over) ls) (unfinished (words_text shape text)) (lines_read (word_reader over) ls).refused) words_lines
+        ap (λ (ls : List (List ℕ)). read_or_fault (λ r. is_at_end r.place) (lines_read (word_reader over) ls) (unfinished (words_text shape text)) (lines_read (word_reader over) ls).refused) (words_lines shape few text)
         ∙ (ap (λ (g : Reading Read). read_or_fault (λ r. is_at_end r.place) g (unfinished (words_text shape text)) g.refused) (all_alike over admits)
-        ∙ ap (λ (l : List ℕ). read_or_fault (λ r. is_at_end r.place) (lines_read (full_reader shape) (whole_lines text)) l (lines_read (full_reader shape) (whole_lines text)).refused) words_rest)
+        ∙ ap (λ (l : List ℕ). read_or_fault (λ r. is_at_end r.place) (lines_read (full_reader shape) (whole_lines text)) l (lines_read (full_reader shape) (whole_lines text)).refused) (words_rest shape few text))
 
 -- ---- whether there is a claim
 
@@ -255,4 +260,4 @@ claims_go shape n (line ∷ lines) = by (is_comment line) refl (claims_go shape 
     by false e rest = rw e refl
 
 pub claims_alike : (shape : FullShape) (text : List ℕ) → AreCounted shape → shape.bads < 2 ^ 64 → makes_no_claim 0 (whole_lines (words_text shape text)) ≡ makes_no_claim 0 (whole_lines text)
-claims_alike shape text few bads = ap (makes_no_claim 0) (words_lines shape few bads text) ∙ claims_go shape 0 (whole_lines text)
+claims_alike shape text few bads = ap (makes_no_claim 0) (words_lines shape few text) ∙ claims_go shape 0 (whole_lines text)

@@ -1,9 +1,10 @@
 -- What is kept of the sorts of a model's states, or of its inputs.
-use Rattle.std.proofs.Common.{◌≡◌, ℕ, ◌+◌, ◌*◌, ◌<◌, ◌≤◌, ◌^◌, ◌⊎◌, zero, suc, Bool, true, false, nat_le, cond, List, [], ◌∷◌, ◌++◌, Option, Some, None, length, map, filter, flat_map, take, get_or, slice_get, inl, inr, refl, sym, ap, subst, ◌∙◌, arith, append_assoc, length-append}
+use Rattle.std.proofs.Common.{◌≡◌, ℕ, ◌+◌, ◌*◌, ◌<◌, ◌≤◌, ◌^◌, ◌⊎◌, zero, suc, Bool, true, false, nat_le, cond, List, [], ◌∷◌, ◌++◌, Option, Some, None, option_map, length, map, filter, flat_map, take, get_or, slice_get, inl, inr, refl, sym, ap, subst, ◌∙◌, arith, append_assoc, length-append}
 use Rattle.std.proofs.Math.Pow.{pow_mono}
 use Rattle.std.proofs.Math.Nat.{mul-le-mul_left}
 use Rattle.std.proofs.lemmas.Bool.{cases_lt}
-use Rattle.std.proofs.lemmas.Option.{none-some, same_Some}
+use Rattle.std.proofs.lemmas.Option.{none-some, same_Some, slice_get-map, slice_get-get_or}
+use Rattle.fulljudge.proofs.TextLemmas.{first_within}
 use Rattle.std.proofs.lemmas.List.{length-replicate, map-append, take_more}
 use Rattle.std.proofs.lemmas.List.Elements.{filter-append}
 use Rattle.std.proofs.lemmas.Grind.{common_steps}
@@ -63,6 +64,12 @@ kept_more list count more v h first is few =
       all = subst (λ (l : List Sort). count + more ≡ words_in l) (sym grown) (omega (arith, words_more (map sort_kept list) (sort_kept v), h.all, is));
       few = few;
     }
+
+-- the words of each can be counted
+pub count_small : (list : List Value) (count i : ℕ) (d : Value) → AreKept list count → i < length list → word_count (sort_kept (get_or list i d)) < 2 ^ 64
+count_small list count i d h less =
+    let there : slice_get (map sort_kept list) i ≡ Some (sort_kept (get_or list i d)) = slice_get-map sort_kept list i ∙ ap (option_map sort_kept) (slice_get-get_or list i d less) in
+    omega (arith, first_within (map sort_kept list) i (sort_kept (get_or list i d)) there, h.all, h.few)
 
 -- ---- lines of a model
 

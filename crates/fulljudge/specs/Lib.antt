@@ -6,3 +6,4 @@ pub mod Judgements
 pub mod Written
 pub mod Cells
 pub mod Kept
+pub mod Judged

@@ -8,10 +8,9 @@ use Rattle.full.specs.Lines.{Sort, words, arrays}
 use Rattle.witness.specs.Texts.{symbol_part}
 use Rattle.witness.specs.Readings.{Reader}
 use Rattle.witness.specs.Admits.{Place, InStates, InFrame, Read, nothing_read, admit, begins_part, cut_at_space, is_at_end, is_bit}
-use Rattle.base.specs.Lines.{text_of_lines, unfinished, whole_lines}
 use Rattle.spread.specs.declared.spreader.Part.{Part}
 use Rattle.spread.specs.declared.spreader.Part.TheVariants as part
-use Rattle.spread.specs.Stands.{part_behind}
+use Rattle.spread.specs.Made.{lines_made, text_made}
 use Rattle.fulljudge.specs.Shapes.{FullShape, first_index, word_shape}
 
 -- the bytes between brackets, where a token begins with the one and ends with the other, given from its end
@@ -71,17 +70,19 @@ full_reader shape = record { nothing = nothing_read; admit = λ r line. admit (w
 
 -- ---- the text of words
 
--- a line where a part is open
+-- a line where a part is open, by the sorts of the states and of the inputs
+abbrev pub line_by_part : List Sort → List Sort → Part → List ℕ → List ℕ
+line_by_part states inputs part.Outside line = line
+line_by_part states inputs part.States line = line_in states line
+line_by_part states inputs part.Inputs line = line_in inputs line
+
 abbrev pub line_in_part : FullShape → Part → List ℕ → List ℕ
-line_in_part shape part.Outside line = line
-line_in_part shape part.States line = line_in shape.states line
-line_in_part shape part.Inputs line = line_in shape.inputs line
+line_in_part shape p line = line_by_part shape.states shape.inputs p line
 
 -- some lines, where a part is open before the first
 abbrev pub lines_of_words : FullShape → Part → List (List ℕ) → List (List ℕ)
-lines_of_words shape p [] = []
-lines_of_words shape p (line ∷ lines) = line_in_part shape p line ∷ lines_of_words shape (part_behind p line) lines
+lines_of_words shape p lines = lines_made (line_in_part shape) p lines
 
 -- the text that says with words what a text says with values
 abbrev pub words_text : FullShape → List ℕ → List ℕ
-words_text shape text = text_of_lines (lines_of_words shape part.Outside (whole_lines text)) ++ unfinished text
+words_text shape text = text_made (line_in_part shape) text

@@ -2,8 +2,10 @@
 #![tactic(auto)]
 
 mod addresses;
+mod judging;
 pub mod laws;
 mod values;
 mod word_lines;
 
+pub use judging::judge_full;
 pub use values::Values;

@@ -2,7 +2,7 @@
 ghost use Rattle.std.specs.Prelude.{◌≡◌, ◌+◌, ◌<◌, ◌≤◌, ◌^◌, [], ◌∷◌, ◌++◌, None, Some, true, false, slice_get, IfOk, OnOk, MatchOption};
 ghost use Rattle.btor2.specs.Items.{node_sort};
 ghost use Rattle.fullmodel.specs.Lines.{sort_value, line_of};
-ghost use Rattle.fulljudge.specs.Shapes.{full_shape, word_count, first_index};
+ghost use Rattle.fulljudge.specs.Shapes.{full_shape, word_count, first_index, value_of_word};
 ghost use Rattle.fulljudge.specs.Kept.{words_in, kind_of, sorts_among};
 
 use btor2::Body;
@@ -135,6 +135,31 @@ impl Values {
         ensures { IfOk result (λ v. v ≡ (full_shape model.now).inputs) }
     {
         Values::of_kind(alloc, model, Kind::Inputs)
+    }
+
+    /// How many words there are by which all values are told.
+    pub fn words(&self) -> u64
+        ensures { result ≡ words_in self.now }
+    {
+        let _ = &self.list;
+        self.words
+    }
+
+    /// The index of the value that a word is of.
+    pub(crate) fn value_of_word(&self, word: u64) -> u64
+        ensures { result ≡ value_of_word self.now word }
+    {
+        let mut left = word;
+        let mut index = 0;
+        for value in &self.list {
+            let count = word_count(value.sort);
+            if left < count {
+                return index;
+            }
+            left -= count;
+            index += 1;
+        }
+        index
     }
 
     /// The value with an index.

@@ -1,5 +1,5 @@
 //! Lines that tell values, as lines of the words by which values are told.
-ghost use Rattle.std.specs.Prelude.{◌≡◌, ℕ, ◌+◌, ◌<◌, ◌^◌, List, Option, [], ◌++◌, None, Some, decimal, slice_get, OnOk, MatchOption};
+ghost use Rattle.std.specs.Prelude.{◌≡◌, ℕ, ◌+◌, ◌<◌, ◌^◌, List, Option, [], ◌++◌, None, Some, decimal, OnOk, MatchOption};
 ghost use Rattle.fullmodel.specs.Lines.{sort_value};
 ghost use Rattle.witness.specs.Texts.{symbol_part};
 ghost use Rattle.fulljudge.specs.Shapes.{word_count};

@@ -12,5 +12,5 @@ mod words;
 
 pub use judging::{judge_spread, judge_spread_by};
 pub use making::Lines;
-pub use spreader::Part;
+pub use spreader::{Part, begins_part};
 pub use spreading::{spread, spread_by};

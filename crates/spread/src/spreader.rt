@@ -33,7 +33,7 @@ pub enum Part {
 }
 
 /// Whether a line begins as one that opens or ends a part.
-fn begins_part(line: &[u8]) -> bool
+pub fn begins_part(line: &[u8]) -> bool
     ensures { result ≡ begins_part line.now }
 {
     match line {
