@@ -47,7 +47,7 @@ own_of_pieces width g (words n) (suc c) q (p ∷ []) widths fit e = absurd (none
 own_of_pieces width g (words n) c q (p ∷ r ∷ ps) widths fit e = absurd (cc)
 own_of_pieces width g (arrays k n) c q ps widths fit e = read_pieces width g n c q ps (widths_all width ps (2 ^ k) n widths).0 fit e
 
-total_width : (width : ℕ → ℕ) (ps : List ℕ) (n : ℕ) → AllByRecursion (λ p. width p ≡ n) ps → pieces_width width ps ≡ length ps * n
+pub total_width : (width : ℕ → ℕ) (ps : List ℕ) (n : ℕ) → AllByRecursion (λ p. width p ≡ n) ps → pieces_width width ps ≡ length ps * n
 total_width width [] n h = omega arith
 total_width width (p ∷ ps) n h = omega (arith, h.0, total_width width ps n h.1)
 

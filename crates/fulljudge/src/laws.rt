@@ -1,9 +1,11 @@
 //! Laws of witnesses over models of the whole language, as functions with no code.
-ghost use Rattle.std.specs.Prelude.{◌≡◌, ℕ, List, [], ◌∷◌, Option, codes, map};
+ghost use Rattle.std.specs.Prelude.{◌≡◌, ℕ, true, List, [], ◌∷◌, Option, None, codes, is_some, map};
 ghost use Rattle.btor2.specs.declared.item.Item.{Item};
-ghost use Rattle.btor2.specs.Items.{is_state};
+ghost use Rattle.btor2.specs.Items.{init_word, is_state};
+ghost use Rattle.btor2.specs.Lists.{first_init_without_next};
 ghost use Rattle.wide.specs.WideModels.{greatest_width, IsWideModel};
-ghost use Rattle.full.specs.Lines.{FullLine, words, arrays};
+ghost use Rattle.full.specs.Lines.{FullLine, words, arrays, init_of};
+ghost use Rattle.celled.specs.Written.{IsWrittenInCells};
 ghost use Rattle.full.specs.WrittenOut.{Places, IsWrittenOut};
 ghost use Rattle.fit.specs.Fitting.{Layout};
 ghost use Rattle.witness.specs.declared.judgement.Judgement.{Judgement};
@@ -13,6 +15,7 @@ ghost use Rattle.fulljudge.specs.Lines.{word_line, words_text};
 ghost use Rattle.fulljudge.specs.Judgements.{judged_by, JudgesFull};
 ghost use Rattle.fulljudge.specs.Written.{ComparesText};
 ghost use Rattle.fulljudge.specs.Cells.{HasWordsOf, CanBeCounted};
+ghost use Rattle.fulljudge.specs.Judged.{HasNoFirst};
 ghost use Rattle.fulljudge.specs.Told.{told};
 
 /// A law: what is judged of the text of words, over a list in which each word has a leaf, makes what is judged of the text over the
@@ -23,6 +26,21 @@ pub fn texts_are_judged_by_words()
         → HasWordsOf full p wide layout celled → IsWideModel greatest_width celled → CanBeCounted celled
         → ComparesText full p wide layout celled text d → Judges celled (words_text (full_shape full) text) j
         → JudgesFull full text (judged_by (map (λ (l : Leaf). l.sort) (leaves_of is_state full)) d j) }
+{}
+
+/// A law: a list in which each cell of an array has a leaf has a leaf for each word by which a value is told. Where it has as many
+/// states as there are words of states, each state with an init line begins with a constant. None of its states has an init line and
+/// no next line.
+pub fn cells_are_words()
+    ensures words { (full : List FullLine) (celled : List Item) (w : IsWrittenInCells full celled)
+        → HasWordsOf full w.places w.wide w.cells.layout celled }
+    ensures constants { (full : List FullLine) (celled : List Item) (w : IsWrittenInCells full celled)
+        → HasNoFirst full celled → (id : ℕ) → is_some (init_of full id) ≡ true
+        → is_some (init_word w.wide (w.places.leaf id)) ≡ true }
+    ensures nexts { (full : List FullLine) (celled : List Item) → IsWrittenInCells full celled
+        → first_init_without_next celled celled ≡ None }
+    ensures model { (full : List FullLine) (celled : List Item) → IsWrittenInCells full celled
+        → IsWideModel greatest_width celled }
 {}
 
 /// Worked rows: lines of a word of 3 bits, of an array of 4 cells of 2 bits, and of a word of 8 bits, as lines of words.
