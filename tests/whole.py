@@ -7,7 +7,8 @@ PROGRAM is crates/hwtool/out/hwtool where none is given. Each model has arrays, 
 their states, and states with an init and no next, at widths around 64 and above. An array is a list of cells here. The model is fitted, and
 both are evaluated, frame by frame, from the same first words and inputs: each bad property, constraint and output has to be the same. A model
 of which a first word depends on itself has to be refused by 224. Of one in eight the fitted model is lowered, and a witness of its frames is
-judged by `check-btor`. Spoilt texts have to be refused, or to be models that are fitted right. The status is 0 where nothing was wrong, else 1.
+judged by `check-btor`. A witness of the model itself, which tells cells of arrays, is judged by `check-btor --fit`, and one of which a state
+begins otherwise; a model with a state that is 1 in the first frame alone has to be refused there. Spoilt texts have to be refused, or to be models that are fitted right. The status is 0 where nothing was wrong, else 1.
 """
 import argparse
 import pathlib
@@ -241,19 +242,27 @@ def init(make, at, sort):
 # ---- comparing
 
 
+def leaf_words(model, leaf, value):
+    """The words by which a value of a leaf is told, with their widths and names: itself, or the cells of an array."""
+    sort, name = model.sort[leaf], model.names[leaf]
+    if isinstance(sort, int):
+        return [(value, sort, name)]
+    return [(cell, sort[1], name and f"{name}[{at}]") for at, cell in enumerate(value)]
+
+
 def split(model, values, leaves, narrow, narrow_leaves):
     """The words of the pieces of leaves, by the ids of the fitted model; what is left of its leaves."""
     given, at = {}, 0
     for leaf in leaves:
-        sort, lower = model.sort[leaf], 0
-        word = word_of(values[leaf], sort)
-        for width, name in zip(pieces(bits_of(sort)), piece_names(model.names[leaf], bits_of(sort))):
-            piece = narrow_leaves[at]
-            if narrow.width[piece] != width or narrow.names[piece] != name:
-                raise Wrong(f"piece {piece} of {leaf} has {narrow.width[piece]} bits and the name {narrow.names[piece]}")
-            given[piece] = cut(word >> lower, width)
-            lower += width
-            at += 1
+        for word, width_of_word, name_of_word in leaf_words(model, leaf, values[leaf]):
+            lower = 0
+            for width, name in zip(pieces(width_of_word), piece_names(name_of_word, width_of_word)):
+                piece = narrow_leaves[at]
+                if narrow.width[piece] != width or narrow.names[piece] != name:
+                    raise Wrong(f"piece {piece} of {leaf} has {narrow.width[piece]} bits and the name {narrow.names[piece]}")
+                given[piece] = cut(word >> lower, width)
+                lower += width
+                at += 1
     return given, narrow_leaves[at:]
 
 
@@ -290,7 +299,49 @@ def compare(model, narrow, by):
                 lower += width
         if rest:
             raise Wrong("there are more outputs than pieces")
-    return chosen, inputs, free, narrow_told
+    return chosen, inputs, free, narrow_told, told, not states[0][1]
+
+
+# ---- witnesses of models of the whole language
+
+
+def assigned(model, leaves, values, by, zeros=0.5):
+    """The lines that tell values of leaves. Of those that are 0 so many stay untold."""
+    lines = []
+    for at, leaf in enumerate(leaves):
+        sort, value = model.sort[leaf], values[leaf]
+        if isinstance(sort, int):
+            lines += [f"{at} {value:0{sort}b}"] if value or by.random() >= zeros else []
+        else:
+            lines += [f"{at} [{index:0{sort[0]}b}] {cell:0{sort[1]}b}" for index, cell in enumerate(value) if cell or by.random() >= zeros]
+    return lines
+
+
+def whole_witness(model, told, by):
+    """A witness of the model itself of what rises in these frames, and the front of the line by which it is judged."""
+    risen = [at for at, (it, _) in enumerate(model.bads) if any(model.of(values, it) for values in told)]
+    if not risen:
+        return None, None
+    holds = all(model.of(values, it) for values in told for it, _ in model.constraints)
+    first, says = dict(told[0]), "accepted" if holds else "violated"
+    begun = [it for it in model.states if it in model.init]
+    if begun and by.random() < 0.3:
+        other = by.choice(begun)
+        sort = model.sort[other]
+        if isinstance(sort, int):
+            first[other] ^= 1 << by.randrange(sort)
+        else:
+            cell = by.randrange(1 << sort[0])
+            first[other] = [it ^ (1 << by.randrange(sort[1])) if at == cell else it for at, it in enumerate(first[other])]
+        says = f"initial value differs at {model.states.index(other)}\n"
+    lines = ["sat", " ".join(f"b{it}" for it in risen), "#0", *assigned(model, model.states, first, by, 0 if says[0] == "i" else 0.5)]
+    free = [it for it in model.states if it not in model.next]
+    for at, values in enumerate(told):
+        if at > 0 and free:
+            lines.append(f"#{at}")
+            lines += [it for it in assigned(model, model.states, values, by) if model.states[int(it.split()[0])] in free]
+        lines += [f"@{at}", *assigned(model, model.inputs, values, by)]
+    return "".join(f"{it}\n" for it in [*lines, "."]), says
 
 
 def tried(program, text, by, folder, is_spoilt):
@@ -314,8 +365,20 @@ def tried(program, text, by, folder, is_spoilt):
     narrow = Model(done.stdout)
     if any(it > 64 for it in narrow.sorts.values()):
         raise Wrong("a sort is above 64 bits")
-    chosen, inputs, free, told = compare(model, narrow, by)
+    chosen, inputs, free, told, whole_told, is_judged = compare(model, narrow, by)
     fitted.write_text(done.stdout)
+    if by.random() < 0.5:
+        said, says = whole_witness(model, whole_told, by)
+        if said is not None:
+            (folder / "witness").write_text(said)
+            judged = subprocess.run([program, "check-btor", "--fit", path, folder / "witness"], capture_output=True, text=True)
+            if not is_judged:
+                if judged.returncode != 2 or judged.stdout or len(judged.stderr.splitlines()) != 1:
+                    raise Wrong(f"with a state of the first frame alone it is judged: {judged.stdout}{judged.stderr}")
+                return "not judged over"
+            if not judged.stdout.startswith(says):
+                raise Wrong(f"its witness is told as {judged.stdout}{judged.stderr}, not {says}")
+            return "a witness over arrays judged"
     if by.random() < 0.125:
         lowered = subprocess.run([program, "lower", fitted], capture_output=True, text=True)
         again = subprocess.run([program, "lower", "--fit", path], capture_output=True, text=True)

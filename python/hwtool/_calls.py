@@ -174,7 +174,8 @@ def fit(model: Text) -> bytes:
 
 
 def check_btor_fit(model: Text, witness: Text) -> Verdict:
-    """Judges a witness of a BTOR2 model with words of up to 1,048,576 bits; the verdict has no claims.
+    """Judges a witness of a BTOR2 model with words of up to 1,048,576 bits, or of one of the whole language each of whose states
+    with an init line begins with a constant; the verdict has no claims.
 
     Raises Refused where the model is none, has a state with an init and no next, or `fit` does not take it.
     """

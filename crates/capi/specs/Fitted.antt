@@ -1,17 +1,18 @@
--- What the exported calls on witnesses of models with words of any width answer, said of the bytes that they are given.
+-- What the exported calls on witnesses of fitted models answer, said of the bytes that they are given.
 use Rattle.std.specs.Prelude.{◌≡◌, ℕ, Bool, List, [], Some}
-use Rattle.verbs.specs.Unfitting.{IsJudgedFitted, IsSpread, IsUnfitted}
+use Rattle.verbs.specs.Unfitting.{IsSpread, IsUnfitted}
+use Rattle.verbs.specs.Whole.{IsJudgedFitted}
 use Rattle.witness.specs.declared.judgement.Judgement.{Judgement}
 use Rattle.capi.specs.Answers.{verdict_of}
 use Rattle.capi.specs.declared.answers.Verdict.{Verdict}
 
--- the second text, a witness, is judged so over the first text's model, which may have words of any width
+-- the second text, a witness, is judged so over the first text's model, which may be of the whole language
 pub record CallJudgesFitted (model witness : List ℕ) (verdict : Verdict) : Type 0 where
   pub judgement : Judgement
   pub is : IsJudgedFitted (Some model) (Some witness) judgement
   pub told : verdict ≡ verdict_of judgement
 
--- some bytes are the witness of such a model that says what the second text says of the fitted model, and it is judged so
+-- some bytes are the witness of a model with words of any width that says what the second text says of the fitted model, and it is judged so
 pub record CallUnfits (named : Bool) (model witness : List ℕ) (verdict : Verdict) (bytes : List ℕ) : Type 0 where
   pub judgement : Judgement
   pub is : IsUnfitted named (Some model) (Some witness) (Some []) (Some bytes) judgement

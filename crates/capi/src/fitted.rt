@@ -1,6 +1,7 @@
-//! The calls on witnesses of models with words of any width.
+//! The calls on witnesses of fitted models.
 ghost use Rattle.std.specs.Prelude.{◌≡◌, ◌≤◌, Some};
 ghost use Rattle.verbs.specs.Unfitting.{IsNotReady};
+ghost use Rattle.verbs.specs.Whole.{IsNotJudgedFitted};
 ghost use Rattle.capi.specs.Buffers.{Fills, Needs};
 ghost use Rattle.capi.specs.Fitted.{CallJudgesFitted, CallSpreads, CallUnfits};
 ghost use Rattle.capi.specs.Stops.{Stops};
@@ -11,12 +12,14 @@ use base::VecSink;
 use std::alloc::Global;
 use verbs::{judge_fitted, spread, unfit};
 
-/// Judges the text of a witness over the text of a BTOR2 model with words of up to 1,048,576 bits.
+/// Judges the text of a witness over the text of a BTOR2 model with words of up to 1,048,576 bits, or of one of the whole language
+/// each of whose states with an init line begins with a constant.
 ///
 /// Answers 0 with what is judged, of a witness of at most 2^44 lines; 2 where the first text is no such model, with the number
 /// and the line of its first fault; 3 where a state has an init and no next, with the number of that and the id of the first
-/// such state, or where the model is not fitted into one of words of at most 64 bits, with the number of what speaks against
-/// it first and the id of its item; 4 where memory was wanting. Without 0 the verdict stays, and with 0 and 4 the refusal does.
+/// such state, or where the model is not written out, or not fitted into one of words of at most 64 bits, with the number of what
+/// speaks against it first and the id of its item; 4 where memory was wanting. Without 0 the verdict stays, and with 0 and 4 the
+/// refusal does.
 #[unsafe(no_mangle)]
 pub extern "C" fn hwtool_check_btor_fit(
     alloc: Global,
@@ -26,7 +29,7 @@ pub extern "C" fn hwtool_check_btor_fit(
     refusal: &mut Refusal,
 ) -> u32
     ensures done { result ≡ 0 → CallJudgesFitted model.now witness.now verdict.new }
-    ensures stops { 1 ≤ result → Stops (IsNotReady (Some model.now)) (λ _. ⊥) result refusal.old
+    ensures stops { 1 ≤ result → Stops (IsNotJudgedFitted (Some model.now)) (λ _. ⊥) result refusal.old
         refusal.new }
     ensures statuses { result ≤ 5 }
     ensures unwritten { 1 ≤ result → verdict.new ≡ verdict.old }

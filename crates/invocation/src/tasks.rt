@@ -77,7 +77,7 @@ pub enum ModelTask {
     LiftForm(Option<usize>),
     /// Judges a witness over it, and dumps its frames.
     Wave(Shown),
-    /// Judges a witness over it, where it may have words of any width.
+    /// Judges a witness over it, where it may be one of the whole language.
     CheckFitted,
     /// Writes the witness of it, where it may have words of any width, that says what one of the fitted model says.
     Unfit,

@@ -1,10 +1,11 @@
-//! The commands on witnesses of models with words of any width.
+//! The commands on witnesses of fitted models.
 
 ghost use Rattle.std.specs.Prelude.{IfOk, IfErr};
 ghost use Rattle.subcommands.specs.Fitted.{Spreads, Unfits, WritesJudgedFitted};
 ghost use Rattle.verbs.specs.Statuses.{Ends, IfInput};
 ghost use Rattle.verbs.specs.Statuses.Use.{Unused, Used};
 ghost use Rattle.verbs.specs.Unfitting.{IsNotReady};
+ghost use Rattle.verbs.specs.Whole.{IsNotJudgedFitted};
 
 use crate::answers::Answer;
 use crate::judgements::{tell_line, write_judgement};
@@ -12,7 +13,7 @@ use base::{Sink, Source};
 use std::alloc::Global;
 use verbs::{Refusal, judge_fitted, spread, unfit};
 
-/// Judges a witness over a model with words of any width, and writes the line of its judgement.
+/// Judges a witness over a model of the whole language, and writes the line of its judgement.
 pub fn check_fitted<A: Source, B: Source, O: Sink>(
     alloc: Global,
     first: &mut A,
@@ -21,7 +22,7 @@ pub fn check_fitted<A: Source, B: Source, O: Sink>(
 ) -> Result<Answer, Refusal>
     ensures done { IfOk result (WritesJudgedFitted (A.to_come first.old) (B.to_come second.old)
         (O.written out.old) (O.written out.new)) }
-    ensures refused { IfErr result (IfInput (IsNotReady (A.to_come first.old))) }
+    ensures refused { IfErr result (IfInput (IsNotJudgedFitted (A.to_come first.old))) }
     ensures ends { Ends result (Used A.failures first.old first.new)
         (Used B.failures second.old second.new) (Used O.failures out.old out.new) Unused }
 {

@@ -53,7 +53,7 @@ not_fit_written text lines wide (fit.TooManyItems id) stands written unfit =
 not_fit_written text lines wide _ stands written unfit = inr (record { lines = lines; stands = stands; wide = wide; written = written; unfit = unfit })
 
 -- a model that is not written out
-or_long : (lines : List FullLine) (e : WriteFault) → IsUnwritten lines e → IsUnwrittenOrLong lines e
+pub or_long : (lines : List FullLine) (e : WriteFault) → IsUnwritten lines e → IsUnwrittenOrLong lines e
 or_long lines write.TooManyItems h = inl h
 or_long lines _ h = h
 

@@ -7,3 +7,4 @@ pub mod GivenLemmas
 pub mod RestoringLemmas
 pub mod SubjectLemmas
 pub mod UnfittingLemmas
+pub mod WholeLemmas

@@ -50,7 +50,7 @@ unready_of text (fault.Model e) h = tt
 unready_of text (fault.Fitting e) h = tt
 unready_of text _ h = absurd h
 
-unready_for : (known : Option (List ℕ)) (text : List ℕ) (f : Fault) → IfSome known (λ all. text ≡ all) → IsNotReady (Some text) f → IsNotReady known f
+pub unready_for : (known : Option (List ℕ)) (text : List ℕ) (f : Fault) → IfSome known (λ all. text ≡ all) → IsNotReady (Some text) f → IsNotReady known f
 unready_for None text f same h = unready_of text f h
 unready_for (Some all) text f same h = subst (λ (t : List ℕ). IsNotReady (Some t) f) same h
 

@@ -14,3 +14,4 @@ pub mod Restoring
 pub mod Statuses
 pub mod Subjects
 pub mod Unfitting
+pub mod Whole

@@ -44,7 +44,7 @@ abbrev pub known_of : Bool → List Item → Wide
 known_of named wide = record { shape = shape_of wide; names = names_of wide; named = named }
 
 -- The first text is of such a list; and the second, where it has at most 2^44 lines, is judged so over it.
-pub record IsJudgedFitted (model witness : Option (List ℕ)) (verdict : Judgement) : Type 0 where
+pub record IsJudgedWide (model witness : Option (List ℕ)) (verdict : Judgement) : Type 0 where
   pub wide : List Item
   pub narrow : List Item
   pub ready : IsReady model wide narrow

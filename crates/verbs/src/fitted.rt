@@ -105,7 +105,7 @@ fn fit_words(alloc: Global, text: &[u8], wide: WideModel) -> Result<Model, Refus
 }
 
 /// The model of the whole language that a text stands for.
-fn read_whole(alloc: Global, text: &[u8]) -> Result<FullModel, Refusal>
+pub(crate) fn read_whole(alloc: Global, text: &[u8]) -> Result<FullModel, Refusal>
     ensures stands { IfOk result (StandsForFull text.now) }
     ensures refused { IfErr result (IfInput (IsNotFit text.now)) }
     ensures ends { Ends result Unused Unused Unused Unused }
@@ -120,7 +120,7 @@ fn read_whole(alloc: Global, text: &[u8]) -> Result<FullModel, Refusal>
 }
 
 /// The list of words that a model of the whole language is written out as, with a leaf for each cell of an array.
-fn written_out(alloc: Global, model: &FullModel) -> Result<WideModel, Refusal>
+pub(crate) fn written_out(alloc: Global, model: &FullModel) -> Result<WideModel, Refusal>
     ensures written { IfOk result (IsWrittenInCells model.now) }
     ensures refused { IfErr result (IfInput (IsWritingFault model.now)) }
     ensures ends { Ends result Unused Unused Unused Unused }
@@ -133,7 +133,7 @@ fn written_out(alloc: Global, model: &FullModel) -> Result<WideModel, Refusal>
 }
 
 /// Why a list is not fitted that a model of the whole language was written out as.
-fn refusal_of_written(fault: FitFault) -> Refusal
+pub(crate) fn refusal_of_written(fault: FitFault) -> Refusal
     ensures { result ≡ of_fitting_written fault }
 {
     match fault {

@@ -20,6 +20,7 @@ mod restoring;
 mod subjects;
 mod told;
 mod unfitting;
+mod whole;
 
 pub use certifying::{JudgedCertificate, certify, owe};
 pub use converting::{convert, convert_for_engines, convert_outputs, convert_outputs_for_engines};

@@ -4,14 +4,18 @@ ghost use Rattle.std.specs.Prelude.{◌≡◌, ℕ, List, IfOk, IfErr, OnOk, Non
 ghost use Rattle.btor2.specs.Lists.{first_init_without_next};
 ghost use Rattle.fitting.specs.Models.{IsFit};
 ghost use Rattle.widetext.specs.Spelling.{StandsForWide};
-ghost use Rattle.verbs.specs.Unfitting.{IsJudgedFitted, IsKnown, IsNotReady, IsNotWide, IsReadyFor, IsSpread, IsUnfitted};
+ghost use Rattle.verbs.specs.Unfitting.{IsJudgedWide, IsKnown, IsNotReady, IsNotWide, IsReadyFor, IsSpread, IsUnfitted};
+ghost use Rattle.widetext.specs.FirstFault.{IsWideFaultOf};
 ghost use Rattle.verbs.specs.Statuses.{Ends, IfInput};
+ghost use Rattle.verbs.specs.Whole.{IsJudgedFitted, IsJudgedWhole, IsNotJudgedFitted, IsNotJudgedText};
 ghost use Rattle.verbs.specs.Statuses.Use.{Unused, Used};
 
-use crate::fitted::{read_profile, read_wide};
+use crate::fitted::{read_profile, read_whole, read_wide};
 use crate::refusals::{Fault, Refusal};
+use crate::whole::{judge_whole, whole_of};
 use base::{Sink, Source, read_all};
 use btor2::Model;
+use btor2text::ReadFault;
 use rejoin::{Shape, first_init_without_next};
 use std::alloc::Global;
 use unfit::Names;
@@ -87,23 +91,74 @@ fn made_ready(alloc: Global, text: &[u8]) -> Result<Ready, Refusal>
     Ok(Ready { known, narrow })
 }
 
-/// Judges the second text, a witness, over the model with words of any width of the first.
+/// Judges a witness over the model with words of any width of a text.
+fn judge_ready<B: Source>(
+    alloc: Global,
+    text: &[u8],
+    ready: &Ready,
+    second: &mut B,
+) -> Result<Judgement, Refusal>
+    requires ready { IsReadyFor text.now ready.now }
+    ensures judged { IfOk result (IsJudgedWide (Some text.now) (B.to_come second.old)) }
+    ensures refused { IfErr result (IfInput (λ f. ⊥)) }
+    ensures ends { Ends result Unused (Used B.failures second.old second.new) Unused Unused }
+{
+    match spread::judge_spread(alloc, &ready.known.shape, &ready.narrow, second) {
+        Ok(judgement) => Ok(judgement),
+        Err(fault) => Err(Refusal::from(fault)),
+    }
+}
+
+/// Judges a witness over the model of the whole language of a text that stands for none with words alone: this is why.
+fn judge_by_whole<B: Source>(
+    alloc: Global,
+    text: &[u8],
+    why: ReadFault,
+    second: &mut B,
+) -> Result<Judgement, Refusal>
+    requires why { IsWideFaultOf text.now why }
+    ensures judged { IfOk result (IsJudgedWhole (Some text.now) (B.to_come second.old)) }
+    ensures refused { IfErr result (IfInput (IsNotJudgedText text.now)) }
+    ensures ends { Ends result Unused (Used B.failures second.old second.new) Unused Unused }
+{
+    let model = read_whole(alloc, text)?;
+    match whole_of(alloc, &model)? {
+        Some(whole) => judge_whole(alloc, &model, &whole, second),
+        None => Err(Refusal::Input(Fault::Model(why))),
+    }
+}
+
+/// Judges a witness over the model of a text.
+fn judge_over_text<B: Source>(
+    alloc: Global,
+    text: &[u8],
+    second: &mut B,
+) -> Result<Judgement, Refusal>
+    ensures judged { IfOk result (IsJudgedFitted (Some text.now) (B.to_come second.old)) }
+    ensures refused { IfErr result (IfInput (IsNotJudgedText text.now)) }
+    ensures ends { Ends result Unused (Used B.failures second.old second.new) Unused Unused }
+{
+    match made_ready(alloc, text) {
+        Ok(ready) => judge_ready(alloc, text, &ready, second),
+        Err(Refusal::Input(Fault::Model(why))) => judge_by_whole(alloc, text, why, second),
+        Err(refusal) => Err(refusal),
+    }
+}
+
+/// Judges the second text, a witness, over the model of the first: over one of the whole language where it is none with words
+/// alone, and each state with an init line begins with a constant. Else it tells why it is none with words alone.
 pub fn judge_fitted<A: Source, B: Source>(
     alloc: Global,
     first: &mut A,
     second: &mut B,
 ) -> Result<Judgement, Refusal>
     ensures judged { IfOk result (IsJudgedFitted (A.to_come first.old) (B.to_come second.old)) }
-    ensures refused { IfErr result (IfInput (IsNotReady (A.to_come first.old))) }
+    ensures refused { IfErr result (IfInput (IsNotJudgedFitted (A.to_come first.old))) }
     ensures ends { Ends result (Used A.failures first.old first.new)
         (Used B.failures second.old second.new) Unused Unused }
 {
     let text = read_all(alloc, first)?;
-    let ready = made_ready(alloc, text.as_slice())?;
-    match spread::judge_spread(alloc, &ready.known.shape, &ready.narrow, second) {
-        Ok(judgement) => Ok(judgement),
-        Err(fault) => Err(Refusal::from(fault)),
-    }
+    judge_over_text(alloc, text.as_slice(), second)
 }
 
 /// Judges the second text, a witness, over the model with words of any width of the first, and writes the witness of the model

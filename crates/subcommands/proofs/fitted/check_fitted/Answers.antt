@@ -1,6 +1,6 @@
 use Rattle.std.proofs.Common.{rules, ◌≡◌, Err}
 use Rattle.verbs.proofs.CountLemmas.{as_is, as_was, ends_as, handed_on, idle, unfailed, unrefused}
-use Rattle.verbs.specs.Unfitting.{IsJudgedFitted}
+use Rattle.verbs.specs.Whole.{IsJudgedFitted}
 use Rattle.subcommands.proofs.JudgedLemmas.{written}
 use Rattle.subcommands.proofs.fitted.check_fitted.Goals as goal
 
