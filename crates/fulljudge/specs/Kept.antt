@@ -1,4 +1,4 @@
--- What is kept of the sorts of a model's states, or of its inputs, and what is found in a line.
+-- What is kept of the sorts of a model's states, or of its inputs.
 use Rattle.std.specs.Prelude.{◌≡◌, ℕ, ◌+◌, ◌<◌, ◌^◌, Bool, List, [], ◌∷◌, length, map, flat_map, filter}
 use Rattle.btor2.specs.declared.item.Body.{Body}
 use Rattle.btor2.specs.Items.{is_input, is_state}

@@ -7,3 +7,4 @@ pub mod Written
 pub mod Cells
 pub mod Kept
 pub mod Judged
+pub mod Worked

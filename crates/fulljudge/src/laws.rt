@@ -17,6 +17,7 @@ ghost use Rattle.fulljudge.specs.Written.{ComparesText};
 ghost use Rattle.fulljudge.specs.Cells.{HasWordsOf, CanBeCounted};
 ghost use Rattle.fulljudge.specs.Judged.{HasNoFirst};
 ghost use Rattle.fulljudge.specs.Told.{told};
+ghost use Rattle.fulljudge.specs.Worked.{two_arrays};
 
 /// A law: what is judged of the text of words, over a list in which each word has a leaf, makes what is judged of the text over the
 /// model that is written out.
@@ -52,6 +53,15 @@ pub fn worked_lines()
     ensures short_address { word_line (words 3 ∷ arrays 2 2 ∷ words 8 ∷ []) (codes "1 [1] 01") ≡ [] }
     ensures no_value { word_line (words 3 ∷ arrays 2 2 ∷ words 8 ∷ []) (codes "3 01") ≡ [] }
     ensures no_array { word_line (words 3 ∷ arrays 2 2 ∷ words 8 ∷ []) (codes "0 [10] 01") ≡ codes "0 [10] 01" }
+{}
+
+/// Worked rows: texts over a model whose states are a bit and an array of 2 cells, and whose inputs are such an array and a word.
+pub fn worked_texts()
+    // each line is that of a word of its part, and the lines that open parts stay
+    ensures parts { words_text two_arrays (codes "sat\nb0\n#0\n1 [1] 01\n@0\n0 [0] 11\n1 101\n.\n")
+        ≡ codes "sat\nb0\n#0\n2 01\n@0\n0 11\n2 101\n.\n" }
+    // a line that names no word is empty, and what stands behind the last line stays
+    ensures none { words_text two_arrays (codes "sat\nb0\n@0\n0 [2] 11\n.") ≡ codes "sat\nb0\n@0\n\n." }
 {}
 
 /// Worked rows: an array of which cells 1 and 3 are told behind a word, over 0 and over another.
