@@ -140,7 +140,7 @@ not_state_free items id w none = ap₂ (λ (b c : Bool). b && c) (by (init_value
     next_by None e = refl
     next_by (Some v) e = let is = (IsNextOf-from_value items id v w e).state in absurd (cc)
 
-given_by : (items xs : List Item) → AllByRecursion (λ (x : Item). is_input x.body ≡ true → is_free items x.id ≡ true) xs → ids_of (is_given items) xs ≡ filter (is_free items) (ids_of is_leaf xs)
+pub given_by : (items xs : List Item) → AllByRecursion (λ (x : Item). is_input x.body ≡ true → is_free items x.id ≡ true) xs → ids_of (is_given items) xs ≡ filter (is_free items) (ids_of is_leaf xs)
 given_by items [] h = refl
 given_by items (x ∷ xs) h = by (is_input x.body) (is_state x.body) (is_free items x.id) refl h.0 (given_by items xs h.1)
   where
@@ -152,7 +152,7 @@ given_by items (x ∷ xs) h = by (is_input x.body) (is_state x.body) (is_free it
     by false true false e own rest = rw e rest
     by false false f e own rest = rest
 
-carried_by : (items xs : List Item) → AllByRecursion (λ (x : Item). is_input x.body ≡ true → is_free items x.id ≡ true) xs → ids_of (is_carried_state items) xs ≡ filter (λ id. not (is_free items id)) (ids_of is_leaf xs)
+pub carried_by : (items xs : List Item) → AllByRecursion (λ (x : Item). is_input x.body ≡ true → is_free items x.id ≡ true) xs → ids_of (is_carried_state items) xs ≡ filter (λ id. not (is_free items id)) (ids_of is_leaf xs)
 carried_by items [] h = refl
 carried_by items (x ∷ xs) h = by (is_input x.body) (is_state x.body) (is_free items x.id) refl (input_is_no_state x.body) h.0 (carried_by items xs h.1)
   where
@@ -259,7 +259,7 @@ leaf_width wide table narrow x stands is = by x.body refl is stands.value
 pub among_leaves : (P : ℕ → Type 0) (kind : Item → Bool) (xs : List Item) → ((x : Item) → kind x ≡ true → is_leaf x ≡ true) → AllByRecursion P (leaf_ids xs) → AllByRecursion P (ids_of kind xs)
 among_leaves P kind xs sub h = to_ids P kind xs (all_with (λ (x : Item). is_leaf x ≡ true → P x.id) (λ (x : Item). kind x ≡ true → P x.id) xs (λ x own is. own (sub x is)) (of_ids P is_leaf xs h))
 
-given_leaf : (items : List Item) (x : Item) → is_given items x ≡ true → is_leaf x ≡ true
+pub given_leaf : (items : List Item) (x : Item) → is_given items x ≡ true → is_leaf x ≡ true
 given_leaf items x is = by (is_input x.body) (is_state x.body) (is_free items x.id) is
   where
     by : (i s f : Bool) → (i || (s && f)) ≡ true → (i || s) ≡ true

@@ -17,7 +17,7 @@ use Rattle.fitting.proofs.AssemblyLemmas.{not_state_free}
 abbrev pub HasNo : List Item → ℕ → Type 0
 HasNo items id = has_init_without_next items id ≡ false
 
-none_found : (items xs : List Item) → first_init_without_next items xs ≡ None → AllByRecursion (λ (x : Item). is_state x.body ≡ true → HasNo items x.id) xs
+pub none_found : (items xs : List Item) → first_init_without_next items xs ≡ None → AllByRecursion (λ (x : Item). is_state x.body ≡ true → HasNo items x.id) xs
 none_found items [] h = tt
 none_found items (x ∷ xs) h = by (is_state x.body) (has_init_without_next items x.id) refl refl h (none_found items xs)
   where
@@ -28,7 +28,7 @@ none_found items (x ∷ xs) h = by (is_state x.body) (has_init_without_next item
     by true false in_s in_l h rest = (λ is. in_l, rest h)
     by false l in_s in_l h rest = (λ is. absurd (true≢false (sym is ∙ in_s)), rest h)
 
-finds_none : (items xs : List Item) → AllByRecursion (λ (x : Item). is_state x.body ≡ true → HasNo items x.id) xs → first_init_without_next items xs ≡ None
+pub finds_none : (items xs : List Item) → AllByRecursion (λ (x : Item). is_state x.body ≡ true → HasNo items x.id) xs → first_init_without_next items xs ≡ None
 finds_none items [] h = refl
 finds_none items (x ∷ xs) h = by (is_state x.body) refl (finds_none items xs h.1)
   where
@@ -49,7 +49,7 @@ by_next : (o p : Option ℕ) → is_none p ≡ false → (is_some o && is_none p
 by_next None p h = refl
 by_next (Some v) p h = h
 
-next_has_no : (items : List Item) (id : ℕ) → is_none (next_value items id) ≡ false → HasNo items id
+pub next_has_no : (items : List Item) (id : ℕ) → is_none (next_value items id) ≡ false → HasNo items id
 next_has_no items id h = by_next (init_value items id) (next_value items id) h
 
 head_of : List (Option ℕ) → Option ℕ
@@ -60,7 +60,7 @@ tail_of : List (Option ℕ) → List (Option ℕ)
 tail_of [] = []
 tail_of (x ∷ xs) = xs
 
-have_nexts : (items : List Item) (ps qs : List ℕ) → map (next_value items) ps ≡ map (λ q. Some q) qs → AllByRecursion (λ p. is_none (next_value items p) ≡ false) ps
+pub have_nexts : (items : List Item) (ps qs : List ℕ) → map (next_value items) ps ≡ map (λ q. Some q) qs → AllByRecursion (λ p. is_none (next_value items p) ≡ false) ps
 unfolding head_of tail_of
 have_nexts items [] qs e = tt
 have_nexts items (p ∷ ps) [] e = absurd (cc)

@@ -19,7 +19,7 @@ use Rattle.fitting.proofs.AssemblyLemmas.{all_ids, pieces_filtered, among_leaves
 -- ---- the ids of a kind of leaves
 
 -- of the leaves that are there, the states are those that are named as states, and the inputs the others
-states_by : (items xs : List Item) → AllByRecursion (λ (x : Item). is_leaf x ≡ true → names_state items x.id ≡ is_state x.body) xs → state_ids xs ≡ filter (names_state items) (leaf_ids xs)
+pub states_by : (items xs : List Item) → AllByRecursion (λ (x : Item). is_leaf x ≡ true → names_state items x.id ≡ is_state x.body) xs → state_ids xs ≡ filter (names_state items) (leaf_ids xs)
 states_by items [] h = refl
 states_by items (x ∷ xs) h = by (is_input x.body) (is_state x.body) (input_is_no_state x.body) h.0 (states_by items xs h.1)
   where
@@ -31,7 +31,7 @@ states_by items (x ∷ xs) h = by (is_input x.body) (is_state x.body) (input_is_
     by false true none own rest = rw (own refl) (ap (λ (l : List ℕ). x.id ∷ l) rest)
     by false false none own rest = rest
 
-inputs_by : (items xs : List Item) → AllByRecursion (λ (x : Item). is_leaf x ≡ true → names_state items x.id ≡ is_state x.body) xs → input_ids xs ≡ filter (λ id. not (names_state items id)) (leaf_ids xs)
+pub inputs_by : (items xs : List Item) → AllByRecursion (λ (x : Item). is_leaf x ≡ true → names_state items x.id ≡ is_state x.body) xs → input_ids xs ≡ filter (λ id. not (names_state items id)) (leaf_ids xs)
 inputs_by items [] h = refl
 inputs_by items (x ∷ xs) h = by (is_input x.body) (is_state x.body) (input_is_no_state x.body) h.0 (inputs_by items xs h.1)
   where

@@ -1,0 +1,20 @@
+-- The lemmas of this crate.
+pub mod NumberLemmas
+pub mod CellLemmas
+pub mod GrowLemmas
+pub mod NameLemmas
+pub mod StepLemmas
+pub mod ArrayLemmas
+pub mod StandLemmas
+pub mod SoundLemmas
+pub mod CopyLemmas
+pub mod CopiedLemmas
+pub mod OnLemmas
+pub mod CopyStep
+pub mod ArrayOwn
+pub mod ArrayStep
+pub mod InitStep
+pub mod NextStep
+pub mod CallLemmas
+pub mod SplitLemmas
+pub mod EndLemmas

@@ -1,0 +1,17 @@
+//! Lists of wide items in which each array has a leaf for each of its cells.
+#![tactic(auto)]
+
+mod bodies;
+mod digits;
+mod inits;
+mod known;
+pub mod laws;
+mod leaves;
+mod lines;
+mod names;
+mod nexts;
+mod putting;
+mod splitting;
+mod table;
+
+pub use splitting::split_arrays;
