@@ -1,5 +1,5 @@
 -- What is refused of certificates, and that a bad property that one is judged to show never rises.
-use Rattle.std.proofs.Common.{◌≡◌, ◌⊎◌, inl, inr, ◌↔◌, ℕ, Bool, true, false, List, Option, None, Some, IfSome, Result, Ok, Err, IfOk, OnOk, refl, subst}
+use Rattle.std.proofs.Common.{◌≡◌, ◌⊎◌, inl, inr, ◌↔◌, ℕ, List, Option, None, Some, IfSome, Result, Ok, Err, IfOk, refl}
 use Rattle.btor2.specs.declared.item.Item.{Item}
 use Rattle.aiger.specs.Circuit.{Circuit}
 use Rattle.aiger.specs.Reachability.{CanRiseInCircuit}
@@ -9,7 +9,6 @@ use Rattle.engine_form.specs.declared.fault.EngineFault.{EngineFault}
 use Rattle.engine_form.specs.declared.fault.EngineFault.TheVariants as engine
 use Rattle.drup.specs.Formula.{Formula}
 use Rattle.drup.specs.declared.judgement.Judgement.{Judgement}
-use Rattle.drup.specs.declared.judgement.Judgement.TheVariants as verdict
 use Rattle.certificates.specs.declared.why.InvariantFault.{InvariantFault}
 use Rattle.certificates.specs.declared.why.InvariantWhy.{InvariantWhy}
 use Rattle.certificates.specs.declared.why.InvariantWhy.TheVariants as why
@@ -19,7 +18,6 @@ use Rattle.certificates.specs.declared.claim_fault.ClaimFault.{ClaimFault}
 use Rattle.certificates.specs.declared.claim_fault.ClaimFault.TheVariants as claim
 use Rattle.certificates.specs.declared.certificate_fault.CertificateFault.{CertificateFault}
 use Rattle.certificates.specs.declared.certificate_fault.CertificateFault.TheVariants as certificate
-use Rattle.certificates.specs.declared.proof_form.ProofForm.{ProofForm}
 use Rattle.certificates.specs.Certificates.{CountsCertificate, IsFormFor, IsOfProof, OwesNone, OwesNoneOver}
 use Rattle.aigertext.specs.AsciiReading.{IsAsciiFaultOf}
 use Rattle.aigertext.specs.declared.fault.ReadFault.{ReadFault}
@@ -35,7 +33,6 @@ use Rattle.invocation.specs.declared.tasks.Certificate.TheVariants as kind
 use Rattle.invocation.specs.declared.tasks.Certified.{Certified}
 use Rattle.invocation.specs.declared.tasks.Given.{Given}
 use Rattle.invocation.specs.declared.tasks.Given.TheVariants as given
-use Rattle.verbs.specs.declared.refusals.Claimed.{Claimed}
 use Rattle.verbs.specs.declared.refusals.Claimed.TheVariants as claimed
 use Rattle.verbs.specs.declared.refusals.Fault.{Fault}
 use Rattle.verbs.specs.declared.refusals.Fault.TheVariants as fault
@@ -45,7 +42,7 @@ use Rattle.verbs.specs.Certificates.{IsOwedBy, IsOwedFormula}
 use Rattle.verbs.specs.Given.{GivesItsCircuit, IsGivenNumbering, NeverRises}
 use Rattle.verbs.specs.Conversions.{of_certificate, of_claim, of_engine_form, of_invariant_for, of_obligation, of_witness, of_witness_reading_for}
 use Rattle.verbs.proofs.GivenLemmas.{formless, not_claimed}
-use Rattle.verbs.specs.Refusals.{IsFaultyBy, IsFaultyCertificate, IsFaultyFor, IsFaultyOver, IsFaultyOverForm, IsFaultyWitness, IsNotCertifiable, IsNotGuarded, IsUnclaimed, IsUnclaimedBy, IsUnguarded, IsWithoutFormBy}
+use Rattle.verbs.specs.Refusals.{IsFaultyBy, IsFaultyCertificate, IsFaultyFor, IsFaultyOver, IsFaultyOverForm, IsFaultyWitness, IsNotCertifiable, IsNotGuarded, IsUnclaimedBy, IsUnguarded, IsWithoutFormBy}
 use Rattle.verbs.specs.Statuses.{CountsAll, IfInput, IfSecond}
 use Rattle.verbs.specs.Claims.{IsClaim}
 

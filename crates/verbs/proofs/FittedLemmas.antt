@@ -1,5 +1,5 @@
 -- Texts that are fitted, and that are not.
-use Rattle.std.proofs.Common.{◌≡◌, ◌≢◌, ◌⊎◌, inl, inr, ℕ, List, Option, None, Some, IfSome, MatchOption, Result, Ok, Err, IfOk, IfErr, subst, sym}
+use Rattle.std.proofs.Common.{◌≡◌, ◌≢◌, ◌⊎◌, inl, inr, ℕ, List, Option, None, Some, IfSome, MatchOption, Result, Ok, Err, IfOk, subst, sym}
 use Rattle.btor2.specs.declared.item.Item.{Item}
 use Rattle.btor2.specs.Lists.{first_init_without_next}
 use Rattle.btor2text.specs.Spelling.{StandsFor}
@@ -13,7 +13,6 @@ use Rattle.widetext.specs.Spelling.{StandsForWide}
 use Rattle.writeout.specs.Faults.{IsUnwritten}
 use Rattle.writeout.specs.declared.fault.WriteFault.{WriteFault}
 use Rattle.writeout.specs.declared.fault.WriteFault.TheVariants as write
-use Rattle.verbs.specs.declared.refusals.Fault.{Fault}
 use Rattle.verbs.specs.declared.refusals.Fault.TheVariants as fault
 use Rattle.verbs.specs.declared.refusals.Refusal.{Refusal}
 use Rattle.verbs.specs.declared.refusals.Refusal.TheVariants as refusal

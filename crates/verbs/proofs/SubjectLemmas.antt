@@ -1,5 +1,5 @@
 -- The item with a number among those of a kind, by the list of their places.
-use Rattle.std.proofs.Common.{◌≡◌, ℕ, zero, suc, Bool, true, false, cond, List, [], ◌∷◌, ◌++◌, ◌+◌, ◌<◌, drop, Option, Some, None, IfSome, Result, Ok, Err, IfOk, OnOk, length, length-append, append_assoc, option_and_then, slice_get, refl, sym, ap, subst, ◌∙◌, arith}
+use Rattle.std.proofs.Common.{◌≡◌, ℕ, zero, suc, Bool, true, false, cond, List, [], ◌∷◌, ◌++◌, Some, length, length-append, append_assoc, option_and_then, slice_get, refl, sym, ap, ◌∙◌, arith}
 use Rattle.btor2.specs.declared.item.Item.{Item}
 use Rattle.btor2.specs.declared.item.Body.{Body}
 use Rattle.btor2.specs.Lists.{places, of_kind}

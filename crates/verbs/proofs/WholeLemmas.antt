@@ -1,5 +1,5 @@
 -- Of models of the whole language that are written out and fitted, what is refused and what is judged.
-use Rattle.std.proofs.Common.{◌≡◌, ◌⊎◌, inl, inr, ℕ, true, List, Option, None, Some, IfSome, Result, Ok, Err, IfOk, IfErr, is_some}
+use Rattle.std.proofs.Common.{◌≡◌, inl, inr, ℕ, true, List, Option, Some, IfSome, Result, Ok, Err, IfOk, IfErr, is_some}
 use Rattle.btor2.specs.declared.item.Item.{Item}
 use Rattle.btor2.specs.Items.{init_word}
 use Rattle.wide.specs.WideModels.{greatest_width, IsWideModel}
@@ -11,7 +11,6 @@ use Rattle.full.specs.Lines.{FullLine, init_of}
 use Rattle.fulljudge.specs.Cells.{HasWordsOf}
 use Rattle.fulljudge.specs.Judged.{IsOfFull}
 use Rattle.fulltext.specs.Spelling.{StandsForFull}
-use Rattle.spread.specs.Answers.{IsOfFitted}
 use Rattle.witness.specs.declared.judgement.Judgement.{Judgement}
 use Rattle.verbs.specs.declared.refusals.Fault.{Fault}
 use Rattle.verbs.specs.declared.refusals.Fault.TheVariants as fault
@@ -22,7 +21,7 @@ use Rattle.verbs.specs.Conversions.{of_fitting_written}
 use Rattle.verbs.specs.Fitting.{IsNotFit, IsWritingFault}
 use Rattle.verbs.specs.Statuses.{IfInput}
 use Rattle.verbs.specs.Unfitting.{IsJudgedWide, IsNotReady}
-use Rattle.verbs.specs.Whole.{IsJudgedFitted, IsJudgedWhole, IsNotJudgedFitted, IsNotJudgedText, IsNotWhole, IsWholeOf}
+use Rattle.verbs.specs.Whole.{IsJudgedByWhole, IsJudgedFitted, IsJudgedWhole, IsNotJudgedFitted, IsNotJudgedText, IsNotWhole, IsWholeOf}
 use Rattle.verbs.proofs.FittedLemmas.{or_long, seen}
 use Rattle.verbs.proofs.UnfittingLemmas.{ready_as, unready_for}
 
@@ -32,7 +31,7 @@ use Rattle.verbs.proofs.UnfittingLemmas.{ready_as, unready_for}
 pub not_whole : (lines : List FullLine) (celled : List Item) (e : FitFault) → IsWrittenInCells lines celled → IsUnfit celled e → IfInput (IsNotWhole lines) (of_fitting_written e)
 not_whole lines celled fit.NoMemory written unfit = tt
 not_whole lines celled (fit.TooManyItems id) written unfit = inr (record { wide = celled; written = written; id = id; unfit = unfit })
-not_whole lines celled _ written unfit = (celled, (written, unfit))
+not_whole lines celled _ written unfit = (celled, written, unfit)
 
 -- a model that is not written out
 pub not_whole_unwritten : (lines : List FullLine) (x : Refusal) → IfInput (IsWritingFault lines) x → IfInput (IsNotWhole lines) x
@@ -43,7 +42,7 @@ not_whole_unwritten lines _ h = tt
 -- the same of a text that stands for it
 pub not_judged_whole : (text : List ℕ) (lines : List FullLine) (x : Refusal) → StandsForFull text lines → IfInput (IsNotWhole lines) x → IfInput (IsNotJudgedText text) x
 not_judged_whole text lines (refusal.Input (fault.Writing e)) stands h = record { lines = lines; stands = stands; unwritten = h }
-not_judged_whole text lines (refusal.Input (fault.Fitting e)) stands h = inr (record { lines = lines; stands = stands; wide = h.0; written = h.1.0; unfit = h.1.1 })
+not_judged_whole text lines (refusal.Input (fault.Fitting e)) stands h = inr (record { lines = lines; stands = stands; wide = h.0; written = h.1; unfit = h.2 })
 not_judged_whole text lines (refusal.Input _) stands h = absurd h
 not_judged_whole text lines _ stands h = tt
 
@@ -117,3 +116,12 @@ pub refused_over_all : (r : Result Judgement Refusal) (known : Option (List ℕ)
     → IfErr r (IfInput (IsNotJudgedFitted known))
 refused_over_all (Ok j) known text same h = tt
 refused_over_all (Err x) known text same h = not_judged known text x same h
+
+pub over_text : (r : Result Judgement Refusal) (text : List ℕ) (lines : List FullLine) (witness : Option (List ℕ)) → StandsForFull text lines → IfOk r (IsJudgedByWhole lines witness)
+    → IfOk r (IsJudgedWhole (Some text) witness)
+over_text (Ok j) text lines witness stands h = record { lines = lines; stands = stands; judged = h }
+over_text (Err x) text lines witness stands h = tt
+
+pub never_refused : (r : Result Judgement Refusal) (P : Fault → Type 0) → IfErr r (IfInput (λ f. ⊥)) → IfErr r (IfInput P)
+never_refused (Ok j) P h = tt
+never_refused (Err x) P h = never_input P x h

@@ -1,5 +1,5 @@
 -- What is owed and judged of certificates: of the text of an invariant or of a witness circuit, and that of a proof, for a bad property of a model or of a circuit.
-use Rattle.std.specs.Prelude.{◌≡◌, ℕ, List, Option, None}
+use Rattle.std.specs.Prelude.{◌≡◌, ℕ, List, Option}
 use Rattle.aiger.specs.Circuit.{Circuit}
 use Rattle.drup.specs.declared.judgement.Judgement.{Judgement}
 use Rattle.drup.specs.declared.judgement.Judgement.TheVariants as verdict

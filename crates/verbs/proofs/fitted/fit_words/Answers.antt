@@ -1,5 +1,4 @@
 use Rattle.std.proofs.Common.{inl, refl}
-use Rattle.verbs.proofs.FittedLemmas.{not_fit_words}
 use Rattle.verbs.proofs.fitted.fit_words.Goals as goal
 
 pub returns-clause-fitted : goal.returns-clause-fitted

@@ -1,5 +1,5 @@
 use Rattle.std.proofs.Common.{inr}
-use Rattle.verbs.proofs.FittedLemmas.{not_fit_written, unwritten_text}
+use Rattle.verbs.proofs.FittedLemmas.{not_fit_written}
 use Rattle.verbs.proofs.fitted.fit_written.Goals as goal
 
 pub returns-in-Ok-clause-fitted : goal.returns-in-Ok-clause-fitted

@@ -1,4 +1,3 @@
-use Rattle.std.proofs.Common.{rules, ◌≡◌, Err}
 use Rattle.verbs.proofs.CountLemmas.{as_is, as_was, ends_as, failed, handed_on, unfailed}
 use Rattle.verbs.proofs.given.lower_first.Goals as goal
 

@@ -1,13 +1,7 @@
 use Rattle.std.proofs.Common.{ℕ, refl}
 use Rattle.invocation.specs.declared.tasks.Given.TheVariants as given
-use Rattle.verbs.specs.declared.refusals.Claimed.TheVariants as claimed
-use Rattle.verbs.specs.declared.refusals.Refusal.{Refusal}
-use Rattle.verbs.specs.declared.refusals.Refusal.TheVariants as refusal
-use Rattle.verbs.specs.Refusals.{IsWithoutForm}
-use Rattle.verbs.specs.Statuses.{Counts, Ends, IfInput}
-use Rattle.verbs.specs.Statuses.Use.{Unused}
-use Rattle.verbs.proofs.CountLemmas.{as_is, as_was, counted_behind, ends_as, engine_ends, failed, handed_on, idle, input_ends, lifting_failed, of_no_input, unfailed}
-use Rattle.verbs.proofs.GivenLemmas.{formless, gives_lowered, no_form, none_claimable, none_claimed, none_for_engines, not_claimable, not_for_engines, unclaimed_so, unlifted}
+use Rattle.verbs.proofs.CountLemmas.{as_is, as_was, ends_as, failed, handed_on, idle, lifting_failed, unfailed}
+use Rattle.verbs.proofs.GivenLemmas.{gives_lowered, none_claimable, not_claimable, unlifted}
 use Rattle.verbs.proofs.lifting.lift.Goals as goal
 
 pub returns-in_err-lowered-clause-refused : goal.returns-in_err-lowered-clause-refused

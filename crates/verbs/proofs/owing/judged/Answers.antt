@@ -1,4 +1,4 @@
-use Rattle.std.proofs.Common.{rules, ◌≡◌, Err, refl}
+use Rattle.std.proofs.Common.{refl}
 use Rattle.verbs.proofs.CountLemmas.{all_handed_on, as_is, as_was, ends_all_as, failed, unfailed}
 use Rattle.verbs.proofs.owing.judged.Goals as goal
 

@@ -1,4 +1,4 @@
-use Rattle.std.proofs.Common.{Some, None, sym, ap, ◌∙◌}
+use Rattle.std.proofs.Common.{sym, ap, ◌∙◌}
 use Rattle.std.specs.Prelude.{Option, ℕ, option_and_then, slice_get}
 use Rattle.verbs.proofs.SubjectLemmas.{numbered}
 use Rattle.verbs.proofs.subjects.item_of.Goals as goal
