@@ -16,6 +16,7 @@ pub mod Flat
 pub mod Growth
 pub mod Propagator
 pub mod Lists
+pub mod PlainLists
 pub mod Watched
 pub mod Added
 pub mod Swept

@@ -20,6 +20,7 @@ mod named;
 mod number;
 mod passes;
 mod places;
+mod plain_lists;
 mod proof_judge;
 mod propagator;
 mod step_judge;

@@ -1,24 +1,57 @@
 //! Lists of numbers, one for each literal.
-ghost use Rattle.std.specs.Prelude.{◌≡◌, ℕ, ◌+◌, ◌-◌, ◌<◌, ◌++◌, [], ◌∷◌, length, IfOk, OnErr, slice_index, slice_index_or, slice_set, replicate};
+ghost use Rattle.std.specs.Prelude.{◌≡◌, ℕ, ◌<◌, ◌++◌, [], ◌∷◌, length, IfOk, OnErr, slice_index, slice_index_or, slice_set};
 ghost use Rattle.std.specs.List.{swap_remove};
-ghost use Rattle.drup.specs.Lists.{list_at};
+ghost use Rattle.drup.specs.Lists.{list_at, numbered, AreNumbered};
 
 use crate::fault::ClauseFault;
+use crate::plain_lists::PlainLists;
 use std::alloc::Global;
 
-/// Lists of numbers, one for each literal below a limit.
+/// Lists of numbers, one for each literal below a limit. One that never had a number takes four bytes.
 #[derive(Drop)]
 pub struct Lists {
-    lists: Vec<Vec<u32>>,
+    // the list of each literal, by its number; the first list, which stays empty, is of all that never had a number
+    numbers: Vec<u32>,
+    lists: PlainLists,
 }
 
 impl std::marker::Model for Lists {
     ghost use Rattle.std.specs.Prelude.{List, ℕ};
-    ghost use Rattle.drup.specs.Lists.{lists_of};
+    ghost use Rattle.drup.specs.Lists.{lists_of, IsLists};
 
     ghost Value = { List (List ℕ) };
 
     ghost view = { lists_of };
+
+    ghost invariant = { IsLists };
+}
+
+/// The number of a literal's own list, which is made where it has none.
+fn own_list(
+    numbers: &mut Vec<u32>,
+    lists: &mut PlainLists,
+    literal: u32,
+) -> Result<u32, ClauseFault>
+    requires inside { literal < length numbers.old.items }
+    requires numbered { AreNumbered numbers.old.items lists.old }
+    ensures numbered { AreNumbered numbers.new.items lists.new }
+    ensures same { numbered numbers.new.items lists.new
+        ≡ numbered numbers.old.items lists.old }
+    ensures many { length numbers.new.items ≡ length numbers.old.items }
+    ensures own { IfOk result
+        (λ n. (0 < n) × (n ≡ slice_index_or numbers.new.items literal 0)) }
+{
+    let found = numbers[literal as usize];
+    if found > 0 {
+        return Ok(found);
+    }
+    let number = lists.len();
+    if number >= u32::MAX as usize {
+        return Err(ClauseFault::NoMemory);
+    }
+    lists.add()?;
+    numbers[literal as usize] = number as u32;
+    Ok(number as u32)
 }
 
 impl Lists {
@@ -26,22 +59,16 @@ impl Lists {
     pub fn new(alloc: Global, limit: usize) -> Result<Lists, ClauseFault>
         ensures { IfOk result (λ l. (length l ≡ limit) × ((k : ℕ) → list_at l k ≡ [])) }
     {
-        let mut lists = Vec::with_capacity(alloc, limit)?;
-        for k in 0..limit {
-            let _ = k;
-            match lists.push(Vec::new(alloc)) {
-                Ok(_) => {}
-                Err(_) => return Err(ClauseFault::NoMemory),
-            }
-        }
-        Ok(Lists { lists })
+        let numbers = vec![in alloc; 0; limit]?;
+        let lists = PlainLists::new(alloc)?;
+        Ok(Lists { numbers, lists })
     }
 
     /// The limit that literals are below.
     pub fn limit(&self) -> usize
         ensures { result ≡ length self.now }
     {
-        self.lists.len()
+        self.numbers.len()
     }
 
     /// How many numbers the list of a literal has.
@@ -49,7 +76,7 @@ impl Lists {
         requires { literal < length self.now }
         ensures { result ≡ length (list_at self.now literal) }
     {
-        self.lists[literal as usize].len()
+        self.lists.len_of(self.numbers[literal as usize])
     }
 
     /// The number at a place of a literal's list.
@@ -58,7 +85,7 @@ impl Lists {
         requires there { place < length (list_at self.now literal) }
         ensures { result ≡ slice_index (list_at self.now literal) place }
     {
-        self.lists[literal as usize][place]
+        self.lists.at(self.numbers[literal as usize], place)
     }
 
     /// Puts a number behind those of a literal's list.
@@ -68,11 +95,8 @@ impl Lists {
             ≡ slice_set self.old literal (list_at self.old literal ++ number ∷ [])) }
         ensures err { OnErr result (self.new ≡ self.old) }
     {
-        match self.lists[literal as usize].push(number) {
-            Ok(_) => {}
-            Err(_) => return Err(ClauseFault::NoMemory),
-        }
-        Ok(())
+        let list = own_list(&mut self.numbers, &mut self.lists, literal)?;
+        self.lists.push(list, number)
     }
 
     /// Takes the number at a place of a literal's list away; the last one takes its place.
@@ -82,6 +106,6 @@ impl Lists {
         ensures { self.new ≡ slice_set self.old literal
             (swap_remove (list_at self.old literal) place 0) }
     {
-        let _ = self.lists[literal as usize].swap_remove(place);
+        self.lists.remove(self.numbers[literal as usize], place);
     }
 }

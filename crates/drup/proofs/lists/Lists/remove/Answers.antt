@@ -1,16 +1,18 @@
-use Rattle.std.proofs.Common.{◌<◌, ℕ, List, length, ap, ◌∙◌, arith, Vec, Global}
-use Rattle.std.proofs.lemmas.List.{length-map}
-use Rattle.std.specs.Prelude.{slice_set}
+use Rattle.std.proofs.Common.{◌≡◌, ◌<◌, ℕ, List, length, get_or, set, ap, ap₂, sym, ◌∙◌, arith}
 use Rattle.std.specs.List.{swap_remove}
-use Rattle.drup.specs.Lists.{list_at}
-use Rattle.drup.proofs.ListsLemmas.{put_list, list_is, removed_default}
+use Rattle.drup.specs.Lists.{list_at, numbered}
+use Rattle.std.proofs.lemmas.List.{length-map, get_or_read}
+use Rattle.drup.proofs.ListsLemmas.{numbered_at, numbered_set, own_number}
 use Rattle.drup.proofs.lists.Lists.remove.Goals as goal
 
 pub returns : goal.returns
 returns c =
-    let inside : c.args.literal < length c.self.inside.lists.items = omega (arith, c.requires.inside, ap length c.self.view_is, length-map c.self.inside.lists.items (λ (v : Vec ℕ Global). v.items)) in
-    let there : c.args.place < length c.index_mut.result.now.items =
-    omega (arith, c.requires.there, ap (λ (now : List (List ℕ)). length (list_at now c.args.literal)) c.self.view_is, ap length (list_is (λ (v : Vec ℕ Global). v.items) c.self.inside.lists.items c.args.literal c.index_mut.result.now inside c.index_mut.ensures.value)) in
-    (put_list (λ (v : Vec ℕ Global). v.items) c.self.inside.lists.items c.args.literal c.index_mut.result.now c.swap_remove.new.self (λ ys. swap_remove ys c.args.place 0) inside c.index_mut.ensures.value
-    (c.swap_remove.ensures.items ∙ removed_default c.index_mut.result.now.items c.args.place c.swap_remove.result there))
-    ∙ ap (λ (now : List (List ℕ)). slice_set now c.args.literal (swap_remove (list_at now c.args.literal) c.args.place 0)) c.self.view_is
+    let numbers : List ℕ = c.self.inside.numbers.items in
+    let inside : c.args.literal < length numbers = omega (arith, c.requires.inside, ap length c.self.view_is, length-map numbers (list_at c.self.inside.lists)) in
+    let number : c.index.result.now ≡ get_or numbers c.args.literal 0 = get_or_read numbers c.args.literal c.index.result.now inside c.index.ensures 0 in
+    let own : list_at c.self.inside.lists c.index.result.now ≡ list_at c.args.self.now c.args.literal =
+    ap (list_at c.self.inside.lists) number ∙ sym (numbered_at numbers c.self.inside.lists c.args.literal inside) ∙ ap (λ (lists : List (List ℕ)). list_at lists c.args.literal) c.self.view_is in
+    let some : 0 < c.index.result.now = own_number c.self.inside.lists c.index.result.now c.self.invariant.none (omega (arith, c.requires.there, ap length own)) in
+    ap (numbered numbers) c.remove.ensures
+    ∙ numbered_set numbers c.self.inside.lists c.args.literal c.index.result.now (swap_remove (list_at c.self.inside.lists c.index.result.now) c.args.place 0) c.self.invariant inside number some
+    ∙ ap₂ (λ (lists : List (List ℕ)) (list : List ℕ). set lists c.args.literal (swap_remove list c.args.place 0)) c.self.view_is own
