@@ -247,7 +247,7 @@ def leaf_words(model, leaf, value):
     sort, name = model.sort[leaf], model.names[leaf]
     if isinstance(sort, int):
         return [(value, sort, name)]
-    return [(cell, sort[1], name and f"{name}[{at}]") for at, cell in enumerate(value)]
+    return [(cell, sort[1], name and name[: 255 - len(f"[{at}]")] + f"[{at}]") for at, cell in enumerate(value)]
 
 
 def split(model, values, leaves, narrow, narrow_leaves):
