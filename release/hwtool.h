@@ -29,7 +29,7 @@ extern "C" {
 #endif
 
 /* The version of the library that this header goes with. */
-#define HWTOOL_VERSION "0.11.0"
+#define HWTOOL_VERSION "0.12.0"
 
 /* The statuses. */
 enum {
@@ -110,9 +110,9 @@ uint32_t hwtool_lower(const uint8_t *model, size_t model_length, bool binary, ui
 uint32_t hwtool_fit(const uint8_t *model, size_t model_length, uint8_t *buffer, size_t buffer_length, size_t *needed,
                     struct hwtool_refusal *refusal);
 
-/* Judges a witness of a BTOR2 model with words of up to 1,048,576 bits, as hwtool_check_btor does of one with words of at most 64.
- * Answers DONE with `verdict`, TEXT_REFUSED, MODEL_REFUSED (a state has an init and no next, or hwtool_fit does not take it),
- * NO_MEMORY. */
+/* Judges a witness of a BTOR2 model with words of up to 1,048,576 bits, or of one of the whole language each of whose states with
+ * an init line begins with a constant, as hwtool_check_btor does of one that hwtool_lower takes. Answers DONE with `verdict`,
+ * TEXT_REFUSED, MODEL_REFUSED (a state has an init and no next, or hwtool_fit does not take it), NO_MEMORY. */
 uint32_t hwtool_check_btor_fit(const uint8_t *model, size_t model_length, const uint8_t *witness, size_t witness_length,
                                struct hwtool_verdict *verdict, struct hwtool_refusal *refusal);
 
