@@ -30,6 +30,7 @@ use Rattle.cells.specs.Lines.{IsAmong}
 use Rattle.celled.specs.Celled.{IsCelledOf}
 use Rattle.celled.specs.Names.{CellsAreNamed}
 use Rattle.celled.specs.Spots.{Spots, ids_from, layout_by}
+use Rattle.celled.specs.Whole.{HasWholes}
 use Rattle.celled.specs.Split.{HasWord, NextIsTaken, Settled, Stands, ShowsAlike, IsSplit}
 use Rattle.celled.proofs.CellLemmas.{width_from}
 use Rattle.celled.proofs.ArrayOwn.{bits_are}
@@ -365,28 +366,41 @@ nothing_lacks wide t celled inputs states h leaves none =
 
 -- ---- all of it
 
-pub celled_by : (wide : List Item) (t : Spots) (celled : List Item) (inputs states : List ℕ) → IsSplit wide t celled inputs states → IsWideModel greatest_width celled → IsCelledOf wide inputs states celled
-celled_by wide t celled inputs states split model =
+celled_whole : (wide : List Item) (t : Spots) (celled : List Item) (inputs states : List ℕ) → IsSplit wide t celled inputs states → IsWideModel greatest_width celled → (c : IsCelledOf wide inputs states celled) × (c.layout ≡ layout_by t)
+celled_whole wide t celled inputs states split model =
     let h = ended wide t celled inputs states split model in
     let layout = layout_by t in
     let lv = leaves wide t celled inputs states h in
     let same = goes_same wide t celled split.wide_model model in
-    let state_leaves = ap (flat_map layout) (states_by wide wide lv.wide_named) ∙ pieces_filtered (names_state wide) (names_state celled) layout (leaf_ids wide) lv.alike ∙ ap (filter (names_state celled)) split.leaves ∙ sym (states_by celled celled lv.celled_named) in
-    record {
-      layout = layout;
-      fits = fitting wide t celled inputs states h;
-      input_leaves = ap (flat_map layout) (inputs_by wide wide lv.wide_named)
-          ∙ pieces_filtered (λ id. not (names_state wide id)) (λ id. not (names_state celled id)) layout (leaf_ids wide)
-          (all_with (λ id. AllByRecursion (λ p. names_state celled p ≡ names_state wide id) (layout id)) (λ id. AllByRecursion (λ p. not (names_state celled p) ≡ not (names_state wide id)) (layout id)) (leaf_ids wide)
-          (λ id own. all_with (λ p. names_state celled p ≡ names_state wide id) (λ p. not (names_state celled p) ≡ not (names_state wide id)) (layout id) (λ p e. ap not e) own) lv.alike)
-          ∙ ap (filter (λ id. not (names_state celled id))) split.leaves ∙ sym (inputs_by celled celled lv.celled_named);
-      state_leaves = state_leaves;
-      input_cells = split.input_cells wide t celled same;
-      state_cells = split.state_cells wide t celled same;
-      leaf_names = all_with (λ (x : Item). Stands x wide t celled) (CellsAreNamed layout celled) wide (λ x own. own.names) h.stand;
-      bad_names = split.bads.names;
-      constraint_names = split.constraints.names;
-      output_names = split.outputs.names;
-      forms = split.forms;
-      nexts = nothing_lacks wide t celled inputs states h state_leaves;
-    }
+    let state_leaves = ap (flat_map layout) (states_by wide wide lv.wide_named) ∙ pieces_filtered (names_state wide) (names_state celled) layout (leaf_ids wide) lv.alike ∙ ap (filter (names_state celled)) split.leaves ∙ sym (states_by celled celled lv.celled_named) in (
+      record {
+        layout = layout;
+        fits = fitting wide t celled inputs states h;
+        input_leaves = ap (flat_map layout) (inputs_by wide wide lv.wide_named)
+            ∙ pieces_filtered (λ id. not (names_state wide id)) (λ id. not (names_state celled id)) layout (leaf_ids wide)
+            (all_with (λ id. AllByRecursion (λ p. names_state celled p ≡ names_state wide id) (layout id)) (λ id. AllByRecursion (λ p. not (names_state celled p) ≡ not (names_state wide id)) (layout id)) (leaf_ids wide)
+            (λ id own. all_with (λ p. names_state celled p ≡ names_state wide id) (λ p. not (names_state celled p) ≡ not (names_state wide id)) (layout id) (λ p e. ap not e) own) lv.alike)
+            ∙ ap (filter (λ id. not (names_state celled id))) split.leaves ∙ sym (inputs_by celled celled lv.celled_named);
+        state_leaves = state_leaves;
+        input_cells = split.input_cells wide t celled same;
+        state_cells = split.state_cells wide t celled same;
+        leaf_names = all_with (λ (x : Item). Stands x wide t celled) (CellsAreNamed layout celled) wide (λ x own. own.names) h.stand;
+        bad_names = split.bads.names;
+        constraint_names = split.constraints.names;
+        output_names = split.outputs.names;
+        forms = split.forms;
+        nexts = nothing_lacks wide t celled inputs states h state_leaves;
+      },
+      refl,
+    )
+
+-- each node has its whole word where it stands
+wholes : (wide : List Item) (t : Spots) (celled : List Item) (inputs states : List ℕ) → IsSplit wide t celled inputs states → IsWideModel greatest_width celled → HasWholes wide (layout_by t) celled t
+wholes wide t celled inputs states split model id there =
+    let k = known_at wide t celled wide t celled id split.stand (goes_same wide t celled split.wide_model model) there in
+    record { width = k.in_celled ∙ sym (ap (λ (o : Option ℕ). Some (unwrap_or o 0)) k.in_wide); word = k.has.word }
+
+pub celled_with : (wide : List Item) (t : Spots) (celled : List Item) (inputs states : List ℕ) → IsSplit wide t celled inputs states → IsWideModel greatest_width celled → (c : IsCelledOf wide inputs states celled) × HasWholes wide c.layout celled t
+celled_with wide t celled inputs states split model =
+    let c = celled_whole wide t celled inputs states split model in
+    (c.0, subst (λ (layout : Layout). HasWholes wide layout celled t) (sym c.1) (wholes wide t celled inputs states split model))

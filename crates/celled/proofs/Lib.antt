@@ -19,3 +19,4 @@ pub mod CallLemmas
 pub mod SplitLemmas
 pub mod EndLemmas
 pub mod WrittenLemmas
+pub mod WholeLemmas

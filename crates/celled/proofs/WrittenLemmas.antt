@@ -1,5 +1,5 @@
 -- The cells of the leaves of a model are such as a list is split by that it is written out as.
-use Rattle.std.proofs.Common.{◌≡◌, ℕ, ◌*◌, ◌^◌, Bool, true, false, cond, List, [], ◌∷◌, ◌++◌, map, Option, Some, None, IfSome, option_map, option_and_then, unwrap_or, refl, sym, ap, subst, ◌∙◌, arith}
+use Rattle.std.proofs.Common.{◌≡◌, ℕ, Bool, true, false, cond, List, [], ◌∷◌, ◌++◌, map, Option, Some, None, IfSome, option_and_then, refl, sym, ap, subst, ◌∙◌, arith}
 use Rattle.std.specs.List.{AllByRecursion, AllZip}
 use Rattle.btor2.specs.declared.item.Item.{Item}
 use Rattle.btor2.specs.declared.item.Body.{Body}
@@ -7,8 +7,8 @@ use Rattle.btor2.specs.declared.item.Body.TheVariants as body
 use Rattle.btor2.specs.Items.{is_input, is_state}
 use Rattle.btor2.specs.Trace.{bits_of}
 use Rattle.fitting.specs.Models.{input_ids, state_ids}
-use Rattle.full.specs.Lines.{Says, form, FullLine, Sort, words, arrays, find_line, is_form, lines_of, full_ids, sort_of, sort_of_node, size_of, width_of}
-use Rattle.full.specs.WrittenOut.{Places, one_id, InputIsWritten, StateIsWritten, LeafIsWritten, IsFirstAlone, IsWrittenOut}
+use Rattle.full.specs.Lines.{Says, form, FullLine, Sort, words, arrays, find_line, is_form, lines_of, full_ids, sort_of, size_of, width_of}
+use Rattle.full.specs.WrittenOut.{Places, one_id, LeafIsWritten, IsFirstAlone, IsWrittenOut}
 use Rattle.full.proofs.ListLemmas.{all_with, all_both}
 use Rattle.full.proofs.FullLookUps.{each_found}
 use Rattle.celled.specs.Celled.{IsWordOfCells, AreCells}

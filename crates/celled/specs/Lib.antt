@@ -6,4 +6,5 @@ pub mod Digits
 pub mod Split
 pub mod Steps
 pub mod Worked
+pub mod Whole
 pub mod Written

@@ -1,9 +1,9 @@
 -- Models of the whole language, written out as lists in which each cell of an array has a leaf.
-use Rattle.std.specs.Prelude.{ℕ, Bool, List, ◌++◌, Option, Some, None, map}
+use Rattle.std.specs.Prelude.{◌≡◌, ℕ, Bool, List, ◌++◌, Option, Some, None, map}
 use Rattle.btor2.specs.declared.item.Item.{Item}
 use Rattle.btor2.specs.declared.item.Body.{Body}
 use Rattle.btor2.specs.Items.{is_input, is_state}
-use Rattle.full.specs.Lines.{FullLine, Sort, words, arrays, lines_of, sort_of}
+use Rattle.full.specs.Lines.{FullLine, Sort, words, arrays, lines_of, full_ids, sort_of}
 use Rattle.full.specs.WrittenOut.{Places, one_id, IsWrittenOut}
 use Rattle.celled.specs.declared.written.Leaves.{Leaves}
 use Rattle.celled.specs.declared.written.Leaves.TheVariants as leaves
@@ -33,3 +33,8 @@ pub record IsWrittenInCells (full : List FullLine) (celled : List Item) : Type 0
   pub wide : List Item
   pub written : IsWrittenOut full places wide
   pub cells : IsCelledOf wide (leaf_cells is_input full) (leaf_cells is_state full ++ map (λ w. 1) (one_id places.first)) celled
+
+-- A model is written out as a list, in which its states have such nodes and such states of the list, in file order.
+abbrev pub IsWrittenWith : List FullLine → List Item → List ℕ → List ℕ → Type 0
+IsWrittenWith full wide nodes leaves =
+    (p : Places) × IsWrittenOut full p wide × ((nodes ≡ map p.node (full_ids is_state full)) × (leaves ≡ map p.leaf (full_ids is_state full)))

@@ -16,4 +16,4 @@ mod table;
 mod written;
 
 pub use splitting::split_arrays;
-pub use written::write_out;
+pub use written::{Celled, write_out, write_out_with_words};

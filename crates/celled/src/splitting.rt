@@ -7,6 +7,7 @@ ghost use Rattle.celled.specs.Celled.{AreCells, IsCelledOf};
 ghost use Rattle.celled.specs.Spots.{spots_of};
 ghost use Rattle.celled.specs.Split.{IsSplit};
 ghost use Rattle.celled.specs.Steps.{At, HasSize, IsSplitOn, SizeIs, SeenBy};
+ghost use Rattle.celled.specs.Whole.{HasWholes};
 
 use crate::known::know_list;
 use crate::lines::{line_at, put_line};
@@ -111,6 +112,35 @@ fn put_lines(
     Ok(())
 }
 
+/// A list with cells, and where the lines of the list that it was written from stand in it.
+#[derive(Drop)]
+pub(crate) struct Split {
+    pub(crate) list: WideModel,
+    pub(crate) table: Table,
+}
+
+/// Writes a list as `split_arrays` does, and keeps where its lines stand.
+pub(crate) fn split_with_table(
+    alloc: Global,
+    wide: &WideModel,
+    inputs: &[u64],
+    states: &[u64],
+) -> Result<Split, Shortage>
+    requires inputs { AreCells wide.now (input_ids wide.now) inputs.now }
+    requires states { AreCells wide.now (state_ids wide.now) states.now }
+    ensures { IfOk result (λ s. (c : IsCelledOf wide.now inputs.now states.now s.list)
+        × HasWholes wide.now c.layout s.list (spots_of s.table)) }
+{
+    let mut maker = ListMaker::new(alloc);
+    let mut table = Table::new(alloc);
+    put_lines(alloc, wide, inputs, states, &mut maker, &mut table)?;
+    know_list(&maker);
+    Ok(Split {
+        list: maker.finish(),
+        table,
+    })
+}
+
 /// Writes a list of wide items so that each input and each state has a leaf for each of its cells: of so many bits as is given for the inputs, and for the
 /// states, in file order, and a power of two of them. Cell i of n bits is the bits n * i to n * i + n - 1 of the leaf's word. The word itself is a node, from the
 /// cells in a balanced tree; init and next lines become lines of the cells.
@@ -124,9 +154,6 @@ pub fn split_arrays(
     requires states { AreCells wide.now (state_ids wide.now) states.now }
     ensures { IfOk result (IsCelledOf wide.now inputs.now states.now) }
 {
-    let mut maker = ListMaker::new(alloc);
-    let mut table = Table::new(alloc);
-    put_lines(alloc, wide, inputs, states, &mut maker, &mut table)?;
-    know_list(&maker);
-    Ok(maker.finish())
+    let split = split_with_table(alloc, wide, inputs, states)?;
+    Ok(split.list)
 }

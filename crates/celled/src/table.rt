@@ -1,11 +1,11 @@
 //! Where the lines of a list stand in the one with cells.
-ghost use Rattle.std.specs.Prelude.{◌≡◌, ℕ, ◌==◌, if◌then◌else◌, OnOk, IfErr};
+ghost use Rattle.std.specs.Prelude.{◌≡◌, ℕ, ◌==◌, if◌then◌else◌, map, OnOk, IfOk};
 ghost use Rattle.cells.specs.declared.shortage.Shortage.TheVariants as shortage;
 ghost use Rattle.celled.specs.Spots.{spots_of};
 
 use cells::Shortage;
 use indexmap::IndexMap;
-use std::alloc::Global;
+use std::alloc::{AllocError, Global};
 
 /// Where a line stands.
 #[derive(Clone, Copy)]
@@ -67,5 +67,15 @@ impl Table {
             Ok(_) => Ok(()),
             Err(_) => Err(Shortage::NoMemory),
         }
+    }
+    /// The nodes that have the whole words of nodes, by their ids.
+    pub(crate) fn nodes_of(&self, alloc: Global, ids: &[u32]) -> Result<Vec<u32>, AllocError>
+        ensures { IfOk result (λ nodes. nodes.items ≡ map (spots_of self.now).node ids.now) }
+    {
+        let mut nodes = Vec::new(alloc);
+        for id in ids {
+            nodes.push(self.get(*id).node)?;
+        }
+        Ok(nodes)
     }
 }

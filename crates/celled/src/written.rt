@@ -1,21 +1,23 @@
 //! Models of the whole language, written out with a leaf for each cell of an array.
 ghost use Rattle.std.specs.Prelude.{◌≡◌, ◌++◌, [], ◌∷◌, true, false, Some, MatchOption, option_map, map, IfErr, IfOk, OnOk, length};
-ghost use Rattle.full.specs.Lines.{is_form, sort_named};
+ghost use Rattle.std.specs.List.{AllZip};
+ghost use Rattle.full.specs.Lines.{is_form, sort_named, full_ids};
 ghost use Rattle.full.specs.WrittenOut.{Places, IsWrittenOut, one_id};
 ghost use Rattle.fullmodel.specs.Lines.{line_of, sort_value};
 ghost use Rattle.fitting.specs.Models.{state_ids};
 ghost use Rattle.wide.specs.Lines.{item_of};
 ghost use Rattle.writeout.specs.Faults.{IsUnwritten, NoneIsLiveItem};
 ghost use Rattle.btor2.specs.Items.{is_state};
-ghost use Rattle.celled.specs.Written.{IsWrittenInCells, cell_bits, cells_among, kind_of, leaf_cells};
+ghost use Rattle.celled.specs.Written.{IsWrittenInCells, IsWrittenWith, cell_bits, cells_among, kind_of, leaf_cells};
+ghost use Rattle.celled.specs.Whole.{IsWhole};
 
-use crate::splitting::split_arrays;
+use crate::splitting::split_with_table;
 use btor2::Body;
 use cells::Shortage;
 use fullmodel::{FullModel, Line, Says, Sort};
 use std::alloc::{AllocError, Global};
 use wide::WideModel;
-use writeout::WriteFault;
+use writeout::{WriteFault, Written, write_out_with_nodes};
 
 /// Inputs, or states.
 #[derive(Clone, Copy)]
@@ -123,6 +125,66 @@ fn state_cells(alloc: Global, full: &FullModel, wide: &WideModel) -> Result<Vec<
     Ok(cells)
 }
 
+/// A model written out with cells, and where the list has the words of the model's states. Of each state there are two nodes, in
+/// file order.
+#[derive(Drop)]
+pub struct Celled {
+    /// The list.
+    pub list: WideModel,
+    /// The nodes that have the whole words of the states that the list that the model is written out as has for them.
+    pub leaves: Vec<u32>,
+    /// The nodes that have the words of the states.
+    pub nodes: Vec<u32>,
+}
+
+/// Writes a list that a model is written out as with cells, and finds the nodes of the words of the model's states.
+fn put_cells(alloc: Global, full: &FullModel, written: &Written) -> Result<Celled, Shortage>
+    requires written { IsWrittenWith full.now written.now.wide written.now.nodes.items written.now.leaves.items }
+    requires forms { NoneIsLiveItem written.now.wide }
+    ensures written { IfOk result (λ c. (w : IsWrittenInCells full.now c.list)
+        × (AllZip (IsWhole w.wide w.cells.layout c.list) (map w.places.leaf (full_ids is_state full.now)) c.leaves.items
+        × AllZip (IsWhole w.wide w.cells.layout c.list) (map w.places.node (full_ids is_state full.now)) c.nodes.items)) }
+    ensures forms { IfOk result (λ c. NoneIsLiveItem c.list) }
+{
+    let Ok(inputs) = leaf_cells(alloc, full, Leaves::Inputs) else {
+        return Err(Shortage::NoMemory);
+    };
+    let Ok(states) = state_cells(alloc, full, &written.wide) else {
+        return Err(Shortage::NoMemory);
+    };
+    let split = split_with_table(alloc, &written.wide, inputs.as_slice(), states.as_slice())?;
+    let Ok(leaves) = split.table.nodes_of(alloc, written.leaves.as_slice()) else {
+        return Err(Shortage::NoMemory);
+    };
+    let Ok(nodes) = split.table.nodes_of(alloc, written.nodes.as_slice()) else {
+        return Err(Shortage::NoMemory);
+    };
+    Ok(Celled {
+        list: split.list,
+        leaves,
+        nodes,
+    })
+}
+
+/// Writes a model out as `write_out` does, and answers of each state of the model the nodes of the list that have the whole word
+/// of its state in the list that the model is written out as, and of the node of its word there.
+///
+/// Errors: those of `write_out`.
+pub fn write_out_with_words(alloc: Global, full: &FullModel) -> Result<Celled, WriteFault>
+    ensures written { IfOk result (λ c. (w : IsWrittenInCells full.now c.list)
+        × (AllZip (IsWhole w.wide w.cells.layout c.list) (map w.places.leaf (full_ids is_state full.now)) c.leaves.items
+        × AllZip (IsWhole w.wide w.cells.layout c.list) (map w.places.node (full_ids is_state full.now)) c.nodes.items)) }
+    ensures forms { IfOk result (λ c. NoneIsLiveItem c.list) }
+    ensures refused { IfErr result (IsUnwritten full.now) }
+{
+    let written = write_out_with_nodes(alloc, full)?;
+    match put_cells(alloc, full, &written) {
+        Ok(celled) => Ok(celled),
+        Err(Shortage::TooManyItems) => Err(WriteFault::TooManyItems),
+        Err(Shortage::NoMemory) => Err(WriteFault::NoMemory),
+    }
+}
+
 /// Writes a model of the whole safety language out as `writeout::write_out` does, with an input or a state for each cell of an
 /// array, in the place of the array and with its name and the cell's index.
 ///
@@ -132,16 +194,6 @@ pub fn write_out(alloc: Global, full: &FullModel) -> Result<WideModel, WriteFaul
     ensures forms { IfOk result NoneIsLiveItem }
     ensures refused { IfErr result (IsUnwritten full.now) }
 {
-    let wide = writeout::write_out(alloc, full)?;
-    let Ok(inputs) = leaf_cells(alloc, full, Leaves::Inputs) else {
-        return Err(WriteFault::NoMemory);
-    };
-    let Ok(states) = state_cells(alloc, full, &wide) else {
-        return Err(WriteFault::NoMemory);
-    };
-    match split_arrays(alloc, &wide, inputs.as_slice(), states.as_slice()) {
-        Ok(celled) => Ok(celled),
-        Err(Shortage::TooManyItems) => Err(WriteFault::TooManyItems),
-        Err(Shortage::NoMemory) => Err(WriteFault::NoMemory),
-    }
+    let celled = write_out_with_words(alloc, full)?;
+    Ok(celled.list)
 }

@@ -16,4 +16,5 @@ pub mod ConstantLemmas
 pub mod FitterLemmas
 pub mod DigitLemmas
 pub mod ModelLemmas
+pub mod PlaceLemmas
 pub mod ProfileLemmas

@@ -7,7 +7,6 @@ use Rattle.btor2.specs.declared.item.Item.{Item}
 use Rattle.btor2.specs.declared.item.Body.{Body}
 use Rattle.btor2.specs.declared.item.Body.TheVariants as body
 use Rattle.btor2.specs.Items.{find_item, node_sort, node_width, width_of_body, sort_bits, sort_width, operands, constant_word, is_input, is_state}
-use Rattle.btor2.specs.Check.{IsWellFormed}
 use Rattle.btor2.specs.Trace.{Frame, bits_of, line_word, IsFrame, IsInput, IsState}
 use Rattle.btor2.proofs.AppendLemmas.{find_item-append, find_item-after, sort_width-append, node_width-append, then_parts, some_of, is_some_from}
 use Rattle.btor2.proofs.ModelLemmas.{IsIn-from_find, find_item-own}

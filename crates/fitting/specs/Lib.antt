@@ -8,3 +8,4 @@ pub mod Steps
 pub mod Tables
 pub mod Faults
 pub mod Models
+pub mod Laid

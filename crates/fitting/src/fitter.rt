@@ -7,7 +7,7 @@ use crate::unfitted::{Unfitted, form_fault};
 use crate::words::Words;
 use btor2::{Body, Item, Model, Symbol};
 use indexmap::IndexMap;
-use pieces::{Maker, Shortage, constant};
+use pieces::{Maker, Node, Shortage, constant};
 use std::alloc::Global;
 
 /// A model with words of any width that is fitted into a model of the profile, as its lines come: what is held is the model of
@@ -51,7 +51,8 @@ impl Fitter {
     pub fn finish(self) -> Model
         ghost wide: { List Item }
         requires fitted { IsFitted wide (table_of self) self.maker }
-        ensures { (fit : IsFit wide result) × (fit.layout ≡ layout_of self) }
+        ensures fit { (fit : IsFit wide result) × (fit.layout ≡ layout_of self) }
+        ensures model { result ≡ self.maker }
     {
         let _items = self.maker.model().items();
         self.maker.finish()
@@ -62,6 +63,13 @@ impl Fitter {
         ensures { result.now ≡ self.now.maker }
     {
         self.maker.model()
+    }
+
+    /// The nodes of a word by its id, the lowest first. There are none where there is no such word.
+    pub(crate) fn word(&self, id: u32) -> &[Node]
+        ensures { result.now ≡ (table_of self.now).words id }
+    {
+        self.words.get(id)
     }
 
     /// The width of a sort.

@@ -83,7 +83,11 @@ fn add_line(alloc: Global, fitter: &mut Fitter, line: Line) -> Result<(), FitFau
 }
 
 /// Adds the lines of a model, each after those before it.
-fn add_lines(alloc: Global, fitter: &mut Fitter, lines: Vec<Line>) -> Result<(), FitFault>
+pub(crate) fn add_lines(
+    alloc: Global,
+    fitter: &mut Fitter,
+    lines: Vec<Line>,
+) -> Result<(), FitFault>
     ghost items: { List Item }
     requires items { map item_of lines.items ≡ items }
     requires well_formed { IsWideModel greatest_width items }

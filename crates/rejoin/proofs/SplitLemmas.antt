@@ -95,7 +95,7 @@ first_begins wide narrow fit w (first ∷ later) e h =
     subst (λ (frames : List Parts). BeginsAlike wide fit.layout narrow (initial_words wide (words_of (record { claims = w.claims; frames = frames }))) (initial_words narrow (words_of (split_witness (shape_of wide) (record { claims = w.claims; frames = frames })))))
     (sym e) (begin_alike wide narrow fit first.states (all_told wide (first ∷ later) h).0.0)
 
-split_alike : (wide narrow : List Item) (fit : IsFit wide narrow) (w : Witness) → IsWitness (shape_of wide) w → AreAlike wide fit.layout narrow (words_of w) (words_of (split_witness (shape_of wide) w))
+pub split_alike : (wide narrow : List Item) (fit : IsFit wide narrow) (w : Witness) → IsWitness (shape_of wide) w → AreAlike wide fit.layout narrow (words_of w) (words_of (split_witness (shape_of wide) w))
 split_alike wide narrow fit w valid =
     let begins = first_begins wide narrow fit w w.frames refl valid.frames in
     record {

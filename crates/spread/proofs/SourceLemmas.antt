@@ -21,14 +21,15 @@ use Rattle.spread.proofs.GivingLemmas.{lines_by-both, text_of_both}
 use Rattle.rejoin.specs.declared.fault.UnfitFault.{UnfitFault}
 use Rattle.spread.specs.Spread.{IsShort, spread_text, lines_by, admitted_line}
 use Rattle.spread.specs.Stands.{Spreader, part_behind, IsWideShape, StandsFor, EndsFor, Takes, TakesAll}
+use Rattle.spread.specs.Heard.{Hears, HearsAll}
 
 -- the part that is open behind some lines
 abbrev pub part_after : Part → List (List ℕ) → Part
 part_after p [] = p
 part_after p (line ∷ lines) = part_after (part_behind p line) lines
 
--- what the lines of a front of what a source gives become was taken
-pub record Followed {K : Type 0} (written : K → Option (List ℕ)) (failures : K → ℕ) (make : Part → List ℕ → List ℕ) (open' : Part) (s t : K) (p q : Pen) (before after : Spreader) (known now : Option (List ℕ)) : Type 0 where
+-- what the lines of a front of what a source gives become was taken, and heard
+pub record Followed {K O H : Type 0} (written : K → Option (List ℕ)) (failures : K → ℕ) (Stands : O → H → Shape → List Item → List ℕ → Type 0) (make : Part → List ℕ → List ℕ) (open' : Part) (s t : K) (p q : Pen) (before after : Spreader) (h k : H) (known now : Option (List ℕ)) : Type 0 where
   pub front : List ℕ
   pub consumes : Consumes known now front
   pub ended : unfinished front ≡ []
@@ -37,6 +38,8 @@ pub record Followed {K : Type 0} (written : K → Option (List ℕ)) (failures :
   pub writes : WritesText written failures s t p q out
   pub takes :
       (shape : Shape) (narrow : List Item) → IsWideShape shape → shape_of narrow ≡ cut_shape shape → IsShort (text_made make front) → StandsFor shape narrow before [] → StandsFor shape narrow after (text_made make front) × (out ≡ spread_text shape (text_made make front))
+  pub heard :
+      (over : O) (shape : Shape) (narrow : List Item) → IsWideShape shape → shape_of narrow ≡ cut_shape shape → IsShort (text_made make front) → StandsFor shape narrow before [] → Stands over h shape narrow [] → Stands over k shape narrow (text_made make front)
 
 -- ---- what lines become
 
@@ -105,6 +108,15 @@ made_rest make front rest ended is =
     made_behind make front rest ended
     ∙ ap (λ (l : List ℕ). text_made make front ++ l) (ap₂ (λ (ls : List (List ℕ)) (l : List ℕ). text_of_lines (lines_made make (part_after part.Outside (whole_lines front)) ls) ++ l) (whole_lines-last rest is) (unfinished-last rest is))
 
+made_ends : (make : Part → List ℕ → List ℕ) (front : List ℕ) → unfinished front ≡ [] → unfinished (text_made make front) ≡ []
+made_ends make front ended = unfinished-lines (lines_made make part.Outside (whole_lines front)) (unfinished front) ∙ ap unfinished ended
+
+-- it is the text of its lines
+whole_made : (make : Part → List ℕ → List ℕ) (front : List ℕ) → unfinished front ≡ [] → text_of_lines (whole_lines (text_made make front)) ≡ text_made make front
+whole_made make front ended =
+    let made : List ℕ = text_made make front in
+    sym (append-nil _) ∙ (ap (λ (l : List ℕ). text_of_lines (whole_lines made) ++ l) (sym (made_ends make front ended)) ∙ parts_of_text made)
+
 -- ---- the lines of a source
 
 nothing_spread : (shape : Shape) → spread_text shape [] ≡ []
@@ -131,8 +143,8 @@ spread_front shape front behind =
           ∙ (ap text_of_lines (lines_by-both shape going (so_far 0 nothing_read) (whole_lines front) (whole_lines (unfinished front ++ behind))) ∙ text_of_both (lines_by shape going (so_far 0 nothing_read) (whole_lines front)) others),
     )
 
-module _ {K : Type 0} {written : K → Option (List ℕ)} {failures : K → ℕ} {make : Part → List ℕ → List ℕ} where
-  pub follows_none : {s : K} {p : Pen} {a : Spreader} (known : Option (List ℕ)) → Followed written failures make part.Outside s s p p a a known (prepend_known [] known)
+module _ {K O H : Type 0} {written : K → Option (List ℕ)} {failures : K → ℕ} {Stands : O → H → Shape → List Item → List ℕ → Type 0} {make : Part → List ℕ → List ℕ} where
+  pub follows_none : {s : K} {p : Pen} {a : Spreader} {x : H} (known : Option (List ℕ)) → Followed written failures Stands make part.Outside s s p p a a x x known (prepend_known [] known)
   follows_none known = record {
     front = [];
     consumes = subst (λ (now : Option (List ℕ)). Consumes known now []) (sym (prepend_known-nil known)) (Consumes-nil known);
@@ -141,11 +153,12 @@ module _ {K : Type 0} {written : K → Option (List ℕ)} {failures : K → ℕ}
     out = [];
     writes = writes_none;
     takes = λ shape narrow good cut short h. (h, sym (nothing_spread shape));
+    heard = λ over shape narrow good cut short h stands. stands;
   }
 
-  pub follows_line : {s t u : K} {p q r : Pen} {a b c : Spreader} {known now then' : Option (List ℕ)} {open' : Part} {line : List ℕ} → Followed written failures make open' s t p q a b known now → IsLine line → Consumes now then' (line ++ 10 ∷ []) → Takes written failures t u q r b c (make open' line)
-      → Followed written failures make (part_behind open' line) s u p r a c known then'
-  follows_line {a = a} {c = c} {known = known} {now = now} {then' = then'} {open' = open'} {line = line} so is took takes =
+  pub follows_line : {s t u : K} {p q r : Pen} {a b c : Spreader} {x y z : H} {known now then' : Option (List ℕ)} {open' : Part} {line : List ℕ} → Followed written failures Stands make open' s t p q a b x y known now → IsLine line → Consumes now then' (line ++ 10 ∷ [])
+      → Takes written failures t u q r b c (make open' line) → Hears Stands y z c (make open' line) → Followed written failures Stands make (part_behind open' line) s u p r a c x z known then'
+  follows_line {a = a} {c = c} {x = x} {z = z} {known = known} {now = now} {then' = then'} {open' = open'} {line = line} so is took takes hears =
       let made : text_made make (so.front ++ (line ++ 10 ∷ [])) ≡ text_made make so.front ++ (make open' line ++ 10 ∷ []) =
       made_line make so.front line so.ended is ∙ ap (λ (p : Part). text_made make so.front ++ (make p line ++ 10 ∷ [])) (sym so.is_open) in
       record {
@@ -161,9 +174,14 @@ module _ {K : Type 0} {written : K → Option (List ℕ)} {failures : K → ℕ}
             let first = so.takes shape narrow good cut (short_front (text_made make so.front) (make open' line ++ 10 ∷ []) short) h in
             let next = takes.takes shape narrow (text_made make so.front) good cut short first.0 in
             (next.0, ap (λ (l : List ℕ). l ++ takes.out) first.1 ∙ sym next.1));
+        heard = λ over shape narrow good cut.
+            subst (λ (text : List ℕ). IsShort text → StandsFor shape narrow a [] → Stands over x shape narrow [] → Stands over z shape narrow text) (sym made)
+            (λ short h stands.
+            let shorter = short_front (text_made make so.front) (make open' line ++ 10 ∷ []) short in
+            hears over shape narrow (text_made make so.front) good cut (made_ends make so.front so.ended) short (takes.takes shape narrow (text_made make so.front) good cut short (so.takes shape narrow good cut shorter h).0).0 (so.heard over shape narrow good cut shorter h stands));
       }
 
-  pub follows_all : {s t : K} {p q : Pen} {a b c : Spreader} {open' : Part} (known now left : Option (List ℕ)) (rest : List ℕ) → Followed written failures make open' s t p q a b known now → Keeps now (prepend_known rest left) → IsAtEnd left → IsLine rest
+  pub follows_all : {s t : K} {p q : Pen} {a b c : Spreader} {x y : H} {open' : Part} (known now left : Option (List ℕ)) (rest : List ℕ) → Followed written failures Stands make open' s t p q a b x y known now → Keeps now (prepend_known rest left) → IsAtEnd left → IsLine rest
       → ((shape : Shape) (narrow : List Item) (text : List ℕ) → IsLine rest → StandsFor shape narrow b text → EndsFor shape narrow c (text ++ rest)) → TakesAll {E = UnfitFault} (Ok tt) written failures s t p q a c (source_made make known)
   follows_all {a = a} {c = c} known now left rest so kept end' is ends = record {
     out = so.out;
@@ -184,8 +202,25 @@ module _ {K : Type 0} {written : K → Option (List ℕ)} {failures : K → ℕ}
           let took = so.takes shape narrow good cut (short_front (text_made make so.front) rest short) h in
           (ends shape narrow (text_made make so.front) is took.0, took.1 ∙ sym (same_spread shape (text_made make so.front) rest is)))
 
+  -- what is heard of it
+  pub heard_all : {s t : K} {p q : Pen} {a b : Spreader} {x y : H} {open' : Part} (known now left : Option (List ℕ)) (rest : List ℕ) → Followed written failures Stands make open' s t p q a b x y known now → Keeps now (prepend_known rest left) → IsAtEnd left → IsLine rest
+      → HearsAll Stands x y a (source_made make known)
+  heard_all {a = a} {x = x} {y = y} known now left rest so kept end' is = λ shape narrow good cut h. by shape narrow good cut h known now left so.consumes kept end'
+    where
+      by : (shape : Shape) (narrow : List Item) → IsWideShape shape → shape_of narrow ≡ cut_shape shape → StandsFor shape narrow a [] → (known now left : Option (List ℕ)) → Consumes known now so.front → Keeps now (prepend_known rest left) → IsAtEnd left
+          → IfSome (source_made make known) (λ text. IsShort text → (over : O) → Stands over x shape narrow [] → Stands over y shape narrow (text_of_lines (whole_lines text)))
+      by shape narrow good cut h None now left consumes kept end' = tt
+      by shape narrow good cut h (Some text) None left consumes kept end' = absurd consumes
+      by shape narrow good cut h (Some text) (Some behind) None consumes kept end' = absurd kept
+      by shape narrow good cut h (Some text) (Some behind) (Some none) consumes kept end' =
+          let whole : text ≡ so.front ++ rest = consumes ∙ ap (λ (l : List ℕ). so.front ++ l) (sym kept ∙ (ap (λ (l : List ℕ). rest ++ l) end' ∙ append-nil rest)) in
+          let made : List ℕ = text_made make so.front in
+          let lines : text_of_lines (whole_lines (made ++ rest)) ≡ made = ap text_of_lines (whole_lines-part made rest is) ∙ whole_made make so.front so.ended in
+          subst (λ (t : List ℕ). IsShort t → (over : O) → Stands over x shape narrow [] → Stands over y shape narrow (text_of_lines (whole_lines t))) (sym (ap (text_made make) whole ∙ made_rest make so.front rest so.ended is))
+          (λ short over stands. subst (Stands over y shape narrow) (sym lines) (so.heard over shape narrow good cut (short_front made rest short) h stands))
+
   -- where it is not to its end
-  pub follows_fault : {E : Type 0} {s t : K} {p q : Pen} {a b c : Spreader} {open' : Part} (known now : Option (List ℕ)) (e : E) → Followed written failures make open' s t p q a b known now → TakesAll (Err e) written failures s t p q a c (source_made make known)
+  pub follows_fault : {E : Type 0} {s t : K} {p q : Pen} {a b c : Spreader} {x y : H} {open' : Part} (known now : Option (List ℕ)) (e : E) → Followed written failures Stands make open' s t p q a b x y known now → TakesAll (Err e) written failures s t p q a c (source_made make known)
   follows_fault {a = a} known now e so = record { out = so.out; writes = so.writes; ends = tt; stops = λ shape narrow good cut h. by shape narrow good cut h known now so.consumes }
     where
       by : (shape : Shape) (narrow : List Item) → IsWideShape shape → shape_of narrow ≡ cut_shape shape → StandsFor shape narrow a [] → (known now : Option (List ℕ)) → Consumes known now so.front → IfSome (source_made make known) (λ text. IsShort text → BeginsWith (spread_text shape text) so.out)

@@ -4,5 +4,6 @@ pub mod Passing
 pub mod Words
 pub mod Stands
 pub mod Made
+pub mod Heard
 pub mod Answers
 pub mod Worked

@@ -8,9 +8,11 @@ ghost use Rattle.witness.specs.Judgements.{Judges};
 ghost use Rattle.spread.specs.Answers.{IsOfFitted};
 ghost use Rattle.spread.specs.Spread.{IsShort};
 ghost use Rattle.spread.specs.Made.{source_made};
+ghost use Rattle.spread.specs.Heard.{HearsText};
 
+use crate::hearing::{Deaf, Hearer};
 use crate::making::{AsTheyAre, Lines};
-use crate::spreading::spread_by;
+use crate::spreading::spread_heard;
 use base::{DeviceFault, Sink, Source};
 use btor2::Model;
 use rejoin::{Shape, UnfitFault};
@@ -29,22 +31,27 @@ impl Sink for Nowhere {
     }
 }
 
-/// Judges, as `judge_spread` does, the text that the lines of a source become. Beside what that holds, it holds what the last line
-/// became.
+/// Judges, as `judge_spread` does, the text that the lines of a source become, and has each of these heard behind the judge that took
+/// it. Beside what that holds, it holds what the last line became.
 ///
 /// Conditions and errors: those of `judge_spread`, of the text that the lines become. `NoMemory` also where there is none for a line.
-pub fn judge_spread_by<S: Source, L: Lines>(
+pub fn judge_spread_by<S: Source, L: Lines, H: Hearer>(
     alloc: Global,
     shape: &Shape,
     narrow: &Model,
     source: &mut S,
     lines: &L,
+    hearer: &mut H,
 ) -> Result<Judgement, JudgeFault>
     requires fitted { (wide : List Item) × IsOfFitted shape.now narrow.now wide }
     // the judgement is that of the whole text over the model
     ensures judged { (wide : List Item) → IsOfFitted shape.now narrow.now wide
         → IfOk result (λ judgement. IfSome (source_made (L.becomes lines.now) (S.to_come source.old))
         (λ text. IsShort text → Judges wide text judgement)) }
+    // all whole lines were heard
+    ensures heard { (wide : List Item) → IsOfFitted shape.now narrow.now wide
+        → OnOk result (HearsText H.stands hearer.old hearer.new wide narrow.now
+        (source_made (L.becomes lines.now) (S.to_come source.old))) }
     // a state with an init and no next is named exactly where there is one, the first
     ensures answer { AnswersJudge result (first_init_without_next narrow.now narrow.now) }
     ensures unread { IfErr result (λ e. NamesState e → source.new ≡ source.old) }
@@ -52,7 +59,7 @@ pub fn judge_spread_by<S: Source, L: Lines>(
     // the source failed once where a device's fault is answered, and else not at all
     ensures counted { CountsJudge result (S.failures source.old) (S.failures source.new) }
 {
-    match spread_by(alloc, shape, narrow, source, &mut Nowhere, lines) {
+    match spread_heard(alloc, shape, narrow, source, &mut Nowhere, lines, hearer) {
         Ok(judgement) => Ok(judgement),
         Err(UnfitFault::Read) => Err(JudgeFault::Device),
         Err(UnfitFault::NoMemory) => Err(JudgeFault::NoMemory),
@@ -87,5 +94,5 @@ pub fn judge_spread<S: Source>(
     // the source failed once where a device's fault is answered, and else not at all
     ensures counted { CountsJudge result (S.failures source.old) (S.failures source.new) }
 {
-    judge_spread_by(alloc, shape, narrow, source, &AsTheyAre)
+    judge_spread_by(alloc, shape, narrow, source, &AsTheyAre, &mut Deaf)
 }

@@ -3,6 +3,7 @@
 
 mod assigned;
 mod giving;
+mod hearing;
 mod judging;
 pub mod laws;
 mod making;
@@ -10,7 +11,8 @@ mod spreader;
 mod spreading;
 mod words;
 
+pub use hearing::Hearer;
 pub use judging::{judge_spread, judge_spread_by};
 pub use making::Lines;
-pub use spreader::{Part, begins_part};
-pub use spreading::{spread, spread_by};
+pub use spreader::{Part, begins_part, part_behind};
+pub use spreading::{spread, spread_by, spread_heard};

@@ -43,7 +43,7 @@ pub fn begins_part(line: &[u8]) -> bool
 }
 
 /// The part that is open behind an admitted line.
-pub(crate) fn part_behind(part: Part, line: &[u8]) -> Part
+pub fn part_behind(part: Part, line: &[u8]) -> Part
     ensures { result ≡ part_behind part line.now }
 {
     match line {
@@ -145,6 +145,13 @@ impl<'a, 's> Spreader<'a, 's> {
             }),
             _ => Err(NewFault::NoMemory),
         }
+    }
+
+    /// The judge of the fitted model.
+    pub(crate) fn judge(&self) -> &WordJudge<'a>
+        ensures { result.now ≡ self.now.judge }
+    {
+        &self.judge
     }
 
     /// Takes the bytes behind the last line.

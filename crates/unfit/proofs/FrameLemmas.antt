@@ -1,11 +1,14 @@
 -- The lines of frames, one frame behind the other, and frames that are joined.
-use Rattle.std.proofs.Common.{◌≡◌, ℕ, suc, ◌+◌, List, [], ◌∷◌, ◌++◌, Option, decimal, length, map, refl, sym, ap, ◌∙◌, append-nil, arith}
+use Rattle.std.proofs.Common.{◌≡◌, ℕ, suc, ◌+◌, List, [], ◌∷◌, ◌++◌, Option, Some, None, codes, decimal, length, map, refl, sym, ap, ap₂, ◌∙◌, append_assoc, append-nil, arith}
 use Rattle.std.proofs.lemmas.List.Concat.{flat_map-append}
 use Rattle.base.specs.Lines.{text_of_lines}
 use Rattle.btor2.specs.declared.item.Item.{Item}
-use Rattle.witness.specs.Texts.{Shape, Assignment, Parts, assignment_line, states_lines, frame_lines}
-use Rattle.witness.proofs.ReadLemmas.{parts_of, frame_lines-behind}
-use Rattle.unfit.specs.Joined.{Wide, join_parts, join_frames}
+use Rattle.witness.specs.Texts.{Assignment, Parts, assignment_line, states_lines, frame_lines, claims_line}
+use Rattle.witness.specs.Admits.{Place, AtStatus, AtClaims, AtParts, InStates, InFrame, AtEnd, Read}
+use Rattle.witness.specs.ClosedWords.{said_in}
+use Rattle.witness.proofs.ReadLemmas.{parts_of}
+use Rattle.unfit.specs.Joined.{Wide, by_index, Lined, plain, join_parts, join_frames}
+use Rattle.unfit.specs.Unfitted.{line_with, states_lines_with, frame_lines_with, said_lines, said_lines_with, join_read, unfit_text, unfit_text_with}
 
 -- ---- frames that are joined
 
@@ -21,33 +24,59 @@ joined_more w narrow k (first ∷ frames) parts =
 
 -- ---- their lines
 
-frame_lines-append : (shape : Shape) (k : ℕ) (xs ys : List Parts) → frame_lines shape k (xs ++ ys) ≡ frame_lines shape k xs ++ frame_lines shape (k + length xs) ys
-frame_lines-append shape k [] ys = ap (λ (n : ℕ). frame_lines shape n ys) (omega arith)
-frame_lines-append shape k (parts ∷ xs) ys =
+frame_lines-append : (u : Lined) (k : ℕ) (xs ys : List Parts) → frame_lines_with u k (xs ++ ys) ≡ frame_lines_with u k xs ++ frame_lines_with u (k + length xs) ys
+frame_lines-append u k [] ys = ap (λ (n : ℕ). frame_lines_with u n ys) (omega arith)
+frame_lines-append u k (parts ∷ xs) ys =
     let count : suc k + length xs ≡ k + suc (length xs) = omega arith in
-    let states : List (List ℕ) = states_lines shape.states k parts.states in
-    let here : List (List ℕ) = map (assignment_line shape.inputs) parts.inputs in
-    let rest : List (List ℕ) = frame_lines shape (suc k) xs in
-    ap (λ (ls : List (List ℕ)). states ++ ((64 ∷ decimal k) ∷ (here ++ ls))) (frame_lines-append shape (suc k) xs ys ∙ ap (λ (n : ℕ). rest ++ frame_lines shape n ys) count)
-    ∙ sym (frame_lines-behind shape k parts xs (frame_lines shape (k + suc (length xs)) ys))
+    let states : List (List ℕ) = states_lines_with u.states u.wide.shape.states k parts.states in
+    let here : List (List ℕ) = map (line_with u.inputs u.wide.shape.inputs) parts.inputs in
+    let rest : List (List ℕ) = frame_lines_with u (suc k) xs in
+    let behind : List (List ℕ) = frame_lines_with u (k + suc (length xs)) ys in
+    ap (λ (ls : List (List ℕ)). states ++ ((64 ∷ decimal k) ∷ (here ++ ls))) (frame_lines-append u (suc k) xs ys ∙ ap (λ (n : ℕ). rest ++ frame_lines_with u n ys) count)
+    ∙ sym (append_assoc states ((64 ∷ decimal k) ∷ (here ++ rest)) behind ∙ ap (λ (ls : List (List ℕ)). states ++ ((64 ∷ decimal k) ∷ ls)) (append_assoc here rest behind))
 
-module _ (shape : Shape) (frames : List Parts) where
+module _ (u : Lined) (frames : List Parts) where
   abbrev front : List (List ℕ)
-  front = frame_lines shape 0 frames
+  front = frame_lines_with u 0 frames
 
   abbrev mark : List ℕ
   mark = 64 ∷ decimal (length frames)
 
   abbrev line : Assignment → List ℕ
-  line = assignment_line shape.inputs
+  line = line_with u.inputs u.wide.shape.inputs
 
   -- a frame behind others
-  pub one_frame : (states : Option (List Assignment)) (list : List Assignment) → frame_lines shape 0 (frames ++ parts_of states list ∷ []) ≡ front ++ (states_lines shape.states (length frames) states ++ (mark ∷ map line list))
+  pub one_frame : (states : Option (List Assignment)) (list : List Assignment)
+      → frame_lines_with u 0 (frames ++ parts_of states list ∷ []) ≡ front ++ (states_lines_with u.states u.wide.shape.states (length frames) states ++ (mark ∷ map line list))
   one_frame states list =
       let count : 0 + length frames ≡ length frames = omega arith in
-      frame_lines-append shape 0 frames (parts_of states list ∷ [])
-      ∙ (ap (λ (n : ℕ). front ++ frame_lines shape n (parts_of states list ∷ [])) count
-      ∙ ap (λ (ls : List (List ℕ)). front ++ (states_lines shape.states (length frames) states ++ (mark ∷ ls))) (append-nil (map line list)))
+      frame_lines-append u 0 frames (parts_of states list ∷ [])
+      ∙ (ap (λ (n : ℕ). front ++ frame_lines_with u n (parts_of states list ∷ [])) count
+      ∙ ap (λ (ls : List (List ℕ)). front ++ (states_lines_with u.states u.wide.shape.states (length frames) states ++ (mark ∷ ls))) (append-nil (map line list)))
+
+-- ---- where each word is told by its index
+
+plain_states : (widths : List ℕ) (k : ℕ) (o : Option (List Assignment)) → states_lines_with by_index widths k o ≡ states_lines widths k o
+plain_states widths k None = refl
+plain_states widths k (Some list) = refl
+
+plain_frames : (w : Wide) (k : ℕ) (frames : List Parts) → frame_lines_with (plain w) k frames ≡ frame_lines w.shape k frames
+plain_frames w k [] = refl
+plain_frames w k (parts ∷ frames) =
+    ap₂ (λ (a b : List (List ℕ)). a ++ ((64 ∷ decimal k) ∷ (map (assignment_line w.shape.inputs) parts.inputs ++ b))) (plain_states w.shape.states k parts.states) (plain_frames w (suc k) frames)
+
+plain_said : (w : Wide) (r : Read) (at : Place) → said_lines_with (plain w) r at ≡ said_lines w.shape r at
+plain_said w r AtStatus = refl
+plain_said w r AtClaims = refl
+plain_said w r AtParts = refl
+plain_said w r InStates = ap (λ (ls : List (List ℕ)). codes "sat" ∷ claims_line r.claims ∷ ls) (plain_frames w 0 r.closed)
+plain_said w r InFrame =
+    ap₂ (λ (a b : List (List ℕ)). codes "sat" ∷ claims_line r.claims ∷ (a ++ b)) (plain_frames w 0 r.closed) (plain_states w.shape.states (length r.closed) r.states)
+plain_said w r AtEnd = ap (λ (ls : List (List ℕ)). codes "sat" ∷ claims_line r.claims ∷ (ls ++ codes "." ∷ [])) (plain_frames w 0 r.closed)
+
+pub plain_text : (w : Wide) (narrow : List Item) (text : List ℕ) → unfit_text_with (plain w) narrow text ≡ unfit_text w narrow text
+unfolding unfit_text unfit_text_with
+plain_text w narrow text = ap text_of_lines (plain_said w (join_read w narrow (said_in narrow text)) (said_in narrow text).place)
 
 -- ---- texts
 

@@ -16,8 +16,8 @@ use Rattle.witness.specs.ClosedWords.{said_in, admitted_word_lines}
 use Rattle.witness.specs.WordStands.{StandsForWitness, WordJudge}
 use Rattle.witness.proofs.ReadingLemmas.{lines_append}
 use Rattle.witness.proofs.TextEndLemmas.{whole_lines-line_end, unfinished-line_end}
-use Rattle.unfit.specs.Joined.{Wide}
-use Rattle.unfit.specs.Unfitted.{unfit_lines, unfit_text}
+use Rattle.unfit.specs.Joined.{Lined}
+use Rattle.unfit.specs.Unfitted.{unfit_lines_with, unfit_text_with}
 use Rattle.unfit.specs.Steps.{Frame, Holds, IsAdmitted, TakesAdmitted, TakesLines, Unfits, WritesSome}
 
 -- ---- a line behind others
@@ -54,9 +54,9 @@ module _ (narrow : List Item) (text : List ℕ) where
   unfolding reading
   admitted_by_lines = refl
 
-pub unfit_by_lines : (w : Wide) (narrow : List Item) (text : List ℕ) → unfit_text w narrow text ≡ text_of_lines (unfit_lines w narrow (said_in narrow text))
-unfolding unfit_text
-unfit_by_lines w narrow text = refl
+pub unfit_by_lines : (l : Lined) (narrow : List Item) (text : List ℕ) → unfit_text_with l narrow text ≡ text_of_lines (unfit_lines_with l narrow (said_in narrow text))
+unfolding unfit_text_with
+unfit_by_lines l narrow text = refl
 
 module _ (narrow : List Item) (text line : List ℕ) (whole : unfinished text ≡ []) (is : IsLine line) where
   abbrev more : List ℕ
@@ -91,9 +91,9 @@ module _ (narrow : List Item) (text line : List ℕ) (whole : unfinished text �
 
 -- ---- a line is taken
 
-module _ {K : Type 0} (written : K → Option (List ℕ)) (failures : K → ℕ) (start s : K) (from pen : Pen) (w : Wide) (narrow : List Item) (judge judged : WordJudge) (f : Frame) (text line : List ℕ) (is : IsLine line) (h : Unfits written failures start s from pen w narrow judge f text)
+module _ {K : Type 0} (written : K → Option (List ℕ)) (failures : K → ℕ) (start s : K) (from pen : Pen) (l : Lined) (narrow : List Item) (judge judged : WordJudge) (f : Frame) (text line : List ℕ) (is : IsLine line) (h : Unfits written failures start s from pen l narrow judge f text)
     (stands : StandsForWitness narrow judged (text ++ (line ++ 10 ∷ []))) where
-  pub line_stays : IsAdmitted narrow text line false → Unfits written failures start s from pen w narrow judged f (text ++ (line ++ 10 ∷ []))
+  pub line_stays : IsAdmitted narrow text line false → Unfits written failures start s from pen l narrow judged f (text ++ (line ++ 10 ∷ []))
   line_stays b =
       let same = stays_said narrow text line h.ended is b in
       record {
@@ -101,11 +101,11 @@ module _ {K : Type 0} (written : K → Option (List ℕ)) (failures : K → ℕ)
         stands = stands;
         ended = unfinished-line_end text line;
         holds = subst (λ (r : Read). Holds narrow r f) (sym same) h.holds;
-        writes = subst (WritesText written failures start s from pen) (unfit_by_lines w narrow text ∙ ap (λ (r : Read). text_of_lines (unfit_lines w narrow r)) (sym same) ∙ sym (unfit_by_lines w narrow (text ++ (line ++ 10 ∷ [])))) h.writes;
+        writes = subst (WritesText written failures start s from pen) (unfit_by_lines l narrow text ∙ ap (λ (r : Read). text_of_lines (unfit_lines_with l narrow r)) (sym same) ∙ sym (unfit_by_lines l narrow (text ++ (line ++ 10 ∷ [])))) h.writes;
       }
 
-  pub line_taken : (t : K) (q : Pen) (g : Frame) (k : ℕ) → IsAdmitted narrow text line true → k ≡ length (said_in narrow text).closed → WritesSome written failures s t pen q (TakesAdmitted w k line f g)
-      → Unfits written failures start t from q w narrow judged g (text ++ (line ++ 10 ∷ []))
+  pub line_taken : (t : K) (q : Pen) (g : Frame) (k : ℕ) → IsAdmitted narrow text line true → k ≡ length (said_in narrow text).closed → WritesSome written failures s t pen q (TakesAdmitted l k line f g)
+      → Unfits written failures start t from q l narrow judged g (text ++ (line ++ 10 ∷ []))
   line_taken t q g k b many puts =
       let now = puts.is narrow (said_in narrow text) (said_in narrow (text ++ (line ++ 10 ∷ []))) h.well_formed h.holds many (is_admitted narrow text line h.ended is b) in
       record {
@@ -113,25 +113,25 @@ module _ {K : Type 0} (written : K → Option (List ℕ)) (failures : K → ℕ)
         stands = stands;
         ended = unfinished-line_end text line;
         holds = now.0;
-        writes = subst (WritesText written failures start t from q) (ap (λ (l : List ℕ). l ++ puts.put) (unfit_by_lines w narrow text) ∙ now.1 ∙ sym (unfit_by_lines w narrow (text ++ (line ++ 10 ∷ [])))) (writes_then h.writes puts.writes);
+        writes = subst (WritesText written failures start t from q) (ap (λ (t : List ℕ). t ++ puts.put) (unfit_by_lines l narrow text) ∙ now.1 ∙ sym (unfit_by_lines l narrow (text ++ (line ++ 10 ∷ [])))) (writes_then h.writes puts.writes);
       }
 
 -- ---- lines of a source
 
-module _ {K : Type 0} (written : K → Option (List ℕ)) (failures : K → ℕ) (w : Wide) where
-  pub takes_none : (known : Option (List ℕ)) (s : K) (pen : Pen) (judge : WordJudge) (f : Frame) → TakesLines written failures known known s s pen pen w judge judge f f
+module _ {K : Type 0} (written : K → Option (List ℕ)) (failures : K → ℕ) (l : Lined) where
+  pub takes_none : (known : Option (List ℕ)) (s : K) (pen : Pen) (judge : WordJudge) (f : Frame) → TakesLines written failures known known s s pen pen l judge judge f f
   takes_none known s pen judge f start from narrow whole front consumes h = (front, (consumes, h))
 
-  module _ (known now after : Option (List ℕ)) (s t : K) (pen q : Pen) (j1 j2 : WordJudge) (f1 f2 : Frame) (takes : TakesLines written failures known now s t pen q w j1 j2 f1 f2) where
+  module _ (known now after : Option (List ℕ)) (s t : K) (pen q : Pen) (j1 j2 : WordJudge) (f1 f2 : Frame) (takes : TakesLines written failures known now s t pen q l j1 j2 f1 f2) where
     pub takes_more : (u : K) (q' : Pen) (j3 : WordJudge) (f3 : Frame) (line : List ℕ) → Consumes now after (line ++ 10 ∷ [])
-        → ((start : K) (from : Pen) (narrow : List Item) (text : List ℕ) → Unfits written failures start t from q w narrow j2 f2 text → Unfits written failures start u from q' w narrow j3 f3 (text ++ (line ++ 10 ∷ [])))
-        → TakesLines written failures known after s u pen q' w j1 j3 f1 f3
+        → ((start : K) (from : Pen) (narrow : List Item) (text : List ℕ) → Unfits written failures start t from q l narrow j2 f2 text → Unfits written failures start u from q' l narrow j3 f3 (text ++ (line ++ 10 ∷ [])))
+        → TakesLines written failures known after s u pen q' l j1 j3 f1 f3
     takes_more u q' j3 f3 line moved step start from narrow whole front consumes h =
         let one = takes start from narrow whole front consumes h in
         (one.0 ++ (line ++ 10 ∷ []), (Consumes-trans whole now after one.0 (line ++ 10 ∷ []) one.1.0 moved, step start from narrow one.0 one.1.1))
 
     -- nothing more is taken
-    pub takes_kept : Keeps now after → TakesLines written failures known after s t pen q w j1 j2 f1 f2
+    pub takes_kept : Keeps now after → TakesLines written failures known after s t pen q l j1 j2 f1 f2
     takes_kept keeps start from narrow whole front consumes h =
         let one = takes start from narrow whole front consumes h in
         (one.0, (Consumes-kept whole now after one.0 one.1.0 keeps, one.1.1))

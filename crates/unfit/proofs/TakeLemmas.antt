@@ -15,7 +15,7 @@ use Rattle.std.proofs.lemmas.List.{length-map}
 use Rattle.btor2.specs.Symbols.{is_comment}
 use Rattle.runs.proofs.RankLemmas.{length-places}
 use Rattle.witness.specs.declared.why.Why.{Why}
-use Rattle.witness.specs.Texts.{Shape, has_free, Assignment, Parts, assignment_line, states_lines, frame_lines, claims_line, shape_of, widths_of}
+use Rattle.witness.specs.Texts.{Shape, has_free, Assignment, Parts, claims_line, shape_of, widths_of}
 use Rattle.witness.specs.Admits.{Place, AtStatus, AtClaims, AtParts, InStates, InFrame, AtEnd, Read, begins_part, opens_frame, opens_states, assignment_at, state_assignment_at, claims_at, frame_closed, admit_at, admit}
 use Rattle.witness.specs.Judgements.{pairs_of}
 use Rattle.witness.specs.KeptLines.{AreNarrow}
@@ -29,8 +29,8 @@ use Rattle.witness.proofs.StepWords.{after_assignment, after_claims, states_clos
 use Rattle.unfit.specs.declared.told_pieces.Piece.{Piece}
 use Rattle.unfit.specs.declared.frame.OpenPart.{OpenPart}
 use Rattle.unfit.specs.declared.frame.OpenPart.TheVariants as part
-use Rattle.unfit.specs.Joined.{Wide, join_frames, join_states, join_inputs, join_parts, pieces_from, state_words, input_words}
-use Rattle.unfit.specs.Unfitted.{said_lines, join_read}
+use Rattle.unfit.specs.Joined.{Wide, Lined, join_frames, join_states, join_inputs, join_parts, pieces_from, state_words, input_words}
+use Rattle.unfit.specs.Unfitted.{line_with, states_lines_with, frame_lines_with, said_lines_with, join_read}
 use Rattle.unfit.specs.Steps.{Frame, HoldsAt, part_at, opened_by, told_at, told_frame, untold, part_text, open_text, text_of_line, closed_frame, keeps, TellsLine, TakesAdmitted}
 use Rattle.unfit.proofs.PieceLemmas.{told_more, all_untold}
 use Rattle.unfit.proofs.FrameLemmas.{length-joined, joined_more, one_frame, text_put}
@@ -62,7 +62,10 @@ never b t f = absurd (cc)
 
 -- ---- behind what was read at a place
 
-module _ (w : Wide) (narrow : List Item) (well : IsWellFormed narrow) (r : Read) (line : List ℕ) (k : ℕ) (before after : Frame) (many : k ≡ length r.closed) where
+module _ (u : Lined) (narrow : List Item) (well : IsWellFormed narrow) (r : Read) (line : List ℕ) (k : ℕ) (before after : Frame) (many : k ≡ length r.closed) where
+  abbrev w : Wide
+  w = u.wide
+
   abbrev shape : Shape
   shape = shape_of narrow
 
@@ -73,7 +76,7 @@ module _ (w : Wide) (narrow : List Item) (well : IsWellFormed narrow) (r : Read)
   small = shape_is_small narrow well
 
   abbrev said : Read → Place → List (List ℕ)
-  said s at = said_lines w.shape (join_read w narrow s) at
+  said s at = said_lines_with u (join_read w narrow s) at
 
   abbrev SaysAt : Place → List ℕ → Read → Place → Type 0
   SaysAt at put s to = HoldsAt narrow s to after × (text_of_lines (said r at) ++ put ≡ text_of_lines (said s to))
@@ -161,10 +164,10 @@ module _ (w : Wide) (narrow : List Item) (well : IsWellFormed narrow) (r : Read)
 
   -- ---- a line that ends the part that is open
 
-  module _ (put : List ℕ) (puts : put ≡ open_text w k before before.part ++ text_of_line line (opened_by line)) (opens : after ≡ record (closed_frame before before.part) { part = opened_by line }) where
+  module _ (put : List ℕ) (puts : put ≡ open_text u k before before.part ++ text_of_line line (opened_by line)) (opens : after ≡ record (closed_frame before before.part) { part = opened_by line }) where
     -- what is put for the line
-    line_put : (next : OpenPart) → opened_by line ≡ next → put ≡ open_text w k before before.part ++ text_of_line line next
-    line_put next opened = puts ∙ ap (λ (p : OpenPart). open_text w k before before.part ++ text_of_line line p) opened
+    line_put : (next : OpenPart) → opened_by line ≡ next → put ≡ open_text u k before before.part ++ text_of_line line next
+    line_put next opened = puts ∙ ap (λ (p : OpenPart). open_text u k before before.part ++ text_of_line line p) opened
 
     -- where no part was open, and these lines are put
     begins_at : (at : Place) (s : Read) (lines : List (List ℕ)) (next : OpenPart) → HoldsAt narrow r at before → part_at at ≡ part.Nothing → opened_by line ≡ next → text_of_line line next ≡ text_of_lines lines
@@ -172,7 +175,7 @@ module _ (w : Wide) (narrow : List Item) (well : IsWellFormed narrow) (r : Read)
     begins_at at s lines next h nothing opened are holds same =
         let none : before.part ≡ part.Nothing = h.part ∙ nothing in (
           subst (HoldsAt narrow s s.place) (sym (opens ∙ ap (λ (p : OpenPart). let f : Frame = record (closed_frame before p) { part = opened_by line } in f) none)) holds,
-          text_put (said r at) [] lines (said s s.place) put (line_put next opened ∙ ap (λ (p : OpenPart). open_text w k before p ++ text_of_line line next) none ∙ are) same,
+          text_put (said r at) [] lines (said s s.place) put (line_put next opened ∙ ap (λ (p : OpenPart). open_text u k before p ++ text_of_line line next) none ∙ are) same,
         )
 
     -- a line and its end
@@ -196,14 +199,14 @@ module _ (w : Wide) (narrow : List Item) (well : IsWellFormed narrow) (r : Read)
 
     -- the lines of its inputs
     abbrev input_lines : List (List ℕ)
-    input_lines = (64 ∷ decimal (length r.closed)) ∷ map (assignment_line w.shape.inputs) last_inputs
+    input_lines = (64 ∷ decimal (length r.closed)) ∷ map (line_with u.inputs w.shape.inputs) last_inputs
 
     -- behind the lines before them they are all lines of the frames
-    filled : (frame_lines w.shape 0 joined ++ states_lines w.shape.states (length joined) last_states) ++ input_lines ≡ frame_lines w.shape 0 closed
+    filled : (frame_lines_with u 0 joined ++ states_lines_with u.states w.shape.states (length joined) last_states) ++ input_lines ≡ frame_lines_with u 0 closed
     filled =
-        append_assoc (frame_lines w.shape 0 joined) (states_lines w.shape.states (length joined) last_states) input_lines
-        ∙ ap (λ (n : ℕ). frame_lines w.shape 0 joined ++ (states_lines w.shape.states (length joined) last_states ++ ((64 ∷ decimal n) ∷ map (assignment_line w.shape.inputs) last_inputs))) (sym (length-joined w narrow 0 r.closed))
-        ∙ sym (one_frame w.shape joined last_states last_inputs)
+        append_assoc (frame_lines_with u 0 joined) (states_lines_with u.states w.shape.states (length joined) last_states) input_lines
+        ∙ ap (λ (n : ℕ). frame_lines_with u 0 joined ++ (states_lines_with u.states w.shape.states (length joined) last_states ++ ((64 ∷ decimal n) ∷ map (line_with u.inputs w.shape.inputs) last_inputs))) (sym (length-joined w narrow 0 r.closed))
+        ∙ sym (one_frame u joined last_states last_inputs)
 
     module _ (h : HoldsAt narrow r InFrame before) where
       now : after ≡ record { part = opened_by line; states = before.states; inputs = untold before.inputs }
@@ -211,8 +214,8 @@ module _ (w : Wide) (narrow : List Item) (well : IsWellFormed narrow) (r : Read)
 
       puts_inputs : (next : OpenPart) → opened_by line ≡ next → put ≡ text_of_lines input_lines ++ text_of_line line next
       puts_inputs next opened =
-          line_put next opened ∙ ap (λ (p : OpenPart). open_text w k before p ++ text_of_line line next) h.part
-          ∙ ap₂ (λ (n : ℕ) (ps : List Piece). ((64 ∷ (decimal n ++ 10 ∷ [])) ++ part_text w.named w.names.inputs w.shape.inputs n ps) ++ text_of_line line next) many h.inputs
+          line_put next opened ∙ ap (λ (p : OpenPart). open_text u k before p ++ text_of_line line next) h.part
+          ∙ ap₂ (λ (n : ℕ) (ps : List Piece). ((64 ∷ (decimal n ++ 10 ∷ [])) ++ part_text u.inputs w.named w.names.inputs w.shape.inputs n ps) ++ text_of_line line next) many h.inputs
 
       inputs_untold : after.inputs ≡ pieces_from [] 0 (input_words narrow)
       inputs_untold = ap (λ (f : Frame). f.inputs) now ∙ ap untold h.inputs ∙ all_untold (pairs_of r.open_part) 0 (input_words narrow)
@@ -222,11 +225,11 @@ module _ (w : Wide) (narrow : List Item) (well : IsWellFormed narrow) (r : Read)
 
       -- the frame is closed, and these lines are put behind it
       closes : (next : Place) (lines : List (List ℕ)) → opened_by line ≡ part_at next → text_of_line line (part_at next) ≡ text_of_lines lines → HoldsAt narrow (frame_closed next r) next after
-          → codes "sat" ∷ claims_line r.claims ∷ (frame_lines w.shape 0 closed ++ lines) ≡ said (frame_closed next r) next → Says InFrame put (frame_closed next r)
+          → codes "sat" ∷ claims_line r.claims ∷ (frame_lines_with u 0 closed ++ lines) ≡ said (frame_closed next r) next → Says InFrame put (frame_closed next r)
       closes next lines opened are holds same = (
         holds,
         text_put (said r InFrame) input_lines lines (said (frame_closed next r) next) put (puts_inputs (part_at next) opened ∙ ap (λ (l : List ℕ). text_of_lines input_lines ++ l) are)
-            (ap (λ (ls : List (List ℕ)). codes "sat" ∷ claims_line r.claims ∷ ls) (sym (append_assoc (frame_lines w.shape 0 joined ++ states_lines w.shape.states (length joined) last_states) input_lines lines) ∙ ap (λ (ls : List (List ℕ)). ls ++ lines) filled) ∙ same),
+            (ap (λ (ls : List (List ℕ)). codes "sat" ∷ claims_line r.claims ∷ ls) (sym (append_assoc (frame_lines_with u 0 joined ++ states_lines_with u.states w.shape.states (length joined) last_states) input_lines lines) ∙ ap (λ (ls : List (List ℕ)). ls ++ lines) filled) ∙ same),
       )
 
     put_at : (at : Place) → r.place ≡ at → HoldsAt narrow r at before → keeps (part_at at) line ≡ false → IfOk (admit_at shape r line at) (Says at put)
@@ -252,13 +255,13 @@ module _ (w : Wide) (narrow : List Item) (well : IsWellFormed narrow) (r : Read)
         let is = is_line (35 ∷ decimal 0) e in
         begins_at AtParts (record r { place = InStates }) [] part.States h refl (ap opened_by is) refl
         (record { part = ap opened_by is; states = h.states ∙ ap (λ (l : List Assignment). pieces_from (pairs_of l) 0 (state_words narrow)) (sym h.said.open_part); inputs = h.inputs; said = tt })
-        (sym (ap (λ (c : List Parts). codes "sat" ∷ claims_line r.claims ∷ frame_lines w.shape 0 (join_frames w narrow 0 c)) h.said.closed)))
+        (sym (ap (λ (c : List Parts). codes "sat" ∷ claims_line r.claims ∷ frame_lines_with u 0 (join_frames w narrow 0 c)) h.said.closed)))
         (λ e. by_test (Says AtParts put) (opens_frame 0 line) _ _
         (λ d.
         let is = is_line (64 ∷ decimal 0) d in
         begins_at AtParts (record r { place = InFrame }) [] part.Inputs h refl (ap opened_by is) refl
         (record { part = ap opened_by is; states = h.states; inputs = h.inputs ∙ ap (λ (l : List Assignment). pieces_from (pairs_of l) 0 (input_words narrow)) (sym h.said.open_part); said = tt })
-        (sym (ap₂ (λ (c : List Parts) (o : Option (List Assignment)). codes "sat" ∷ claims_line r.claims ∷ (frame_lines w.shape 0 (join_frames w narrow 0 c) ++ states_lines w.shape.states (length (join_frames w narrow 0 c)) (option_map (join_states w narrow (length c)) o))) h.said.closed h.said.states)))
+        (sym (ap₂ (λ (c : List Parts) (o : Option (List Assignment)). codes "sat" ∷ claims_line r.claims ∷ (frame_lines_with u 0 (join_frames w narrow 0 c) ++ states_lines_with u.states w.shape.states (length (join_frames w narrow 0 c)) (option_map (join_states w narrow (length c)) o))) h.said.closed h.said.states)))
         (λ d. tt))
     put_at InStates there h keep =
         by_test (Says InStates put) (opens_frame (length r.closed) line) _ _
@@ -266,7 +269,7 @@ module _ (w : Wide) (narrow : List Item) (well : IsWellFormed narrow) (r : Read)
         let is = is_line (64 ∷ decimal (length r.closed)) e in
         let now : after ≡ record { part = opened_by line; states = untold before.states; inputs = before.inputs } = opens ∙ ap (λ (p : OpenPart). let f : Frame = record (closed_frame before p) { part = opened_by line } in f) h.part in
         let list : List Assignment = join_states w narrow (length r.closed) r.open_part in
-        let lines : List (List ℕ) = states_lines w.shape.states (length r.closed) (Some list) in (
+        let lines : List (List ℕ) = states_lines_with u.states w.shape.states (length r.closed) (Some list) in (
           record {
             part = ap (λ (f : Frame). f.part) now ∙ ap opened_by is;
             states = ap (λ (f : Frame). f.states) now ∙ ap untold h.states ∙ all_untold (pairs_of r.open_part) 0 (state_words narrow);
@@ -274,8 +277,8 @@ module _ (w : Wide) (narrow : List Item) (well : IsWellFormed narrow) (r : Read)
             said = tt;
           },
           text_put (said r InStates) lines [] (said (states_closed r) InFrame) put
-              (line_put part.Inputs (ap opened_by is) ∙ ap (λ (p : OpenPart). open_text w k before p ++ []) h.part ∙ ap₂ (λ (n : ℕ) (ps : List Piece). ((35 ∷ (decimal n ++ 10 ∷ [])) ++ part_text w.named w.names.states w.shape.states n ps) ++ []) many h.states)
-              (ap (λ (ls : List (List ℕ)). codes "sat" ∷ claims_line r.claims ∷ (frame_lines w.shape 0 joined ++ ls)) (append-nil lines ∙ ap (λ (n : ℕ). states_lines w.shape.states n (Some list)) (sym (length-joined w narrow 0 r.closed)))),
+              (line_put part.Inputs (ap opened_by is) ∙ ap (λ (p : OpenPart). open_text u k before p ++ []) h.part ∙ ap₂ (λ (n : ℕ) (ps : List Piece). ((35 ∷ (decimal n ++ 10 ∷ [])) ++ part_text u.states w.named w.names.states w.shape.states n ps) ++ []) many h.states)
+              (ap (λ (ls : List (List ℕ)). codes "sat" ∷ claims_line r.claims ∷ (frame_lines_with u 0 joined ++ ls)) (append-nil lines ∙ ap (λ (n : ℕ). states_lines_with u.states w.shape.states n (Some list)) (sym (length-joined w narrow 0 r.closed)))),
         ))
         (λ e. by_test (Says InStates put) (begins_part line) _ _ (λ g. tt) (λ g. never (begins_part line) (was_true (begins_part line) keep) g))
     put_at InFrame there h keep =
@@ -283,30 +286,30 @@ module _ (w : Wide) (narrow : List Item) (well : IsWellFormed narrow) (r : Read)
         (λ e.
         let opened = ap opened_by (is_line (64 ∷ decimal (suc (length r.closed))) e) in
         closes h InFrame [] opened refl (record { part = ap (λ (f : Frame). f.part) (now h) ∙ opened; states = states_same h; inputs = inputs_untold h; said = tt })
-        (ap (λ (fs : List Parts). codes "sat" ∷ claims_line r.claims ∷ (frame_lines w.shape 0 fs ++ [])) (sym closed_is)))
+        (ap (λ (fs : List Parts). codes "sat" ∷ claims_line r.claims ∷ (frame_lines_with u 0 fs ++ [])) (sym closed_is)))
         (λ e. by_test (Says InFrame put) (opens_states (suc (length r.closed)) line && has_free shape) _ _
         (λ d.
         let opened = ap opened_by (is_line (35 ∷ decimal (suc (length r.closed))) (and_parts (opens_states (suc (length r.closed)) line) (has_free shape) d).0) in
         closes h InStates [] opened refl (record { part = ap (λ (f : Frame). f.part) (now h) ∙ opened; states = states_same h; inputs = inputs_untold h; said = tt })
-        (ap (λ (ls : List (List ℕ)). codes "sat" ∷ claims_line r.claims ∷ ls) (append-nil (frame_lines w.shape 0 closed) ∙ ap (frame_lines w.shape 0) (sym closed_is))))
+        (ap (λ (ls : List (List ℕ)). codes "sat" ∷ claims_line r.claims ∷ ls) (append-nil (frame_lines_with u 0 closed) ∙ ap (frame_lines_with u 0) (sym closed_is))))
         (λ d. by_test (Says InFrame put) (bytes_eq line (codes ".")) _ _
         (λ f.
         let is = is_line (codes ".") f in
         closes h AtEnd (line ∷ []) (ap opened_by is) one_line (record { part = ap (λ (f : Frame). f.part) (now h) ∙ ap opened_by is; states = states_same h; inputs = inputs_untold h; said = tt })
-        (ap₂ (λ (fs : List Parts) (l : List ℕ). codes "sat" ∷ claims_line r.claims ∷ (frame_lines w.shape 0 fs ++ l ∷ [])) (sym closed_is) is))
+        (ap₂ (λ (fs : List Parts) (l : List ℕ). codes "sat" ∷ claims_line r.claims ∷ (frame_lines_with u 0 fs ++ l ∷ [])) (sym closed_is) is))
         (λ f. by_test (Says InFrame put) (begins_part line) _ _ (λ g. tt) (λ g. never (begins_part line) (was_true (begins_part line) keep) g))))
     put_at AtEnd there h keep = tt
 
 -- ---- the two together
 
-pub keeps_line : (w : Wide) (k : ℕ) (line : List ℕ) (before after : Frame) → keeps before.part line ≡ true → TellsLine before after line → TakesAdmitted w k line before after []
+pub keeps_line : (u : Lined) (k : ℕ) (line : List ℕ) (before after : Frame) → keeps before.part line ≡ true → TellsLine before after line → TakesAdmitted u k line before after []
 unfolding admit
-keeps_line w k line before after keep tells narrow r s well h many admitted =
-    IfOk-at_ok (Says w narrow well r line k before after many r.place []) admitted
-    (kept w narrow well r line k before after many tells r.place refl h (ap (λ (p : OpenPart). keeps p line) (sym h.part) ∙ keep))
+keeps_line u k line before after keep tells narrow r s well h many admitted =
+    IfOk-at_ok (Says u narrow well r line k before after many r.place []) admitted
+    (kept u narrow well r line k before after many tells r.place refl h (ap (λ (p : OpenPart). keeps p line) (sym h.part) ∙ keep))
 
-pub puts_line : (w : Wide) (k : ℕ) (line : List ℕ) (before after : Frame) → keeps before.part line ≡ false → after ≡ record (closed_frame before before.part) { part = opened_by line } → TakesAdmitted w k line before after (open_text w k before before.part ++ text_of_line line (opened_by line))
+pub puts_line : (u : Lined) (k : ℕ) (line : List ℕ) (before after : Frame) → keeps before.part line ≡ false → after ≡ record (closed_frame before before.part) { part = opened_by line } → TakesAdmitted u k line before after (open_text u k before before.part ++ text_of_line line (opened_by line))
 unfolding admit
-puts_line w k line before after keep opens narrow r s well h many admitted =
-    IfOk-at_ok (Says w narrow well r line k before after many r.place (open_text w k before before.part ++ text_of_line line (opened_by line))) admitted
-    (put_at w narrow well r line k before after many (open_text w k before before.part ++ text_of_line line (opened_by line)) refl opens r.place refl h (ap (λ (p : OpenPart). keeps p line) (sym h.part) ∙ keep))
+puts_line u k line before after keep opens narrow r s well h many admitted =
+    IfOk-at_ok (Says u narrow well r line k before after many r.place (open_text u k before before.part ++ text_of_line line (opened_by line))) admitted
+    (put_at u narrow well r line k before after many (open_text u k before before.part ++ text_of_line line (opened_by line)) refl opens r.place refl h (ap (λ (p : OpenPart). keeps p line) (sym h.part) ∙ keep))

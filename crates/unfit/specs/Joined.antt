@@ -1,6 +1,6 @@
 -- A witness over the model of the profile that a model with words of any width is fitted into, as a witness over that model: the pieces of a word are put together
 -- ("Btor2, BtorMC and Boolector 3.0", witness format; how the one becomes the other is this project's).
-use Rattle.std.specs.Prelude.{ℕ, suc, ◌+◌, ◌*◌, ◌^◌, Bool, true, false, List, [], ◌∷◌, ◌++◌, Option, None, is_some, unwrap_or, option_map, option_and_then, map, take, drop, slice_index_or, if◌then◌else◌}
+use Rattle.std.specs.Prelude.{ℕ, suc, ◌+◌, ◌*◌, ◌^◌, Bool, true, false, List, [], ◌∷◌, ◌++◌, Option, None, decimal, is_some, unwrap_or, option_map, option_and_then, map, take, drop, slice_index_or, if◌then◌else◌}
 use Rattle.std.specs.List.{list_any}
 use Rattle.btor2.specs.declared.item.Item.{Item}
 use Rattle.btor2.specs.Items.{is_input, is_state, init_word}
@@ -90,3 +90,27 @@ join_frames w narrow k (parts ∷ more) = join_parts w narrow k parts ∷ join_f
 -- the witness that says over the model with words of any width what this one says over the fitted one
 abbrev pub join_witness : Wide → List Item → Witness → Witness
 join_witness w narrow v = record { claims = v.claims; frames = join_frames w narrow 0 v.frames }
+
+-- ---- what stands before the digits of a word in its line
+
+-- of each word its index, or of each what a list has for it
+pub data Fronts : Type 0 where
+  by_index : Fronts
+  listed : List (List ℕ) → Fronts
+
+abbrev pub front_at : Fronts → ℕ → List ℕ
+front_at by_index k = decimal k
+front_at (listed fronts) k = slice_index_or fronts k []
+
+-- what is known of a model, and what stands before the digits of the words of its states and of its inputs
+pub record Lined : Type 0 where
+  pub wide : Wide
+  pub states : Fronts
+  pub inputs : Fronts
+
+abbrev pub lined : Shape → List (Option (List ℕ)) → List (Option (List ℕ)) → Bool → Fronts → Fronts → Lined
+lined shape states inputs named state_fronts input_fronts = record { wide = record { shape = shape; names = record { states = states; inputs = inputs }; named = named }; states = state_fronts; inputs = input_fronts }
+
+-- that of words of which each is told by its index
+abbrev pub plain : Wide → Lined
+plain w = record { wide = w; states = by_index; inputs = by_index }

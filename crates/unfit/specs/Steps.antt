@@ -17,8 +17,8 @@ use Rattle.witness.specs.WordStands.{StandsForWitness, WordJudge, SaidAt}
 use Rattle.unfit.specs.declared.told_pieces.Piece.{Piece}
 use Rattle.unfit.specs.declared.frame.OpenPart.{OpenPart}
 use Rattle.unfit.specs.declared.frame.OpenPart.TheVariants as part
-use Rattle.unfit.specs.Joined.{Wide, word_of_piece, any_told, joined_word, join_from, name_at, pieces_from, state_words, input_words}
-use Rattle.unfit.specs.Unfitted.{unfit_text, unfit_lines}
+use Rattle.unfit.specs.Joined.{Fronts, Lined, word_of_piece, any_told, joined_word, join_from, name_at, pieces_from, state_words, input_words}
+use Rattle.unfit.specs.Unfitted.{line_with, unfit_text_with, unfit_lines_with}
 
 -- which part is open, and the pieces of the states and of the inputs
 pub record Frame : Type 0 where
@@ -66,14 +66,14 @@ abbrev pub untold : List Piece → List Piece
 untold pieces = map (λ (p : Piece). record { told = None; otherwise = p.otherwise }) pieces
 
 -- the lines of a part of frame k, of words of these widths by their pieces
-abbrev pub part_text : Bool → List (Option (List ℕ)) → List ℕ → ℕ → List Piece → List ℕ
-part_text named names widths k pieces = text_of_lines (map (assignment_line widths) (join_from (name_at named names k) 0 widths pieces))
+abbrev pub part_text : Fronts → Bool → List (Option (List ℕ)) → List ℕ → ℕ → List Piece → List ℕ
+part_text fronts named names widths k pieces = text_of_lines (map (line_with fronts widths) (join_from (name_at named names k) 0 widths pieces))
 
 -- the lines of the part that is open, of frame k
-abbrev pub open_text : Wide → ℕ → Frame → OpenPart → List ℕ
-open_text w k f part.Nothing = []
-open_text w k f part.States = (35 ∷ (decimal k ++ 10 ∷ [])) ++ part_text w.named w.names.states w.shape.states k f.states
-open_text w k f part.Inputs = (64 ∷ (decimal k ++ 10 ∷ [])) ++ part_text w.named w.names.inputs w.shape.inputs k f.inputs
+abbrev pub open_text : Lined → ℕ → Frame → OpenPart → List ℕ
+open_text l k f part.Nothing = []
+open_text l k f part.States = (35 ∷ (decimal k ++ 10 ∷ [])) ++ part_text l.states l.wide.named l.wide.names.states l.wide.shape.states k f.states
+open_text l k f part.Inputs = (64 ∷ (decimal k ++ 10 ∷ [])) ++ part_text l.inputs l.wide.named l.wide.names.inputs l.wide.shape.inputs k f.inputs
 
 -- a line that opens no part, with its end; one that does is put with its part
 abbrev pub text_of_line : List ℕ → OpenPart → List ℕ
@@ -86,13 +86,13 @@ closed_frame f part.Nothing = f
 closed_frame f part.States = record f { states = untold f.states }
 closed_frame f part.Inputs = record f { inputs = untold f.inputs }
 
--- the line of the word with an index, of this width and this name, by its pieces
-abbrev pub word_text : ℕ → ℕ → Option (List ℕ) → List Piece → List ℕ
-word_text k width name pieces = ((decimal k ++ 32 ∷ []) ++ binary width (joined_word pieces)) ++ (symbol_part name ++ 10 ∷ [])
+-- the line of a word with this before its digits, of this width and this name, by its pieces
+abbrev pub word_text : List ℕ → ℕ → Option (List ℕ) → List Piece → List ℕ
+word_text front width name pieces = ((front ++ 32 ∷ []) ++ binary width (joined_word pieces)) ++ (symbol_part name ++ 10 ∷ [])
 
 -- where one of the pieces is told
-abbrev pub told_text : ℕ → ℕ → Option (List ℕ) → List Piece → List ℕ
-told_text k width name pieces = if any_told pieces then word_text k width name pieces else []
+abbrev pub told_text : List ℕ → ℕ → Option (List ℕ) → List Piece → List ℕ
+told_text front width name pieces = if any_told pieces then word_text front width name pieces else []
 
 -- the word of the piece at a place, and 0 behind the last
 abbrev pub piece_word_at : List Piece → ℕ → ℕ
@@ -126,31 +126,31 @@ pub record WritesSome {K : Type 0} (written : K → Option (List ℕ)) (failures
   pub is : Is put
 
 -- a line that is admitted behind what was read: the frame holds what is read with it, and what is put is what is said of it
-abbrev pub TakesAdmitted : Wide → ℕ → List ℕ → Frame → Frame → List ℕ → Type 0
-TakesAdmitted w k line before after put =
+abbrev pub TakesAdmitted : Lined → ℕ → List ℕ → Frame → Frame → List ℕ → Type 0
+TakesAdmitted l k line before after put =
     (narrow : List Item) (r s : Read) → IsWellFormed narrow → Holds narrow r before → k ≡ length r.closed → admit (shape_of narrow) r line ≡ Ok s
-    → Holds narrow s after × (text_of_lines (unfit_lines w narrow r) ++ put ≡ text_of_lines (unfit_lines w narrow s))
+    → Holds narrow s after × (text_of_lines (unfit_lines_with l narrow r) ++ put ≡ text_of_lines (unfit_lines_with l narrow s))
 
 -- whether a line is admitted behind a text of whole lines: one line more is
 abbrev pub IsAdmitted : List Item → List ℕ → List ℕ → Bool → Type 0
 IsAdmitted narrow text line b = b ≡ not (admitted_word_lines (shape_of narrow) (text ++ (line ++ 10 ∷ [])) == admitted_word_lines (shape_of narrow) text)
 
 -- a judge and a frame stand for whole lines, of which what is said was written since a pen began
-pub record Unfits {K : Type 0} (written : K → Option (List ℕ)) (failures : K → ℕ) (start s : K) (from pen : Pen) (w : Wide) (narrow : List Item) (judge : WordJudge) (f : Frame) (text : List ℕ) : Type 0 where
+pub record Unfits {K : Type 0} (written : K → Option (List ℕ)) (failures : K → ℕ) (start s : K) (from pen : Pen) (l : Lined) (narrow : List Item) (judge : WordJudge) (f : Frame) (text : List ℕ) : Type 0 where
   pub well_formed : IsWellFormed narrow
   pub stands : StandsForWitness narrow judge text
   pub ended : unfinished text ≡ []
   pub holds : Holds narrow (said_in narrow text) f
-  pub writes : WritesText written failures start s from pen (unfit_text w narrow text)
+  pub writes : WritesText written failures start s from pen (unfit_text_with l narrow text)
 
 -- lines of a source are taken: where what it had of a text before was behind a front of that, what it has now is behind a longer one
-abbrev pub TakesLines : {K : Type 0} → (K → Option (List ℕ)) → (K → ℕ) → Option (List ℕ) → Option (List ℕ) → K → K → Pen → Pen → Wide → WordJudge → WordJudge → Frame → Frame → Type 0
-TakesLines {K} written failures known now s t p q w judge judged f g =
-    (start : K) (from : Pen) (narrow : List Item) (whole : Option (List ℕ)) (front : List ℕ) → Consumes whole known front → Unfits written failures start s from p w narrow judge f front
-    → (longer : List ℕ) × (Consumes whole now longer × Unfits written failures start t from q w narrow judged g longer)
+abbrev pub TakesLines : {K : Type 0} → (K → Option (List ℕ)) → (K → ℕ) → Option (List ℕ) → Option (List ℕ) → K → K → Pen → Pen → Lined → WordJudge → WordJudge → Frame → Frame → Type 0
+TakesLines {K} written failures known now s t p q l judge judged f g =
+    (start : K) (from : Pen) (narrow : List Item) (whole : Option (List ℕ)) (front : List ℕ) → Consumes whole known front → Unfits written failures start s from p l narrow judge f front
+    → (longer : List ℕ) × (Consumes whole now longer × Unfits written failures start t from q l narrow judged g longer)
 
 -- a whole source is taken by a judge and a frame that stand for nothing: the judge stands for the text, and what is said of it was written; at a fault a beginning of that was
-abbrev pub UnfitsAll : {T E : Type 0} → Result T E → Wide → Option (List ℕ) → Option (List ℕ) → Option (List ℕ) → WordJudge → WordJudge → Frame → Type 0
-UnfitsAll r w source old new judge judged f =
+abbrev pub UnfitsAll : {T E : Type 0} → Result T E → Lined → Option (List ℕ) → Option (List ℕ) → Option (List ℕ) → WordJudge → WordJudge → Frame → Type 0
+UnfitsAll r l source old new judge judged f =
     (narrow : List Item) → IsWellFormed narrow → StandsForWitness narrow judge [] → Holds narrow nothing_read f
-    → IfSome source (λ text. MatchResult r (λ x. StandsForWitness narrow judged text × Appends old new (unfit_text w narrow text)) (λ e. AppendsBeginning old new (unfit_text w narrow text)))
+    → IfSome source (λ text. MatchResult r (λ x. StandsForWitness narrow judged text × Appends old new (unfit_text_with l narrow text)) (λ e. AppendsBeginning old new (unfit_text_with l narrow text)))

@@ -23,8 +23,10 @@ fn bit_at(word: u64, place: u64) -> bool
     (word >> place) % 2 == 1
 }
 
-/// Puts the digits of a word in front of a line, the highest first.
-fn add_digits(line: &mut Line, width: u64, word: u64)
+/// Puts the binary digits of a word of so many bits in front of a line, the highest first.
+///
+/// Conditions: the word has at most 64 bits, and the line room for as many bytes more.
+pub fn add_digits(line: &mut Line, width: u64, word: u64)
     requires allowed { width ≤ 64 }
     requires room { length line.old + 64 ≤ 512 }
     ensures digits { line.new ≡ binary width word ++ line.old }

@@ -7,6 +7,7 @@ ghost use Rattle.unfit.specs.Steps.{Holds, WritesSome, TakesAdmitted, TellsLine,
 
 use crate::assignments::assignment;
 use crate::known::Wide;
+use crate::titles::Titles;
 use crate::told_pieces::{Piece, forget, input_pieces, state_pieces, tell};
 use crate::words::put_part;
 use base::{Pen, Sink};
@@ -100,12 +101,18 @@ impl Frame {
     }
 
     /// Puts the lines of the part that is open, of the frame with this number, and forgets it.
-    fn put_open<K: Sink>(&mut self, wide: &Wide<'_>, pen: &mut Pen, sink: &mut K, number: u64)
+    fn put_open<K: Sink, T: Titles>(
+        &mut self,
+        wide: &Wide<'_, T>,
+        pen: &mut Pen,
+        sink: &mut K,
+        number: u64,
+    )
         ensures puts { WritesText K.written K.failures sink.old sink.new pen.old pen.new
             (open_text wide.now number self.old self.old.part) }
         ensures closed { self.new ≡ closed_frame self.old self.old.part }
     {
-        let (shape, names) = (wide.shape, wide.names);
+        let shape = wide.shape;
         match self.part {
             OpenPart::Nothing => {}
             OpenPart::States => {
@@ -114,7 +121,7 @@ impl Frame {
                     sink,
                     b"#",
                     wide.named,
-                    names.states.as_slice(),
+                    wide.states,
                     shape.states(),
                     number,
                     self.states.as_slice(),
@@ -127,7 +134,7 @@ impl Frame {
                     sink,
                     b"@",
                     wide.named,
-                    names.inputs.as_slice(),
+                    wide.inputs,
                     shape.inputs(),
                     number,
                     self.inputs.as_slice(),
@@ -138,9 +145,9 @@ impl Frame {
     }
 
     /// Puts the part that a line ends, and the line where it opens no other.
-    fn put_line<K: Sink>(
+    fn put_line<K: Sink, T: Titles>(
         &mut self,
-        wide: &Wide<'_>,
+        wide: &Wide<'_, T>,
         pen: &mut Pen,
         sink: &mut K,
         number: u64,
@@ -181,9 +188,9 @@ impl Frame {
     }
 
     /// Takes a line that is admitted, where so many frames are closed, and puts what that says.
-    pub(crate) fn take_admitted<K: Sink>(
+    pub(crate) fn take_admitted<K: Sink, T: Titles>(
         &mut self,
-        wide: &Wide<'_>,
+        wide: &Wide<'_, T>,
         pen: &mut Pen,
         sink: &mut K,
         number: u64,

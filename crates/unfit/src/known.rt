@@ -1,37 +1,38 @@
 //! What is known of a model with words of any width.
-ghost use Rattle.std.specs.Prelude.{◌≡◌, ◌<◌, ◌^◌, length};
+ghost use Rattle.std.specs.Prelude.{◌≡◌};
+ghost use Rattle.unfit.specs.Joined.{lined};
 
-use crate::names::Names;
+use crate::titles::Titles;
 use rejoin::Shape;
 use std::marker::Model;
 
-/// The shape of a model with words of any width, its names, and whether names are asked for.
+/// The shape of a model with words of any width, what stands beside the digits of its words, and whether names are asked for.
 #[derive(Drop)]
-pub(crate) struct Wide<'a> {
+pub(crate) struct Wide<'a, T: Titles> {
     pub(crate) shape: &'a Shape,
-    pub(crate) names: &'a Names,
+    pub(crate) states: &'a T,
+    pub(crate) inputs: &'a T,
     pub(crate) named: bool,
 }
 
-impl<'a> Model for Wide<'a> {
-    ghost use Rattle.unfit.specs.Joined.{Wide as WideValue};
+impl<'a, T: Titles> Model for Wide<'a, T> {
+    ghost use Rattle.unfit.specs.Joined.{Lined, lined};
 
-    ghost Value = { WideValue };
+    ghost Value = { Lined };
 
-    ghost view = { λ w. record { shape = w.shape.now; names = w.names.now; named = w.named } };
+    ghost view = { λ w. lined w.shape.now (T.symbols w.states.now) (T.symbols w.inputs.now) w.named (T.fronts w.states.now) (T.fronts w.inputs.now) };
 }
 
-impl<'a> Wide<'a> {
-    /// Of a model of this shape and with these names.
-    pub(crate) fn new(shape: &'a Shape, names: &'a Names, named: bool) -> Wide<'a>
-        ensures is { result ≡ record { shape = shape.now; names = names.now; named = named } }
-        ensures states { length shape.now.states < 2 ^ 64 }
-        ensures inputs { length shape.now.inputs < 2 ^ 64 }
+impl<'a, T: Titles> Wide<'a, T> {
+    /// Of a model of this shape, with these beside the digits of its words.
+    pub(crate) fn new(shape: &'a Shape, states: &'a T, inputs: &'a T, named: bool) -> Wide<'a, T>
+        ensures { result ≡ lined shape.now (T.symbols states.now) (T.symbols inputs.now) named
+            (T.fronts states.now) (T.fronts inputs.now) }
     {
-        let (_states, _inputs) = (shape.states().len(), shape.inputs().len());
         Wide {
             shape,
-            names,
+            states,
+            inputs,
             named,
         }
     }

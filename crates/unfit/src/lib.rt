@@ -7,10 +7,13 @@ mod frame;
 mod known;
 pub mod laws;
 mod names;
+mod titles;
 mod told_pieces;
 mod unfitter;
 mod unfitting;
 mod words;
 
+pub use digits::add_digits;
 pub use names::Names;
-pub use unfitting::unfit;
+pub use titles::{Titles, add_name};
+pub use unfitting::{unfit, unfit_by};

@@ -1,9 +1,9 @@
 //! The names of a model's states and inputs.
 ghost use Rattle.std.specs.Prelude.{◌≡◌, [], ◌∷◌, ◌++◌, IfOk, OnOk};
 ghost use Rattle.wide.specs.Lines.{item_of};
-ghost use Rattle.unfit.specs.Naming.{named_with, names_of};
+ghost use Rattle.unfit.specs.Naming.{named_by, named_with, names_of};
 
-use btor2::{Body, Item, Symbol};
+use btor2::{Body, Symbol};
 use std::alloc::{AllocError, Global};
 use std::marker::Model;
 use wide::{Line, WideModel};
@@ -51,17 +51,24 @@ fn put(list: &mut Vec<Option<Symbol>>, symbol: Option<Symbol>) -> Result<(), All
 }
 
 impl Names {
-    /// Adds the name of an item.
-    fn add(&mut self, alloc: Global, item: &Item) -> Result<(), AllocError>
-        ensures { OnOk result (self.new ≡ named_with self.old item.now) }
+    /// Adds the symbol of what has this form, or that it has none, where that is a state or an input.
+    ///
+    /// Error: a growth was refused.
+    pub fn add(
+        &mut self,
+        alloc: Global,
+        body: &Body,
+        symbol: &Option<Symbol>,
+    ) -> Result<(), AllocError>
+        ensures { OnOk result (self.new ≡ named_by self.old body.now symbol.now) }
     {
-        match item.body {
+        match body {
             Body::Input { .. } => {
-                let name = copied(alloc, &item.symbol)?;
+                let name = copied(alloc, symbol)?;
                 put(&mut self.inputs, name)
             }
             Body::State { .. } => {
-                let name = copied(alloc, &item.symbol)?;
+                let name = copied(alloc, symbol)?;
                 put(&mut self.states, name)
             }
             _ => Ok(()),
@@ -73,7 +80,7 @@ impl Names {
         ensures { OnOk result (self.new ≡ named_with self.old (item_of line.now)) }
     {
         match line {
-            Line::Item(item) => self.add(alloc, item),
+            Line::Item(item) => self.add(alloc, &item.body, &item.symbol),
             Line::Constant(_) => Ok(()),
         }
     }

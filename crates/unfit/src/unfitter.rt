@@ -9,6 +9,7 @@ ghost use Rattle.witness.specs.WordStands.{StandsForWitness};
 
 use crate::frame::Frame;
 use crate::known::Wide;
+use crate::titles::Titles;
 use base::{Pen, Sink};
 use witness::WordJudge;
 
@@ -29,10 +30,10 @@ fn admits(judge: &mut WordJudge<'_>, line: &[u8]) -> bool
 }
 
 /// Takes a whole line, and puts what it says where it is admitted.
-pub(crate) fn take_line<K: Sink>(
+pub(crate) fn take_line<K: Sink, T: Titles>(
     judge: &mut WordJudge<'_>,
     frame: &mut Frame,
-    wide: &Wide<'_>,
+    wide: &Wide<'_, T>,
     pen: &mut Pen,
     sink: &mut K,
     line: &[u8],

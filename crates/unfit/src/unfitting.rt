@@ -1,5 +1,5 @@
 //! Witnesses over a model with words of any width, of those over the model that it is fitted into.
-ghost use Rattle.std.specs.Prelude.{◌≡◌, ◌<◌, ℕ, List, Ok, IfErr, IfOk, IfSome, IsErr, OnErr, OnOk};
+ghost use Rattle.std.specs.Prelude.{◌≡◌, ◌<◌, ◌^◌, length, ℕ, List, Ok, IfErr, IfOk, IfSome, IsErr, OnErr, OnOk};
 ghost use Rattle.std.specs.Io.KnownBytes.{Appends, IsAtEnd, prepend_known};
 ghost use Rattle.base.specs.Device.{AppendsBeginning};
 ghost use Rattle.base.specs.Lines.{IsLine};
@@ -12,12 +12,14 @@ ghost use Rattle.witness.specs.Texts.{shape_of};
 ghost use Rattle.witness.specs.Judgements.{Judges};
 ghost use Rattle.rejoin.specs.Pieces.{joined_judgement, owner};
 ghost use Rattle.rejoin.specs.Faults.{AnswersUnfit, CountsUnfit, NamesState};
-ghost use Rattle.unfit.specs.Unfitted.{KeepsJudgement, unfit_text};
+ghost use Rattle.unfit.specs.Joined.{lined};
+ghost use Rattle.unfit.specs.Unfitted.{KeepsJudgement, unfit_text, unfit_text_with};
 ghost use Rattle.unfit.specs.Steps.{TakesLines, UnfitsAll};
 
 use crate::frame::Frame;
 use crate::known::Wide;
 use crate::names::Names;
+use crate::titles::{ByIndex, Titles};
 use crate::told_pieces::piece_count;
 use crate::unfitter::take_line;
 use base::{DeviceFault, LineReader, Pen, Sink, Source};
@@ -70,11 +72,11 @@ fn joined(shape: &Shape, judgement: Judgement) -> Judgement
 /// Takes all lines of a source, and puts what they say.
 ///
 /// Errors: the source's own, and the sink's.
-fn take_lines<S: Source, K: Sink>(
+fn take_lines<S: Source, K: Sink, T: Titles>(
     lines: &mut LineReader,
     judge: &mut WordJudge<'_>,
     frame: &mut Frame,
-    wide: &Wide<'_>,
+    wide: &Wide<'_, T>,
     pen: &mut Pen,
     source: &mut S,
     sink: &mut K,
@@ -105,11 +107,11 @@ fn take_lines<S: Source, K: Sink>(
 }
 
 /// Reads a source to its end, and writes what its lines say.
-fn take_all<S: Source, K: Sink>(
+fn take_all<S: Source, K: Sink, T: Titles>(
     alloc: Global,
     judge: &mut WordJudge<'_>,
     frame: &mut Frame,
-    wide: &Wide<'_>,
+    wide: &Wide<'_, T>,
     source: &mut S,
     sink: &mut K,
 ) -> Result<(), UnfitFault>
@@ -126,6 +128,65 @@ fn take_all<S: Source, K: Sink>(
     written(pen.finish(sink))?;
     judge.feed(lines.rest());
     Ok(())
+}
+
+/// Reads, judges and writes as `unfit` does, with what these say beside the digits of a word: before them in the place of its index,
+/// and behind them its name, where names are asked for.
+///
+/// Errors: those of `unfit`.
+pub fn unfit_by<S: Source, K: Sink, T: Titles>(
+    alloc: Global,
+    shape: &Shape,
+    states: &T,
+    inputs: &T,
+    narrow: &Model,
+    named: bool,
+    source: &mut S,
+    sink: &mut K,
+) -> Result<Judgement, UnfitFault>
+    // the judgement is that of the whole text over the fitted model, said over the other
+    ensures judged { IfOk result (λ judgement. IfSome (S.to_come source.old)
+        (λ text. (j : JudgementValue) × (Judges narrow.now text j
+        × (judgement ≡ joined_judgement shape.now j)))) }
+    // what is written says what the text says, and after a fault a beginning of it
+    ensures written { OnOk result (IfSome (S.to_come source.old)
+        (λ text. Appends (K.written sink.old) (K.written sink.new) (unfit_text_with
+        (lined shape.now (T.symbols states.now) (T.symbols inputs.now) named (T.fronts states.now) (T.fronts inputs.now)) narrow.now text))) }
+    ensures beginning { OnErr result (IfSome (S.to_come source.old)
+        (λ text. AppendsBeginning (K.written sink.old) (K.written sink.new) (unfit_text_with
+        (lined shape.now (T.symbols states.now) (T.symbols inputs.now) named (T.fronts states.now) (T.fronts inputs.now)) narrow.now text))) }
+    // a state with an init and no next is named exactly where there is one, the first
+    ensures answer { AnswersUnfit result (first_init_without_next narrow.now narrow.now) }
+    ensures unread { IfErr result (λ e. NamesState e → source.new ≡ source.old) }
+    ensures unwritten { IfErr result (λ e. NamesState e → sink.new ≡ sink.old) }
+    ensures end { OnOk result (IsAtEnd (S.to_come source.new)) }
+    // the source failed once where that is answered, the sink where that is, and else neither
+    ensures counted { CountsUnfit result (S.failures source.old) (S.failures source.new)
+        (K.failures sink.old) (K.failures sink.new) }
+{
+    let _items = narrow.items();
+    let wide = Wide::new(shape, states, inputs, named);
+    let mut judge = match WordJudge::new(alloc, narrow) {
+        Ok(judge) => judge,
+        Err(NewFault::NoNext(id)) => return Err(UnfitFault::NoNext(id)),
+        Err(NewFault::NoMemory) => return Err(UnfitFault::NoMemory),
+    };
+    let mut frame = match Frame::new(alloc, narrow) {
+        Ok(frame) => frame,
+        Err(_) => return Err(UnfitFault::NoMemory),
+    };
+    match take_all(alloc, &mut judge, &mut frame, &wide, source, sink) {
+        Ok(()) => Ok(joined(shape, judge.finish())),
+        Err(fault) => Err(fault),
+    }
+}
+
+/// A shape of which the states and the inputs can be counted.
+fn can_be_counted(shape: &Shape)
+    ensures states { length shape.now.states < 2 ^ 64 }
+    ensures inputs { length shape.now.inputs < 2 ^ 64 }
+{
+    let (_states, _inputs) = (shape.states().len(), shape.inputs().len());
 }
 
 /// Reads a witness over a fitted model to its end, judges it over that, and writes the witness over the model with words of any
@@ -179,19 +240,8 @@ pub fn unfit<S: Source, K: Sink>(
     ensures counted { CountsUnfit result (S.failures source.old) (S.failures source.new)
         (K.failures sink.old) (K.failures sink.new) }
 {
-    let _items = narrow.items();
-    let wide = Wide::new(shape, names, named);
-    let mut judge = match WordJudge::new(alloc, narrow) {
-        Ok(judge) => judge,
-        Err(NewFault::NoNext(id)) => return Err(UnfitFault::NoNext(id)),
-        Err(NewFault::NoMemory) => return Err(UnfitFault::NoMemory),
-    };
-    let mut frame = match Frame::new(alloc, narrow) {
-        Ok(frame) => frame,
-        Err(_) => return Err(UnfitFault::NoMemory),
-    };
-    match take_all(alloc, &mut judge, &mut frame, &wide, source, sink) {
-        Ok(()) => Ok(joined(shape, judge.finish())),
-        Err(fault) => Err(fault),
-    }
+    can_be_counted(shape);
+    let states = ByIndex::new(names.states.as_slice());
+    let inputs = ByIndex::new(names.inputs.as_slice());
+    unfit_by(alloc, shape, &states, &inputs, narrow, named, source, sink)
 }

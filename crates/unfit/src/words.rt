@@ -2,69 +2,68 @@
 ghost use Rattle.std.specs.Prelude.{◌≡◌, ◌+◌, ◌≤◌, ◌<◌, ◌∷◌, ◌++◌, [], Option, length, decimal};
 ghost use Rattle.base.specs.Writing.{WritesText};
 ghost use Rattle.witness.specs.Texts.{symbol_part};
-ghost use Rattle.unfit.specs.Joined.{name_at};
+ghost use Rattle.unfit.specs.Joined.{front_at, name_at};
 ghost use Rattle.unfit.specs.Steps.{part_text, told_text, word_text};
 
 use crate::digits::put_digits;
+use crate::titles::Titles;
 use crate::told_pieces::{Piece, any_told, cut, piece_count};
 use base::{Line, Pen, Sink};
-use btor2::Symbol;
-use lift::add_name_in_frame;
 
-/// Puts the name of the word with an index in a frame in front of a line.
-fn add_name(line: &mut Line, named: bool, names: &[Option<Symbol>], frame: u64, index: usize)
+/// Puts the name of the word with an index in a frame in front of a line, where names are asked for.
+fn add_name<T: Titles>(line: &mut Line, named: bool, titles: &T, frame: u64, index: usize)
     requires { length line.old ≤ 1 }
-    ensures { line.new ≡ symbol_part (name_at named names.now frame index) ++ line.old }
+    ensures { line.new ≡ symbol_part (name_at named (T.symbols titles.now) frame index)
+        ++ line.old }
 {
-    if !named {
-        return;
-    }
-    if let Some(Some(symbol)) = names.get(index) {
-        add_name_in_frame(line, symbol.bytes(), frame);
+    if named {
+        titles.add_name(line, frame, index);
     }
 }
 
 /// Puts the line of a word.
-fn put_word<K: Sink>(
+fn put_word<K: Sink, T: Titles>(
     pen: &mut Pen,
     sink: &mut K,
     named: bool,
-    names: &[Option<Symbol>],
+    titles: &T,
     frame: u64,
     index: usize,
     width: u64,
     pieces: &[Piece],
 )
     ensures { WritesText K.written K.failures sink.old sink.new pen.old pen.new
-        (word_text index width (name_at named names.now frame index) pieces.now) }
+        (word_text (front_at (T.fronts titles.now) index) width
+        (name_at named (T.symbols titles.now) frame index) pieces.now) }
 {
     pen.line.clear();
     pen.line.byte(b' ');
-    pen.line.number(index as u64);
+    titles.add_front(&mut pen.line, index);
     pen.put_line(sink);
     put_digits(pen, sink, width, pieces);
     pen.line.clear();
     pen.line.byte(b'\n');
-    add_name(&mut pen.line, named, names, frame, index);
+    add_name(&mut pen.line, named, titles, frame, index);
     pen.put_line(sink);
 }
 
 /// Puts the line of a word of which a piece is told.
-fn put_told_word<K: Sink>(
+fn put_told_word<K: Sink, T: Titles>(
     pen: &mut Pen,
     sink: &mut K,
     named: bool,
-    names: &[Option<Symbol>],
+    titles: &T,
     frame: u64,
     index: usize,
     width: u64,
     pieces: &[Piece],
 )
     ensures { WritesText K.written K.failures sink.old sink.new pen.old pen.new
-        (told_text index width (name_at named names.now frame index) pieces.now) }
+        (told_text (front_at (T.fronts titles.now) index) width
+        (name_at named (T.symbols titles.now) frame index) pieces.now) }
 {
     if any_told(pieces) {
-        put_word(pen, sink, named, names, frame, index, width, pieces);
+        put_word(pen, sink, named, titles, frame, index, width, pieces);
     }
 }
 
@@ -79,41 +78,41 @@ fn put_mark<K: Sink>(pen: &mut Pen, sink: &mut K, mark: &[u8], number: u64)
 }
 
 /// Puts the lines of words in a frame: of the words of these widths of which a piece is told.
-fn put_words<K: Sink>(
+fn put_words<K: Sink, T: Titles>(
     pen: &mut Pen,
     sink: &mut K,
     named: bool,
-    names: &[Option<Symbol>],
+    titles: &T,
     widths: &[u64],
     frame: u64,
     pieces: &[Piece],
 )
     ensures { WritesText K.written K.failures sink.old sink.new pen.old pen.new
-        (part_text named names.now widths.now frame pieces.now) }
+        (part_text (T.fronts titles.now) named (T.symbols titles.now) widths.now frame pieces.now) }
 {
     let mut rest = pieces;
     for (index, width) in widths.iter().enumerate() {
         let (here, behind) = cut(rest, piece_count(*width));
-        put_told_word(pen, sink, named, names, frame, index, *width, here);
+        put_told_word(pen, sink, named, titles, frame, index, *width, here);
         rest = behind;
     }
 }
 
 /// Puts a part of a frame: the line that opens it, and the lines of the words of these widths of which a piece is told.
-pub(crate) fn put_part<K: Sink>(
+pub(crate) fn put_part<K: Sink, T: Titles>(
     pen: &mut Pen,
     sink: &mut K,
     mark: &[u8],
     named: bool,
-    names: &[Option<Symbol>],
+    titles: &T,
     widths: &[u64],
     frame: u64,
     pieces: &[Piece],
 )
     ensures { WritesText K.written K.failures sink.old sink.new pen.old pen.new
         ((mark.now ++ (decimal frame ++ 10 ∷ []))
-        ++ part_text named names.now widths.now frame pieces.now) }
+        ++ part_text (T.fronts titles.now) named (T.symbols titles.now) widths.now frame pieces.now) }
 {
     put_mark(pen, sink, mark, frame);
-    put_words(pen, sink, named, names, widths, frame, pieces);
+    put_words(pen, sink, named, titles, widths, frame, pieces);
 }

@@ -334,9 +334,15 @@ all_written full w h = record {
   outputs = properties_written full w h is_output h.late.outputs;
 }
 
--- A writing in which each line with a value has its node, and the leaves and the lines without a value are written, is a model written out.
+-- A writing in which each line with a value has its node, and the leaves and the lines without a value are written, is a model written out, by places that give the states their numbers in it.
 pub written_out : (full : List FullLine) (w : Writing) → IsFullModel full → IsWideModel greatest_width w.items → NodesStand full w → HasNodes full w → LeavesWritten full w → LateWritten full full w
-    → (p : Places) × IsWrittenOut full p w.items
+    → (p : Places) × IsWrittenOut full p w.items × ((of_kind_lines is_state full w.nodes ≡ map p.node (full_ids is_state full)) × (of_kind_lines is_state full w.leaves ≡ map p.leaf (full_ids is_state full)))
 written_out full w model wide stand has leaves late =
-    let h : Done full w = record { model = model; wide = wide; stand = stand; has = has; leaves = leaves; late = late } in
-    (places full w h, all_written full w h)
+    let h : Done full w = record { model = model; wide = wide; stand = stand; has = has; leaves = leaves; late = late } in (
+      places full w h,
+      all_written full w h,
+      (
+        sym (kind_by is_state (node_at full w) full w.nodes stand.nodes_length (λ k x is. node_here full w k x h is)),
+        sym (kind_by is_state (leaf_at full w) full w.leaves stand.leaves_length (λ k x is. leaf_here full w k x h is)),
+      ),
+    )

@@ -28,3 +28,4 @@ pub mod ArrayLemmas
 pub mod ChoiceLemmas
 pub mod WholeLemmas
 pub mod RunLemmas
+pub mod StateLemmas

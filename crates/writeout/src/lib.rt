@@ -17,10 +17,11 @@ mod nodes;
 mod operands;
 mod ordered;
 mod putting;
+mod states;
 mod symbols;
 mod tables;
 mod way;
 mod writing;
 
 pub use fault::WriteFault;
-pub use writing::write_out;
+pub use writing::{Written, write_out, write_out_with_nodes};

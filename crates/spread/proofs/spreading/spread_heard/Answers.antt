@@ -16,7 +16,7 @@ use Rattle.spread.specs.Made.{source_made}
 use Rattle.spread.specs.Stands.{IsWideShape, StandsFor, EndsFor}
 use Rattle.spread.proofs.WideShapeLemmas.{shape_is_wide}
 use Rattle.spread.proofs.KeepLemmas.{tells_judged, tells_kept}
-use Rattle.spread.proofs.spreading.spread_by.Goals as goal
+use Rattle.spread.proofs.spreading.spread_heard.Goals as goal
 
 good_shape : (shape : Shape) (narrow wide : List Item) → IsOfFitted shape narrow wide → shape_of narrow ≡ cut_shape (shape_of wide) → IsWellFormed narrow → IsWideShape (shape_of wide)
 good_shape shape narrow wide of cut well = shape_is_wide wide narrow of.model cut (shape_is_small narrow well)
@@ -86,3 +86,12 @@ returns-in-Err-clause-beginning g c =
     let begun : StandsFor (shape_of wide) narrow c.in-Ok.spreader [] =
     c.in-Ok.ensures.ok (shape_of wide) (c.states.ensures ∙ ap (λ (s : Shape). s.states) of.is_shape) (c.inputs.ensures ∙ ap (λ (s : Shape). s.inputs) of.is_shape) in
     subst (λ (s : Shape). IfSome (source_made (g.L.Lines.becomes c.args.lines.now) (g.S.Source.to_come c.args.source.now)) (λ text. IsShort text → AppendsBeginning old new (spread_text s text))) (sym of.is_shape) (c.in-Err.ensures.writes.stops (shape_of wide) narrow good cut begun)
+
+pub returns-in-Ok-spread_through-clause-heard : goal.returns-in-Ok-spread_through-clause-heard
+returns-in-Ok-spread_through-clause-heard g c = λ wide of.
+    let narrow = c.args.narrow.now in
+    let cut = c.shapes_are_cut.ensures wide narrow of.fit in
+    let good = good_shape c.args.shape.now narrow wide of cut c.items-items.ensures.well_formed in
+    let begun : StandsFor (shape_of wide) narrow c.in-Ok.spreader [] =
+    c.in-Ok.ensures.ok (shape_of wide) (c.states.ensures ∙ ap (λ (s : Shape). s.states) of.is_shape) (c.inputs.ensures ∙ ap (λ (s : Shape). s.inputs) of.is_shape) in
+    c.in-Ok-spread_through.ensures.heard (shape_of wide) narrow good cut begun

@@ -1,0 +1,36 @@
+//! What hears the lines of a text that is judged.
+ghost use Rattle.std.specs.Prelude.{◌≡◌, ℕ, List, [], ◌∷◌, ◌++◌};
+ghost use Rattle.base.specs.Lines.{IsLine};
+ghost use Rattle.btor2.specs.declared.item.Item.{Item};
+ghost use Rattle.witness.specs.Texts.{Shape as ShapeValue};
+ghost use Rattle.spread.specs.Heard.{HearsLine};
+
+use witness::WordJudge;
+
+/// Hears the lines of a text over a model, each behind the judge of the fitted model, which took what goes on for it.
+pub trait Hearer {
+    /// What is known of it beside the lines.
+    ghost Over: { Type 0 };
+
+    /// It stands for whole lines over a model of a shape, which is fitted into the other.
+    ghost stands: { Over → Self → ShapeValue → List Item → List ℕ → Type 0 };
+
+    /// Hears a line: one that stood for the lines before it stands for those with this.
+    ///
+    /// Condition: the line has no byte 10.
+    fn hear(&mut self, line: &[u8], judge: &WordJudge<'_>)
+        requires { IsLine line.now }
+        ensures { HearsLine stands self.old self.new judge.now line.now };
+}
+
+/// Hears nothing.
+#[derive(Drop)]
+pub(crate) struct Deaf;
+
+impl Hearer for Deaf {
+    ghost Over = { Unit };
+
+    ghost stands = { λ over d shape narrow text. Unit };
+
+    fn hear(&mut self, _line: &[u8], _judge: &WordJudge<'_>) {}
+}
