@@ -9,7 +9,7 @@ use Rattle.btor2.specs.Trace.{Frame, bits_of, state_word}
 use Rattle.btor2.proofs.IdLemmas.{input_is_no_state, state_item}
 use Rattle.full.proofs.ListLemmas.{all_at}
 use Rattle.wide.specs.WideModels.{greatest_width, IsWideModel}
-use Rattle.full.specs.Lines.{FullLine, init_of}
+use Rattle.full.specs.Lines.{FullLine}
 use Rattle.full.specs.Agreement.{names_full_state}
 use Rattle.full.specs.WrittenOut.{Places, IsWrittenOut}
 use Rattle.full.proofs.WideLemmas.{found_by_id}
@@ -144,7 +144,7 @@ module _ (full : List FullLine) (p : Places) (wide : List Item) (layout : Layout
         word_same width begin (by_part is_state celled w.states) ps
         (all_with (λ q. init_value celled q ≡ None) (λ q. begin q ≡ by_part is_state celled w.states q) ps (λ q e. begins q (no_init_word celled q e)) none)
 
-    first_state : (l : Leaf) → names_full_state full l.id ≡ true → AllByRecursion (IsOfKind is_state celled) (layout (p.leaf l.id)) → init_of full l.id ≡ None
+    first_state : (l : Leaf) → names_full_state full l.id ≡ true → AllByRecursion (IsOfKind is_state celled) (layout (p.leaf l.id)) → init_value wide (p.leaf l.id) ≡ None
         → state_word wide (joined celled layout begin) (joined celled layout (given_words celled w)) (p.leaf l.id) ≡ pieces_word width (by_part is_state celled w.states) (layout (p.leaf l.id))
     first_state l names kinds none = by (is_free wide (p.leaf l.id)) refl
       where
@@ -152,17 +152,24 @@ module _ (full : List FullLine) (p : Places) (wide : List Item) (layout : Layout
             → cond b (joined celled layout (given_words celled w) (p.leaf l.id)) (joined celled layout begin (p.leaf l.id)) ≡ pieces_word width (by_part is_state celled w.states) (layout (p.leaf l.id))
         by true free = given_state w (layout (p.leaf l.id)) kinds
         by false carried =
-            let place = placed full p wide l.id h names in
-            begins_given (layout (p.leaf l.id)) (carried_absence wide celled layout c.fits (p.leaf l.id) place.state carried (place.no_init none).1)
+            begins_given (layout (p.leaf l.id)) (carried_absence wide celled layout c.fits (p.leaf l.id) (placed full p wide l.id h names).state carried none)
+
+    -- each state whose leaf has no init line begins with what is told
+    pub open_given : ByIndex (λ i l. init_value wide (p.leaf l.id) ≡ None → state_word wide (joined celled layout begin) (joined celled layout (given_words celled w)) (p.leaf l.id) ≡ told w.states l.sort i 0) 0 (leaves_of is_state full)
+    open_given =
+        by_index (λ (l : Leaf). (names_full_state full l.id ≡ true) × AllByRecursion (IsOfKind is_state celled) (layout (p.leaf l.id))) (λ i l. pieces_word width (by_part is_state celled w.states) (layout (p.leaf l.id)) ≡ told w.states l.sort i 0)
+        (λ i l. init_value wide (p.leaf l.id) ≡ None → state_word wide (joined celled layout begin) (joined celled layout (given_words celled w)) (p.leaf l.id) ≡ told w.states l.sort i 0) 0 (leaves_of is_state full)
+        (λ i l known e none. first_state l known.0 known.1 none ∙ e)
+        (all_both (λ (l : Leaf). names_full_state full l.id ≡ true) (λ (l : Leaf). AllByRecursion (IsOfKind is_state celled) (layout (p.leaf l.id))) (leaves_of is_state full) (states_named full p wide h) state_pieces) (states_by_words w.states)
 
     pub first_given : IsFirstGiven full p wide (joined celled layout begin) w (joined celled layout (given_words celled w))
     first_given =
         record {
           states =
-              by_index (λ (l : Leaf). (names_full_state full l.id ≡ true) × AllByRecursion (IsOfKind is_state celled) (layout (p.leaf l.id))) (λ i l. pieces_word width (by_part is_state celled w.states) (layout (p.leaf l.id)) ≡ told w.states l.sort i 0)
+              by_index (λ (l : Leaf). names_full_state full l.id ≡ true)
+              (λ i l. init_value wide (p.leaf l.id) ≡ None → state_word wide (joined celled layout begin) (joined celled layout (given_words celled w)) (p.leaf l.id) ≡ told w.states l.sort i 0)
               (FirstGiven full p wide w.states (joined celled layout begin) (joined celled layout (given_words celled w))) 0 (leaves_of is_state full)
-              (λ i l known e none. first_state l known.0 known.1 none ∙ e)
-              (all_both (λ (l : Leaf). names_full_state full l.id ≡ true) (λ (l : Leaf). AllByRecursion (IsOfKind is_state celled) (layout (p.leaf l.id))) (leaves_of is_state full) (states_named full p wide h) state_pieces) (states_by_words w.states);
+              (λ i l names e none. e ((placed full p wide l.id h names).no_init none).1) (states_named full p wide h) open_given;
           inputs = inputs_given w;
         }
 

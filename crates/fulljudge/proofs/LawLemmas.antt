@@ -72,13 +72,13 @@ module _ (full : List FullLine) (p : Places) (wide : List Item) (layout : Layout
     admits : AdmitsWords (full_shape full) (shape_of celled)
     admits = subst (AdmitsWords (full_shape full)) (sym shape_is) (admits_alike (full_shape full) few more flags (as_many full p wide layout celled h c model) (none_more_free full p wide layout celled h c model))
 
-    over_read : text_read (word_reader (shape_of celled)) (words_text (full_shape full) text) ≡ text_read (full_reader (full_shape full)) text
+    pub over_read : text_read (word_reader (shape_of celled)) (words_text (full_shape full) text) ≡ text_read (full_reader (full_shape full)) text
     over_read = reads_alike (full_shape full) few own_small.bads text (shape_of celled) admits
 
     own_read : text_read (word_reader base) (words_text (full_shape full) text) ≡ text_read (full_reader (full_shape full)) text
     own_read = reads_alike (full_shape full) few own_small.bads text base (λ r line. refl)
 
-    read_tells : (r : Read) → text_read (full_reader (full_shape full)) text ≡ Ok r → TellsWords full celled (words_of (witness_of r))
+    pub read_tells : (r : Read) → text_read (full_reader (full_shape full)) text ≡ Ok r → TellsWords full celled (words_of (witness_of r))
     read_tells r e =
         tells (witness_of r) (witness_of r).frames refl (read_says (shape_of celled) (words_text (full_shape full) text) r small (over_read ∙ e)).valid.frames
         (read_says base (words_text (full_shape full) text) r own_small (own_read ∙ e)).valid.frames

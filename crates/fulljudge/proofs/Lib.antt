@@ -15,6 +15,14 @@ pub mod CellLemmas
 pub mod TextLemmas
 pub mod AddressLemmas
 pub mod ValuesLemmas
+pub mod OwnerLemmas
+pub mod SpreadLemmas
 pub mod WordLineLemmas
 pub mod CellsLemmas
 pub mod JudgeLemmas
+pub mod DigitLemmas
+pub mod OtherwiseLemmas
+pub mod PlacedLemmas
+pub mod HearLemmas
+pub mod FirstFrameLemmas
+pub mod CompareLemmas

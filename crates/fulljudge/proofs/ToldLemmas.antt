@@ -76,12 +76,19 @@ told_own list (arrays k n) first x fit are below =
     ∙ ap (λ (j : ℕ). unwrap_or (given list (first + j)) (read_value n x j)) (omega arith)
     ∙ chosen_own (given list (first + i)) (read_value n x i) (λ v e. are i v h e))
 
--- and a told word that is another makes another value
-pub told_other : (list : List (ℕ × ℕ)) (s : Sort) (first x c v : ℕ) → WordsFit list s first → c < word_count s → given list (first + c) ≡ Some v → (v ≡ own_word s x c → ⊥) → told list s first x ≡ x → ⊥
-told_other list (words n) first x c v fit within e other same =
+-- a word that is told is that of what is told
+pub told_word : (list : List (ℕ × ℕ)) (s : Sort) (first x c v : ℕ) → WordsFit list s first → c < word_count s → given list (first + c) ≡ Some v → own_word s (told list s first x) c ≡ v
+told_word list (words n) first x c v fit within e =
     let zero : first + c ≡ first = omega (arith, within) in
-    other (sym (ap (λ (o : Option ℕ). unwrap_or o x) (ap (given list) (sym zero) ∙ e)) ∙ same)
-told_other list (arrays k n) first x c v fit within e other same =
-    let read = read_told list n first x 0 (2 ^ k) c (λ i h. subst (λ (j : ℕ). IfSome (given list (first + j)) (λ v. v < 2 ^ n)) (omega arith) (fit i h)) within in
-    let word : read_value n (told_cells list n first x 0 (2 ^ k)) c ≡ v = read ∙ ap (λ (j : ℕ). unwrap_or (given list (first + j)) (read_value n x j)) (omega arith) ∙ ap (λ (o : Option ℕ). unwrap_or o (read_value n x c)) e in
-    other (sym word ∙ ap (λ (y : ℕ). read_value n y c) same)
+    ap (λ (o : Option ℕ). unwrap_or o x) (ap (given list) (sym zero) ∙ e)
+told_word list (arrays k n) first x c v fit within e =
+    read_told list n first x 0 (2 ^ k) c (λ i h. subst (λ (j : ℕ). IfSome (given list (first + j)) (λ v. v < 2 ^ n)) (omega arith) (fit i h)) within
+    ∙ ap (λ (j : ℕ). unwrap_or (given list (first + j)) (read_value n x j)) (omega arith) ∙ ap (λ (o : Option ℕ). unwrap_or o (read_value n x c)) e
+
+-- and one that is another makes another value
+pub told_other : (list : List (ℕ × ℕ)) (s : Sort) (first x c v : ℕ) → WordsFit list s first → c < word_count s → given list (first + c) ≡ Some v → (v ≡ own_word s x c → ⊥) → told list s first x ≡ x → ⊥
+told_other list s first x c v fit within e other same = other (sym (told_word list s first x c v fit within e) ∙ ap (λ (y : ℕ). own_word s y c) same)
+
+pub own_below : (s : Sort) (x c : ℕ) → c < word_count s → x < 2 ^ (word_count s * word_width s) → own_word s x c < 2 ^ word_width s
+own_below (words n) x c within below = subst (λ (m : ℕ). x < 2 ^ m) (omega arith) below
+own_below (arrays k n) x c within below = read_below n x c

@@ -35,7 +35,7 @@ few_words (arrays k (suc n)) some most = let product : 2 ^ k * 1 ≤ 2 ^ k * suc
 
 -- ---- words of some values
 
-words_first : (s : Sort) (sorts : List Sort) → words_in (s ∷ sorts) ≡ word_count s + words_in sorts
+pub words_first : (s : Sort) (sorts : List Sort) → words_in (s ∷ sorts) ≡ word_count s + words_in sorts
 words_first s sorts = length-append (word_widths s) (flat_map word_widths sorts) ∙ ap (λ (n : ℕ). n + words_in sorts) (length-replicate (word_count s) (word_width s))
 
 pub words_more : (sorts : List Sort) (s : Sort) → words_in (sorts ++ s ∷ []) ≡ words_in sorts + word_count s

@@ -7,4 +7,6 @@ pub mod Written
 pub mod Cells
 pub mod Kept
 pub mod Judged
+pub mod Spreading
+pub mod Compared
 pub mod Worked

@@ -1,7 +1,6 @@
 //! Judging over a model of the whole language.
-ghost use Rattle.std.specs.Prelude.{◌≡◌, List, None, IfErr, IfOk, IfSome, OnOk, if◌then◌else◌};
+ghost use Rattle.std.specs.Prelude.{◌≡◌, List, IfErr, IfOk, IfSome, OnOk};
 ghost use Rattle.std.specs.Io.KnownBytes.{IsAtEnd};
-ghost use Rattle.base.specs.Lines.{IsLine};
 ghost use Rattle.btor2.specs.declared.item.Item.{Item};
 ghost use Rattle.btor2.specs.Lists.{first_init_without_next};
 ghost use Rattle.fit.specs.Fitting.{Layout};
@@ -9,72 +8,44 @@ ghost use Rattle.full.specs.Lines.{FullLine};
 ghost use Rattle.full.specs.WrittenOut.{Places};
 ghost use Rattle.witness.specs.Answers.{AnswersJudge, CountsJudge, NamesState};
 ghost use Rattle.spread.specs.Spread.{IsShort};
-ghost use Rattle.fulljudge.specs.Lines.{line_in, line_by_part};
 ghost use Rattle.fulljudge.specs.Judgements.{judged_by, JudgesFull};
-ghost use Rattle.fulljudge.specs.Judged.{IsOfFull};
+ghost use Rattle.fulljudge.specs.Judged.{IsJudgeable};
 
+use crate::compared::StateWords;
+use crate::first_words::FirstWords;
+use crate::making::WordLines;
+use crate::owners::value_of_word;
 use crate::values::Values;
 use base::Source;
 use btor2::Model;
 use rejoin::Shape;
-use spread::{Lines, Part, begins_part, judge_spread_by};
-use std::alloc::{AllocError, Global};
+use spread::judge_spread_by;
+use std::alloc::Global;
 use witness::{JudgeFault, Judgement};
 
-/// Makes of a line in a part, which may open another part or end the text, the line of a word, and answers whether it made one.
-fn make_line(values: &Values, line: &[u8], out: &mut Vec<u8>) -> Result<bool, AllocError>
-    requires { IsLine line.now }
-    ensures made { IfOk result (λ other.
-        (if other then out.new.items else line.now) ≡ line_in values.now line.now) }
-    ensures whole { IfOk result (λ other. IsLine (line_in values.now line.now)) }
+/// What is judged over a model where this is judged over the words of its values: a word that differs is that of its state. Where
+/// none does, the state that is told otherwise than it begins is named, if one is.
+pub fn of_values(states: &Values, otherwise: Option<u64>, judgement: Judgement) -> Judgement
+    ensures { result ≡ judged_by states.now otherwise judgement }
 {
-    let _few = values.words();
-    if begins_part(line) {
-        return Ok(false);
-    }
-    values.word_line(line, out)?;
-    Ok(true)
-}
-
-/// Lines that tell the values of a model's states and inputs, which become those of the words by which they are told.
-#[derive(Drop)]
-struct WordLines<'v> {
-    states: &'v Values,
-    inputs: &'v Values,
-}
-
-impl<'v> Lines for WordLines<'v> {
-    ghost becomes = { λ w p line. line_by_part w.states.now w.inputs.now p line };
-
-    fn make(&self, part: Part, line: &[u8], out: &mut Vec<u8>) -> Result<bool, AllocError> {
-        match part {
-            Part::Outside => Ok(false),
-            Part::States => make_line(self.states, line, out),
-            Part::Inputs => make_line(self.inputs, line, out),
-        }
-    }
-}
-
-/// What is judged over a model where this is judged over the words of its values: a word that differs is that of its state.
-fn of_values(states: &Values, judgement: Judgement) -> Judgement
-    ensures { result ≡ judged_by states.now None judgement }
-{
-    match judgement {
-        Judgement::InitDiffers { index } => Judgement::InitDiffers {
-            index: states.value_of_word(index),
+    match (judgement, otherwise) {
+        (Judgement::NoClaim | Judgement::Malformed { .. }, _) => judgement,
+        (Judgement::InitDiffers { index }, _) => Judgement::InitDiffers {
+            index: value_of_word(states, index),
         },
-        _ => judgement,
+        (_, Some(index)) => Judgement::InitDiffers { index },
+        (_, None) => judgement,
     }
 }
 
 /// Reads a witness over a model of the whole language to its end, and judges it. An array is told in it cell by cell, as `3 [01] 1101`
 /// tells the cell 1 of the state or the input 3. Of the text one line is held, and what a piece of the source gives behind it, and
-/// beside it what the judge holds and a number for each word by which a state or an input is told.
+/// beside it what the judge holds, and a number and a flag for each word by which a state or an input is told.
 ///
-/// Conditions: `states` and `inputs` are those of the model. The list that the model is written out as, in which each state with an
-/// init line begins with a constant, is fitted into one in which each word by which a value is told has a leaf: an array has one for
-/// each of its cells. `shape` is the shape of that list, and `narrow` the model that it is fitted into. Of a text of more than 2^44
-/// lines nothing is said.
+/// Conditions: `states` and `inputs` are those of the model. The list that the model is written out as is fitted into one in which
+/// each word by which a value is told has a leaf: an array has one for each of its cells. `shape` is the shape of that list, `narrow`
+/// the model that it is fitted into, and `words` says where the words of states stand in both. Of a text of more than 2^44 lines
+/// nothing is said.
 ///
 /// Errors: `NoNext` with the first state of `narrow` in file order that has an init and no next, and then nothing was read;
 /// `Device` where the source failed in this call, once; `NoMemory` where a growth was refused.
@@ -82,15 +53,16 @@ pub fn judge_full<S: Source>(
     alloc: Global,
     states: &Values,
     inputs: &Values,
+    words: &StateWords,
     shape: &Shape,
     narrow: &Model,
     source: &mut S,
 ) -> Result<Judgement, JudgeFault>
     requires fitted { (full : List FullLine) × (p : Places) × (wide : List Item) × (layout : Layout) × (celled : List Item)
-        × IsOfFull states.now inputs.now shape.now narrow.now full p wide layout celled }
+        × IsJudgeable states.now inputs.now words.now shape.now narrow.now full p wide layout celled }
     // the judgement is that of the whole text over the model
     ensures judged { (full : List FullLine) (p : Places) (wide : List Item) (layout : Layout) (celled : List Item)
-        → IsOfFull states.now inputs.now shape.now narrow.now full p wide layout celled
+        → IsJudgeable states.now inputs.now words.now shape.now narrow.now full p wide layout celled
         → IfOk result (λ judgement. IfSome (S.to_come source.old)
         (λ text. IsShort text → JudgesFull full text judgement)) }
     // a state with an init and no next is named exactly where there is one, the first
@@ -102,9 +74,15 @@ pub fn judge_full<S: Source>(
 {
     let _few_states = states.words();
     let _few_inputs = inputs.words();
-    let lines = WordLines { states, inputs };
-    match judge_spread_by(alloc, shape, narrow, source, &lines) {
-        Ok(judgement) => Ok(of_values(states, judgement)),
+    if let Some(id) = narrow.first_init_without_next() {
+        return Err(JudgeFault::NoNext(id));
+    }
+    let lines = WordLines::new(states, inputs);
+    let Ok(mut hearer) = FirstWords::new(alloc, states, words) else {
+        return Err(JudgeFault::NoMemory);
+    };
+    match judge_spread_by(alloc, shape, narrow, source, &lines, &mut hearer) {
+        Ok(judgement) => Ok(of_values(states, hearer.found(), judgement)),
         Err(fault) => Err(fault),
     }
 }

@@ -2,10 +2,19 @@
 #![tactic(auto)]
 
 mod addresses;
+mod compared;
+mod first_words;
 mod judging;
 pub mod laws;
+mod making;
+mod owners;
+mod spreading;
 mod values;
 mod word_lines;
 
-pub use judging::judge_full;
-pub use values::Values;
+pub use compared::StateWords;
+pub use judging::{judge_full, of_values};
+pub use making::WordLines;
+pub use owners::value_of_word;
+pub use spreading::spread_full;
+pub use values::{Value, Values};

@@ -1,8 +1,8 @@
 //! The sorts of a model's states, or of its inputs, and where the words stand by which their values are told.
-ghost use Rattle.std.specs.Prelude.{◌≡◌, ◌+◌, ◌<◌, ◌≤◌, ◌^◌, [], ◌∷◌, ◌++◌, None, Some, true, false, slice_get, IfOk, OnOk, MatchOption};
+ghost use Rattle.std.specs.Prelude.{◌≡◌, ◌+◌, ◌<◌, ◌≤◌, ◌^◌, [], ◌∷◌, ◌++◌, None, Some, true, false, length, slice_get, IfOk, OnOk, MatchOption};
 ghost use Rattle.btor2.specs.Items.{node_sort};
 ghost use Rattle.fullmodel.specs.Lines.{sort_value, line_of};
-ghost use Rattle.fulljudge.specs.Shapes.{full_shape, word_count, first_index, value_of_word};
+ghost use Rattle.fulljudge.specs.Shapes.{full_shape, word_count, first_index};
 ghost use Rattle.fulljudge.specs.Kept.{words_in, kind_of, sorts_among};
 
 use btor2::Body;
@@ -20,15 +20,15 @@ enum Kind {
 
 /// A value of a state or of an input.
 #[derive(Clone, Copy)]
-pub(crate) struct Value {
+pub struct Value {
     /// Its sort.
-    pub(crate) sort: Sort,
+    pub sort: Sort,
     /// The index of its first word, among the words of all.
-    pub(crate) first: u64,
+    pub first: u64,
 }
 
 /// How many words there are by which a value of a sort is told.
-fn word_count(sort: Sort) -> u64
+pub(crate) fn word_count(sort: Sort) -> u64
     requires { word_count (sort_value sort) < 2 ^ 64 }
     ensures { result ≡ word_count (sort_value sort) }
 {
@@ -145,25 +145,15 @@ impl Values {
         self.words
     }
 
-    /// The index of the value that a word is of.
-    pub(crate) fn value_of_word(&self, word: u64) -> u64
-        ensures { result ≡ value_of_word self.now word }
+    /// How many values there are.
+    pub fn count(&self) -> u64
+        ensures { result ≡ length self.now }
     {
-        let mut left = word;
-        let mut index = 0;
-        for value in &self.list {
-            let count = word_count(value.sort);
-            if left < count {
-                return index;
-            }
-            left -= count;
-            index += 1;
-        }
-        index
+        self.list.len() as u64
     }
 
-    /// The value with an index.
-    pub(crate) fn value(&self, index: u64) -> Option<Value>
+    /// The value with an index; none behind the last.
+    pub fn value(&self, index: u64) -> Option<Value>
         ensures value { MatchOption result (slice_get self.now index ≡ None)
             (λ v. (slice_get self.now index ≡ Some (sort_value v.sort)) × (v.first ≡ first_index self.now index)) }
         ensures few { words_in self.now < 2 ^ 64 }

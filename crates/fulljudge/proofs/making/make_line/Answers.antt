@@ -1,7 +1,7 @@
 use Rattle.std.proofs.Common.{◌<◌, ◌^◌, arith}
 use Rattle.fulljudge.specs.Kept.{words_in}
 use Rattle.fulljudge.proofs.TextLemmas.{in_is_line}
-use Rattle.fulljudge.proofs.judging.make_line.Goals as goal
+use Rattle.fulljudge.proofs.making.make_line.Goals as goal
 
 pub returns-clause-whole : goal.returns-clause-whole
 returns-clause-whole c =

@@ -1,0 +1,6 @@
+-- The lemmas of this crate.
+pub mod NamingLemmas
+pub mod TitleLemmas
+pub mod ValueLineLemmas
+pub mod TextLemmas
+pub mod KeptLemmas

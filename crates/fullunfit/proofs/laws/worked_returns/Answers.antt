@@ -1,0 +1,17 @@
+use Rattle.std.proofs.Common.{refl}
+use Rattle.std.specs.Fmt.{digits}
+use Rattle.base.specs.Decimals.{is_decimal, capped_value, number_of}
+use Rattle.witness.specs.Readings.{next_line, reading}
+use Rattle.witness.specs.Admits.{claims_at, value_of, assignment_at, state_assignment_at, admit}
+use Rattle.spread.specs.Spread.{spread_text}
+use Rattle.unfit.specs.Unfitted.{unfit_text_with}
+use Rattle.fulljudge.specs.Lines.{word_line}
+use Rattle.fullunfit.proofs.laws.worked_returns.Goals as goal
+
+pub returns-clause-words : goal.returns-clause-words
+unfolding digits spread_text unfit_text_with word_line reading next_line admit claims_at assignment_at state_assignment_at value_of number_of capped_value is_decimal
+returns-clause-words c = refl
+
+pub returns-clause-spread : goal.returns-clause-spread
+unfolding digits spread_text unfit_text_with word_line reading next_line admit claims_at assignment_at state_assignment_at value_of number_of capped_value is_decimal
+returns-clause-spread c = refl
