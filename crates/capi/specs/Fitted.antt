@@ -1,7 +1,6 @@
 -- What the exported calls on witnesses of fitted models answer, said of the bytes that they are given.
 use Rattle.std.specs.Prelude.{◌≡◌, ℕ, Bool, List, [], Some}
-use Rattle.verbs.specs.Unfitting.{IsSpread, IsUnfitted}
-use Rattle.verbs.specs.Whole.{IsJudgedFitted}
+use Rattle.verbs.specs.Whole.{IsJudgedFitted, IsSpread, IsUnfitted}
 use Rattle.witness.specs.declared.judgement.Judgement.{Judgement}
 use Rattle.capi.specs.Answers.{verdict_of}
 use Rattle.capi.specs.declared.answers.Verdict.{Verdict}

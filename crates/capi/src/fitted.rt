@@ -1,7 +1,7 @@
 //! The calls on witnesses of fitted models.
 ghost use Rattle.std.specs.Prelude.{◌≡◌, ◌≤◌, Some};
-ghost use Rattle.verbs.specs.Unfitting.{IsNotReady};
-ghost use Rattle.verbs.specs.Whole.{IsNotJudgedFitted};
+ghost use Rattle.verbs.specs.Fitting.{IsNotFitted};
+ghost use Rattle.verbs.specs.Whole.{IsNotUnfitted};
 ghost use Rattle.capi.specs.Buffers.{Fills, Needs};
 ghost use Rattle.capi.specs.Fitted.{CallJudgesFitted, CallSpreads, CallUnfits};
 ghost use Rattle.capi.specs.Stops.{Stops};
@@ -12,14 +12,12 @@ use base::VecSink;
 use std::alloc::Global;
 use verbs::{judge_fitted, spread, unfit};
 
-/// Judges the text of a witness over the text of a BTOR2 model with words of up to 1,048,576 bits, or of one of the whole language
-/// each of whose states with an init line begins with a constant.
+/// Judges the text of a witness over the text of a BTOR2 model of the whole language, with words and arrays of up to 1,048,576 bits.
 ///
 /// Answers 0 with what is judged, of a witness of at most 2^44 lines; 2 where the first text is no such model, with the number
-/// and the line of its first fault; 3 where a state has an init and no next, with the number of that and the id of the first
-/// such state, or where the model is not written out, or not fitted into one of words of at most 64 bits, with the number of what
-/// speaks against it first and the id of its item; 4 where memory was wanting. Without 0 the verdict stays, and with 0 and 4 the
-/// refusal does.
+/// and the line of its first fault; 3 where the model is not written out, or not fitted into one of words of at most 64 bits, with
+/// the number of what speaks against it first and the id of its item; 4 where memory was wanting. Without 0 the verdict stays, and
+/// with 0 and 4 the refusal does.
 #[unsafe(no_mangle)]
 pub extern "C" fn hwtool_check_btor_fit(
     alloc: Global,
@@ -29,7 +27,7 @@ pub extern "C" fn hwtool_check_btor_fit(
     refusal: &mut Refusal,
 ) -> u32
     ensures done { result ≡ 0 → CallJudgesFitted model.now witness.now verdict.new }
-    ensures stops { 1 ≤ result → Stops (IsNotJudgedFitted (Some model.now)) (λ _. ⊥) result refusal.old
+    ensures stops { 1 ≤ result → Stops (IsNotFitted (Some model.now)) (λ _. ⊥) result refusal.old
         refusal.new }
     ensures statuses { result ≤ 5 }
     ensures unwritten { 1 ≤ result → verdict.new ≡ verdict.old }
@@ -45,11 +43,14 @@ pub extern "C" fn hwtool_check_btor_fit(
     }
 }
 
-/// Writes the witness of a BTOR2 model with words of up to 1,048,576 bits, with names or without, that says what the text of a
-/// witness of the fitted model says, and tells how it is judged.
+/// Writes the witness of a BTOR2 model, with names or without, that says what the text of a witness of the fitted model says, and
+/// tells how it is judged. The model is one with words of up to 1,048,576 bits, or one of the whole language each of whose states
+/// with an init line begins with a constant and has a next line.
 ///
 /// Answers 0 where the witness stands at the front of the buffer, whose bytes behind it stay, and 1 where it is longer than the
-/// buffer, which stays then: after both `needed` is its length, and the verdict is told. 2, 3 and 4 as of
+/// buffer, which stays then: after both `needed` is its length, and the verdict is told. 2 where the first text is no such model,
+/// with the number and the line of its first fault, as one with words alone where it is one of the whole language; 3 where a state
+/// of one with words alone has an init and no next, with the number of that and the id of the first such state; else 3 and 4 as of
 /// `hwtool_check_btor_fit`. With 0, 1 and 4 the refusal stays, and without 0 and 1 verdict, buffer and `needed` do.
 #[unsafe(no_mangle)]
 pub extern "C" fn hwtool_unfit(
@@ -66,7 +67,7 @@ pub extern "C" fn hwtool_unfit(
         buffer.new needed.new }
     ensures small { result ≡ 1 → Needs (CallUnfits names model.now witness.now verdict.new)
         buffer.old buffer.new needed.new }
-    ensures stops { 2 ≤ result → Stops (IsNotReady (Some model.now)) (λ _. ⊥) result refusal.old
+    ensures stops { 2 ≤ result → Stops (IsNotUnfitted (Some model.now)) (λ _. ⊥) result refusal.old
         refusal.new }
     ensures statuses { result ≤ 5 }
     ensures unwritten { 2 ≤ result → (verdict.new ≡ verdict.old)
@@ -84,10 +85,10 @@ pub extern "C" fn hwtool_unfit(
     }
 }
 
-/// Writes the witness of the fitted model that says what the text of a witness of a BTOR2 model with words of up to 1,048,576
-/// bits says, and tells how that is judged.
+/// Writes the witness of the fitted model that says what the text of a witness of a BTOR2 model of the whole language says, and tells
+/// how that is judged.
 ///
-/// It answers as `hwtool_unfit` does.
+/// It answers 0 and 1 as `hwtool_unfit` does, and else as `hwtool_check_btor_fit`.
 #[unsafe(no_mangle)]
 pub extern "C" fn hwtool_unfit_back(
     alloc: Global,
@@ -102,7 +103,7 @@ pub extern "C" fn hwtool_unfit_back(
         buffer.new needed.new }
     ensures small { result ≡ 1 → Needs (CallSpreads model.now witness.now verdict.new) buffer.old
         buffer.new needed.new }
-    ensures stops { 2 ≤ result → Stops (IsNotReady (Some model.now)) (λ _. ⊥) result refusal.old
+    ensures stops { 2 ≤ result → Stops (IsNotFitted (Some model.now)) (λ _. ⊥) result refusal.old
         refusal.new }
     ensures statuses { result ≤ 5 }
     ensures unwritten { 2 ≤ result → (verdict.new ≡ verdict.old)

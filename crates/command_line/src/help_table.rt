@@ -29,9 +29,9 @@ pub(crate) fn about(verb: Verb) -> &'static str {
         Verb::Show => "Write a BTOR2 model in the one spelling that this program gives",
         Verb::Cost => "Tell how many gates and variables the circuit of a BTOR2 model has at most",
         Verb::Fit =>
-            "Write a BTOR2 model with words of up to 1,048,576 bits as one of words of at most 64, whose bad properties can rise in as many frames",
+            "Write a BTOR2 model of the whole language as one of words of at most 64 bits, whose bad properties can rise in as many frames",
         Verb::Unfit =>
-            "Write the BTOR2 witness of a model with words of up to 1,048,576 bits that says what one of the model that fit writes says, or with --back the other way round",
+            "Write the BTOR2 witness of a model that says what one of the model that fit writes of it says, or with --back the other way round",
         Verb::AigConvert =>
             "Write an AIGER circuit of either form in one, its variables numbered as in the binary form",
         Verb::CheckAig => "Judge an AIGER witness over a circuit",
@@ -196,7 +196,7 @@ static HELPS: [HelpLine; 42] = [
     HelpLine {
         name: "fit",
         verbs: &[Verb::CheckBtor],
-        text: "The model may have words of up to 1,048,576 bits, and the witness is one of it",
+        text: "Take what fit takes, a model of the whole language; the witness is one of it",
     },
     HelpLine {
         name: "fit",

@@ -27,8 +27,9 @@ const HELP_END: &str =
 
 hwtool explain tells what a refusal means and what to do about it, as in hwtool explain 20.
 
-Limits: words of 1 to 64 bits; ids up to 4,294,967,295; 1,048,576 items and no arrays in a model; symbols of 1 to 255
-bytes from 33 to 126; 2^30 variables of a circuit, with names of 1 to 300 bytes; 2^62 lines of a witness.
+Limits: words of 1 to 64 bits and no arrays, but that fit, unfit and --fit take words of up to 1,048,576 bits and arrays;
+ids up to 4,294,967,295; 1,048,576 items in a model; symbols of 1 to 255 bytes from 33 to 126; 2^30 variables of a
+circuit, with names of 1 to 300 bytes; 2^62 lines of a witness.
 
 Formats: docs/FORMATS.md describes them, after \"Btor2, BtorMC and Boolector 3.0\" and \"AIGER 1.9 and Beyond\".
 

@@ -12,8 +12,7 @@ use Rattle.verbs.specs.declared.refusals.Fault.{Fault}
 use Rattle.verbs.specs.Asked.{IsNotJudgedOverWith, IsNotJudgedWith}
 use Rattle.verbs.specs.Fitting.{IsNotFitted}
 use Rattle.verbs.specs.Refusals.{IsFaultyCertificate, IsNoCircuit, IsNoModel, IsNoVectorList, IsNotCertifiable, IsNotClaimable, IsNotClaimed, IsNotForEngines, IsNotGiven, IsNotJudged, IsNotLowered}
-use Rattle.verbs.specs.Unfitting.{IsNotReady}
-use Rattle.verbs.specs.Whole.{IsNotJudgedFitted}
+use Rattle.verbs.specs.Whole.{IsNotUnfitted}
 use Rattle.verbs.specs.Outputs.{IsNotWithOutputs, IsNotWithOutputsForEngines}
 
 -- the first text has this fault, for which a command refuses it that asks for the claim of a bad property or not
@@ -38,9 +37,9 @@ RefusesTask (task.Circuit (circuit.RestoreForm choice)) asked known f = IsNotFor
 RefusesTask (task.Model (model.LiftFound choice)) asked known f = IsNotClaimed claimed.Found given.Model choice known f
 RefusesTask (task.Model (model.LiftForm choice)) asked known f = IsNotForEngines given.Model choice known f
 RefusesTask (task.Model (model.Wave shown)) asked known f = IsNotJudged known f
-RefusesTask (task.Model model.CheckFitted) asked known f = IsNotJudgedFitted known f
-RefusesTask (task.Model model.Unfit) asked known f = IsNotReady known f
-RefusesTask (task.Model model.Spread) asked known f = IsNotReady known f
+RefusesTask (task.Model model.CheckFitted) asked known f = IsNotFitted known f
+RefusesTask (task.Model model.Unfit) asked known f = IsNotUnfitted known f
+RefusesTask (task.Model model.Spread) asked known f = IsNotFitted known f
 RefusesTask (task.Text (text.TidyWitness pick)) asked known f = ⊥
 RefusesTask (task.Text text.Vectors) asked known f = IsNoVectorList known f
 RefusesTask (task.Certificate (certificate.Obligation of)) asked known f = IsNotCertifiable of.by of.given of.choice known f

@@ -3,8 +3,7 @@ use Rattle.std.specs.Prelude.{ℕ, Bool, List, Option}
 use Rattle.std.specs.Io.KnownBytes.{Appends}
 use Rattle.subcommands.specs.declared.answers.Answer.{Answer}
 use Rattle.subcommands.specs.Done.{Judged, judgement_line}
-use Rattle.verbs.specs.Unfitting.{IsSpread, IsUnfitted}
-use Rattle.verbs.specs.Whole.{IsJudgedFitted}
+use Rattle.verbs.specs.Whole.{IsJudgedFitted, IsSpread, IsUnfitted}
 
 -- What is written is the line of the judgement of a witness over a model of the whole language.
 abbrev pub WritesJudgedFitted : Option (List ℕ) → Option (List ℕ) → Option (List ℕ) → Option (List ℕ) → Answer → Type 0

@@ -4,8 +4,8 @@ ghost use Rattle.std.specs.Prelude.{IfOk, IfErr};
 ghost use Rattle.subcommands.specs.Fitted.{Spreads, Unfits, WritesJudgedFitted};
 ghost use Rattle.verbs.specs.Statuses.{Ends, IfInput};
 ghost use Rattle.verbs.specs.Statuses.Use.{Unused, Used};
-ghost use Rattle.verbs.specs.Unfitting.{IsNotReady};
-ghost use Rattle.verbs.specs.Whole.{IsNotJudgedFitted};
+ghost use Rattle.verbs.specs.Fitting.{IsNotFitted};
+ghost use Rattle.verbs.specs.Whole.{IsNotUnfitted};
 
 use crate::answers::Answer;
 use crate::judgements::{tell_line, write_judgement};
@@ -22,7 +22,7 @@ pub fn check_fitted<A: Source, B: Source, O: Sink>(
 ) -> Result<Answer, Refusal>
     ensures done { IfOk result (WritesJudgedFitted (A.to_come first.old) (B.to_come second.old)
         (O.written out.old) (O.written out.new)) }
-    ensures refused { IfErr result (IfInput (IsNotJudgedFitted (A.to_come first.old))) }
+    ensures refused { IfErr result (IfInput (IsNotFitted (A.to_come first.old))) }
     ensures ends { Ends result (Used A.failures first.old first.new)
         (Used B.failures second.old second.new) (Used O.failures out.old out.new) Unused }
 {
@@ -30,8 +30,8 @@ pub fn check_fitted<A: Source, B: Source, O: Sink>(
     write_judgement(alloc, &judgement, out)
 }
 
-/// Writes to standard output the witness of a model with words of any width, with names or without, that says what one of the
-/// fitted model says, and tells its judgement on standard error.
+/// Writes to standard output the witness of a model of the whole language, with names or without, that says what one of the fitted
+/// model says, and tells its judgement on standard error.
 pub fn unfit_witness<A: Source, B: Source, O: Sink, E: Sink>(
     alloc: Global,
     named: bool,
@@ -42,7 +42,7 @@ pub fn unfit_witness<A: Source, B: Source, O: Sink, E: Sink>(
 ) -> Result<Answer, Refusal>
     ensures done { IfOk result (Unfits named (A.to_come first.old) (B.to_come second.old)
         (O.written out.old) (O.written out.new) (E.written err.old) (E.written err.new)) }
-    ensures refused { IfErr result (IfInput (IsNotReady (A.to_come first.old))) }
+    ensures refused { IfErr result (IfInput (IsNotUnfitted (A.to_come first.old))) }
     ensures ends { Ends result (Used A.failures first.old first.new)
         (Used B.failures second.old second.new) (Used O.failures out.old out.new)
         (Used E.failures err.old err.new) }
@@ -51,8 +51,8 @@ pub fn unfit_witness<A: Source, B: Source, O: Sink, E: Sink>(
     tell_line(alloc, &judgement, err)
 }
 
-/// Writes to standard output the witness of the fitted model that says what one of a model with words of any width says, and
-/// tells its judgement on standard error.
+/// Writes to standard output the witness of the fitted model that says what one of a model of the whole language says, and tells
+/// its judgement on standard error.
 pub fn spread_witness<A: Source, B: Source, O: Sink, E: Sink>(
     alloc: Global,
     first: &mut A,
@@ -62,7 +62,7 @@ pub fn spread_witness<A: Source, B: Source, O: Sink, E: Sink>(
 ) -> Result<Answer, Refusal>
     ensures done { IfOk result (Spreads (A.to_come first.old) (B.to_come second.old)
         (O.written out.old) (O.written out.new) (E.written err.old) (E.written err.new)) }
-    ensures refused { IfErr result (IfInput (IsNotReady (A.to_come first.old))) }
+    ensures refused { IfErr result (IfInput (IsNotFitted (A.to_come first.old))) }
     ensures ends { Ends result (Used A.failures first.old first.new)
         (Used B.failures second.old second.new) (Used O.failures out.old out.new)
         (Used E.failures err.old err.new) }

@@ -1,5 +1,5 @@
 -- Of models with words of any width that are known and fitted, what is refused and how a command ends.
-use Rattle.std.proofs.Common.{◌≡◌, ◌∙◌, Bool, ℕ, List, Option, Some, None, Err, IfSome, refl, sym, subst}
+use Rattle.std.proofs.Common.{◌≡◌, ◌∙◌, ℕ, List, Option, Some, None, Err, IfSome, refl, sym, subst}
 use Rattle.btor2.specs.declared.item.Item.{Item}
 use Rattle.btor2.specs.Lists.{first_init_without_next}
 use Rattle.fitting.specs.Models.{IsFit}
@@ -10,54 +10,19 @@ use Rattle.rejoin.specs.declared.fault.UnfitFault.TheVariants as unfit
 use Rattle.witness.specs.Answers.{AnswersJudge}
 use Rattle.witness.specs.declared.fault.JudgeFault.{JudgeFault}
 use Rattle.witness.specs.declared.fault.JudgeFault.TheVariants as judge
-use Rattle.rejoin.specs.Pieces.{joined_judgement}
 use Rattle.spread.specs.Answers.{IsOfFitted}
-use Rattle.std.specs.Io.KnownBytes.{Appends}
-use Rattle.unfit.specs.Joined.{Wide}
-use Rattle.unfit.specs.Unfitted.{KeepsJudgement, unfit_text}
-use Rattle.witness.specs.Judgements.{Judges}
-use Rattle.witness.specs.Texts.{Shape, shape_of}
-use Rattle.witness.specs.declared.judgement.Judgement.{Judgement}
-use Rattle.verbs.specs.declared.unfitting.Known.{Known}
 use Rattle.verbs.specs.declared.unfitting.Ready.{Ready}
 use Rattle.verbs.specs.declared.refusals.Fault.{Fault}
-use Rattle.verbs.specs.declared.refusals.Fault.TheVariants as fault
-use Rattle.verbs.specs.declared.refusals.Refusal.{Refusal}
 use Rattle.verbs.specs.declared.refusals.Refusal.TheVariants as refusal
 use Rattle.verbs.specs.Conversions.{of_judging, of_unfitting}
 use Rattle.verbs.specs.Statuses.{Ends, IfInput}
 use Rattle.verbs.specs.Statuses.Use.{Unused}
-use Rattle.verbs.specs.Unfitting.{IsKnown, IsNotReady, IsNotWide, IsReady, IsReadyFor, IsUnfitted, known_of}
+use Rattle.verbs.specs.Unfitting.{IsReady, IsReadyFor}
 
 -- ---- refusals
 
 pub memory_ends : {T : Type 0} → Ends {T = T} (Err refusal.NoMemory) Unused Unused Unused Unused
 memory_ends {T} = record { counted = λ a b c d. (refl, refl, refl, refl); unwritten = tt; untold = tt }
-
-not_ready_of : (text : List ℕ) (f : Fault) → IsNotWide text f → IsNotReady (Some text) f
-not_ready_of text (fault.Model e) h = h
-not_ready_of text (fault.Fitting e) h = h
-not_ready_of text _ h = absurd h
-
--- a text that is not fitted is of no list over which something is judged
-pub not_ready : (text : List ℕ) (x : Refusal) → IfInput (IsNotWide text) x → IfInput (IsNotReady (Some text)) x
-not_ready text (refusal.Input f) h = not_ready_of text f h
-not_ready text _ h = tt
-
-unready_of : (text : List ℕ) (f : Fault) → IsNotReady (Some text) f → IsNotReady None f
-unready_of text (fault.NoNext id) h = record { wide = h.wide; stands = tt; first = h.first }
-unready_of text (fault.Model e) h = tt
-unready_of text (fault.Fitting e) h = tt
-unready_of text _ h = absurd h
-
-pub unready_for : (known : Option (List ℕ)) (text : List ℕ) (f : Fault) → IfSome known (λ all. text ≡ all) → IsNotReady (Some text) f → IsNotReady known f
-unready_for None text f same h = unready_of text f h
-unready_for (Some all) text f same h = subst (λ (t : List ℕ). IsNotReady (Some t) f) same h
-
--- what is refused of a text that was read is refused of what was to come
-pub unready : (known : Option (List ℕ)) (text : List ℕ) (x : Refusal) → IfSome known (λ all. text ≡ all) → IfInput (IsNotReady (Some text)) x → IfInput (IsNotReady known) x
-unready known text (refusal.Input f) same h = unready_for known text f same h
-unready known text _ same h = tt
 
 -- ---- what is told of a text that was read, of what was to come
 
@@ -87,25 +52,3 @@ none_named_judging T wide narrow judge.NoMemory P fit free answer = tt
 
 pub of_ready : (text : List ℕ) (r : Ready) (h : IsReadyFor text r) → IsOfFitted r.known.shape r.narrow h.wide
 of_ready text r h = record { is_shape = h.known.shape; model = h.ready.stands.well_formed; fit = h.ready.fit }
-
-abbrev wide_in : Bool → Known → Wide
-wide_in named k = record { shape = k.shape; names = k.names; named = named }
-
-wide_same : (named : Bool) (wide : List Item) (k : Known) → IsKnown wide k → wide_in named k ≡ known_of named wide
-wide_same named wide k h = rw (h.shape, h.names) refl
-
-pub unfitted_of : (known : Option (List ℕ)) (text : List ℕ) (named : Bool) (r : Ready) (h : IsReadyFor text r) → IfSome known (λ all. text ≡ all) → (witness before now : Option (List ℕ)) (j : Judgement)
-    → IfSome witness (λ t. (k : Judgement) × (Judges r.narrow t k × (j ≡ joined_judgement r.known.shape k)))
-    → IfSome witness (λ t. Appends before now (unfit_text (wide_in named r.known) r.narrow t))
-    → ((wide : List Item) → IsFit wide r.narrow → r.known.shape ≡ shape_of wide → IfSome witness (λ t. KeepsJudgement wide (unfit_text (wide_in named r.known) r.narrow t) j))
-    → IsUnfitted named known witness before now j
-unfitted_of known text named r h same witness before now j judged written kept =
-    let is = wide_same named h.wide r.known h.known in
-    record {
-      wide = h.wide;
-      narrow = r.narrow;
-      ready = ready_as known text h.wide r.narrow same h.ready;
-      judged = subst (λ (s : Shape). IfSome witness (λ t. (k : Judgement) × (Judges r.narrow t k × (j ≡ joined_judgement s k)))) h.known.shape judged;
-      written = subst (λ (w : Wide). IfSome witness (λ t. Appends before now (unfit_text w r.narrow t))) is written;
-      kept = subst (λ (w : Wide). IfSome witness (λ t. KeepsJudgement h.wide (unfit_text w r.narrow t) j)) is (kept h.wide h.ready.fit h.known.shape);
-    }

@@ -1,127 +1,208 @@
--- Of models of the whole language that are written out and fitted, what is refused and what is judged.
-use Rattle.std.proofs.Common.{◌≡◌, inl, inr, ℕ, true, List, Option, Some, IfSome, Result, Ok, Err, IfOk, IfErr, is_some}
+-- Of models of the whole language that are written out and fitted, what is refused, what is judged and what is written.
+use Rattle.std.proofs.Common.{◌≡◌, inl, inr, ℕ, Bool, true, List, [], ◌∷◌, ◌++◌, Option, Some, None, IfSome, Result, Ok, Err, IfOk, IfErr, is_some, length, refl, subst, ap}
+use Rattle.std.specs.Io.KnownBytes.{Appends}
+use Rattle.std.specs.List.{AllZip}
 use Rattle.btor2.specs.declared.item.Item.{Item}
 use Rattle.btor2.specs.Items.{init_word}
 use Rattle.wide.specs.WideModels.{greatest_width, IsWideModel}
-use Rattle.celled.specs.Written.{IsWrittenInCells}
-use Rattle.fitting.specs.Models.{IsUnfit}
-use Rattle.fitting.specs.declared.fault.FitFault.{FitFault}
-use Rattle.fitting.specs.declared.fault.FitFault.TheVariants as fit
-use Rattle.full.specs.Lines.{FullLine, init_of}
+use Rattle.celled.specs.Whole.{IsWhole}
+use Rattle.fit.specs.Fitting.{Layout}
+use Rattle.fitting.specs.Laid.{AreWords}
+use Rattle.full.specs.Lines.{FullLine, Sort, init_of}
 use Rattle.fulljudge.specs.Cells.{HasWordsOf}
-use Rattle.fulljudge.specs.Judged.{IsOfFull}
+use Rattle.fulljudge.specs.Judged.{HasNoFirst, IsJudgeable}
+use Rattle.fulljudge.specs.Judgements.{judged_by}
+use Rattle.fulljudge.specs.Kept.{words_in}
+use Rattle.fulljudge.specs.Lines.{words_text}
+use Rattle.fulljudge.specs.Shapes.{full_shape}
+use Rattle.fulljudge.specs.Spreading.{KeepsSpread}
 use Rattle.fulltext.specs.Spelling.{StandsForFull}
+use Rattle.fullunfit.specs.Titles.{names_of}
+use Rattle.fullunfit.specs.Unfitted.{IsOfCells, KeepsFullJudgement, unfit_full_text}
+use Rattle.rejoin.specs.Pieces.{joined_judgement}
+use Rattle.spread.specs.Spread.{IsShort, spread_text}
+use Rattle.unfit.specs.Joined.{Names}
 use Rattle.witness.specs.declared.judgement.Judgement.{Judgement}
+use Rattle.witness.specs.Judgements.{Judges}
+use Rattle.witness.specs.Texts.{Shape, shape_of}
 use Rattle.verbs.specs.declared.refusals.Fault.{Fault}
 use Rattle.verbs.specs.declared.refusals.Fault.TheVariants as fault
 use Rattle.verbs.specs.declared.refusals.Refusal.{Refusal}
 use Rattle.verbs.specs.declared.refusals.Refusal.TheVariants as refusal
 use Rattle.verbs.specs.declared.whole.Whole.{Whole}
-use Rattle.verbs.specs.Conversions.{of_fitting_written}
-use Rattle.verbs.specs.Fitting.{IsNotFit, IsWritingFault}
+use Rattle.verbs.specs.Fitting.{IsNotFit, IsNotFitted}
 use Rattle.verbs.specs.Statuses.{IfInput}
-use Rattle.verbs.specs.Unfitting.{IsJudgedWide, IsNotReady}
-use Rattle.verbs.specs.Whole.{IsJudgedByWhole, IsJudgedFitted, IsJudgedWhole, IsNotJudgedFitted, IsNotJudgedText, IsNotWhole, IsWholeOf}
-use Rattle.verbs.proofs.FittedLemmas.{or_long, seen}
-use Rattle.verbs.proofs.UnfittingLemmas.{ready_as, unready_for}
+use Rattle.verbs.specs.Unfitting.{IsSpreadWide}
+use Rattle.verbs.specs.Whole.{IsJudgedByWhole, IsJudgedFitted, IsJudgedWhole, IsNotUnfitText, IsNotWhole, IsSpread, IsSpreadByWhole, IsSpreadWhole, IsUnfittedByWhole, IsUnfittedWhole, IsWholeOf}
+use Rattle.verbs.proofs.FittedLemmas.{not_fitted, seen}
+use Rattle.verbs.proofs.UnfittingLemmas.{ready_as}
 
 -- ---- refusals
 
--- a list that a model was written out as, and that is not fitted
-pub not_whole : (lines : List FullLine) (celled : List Item) (e : FitFault) → IsWrittenInCells lines celled → IsUnfit celled e → IfInput (IsNotWhole lines) (of_fitting_written e)
-not_whole lines celled fit.NoMemory written unfit = tt
-not_whole lines celled (fit.TooManyItems id) written unfit = inr (record { wide = celled; written = written; id = id; unfit = unfit })
-not_whole lines celled _ written unfit = (celled, written, unfit)
-
--- a model that is not written out
-pub not_whole_unwritten : (lines : List FullLine) (x : Refusal) → IfInput (IsWritingFault lines) x → IfInput (IsNotWhole lines) x
-not_whole_unwritten lines (refusal.Input (fault.Writing e)) h = or_long lines e h
-not_whole_unwritten lines (refusal.Input _) h = absurd h
-not_whole_unwritten lines _ h = tt
-
 -- the same of a text that stands for it
-pub not_judged_whole : (text : List ℕ) (lines : List FullLine) (x : Refusal) → StandsForFull text lines → IfInput (IsNotWhole lines) x → IfInput (IsNotJudgedText text) x
-not_judged_whole text lines (refusal.Input (fault.Writing e)) stands h = record { lines = lines; stands = stands; unwritten = h }
-not_judged_whole text lines (refusal.Input (fault.Fitting e)) stands h = inr (record { lines = lines; stands = stands; wide = h.0; written = h.1; unfit = h.2 })
-not_judged_whole text lines (refusal.Input _) stands h = absurd h
-not_judged_whole text lines _ stands h = tt
+pub not_fit_whole : (text : List ℕ) (lines : List FullLine) (x : Refusal) → StandsForFull text lines → IfInput (IsNotWhole lines) x → IfInput (IsNotFit text) x
+not_fit_whole text lines (refusal.Input (fault.Writing e)) stands h = record { lines = lines; stands = stands; unwritten = h }
+not_fit_whole text lines (refusal.Input (fault.Fitting e)) stands h = inr (record { lines = lines; stands = stands; wide = h.0; written = h.1; unfit = h.2 })
+not_fit_whole text lines (refusal.Input _) stands h = absurd h
+not_fit_whole text lines _ stands h = tt
 
--- a text that is not fitted
-pub not_judged_unfit : (text : List ℕ) (x : Refusal) → IfInput (IsNotFit text) x → IfInput (IsNotJudgedText text) x
-not_judged_unfit text (refusal.Input (fault.Model e)) h = inr h
-not_judged_unfit text (refusal.Input (fault.Fitting e)) h = h
-not_judged_unfit text (refusal.Input (fault.Writing e)) h = h
-not_judged_unfit text (refusal.Input _) h = absurd h
-not_judged_unfit text _ h = tt
-
--- a text of no list with words alone over which something is judged
-pub not_judged_wide : (text : List ℕ) (x : Refusal) → IfInput (IsNotReady (Some text)) x → IfInput (IsNotJudgedText text) x
-not_judged_wide text (refusal.Input (fault.NoNext id)) h = h
-not_judged_wide text (refusal.Input (fault.Model e)) h = inl h
-not_judged_wide text (refusal.Input (fault.Fitting e)) h = inl h
-not_judged_wide text (refusal.Input _) h = absurd h
-not_judged_wide text _ h = tt
+-- a text of no model that is written out and fitted
+pub not_unfit_whole : (text : List ℕ) (x : Refusal) → IfInput (IsNotFit text) x → IfInput (IsNotUnfitText text) x
+not_unfit_whole text (refusal.Input (fault.Model e)) h = inr h
+not_unfit_whole text (refusal.Input (fault.Fitting e)) h = h
+not_unfit_whole text (refusal.Input (fault.Writing e)) h = h
+not_unfit_whole text (refusal.Input _) h = absurd h
+not_unfit_whole text _ h = tt
 
 -- what refuses no input refuses none for this
 pub never_input : (P : Fault → Type 0) (x : Refusal) → IfInput (λ f. ⊥) x → IfInput P x
 never_input P (refusal.Input f) h = absurd h
 never_input P _ h = tt
 
--- what is refused of a text that was read is refused of what was to come
-pub not_judged : (known : Option (List ℕ)) (text : List ℕ) (x : Refusal) → IfSome known (λ all. text ≡ all) → IfInput (IsNotJudgedText text) x → IfInput (IsNotJudgedFitted known) x
-not_judged known text (refusal.Input (fault.NoNext id)) same h = unready_for known text (fault.NoNext id) same h
-not_judged known text (refusal.Input (fault.Model e)) same h = seen (λ t. IsNotJudgedText t (fault.Model e)) known text same h
-not_judged known text (refusal.Input (fault.Fitting e)) same h = seen (λ t. IsNotJudgedText t (fault.Fitting e)) known text same h
-not_judged known text (refusal.Input (fault.Writing e)) same h = seen (λ t. IsNotJudgedText t (fault.Writing e)) known text same h
-not_judged known text (refusal.Input _) same h = absurd h
-not_judged known text _ same h = tt
-
--- ---- what is judged over a text that was read is judged over what was to come
-
-pub judged_as : (known : Option (List ℕ)) (text : List ℕ) (witness : Option (List ℕ)) (j : Judgement) → IfSome known (λ all. text ≡ all) → IsJudgedFitted (Some text) witness j
-    → IsJudgedFitted known witness j
-judged_as known text witness j same (inl h) = inl (record { wide = h.wide; narrow = h.narrow; ready = ready_as known text h.wide h.narrow same h.ready; judged = h.judged })
-judged_as known text witness j same (inr h) = inr (record { lines = h.lines; stands = seen (λ t. StandsForFull t h.lines) known text same h.stands; judged = h.judged })
-
--- ---- by what a witness of a model is judged
-
-pub of_whole : (full : List FullLine) (w : Whole) (h : IsWholeOf full w) → HasWordsOf full h.written.places h.written.wide h.written.cells.layout h.celled
-    → ((id : ℕ) → is_some (init_of full id) ≡ true → is_some (init_word h.written.wide (h.written.places.leaf id)) ≡ true) → IsWideModel greatest_width h.celled
-    → IsOfFull w.states w.inputs w.shape w.narrow full h.written.places h.written.wide h.written.cells.layout h.celled
-of_whole full w h words constants model = record {
-  is_states = h.states;
-  is_inputs = h.inputs;
-  written = h.written.written;
-  constants = constants;
-  words = words;
-  fitted = record { is_shape = h.shape; model = model; fit = h.fit };
-}
-
--- ---- what is judged so over one of the two is judged so
-
-pub by_words : (r : Result Judgement Refusal) (model witness : Option (List ℕ)) → IfOk r (IsJudgedWide model witness) → IfOk r (IsJudgedFitted model witness)
-by_words (Ok j) model witness h = inl h
-by_words (Err x) model witness h = tt
-
-pub by_whole : (r : Result Judgement Refusal) (model witness : Option (List ℕ)) → IfOk r (IsJudgedWhole model witness) → IfOk r (IsJudgedFitted model witness)
-by_whole (Ok j) model witness h = inr h
-by_whole (Err x) model witness h = tt
-
-pub over_all : (r : Result Judgement Refusal) (known : Option (List ℕ)) (text : List ℕ) (witness : Option (List ℕ)) → IfSome known (λ all. text ≡ all) → IfOk r (IsJudgedFitted (Some text) witness)
-    → IfOk r (IsJudgedFitted known witness)
-over_all (Ok j) known text witness same h = judged_as known text witness j same h
-over_all (Err x) known text witness same h = tt
-
-pub refused_over_all : (r : Result Judgement Refusal) (known : Option (List ℕ)) (text : List ℕ) → IfSome known (λ all. text ≡ all) → IfErr r (IfInput (IsNotJudgedText text))
-    → IfErr r (IfInput (IsNotJudgedFitted known))
-refused_over_all (Ok j) known text same h = tt
-refused_over_all (Err x) known text same h = not_judged known text x same h
-
-pub over_text : (r : Result Judgement Refusal) (text : List ℕ) (lines : List FullLine) (witness : Option (List ℕ)) → StandsForFull text lines → IfOk r (IsJudgedByWhole lines witness)
-    → IfOk r (IsJudgedWhole (Some text) witness)
-over_text (Ok j) text lines witness stands h = record { lines = lines; stands = stands; judged = h }
-over_text (Err x) text lines witness stands h = tt
-
 pub never_refused : (r : Result Judgement Refusal) (P : Fault → Type 0) → IfErr r (IfInput (λ f. ⊥)) → IfErr r (IfInput P)
 never_refused (Ok j) P h = tt
 never_refused (Err x) P h = never_input P x h
+
+-- the same of all that was to come, of what was read of it
+pub refused_over_all : (r : Result Judgement Refusal) (known : Option (List ℕ)) (text : List ℕ) → IfSome known (λ all. text ≡ all) → IfErr r (IfInput (IsNotFit text)) → IfErr r (IfInput (IsNotFitted known))
+refused_over_all (Ok j) known text same h = tt
+refused_over_all (Err x) known text same h = not_fitted known text x same h
+
+-- ---- the nodes with the words of states
+
+-- nodes that have whole words have values
+pub are_words : (wide : List Item) (layout : Layout) (celled : List Item) (ids nodes : List ℕ) → AllZip (IsWhole wide layout celled) ids nodes → AreWords celled nodes
+are_words wide layout celled [] [] h = tt
+are_words wide layout celled (i ∷ is) (n ∷ ns) h = (ap is_some h.0.width, are_words wide layout celled is ns h.1)
+are_words wide layout celled (i ∷ is) [] h = absurd h
+are_words wide layout celled [] (n ∷ ns) h = absurd h
+
+pub both_words : (celled : List Item) (leaves nodes : List ℕ) → AreWords celled leaves → AreWords celled nodes → AreWords celled (leaves ++ nodes)
+both_words celled [] nodes h k = k
+both_words celled (n ∷ ns) nodes h k = (h.0, both_words celled ns nodes h.1 k)
+
+-- ---- by what a witness of a model is judged
+
+pub of_whole : (full : List FullLine) (w : Whole) (h : IsWholeOf full w) → HasWordsOf full h.written.places h.written.wide h.written.cells.layout h.celled → IsWideModel greatest_width h.celled
+    → IsJudgeable w.states w.inputs w.words w.shape w.narrow full h.written.places h.written.wide h.written.cells.layout h.celled
+of_whole full w h words model = record {
+  is_states = h.states;
+  is_inputs = h.inputs;
+  written = h.written.written;
+  words = words;
+  fitted = record { is_shape = h.shape; model = model; fit = h.placed.fit };
+  state_words = h.placed.state_words;
+}
+
+-- that of a fitted model, where each state with an init line begins with a constant
+pub of_cells : (full : List FullLine) (w : Whole) (h : IsWholeOf full w) → ((id : ℕ) → is_some (init_of full id) ≡ true → is_some (init_word h.written.wide (h.written.places.leaf id)) ≡ true)
+    → HasWordsOf full h.written.places h.written.wide h.written.cells.layout h.celled → IsWideModel greatest_width h.celled → HasNoFirst full h.celled
+    → IsOfCells w.states w.inputs w.shape w.narrow full h.written.places h.written.wide h.written.cells.layout h.celled
+of_cells full w h constants words model none = record {
+  is = record {
+    is_states = h.states;
+    is_inputs = h.inputs;
+    written = h.written.written;
+    constants = constants;
+    words = words;
+    fitted = record { is_shape = h.shape; model = model; fit = h.placed.fit };
+  };
+  none = none;
+}
+
+-- the list has no state but those of the words of the model's
+pub words_alone : (full : List FullLine) (w : Whole) (h : IsWholeOf full w) → length w.shape.states ≡ words_in w.states → HasNoFirst full h.celled
+words_alone full w h same =
+    subst (λ (s : Shape). length s.states ≡ words_in (full_shape full).states) h.shape (subst (λ (t : List Sort). length w.shape.states ≡ words_in t) h.states same)
+
+-- ---- what is written
+
+pub spread_by : (full : List FullLine) (w : Whole) (h : IsWholeOf full w) (witness before now : Option (List ℕ)) (j : Judgement) → IsJudgedByWhole full witness j
+    → IfSome witness (λ text. IsShort text → Appends before now (spread_text w.shape (words_text (full_shape full) text)))
+    → IfSome witness (λ text. IsShort text → KeepsSpread w.states w.shape w.narrow full text j)
+    → IsSpreadByWhole full witness before now j
+spread_by full w h witness before now j judged written kept = record {
+  celled = h.celled;
+  narrow = w.narrow;
+  written_out = h.written;
+  fit = h.placed.fit;
+  judged = judged;
+  written = subst (λ (s : Shape). IfSome witness (λ text. IsShort text → Appends before now (spread_text s (words_text (full_shape full) text)))) h.shape written;
+  kept = subst (λ (t : List Sort). IfSome witness (λ text. IsShort text → KeepsSpread t (shape_of h.celled) w.narrow full text j)) h.states
+      (subst (λ (s : Shape). IfSome witness (λ text. IsShort text → KeepsSpread w.states s w.narrow full text j)) h.shape kept);
+}
+
+-- what the lines of a witness are made with
+record Made : Type 0 where
+  states : List Sort
+  inputs : List Sort
+  shape : Shape
+  names : Names
+
+abbrev made_with : Whole → Names → Made
+made_with w names = record { states = w.states; inputs = w.inputs; shape = w.shape; names = names }
+
+abbrev made_of : List FullLine → List Item → Made
+made_of full celled = record { states = (full_shape full).states; inputs = (full_shape full).inputs; shape = shape_of celled; names = names_of full }
+
+made_same : (full : List FullLine) (w : Whole) (names : Names) (h : IsWholeOf full w) → names ≡ names_of full → made_with w names ≡ made_of full h.celled
+made_same full w names h same = rw (h.states, h.inputs, h.shape, same) refl
+
+pub unfitted_by : (named : Bool) (full : List FullLine) (w : Whole) (names : Names) (h : IsWholeOf full w) → names ≡ names_of full → (witness before now : Option (List ℕ)) (j : Judgement)
+    → IfSome witness (λ text. (k : Judgement) × (Judges w.narrow text k × (j ≡ judged_by w.states None (joined_judgement w.shape k))))
+    → IfSome witness (λ text. Appends before now (unfit_full_text w.states w.inputs w.shape names named w.narrow text))
+    → IfSome witness (λ text. KeepsFullJudgement full (unfit_full_text w.states w.inputs w.shape names named w.narrow text) j)
+    → IsUnfittedByWhole named full witness before now j
+unfitted_by named full w names h same witness before now j judged written kept =
+    let is = made_same full w names h same in
+    record {
+      celled = h.celled;
+      narrow = w.narrow;
+      written_out = h.written;
+      fit = h.placed.fit;
+      judged = subst (λ (m : Made). IfSome witness (λ text. (k : Judgement) × (Judges w.narrow text k × (j ≡ judged_by m.states None (joined_judgement m.shape k))))) is judged;
+      written = subst (λ (m : Made). IfSome witness (λ text. Appends before now (unfit_full_text m.states m.inputs m.shape m.names named w.narrow text))) is written;
+      kept = subst (λ (m : Made). IfSome witness (λ text. KeepsFullJudgement full (unfit_full_text m.states m.inputs m.shape m.names named w.narrow text) j)) is kept;
+    }
+
+-- ---- what is so over a text that was read is so over what was to come
+
+stands_as : (known : Option (List ℕ)) (text : List ℕ) (lines : List FullLine) → IfSome known (λ all. text ≡ all) → IfSome (Some text) (λ t. StandsForFull t lines) → IfSome known (λ t. StandsForFull t lines)
+stands_as known text lines same h = seen (λ t. StandsForFull t lines) known text same h
+
+judged_as : (known : Option (List ℕ)) (text : List ℕ) (witness : Option (List ℕ)) (j : Judgement) → IfSome known (λ all. text ≡ all) → IsJudgedFitted (Some text) witness j
+    → IsJudgedFitted known witness j
+judged_as known text witness j same (inl h) = inl (record { wide = h.wide; narrow = h.narrow; ready = ready_as known text h.wide h.narrow same h.ready; judged = h.judged })
+judged_as known text witness j same (inr h) = inr (record { lines = h.lines; stands = stands_as known text h.lines same h.stands; judged = h.judged })
+
+-- ---- what is so over one of the two is so
+
+-- what is so of a judgement, where there is one, by what else is so of it
+pub where_judged : (P Q : Judgement → Type 0) (r : Result Judgement Refusal) → ((j : Judgement) → P j → Q j) → IfOk r P → IfOk r Q
+where_judged P Q (Ok j) f h = f j h
+where_judged P Q (Err x) f h = tt
+
+pub over_all : (r : Result Judgement Refusal) (known : Option (List ℕ)) (text : List ℕ) (witness : Option (List ℕ)) → IfSome known (λ all. text ≡ all) → IfOk r (IsJudgedFitted (Some text) witness)
+    → IfOk r (IsJudgedFitted known witness)
+over_all r known text witness same h = where_judged (IsJudgedFitted (Some text) witness) (IsJudgedFitted known witness) r (λ j k. judged_as known text witness j same k) h
+
+pub over_text : (r : Result Judgement Refusal) (text : List ℕ) (lines : List FullLine) (witness : Option (List ℕ)) → StandsForFull text lines → IfOk r (IsJudgedByWhole lines witness)
+    → IfOk r (IsJudgedWhole (Some text) witness)
+over_text r text lines witness stands h = where_judged (IsJudgedByWhole lines witness) (IsJudgedWhole (Some text) witness) r (λ j k. record { lines = lines; stands = stands; judged = k }) h
+
+-- the same of what is spread
+pub spread_by_words : (r : Result Judgement Refusal) (model witness before now : Option (List ℕ)) → IfOk r (IsSpreadWide model witness before now) → IfOk r (IsSpread model witness before now)
+spread_by_words r model witness before now h = where_judged (IsSpreadWide model witness before now) (IsSpread model witness before now) r (λ j k. inl k) h
+
+pub spread_by_whole : (r : Result Judgement Refusal) (model witness before now : Option (List ℕ)) → IfOk r (IsSpreadWhole model witness before now) → IfOk r (IsSpread model witness before now)
+spread_by_whole r model witness before now h = where_judged (IsSpreadWhole model witness before now) (IsSpread model witness before now) r (λ j k. inr k) h
+
+pub spread_over_text : (r : Result Judgement Refusal) (text : List ℕ) (lines : List FullLine) (witness before now : Option (List ℕ)) → StandsForFull text lines
+    → IfOk r (IsSpreadByWhole lines witness before now) → IfOk r (IsSpreadWhole (Some text) witness before now)
+spread_over_text r text lines witness before now stands h =
+    where_judged (IsSpreadByWhole lines witness before now) (IsSpreadWhole (Some text) witness before now) r (λ j k. record { lines = lines; stands = stands; spread = k }) h
+
+pub unfitted_over_text : (named : Bool) (r : Result Judgement Refusal) (text : List ℕ) (lines : List FullLine) (witness before now : Option (List ℕ)) → StandsForFull text lines
+    → IfOk r (IsUnfittedByWhole named lines witness before now) → IfOk r (IsUnfittedWhole named (Some text) witness before now)
+unfitted_over_text named r text lines witness before now stands h =
+    where_judged (IsUnfittedByWhole named lines witness before now) (IsUnfittedWhole named (Some text) witness before now) r (λ j k. record { lines = lines; stands = stands; unfitted = k }) h

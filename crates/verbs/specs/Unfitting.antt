@@ -51,7 +51,7 @@ pub record IsJudgedWide (model witness : Option (List ℕ)) (verdict : Judgement
   pub judged : IfSome witness (λ text. IsShort text → Judges wide text verdict)
 
 -- The same, and what was written is the witness of the fitted model that says what the second says.
-pub record IsSpread (model witness before now : Option (List ℕ)) (verdict : Judgement) : Type 0 where
+pub record IsSpreadWide (model witness before now : Option (List ℕ)) (verdict : Judgement) : Type 0 where
   pub wide : List Item
   pub narrow : List Item
   pub ready : IsReady model wide narrow
@@ -61,7 +61,7 @@ pub record IsSpread (model witness before now : Option (List ℕ)) (verdict : Ju
 
 -- The first text is of such a list; what was written is the witness of it, with names or without, that says what the second says of the fitted model; and this is what is
 -- judged of both, by the words that are put together of the pieces.
-pub record IsUnfitted (named : Bool) (model witness before now : Option (List ℕ)) (verdict : Judgement) : Type 0 where
+pub record IsUnfittedWide (named : Bool) (model witness before now : Option (List ℕ)) (verdict : Judgement) : Type 0 where
   pub wide : List Item
   pub narrow : List Item
   pub ready : IsReady model wide narrow
@@ -80,6 +80,11 @@ abbrev pub IsNotWide : List ℕ → Fault → Type 0
 IsNotWide text (fault.Model e) = IsWideFaultOf text e
 IsNotWide text (fault.Fitting e) = IsUnfitText text e
 IsNotWide text _ = ⊥
+
+-- a text stands for one that is not fitted
+abbrev pub IsUnfitAlone : List ℕ → Fault → Type 0
+IsUnfitAlone text (fault.Fitting e) = IsUnfitText text e
+IsUnfitAlone text _ = ⊥
 
 -- the first text stands for no list with words of any width, or for one that is not fitted, or over which nothing is judged
 abbrev pub IsNotReady : Option (List ℕ) → Fault → Type 0

@@ -1,30 +1,50 @@
 -- Witnesses of models of the whole language: how they are judged, by the model of the profile that such a one is fitted into.
-use Rattle.std.specs.Prelude.{◌≡◌, ℕ, List, Option, Some, IfSome, ◌⊎◌}
+use Rattle.std.specs.Prelude.{◌≡◌, ℕ, Bool, List, Option, None, Some, IfSome, map, ◌⊎◌}
+use Rattle.std.specs.Io.KnownBytes.{Appends}
+use Rattle.std.specs.List.{AllZip}
 use Rattle.btor2.specs.declared.item.Item.{Item}
+use Rattle.btor2.specs.Items.{is_state}
+use Rattle.celled.specs.Whole.{IsWhole}
 use Rattle.celled.specs.Written.{IsWrittenInCells}
 use Rattle.fitting.specs.Models.{IsFit, IsUnfit}
-use Rattle.full.specs.Lines.{FullLine}
-use Rattle.fulljudge.specs.Judged.{HasNoFirst}
-use Rattle.fulljudge.specs.Judgements.{JudgesFull}
-use Rattle.fulljudge.specs.Shapes.{full_shape}
+use Rattle.full.specs.Lines.{FullLine, full_ids}
+use Rattle.fulljudge.specs.Compared.{StateWords}
+use Rattle.fulljudge.specs.Judged.{HasNoFirst, HasStateWords}
+use Rattle.fulljudge.specs.Judgements.{judged_by, JudgesFull}
+use Rattle.fulljudge.specs.Lines.{words_text}
+use Rattle.fulljudge.specs.Spreading.{KeepsSpread}
+use Rattle.fullunfit.specs.Titles.{names_of}
+use Rattle.fullunfit.specs.Unfitted.{KeepsFullJudgement, unfit_full_text}
 use Rattle.fulltext.specs.FirstFault.{IsFullFaultOf}
+use Rattle.rejoin.specs.Pieces.{joined_judgement}
+use Rattle.fulljudge.specs.Shapes.{full_shape}
 use Rattle.fulltext.specs.Spelling.{StandsForFull}
-use Rattle.spread.specs.Spread.{IsShort}
+use Rattle.spread.specs.Spread.{IsShort, spread_text}
 use Rattle.widetext.specs.FirstFault.{IsWideFaultOf}
 use Rattle.witness.specs.declared.judgement.Judgement.{Judgement}
+use Rattle.witness.specs.Judgements.{Judges}
 use Rattle.witness.specs.Texts.{shape_of}
 use Rattle.verbs.specs.declared.refusals.Fault.{Fault}
 use Rattle.verbs.specs.declared.refusals.Fault.TheVariants as fault
 use Rattle.verbs.specs.declared.whole.Whole.{Whole}
 use Rattle.verbs.specs.Fitting.{IsUnfitText, IsUnfitWrittenText, IsUnwrittenOrLong, IsUnwrittenText}
-use Rattle.verbs.specs.Unfitting.{IsJudgedWide, LacksNextWide}
+use Rattle.verbs.specs.Unfitting.{IsJudgedWide, IsSpreadWide, IsUnfittedWide, LacksNextWide}
 
--- Of a model that is written out as a list in which each state with an init line begins with a constant, and which is fitted, what is needed for its witnesses.
+-- These are the nodes of the list with cells that a model is written out as that have the words of the states' leaves, and those that have the states' words.
+pub record HasNodes (full : List FullLine) (celled : List Item) (w : IsWrittenInCells full celled) (leaves nodes : List ℕ) : Type 0 where
+  pub of_leaves : AllZip (IsWhole w.wide w.cells.layout celled) (map w.places.leaf (full_ids is_state full)) leaves
+  pub of_states : AllZip (IsWhole w.wide w.cells.layout celled) (map w.places.node (full_ids is_state full)) nodes
+
+-- The list is fitted into a model, in which the words of states stand so.
+pub record IsPlacedOf (full : List FullLine) (celled : List Item) (w : IsWrittenInCells full celled) (narrow : List Item) (words : StateWords) : Type 0 where
+  pub fit : IsFit celled narrow
+  pub state_words : HasStateWords full w.places w.wide w.cells.layout celled narrow fit words
+
+-- Of a model that is written out and fitted, what is needed for its witnesses.
 pub record IsWholeOf (full : List FullLine) (w : Whole) : Type 0 where
   pub celled : List Item
   pub written : IsWrittenInCells full celled
-  pub none : HasNoFirst full celled
-  pub fit : IsFit celled w.narrow
+  pub placed : IsPlacedOf full celled written w.narrow w.words
   pub shape : w.shape ≡ shape_of celled
   pub states : w.states ≡ (full_shape full).states
   pub inputs : w.inputs ≡ (full_shape full).inputs
@@ -49,18 +69,69 @@ IsNotWhole lines (fault.Writing e) = IsUnwrittenOrLong lines e
 IsNotWhole lines (fault.Fitting e) = (celled : List Item) × IsWrittenInCells lines celled × IsUnfit celled e
 IsNotWhole lines _ = ⊥
 
--- over what a text stands for nothing is judged
-abbrev pub IsNotJudgedText : List ℕ → Fault → Type 0
-IsNotJudgedText text (fault.NoNext id) = LacksNextWide (Some text) id
-IsNotJudgedText text (fault.Model e) = IsWideFaultOf text e ⊎ IsFullFaultOf text e
-IsNotJudgedText text (fault.Fitting e) = IsUnfitText text e ⊎ IsUnfitWrittenText text e
-IsNotJudgedText text (fault.Writing e) = IsUnwrittenText text e
-IsNotJudgedText text _ = ⊥
+-- ---- witnesses of the one, by those of the other
 
--- the same of all that was to come
-abbrev pub IsNotJudgedFitted : Option (List ℕ) → Fault → Type 0
-IsNotJudgedFitted known (fault.NoNext id) = LacksNextWide known id
-IsNotJudgedFitted known (fault.Model e) = IfSome known (λ text. IsNotJudgedText text (fault.Model e))
-IsNotJudgedFitted known (fault.Fitting e) = IfSome known (λ text. IsNotJudgedText text (fault.Fitting e))
-IsNotJudgedFitted known (fault.Writing e) = IfSome known (λ text. IsNotJudgedText text (fault.Writing e))
-IsNotJudgedFitted known _ = ⊥
+-- A model is written out and fitted. A witness of it of at most 2^44 lines is judged so, and what was written is the witness of the fitted model that says the same.
+pub record IsSpreadByWhole (full : List FullLine) (witness before now : Option (List ℕ)) (verdict : Judgement) : Type 0 where
+  pub celled : List Item
+  pub narrow : List Item
+  pub written_out : IsWrittenInCells full celled
+  pub fit : IsFit celled narrow
+  pub judged : IsJudgedByWhole full witness verdict
+  pub written : IfSome witness (λ text. IsShort text → Appends before now (spread_text (shape_of celled) (words_text (full_shape full) text)))
+  pub kept : IfSome witness (λ text. IsShort text → KeepsSpread (full_shape full).states (shape_of celled) narrow full text verdict)
+
+-- What was written is the witness of the model, with names or without, that says what a witness says of the fitted model; and this is what is judged of both.
+pub record IsUnfittedByWhole (named : Bool) (full : List FullLine) (witness before now : Option (List ℕ)) (verdict : Judgement) : Type 0 where
+  pub celled : List Item
+  pub narrow : List Item
+  pub written_out : IsWrittenInCells full celled
+  pub fit : IsFit celled narrow
+  pub judged : IfSome witness (λ text. (j : Judgement) × (Judges narrow text j × (verdict ≡ judged_by (full_shape full).states None (joined_judgement (shape_of celled) j))))
+  pub written : IfSome witness (λ text. Appends before now (unfit_full_text (full_shape full).states (full_shape full).inputs (shape_of celled) (names_of full) named narrow text))
+  pub kept : IfSome witness (λ text. KeepsFullJudgement full (unfit_full_text (full_shape full).states (full_shape full).inputs (shape_of celled) (names_of full) named narrow text) verdict)
+
+-- the first text is of such a model
+pub record IsSpreadWhole (model witness before now : Option (List ℕ)) (verdict : Judgement) : Type 0 where
+  pub lines : List FullLine
+  pub stands : IfSome model (λ text. StandsForFull text lines)
+  pub spread : IsSpreadByWhole lines witness before now verdict
+
+pub record IsUnfittedWhole (named : Bool) (model witness before now : Option (List ℕ)) (verdict : Judgement) : Type 0 where
+  pub lines : List FullLine
+  pub stands : IfSome model (λ text. StandsForFull text lines)
+  pub unfitted : IsUnfittedByWhole named lines witness before now verdict
+
+-- or of a list with words of any width
+abbrev pub IsSpread : Option (List ℕ) → Option (List ℕ) → Option (List ℕ) → Option (List ℕ) → Judgement → Type 0
+IsSpread model witness before now verdict = IsSpreadWide model witness before now verdict ⊎ IsSpreadWhole model witness before now verdict
+
+abbrev pub IsUnfitted : Bool → Option (List ℕ) → Option (List ℕ) → Option (List ℕ) → Option (List ℕ) → Judgement → Type 0
+IsUnfitted named model witness before now verdict = IsUnfittedWide named model witness before now verdict ⊎ IsUnfittedWhole named model witness before now verdict
+
+-- ---- why no witness is written
+
+-- A text is of a model that is written out with a state more than the words by which its states are told: one of these begins with no constant, or has an init line and no
+-- next line.
+pub record IsBeyondConstants (text : List ℕ) : Type 0 where
+  pub lines : List FullLine
+  pub stands : StandsForFull text lines
+  pub celled : List Item
+  pub written_out : IsWrittenInCells lines celled
+  pub more : HasNoFirst lines celled → ⊥
+
+-- a text is of no model of which witnesses are written from those of the fitted one
+abbrev pub IsNotUnfitText : List ℕ → Fault → Type 0
+IsNotUnfitText text (fault.NoNext id) = LacksNextWide (Some text) id × IsBeyondConstants text
+IsNotUnfitText text (fault.Model e) = (IsWideFaultOf text e × IsBeyondConstants text) ⊎ IsFullFaultOf text e
+IsNotUnfitText text (fault.Fitting e) = IsUnfitText text e ⊎ IsUnfitWrittenText text e
+IsNotUnfitText text (fault.Writing e) = IsUnwrittenText text e
+IsNotUnfitText text _ = ⊥
+
+-- all that was to come is of none
+abbrev pub IsNotUnfitted : Option (List ℕ) → Fault → Type 0
+IsNotUnfitted known (fault.NoNext id) = IfSome known (λ text. IsNotUnfitText text (fault.NoNext id))
+IsNotUnfitted known (fault.Model e) = IfSome known (λ text. IsNotUnfitText text (fault.Model e))
+IsNotUnfitted known (fault.Fitting e) = IfSome known (λ text. IsNotUnfitText text (fault.Fitting e))
+IsNotUnfitted known (fault.Writing e) = IfSome known (λ text. IsNotUnfitText text (fault.Writing e))
+IsNotUnfitted known _ = ⊥

@@ -10,12 +10,13 @@ ghost use Rattle.verbs.specs.Fitting.{FitsFirst, IsFitText, IsKept, IsNotFit, Is
 ghost use Rattle.verbs.specs.Statuses.{Ends, IfInput};
 ghost use Rattle.verbs.specs.Statuses.Use.{Unused, Used};
 ghost use Rattle.verbs.specs.Unfitting.{IsNotWide};
+ghost use Rattle.verbs.specs.Whole.{HasNodes};
 
 use crate::refusals::{Device, Fault, Refusal};
 use base::{Sink, Source, read_all};
 use btor2::Model;
 use btor2text::{Why, write};
-use celled::write_out;
+use celled::{Celled, write_out, write_out_with_words};
 use fitting::FitFault;
 use fullmodel::FullModel;
 use rejoin::first_init_without_next;
@@ -76,7 +77,7 @@ fn where_wide_ready(wide: WideModel) -> Option<WideModel>
 }
 
 /// The model with words of any width that a text stands for, where there is one each of whose states has a next or is free.
-fn read_words(alloc: Global, text: &[u8]) -> Result<Option<WideModel>, Refusal>
+pub(crate) fn read_words(alloc: Global, text: &[u8]) -> Result<Option<WideModel>, Refusal>
     ensures read { IfOk result (IsOfWords text.now) }
     ensures memory { IfErr result (λ refusal. refusal ≡ Refusal.NoMemory) }
 {
@@ -119,8 +120,22 @@ pub(crate) fn read_whole(alloc: Global, text: &[u8]) -> Result<FullModel, Refusa
     }
 }
 
+/// The list of words that a model of the whole language is written out as, with a leaf for each cell of an array, and the nodes
+/// with the words of the model's states.
+pub(crate) fn written_in_cells(alloc: Global, model: &FullModel) -> Result<Celled, Refusal>
+    ensures written { IfOk result (λ c. (w : IsWrittenInCells model.now c.list) × HasNodes model.now c.list w c.leaves.items c.nodes.items) }
+    ensures refused { IfErr result (IfInput (IsWritingFault model.now)) }
+    ensures ends { Ends result Unused Unused Unused Unused }
+{
+    match write_out_with_words(alloc, model) {
+        Ok(celled) => Ok(celled),
+        Err(WriteFault::NoMemory) => Err(Refusal::NoMemory),
+        Err(fault) => Err(Refusal::Input(Fault::Writing(fault))),
+    }
+}
+
 /// The list of words that a model of the whole language is written out as, with a leaf for each cell of an array.
-pub(crate) fn written_out(alloc: Global, model: &FullModel) -> Result<WideModel, Refusal>
+fn written_out(alloc: Global, model: &FullModel) -> Result<WideModel, Refusal>
     ensures written { IfOk result (IsWrittenInCells model.now) }
     ensures refused { IfErr result (IfInput (IsWritingFault model.now)) }
     ensures ends { Ends result Unused Unused Unused Unused }

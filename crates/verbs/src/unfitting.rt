@@ -4,18 +4,17 @@ ghost use Rattle.std.specs.Prelude.{◌≡◌, ℕ, List, IfOk, IfErr, OnOk, Non
 ghost use Rattle.btor2.specs.Lists.{first_init_without_next};
 ghost use Rattle.fitting.specs.Models.{IsFit};
 ghost use Rattle.widetext.specs.Spelling.{StandsForWide};
-ghost use Rattle.verbs.specs.Unfitting.{IsJudgedWide, IsKnown, IsNotReady, IsNotWide, IsReadyFor, IsSpread, IsUnfitted};
-ghost use Rattle.widetext.specs.FirstFault.{IsWideFaultOf};
+ghost use Rattle.verbs.specs.Unfitting.{IsJudgedWide, IsKnown, IsNotReady, IsReadyFor, IsSpreadWide, IsUnfitAlone, IsUnfittedWide};
+ghost use Rattle.verbs.specs.Fitting.{IsNotFit, IsNotFitted};
 ghost use Rattle.verbs.specs.Statuses.{Ends, IfInput};
-ghost use Rattle.verbs.specs.Whole.{IsJudgedFitted, IsJudgedWhole, IsNotJudgedFitted, IsNotJudgedText};
+ghost use Rattle.verbs.specs.Whole.{IsJudgedFitted, IsJudgedWhole, IsNotUnfitText, IsNotUnfitted, IsSpread, IsSpreadWhole, IsUnfitted, IsUnfittedWhole};
 ghost use Rattle.verbs.specs.Statuses.Use.{Unused, Used};
 
-use crate::fitted::{read_profile, read_whole, read_wide};
+use crate::fitted::{read_profile, read_whole, read_wide, read_words};
 use crate::refusals::{Fault, Refusal};
-use crate::whole::{judge_whole, whole_of};
+use crate::whole::{judge_whole, spread_whole, unfit_whole, whole_of};
 use base::{Sink, Source, read_all};
 use btor2::Model;
-use btor2text::ReadFault;
 use rejoin::{Shape, first_init_without_next};
 use std::alloc::Global;
 use unfit::Names;
@@ -66,7 +65,7 @@ fn refuse_lacking(wide: &WideModel) -> Result<(), Refusal>
 fn narrow_of(alloc: Global, text: &[u8], wide: WideModel) -> Result<Model, Refusal>
     requires stands { StandsForWide text.now wide }
     ensures fit { IfOk result (IsFit wide) }
-    ensures refused { IfErr result (IfInput (IsNotWide text.now)) }
+    ensures refused { IfErr result (IfInput (IsUnfitAlone text.now)) }
     ensures ends { Ends result Unused Unused Unused Unused }
 {
     fitting::laws::profile_is_fitted();
@@ -78,6 +77,19 @@ fn narrow_of(alloc: Global, text: &[u8], wide: WideModel) -> Result<Model, Refus
     }
 }
 
+/// What is needed of a model each of whose states has a next or is free, for which a text stands.
+fn ready_of(alloc: Global, text: &[u8], wide: WideModel) -> Result<Ready, Refusal>
+    requires stands { StandsForWide text.now wide }
+    requires ready { first_init_without_next wide wide ≡ None }
+    ensures ready { IfOk result (IsReadyFor text.now) }
+    ensures refused { IfErr result (IfInput (IsUnfitAlone text.now)) }
+    ensures ends { Ends result Unused Unused Unused Unused }
+{
+    let known = known_of(alloc, &wide)?;
+    let narrow = narrow_of(alloc, text, wide)?;
+    Ok(Ready { known, narrow })
+}
+
 /// What is needed of the model of a text.
 fn made_ready(alloc: Global, text: &[u8]) -> Result<Ready, Refusal>
     ensures ready { IfOk result (IsReadyFor text.now) }
@@ -86,9 +98,7 @@ fn made_ready(alloc: Global, text: &[u8]) -> Result<Ready, Refusal>
 {
     let wide = read_wide(alloc, text)?;
     refuse_lacking(&wide)?;
-    let known = known_of(alloc, &wide)?;
-    let narrow = narrow_of(alloc, text, wide)?;
-    Ok(Ready { known, narrow })
+    ready_of(alloc, text, wide)
 }
 
 /// Judges a witness over the model with words of any width of a text.
@@ -109,23 +119,36 @@ fn judge_ready<B: Source>(
     }
 }
 
-/// Judges a witness over the model of the whole language of a text that stands for none with words alone: this is why.
+/// Judges a witness over the model with words of any width for which a text stands.
+fn judge_by_words<B: Source>(
+    alloc: Global,
+    text: &[u8],
+    wide: WideModel,
+    second: &mut B,
+) -> Result<Judgement, Refusal>
+    requires stands { StandsForWide text.now wide }
+    requires ready { first_init_without_next wide wide ≡ None }
+    ensures judged { IfOk result (IsJudgedWide (Some text.now) (B.to_come second.old)) }
+    ensures refused { IfErr result (IfInput (IsNotFit text.now)) }
+    ensures ends { Ends result Unused (Used B.failures second.old second.new) Unused Unused }
+{
+    let ready = ready_of(alloc, text, wide)?;
+    judge_ready(alloc, text, &ready, second)
+}
+
+/// Judges a witness over the model of the whole language of a text.
 fn judge_by_whole<B: Source>(
     alloc: Global,
     text: &[u8],
-    why: ReadFault,
     second: &mut B,
 ) -> Result<Judgement, Refusal>
-    requires why { IsWideFaultOf text.now why }
     ensures judged { IfOk result (IsJudgedWhole (Some text.now) (B.to_come second.old)) }
-    ensures refused { IfErr result (IfInput (IsNotJudgedText text.now)) }
+    ensures refused { IfErr result (IfInput (IsNotFit text.now)) }
     ensures ends { Ends result Unused (Used B.failures second.old second.new) Unused Unused }
 {
     let model = read_whole(alloc, text)?;
-    match whole_of(alloc, &model)? {
-        Some(whole) => judge_whole(alloc, &model, &whole, second),
-        None => Err(Refusal::Input(Fault::Model(why))),
-    }
+    let whole = whole_of(alloc, &model)?;
+    judge_whole(alloc, &model, &whole, second)
 }
 
 /// Judges a witness over the model of a text.
@@ -135,25 +158,24 @@ fn judge_over_text<B: Source>(
     second: &mut B,
 ) -> Result<Judgement, Refusal>
     ensures judged { IfOk result (IsJudgedFitted (Some text.now) (B.to_come second.old)) }
-    ensures refused { IfErr result (IfInput (IsNotJudgedText text.now)) }
+    ensures refused { IfErr result (IfInput (IsNotFit text.now)) }
     ensures ends { Ends result Unused (Used B.failures second.old second.new) Unused Unused }
 {
-    match made_ready(alloc, text) {
-        Ok(ready) => judge_ready(alloc, text, &ready, second),
-        Err(Refusal::Input(Fault::Model(why))) => judge_by_whole(alloc, text, why, second),
-        Err(refusal) => Err(refusal),
+    match read_words(alloc, text)? {
+        Some(wide) => judge_by_words(alloc, text, wide, second),
+        None => judge_by_whole(alloc, text, second),
     }
 }
 
 /// Judges the second text, a witness, over the model of the first: over one of the whole language where it is none with words
-/// alone, and each state with an init line begins with a constant. Else it tells why it is none with words alone.
+/// alone each of whose states has a next or is free.
 pub fn judge_fitted<A: Source, B: Source>(
     alloc: Global,
     first: &mut A,
     second: &mut B,
 ) -> Result<Judgement, Refusal>
     ensures judged { IfOk result (IsJudgedFitted (A.to_come first.old) (B.to_come second.old)) }
-    ensures refused { IfErr result (IfInput (IsNotJudgedFitted (A.to_come first.old))) }
+    ensures refused { IfErr result (IfInput (IsNotFitted (A.to_come first.old))) }
     ensures ends { Ends result (Used A.failures first.old first.new)
         (Used B.failures second.old second.new) Unused Unused }
 {
@@ -161,8 +183,87 @@ pub fn judge_fitted<A: Source, B: Source>(
     judge_over_text(alloc, text.as_slice(), second)
 }
 
-/// Judges the second text, a witness, over the model with words of any width of the first, and writes the witness of the model
-/// that this is fitted into that says the same.
+/// Judges a witness over the model with words of any width of a text, and writes the witness of the model that this is fitted into
+/// that says the same.
+fn spread_ready<B: Source, O: Sink>(
+    alloc: Global,
+    text: &[u8],
+    ready: &Ready,
+    second: &mut B,
+    out: &mut O,
+) -> Result<Judgement, Refusal>
+    requires ready { IsReadyFor text.now ready.now }
+    ensures spread { IfOk result (IsSpreadWide (Some text.now) (B.to_come second.old)
+        (O.written out.old) (O.written out.new)) }
+    ensures refused { IfErr result (IfInput (λ f. ⊥)) }
+    ensures ends { Ends result Unused (Used B.failures second.old second.new)
+        (Used O.failures out.old out.new) Unused }
+{
+    match spread::spread(alloc, &ready.known.shape, &ready.narrow, second, out) {
+        Ok(judgement) => Ok(judgement),
+        Err(fault) => Err(Refusal::from(fault)),
+    }
+}
+
+/// The same over the model with words of any width for which a text stands.
+fn spread_by_words<B: Source, O: Sink>(
+    alloc: Global,
+    text: &[u8],
+    wide: WideModel,
+    second: &mut B,
+    out: &mut O,
+) -> Result<Judgement, Refusal>
+    requires stands { StandsForWide text.now wide }
+    requires ready { first_init_without_next wide wide ≡ None }
+    ensures spread { IfOk result (IsSpreadWide (Some text.now) (B.to_come second.old)
+        (O.written out.old) (O.written out.new)) }
+    ensures refused { IfErr result (IfInput (IsNotFit text.now)) }
+    ensures ends { Ends result Unused (Used B.failures second.old second.new)
+        (Used O.failures out.old out.new) Unused }
+{
+    let ready = ready_of(alloc, text, wide)?;
+    spread_ready(alloc, text, &ready, second, out)
+}
+
+/// The same over the model of the whole language of a text.
+fn spread_by_whole<B: Source, O: Sink>(
+    alloc: Global,
+    text: &[u8],
+    second: &mut B,
+    out: &mut O,
+) -> Result<Judgement, Refusal>
+    ensures spread { IfOk result (IsSpreadWhole (Some text.now) (B.to_come second.old)
+        (O.written out.old) (O.written out.new)) }
+    ensures refused { IfErr result (IfInput (IsNotFit text.now)) }
+    ensures ends { Ends result Unused (Used B.failures second.old second.new)
+        (Used O.failures out.old out.new) Unused }
+{
+    let model = read_whole(alloc, text)?;
+    let whole = whole_of(alloc, &model)?;
+    spread_whole(alloc, &model, &whole, second, out)
+}
+
+/// The same over the model of a text.
+fn spread_over_text<B: Source, O: Sink>(
+    alloc: Global,
+    text: &[u8],
+    second: &mut B,
+    out: &mut O,
+) -> Result<Judgement, Refusal>
+    ensures spread { IfOk result (IsSpread (Some text.now) (B.to_come second.old)
+        (O.written out.old) (O.written out.new)) }
+    ensures refused { IfErr result (IfInput (IsNotFit text.now)) }
+    ensures ends { Ends result Unused (Used B.failures second.old second.new)
+        (Used O.failures out.old out.new) Unused }
+{
+    match read_words(alloc, text)? {
+        Some(wide) => spread_by_words(alloc, text, wide, second, out),
+        None => spread_by_whole(alloc, text, second, out),
+    }
+}
+
+/// Judges the second text, a witness, over the model of the first, as `judge_fitted` does, and writes the witness of the model that
+/// this is fitted into that says the same.
 pub fn spread<A: Source, B: Source, O: Sink>(
     alloc: Global,
     first: &mut A,
@@ -171,35 +272,31 @@ pub fn spread<A: Source, B: Source, O: Sink>(
 ) -> Result<Judgement, Refusal>
     ensures spread { IfOk result (IsSpread (A.to_come first.old) (B.to_come second.old)
         (O.written out.old) (O.written out.new)) }
-    ensures refused { IfErr result (IfInput (IsNotReady (A.to_come first.old))) }
+    ensures refused { IfErr result (IfInput (IsNotFitted (A.to_come first.old))) }
     ensures ends { Ends result (Used A.failures first.old first.new)
         (Used B.failures second.old second.new) (Used O.failures out.old out.new) Unused }
 {
     let text = read_all(alloc, first)?;
-    let ready = made_ready(alloc, text.as_slice())?;
-    match spread::spread(alloc, &ready.known.shape, &ready.narrow, second, out) {
-        Ok(judgement) => Ok(judgement),
-        Err(fault) => Err(Refusal::from(fault)),
-    }
+    spread_over_text(alloc, text.as_slice(), second, out)
 }
 
-/// Writes the witness of the model with words of any width of the first text, with names or without, that says what the second
-/// says of the model that it is fitted into, and answers what is judged of it.
-pub fn unfit<A: Source, B: Source, O: Sink>(
+/// Writes the witness of the model with words of any width of a text, with names or without, that says what a witness says of the
+/// model that it is fitted into, and answers what is judged of it.
+fn unfit_ready<B: Source, O: Sink>(
     alloc: Global,
     named: bool,
-    first: &mut A,
+    text: &[u8],
+    ready: &Ready,
     second: &mut B,
     out: &mut O,
 ) -> Result<Judgement, Refusal>
-    ensures unfitted { IfOk result (IsUnfitted named (A.to_come first.old) (B.to_come second.old)
+    requires ready { IsReadyFor text.now ready.now }
+    ensures unfitted { IfOk result (IsUnfittedWide named (Some text.now) (B.to_come second.old)
         (O.written out.old) (O.written out.new)) }
-    ensures refused { IfErr result (IfInput (IsNotReady (A.to_come first.old))) }
-    ensures ends { Ends result (Used A.failures first.old first.new)
-        (Used B.failures second.old second.new) (Used O.failures out.old out.new) Unused }
+    ensures refused { IfErr result (IfInput (λ f. ⊥)) }
+    ensures ends { Ends result Unused (Used B.failures second.old second.new)
+        (Used O.failures out.old out.new) Unused }
 {
-    let text = read_all(alloc, first)?;
-    let ready = made_ready(alloc, text.as_slice())?;
     match unfit::unfit(
         alloc,
         &ready.known.shape,
@@ -212,4 +309,69 @@ pub fn unfit<A: Source, B: Source, O: Sink>(
         Ok(judgement) => Ok(judgement),
         Err(fault) => Err(Refusal::from(fault)),
     }
+}
+
+/// The same over the model of the whole language of a text. Where a state of it begins with no constant, or has an init line and no
+/// next line, this is refused by why the text is of no list with words alone over which it could be said.
+fn unfit_by_whole<B: Source, O: Sink>(
+    alloc: Global,
+    named: bool,
+    text: &[u8],
+    why: Fault,
+    second: &mut B,
+    out: &mut O,
+) -> Result<Judgement, Refusal>
+    requires why { IsNotReady (Some text.now) why }
+    ensures unfitted { IfOk result (IsUnfittedWhole named (Some text.now) (B.to_come second.old)
+        (O.written out.old) (O.written out.new)) }
+    ensures refused { IfErr result (IfInput (IsNotUnfitText text.now)) }
+    ensures ends { Ends result Unused (Used B.failures second.old second.new)
+        (Used O.failures out.old out.new) Unused }
+{
+    let model = read_whole(alloc, text)?;
+    let whole = whole_of(alloc, &model)?;
+    if !whole.has_words_alone() {
+        return Err(Refusal::Input(why));
+    }
+    unfit_whole(alloc, named, &model, &whole, second, out)
+}
+
+/// The same over the model of a text.
+fn unfit_over_text<B: Source, O: Sink>(
+    alloc: Global,
+    named: bool,
+    text: &[u8],
+    second: &mut B,
+    out: &mut O,
+) -> Result<Judgement, Refusal>
+    ensures unfitted { IfOk result (IsUnfitted named (Some text.now) (B.to_come second.old)
+        (O.written out.old) (O.written out.new)) }
+    ensures refused { IfErr result (IfInput (IsNotUnfitText text.now)) }
+    ensures ends { Ends result Unused (Used B.failures second.old second.new)
+        (Used O.failures out.old out.new) Unused }
+{
+    match made_ready(alloc, text) {
+        Ok(ready) => unfit_ready(alloc, named, text, &ready, second, out),
+        Err(Refusal::Input(why)) => unfit_by_whole(alloc, named, text, why, second, out),
+        Err(refusal) => Err(refusal),
+    }
+}
+
+/// Writes the witness of the model of the first text, with names or without, that says what the second says of the model that it is
+/// fitted into, and answers what is judged of it.
+pub fn unfit<A: Source, B: Source, O: Sink>(
+    alloc: Global,
+    named: bool,
+    first: &mut A,
+    second: &mut B,
+    out: &mut O,
+) -> Result<Judgement, Refusal>
+    ensures unfitted { IfOk result (IsUnfitted named (A.to_come first.old) (B.to_come second.old)
+        (O.written out.old) (O.written out.new)) }
+    ensures refused { IfErr result (IfInput (IsNotUnfitted (A.to_come first.old))) }
+    ensures ends { Ends result (Used A.failures first.old first.new)
+        (Used B.failures second.old second.new) (Used O.failures out.old out.new) Unused }
+{
+    let text = read_all(alloc, first)?;
+    unfit_over_text(alloc, named, text.as_slice(), second, out)
 }

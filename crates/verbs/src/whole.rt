@@ -1,21 +1,29 @@
 //! Witnesses of models of the whole language, by the models of the profile that these are fitted into.
 
-ghost use Rattle.std.specs.Prelude.{◌≡◌, IfErr, IfOk, IfSome};
+ghost use Rattle.std.specs.Prelude.{◌≡◌, ◌==◌, ◌++◌, IfErr, IfOk, length, map};
+ghost use Rattle.std.specs.List.{AllZip};
+ghost use Rattle.btor2.specs.Items.{is_state};
+ghost use Rattle.celled.specs.Whole.{IsWhole};
 ghost use Rattle.celled.specs.Written.{IsWrittenInCells};
+ghost use Rattle.fitting.specs.Laid.{IsLaid};
 ghost use Rattle.fitting.specs.Models.{IsFit};
+ghost use Rattle.full.specs.Lines.{full_ids};
+ghost use Rattle.fulljudge.specs.Kept.{words_in};
 ghost use Rattle.verbs.specs.Statuses.{Ends, IfInput};
 ghost use Rattle.verbs.specs.Statuses.Use.{Unused, Used};
-ghost use Rattle.verbs.specs.Whole.{IsJudgedByWhole, IsNotWhole, IsWholeOf};
+ghost use Rattle.verbs.specs.Whole.{HasNodes, IsJudgedByWhole, IsNotWhole, IsPlacedOf, IsSpreadByWhole, IsUnfittedByWhole, IsWholeOf};
 
-use crate::fitted::{refusal_of_written, written_out};
+use crate::fitted::{refusal_of_written, written_in_cells};
 use crate::refusals::Refusal;
-use base::Source;
+use base::{Sink, Source};
 use btor2::Model;
-use fulljudge::{Values, judge_full};
+use celled::Celled;
+use fitting::{Fitted, fit_with_places};
+use fulljudge::{StateWords, Values, judge_full, spread_full};
 use fullmodel::FullModel;
+use fullunfit::{names_of, unfit_full};
 use rejoin::Shape;
 use std::alloc::Global;
-use wide::WideModel;
 use witness::Judgement;
 
 /// What is needed of a model of the whole language for its witnesses.
@@ -25,45 +33,75 @@ pub(crate) struct Whole {
     states: Values,
     /// Those of its inputs.
     inputs: Values,
+    /// Where the words of its states stand.
+    words: StateWords,
     /// What a witness needs to know of the list that it is written out as, with a leaf for each cell of an array.
     shape: Shape,
     /// The model of the profile that this is fitted into.
     narrow: Model,
 }
 
-/// The model that a list is fitted into that a model was written out as.
-fn narrow_of(alloc: Global, model: &FullModel, celled: WideModel) -> Result<Model, Refusal>
-    requires written { IsWrittenInCells model.now celled }
-    ensures fit { IfOk result (IsFit celled) }
+impl Whole {
+    /// Whether the states of the list are words of the model's states alone.
+    pub(crate) fn has_words_alone(&self) -> bool
+        ensures { result ≡ (length self.now.shape.states == words_in self.now.states) }
+    {
+        self.shape.states().len() as u64 == self.states.words()
+    }
+}
+
+/// The nodes with the words of states, those of their leaves first.
+fn state_nodes(alloc: Global, celled: &Celled) -> Result<Vec<u32>, Refusal>
+    ensures nodes { IfOk result (λ nodes. nodes.items ≡ celled.now.leaves.items ++ celled.now.nodes.items) }
+    ensures memory { IfErr result (λ refusal. refusal ≡ Refusal.NoMemory) }
+{
+    let mut nodes = Vec::new(alloc);
+    nodes.extend_from_slice(celled.leaves.as_slice())?;
+    nodes.extend_from_slice(celled.nodes.as_slice())?;
+    Ok(nodes)
+}
+
+/// The model of the profile that a list is fitted into that a model was written out as, and where the nodes with the words of its
+/// states stand in it.
+fn placed(alloc: Global, model: &FullModel, celled: Celled) -> Result<(Model, StateWords), Refusal>
+    requires written { (w : IsWrittenInCells model.now celled.list) × HasNodes model.now celled.list w celled.leaves.items celled.nodes.items }
+    ensures placed { IfOk result (λ r. (w : IsWrittenInCells model.now celled.list) → HasNodes model.now celled.list w celled.leaves.items celled.nodes.items
+        → IsPlacedOf model.now celled.list w r.0 r.1) }
     ensures refused { IfErr result (IfInput (IsNotWhole model.now)) }
     ensures ends { Ends result Unused Unused Unused Unused }
 {
-    match fitting::fit(alloc, celled) {
-        Ok(narrow) => Ok(narrow),
+    let nodes = state_nodes(alloc, &celled)?;
+    match fit_with_places(alloc, celled.list, nodes.as_slice()) {
+        Ok(fitted) => Ok((
+            fitted.model,
+            StateWords {
+                leaves: celled.leaves,
+                nodes: celled.nodes,
+                places: fitted.places,
+            },
+        )),
         Err(fault) => Err(refusal_of_written(fault)),
     }
 }
 
-/// What is needed of a model: nothing where a state begins with no constant.
-pub(crate) fn whole_of(alloc: Global, model: &FullModel) -> Result<Option<Whole>, Refusal>
-    ensures whole { IfOk result (λ whole. IfSome whole (IsWholeOf model.now)) }
+/// What is needed of a model.
+pub(crate) fn whole_of(alloc: Global, model: &FullModel) -> Result<Whole, Refusal>
+    ensures whole { IfOk result (IsWholeOf model.now) }
     ensures refused { IfErr result (IfInput (IsNotWhole model.now)) }
     ensures ends { Ends result Unused Unused Unused Unused }
 {
-    let celled = written_out(alloc, model)?;
-    let shape = Shape::new(alloc, &celled)?;
+    let celled = written_in_cells(alloc, model)?;
+    let shape = Shape::new(alloc, &celled.list)?;
     let states = Values::of_states(alloc, model)?;
-    if shape.states().len() as u64 != states.words() {
-        return Ok(None);
-    }
     let inputs = Values::of_inputs(alloc, model)?;
-    let narrow = narrow_of(alloc, model, celled)?;
-    Ok(Some(Whole {
+    let (narrow, words) = placed(alloc, model, celled)?;
+    Ok(Whole {
         states,
         inputs,
+        words,
         shape,
         narrow,
-    }))
+    })
 }
 
 /// Judges a witness over a model.
@@ -83,9 +121,77 @@ pub(crate) fn judge_whole<B: Source>(
         alloc,
         &whole.states,
         &whole.inputs,
+        &whole.words,
         &whole.shape,
         &whole.narrow,
         second,
+    ) {
+        Ok(judgement) => Ok(judgement),
+        Err(fault) => Err(Refusal::from(fault)),
+    }
+}
+
+/// Judges a witness over a model, and writes the witness of the model that it is fitted into that says the same.
+pub(crate) fn spread_whole<B: Source, O: Sink>(
+    alloc: Global,
+    model: &FullModel,
+    whole: &Whole,
+    second: &mut B,
+    out: &mut O,
+) -> Result<Judgement, Refusal>
+    requires whole { IsWholeOf model.now whole.now }
+    ensures spread { IfOk result (IsSpreadByWhole model.now (B.to_come second.old)
+        (O.written out.old) (O.written out.new)) }
+    ensures refused { IfErr result (IfInput (λ f. ⊥)) }
+    ensures ends { Ends result Unused (Used B.failures second.old second.new)
+        (Used O.failures out.old out.new) Unused }
+{
+    fulljudge::laws::cells_are_words();
+    match spread_full(
+        alloc,
+        &whole.states,
+        &whole.inputs,
+        &whole.words,
+        &whole.shape,
+        &whole.narrow,
+        second,
+        out,
+    ) {
+        Ok(judgement) => Ok(judgement),
+        Err(fault) => Err(Refusal::from(fault)),
+    }
+}
+
+/// Writes the witness of a model that says what a witness says of the model that it is fitted into, with names or without, and
+/// answers what is judged of it.
+pub(crate) fn unfit_whole<B: Source, O: Sink>(
+    alloc: Global,
+    named: bool,
+    model: &FullModel,
+    whole: &Whole,
+    second: &mut B,
+    out: &mut O,
+) -> Result<Judgement, Refusal>
+    requires whole { IsWholeOf model.now whole.now }
+    requires alone { length whole.now.shape.states ≡ words_in whole.now.states }
+    ensures unfitted { IfOk result (IsUnfittedByWhole named model.now (B.to_come second.old)
+        (O.written out.old) (O.written out.new)) }
+    ensures refused { IfErr result (IfInput (λ f. ⊥)) }
+    ensures ends { Ends result Unused (Used B.failures second.old second.new)
+        (Used O.failures out.old out.new) Unused }
+{
+    fulljudge::laws::cells_are_words();
+    let names = names_of(alloc, model)?;
+    match unfit_full(
+        alloc,
+        &whole.states,
+        &whole.inputs,
+        &names,
+        &whole.shape,
+        &whole.narrow,
+        named,
+        second,
+        out,
     ) {
         Ok(judgement) => Ok(judgement),
         Err(fault) => Err(Refusal::from(fault)),

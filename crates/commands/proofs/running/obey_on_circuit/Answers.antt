@@ -4,7 +4,7 @@ use Rattle.verbs.proofs.CountLemmas.{as_is, as_was, ends_as, idle, unfailed}
 use Rattle.subcommands.proofs.AnswerLemmas.{answered_done, answered_ends, answered_refused}
 use Rattle.commands.specs.Done.{Answers, is_quiet}
 use Rattle.commands.specs.Refusals.{RefusesTask}
-use Rattle.commands.proofs.TaskLemmas.{done_so, not_named}
+use Rattle.commands.proofs.TaskLemmas.{not_named}
 use Rattle.commands.proofs.running.obey_on_circuit.Goals as goal
 
 pub returns-in-AigConvert-clause-done : goal.returns-in-AigConvert-clause-done

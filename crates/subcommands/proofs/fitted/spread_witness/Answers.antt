@@ -1,6 +1,6 @@
 use Rattle.std.proofs.Common.{rules, ◌≡◌, Err}
 use Rattle.verbs.proofs.CountLemmas.{as_is, as_was, ends_as, handed_on, idle, told_behind}
-use Rattle.verbs.specs.Unfitting.{IsSpread}
+use Rattle.verbs.specs.Whole.{IsSpread}
 use Rattle.subcommands.proofs.JudgedLemmas.{written}
 use Rattle.subcommands.proofs.fitted.spread_witness.Goals as goal
 

@@ -1,14 +1,8 @@
 use Rattle.std.proofs.Common.{◌∙◌, Err, ap}
 use Rattle.verbs.proofs.CountLemmas.{failed, input_ends}
-use Rattle.verbs.proofs.UnfittingLemmas.{memory_ends}
 use Rattle.verbs.proofs.unfitting.made_ready.Goals as goal
 
 pub returns-in_err-refuse_lacking-clause-ends : goal.returns-in_err-refuse_lacking-clause-ends
 returns-in_err-refuse_lacking-clause-ends c =
     let is = failed c.from_residual-in_err-refuse_lacking.result c.in_err-refuse_lacking.field-0.0 c.from_residual-in_err-refuse_lacking.ensures in
     rw (is ∙ ap Err c.in_err-refuse_lacking.ensures.some.1) input_ends
-
-pub returns-in_err-known-clause-ends : goal.returns-in_err-known-clause-ends
-returns-in_err-known-clause-ends c =
-    let is = failed c.from_residual-in_err-known.result c.in_err-known.field-0.0 c.from_residual-in_err-known.ensures in
-    rw (is ∙ ap Err c.in_err-known.ensures.memory) memory_ends

@@ -27,3 +27,15 @@ pub returns-in_err-inputs-clause-ends : goal.returns-in_err-inputs-clause-ends
 returns-in_err-inputs-clause-ends c =
     let is : c.from_residual-in_err-inputs.result ≡ Err refusal.NoMemory = search rules in
     rw is memory_ends
+
+pub returns-clause-whole : goal.returns-clause-whole
+returns-clause-whole c =
+    let w = c.in_ok-celled.ensures.written in
+    record {
+      celled = c.in_ok-celled.celled.list;
+      written = w.0;
+      placed = c.in_ok-narrow.ensures.placed w.0 w.1;
+      shape = c.in_ok-shape.ensures;
+      states = c.in_ok-states.ensures;
+      inputs = c.in_ok-inputs.ensures;
+    }

@@ -1,0 +1,20 @@
+use Rattle.std.proofs.Common.{rules, ◌≡◌, Err, refl}
+use Rattle.verbs.proofs.CountLemmas.{as_is, as_was, ends_as, handed_on, idle, unfailed}
+use Rattle.verbs.proofs.WholeLemmas.{never_refused, not_fit_whole, spread_over_text}
+use Rattle.verbs.proofs.unfitting.spread_by_whole.Goals as goal
+
+pub returns-in_err-whole-clause-refused : goal.returns-in_err-whole-clause-refused
+returns-in_err-whole-clause-refused g c =
+    let is : c.from_residual-in_err-whole.result ≡ Err c.in_err-whole.field-0.0 = search rules in
+    rw is (not_fit_whole c.args.text.now c.in_ok-model.model c.in_err-whole.field-0.0 c.in_ok-model.ensures.stands c.in_err-whole.ensures.refused)
+
+pub returns-in_err-whole-clause-ends : goal.returns-in_err-whole-clause-ends
+returns-in_err-whole-clause-ends g c =
+    let is : c.from_residual-in_err-whole.result ≡ Err c.in_err-whole.field-0.0 = search rules in
+    ends_as as_is (unfailed refl) idle as_was (handed_on is c.in_err-whole.ensures.ends)
+
+pub returns-clause-spread : goal.returns-clause-spread
+returns-clause-spread g c = spread_over_text c.spread_whole.result c.args.text.now c.in_ok-model.model _ _ _ c.in_ok-model.ensures.stands c.spread_whole.ensures.spread
+
+pub returns-clause-refused : goal.returns-clause-refused
+returns-clause-refused g c = never_refused c.spread_whole.result _ c.spread_whole.ensures.refused
