@@ -7,8 +7,9 @@ PROGRAM is crates/hwtool/out/hwtool where none is given. Each model has arrays, 
 their states, and states with an init and no next, at widths around 64 and above. An array is a list of cells here. The model is fitted, and
 both are evaluated, frame by frame, from the same first words and inputs: each bad property, constraint and output has to be the same. A model
 of which a first word depends on itself has to be refused by 224. Of one in eight the fitted model is lowered, and a witness of its frames is
-judged by `check-btor`. A witness of the model itself, which tells cells of arrays, is judged by `check-btor --fit`, and one of which a state
-begins otherwise; a model with a state that is 1 in the first frame alone has to be refused there. Spoilt texts have to be refused, or to be models that are fitted right. The status is 0 where nothing was wrong, else 1.
+judged by `check-btor`, and by `check-btor --fit` as what `unfit` writes of it; `unfit` has to refuse a model with a state that is 1 in the
+first frame alone. A witness of the model itself, which tells cells of arrays, is judged by `check-btor --fit`, one of which a state begins
+otherwise too, and by `check-btor` as what `unfit --back` writes. Spoilt texts have to be refused, or to be models that are fitted right. The status is 0 where nothing was wrong, else 1.
 """
 import argparse
 import pathlib
@@ -365,19 +366,22 @@ def tried(program, text, by, folder, is_spoilt):
     narrow = Model(done.stdout)
     if any(it > 64 for it in narrow.sorts.values()):
         raise Wrong("a sort is above 64 bits")
-    chosen, inputs, free, told, whole_told, is_judged = compare(model, narrow, by)
+    chosen, inputs, free, told, whole_told, is_alone = compare(model, narrow, by)
     fitted.write_text(done.stdout)
     if by.random() < 0.5:
         said, says = whole_witness(model, whole_told, by)
         if said is not None:
             (folder / "witness").write_text(said)
             judged = subprocess.run([program, "check-btor", "--fit", path, folder / "witness"], capture_output=True, text=True)
-            if not is_judged:
-                if judged.returncode != 2 or judged.stdout or len(judged.stderr.splitlines()) != 1:
-                    raise Wrong(f"with a state of the first frame alone it is judged: {judged.stdout}{judged.stderr}")
-                return "not judged over"
             if not judged.stdout.startswith(says):
                 raise Wrong(f"its witness is told as {judged.stdout}{judged.stderr}, not {says}")
+            back = subprocess.run([program, "unfit", "--back", path, folder / "witness"], capture_output=True, text=True)
+            if back.stderr != judged.stdout:
+                raise Wrong(f"unfit --back tells {back.stderr}, not {judged.stdout}")
+            (folder / "back").write_text(back.stdout)
+            narrow_said = subprocess.run([program, "check-btor", fitted, folder / "back"], capture_output=True, text=True).stdout
+            if says[0] != "i" and narrow_said != judged.stdout:
+                raise Wrong(f"what unfit --back writes is told as {narrow_said}, not {judged.stdout}")
             return "a witness over arrays judged"
     if by.random() < 0.125:
         lowered = subprocess.run([program, "lower", fitted], capture_output=True, text=True)
@@ -390,7 +394,16 @@ def tried(program, text, by, folder, is_spoilt):
             judged = subprocess.run([program, "check-btor", fitted, folder / "witness"], capture_output=True, text=True).stdout
             if judged.startswith("accepted") != holds or (not holds and not judged.startswith("violated")):
                 raise Wrong(f"its witness is told as {judged}")
-            return "a witness judged"
+            written = subprocess.run([program, "unfit", path, folder / "witness"], capture_output=True, text=True)
+            if not is_alone:
+                if written.returncode != 2 or written.stdout or len(written.stderr.splitlines()) != 1:
+                    raise Wrong(f"with a state of the first frame alone it is unfitted: {written.stdout}{written.stderr}")
+                return "a witness judged, not unfitted"
+            (folder / "unfitted").write_text(written.stdout)
+            own = subprocess.run([program, "check-btor", "--fit", path, folder / "unfitted"], capture_output=True, text=True).stdout
+            if (written.stderr, own) != (judged, judged):
+                raise Wrong(f"unfit tells {written.stderr}, and what it writes is told as {own}, not {judged}")
+            return "a witness judged and unfitted"
     return "spoilt and fitted" if is_spoilt else "fitted"
 
 

@@ -174,10 +174,9 @@ def fit(model: Text) -> bytes:
 
 
 def check_btor_fit(model: Text, witness: Text) -> Verdict:
-    """Judges a witness of a BTOR2 model with words of up to 1,048,576 bits, or of one of the whole language each of whose states
-    with an init line begins with a constant; the verdict has no claims.
+    """Judges a witness of a BTOR2 model of the whole language; the verdict has no claims.
 
-    Raises Refused where the model is none, has a state with an init and no next, or `fit` does not take it.
+    Raises Refused where the model is none that `fit` takes.
     """
     first, second, verdict = _Given(model), _Given(witness), RawVerdict()
     status, refusal = call("hwtool_check_btor_fit", [*first.words, *second.words], ctypes.byref(verdict))
@@ -196,8 +195,9 @@ def _unfitted(call_name: str, first: _Given, given: List[object], witness: _Give
 
 
 def unfit(model: Text, witness: Text, *, names: bool = False) -> Unfitted:
-    """The witness of a BTOR2 model with words of up to 1,048,576 bits that says what one of the model says that `fit` makes of it:
-    with names behind its words, or without. The verdict has no claims. Raises Refused as `check_btor_fit` does."""
+    """The witness of a BTOR2 model that says what one of the model says that `fit` makes of it: with names behind its words, or
+    without. The verdict has no claims. Raises Refused as `check_btor_fit` does, and where a state of a model with words alone has an
+    init and no next, or one of another with an init begins with no constant or has no next."""
     first = _Given(model)
     return _unfitted("hwtool_unfit", first, [*first.words, bool(names)], _Given(witness))
 

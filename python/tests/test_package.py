@@ -27,8 +27,8 @@ from hwtool import _library, _remedies  # noqa: E402
 
 class Readme(unittest.TestCase):
     def test_calls(self):
-        """The table of README has each call of the package as it is made, and no other."""
-        rows = re.findall(r"^\| (`\w+\(.*?) \|", (SOURCES / "README.md").read_text(encoding="utf-8"), re.M)
+        """README lists each call of the package as it is made, and no other."""
+        rows = re.findall(r"^- (`\w+\(.*?`): ", (SOURCES / "README.md").read_text(encoding="utf-8"), re.M)
         public = {name: getattr(hwtool, name) for name in hwtool.__all__ if inspect.isfunction(getattr(hwtool, name))}
         calls = [
             f"{name}{inspect.Signature([it.replace(annotation=it.empty) for it in inspect.signature(call).parameters.values()])}"
@@ -84,7 +84,11 @@ class Remedies(unittest.TestCase):
                 ),
             ),
         )
-        self.assertEqual(hwtool.explain(22)[0].remedy, "in Yosys, `memory_map` before `write_btor`")
+        self.assertEqual(
+            hwtool.explain(22)[0].remedy,
+            "`hwtool fit FILE >NEW` makes them words, and what is judged over that holds of the model; "
+            "in Yosys, `memory_map` before `write_btor`",
+        )
         self.assertEqual(hwtool.explain(7000), ())
 
 

@@ -64,6 +64,10 @@ def try_steps(place):
     }
     for name, wanted in reading.items():
         tally.same(f"{name}: what is said of it", wanted, place.results(f"{name}.flow")["reading"])
+    found = [place.folder / "wide.flow" / it for it in ("whole-model.btor2", "b0/whole-witness")]
+    done = subprocess.run([place.program, "check-btor", "--fit", *found], capture_output=True, text=True, check=False)
+    tally.same("wide: a witness over words as they stand in the source", "accepted 4 frames\n", done.stdout)
+    tally.true("wide: with their names", re.search(r"^0 0{95}1 ring@0$", found[1].read_text(), flags=re.M), found[1].read_text())
     place.run(EXAMPLES / "flow/undefined.v", "--zero-undefined", "-o", "zero.flow")
     tally.same("undefined bits as 0", [HOLDS], place.verdicts("zero.flow"))
     place.run(EXAMPLES / "flow/reset.v", "--clocked-resets", "-o", "sync.flow")

@@ -106,7 +106,7 @@ def script(results: Results, folder: Path) -> str:
     note = calls("echo", f"check.sh: not the program of the run, which was {results.program.version}") + " >&2"
     lines.append(calls("is", results.program.sum) + f' "$hwtool" || {note}')
     lines += [source_line(it, folder) for it in results.sources]
-    lines += [calls("judged", it.held.sum, it.name) for it in results.design.texts]
+    lines += [calls("judged", one.sum, one.name) for it in results.design.texts for one in it.kept]
     for it in results.judged():
         lines += lines_of(it, results.design) if it.verdict is not Verdict.OPEN else []
     return HEAD + "\n".join(lines) + "\n" + END

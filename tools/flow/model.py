@@ -110,10 +110,13 @@ class Model:
     inputs: List[str] = field(default_factory=list)
     # its constraints, by their names in the text
     constraints: List[Said] = field(default_factory=list)
-    # what is said of it where it was fitted
+    # what is said of it where it was fitted, and the file of the text of the whole language that it was fitted from
     fitted: str = ""
+    whole_path: Optional[Path] = None
     # its text, once all that checks it reads nothing else
     text: Optional[Held] = None
+    # that text of the whole language
+    whole: Optional[Held] = None
 
     @property
     def held(self) -> Held:
@@ -123,9 +126,18 @@ class Model:
         return self.text
 
     def taken(self) -> "Model":
-        """The same with its text, as that stands in its file now."""
+        """The same with its text, as that stands in its file now, and the one that it was fitted from."""
         with open_whole(self.path) as file:
-            return replace(self, text=Held.of_file(self.name, file.fileno()))
+            found = replace(self, text=Held.of_file(self.name, file.fileno()))
+        if self.whole_path is None:
+            return found
+        with open_whole(self.whole_path) as file:
+            return replace(found, whole=Held.of_file(f"whole-{self.name}", file.fileno()))
+
+    @property
+    def kept(self) -> List[Held]:
+        """The texts that stand in the folder of results: its own, and the one that it was fitted from."""
+        return [self.held, *([self.whole] if self.whole else [])]
 
     @property
     def name(self) -> str:

@@ -154,6 +154,14 @@ class Program:
         form = ["--abc"] if by_abc else []
         return self.call(*back, *form, "--bad", str(number), model.held, found, into=into)
 
+    def unfitted(self, model: Model, witness: Held, into: str) -> Optional[Held]:
+        """The witness of the text that a model was fitted from which says what one of the model says, where there is one, and
+        `check-btor --fit` accepts it."""
+        if model.whole is None:
+            return None
+        found = self.call("unfit", "--names", model.whole, witness, into=into).made
+        return found if found and self.call("check-btor", "--fit", model.whole, found).status == 0 else None
+
     def formula(self, model: Model, number: int, evidence: Evidence, certificate: Held, into: str) -> Said:
         """Makes the formula that nothing satisfies where an invariant is one, or a witness circuit guards the property."""
         return self.call("obligation", *of_kind(model, evidence), "--bad", str(number), model.held, certificate, into=into)

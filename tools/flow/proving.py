@@ -23,10 +23,12 @@ SOLVER_BYTES = 4 << 30
 MOST_WORDS = 200
 FORM, DUMP, SAVED, FORMULA, PROOF, HINTED_PROOF = "form.aig", "dump.vcd", "dump.gtkw", "formula.cnf", "proof", "proof.lrat"
 WITNESS = Evidence.WITNESS.value
+# That of the text that a model was fitted from.
+WHOLE_WITNESS = "whole-witness"
 # How the first frame of a dump begins.
 FIRST_FRAME = b"\n#"
 # The files of a property.
-FILES = [FORM, DUMP, SAVED, FORMULA, PROOF, *(it.value for it in Evidence)]
+FILES = [FORM, DUMP, SAVED, FORMULA, PROOF, WHOLE_WITNESS, *(it.value for it in Evidence)]
 
 
 @dataclass
@@ -172,9 +174,11 @@ class Job:
         return self._form
 
     def beside(self, grounds: Grounds) -> List[Held]:
-        """What shows a verdict, with what is there to look at: the frames of a witness, or the formula that a proof refutes."""
+        """What shows a verdict, with what is there to look at: the frames of a witness, and the same over the text that the model was
+        fitted from, or the formula that a proof refutes."""
         if grounds.proof is None:
-            return [grounds.text, *self.drawn(grounds.text)]
+            whole = self.program.unfitted(self.model, grounds.text, self.name(WHOLE_WITNESS))
+            return [grounds.text, *([whole] if whole else []), *self.drawn(grounds.text)]
         formula = self.program.formula(self.model, self.property.number, grounds.evidence, grounds.text, self.name(FORMULA)).made
         return [grounds.text, grounds.proof, *([formula] if formula else [])]
 

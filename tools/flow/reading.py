@@ -122,7 +122,7 @@ class Reader:
         """A text in BTOR2, in the one spelling that `show` gives, with the places that Yosys noted. One of the whole language becomes the
         text that it is fitted into, whose properties are in the same order."""
         places = places_of_bads(path.read_text(encoding="utf-8", errors="replace"))
-        shown, fitted = self.shown(path, place)
+        shown, fitted, whole = self.shown(path, place)
         lines = re.findall(r"^\d+ bad (\d+)(?: (\S+))?$", shown, flags=re.M)
         always = nodes_of_one(shown) if role is Role.ENABLES else set()
         properties = [
@@ -130,19 +130,21 @@ class Reader:
             for number, ((node, name), noted) in enumerate(zip(lines, places))
         ]
         assumed = [Said("assume", name or f"constraint {line}", "") for line, name in re.findall(CONSTRAINT, shown, flags=re.M)]
-        return Model(Kind.WORDS, path, properties, role, constraints=assumed, fitted=fitted)
+        return Model(Kind.WORDS, path, properties, role, constraints=assumed, fitted=fitted, whole_path=whole)
 
-    def shown(self, path: Path, place: str) -> Tuple[str, str]:
-        """A text in its one spelling, and what is to be said where it was fitted."""
+    def shown(self, path: Path, place: str) -> Tuple[str, str, Optional[Path]]:
+        """A text in its one spelling; and where it was fitted what is to be said of that, and the file of the text before."""
         try:
             shown, note = self.made(path, "show", place), FITTED
         except NotTaken as fault:
             shown, note = "", IN_PIECES if fault.number == TOO_WIDE else FITTED
         fitted = self.made(path, "fit", place)
         if shown.rpartition(";")[0] == fitted:
-            return shown, ""
+            return shown, "", None
+        whole = path.with_name(f"whole-{path.name}")
+        os.replace(path, whole)
         os.replace(self.work / "made", path)
-        return self.made(path, "show", place), note
+        return self.made(path, "show", place), note, whole
 
     def of_names(self, path: Path, place: str, role: Role) -> Model:
         """A circuit, its bad properties and the names of its inputs, by its header and its table of names."""

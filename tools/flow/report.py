@@ -8,7 +8,7 @@ from .findings import Finding, count_of, notes_of
 from .markup import tag, text
 from .model import Evidence, Kind, Role, Said, Verdict
 from .pictures import MOST_FRAMES, MOST_ROWS, picture
-from .proving import DUMP, FORMULA, PROOF, SAVED, WITNESS
+from .proving import DUMP, FORMULA, PROOF, SAVED, WHOLE_WITNESS, WITNESS
 from .results import Outcome, Results
 from .summary import findings, known_of, text_name
 from .telling import in_vain
@@ -177,7 +177,7 @@ def said_by(it: Outcome) -> str:
 def links(it: Outcome, folder: Path) -> str:
     """The files of a property."""
     key = it.property.key
-    names = [name for name in (WITNESS, DUMP, SAVED, *CERTIFICATES, FORMULA, PROOF) if (folder / key / name).exists()]
+    names = [name for name in (WITNESS, WHOLE_WITNESS, DUMP, SAVED, *CERTIFICATES, FORMULA, PROOF) if (folder / key / name).exists()]
     return tag("p", " · ".join(tag("a", name, href=f"{key}/{name}") for name in names), class_="soft")
 
 

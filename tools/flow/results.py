@@ -152,8 +152,8 @@ def told_before(folder: Folder, design: Design) -> Optional[Dict[str, Dict[str, 
 
 
 def texts_of(design: Design) -> Dict[str, str]:
-    """The sum of each text, by its name."""
-    return {it.name: it.held.sum for it in design.texts}
+    """The sum of each text, by its name, and of what it was fitted from."""
+    return {one.name: one.sum for it in design.texts for one in it.kept}
 
 
 def written(name: str, text: str) -> Held:

@@ -170,13 +170,14 @@ class Run:
 
     def adopted(self, design: Design) -> Dict[str, Dict[str, Any]]:
         """What an earlier run told of each property of the same texts; of others all that was made is removed."""
-        keys, texts = [it.key for it in design.properties], [it.name for it in design.texts]
+        keys, texts = [it.key for it in design.properties], [one.name for it in design.texts for one in it.kept]
         self.folder.claim([RESULTS, CHECK, REPORT, *texts, *keys, *(f"{key}/{name}" for key in keys for name in FILES)])
         told = told_before(self.folder, design)
         if told is None:
             self.folder.clear()
         for it in design.texts:
-            self.folder.write(it.held, for_good=True)
+            for one in it.kept:
+                self.folder.write(one, for_good=True)
         return told or {}
 
     def chosen(self, design: Design) -> List[Property]:
