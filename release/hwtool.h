@@ -29,7 +29,7 @@ extern "C" {
 #endif
 
 /* The version of the library that this header goes with. */
-#define HWTOOL_VERSION "0.12.0"
+#define HWTOOL_VERSION "0.13.0"
 
 /* The statuses. */
 enum {
@@ -110,21 +110,21 @@ uint32_t hwtool_lower(const uint8_t *model, size_t model_length, bool binary, ui
 uint32_t hwtool_fit(const uint8_t *model, size_t model_length, uint8_t *buffer, size_t buffer_length, size_t *needed,
                     struct hwtool_refusal *refusal);
 
-/* Judges a witness of a BTOR2 model with words of up to 1,048,576 bits, or of one of the whole language each of whose states with
- * an init line begins with a constant, as hwtool_check_btor does of one that hwtool_lower takes. Answers DONE with `verdict`,
- * TEXT_REFUSED, MODEL_REFUSED (a state has an init and no next, or hwtool_fit does not take it), NO_MEMORY. */
+/* Judges a witness of a BTOR2 model that hwtool_fit takes, as hwtool_check_btor does of one that hwtool_lower takes. Answers DONE
+ * with `verdict`, TEXT_REFUSED, MODEL_REFUSED (hwtool_fit does not take it), NO_MEMORY. */
 uint32_t hwtool_check_btor_fit(const uint8_t *model, size_t model_length, const uint8_t *witness, size_t witness_length,
                                struct hwtool_verdict *verdict, struct hwtool_refusal *refusal);
 
 /* Judges a witness of the model that hwtool_fit writes, and writes the one of the model itself that says the same, with `names` or
- * without. The verdict is that of both. Answers DONE and TOO_SMALL with `verdict` and `needed`, TEXT_REFUSED, MODEL_REFUSED as
- * hwtool_check_btor_fit, NO_MEMORY. */
+ * without. The verdict is that of both. Each state of a model with arrays that has an init line has to begin with a constant and
+ * have a next line. Answers DONE and TOO_SMALL with `verdict` and `needed`, TEXT_REFUSED, MODEL_REFUSED (as of
+ * hwtool_check_btor_fit, or a state has an init and no next), NO_MEMORY. */
 uint32_t hwtool_unfit(const uint8_t *model, size_t model_length, bool names, const uint8_t *witness, size_t witness_length,
                       struct hwtool_verdict *verdict, uint8_t *buffer, size_t buffer_length, size_t *needed,
                       struct hwtool_refusal *refusal);
 
-/* The other way round: judges a witness of the model, and writes the one of the model that hwtool_fit writes. Answers as
- * hwtool_unfit. */
+/* The other way round: judges a witness of the model, and writes the one of the model that hwtool_fit writes. Answers DONE and
+ * TOO_SMALL as hwtool_unfit, else as hwtool_check_btor_fit. */
 uint32_t hwtool_unfit_back(const uint8_t *model, size_t model_length, const uint8_t *witness, size_t witness_length,
                            struct hwtool_verdict *verdict, uint8_t *buffer, size_t buffer_length, size_t *needed,
                            struct hwtool_refusal *refusal);
